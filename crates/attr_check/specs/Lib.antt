@@ -1,0 +1,3 @@
+pub mod Ratio
+pub mod ParamsView
+pub mod Accepted
