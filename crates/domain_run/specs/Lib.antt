@@ -1,0 +1,2 @@
+pub mod NameView
+pub mod script

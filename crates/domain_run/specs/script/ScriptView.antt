@@ -1,0 +1,56 @@
+-- What a contract sees of a script.
+use Rattle.std.specs.Prelude.{ℕ, ◌≤◌, ◌<◌, ◌^◌, ◌*◌, List, length, All, sum_by, Option, IfSome}
+use Rattle.domain_run.specs.declared.script.Event.{Event}
+use Rattle.domain_run.specs.declared.script.Event.TheVariants.{Run, Sleep, Timer, Wait}
+
+-- the events of a phase, so many times over
+pub record PhaseView : Type 0 where
+  pub count : ℕ
+  pub events : List Event
+
+-- the phases in order, so many rounds of them; without a number they go on for ever
+pub record ScriptView : Type 0 where
+  pub rounds : Option ℕ
+  pub phases : List PhaseView
+
+abbrev pub script_of : Option ℕ → List PhaseView → ScriptView
+script_of rounds phases = record { rounds = rounds; phases = phases }
+
+-- a script, the place of its next event, and the reference of its timer
+pub record CursorView : Type 0 where
+  pub script : ScriptView
+  pub place : ℕ
+  pub reference : ℕ
+
+-- limits (own): times of 1 to 10^9 us, counts of 1 to 10^9, 1 to 64 events in a phase, 1 to 64 phases
+abbrev pub IsEvent : Event → Type 0
+IsEvent (Run n) = (0 < n) × (n ≤ 1000000000)
+IsEvent (Sleep n) = (0 < n) × (n ≤ 1000000000)
+IsEvent (Timer n) = (0 < n) × (n ≤ 1000000000)
+IsEvent Wait = Unit {0}
+
+pub record IsPhase (p : PhaseView) : Type 0 where
+  pub some : 0 < p.count
+  pub most : p.count ≤ 1000000000
+  pub some_events : 0 < length p.events
+  pub most_events : length p.events ≤ 64
+  pub events : All IsEvent p.events
+
+pub record IsScript (s : ScriptView) : Type 0 where
+  pub rounds : IfSome s.rounds (λ n. (0 < n) × (n ≤ 1000000000))
+  pub some_phases : 0 < length s.phases
+  pub most_phases : length s.phases ≤ 64
+  pub phases : All IsPhase s.phases
+
+-- how many places one phase, and one round, take
+abbrev pub phase_len : PhaseView → ℕ
+phase_len p = p.count * length p.events
+
+abbrev pub round_len : ScriptView → ℕ
+round_len s = sum_by phase_len s.phases
+
+-- what every cursor keeps: a reference far below 2^64, and a place within the rounds
+pub record IsCursor (c : CursorView) : Type 0 where
+  pub early : c.reference < 2 ^ 49
+  pub within : IfSome c.script.rounds (λ n. c.place ≤ n * round_len c.script)
+  pub short : c.place ≤ 2 ^ 80

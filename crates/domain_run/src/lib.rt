@@ -1,0 +1,16 @@
+//! One root domain: its tasks, one tick of time, and the calls between two ticks.
+//!
+//! Meets the definitions "Script", "Domain state", "Wake", "Zero lag", "Sums and rate", "Choice and placement", "Tick",
+//! "Call and reply" and "Run" (`specs/`). To the crates above it promises that [`State`] goes from tick to tick and from
+//! call to call exactly as they say.
+#![tactic(auto)]
+
+mod call;
+mod name;
+mod script;
+mod switch;
+
+pub use call::{Call, Reply};
+pub use name::Name;
+pub use script::{Cursor, Event, Phase, Script, Segment};
+pub use switch::{PrevState, Switch};
