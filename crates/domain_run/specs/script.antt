@@ -1,1 +1,2 @@
 pub mod ScriptView
+pub mod Segments

@@ -1,3 +1,9 @@
+//! Scripts: what a task does, as phases of events, and the cursor that goes through them (own; rt-app's phases and loops).
+
+ghost use Rattle.std.specs.Prelude.{◌≡◌, ◌<◌, ◌≤◌, ◌^◌, ◌↔◌, ◌%◌, ◌*◌, IsTrue, IsOk, MatchResult, sum_by, IsSome, IfSome, All};
+ghost use Rattle.domain_run.specs.script.ScriptView.{IsEvent, IsPhase, IsScript, script_of, phase_len, round_len};
+ghost use Rattle.domain_run.specs.script.Segments.{IsLoops, rounds_of, loops_of, begun_at, event_in, event_at, place_after, moved, given_by, given_at, is_late, asked, IsSegment, next_ask};
+
 use std::marker::Model;
 
 /// What a task does next in its script.
@@ -78,4 +84,95 @@ pub enum Segment {
     Wait,
     /// Ended, for good.
     End,
+}
+
+const MOST: u64 = 1_000_000_000;
+
+fn is_event(event: &Event) -> bool
+    ensures { IsTrue result ↔ IsEvent event.now }
+{
+    match event {
+        Event::Run(n) | Event::Sleep(n) | Event::Timer(n) => *n > 0 && *n <= MOST,
+        Event::Wait => true,
+    }
+}
+
+fn are_events(events: &[Event]) -> bool
+    ensures { IsTrue result ↔ All IsEvent events.now }
+{
+    events.iter().all(is_event)
+}
+
+fn is_phase(phase: &Phase) -> bool
+    ensures { IsTrue result ↔ IsPhase phase.now }
+{
+    phase.count > 0
+        && phase.count <= MOST
+        && !phase.events.is_empty()
+        && phase.events.len() <= 64
+        && are_events(&phase.events)
+}
+
+fn are_phases(phases: &[Phase]) -> bool
+    ensures { IsTrue result ↔ All IsPhase phases.now }
+{
+    phases.iter().all(is_phase)
+}
+
+fn rounds_within(loops: i64) -> Option<Option<u64>>
+    ensures within { IsSome result ↔ IsLoops loops }
+    ensures value { IfSome result (λ rounds. rounds ≡ rounds_of loops) }
+{
+    match loops {
+        -1 => Some(None),
+        1..=1_000_000_000 => Some(Some(loops as u64)),
+        _ => None,
+    }
+}
+
+impl Script {
+    /// A script of so many rounds, -1 for no end, or 1 to 10^9, of 1 to 64 phases in order. The phases come back where a
+    /// limit is not met: of this, of the counts (1 to 10^9) and events (1 to 64) of a phase, or of an event's microseconds
+    /// (1 to 10^9). Takes no memory.
+    pub fn new(loops: i64, phases: Vec<Phase>) -> Result<Script, Vec<Phase>>
+        ensures within { IsOk result ↔ (IsLoops loops × IsScript (script_of (rounds_of loops) phases.items)) }
+        ensures value { MatchResult result (λ s. s ≡ script_of (rounds_of loops) phases.items) (λ back. back.items ≡ phases.items) }
+    {
+        match rounds_within(loops) {
+            Some(rounds) if !phases.is_empty() && phases.len() <= 64 && are_phases(&phases) => {
+                Ok(Script { rounds, phases })
+            }
+            _ => Err(phases),
+        }
+    }
+
+    /// The number of rounds, -1 for no end.
+    pub fn loops(&self) -> i64
+        ensures { result ≡ loops_of self.now.rounds }
+    {
+        match self.rounds {
+            None => -1,
+            Some(n) => n as i64,
+        }
+    }
+
+    /// The phases of a round, in order.
+    pub fn phases(&self) -> &[Phase]
+        ensures phases { result.now ≡ self.now.phases }
+        ensures within { IsScript self.now }
+    {
+        &self.phases
+    }
+
+    /// A cursor at the script's beginning, for a task that starts at this time, in microseconds.
+    pub fn cursor(self, start: u64) -> Cursor
+        requires { start < 2 ^ 49 }
+        ensures { result ≡ begun_at self start }
+    {
+        Cursor {
+            script: self,
+            place: 0,
+            reference: start,
+        }
+    }
 }
