@@ -1,6 +1,6 @@
 //! Scripts: what a task does, as phases of events, and the cursor that goes through them (own; rt-app's phases and loops).
 
-ghost use Rattle.std.specs.Prelude.{◌≡◌, ◌<◌, ◌≤◌, ◌^◌, ◌↔◌, ◌%◌, ◌*◌, IsTrue, IsOk, MatchResult, sum_by, IsSome, IfSome, All};
+ghost use Rattle.std.specs.Prelude.{◌≡◌, ◌<◌, ◌≤◌, ◌^◌, ◌↔◌, ◌%◌, ◌*◌, IsTrue, IsOk, MatchResult, sum_by, IsSome, IfSome, All, length, slice_get};
 ghost use Rattle.domain_run.specs.script.ScriptView.{IsEvent, IsPhase, IsScript, script_of, phase_len, round_len};
 ghost use Rattle.domain_run.specs.script.Segments.{IsLoops, rounds_of, loops_of, begun_at, event_in, event_at, place_after, moved, given_by, given_at, is_late, asked, IsSegment, next_ask};
 
@@ -174,5 +174,163 @@ impl Script {
             place: 0,
             reference: start,
         }
+    }
+}
+
+fn phase_len_of(phase: &Phase) -> u128
+    requires { IsPhase phase.now }
+    ensures len { result ≡ phase_len phase.now }
+    ensures some { 0 < result }
+    ensures short { result < 2 ^ 40 }
+{
+    u128::from(phase.count) * (phase.events.len() as u128)
+}
+
+fn event_in_phase(phase: &Phase, place: u128) -> Option<Event>
+    requires { IsPhase phase.now }
+    ensures value { result ≡ slice_get phase.now.events (place % length phase.now.events) }
+    ensures event { IfSome result IsEvent }
+{
+    let index = (place % (phase.events.len() as u128)) as usize;
+    Some(phase.events[index])
+}
+
+fn event_in_round(phases: &[Phase], place: u128) -> Option<Event>
+    requires { All IsPhase phases.now }
+    ensures value { result ≡ event_in phases.now place }
+    ensures event { IfSome result IsEvent }
+{
+    let mut rest = place;
+    for phase in phases {
+        let len = phase_len_of(phase);
+        if rest < len {
+            return event_in_phase(phase, rest);
+        }
+        rest -= len;
+    }
+    None
+}
+
+fn round_len_of(phases: &[Phase]) -> u128
+    requires phases { All IsPhase phases.now }
+    requires few { length phases.now ≤ 64 }
+    ensures len { result ≡ sum_by phase_len phases.now }
+    ensures some { length phases.now ≤ result }
+    ensures short { result ≤ 2 ^ 46 }
+{
+    let mut all = 0;
+    for phase in phases {
+        all += phase_len_of(phase);
+    }
+    all
+}
+
+fn rounds_len(rounds: u64, round: u128) -> u128
+    requires few { rounds ≤ 1000000000 }
+    requires short { round ≤ 2 ^ 46 }
+    ensures { result ≡ rounds * round }
+{
+    u128::from(rounds) * round
+}
+
+fn event_of(script: &Script, place: u128) -> Option<Event>
+    ensures value { result ≡ event_at script.now place }
+    ensures event { IfSome result IsEvent }
+{
+    let round = round_len_of(&script.phases);
+    if let Some(rounds) = script.rounds
+        && place >= rounds_len(rounds, round)
+    {
+        return None;
+    }
+    event_in_round(&script.phases, place % round)
+}
+
+fn place_behind(script: &Script, place: u128) -> u128
+    requires short { place ≤ 2 ^ 80 }
+    requires more { IsSome (event_at script.now place) }
+    ensures value { result ≡ place_after script.now.rounds (round_len script.now) place }
+    ensures within { IfSome script.now.rounds (λ n. result ≤ n * round_len script.now) }
+    ensures short { result ≤ 2 ^ 80 }
+{
+    let round = round_len_of(&script.phases);
+    match script.rounds {
+        None => (place + 1) % round,
+        Some(_) => place + 1,
+    }
+}
+
+fn is_late_at(event: Option<Event>, reference: u64, time: u64) -> bool
+    requires event { IfSome event IsEvent }
+    requires early { reference ≤ 2 ^ 49 }
+    ensures { result ≡ is_late event reference time }
+{
+    match event {
+        Some(Event::Timer(n)) => reference + n <= time,
+        _ => false,
+    }
+}
+
+impl Cursor {
+    fn event(&self) -> Option<Event>
+        ensures value { result ≡ event_at self.now.script self.now.place }
+        ensures event { IfSome result IsEvent }
+    {
+        event_of(&self.script, self.place)
+    }
+
+    fn step(&mut self, reference: u64)
+        requires early { reference < 2 ^ 49 }
+        requires more { IsSome (event_at self.old.script self.old.place) }
+        ensures { self.new ≡ moved self.old reference }
+    {
+        self.place = place_behind(&self.script, self.place);
+        self.reference = reference;
+    }
+
+    fn give(&mut self, time: u64) -> Segment
+        requires early { time < 2 ^ 48 }
+        requires in_order { self.old.reference ≤ time }
+        ensures segment { result ≡ (given_at self.old time).segment }
+        ensures cursor { self.new ≡ (given_at self.old time).cursor }
+        ensures within { IsSegment result }
+        ensures in_order { self.new.reference ≤ next_ask time result }
+    {
+        let reference = self.reference;
+        match self.event() {
+            None => Segment::End,
+            Some(Event::Run(n)) => {
+                self.step(reference);
+                Segment::Run(n)
+            }
+            Some(Event::Sleep(n)) => {
+                self.step(reference);
+                Segment::Until(time + n)
+            }
+            Some(Event::Timer(n)) => {
+                self.step(reference + n);
+                Segment::Until(reference + n)
+            }
+            Some(Event::Wait) => {
+                self.step(reference);
+                Segment::Wait
+            }
+        }
+    }
+
+    /// What the task does next, asked at this time in microseconds, which is not before the start, the end of the last
+    /// timer or the time at which the last late timer was met. Takes no memory.
+    pub fn next(&mut self, time: u64) -> Segment
+        requires early { time < 2 ^ 48 }
+        requires in_order { self.old.reference ≤ time }
+        ensures segment { result ≡ (asked self.old time).segment }
+        ensures cursor { self.new ≡ (asked self.old time).cursor }
+        ensures within { IsSegment result }
+        ensures in_order { self.new.reference ≤ next_ask time result }
+    {
+        if is_late_at(self.event(), self.reference, time) {
+            self.step(time);
+        }
+        self.give(time)
     }
 }
