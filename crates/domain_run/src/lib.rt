@@ -6,6 +6,7 @@
 #![tactic(auto)]
 
 mod call;
+pub mod cbs_rules;
 mod name;
 mod script;
 mod switch;
