@@ -7,6 +7,8 @@
 
 mod call;
 pub mod cbs_rules;
+pub mod edf_pick;
+pub mod grub_rules;
 mod name;
 mod script;
 mod switch;

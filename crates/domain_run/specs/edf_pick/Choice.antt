@@ -1,11 +1,6 @@
 -- Which tasks run: the first M by deadline (sched-deadline.rst, "Main algorithm"; ties by number are own).
 use Rattle.std.specs.Prelude.{ℕ, Bool, ◌&&◌, ◌||◌, ◌==◌, nat_lt, List, count_by, find, Option}
-
--- a ready task as the choice sees it: scheduling deadline, number, and the CPU to which it belongs
-pub record Candidate : Type 0 where
-  pub deadline : ℕ
-  pub number : ℕ
-  pub home : ℕ
+use Rattle.domain_run.specs.declared.edf_pick.Candidate.{Candidate}
 
 -- an earlier deadline, or the same and a smaller number
 abbrev pub is_before : Candidate → Candidate → Bool

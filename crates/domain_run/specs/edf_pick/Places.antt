@@ -1,7 +1,8 @@
 -- On which CPU each chosen task runs (own).
 use Rattle.std.specs.Prelude.{ℕ, zero, suc, position, Bool, true, false, ◌&&◌, ◌==◌, if◌then◌else◌, List, map, slice_get, slice_set, Option, Some, None, is_none}
 use Rattle.std.specs.List.{list_any}
-use Rattle.domain_run.specs.edf_pick.Choice.{Candidate, is_chosen, ranked}
+use Rattle.domain_run.specs.declared.edf_pick.Candidate.{Candidate}
+use Rattle.domain_run.specs.edf_pick.Choice.{is_chosen, ranked}
 
 -- who stands on each CPU, none for idle
 abbrev pub Places : Type 0
@@ -29,7 +30,7 @@ is_free (Some occupant) = is_none occupant
 
 -- the CPU for a task that stands nowhere: the one to which it belongs where that is free, else the lowest free one
 abbrev pub seat_of : Places → Candidate → Option ℕ
-seat_of places c = if is_free (slice_get places c.home) then Some c.home else position is_none places
+seat_of places c = if is_free (slice_get places c.home) then Some c.home else position (λ occupant. is_none occupant) places
 
 abbrev pub put : Places → ℕ → Option ℕ → Places
 put places number None = places
