@@ -3,3 +3,10 @@ pub mod script
 pub mod cbs_rules
 pub mod grub_rules
 pub mod edf_pick
+pub mod Conditions
+pub mod Parts
+pub mod Switches
+pub mod Domain
+pub mod Tick
+pub mod Calls
+pub mod Run

@@ -12,8 +12,10 @@ pub mod grub_rules;
 mod name;
 mod script;
 mod switch;
+mod task;
 
 pub use call::{Call, Reply};
 pub use name::Name;
 pub use script::{Cursor, Event, Phase, Script, Segment};
+pub use task::{Condition, Task, TaskView};
 pub use switch::{PrevState, Switch};
