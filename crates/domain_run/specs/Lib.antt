@@ -10,3 +10,4 @@ pub mod Domain
 pub mod Tick
 pub mod Calls
 pub mod Run
+pub mod Examples
