@@ -47,8 +47,11 @@ pub fn on_wake(server: Server, params: &Params, time: u64) -> Server
     requires near { IfSome server.deadline (λ d. d < 2 ^ 48) }
     requires high { server.left ≤ℤ pos (2 ^ 63) }
     requires low { neg_ℤ (pos (2 ^ 63)) ≤ℤ server.left }
-    ensures { result ≡ woken params.now time server }
+    ensures value { result ≡ woken params.now time server }
+    ensures dated { IsSome result.deadline }
+    ensures ordered { IsOrdered params.now }
 {
+    let _ = &params.runtime;
     match server.deadline {
         None => renew(params, time),
         Some(deadline) => {
@@ -130,7 +133,7 @@ pub fn replenish(server: Server, params: &Params) -> Server
     requires low { neg_ℤ (pos (2 ^ 32)) ≤ℤ server.left }
     ensures value { result ≡ replenished params.now server }
     ensures lifted { pos 0 <ℤ result.left }
-    ensures high { result.left ≤ℤ pos (budget params.now) }
+    ensures high { result.left ≤ℤ pos (2 ^ 52) }
     ensures near { IsSomeAnd result.deadline (λ d. IfSome server.deadline (λ c. d ≤ c + 2 ^ 45)) }
 {
     let times = postponements(budget_of(params), &server);

@@ -10,6 +10,7 @@ pub mod cbs_rules;
 pub mod edf_pick;
 pub mod grub_rules;
 mod name;
+mod parts;
 mod script;
 mod switch;
 mod task;

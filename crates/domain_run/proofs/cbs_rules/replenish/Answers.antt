@@ -1,4 +1,5 @@
 use Rattle.std.proofs.Common.{◌<◌, ◌≡◌, ◌+◌, ◌/◌, ◌∙◌, ap, arith}
+use Rattle.std.proofs.lemmas.Int.{ints}
 use Rattle.domain_run.specs.cbs_rules.Budget.{budget, below_zero}
 use Rattle.domain_run.proofs.Postponing.{is_replenished, lifted_left, near_deadline, steps_of}
 use Rattle.domain_run.proofs.cbs_rules.replenish.Goals as goal
@@ -16,7 +17,9 @@ pub returns-clause-lifted : goal.returns-clause-lifted
 returns-clause-lifted c = rw c.postpone.ensures.left (lifted_left (budget c.args.params.now) c.postponements-times.result c.args.server.left (some_budget c) c.requires.spent (times_are c)).0
 
 pub returns-clause-high : goal.returns-clause-high
-returns-clause-high c = rw c.postpone.ensures.left (lifted_left (budget c.args.params.now) c.postponements-times.result c.args.server.left (some_budget c) c.requires.spent (times_are c)).1
+returns-clause-high c =
+    let within = (lifted_left (budget c.args.params.now) c.postponements-times.result c.args.server.left (some_budget c) c.requires.spent (times_are c)).1 in
+    rw c.postpone.ensures.left (omega (arith, ints, within, c.budget_of.ensures.value, c.budget_of.ensures.most))
 
 pub returns-clause-near : goal.returns-clause-near
 returns-clause-near c = rw c.postpone.ensures.deadline (near_deadline c.args.server.deadline c.postponements-times.result c.args.params.now.period c.requires.dated c.postponements-times.ensures.few c.budget_of.ensures.ordered.short)

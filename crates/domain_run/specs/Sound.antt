@@ -1,0 +1,35 @@
+-- What every domain keeps between two ticks.
+use Rattle.std.specs.Prelude.{ℕ, ◌≤◌, ◌<◌, ◌^◌, ◌+◌, ◌≡◌, ◌≢◌, ◌==◌, max, ◌≤ℤ◌, ◌<ℤ◌, pos, neg_ℤ, List, length, All, AllPairs, IfSome, IsSome, IsTrue}
+use Rattle.std.specs.List.{list_any}
+use Rattle.attr_check.specs.Ratio.{cap}
+use Rattle.domain_run.specs.edf_pick.Places.{Places}
+use Rattle.domain_run.specs.declared.cbs_rules.Server.{Server}
+use Rattle.domain_run.specs.declared.task.Task.{Task}
+use Rattle.domain_run.specs.declared.task.Condition.{Condition}
+use Rattle.domain_run.specs.declared.task.Condition.TheVariants.{Ready, Throttled, Blocked, Waiting, Leaving}
+use Rattle.domain_run.specs.Conditions.{is_ready, is_throttled, is_contending}
+use Rattle.domain_run.specs.Domain.{Domain}
+use Rattle.domain_run.specs.Tick.{sum_of}
+
+-- a deadline not far ahead, and a budget in range
+pub record IsServed (time : ℕ) (s : Server) : Type 0 where
+  pub near : IfSome s.deadline (λ d. d ≤ time + 2 ^ 45)
+  pub low : neg_ℤ (pos (2 ^ 32)) ≤ℤ s.left
+  pub high : s.left ≤ℤ pos (2 ^ 52)
+
+-- the timer's reference is not behind the next time at which the script may be asked; a task that has ended asks no more
+abbrev pub IsTimed : ℕ → Condition → ℕ → Type 0
+IsTimed time Ready reference = reference ≤ time
+IsTimed time Throttled reference = reference ≤ time
+IsTimed time (Blocked u) reference = (reference ≤ max time u) × (u < 2 ^ 49)
+IsTimed time Waiting reference = reference ≤ time
+IsTimed time Leaving reference = Unit {0}
+
+-- a task: throttled exactly as its budget says, with a deadline and work while it contends
+pub record IsSound (time : ℕ) (t : Task) : Type 0 where
+  pub served : IsServed time t.server
+  pub spent : IsTrue (is_throttled t.condition) → t.server.left ≤ℤ pos 0
+  pub lifted : IsTrue (is_ready t.condition) → pos 0 <ℤ t.server.left
+  pub dated : IsTrue (is_contending t.condition) → IsSome t.server.deadline
+  pub busy : IsTrue (is_contending t.condition) → 0 < t.work
+  pub timed : IsTimed time t.condition t.cursor.reference

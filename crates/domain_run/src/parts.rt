@@ -1,0 +1,250 @@
+//! The parts of a tick, on one task.
+
+ghost use Rattle.std.specs.Prelude.{◌≡◌, ◌<◌, ◌≤◌, ◌^◌, ◌+◌, ◌-◌, IsTrue, IsSome, false, pos, ◌≤ℤ◌, ◌<ℤ◌};
+ghost use Rattle.domain_run.specs.Conditions as conditions;
+ghost use Rattle.domain_run.specs.cbs_rules.Serving as serving;
+ghost use Rattle.domain_run.specs.Parts as parts;
+ghost use Rattle.domain_run.specs.script.Segments.{IsSegment, next_ask};
+ghost use Rattle.domain_run.specs.Sound.{IsServed, IsTimed, IsSound};
+
+use crate::cbs_rules::{self, Server};
+use crate::grub_rules;
+use crate::script::Segment;
+use crate::task::{Condition, Task};
+
+fn has_come(time: u64, moment: Option<u64>) -> bool
+    ensures { result ≡ conditions.has_come time moment }
+{
+    match moment {
+        None => false,
+        Some(moment) => moment <= time,
+    }
+}
+
+impl Condition {
+    pub(crate) fn is_ready(self) -> bool
+        ensures { result ≡ conditions.is_ready self }
+    {
+        matches!(self, Condition::Ready)
+    }
+
+    pub(crate) fn is_throttled(self) -> bool
+        ensures { result ≡ conditions.is_throttled self }
+    {
+        matches!(self, Condition::Throttled)
+    }
+
+    pub(crate) fn is_contending(self) -> bool
+        ensures { result ≡ conditions.is_contending self }
+    {
+        matches!(self, Condition::Ready | Condition::Throttled)
+    }
+
+    pub(crate) fn is_leaving(self) -> bool
+        ensures { result ≡ conditions.is_leaving self }
+    {
+        matches!(self, Condition::Leaving)
+    }
+
+    fn is_over(self, time: u64) -> bool
+        ensures { result ≡ conditions.is_over time self }
+    {
+        match self {
+            Condition::Blocked(until) => until <= time,
+            _ => false,
+        }
+    }
+}
+
+fn replenish_now(server: Server, task: &Task, time: u64) -> Server
+    requires early { time < 2 ^ 42 }
+    requires served { IsServed time server }
+    requires spent { server.left ≤ℤ pos 0 }
+    requires come { IsTrue (conditions.has_come time server.deadline) }
+    ensures value { result ≡ serving.replenished task.now.params server }
+    ensures served { IsServed time result }
+    ensures lifted { pos 0 <ℤ result.left }
+    ensures dated { IsSome result.deadline }
+{
+    cbs_rules::replenish(server, &task.params)
+}
+
+/// Part 1: a throttled task whose deadline has come is replenished.
+pub(crate) fn replenish_due(task: &mut Task, time: u64)
+    requires early { time < 2 ^ 42 }
+    requires sound { IsSound time task.old }
+    ensures task { task.new ≡ parts.replenish_due time task.old }
+    ensures sound { IsSound time task.new }
+{
+    if task.condition.is_throttled() && has_come(time, task.server.deadline) {
+        task.server = replenish_now(task.server, task, time);
+        task.condition = Condition::Ready;
+    }
+}
+
+/// Part 2: a zero-lag time that has come is dropped.
+pub(crate) fn settle(task: &mut Task, time: u64)
+    requires { IsSound time task.old }
+    ensures task { task.new ≡ parts.settled time task.old }
+    ensures sound { IsSound time task.new }
+{
+    if has_come(time, task.zero_lag) {
+        task.zero_lag = None;
+    }
+}
+
+/// Part 2: whether a task stays listed.
+pub(crate) fn is_listed(task: &Task) -> bool
+    ensures { result ≡ parts.is_listed task.now }
+{
+    !(task.condition.is_leaving() && task.zero_lag.is_none())
+}
+
+fn contend(task: &mut Task, server: Server, time: u64)
+    requires early { time < 2 ^ 42 }
+    requires served { IsServed time server }
+    requires dated { IsSome server.deadline }
+    requires busy { 0 < task.old.work }
+    requires timed { task.old.cursor.reference ≤ time }
+    ensures task { task.new ≡ parts.contending time server task.old }
+    ensures sound { IsSound time task.new }
+{
+    if !cbs_rules::is_throttled(&server) {
+        task.server = server;
+        task.condition = Condition::Ready;
+    } else if has_come(time, server.deadline) {
+        task.server = replenish_now(server, task, time);
+        task.condition = Condition::Ready;
+    } else {
+        task.server = server;
+        task.condition = Condition::Throttled;
+    }
+}
+
+fn wake_server(task: &Task, time: u64) -> Server
+    requires early { time < 2 ^ 42 }
+    requires served { IsServed time task.now.server }
+    ensures value { result ≡ serving.woken task.now.params time task.now.server }
+    ensures served { IsServed time result }
+    ensures dated { IsSome result.deadline }
+{
+    cbs_rules::on_wake(task.server, &task.params, time)
+}
+
+fn wake(task: &mut Task, work: u64, time: u64)
+    requires early { time < 2 ^ 42 }
+    requires served { IsServed time task.old.server }
+    requires busy { 0 < work }
+    requires timed { task.old.cursor.reference ≤ time }
+    ensures task { task.new ≡ parts.woken_task time work task.old }
+    ensures sound { IsSound time task.new }
+{
+    let server = wake_server(task, time);
+    task.zero_lag = None;
+    task.work = work;
+    contend(task, server, time);
+}
+
+fn start(task: &mut Task, segment: Segment, time: u64)
+    requires early { time < 2 ^ 42 }
+    requires served { IsServed time task.old.server }
+    requires within { IsSegment segment }
+    requires timed { task.old.cursor.reference ≤ next_ask time segment }
+    ensures task { task.new ≡ parts.started time segment task.old }
+    ensures sound { IsSound time task.new }
+{
+    match segment {
+        Segment::Run(work) => wake(task, work, time),
+        Segment::Until(until) => task.condition = Condition::Blocked(until),
+        Segment::Wait => task.condition = Condition::Waiting,
+        Segment::End => task.condition = Condition::Leaving,
+    }
+}
+
+/// Part 3: a task whose time of blocking is over asks its script.
+pub(crate) fn unblock(task: &mut Task, time: u64)
+    requires early { time < 2 ^ 42 }
+    requires sound { IsSound time task.old }
+    ensures task { task.new ≡ parts.unblocked time task.old }
+    ensures sound { IsSound time task.new }
+{
+    if task.condition.is_over(time) {
+        let segment = task.cursor.next(time);
+        start(task, segment, time);
+    }
+}
+
+fn run_on(task: &mut Task, time: u64)
+    requires served { IsServed time task.old.server }
+    requires dated { IsSome task.old.server.deadline }
+    requires busy { 0 < task.old.work }
+    requires timed { task.old.cursor.reference ≤ time }
+    ensures task { task.new ≡ parts.running_on task.old }
+    ensures sound { IsSound time task.new }
+{
+    task.condition = if cbs_rules::is_throttled(&task.server) {
+        Condition::Throttled
+    } else {
+        Condition::Ready
+    };
+}
+
+fn stop(task: &mut Task, condition: Condition, time: u64)
+    requires served { IsServed time task.old.server }
+    requires resting { conditions.is_contending condition ≡ false }
+    requires timed { IsTimed time condition task.old.cursor.reference }
+    ensures task { task.new ≡ parts.stopped time condition task.old }
+    ensures sound { IsSound time task.new }
+{
+    task.condition = condition;
+    task.zero_lag = grub_rules::zero_lag(&task.server, &task.params, time);
+}
+
+fn go_on(task: &mut Task, segment: Segment, time: u64)
+    requires served { IsServed time task.old.server }
+    requires dated { IsSome task.old.server.deadline }
+    requires within { IsSegment segment }
+    requires timed { task.old.cursor.reference ≤ next_ask time segment }
+    ensures task { task.new ≡ parts.went_on time segment task.old }
+    ensures sound { IsSound time task.new }
+{
+    match segment {
+        Segment::Run(work) => {
+            task.work = work;
+            run_on(task, time);
+        }
+        Segment::Until(until) => stop(task, Condition::Blocked(until), time),
+        Segment::Wait => stop(task, Condition::Waiting, time),
+        Segment::End => stop(task, Condition::Leaving, time),
+    }
+}
+
+fn after_charge(task: &mut Task, time: u64)
+    requires early { time < 2 ^ 43 }
+    requires served { IsServed time task.old.server }
+    requires dated { IsSome task.old.server.deadline }
+    requires timed { task.old.cursor.reference ≤ time }
+    ensures task { task.new ≡ parts.after_charge time task.old }
+    ensures sound { IsSound time task.new }
+{
+    if task.work == 0 {
+        let segment = task.cursor.next(time);
+        go_on(task, segment, time);
+    } else {
+        run_on(task, time);
+    }
+}
+
+/// Part 6: a tick of running at a rate in 1/2^20.
+pub(crate) fn run(task: &mut Task, rate: u64, time: u64)
+    requires early { time < 2 ^ 42 }
+    requires slow { rate ≤ 2 ^ 32 }
+    requires sound { IsSound time task.old }
+    requires running { IsTrue (conditions.is_ready task.old.condition) }
+    ensures task { task.new ≡ parts.ran time rate task.old }
+    ensures sound { IsSound (time + 1) task.new }
+{
+    task.server = cbs_rules::charge(task.server, rate, 1);
+    task.work -= 1;
+    after_charge(task, time + 1);
+}
