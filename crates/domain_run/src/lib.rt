@@ -12,6 +12,7 @@ pub mod grub_rules;
 mod name;
 mod parts;
 mod script;
+mod sweep;
 mod switch;
 mod task;
 

@@ -1,13 +1,16 @@
 //! The parts of a tick, on one task.
 
-ghost use Rattle.std.specs.Prelude.{◌≡◌, ◌<◌, ◌≤◌, ◌^◌, ◌+◌, ◌-◌, IsTrue, IsSome, false, pos, ◌≤ℤ◌, ◌<ℤ◌};
+ghost use Rattle.std.specs.Prelude.{◌≡◌, ◌<◌, ◌≤◌, ◌^◌, ◌+◌, ◌-◌, IsTrue, IsSome, false, position, pos, ◌≤ℤ◌, ◌<ℤ◌};
 ghost use Rattle.domain_run.specs.Conditions as conditions;
 ghost use Rattle.domain_run.specs.cbs_rules.Serving as serving;
+ghost use Rattle.domain_run.specs.edf_pick.Places as places_spec;
+ghost use Rattle.domain_run.specs.Tick as tick_spec;
 ghost use Rattle.domain_run.specs.Parts as parts;
 ghost use Rattle.domain_run.specs.script.Segments.{IsSegment, next_ask};
 ghost use Rattle.domain_run.specs.Sound.{IsServed, IsTimed, IsSound};
 
 use crate::cbs_rules::{self, Server};
+use crate::edf_pick::Candidate;
 use crate::grub_rules;
 use crate::script::Segment;
 use crate::task::{Condition, Task};
@@ -247,4 +250,40 @@ pub(crate) fn run(task: &mut Task, rate: u64, time: u64)
     task.server = cbs_rules::charge(task.server, rate, 1);
     task.work -= 1;
     after_charge(task, time + 1);
+}
+
+fn place_of(number: u32, places: &[Option<u32>]) -> Option<usize>
+    ensures { result ≡ position (places_spec.is_task number) places.now }
+{
+    places
+        .iter()
+        .position(|occupant| *occupant == Some(number))
+}
+
+/// Part 4: a placed task belongs to its CPU.
+pub(crate) fn home(task: &mut Task, places: &[Option<u32>])
+    ensures { task.new ≡ parts.homed places.now task.old }
+{
+    if let Some(cpu) = place_of(task.number, places) {
+        task.cpu = cpu;
+    }
+}
+
+/// Part 4: a ready task as the choice sees it.
+pub(crate) fn candidate_of(task: &Task) -> Candidate
+    ensures { result ≡ tick_spec.candidate_of task.now }
+{
+    Candidate {
+        deadline: task.server.deadline.unwrap_or(0),
+        number: task.number,
+        home: task.cpu,
+    }
+}
+
+/// The bandwidth of a task, at most one CPU.
+pub(crate) fn bw_of(task: &Task) -> u64
+    ensures value { result ≡ task.now.params.bw }
+    ensures most { result ≤ 2 ^ 20 }
+{
+    task.params.bw
 }
