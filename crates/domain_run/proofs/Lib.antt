@@ -1,3 +1,4 @@
 pub mod Postponing
 pub mod MapStep
 pub mod Served
+pub mod Sums

@@ -1,10 +1,11 @@
 //! The parts of a tick, on one task.
 
-ghost use Rattle.std.specs.Prelude.{◌≡◌, ◌<◌, ◌≤◌, ◌^◌, ◌+◌, ◌-◌, IsTrue, IsSome, false, position, pos, ◌≤ℤ◌, ◌<ℤ◌};
+ghost use Rattle.std.specs.Prelude.{◌≡◌, ◌<◌, ◌≤◌, ◌^◌, ◌+◌, ◌-◌, IsTrue, IsSome, false, position, find, ◌==◌, option_copied, pos, ◌≤ℤ◌, ◌<ℤ◌};
 ghost use Rattle.domain_run.specs.Conditions as conditions;
 ghost use Rattle.domain_run.specs.cbs_rules.Serving as serving;
 ghost use Rattle.domain_run.specs.edf_pick.Places as places_spec;
 ghost use Rattle.domain_run.specs.Tick as tick_spec;
+ghost use Rattle.domain_run.specs.Switches as switches_spec;
 ghost use Rattle.domain_run.specs.Parts as parts;
 ghost use Rattle.domain_run.specs.script.Segments.{IsSegment, next_ask};
 ghost use Rattle.domain_run.specs.Sound.{IsServed, IsTimed, IsSound};
@@ -13,6 +14,7 @@ use crate::cbs_rules::{self, Server};
 use crate::edf_pick::Candidate;
 use crate::grub_rules;
 use crate::script::Segment;
+use crate::switch::PrevState;
 use crate::task::{Condition, Task};
 
 fn has_come(time: u64, moment: Option<u64>) -> bool
@@ -286,4 +288,40 @@ pub(crate) fn bw_of(task: &Task) -> u64
     ensures most { result ≤ 2 ^ 20 }
 {
     task.params.bw
+}
+
+/// Whether a task's bandwidth is active: it contends, or has a zero-lag time ahead.
+pub(crate) fn is_active(task: &Task) -> bool
+    ensures { result ≡ (tick_spec.share_of task.now).active }
+{
+    task.condition.is_contending() || task.zero_lag.is_some()
+}
+
+fn left_in(condition: Condition) -> PrevState
+    ensures { result ≡ switches_spec.left_in condition }
+{
+    match condition {
+        Condition::Ready | Condition::Throttled => PrevState::Preempted,
+        Condition::Blocked(_) | Condition::Waiting => PrevState::Sleeping,
+        Condition::Leaving => PrevState::Dead,
+    }
+}
+
+fn find(tasks: &[Task], number: u32) -> Option<&Task>
+    ensures { option_copied result ≡ find (λ t. t.number == number) tasks.now }
+{
+    tasks.iter().find(|task| task.number == number)
+}
+
+/// Part 5: the state in which an occupant leaves its CPU.
+pub(crate) fn state_of(tasks: &[Task], occupant: Option<u32>) -> PrevState
+    ensures { result ≡ switches_spec.state_of tasks.now occupant }
+{
+    match occupant {
+        None => PrevState::Running,
+        Some(number) => match find(tasks, number) {
+            None => PrevState::Dead,
+            Some(task) => left_in(task.condition),
+        },
+    }
 }

@@ -1,13 +1,17 @@
 //! The parts of a tick, on all tasks of a domain.
 
-ghost use Rattle.std.specs.Prelude.{◌≡◌, ◌<◌, ◌≤◌, ◌^◌, ◌+◌, map, filter, All, length, vec_capacity};
+ghost use Rattle.std.specs.Prelude.{◌≡◌, ◌<◌, ◌≤◌, ◌^◌, ◌+◌, map, filter, ℕ, All, ◌++◌, length, slice_index, replicate, vec_len, vec_capacity};
 ghost use Rattle.domain_run.specs.Parts as parts_spec;
 ghost use Rattle.domain_run.specs.edf_pick.Places as places_spec;
 ghost use Rattle.domain_run.specs.Sound.{IsSound};
+ghost use Rattle.domain_run.specs.Switches as switches_spec;
+ghost use Rattle.domain_run.specs.grub_rules.Sums.{uinact};
 ghost use Rattle.domain_run.specs.Tick as tick_spec;
+ghost use Rattle.domain_run.specs.Inactive.{inactive_of};
 
 use crate::edf_pick::Candidate;
 use crate::parts;
+use crate::switch::Switch;
 use crate::task::Task;
 
 /// Part 1: replenishment.
@@ -90,4 +94,66 @@ pub(crate) fn sum_of(tasks: &[Task]) -> u64
         sum += parts::bw_of(task);
     }
     sum
+}
+
+/// Part 5: a switch for each CPU whose occupant differs.
+pub(crate) fn add_switches(
+    switches: &mut Vec<Switch>,
+    time: u64,
+    tasks: &[Task],
+    before: &[Option<u32>],
+    after: &[Option<u32>],
+)
+    requires few { length before.now ≤ 64 }
+    requires same { length after.now ≡ length before.now }
+    requires room { vec_len switches.old + length before.now ≤ vec_capacity switches.old }
+    ensures switches { switches.new.items ≡ switches.old.items ++ switches_spec.switches_from time tasks.now 0 before.now after.now }
+    ensures room { vec_capacity switches.new ≡ vec_capacity switches.old }
+{
+    for cpu in 0..before.len() {
+        let prev = before[cpu];
+        let next = after[cpu];
+        if prev != next {
+            switches.push_reserved(Switch {
+                time,
+                prev,
+                next,
+                cpu: cpu as u16,
+                state: parts::state_of(tasks, prev),
+            });
+        }
+    }
+}
+
+fn clear_all(idle: &mut Vec<u64>)
+    ensures { idle.new.items ≡ replicate (vec_len idle.old) 0 }
+{
+    for bw in idle.iter_mut() {
+        *bw = 0;
+    }
+}
+
+fn add_inactive(idle: &mut Vec<u64>, task: &Task)
+    requires home { task.now.cpu < vec_len idle.old }
+    requires short { slice_index idle.old.items task.now.cpu < 2 ^ 32 }
+    ensures added { (cpu : ℕ) → slice_index idle.new.items cpu ≡ slice_index idle.old.items cpu + inactive_of cpu task.now }
+    ensures short { (cpu : ℕ) → slice_index idle.new.items cpu ≤ slice_index idle.old.items cpu + 2 ^ 20 }
+    ensures len { vec_len idle.new ≡ vec_len idle.old }
+{
+    if !parts::is_active(task) {
+        idle[task.cpu] += parts::bw_of(task);
+    }
+}
+
+/// Part 6: the bandwidth of the inactive tasks of each CPU.
+pub(crate) fn inactive(idle: &mut Vec<u64>, tasks: &[Task])
+    requires few { length tasks.now ≤ 256 }
+    requires homes { All (λ t. t.cpu < vec_len idle.old) tasks.now }
+    ensures each { (cpu : ℕ) → slice_index idle.new.items cpu ≡ uinact cpu (tick_spec.shares tasks.now) }
+    ensures len { vec_len idle.new ≡ vec_len idle.old }
+{
+    clear_all(idle);
+    for task in tasks {
+        add_inactive(idle, task);
+    }
 }
