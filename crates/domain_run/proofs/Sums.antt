@@ -7,7 +7,7 @@ use Rattle.std.proofs.lemmas.List.{map_more}
 use Rattle.domain_run.specs.grub_rules.Sums.{Share, total_bw, this_bw, running_bw, uinact}
 use Rattle.domain_run.specs.declared.task.Task.{Task}
 use Rattle.domain_run.specs.Tick.{share_of, shares, sum_of}
-use Rattle.domain_run.specs.Inactive.{inactive_of}
+use Rattle.domain_run.specs.Charging.{inactive_of}
 
 part_of : (p : Share → Bool) (s : Share) → sum_by (λ x. x.bw) (filter p (s ∷ [])) ≡ cond (p s) s.bw 0
 part_of p s = elim (p s) as (λ b. sum_by (λ (x : Share). x.bw) (cond b (s ∷ []) []) ≡ cond b s.bw 0) [ true ↦ omega arith | false ↦ refl ]

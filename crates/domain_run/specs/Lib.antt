@@ -8,7 +8,7 @@ pub mod Parts
 pub mod Switches
 pub mod Domain
 pub mod Tick
-pub mod Inactive
+pub mod Charging
 pub mod Sound
 pub mod Calls
 pub mod Run

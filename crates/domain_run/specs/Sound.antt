@@ -33,3 +33,12 @@ pub record IsSound (time : ℕ) (t : Task) : Type 0 where
   pub dated : IsTrue (is_contending t.condition) → IsSome t.server.deadline
   pub busy : IsTrue (is_contending t.condition) → 0 < t.work
   pub timed : IsTimed time t.condition t.cursor.reference
+
+-- sums, CPUs and limit in range, so that rates are
+pub record AreSums (idle : List ℕ) (sum cpus limit : ℕ) : Type 0 where
+  pub idle_short : All (λ n. n ≤ 2 ^ 26) idle
+  pub sum_short : sum ≤ 2 ^ 26
+  pub some : 0 < cpus
+  pub few : cpus ≤ 64
+  pub low : 10485 ≤ limit
+  pub high : limit ≤ 1048576

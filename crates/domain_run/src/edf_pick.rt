@@ -59,7 +59,7 @@ fn keep(places: &mut Vec<Option<u32>>, cpus: usize, ready: &[Candidate])
     }
 }
 
-fn stands(number: u32, places: &[Option<u32>]) -> bool
+pub(crate) fn stands(number: u32, places: &[Option<u32>]) -> bool
     ensures { result ≡ spec.stands number places.now }
 {
     places.iter().any(|occupant| *occupant == Some(number))

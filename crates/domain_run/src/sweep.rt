@@ -1,15 +1,17 @@
 //! The parts of a tick, on all tasks of a domain.
 
-ghost use Rattle.std.specs.Prelude.{◌≡◌, ◌<◌, ◌≤◌, ◌^◌, ◌+◌, map, filter, ℕ, All, ◌++◌, length, slice_index, replicate, vec_len, vec_capacity};
+ghost use Rattle.std.specs.Prelude.{◌≡◌, ◌<◌, ◌≤◌, ◌^◌, ◌+◌, map, filter, ℕ, All, ◌++◌, length, slice_index, replicate, IsTrue, vec_len, vec_capacity};
 ghost use Rattle.domain_run.specs.Parts as parts_spec;
 ghost use Rattle.domain_run.specs.edf_pick.Places as places_spec;
-ghost use Rattle.domain_run.specs.Sound.{IsSound};
+ghost use Rattle.domain_run.specs.Sound.{IsSound, AreSums};
 ghost use Rattle.domain_run.specs.Switches as switches_spec;
 ghost use Rattle.domain_run.specs.grub_rules.Sums.{uinact};
 ghost use Rattle.domain_run.specs.Tick as tick_spec;
-ghost use Rattle.domain_run.specs.Inactive.{inactive_of};
+ghost use Rattle.domain_run.specs.Charging.{inactive_of, rate_with, ran_with};
+ghost use Rattle.domain_run.specs.Conditions as conditions;
 
-use crate::edf_pick::Candidate;
+use crate::edf_pick::{self, Candidate};
+use crate::grub_rules;
 use crate::parts;
 use crate::switch::Switch;
 use crate::task::Task;
@@ -155,5 +157,55 @@ pub(crate) fn inactive(idle: &mut Vec<u64>, tasks: &[Task])
     clear_all(idle);
     for task in tasks {
         add_inactive(idle, task);
+    }
+}
+
+/// What the rates of a tick depend on, beside the task: the inactive bandwidth of each CPU, the bandwidth of all tasks, the
+/// number of CPUs, and the limit.
+pub(crate) struct Sums<'a> {
+    pub(crate) idle: &'a Vec<u64>,
+    pub(crate) sum: u64,
+    pub(crate) cpus: u64,
+    pub(crate) limit: u64,
+}
+
+fn rate_at(task: &Task, sums: &Sums<'_>) -> u64
+    requires sums { AreSums sums.now.idle.now.items sums.now.sum sums.now.cpus sums.now.limit }
+    requires home { task.now.cpu < vec_len sums.now.idle.now }
+    ensures value { result ≡ rate_with sums.now.idle.now.items sums.now.sum sums.now.cpus sums.now.limit task.now }
+    ensures slow { result ≤ 2 ^ 32 }
+{
+    let uinact = sums.idle[task.cpu];
+    grub_rules::rate(&task.params, uinact, sums.sum, sums.cpus, sums.limit)
+}
+
+fn run_if(task: &mut Task, places: &[Option<u32>], sums: &Sums<'_>, time: u64)
+    requires early { time < 2 ^ 42 }
+    requires sums { AreSums sums.now.idle.now.items sums.now.sum sums.now.cpus sums.now.limit }
+    requires home { task.old.cpu < vec_len sums.now.idle.now }
+    requires sound { IsSound time task.old }
+    requires running { IsTrue (places_spec.stands task.old.number places.now) → IsTrue (conditions.is_ready task.old.condition) }
+    ensures task { task.new ≡ ran_with time places.now sums.now.idle.now.items sums.now.sum sums.now.cpus sums.now.limit task.old }
+    ensures sound { IsSound (time + 1) task.new }
+{
+    if edf_pick::stands(task.number, places) {
+        let rate = rate_at(task, sums);
+        parts::run(task, rate, time);
+    }
+}
+
+/// Part 6: every running task is charged.
+pub(crate) fn run_all(tasks: &mut Vec<Task>, places: &[Option<u32>], sums: &Sums<'_>, time: u64)
+    requires early { time < 2 ^ 42 }
+    requires sums { AreSums sums.now.idle.now.items sums.now.sum sums.now.cpus sums.now.limit }
+    requires home { All (λ t. t.cpu < vec_len sums.now.idle.now) tasks.old.items }
+    requires sound { All (IsSound time) tasks.old.items }
+    requires running { All (λ t. IsTrue (places_spec.stands t.number places.now) → IsTrue (conditions.is_ready t.condition)) tasks.old.items }
+    ensures tasks { tasks.new.items ≡ map (ran_with time places.now sums.now.idle.now.items sums.now.sum sums.now.cpus sums.now.limit) tasks.old.items }
+    ensures sound { All (IsSound (time + 1)) tasks.new.items }
+    ensures room { vec_capacity tasks.new ≡ vec_capacity tasks.old }
+{
+    for task in tasks.iter_mut() {
+        run_if(task, places, sums, time);
     }
 }

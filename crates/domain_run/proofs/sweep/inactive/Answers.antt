@@ -1,5 +1,5 @@
 use Rattle.std.proofs.Common.{◌∙◌, sym, ap, ◌+◌, arith}
-use Rattle.domain_run.specs.Inactive.{inactive_of}
+use Rattle.domain_run.specs.Charging.{inactive_of}
 use Rattle.domain_run.proofs.Sums.{uinact_more}
 use Rattle.domain_run.proofs.sweep.inactive.Goals as goal
 
