@@ -2,3 +2,4 @@ pub mod Postponing
 pub mod MapStep
 pub mod Served
 pub mod Sums
+pub mod Marks

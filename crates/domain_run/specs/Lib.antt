@@ -9,6 +9,7 @@ pub mod Switches
 pub mod Domain
 pub mod Tick
 pub mod Charging
+pub mod Numbers
 pub mod Sound
 pub mod Calls
 pub mod Run

@@ -9,7 +9,9 @@ mod call;
 pub mod cbs_rules;
 pub mod edf_pick;
 pub mod grub_rules;
+mod memory;
 mod name;
+mod numbers;
 mod parts;
 mod script;
 mod sweep;
@@ -17,6 +19,7 @@ mod switch;
 mod task;
 
 pub use call::{Call, Reply};
+pub use memory::NoMemory;
 pub use name::Name;
 pub use script::{Cursor, Event, Phase, Script, Segment};
 pub use task::{Condition, Task, TaskView};
