@@ -3,3 +3,4 @@ pub mod MapStep
 pub mod Served
 pub mod Sums
 pub mod Marks
+pub mod Opening

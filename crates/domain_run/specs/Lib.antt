@@ -11,6 +11,7 @@ pub mod Tick
 pub mod Charging
 pub mod Numbers
 pub mod Sound
+pub mod Views
 pub mod Calls
 pub mod Run
 pub mod Examples

@@ -1,5 +1,5 @@
 -- What every domain keeps between two ticks.
-use Rattle.std.specs.Prelude.{ℕ, ◌≤◌, ◌<◌, ◌^◌, ◌+◌, ◌≡◌, ◌≢◌, ◌==◌, max, ◌≤ℤ◌, ◌<ℤ◌, pos, neg_ℤ, List, length, All, AllPairs, IfSome, IsSome, IsTrue}
+use Rattle.std.specs.Prelude.{ℕ, ◌≤◌, ◌<◌, ◌^◌, ◌+◌, ◌≡◌, ◌≢◌, ◌==◌, max, ◌≤ℤ◌, ◌<ℤ◌, pos, neg_ℤ, List, length, All, Any, AllPairs, Option, Some, None, slice_index_or, IfSome, IsSome, IsTrue}
 use Rattle.std.specs.List.{list_any}
 use Rattle.attr_check.specs.Ratio.{cap}
 use Rattle.domain_run.specs.edf_pick.Places.{Places}
@@ -42,3 +42,43 @@ pub record AreSums (idle : List ℕ) (sum cpus limit : ℕ) : Type 0 where
   pub few : cpus ≤ 64
   pub low : 10485 ≤ limit
   pub high : limit ≤ 1048576
+
+-- who stands on a CPU
+abbrev pub occupant : Places → ℕ → Option ℕ
+occupant places cpu = slice_index_or places cpu None
+
+-- no task stands on two CPUs
+pub record IsApart (places : Places) : Type 0 where
+  pub once : (i j n : ℕ) → occupant places i ≡ Some n → occupant places j ≡ Some n → i ≡ j
+
+-- what is placed: on each CPU stands nobody, or a listed task that is ready, has budget left and belongs to that CPU; and no task
+-- stands on two
+pub record IsPlacement (d : Domain) : Type 0 where
+  pub running : (cpu n : ℕ) → occupant d.places cpu ≡ Some n → Any (λ t. (t.number ≡ n) × (t.cpu ≡ cpu) × IsTrue (is_ready t.condition) × (pos 0 <ℤ t.server.left)) d.tasks
+  pub apart : IsApart d.places
+
+-- what every domain keeps
+pub record IsDomain (d : Domain) : Type 0 where
+  pub early : d.time ≤ 2 ^ 42
+  pub some : 0 < d.cpus
+  pub few : d.cpus ≤ 64
+  pub low : 10485 ≤ d.limit
+  pub high : d.limit ≤ 1048576
+  -- the sum of bandwidths is at most the cap
+  pub within : sum_of d.tasks ≤ cap d.cpus d.limit
+  pub listed : length d.tasks ≤ 256
+  pub sound : All (IsSound d.time) d.tasks
+  pub homes : All (λ t. t.cpu < d.cpus) d.tasks
+  -- no two tasks have one number, and each number was admitted
+  pub numbered : AllPairs (λ a b. a.number ≢ b.number) d.tasks
+  pub known : All (λ t. IsTrue (list_any (λ n. n == t.number) d.used)) d.tasks
+  pub wide : length d.places ≡ d.cpus
+  pub apart : IsApart d.places
+
+-- a domain, and the room that its lists have: 256 tasks, as many ready ones, and a place for each CPU
+pub record HasRoom (d : Domain) (tasks ready before idle : ℕ) : Type 0 where
+  pub domain : IsDomain d
+  pub tasks_room : 256 ≤ tasks
+  pub ready_room : 256 ≤ ready
+  pub before_len : before ≡ d.cpus
+  pub idle_len : idle ≡ d.cpus

@@ -1,11 +1,12 @@
 //! The parts of a tick, on one task.
 
-ghost use Rattle.std.specs.Prelude.{◌≡◌, ◌<◌, ◌≤◌, ◌^◌, ◌+◌, ◌-◌, IsTrue, IsSome, false, position, find, ◌==◌, option_copied, pos, ◌≤ℤ◌, ◌<ℤ◌};
+ghost use Rattle.std.specs.Prelude.{◌≡◌, ◌<◌, ◌≤◌, ◌^◌, ◌+◌, ◌-◌, IsTrue, IsSome, false, position, find, ◌==◌, option_copied, option_map, pos, ◌≤ℤ◌, ◌<ℤ◌};
 ghost use Rattle.domain_run.specs.Conditions as conditions;
 ghost use Rattle.domain_run.specs.cbs_rules.Serving as serving;
 ghost use Rattle.domain_run.specs.edf_pick.Places as places_spec;
 ghost use Rattle.domain_run.specs.Tick as tick_spec;
 ghost use Rattle.domain_run.specs.Switches as switches_spec;
+ghost use Rattle.domain_run.specs.Views as views;
 ghost use Rattle.domain_run.specs.Parts as parts;
 ghost use Rattle.domain_run.specs.script.Segments.{IsSegment, next_ask};
 ghost use Rattle.domain_run.specs.Sound.{IsServed, IsTimed, IsSound};
@@ -15,7 +16,7 @@ use crate::edf_pick::Candidate;
 use crate::grub_rules;
 use crate::script::Segment;
 use crate::switch::PrevState;
-use crate::task::{Condition, Task};
+use crate::task::{Condition, Task, TaskView};
 
 fn has_come(time: u64, moment: Option<u64>) -> bool
     ensures { result ≡ conditions.has_come time moment }
@@ -323,5 +324,21 @@ pub(crate) fn state_of(tasks: &[Task], occupant: Option<u32>) -> PrevState
             None => PrevState::Dead,
             Some(task) => left_in(task.condition),
         },
+    }
+}
+
+/// What a caller may see of the task of a number.
+pub(crate) fn view_of(tasks: &[Task], number: u32) -> Option<TaskView>
+    ensures { result ≡ option_map views.view_of (find (λ t. t.number == number) tasks.now) }
+{
+    match find(tasks, number) {
+        None => None,
+        Some(task) => Some(TaskView {
+            server: task.server,
+            condition: task.condition,
+            zero_lag: task.zero_lag,
+            cpu: task.cpu,
+            params: task.params,
+        }),
     }
 }

@@ -1,0 +1,112 @@
+//! A root domain: the state between two ticks, and what changes it.
+
+ghost use Rattle.std.specs.Prelude.{◌≡◌, ◌<◌, ◌≤◌, ◌^◌, OnOk, OnErr, IfOk, replicate, None, vec_len};
+ghost use Rattle.domain_run.specs.Domain.{opened};
+ghost use Rattle.domain_run.specs.Views.{view_in};
+ghost use Rattle.domain_run.specs.Tick as tick;
+ghost use Rattle.domain_run.specs.Sound.{IsDomain};
+ghost use Rattle.attr_check.specs.Ratio.{cap};
+
+use crate::edf_pick::Candidate;
+use crate::memory::NoMemory;
+use crate::numbers::Numbers;
+use crate::parts;
+use crate::sweep;
+use crate::switch::Switch;
+use crate::task::{Task, TaskView};
+use std::alloc::Global;
+use std::marker::Model;
+
+/// A root domain of 1 to 64 CPUs: its tasks, who stands on each CPU, and the switches so far.
+#[derive(Drop)]
+pub struct State {
+    cpus: usize,
+    limit: u64,
+    time: u64,
+    tasks: Vec<Task>,
+    used: Numbers,
+    places: Vec<Option<u32>>,
+    switches: Vec<Switch>,
+    // Room for a tick; between two ticks it means nothing.
+    before: Vec<Option<u32>>,
+    ready: Vec<Candidate>,
+    idle: Vec<u64>,
+}
+
+impl Model for State {
+    ghost use Rattle.std.specs.Prelude.{vec_len, vec_capacity};
+    ghost use Rattle.domain_run.specs.Domain.{Domain};
+    ghost use Rattle.domain_run.specs.Sound.{HasRoom};
+
+    ghost Value = { Domain };
+
+    ghost view = { λ s. record { cpus = s.cpus; limit = s.limit; time = s.time; tasks = s.tasks.items; used = s.used; places = s.places.items; switches = s.switches.items } };
+
+    ghost invariant = { λ s. HasRoom (record { cpus = s.cpus; limit = s.limit; time = s.time; tasks = s.tasks.items; used = s.used; places = s.places.items; switches = s.switches.items }) (vec_capacity s.tasks) (vec_capacity s.ready) (vec_len s.before) (vec_len s.idle) };
+}
+
+fn nobody(alloc: Global, cpus: usize) -> Result<Vec<Option<u32>>, NoMemory>
+    ensures nobody { IfOk result (λ places. places.items ≡ replicate cpus None) }
+    ensures len { IfOk result (λ places. vec_len places ≡ cpus) }
+{
+    let mut places = Vec::with_capacity(alloc, cpus)?;
+    for _ in 0..cpus {
+        places.push_reserved(None);
+    }
+    Ok(places)
+}
+
+impl State {
+    /// An empty domain of 1 to 64 CPUs that may give away `limit` of each, 10485 to 1048576 in 1/2^20. Room for 256 tasks and for
+    /// the numbers ever admitted is made here; after it only [`State::tick`] takes memory. `Err` where a growth was refused.
+    pub fn open(alloc: Global, cpus: u32, limit: u64) -> Result<State, NoMemory>
+        requires cpus { (0 < cpus) × (cpus ≤ 64) }
+        requires limit { (10485 ≤ limit) × (limit ≤ 1048576) }
+        ensures { IfOk result (λ s. s ≡ opened cpus limit) }
+    {
+        let cpus = cpus as usize;
+        Ok(State {
+            cpus,
+            limit,
+            time: 0,
+            tasks: Vec::with_capacity(alloc, 256)?,
+            used: Numbers::open(alloc)?,
+            places: nobody(alloc, cpus)?,
+            switches: Vec::new(alloc),
+            before: nobody(alloc, cpus)?,
+            ready: Vec::with_capacity(alloc, 256)?,
+            idle: vec![in alloc; 0; cpus]?,
+        })
+    }
+
+    /// Microseconds from the beginning; every call is made at this time.
+    pub fn now(&self) -> u64
+        ensures time { result ≡ self.now.time }
+        ensures domain { IsDomain self.now }
+    {
+        self.time
+    }
+
+    /// The switches so far, by time and then by CPU.
+    pub fn switches(&self) -> &[Switch]
+        ensures { result.now ≡ self.now.switches }
+    {
+        &self.switches
+    }
+
+    /// The bandwidth of all listed tasks, in 1/2^20 of a CPU, also of those that have ended and stay listed until their
+    /// zero-lag time. It is at most the number of CPUs times the limit.
+    pub fn sum(&self) -> u64
+        ensures sum { result ≡ tick.sum_of self.now.tasks }
+        ensures within { result ≤ cap self.now.cpus self.now.limit }
+    {
+        sweep::sum_of(&self.tasks)
+    }
+
+    /// The task of a number, where it is listed.
+    pub fn view(&self, number: u32) -> Option<TaskView>
+        ensures { result ≡ view_in self.now number }
+    {
+        parts::view_of(&self.tasks, number)
+    }
+}
