@@ -4,3 +4,4 @@ pub mod Served
 pub mod Sums
 pub mod Marks
 pub mod Opening
+pub mod Admitting

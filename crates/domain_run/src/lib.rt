@@ -19,7 +19,7 @@ mod sweep;
 mod switch;
 mod task;
 
-pub use call::{Call, Reply};
+pub use call::{Call, Refused, Reply};
 pub use memory::NoMemory;
 pub use name::Name;
 pub use script::{Cursor, Event, Phase, Script, Segment};

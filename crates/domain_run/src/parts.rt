@@ -1,12 +1,14 @@
 //! The parts of a tick, on one task.
 
-ghost use Rattle.std.specs.Prelude.{◌≡◌, ◌<◌, ◌≤◌, ◌^◌, ◌+◌, ◌-◌, IsTrue, IsSome, false, position, find, ◌==◌, option_copied, option_map, pos, ◌≤ℤ◌, ◌<ℤ◌};
+ghost use Rattle.std.specs.Prelude.{◌≡◌, ◌<◌, ◌≤◌, ◌^◌, ◌+◌, ◌-◌, ℕ, IsTrue, IsSome, false, position, find, ◌==◌, option_copied, option_map, pos, ◌≤ℤ◌, ◌<ℤ◌};
 ghost use Rattle.domain_run.specs.Conditions as conditions;
 ghost use Rattle.domain_run.specs.cbs_rules.Serving as serving;
 ghost use Rattle.domain_run.specs.edf_pick.Places as places_spec;
 ghost use Rattle.domain_run.specs.Tick as tick_spec;
 ghost use Rattle.domain_run.specs.Switches as switches_spec;
 ghost use Rattle.domain_run.specs.Views as views;
+ghost use Rattle.domain_run.specs.Calls as calls;
+ghost use Rattle.domain_run.specs.Domain.{Domain};
 ghost use Rattle.domain_run.specs.Parts as parts;
 ghost use Rattle.domain_run.specs.script.Segments.{IsSegment, next_ask};
 ghost use Rattle.domain_run.specs.Sound.{IsServed, IsTimed, IsSound};
@@ -14,9 +16,11 @@ ghost use Rattle.domain_run.specs.Sound.{IsServed, IsTimed, IsSound};
 use crate::cbs_rules::{self, Server};
 use crate::edf_pick::Candidate;
 use crate::grub_rules;
-use crate::script::Segment;
+use crate::name::Name;
+use crate::script::{Script, Segment};
 use crate::switch::PrevState;
 use crate::task::{Condition, Task, TaskView};
+use attr_check::Params;
 
 fn has_come(time: u64, moment: Option<u64>) -> bool
     ensures { result ≡ conditions.has_come time moment }
@@ -340,5 +344,34 @@ pub(crate) fn view_of(tasks: &[Task], number: u32) -> Option<TaskView>
             cpu: task.cpu,
             params: task.params,
         }),
+    }
+}
+
+/// A task that is admitted at a time: blocked until its start, without deadline and budget.
+pub(crate) fn new_task(
+    number: u32,
+    name: Name,
+    params: Params,
+    start: u64,
+    script: Script,
+    cpus: usize,
+) -> Task
+    requires some { 0 < cpus }
+    requires early { start < 2 ^ 49 }
+    ensures { (d : Domain) (delay : ℕ) → d.cpus ≡ cpus → d.time + delay ≡ start → result ≡ calls.new_task d number name params delay script }
+{
+    Task {
+        number,
+        name,
+        params,
+        server: Server {
+            deadline: None,
+            left: 0,
+        },
+        zero_lag: None,
+        cpu: number as usize % cpus,
+        condition: Condition::Blocked(start),
+        work: 0,
+        cursor: script.cursor(start),
     }
 }

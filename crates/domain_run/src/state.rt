@@ -1,19 +1,27 @@
 //! A root domain: the state between two ticks, and what changes it.
 
-ghost use Rattle.std.specs.Prelude.{◌≡◌, ◌<◌, ◌≤◌, ◌^◌, OnOk, OnErr, IfOk, replicate, None, vec_len};
+ghost use Rattle.std.specs.Prelude.{◌≡◌, ◌<◌, ◌≤◌, ◌^◌, OnOk, OnErr, IfOk, replicate, None, vec_len, length, IsTrue, IfErr, ◌==◌, false};
+ghost use Rattle.std.specs.List.{list_any};
+ghost use Rattle.domain_run.specs.declared.call.Call.TheVariants as Call;
+ghost use Rattle.domain_run.specs.declared.call.Reply.TheVariants as Reply;
 ghost use Rattle.domain_run.specs.Domain.{opened};
 ghost use Rattle.domain_run.specs.Views.{view_in};
 ghost use Rattle.domain_run.specs.Tick as tick;
+ghost use Rattle.domain_run.specs.Calls as calls;
 ghost use Rattle.domain_run.specs.Sound.{IsDomain};
 ghost use Rattle.attr_check.specs.Ratio.{cap};
 
+use crate::call::{Refused, Reply};
 use crate::edf_pick::Candidate;
 use crate::memory::NoMemory;
+use crate::name::Name;
 use crate::numbers::Numbers;
 use crate::parts;
+use crate::script::Script;
 use crate::sweep;
 use crate::switch::Switch;
 use crate::task::{Task, TaskView};
+use attr_check::Params;
 use std::alloc::Global;
 use std::marker::Model;
 
@@ -108,5 +116,75 @@ impl State {
         ensures { result ≡ view_in self.now number }
     {
         parts::view_of(&self.tasks, number)
+    }
+}
+
+fn bw_within(params: &Params) -> u64
+    ensures value { result ≡ params.now.bw }
+    ensures most { result ≤ 2 ^ 20 }
+{
+    params.bw
+}
+
+impl State {
+    /// The reply to an admission, by the tests in their order.
+    fn admit_reply(&self, number: u32, params: &Params) -> Reply
+        requires { number < 65536 }
+        ensures { result ≡ calls.admit_reply self.now number params.now }
+    {
+        let sum = self.sum();
+        if self.tasks.len() >= 256 {
+            Reply::Full
+        } else if self.used.contains(number) {
+            Reply::Twice
+        } else if sum + bw_within(params) > self.cpus as u64 * self.limit {
+            Reply::Busy { seen: sum }
+        } else {
+            Reply::Admitted
+        }
+    }
+
+    fn list(&mut self, number: u32, name: Name, params: Params, delay: u64, script: Script)
+        requires granted { calls.admit_reply self.old number params ≡ Reply.Admitted }
+        requires small { number < 65536 }
+        requires delay { delay ≤ 1000000000 }
+        ensures { self.new ≡ calls.listed self.old (calls.new_task self.old number name params delay script) }
+    {
+        let task = parts::new_task(number, name, params, self.time + delay, script, self.cpus);
+        self.used.insert(number);
+        self.tasks.push_reserved(task);
+    }
+
+    /// Admits a task at the time now: tested in this order, `Full` where 256 tasks are listed, `Twice` where the number was ever
+    /// admitted here, `Busy` with the sum of bandwidths where that sum and the task's bandwidth are above the number of CPUs times
+    /// the limit; equality is admitted. An admitted task is listed and starts after the delay, in microseconds. Where it refuses,
+    /// nothing has changed, and name and script come back. Takes no memory.
+    pub fn admit(
+        &mut self,
+        number: u32,
+        name: Name,
+        params: Params,
+        delay: u64,
+        script: Script,
+    ) -> Result<(), Refused>
+        requires number { (0 < number) × (number < 65536) }
+        requires delay { delay ≤ 1000000000 }
+        ensures domain { self.new ≡ calls.after_call self.old (Call.Admit number name params delay script) }
+        ensures admitted { OnOk result (calls.reply_to self.old (Call.Admit number name params delay script) ≡ Reply.Admitted) }
+        ensures reply { IfErr result (λ r. r.reply ≡ calls.reply_to self.old (Call.Admit number name params delay script)) }
+        ensures refused { IfErr result (λ r. IsTrue (calls.is_refusal r.reply)) }
+        ensures back { IfErr result (λ r. (r.name ≡ name) × (r.script ≡ script)) }
+    {
+        match self.admit_reply(number, &params) {
+            Reply::Admitted => {
+                self.list(number, name, params, delay, script);
+                Ok(())
+            }
+            reply => Err(Refused {
+                reply,
+                name,
+                script,
+            }),
+        }
     }
 }
