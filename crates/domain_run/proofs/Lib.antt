@@ -5,3 +5,5 @@ pub mod Sums
 pub mod Marks
 pub mod Opening
 pub mod Admitting
+pub mod Keeping
+pub mod Seating
