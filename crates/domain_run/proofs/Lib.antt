@@ -7,3 +7,5 @@ pub mod Opening
 pub mod Admitting
 pub mod Keeping
 pub mod Seating
+pub mod Placing
+pub mod Ticking

@@ -162,6 +162,7 @@ pub(crate) fn inactive(idle: &mut Vec<u64>, tasks: &[Task])
 
 /// What the rates of a tick depend on, beside the task: the inactive bandwidth of each CPU, the bandwidth of all tasks, the
 /// number of CPUs, and the limit.
+#[derive(Clone, Copy)]
 pub(crate) struct Sums<'a> {
     pub(crate) idle: &'a Vec<u64>,
     pub(crate) sum: u64,
