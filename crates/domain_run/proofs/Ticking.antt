@@ -1,5 +1,5 @@
 -- A tick keeps what every domain keeps.
-use Rattle.std.proofs.Common.{◌≡◌, ℕ, ◌+◌, ◌*◌, ◌^◌, ◌<◌, ◌≤◌, Bool, true, false, cond, eqb, ltb, Option, Some, None, List, length, map, get_or, refl, sym, ap, ◌∙◌, subst, arith, inl, inr}
+use Rattle.std.proofs.Common.{◌≡◌, ℕ, ◌+◌, ◌*◌, ◌^◌, ◌<◌, ◌≤◌, Bool, true, false, cond, eqb, ltb, Option, Some, None, List, ◌++◌, length, map, get_or, refl, sym, ap, ◌∙◌, subst, arith, inl, inr}
 use Rattle.std.specs.Prelude.{All, AllPairs, IsTrue, filter, position, ◌≢◌, slice_index}
 use Rattle.std.specs.List.{list_any, position_or_len}
 use Rattle.std.proofs.lemmas.Bool.{cases_lt, ltb-true}
@@ -13,9 +13,12 @@ use Rattle.domain_run.specs.grub_rules.Sums.{uinact}
 use Rattle.domain_run.specs.grub_rules.Rate as reclaiming
 use Rattle.domain_run.specs.edf_pick.Places.{Places, is_task, stands, placed}
 use Rattle.domain_run.specs.Parts.{replenish_due, settled, is_listed, unblocked, homed, homed_at, ran}
+use Rattle.domain_run.specs.declared.edf_pick.Candidate.{Candidate}
+use Rattle.domain_run.specs.declared.switch.Switch.{Switch}
+use Rattle.domain_run.specs.Switches.{switches_from}
 use Rattle.domain_run.specs.Charging.{ran_with}
 use Rattle.domain_run.specs.Domain.{Domain}
-use Rattle.domain_run.specs.Tick.{shares, sum_of, candidates, awake, begun, ran_if, finished}
+use Rattle.domain_run.specs.Tick.{shares, sum_of, candidates, awake, with_places, with_awake, begun, ran_if, finished}
 use Rattle.domain_run.specs.Sound.{occupant, IsApart, IsSound, IsPlacement, IsDomain, AreSums}
 use Rattle.domain_run.proofs.Keeping.{Same, same_itself, same_either, same_replenished, same_settled, same_unblocked, same_ran, AllPairs-map, length-filter_least, sum-map, sum-filter}
 use Rattle.domain_run.proofs.Sums.{uinact_least}
@@ -152,3 +155,21 @@ sums_are d idle sum is each total =
       low = is.low;
       high = is.high;
     }
+
+-- the lists that the code makes are those of the begun tick
+pub begun_as : (d e : Domain) (awoken tasks : List Task) (places : Places) (switches : List Switch) → d ≡ e → awoken ≡ awake d.time d.tasks → places ≡ placed d.cpus (candidates awoken) d.places → switches ≡ d.switches ++ switches_from d.time awoken 0 d.places places → tasks ≡ map (homed places) awoken
+    → record d { tasks = tasks; places = places; switches = switches } ≡ begun e
+begun_as d e awoken tasks places switches same awoken-are places-are switches-are tasks-are =
+    let made : List Task → List Switch → Domain = λ ts ss. record d { tasks = ts; places = places; switches = ss } in
+    ap (λ ts. made ts switches) tasks-are ∙ ap (made (map (homed places) awoken)) switches-are ∙ ap (with_places d awoken) places-are ∙ ap (with_awake d) awoken-are ∙ ap begun same
+
+pub placed_wide : (d : Domain) (ready : List Candidate) (places : Places) → IsDomain d → places ≡ placed d.cpus ready d.places → length places ≡ d.cpus
+placed_wide d ready places is e = ap (λ (ps : Places). length ps) e ∙ (placed_is d.cpus ready d.places is.wide is.apart).wide
+
+pub begun_keeps : (d e : Domain) (awoken : List Task) → d ≡ e → IsDomain d → awoken ≡ awake d.time d.tasks → All (IsSound d.time) awoken → IsDomain (begun e) × IsPlacement (begun e)
+begun_keeps d e awoken same is awoken-are sound = subst (λ x. IsDomain (begun x) × IsPlacement (begun x)) same (begun_is d is (subst (All (IsSound d.time)) awoken-are sound))
+
+pub finished_as : (d e : Domain) (tasks : List Task) → d ≡ e → tasks ≡ map (ran_if d) d.tasks → record d { time = d.time + 1; tasks = tasks } ≡ finished e
+finished_as d e tasks same tasks-are =
+    let made : List Task → Domain = λ ts. record d { time = d.time + 1; tasks = ts } in
+    ap made tasks-are ∙ ap finished same

@@ -145,10 +145,7 @@ impl State {
     {
         self.switches.try_reserve(self.cpus)?;
         let time = self.time;
-        sweep::replenish_all(&mut self.tasks, time);
-        sweep::settle_all(&mut self.tasks, time);
-        sweep::drop_left(&mut self.tasks);
-        sweep::unblock_all(&mut self.tasks, time);
+        sweep::wake_all(&mut self.tasks, time);
         sweep::gather(&mut self.ready, &self.tasks);
         copy_places(&mut self.before, &self.places);
         edf_pick::place(&mut self.places, &self.ready);

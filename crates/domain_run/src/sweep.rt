@@ -17,11 +17,12 @@ use crate::switch::Switch;
 use crate::task::Task;
 
 /// Part 1: replenishment.
-pub(crate) fn replenish_all(tasks: &mut Vec<Task>, time: u64)
+fn replenish_all(tasks: &mut Vec<Task>, time: u64)
     requires early { time < 2 ^ 42 }
     requires sound { All (IsSound time) tasks.old.items }
     ensures tasks { tasks.new.items ≡ map (parts_spec.replenish_due time) tasks.old.items }
     ensures sound { All (IsSound time) tasks.new.items }
+    ensures len { vec_len tasks.new ≡ vec_len tasks.old }
     ensures room { vec_capacity tasks.new ≡ vec_capacity tasks.old }
 {
     for task in tasks.iter_mut() {
@@ -30,10 +31,11 @@ pub(crate) fn replenish_all(tasks: &mut Vec<Task>, time: u64)
 }
 
 /// Part 2: zero-lag times that have come.
-pub(crate) fn settle_all(tasks: &mut Vec<Task>, time: u64)
+fn settle_all(tasks: &mut Vec<Task>, time: u64)
     requires { All (IsSound time) tasks.old.items }
     ensures tasks { tasks.new.items ≡ map (parts_spec.settled time) tasks.old.items }
     ensures sound { All (IsSound time) tasks.new.items }
+    ensures len { vec_len tasks.new ≡ vec_len tasks.old }
     ensures room { vec_capacity tasks.new ≡ vec_capacity tasks.old }
 {
     for task in tasks.iter_mut() {
@@ -42,24 +44,41 @@ pub(crate) fn settle_all(tasks: &mut Vec<Task>, time: u64)
 }
 
 /// Part 2: tasks that have left go off the list.
-pub(crate) fn drop_left(tasks: &mut Vec<Task>)
+fn drop_left(tasks: &mut Vec<Task>)
     ensures tasks { tasks.new.items ≡ filter parts_spec.is_listed tasks.old.items }
+    ensures few { vec_len tasks.new ≤ vec_len tasks.old }
     ensures room { vec_capacity tasks.new ≡ vec_capacity tasks.old }
 {
     tasks.retain(|task| parts::is_listed(task));
 }
 
 /// Part 3: tasks whose time of blocking is over.
-pub(crate) fn unblock_all(tasks: &mut Vec<Task>, time: u64)
+fn unblock_all(tasks: &mut Vec<Task>, time: u64)
     requires early { time < 2 ^ 42 }
     requires sound { All (IsSound time) tasks.old.items }
     ensures tasks { tasks.new.items ≡ map (parts_spec.unblocked time) tasks.old.items }
     ensures sound { All (IsSound time) tasks.new.items }
+    ensures len { vec_len tasks.new ≡ vec_len tasks.old }
     ensures room { vec_capacity tasks.new ≡ vec_capacity tasks.old }
 {
     for task in tasks.iter_mut() {
         parts::unblock(task, time);
     }
+}
+
+/// Parts 1 to 3.
+pub(crate) fn wake_all(tasks: &mut Vec<Task>, time: u64)
+    requires early { time < 2 ^ 42 }
+    requires sound { All (IsSound time) tasks.old.items }
+    ensures tasks { tasks.new.items ≡ tick_spec.awake time tasks.old.items }
+    ensures sound { All (IsSound time) tasks.new.items }
+    ensures few { vec_len tasks.new ≤ vec_len tasks.old }
+    ensures room { vec_capacity tasks.new ≡ vec_capacity tasks.old }
+{
+    replenish_all(tasks, time);
+    settle_all(tasks, time);
+    drop_left(tasks);
+    unblock_all(tasks, time);
 }
 
 /// Part 4: a placed task belongs to its CPU.
