@@ -54,26 +54,26 @@ counts_more made entries e counts len is seq = λ client isc.
     let push : made_by client (entries ++ e ∷ []) ≡ made_by client entries + cond (eqb e.client client) 1 0 = sum_by_push (λ (x : Entry). cond (eqb x.client client) 1 0) entries e in
     elim (cases_eq e.client client) [
       | inl same ↦
-        let is_place : client - 1 ≡ e.client - 1 = omega arith in
-        let lt : e.client - 1 < length made = omega arith in
-        let old = counts e.client is in
-        let one : made_by client entries ≡ made_by e.client entries = ap (λ (c : ℕ). made_by c entries) (sym same) in
-        rw (is_place, get_or-set_same made (e.client - 1) (e.seq + 1) 0 lt, push, eq-eqb e.client client same) (omega (arith, old, one))
+          let is_place : client - 1 ≡ e.client - 1 = omega arith in
+          let lt : e.client - 1 < length made = omega arith in
+          let old = counts e.client is in
+          let one : made_by client entries ≡ made_by e.client entries = ap (λ (c : ℕ). made_by c entries) (sym same) in
+          rw (is_place, get_or-set_same made (e.client - 1) (e.seq + 1) 0 lt, push, eq-eqb e.client client same) (omega (arith, old, one))
       | inr other ↦
-        let elsewhere : client - 1 ≡ e.client - 1 → ⊥ = λ p. other (omega arith) in
-        let old = counts client isc in
-        rw (get_or-set_other made (e.client - 1) (client - 1) (e.seq + 1) 0 elsewhere, push, ne_eqb e.client client other) (omega (arith, old))
+          let elsewhere : client - 1 ≡ e.client - 1 → ⊥ = λ p. other (omega arith) in
+          let old = counts client isc in
+          rw (get_or-set_other made (e.client - 1) (client - 1) (e.seq + 1) 0 elsewhere, push, ne_eqb e.client client other) (omega (arith, old))
     ]
 
 pub counts_few : (made : List ℕ) (entries : List Entry) → Counts made entries → length made ≡ 64 → length entries ≤ 65536 → (k : ℕ) → get_or made k 0 ≤ 65536
 counts_few made entries counts len few k =
     elim (cases_lt k 64) [
       | inl lt ↦
-        let at = counts (k + 1) (omega arith, omega arith) in
-        let place : k + 1 - 1 ≡ k = omega arith in
-        let most = count_by-le-length (λ (x : Entry). eqb x.client (k + 1)) entries in
-        let here : get_or made k 0 ≡ made_by (k + 1) entries = ap (λ (i : ℕ). get_or made i 0) (sym place) ∙ at in
-        omega (arith, most, here)
+          let at = counts (k + 1) (omega arith, omega arith) in
+          let place : k + 1 - 1 ≡ k = omega arith in
+          let most = count_by-le-length (λ (x : Entry). eqb x.client (k + 1)) entries in
+          let here : get_or made k 0 ≡ made_by (k + 1) entries = ap (λ (i : ℕ). get_or made i 0) (sym place) ∙ at in
+          omega (arith, most, here)
       | inr past ↦ rw (get_or_past made k 0 (omega arith)) (omega arith)
     ]
 
@@ -101,9 +101,9 @@ stops_bad text rest line after entries n so_far few place more cut bad = record 
   place = place;
   more = more;
   stops = λ h e rest_of is same.
-    let again : Some (line, after) ≡ Some (entry_line e, rest_of) = sym cut ∙ ap (cut_at 10) same ∙ line_cut e rest_of is in
-    let line_is : line ≡ entry_line e = (some_pair_parts line (entry_line e) after rest_of again).0 in
-    absurd (let read = ap call_at line_is ∙ call_again e.client e.call is.within.client (is.within.call, is.read) in cc);
+      let again : Some (line, after) ≡ Some (entry_line e, rest_of) = sym cut ∙ ap (cut_at 10) same ∙ line_cut e rest_of is in
+      let line_is : line ≡ entry_line e = (some_pair_parts line (entry_line e) after rest_of again).0 in
+      absurd (let read = ap call_at line_is ∙ call_again e.client e.call is.within.client (is.within.call, is.read) in cc);
 }
 
 pub stops_full : (text rest : List ℕ) (entries : List Entry) (n : ℕ) → SoFar text rest entries → length entries ≡ 65536 → n ≡ length entries + 3 → 0 < length rest → Stops text n

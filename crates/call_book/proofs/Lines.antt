@@ -76,9 +76,11 @@ times_take text f h =
 pub times_again : (t : Times) (rest : List ℕ) → AreSmall t → times_at (times_text t rest) ≡ paired t rest
 unfolding times_at
 times_again t rest s =
-    rw (field_again 1 4294967296 t.runtime (decimal t.deadline ++ (32 ∷ (decimal t.period ++ (32 ∷ rest)))) s.runtime.0 s.runtime.1 (omega arith),
-    field_again 1 4294967296 t.deadline (decimal t.period ++ (32 ∷ rest)) s.deadline.0 s.deadline.1 (omega arith),
-    field_again 1 4294967296 t.period rest s.period.0 s.period.1 (omega arith)) refl
+    rw (
+      field_again 1 4294967296 t.runtime (decimal t.deadline ++ (32 ∷ (decimal t.period ++ (32 ∷ rest)))) s.runtime.0 s.runtime.1 (omega arith),
+      field_again 1 4294967296 t.deadline (decimal t.period ++ (32 ∷ rest)) s.deadline.0 s.deadline.1 (omega arith),
+      field_again 1 4294967296 t.period rest s.period.0 s.period.1 (omega arith),
+    ) refl
 
 -- ---- calls
 
@@ -230,8 +232,15 @@ admit_again number name params delay script is plain read =
     let timed = times_text (times_of params) planned in
     let small = params_again params is.checked plain in
     let whole : admit_text number name params delay script ≡ decimal number ++ (32 ∷ (name ++ (32 ∷ timed))) = rw plain refl in
-    rw (whole, field_again 1 65535 number (name ++ (32 ∷ timed)) (omega (arith, is.numbered.0)) is.numbered.1 (omega arith),
-    cut_again 32 name timed (name_lacks 32 name (omega arith) is.named.bytes), name_yes name is.named, times_again (times_of params) planned small.1, small.0, plan_again delay script is.soon is.scripted read) refl
+    rw (
+      whole,
+      field_again 1 65535 number (name ++ (32 ∷ timed)) (omega (arith, is.numbered.0)) is.numbered.1 (omega arith),
+      cut_again 32 name timed (name_lacks 32 name (omega arith) is.named.bytes),
+      name_yes name is.named,
+      times_again (times_of params) planned small.1,
+      small.0,
+      plan_again delay script is.soon is.scripted read,
+    ) refl
 
 -- ---- advances
 

@@ -178,19 +178,19 @@ reads_phases : ReadsItems phase_first_at IsPhaseRead [] phase_text
 unfolding phase_first_at
 reads_phases = record {
   takes = λ text x rest h.
-    let a = bind_some (cut_at 125 text) (λ q. phase_at q.0 >>= λ p. put p (cond (eqb (length q.1) 0) None (Some q.1))) (x, rest) h in
-    let b = bind_some (phase_at a.0.0) (λ p. put p (cond (eqb (length a.0.1) 0) None (Some a.0.1))) (x, rest) a.2 in
-    let t = phase_takes a.0.0 b.0 b.1 in
-    let whole : text ≡ phase_body b.0 ++ (125 ∷ a.0.1) = cut_takes 125 text a.0 a.1 ∙ ap (λ (y : List ℕ). y ++ (125 ∷ a.0.1)) t.1 in
-    let made : PhaseView × Option (List ℕ) = (b.0, cond (eqb (length a.0.1) 0) None (Some a.0.1)) in
-    subst (λ (q : PhaseView × Option (List ℕ)). TookItem IsPhaseRead [] phase_text text q.0 q.1) (same_Some made (x, rest) b.2)
-    (first_phase text a.0.1 b.0 (cond (eqb (length a.0.1) 0) None (Some a.0.1)) (eqb (length a.0.1) 0) refl t.0 whole refl);
+      let a = bind_some (cut_at 125 text) (λ q. phase_at q.0 >>= λ p. put p (cond (eqb (length q.1) 0) None (Some q.1))) (x, rest) h in
+      let b = bind_some (phase_at a.0.0) (λ p. put p (cond (eqb (length a.0.1) 0) None (Some a.0.1))) (x, rest) a.2 in
+      let t = phase_takes a.0.0 b.0 b.1 in
+      let whole : text ≡ phase_body b.0 ++ (125 ∷ a.0.1) = cut_takes 125 text a.0 a.1 ∙ ap (λ (y : List ℕ). y ++ (125 ∷ a.0.1)) t.1 in
+      let made : PhaseView × Option (List ℕ) = (b.0, cond (eqb (length a.0.1) 0) None (Some a.0.1)) in
+      subst (λ (q : PhaseView × Option (List ℕ)). TookItem IsPhaseRead [] phase_text text q.0 q.1) (same_Some made (x, rest) b.2)
+      (first_phase text a.0.1 b.0 (cond (eqb (length a.0.1) 0) None (Some a.0.1)) (eqb (length a.0.1) 0) refl t.0 whole refl);
   last = λ x is.
-    let e : phase_text x ≡ phase_body x ++ (125 ∷ []) = sym (append-nil (phase_text x)) ∙ body_brace x [] in
-    rw (e, cut_again 125 (phase_body x) [] (body_lacks 125 x brace refl refl is), phase_again x is) refl;
+      let e : phase_text x ≡ phase_body x ++ (125 ∷ []) = sym (append-nil (phase_text x)) ∙ body_brace x [] in
+      rw (e, cut_again 125 (phase_body x) [] (body_lacks 125 x brace refl refl is), phase_again x is) refl;
   again = λ x rest is some.
-    let left : eqb (length rest) 0 ≡ false = ne_eqb _ _ (λ z. omega (arith, some, z)) in
-    rw (body_brace x rest, cut_again 125 (phase_body x) rest (body_lacks 125 x brace refl refl is), phase_again x is, left) refl;
+      let left : eqb (length rest) 0 ≡ false = ne_eqb _ _ (λ z. omega (arith, some, z)) in
+      rw (body_brace x rest, cut_again 125 (phase_body x) rest (body_lacks 125 x brace refl refl is), phase_again x is, left) refl;
   some = λ x is. phase_some x;
 }
 
