@@ -9,3 +9,4 @@ pub mod Attributes
 pub mod Lines
 pub mod Entries
 pub mod Sections
+pub mod BadLines

@@ -85,7 +85,7 @@ one_read (s ∷ t ∷ sections) are = absurd are.one_cpu
 
 -- ---- the text of one section
 
-lines_one : (s : SectionView) → lines_of (s ∷ []) ≡ codes "dlcalls 1" ∷ domain_line s ∷ map entry_line s.entries
+pub lines_one : (s : SectionView) → lines_of (s ∷ []) ≡ codes "dlcalls 1" ∷ domain_line s ∷ map entry_line s.entries
 lines_one s = ap (λ (ls : List (List ℕ)). codes "dlcalls 1" ∷ ls) (append-nil (section_lines s))
 
 line_first : (l t : List ℕ) → (l ++ (10 ∷ [])) ++ t ≡ l ++ (10 ∷ t)

@@ -1,8 +1,8 @@
-ghost use Rattle.std.specs.Prelude.{◌≡◌, ◌+◌, ◌-◌, ◌≤◌, ℕ, List, [], ◌∷◌, length, slice_index, slice_set, IfOk, IfErr, MatchResult};
+ghost use Rattle.std.specs.Prelude.{◌≡◌, ◌+◌, ◌-◌, ◌≤◌, ℕ, List, [], ◌∷◌, length, slice_index, slice_set, IfOk, IfErr, IsErrOf, MatchResult, ◌⊎◌};
 ghost use Rattle.call_book.specs.SectionView.{SectionView};
 ghost use Rattle.call_book.specs.Spelling.{spelling};
 ghost use Rattle.call_book.specs.Limits.{IsClient, AreRead};
-ghost use Rattle.call_book.specs.BadLine.{MeansFault};
+ghost use Rattle.call_book.specs.BadLine.{IsBadLine, MeansFault};
 ghost use Rattle.call_book.specs.Reading.{Fails, fault_from, call_at, IsNext, SoFar, StopsAt};
 
 use crate::cut::cut;
@@ -122,8 +122,10 @@ pub fn read_calls(alloc: Global, text: &[u8]) -> Result<Vec<Section>, CallsFault
     // What is spelled so is read, unless memory runs out.
     ensures only { (sections : List SectionView) → AreRead sections → text.now ≡ spelling sections
         → MatchResult result (λ v. v.items ≡ sections) (λ e. e ≡ CallsFault.Memory) }
-    // Which line is bad.
+    // The line of a fault is the bad one.
     ensures fault { IfErr result (MeansFault text.now) }
+    // A text with a bad line is refused with this line, unless memory runs out.
+    ensures bad { (n : ℕ) → IsBadLine text.now n → IsErrOf result (CallsFault.BadLine n) ⊎ IsErrOf result CallsFault.Memory }
 {
     let section = section_of(alloc, text)?;
     let mut sections = Vec::new(alloc);
