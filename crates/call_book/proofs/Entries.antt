@@ -1,0 +1,119 @@
+-- Entries one after the other.
+use Rattle.std.proofs.Common.{◌≡◌, ℕ, zero, suc, ◌+◌, ◌-◌, ◌≤◌, ◌<◌, Bool, true, false, cond, eqb, List, [], ◌∷◌, ◌++◌, length, get_or, map, set, Option, Some, None, refl, sym, ap, subst, ◌∙◌, append_assoc, inl, inr, arith, get_or-set_same, get_or-set_other}
+use Rattle.std.specs.Prelude.{codes, count_by}
+use Rattle.std.specs.List.{flat_map, AllByRecursion}
+use Rattle.std.proofs.lemmas.Bool.{cases_eq, cases_lt, eq-eqb, ne_eqb}
+use Rattle.std.proofs.lemmas.Grind.{flat_map-append}
+use Rattle.std.proofs.lemmas.Option.{some_pair_parts}
+use Rattle.std.proofs.lemmas.List.{append-nil, map-append, get_or_past}
+use Rattle.std.proofs.lemmas.List.Sums.{sum_by_push, count_by-le-length}
+use Rattle.call_book.specs.declared.section.Entry.{Entry}
+use Rattle.call_book.specs.declared.fault.PartFault.{PartFault}
+use Rattle.call_book.specs.declared.fault.PartFault.TheVariants.{Bad, Memory}
+use Rattle.call_book.specs.Spelling.{entry_line, text_of}
+use Rattle.call_book.specs.Limits.{IsClient, IsEntry, IsNumbered, IsNumberedAfter, made_by}
+use Rattle.call_book.specs.Reading.{cut_at, call_at, IsEntryRead, entries_text, SoFar, Counts, IsNext, Stops, StopsAt, Fails, fault_from}
+use Rattle.call_book.proofs.Cuts.{cut_takes, cut_again}
+use Rattle.call_book.proofs.Lines.{call_takes, call_again, line_lacks}
+
+-- what an entry's line says
+pub entry_takes : (line made : List ℕ) (e : Entry) → IsNext line made e → IsEntryRead e × (line ≡ entry_line e)
+entry_takes line made e next =
+    let t = call_takes line (e.client, e.call) next.call in
+    (record { within = record { client = t.client_is; call = t.is_read.0 }; read = t.is_read.1; unanswered = next.unanswered }, t.line_is)
+
+text_more : (entries : List Entry) (e : Entry) → entries_text (entries ++ e ∷ []) ≡ entries_text entries ++ (entry_line e ++ (10 ∷ []))
+text_more entries e =
+    ap text_of (map-append entry_line entries (e ∷ [])) ∙ flat_map-append (λ (line : List ℕ). line ++ codes "\n") (map entry_line entries) (entry_line e ∷ [])
+    ∙ ap (λ (t : List ℕ). entries_text entries ++ t) (append-nil (entry_line e ++ (10 ∷ [])))
+
+regrouped : (t l a : List ℕ) → (t ++ (l ++ (10 ∷ []))) ++ a ≡ t ++ (l ++ 10 ∷ a)
+regrouped t l a = simp append_assoc
+
+each_more : (entries : List Entry) (e : Entry) → AllByRecursion IsEntryRead entries → IsEntryRead e → AllByRecursion IsEntryRead (entries ++ e ∷ [])
+each_more [] e each is = (is, tt)
+each_more (x ∷ entries) e each is = (each.0, each_more entries e each.1 is)
+
+numbered_more : (before entries : List Entry) (e : Entry) → IsNumberedAfter before entries → e.seq ≡ made_by e.client (before ++ entries) → IsNumberedAfter before (entries ++ e ∷ [])
+numbered_more before [] e is h = (h ∙ ap (made_by e.client) (append-nil before), tt)
+numbered_more before (x ∷ entries) e is h = (is.0, numbered_more (before ++ x ∷ []) entries e is.1 (h ∙ ap (made_by e.client) (sym (append_assoc before (x ∷ []) entries))))
+
+pub one_more : (text rest line after made : List ℕ) (entries : List Entry) (e : Entry) → SoFar text rest entries → Counts made entries → cut_at 10 rest ≡ Some (line, after) → IsNext line made e → SoFar text after (entries ++ e ∷ [])
+one_more text rest line after made entries e so_far counts cut next =
+    let t = entry_takes line made e next in
+    let rest_is : rest ≡ entry_line e ++ 10 ∷ after = cut_takes 10 rest (line, after) cut ∙ ap (λ (l : List ℕ). l ++ 10 ∷ after) t.1 in
+    let whole : entries_text (entries ++ e ∷ []) ++ after ≡ entries_text entries ++ (entry_line e ++ 10 ∷ after) = ap (λ (x : List ℕ). x ++ after) (text_more entries e) ∙ regrouped (entries_text entries) (entry_line e) after in
+    record {
+      parts = so_far.parts ∙ ap (λ (r : List ℕ). entries_text entries ++ r) rest_is ∙ sym whole;
+      each = each_more entries e so_far.each t.0;
+      numbered = numbered_more [] entries e so_far.numbered (next.seq ∙ counts e.client next.client);
+    }
+
+pub counts_more : (made : List ℕ) (entries : List Entry) (e : Entry) → Counts made entries → length made ≡ 64 → IsClient e.client → e.seq ≡ get_or made (e.client - 1) 0 → Counts (set made (e.client - 1) (e.seq + 1)) (entries ++ e ∷ [])
+counts_more made entries e counts len is seq = λ client isc.
+    let push : made_by client (entries ++ e ∷ []) ≡ made_by client entries + cond (eqb e.client client) 1 0 = sum_by_push (λ (x : Entry). cond (eqb x.client client) 1 0) entries e in
+    elim (cases_eq e.client client) [
+      | inl same ↦
+          let is_place : client - 1 ≡ e.client - 1 = omega arith in
+          let lt : e.client - 1 < length made = omega arith in
+          let old = counts e.client is in
+          let one : made_by client entries ≡ made_by e.client entries = ap (λ (c : ℕ). made_by c entries) (sym same) in
+          rw (is_place, get_or-set_same made (e.client - 1) (e.seq + 1) 0 lt, push, eq-eqb e.client client same) (omega (arith, old, one))
+      | inr other ↦
+          let elsewhere : client - 1 ≡ e.client - 1 → ⊥ = λ p. other (omega arith) in
+          let old = counts client isc in
+          rw (get_or-set_other made (e.client - 1) (client - 1) (e.seq + 1) 0 elsewhere, push, ne_eqb e.client client other) (omega (arith, old))
+    ]
+
+pub counts_few : (made : List ℕ) (entries : List Entry) → Counts made entries → length made ≡ 64 → length entries ≤ 65536 → (k : ℕ) → get_or made k 0 ≤ 65536
+counts_few made entries counts len few k =
+    elim (cases_lt k 64) [
+      | inl lt ↦
+          let at = counts (k + 1) (omega arith, omega arith) in
+          let place : k + 1 - 1 ≡ k = omega arith in
+          let most = count_by-le-length (λ (x : Entry). eqb x.client (k + 1)) entries in
+          let here : get_or made k 0 ≡ made_by (k + 1) entries = ap (λ (i : ℕ). get_or made i 0) (sym place) ∙ at in
+          omega (arith, most, here)
+      | inr past ↦ rw (get_or_past made k 0 (omega arith)) (omega arith)
+    ]
+
+-- the line of an entry is cut off at its end
+line_cut : (e : Entry) (after : List ℕ) → IsEntryRead e → cut_at 10 (entry_line e ++ 10 ∷ after) ≡ Some (entry_line e, after)
+line_cut e after is = cut_again 10 (entry_line e) after (line_lacks e.client e.call is.within.client (is.within.call, is.read))
+
+pub stops_unfinished : (text rest : List ℕ) (entries : List Entry) (n : ℕ) → SoFar text rest entries → length entries < 65536 → n ≡ length entries + 3 → 0 < length rest → cut_at 10 rest ≡ None → Stops text n
+stops_unfinished text rest entries n so_far few place more cut = record {
+  entries = entries;
+  rest = rest;
+  so_far = so_far;
+  few = omega arith;
+  place = place;
+  more = more;
+  stops = λ h e after is same. absurd (let again = ap (cut_at 10) same ∙ line_cut e after is in cc);
+}
+
+pub stops_bad : (text rest line after : List ℕ) (entries : List Entry) (n : ℕ) → SoFar text rest entries → length entries < 65536 → n ≡ length entries + 3 → 0 < length rest → cut_at 10 rest ≡ Some (line, after) → call_at line ≡ None → Stops text n
+stops_bad text rest line after entries n so_far few place more cut bad = record {
+  entries = entries;
+  rest = rest;
+  so_far = so_far;
+  few = omega arith;
+  place = place;
+  more = more;
+  stops = λ h e rest_of is same.
+      let again : Some (line, after) ≡ Some (entry_line e, rest_of) = sym cut ∙ ap (cut_at 10) same ∙ line_cut e rest_of is in
+      let line_is : line ≡ entry_line e = (some_pair_parts line (entry_line e) after rest_of again).0 in
+      absurd (let read = ap call_at line_is ∙ call_again e.client e.call is.within.client (is.within.call, is.read) in cc);
+}
+
+pub stops_full : (text rest : List ℕ) (entries : List Entry) (n : ℕ) → SoFar text rest entries → length entries ≡ 65536 → n ≡ length entries + 3 → 0 < length rest → Stops text n
+stops_full text rest entries n so_far full place more = record { entries = entries; rest = rest; so_far = so_far; few = omega arith; place = place; more = more; stops = λ few e after is same. omega arith }
+
+-- before the first entry
+pub starts : (text : List ℕ) → SoFar text text []
+starts text = record { parts = refl; each = tt; numbered = tt }
+
+pub stops_fault : (text rest line after : List ℕ) (entries : List Entry) (n : ℕ) (fault : PartFault) → SoFar text rest entries → length entries < 65536 → n ≡ length entries + 3 → 0 < length rest
+    → cut_at 10 rest ≡ Some (line, after) → Fails fault (call_at line) → StopsAt text (fault_from n fault)
+stops_fault text rest line after entries n Bad so_far few place more cut bad = stops_bad text rest line after entries n so_far few place more cut bad
+stops_fault text rest line after entries n Memory so_far few place more cut bad = tt

@@ -1,0 +1,12 @@
+pub mod Cuts
+pub mod Digits
+pub mod Names
+pub mod Many
+pub mod Numbers
+pub mod Lists
+pub mod Scripts
+pub mod Attributes
+pub mod Lines
+pub mod Entries
+pub mod Sections
+pub mod BadLines

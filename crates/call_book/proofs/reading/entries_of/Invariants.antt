@@ -1,0 +1,6 @@
+use Rattle.std.proofs.Common.{◌≡◌, length}
+use Rattle.call_book.specs.Reading.{SoFar, Counts}
+use Rattle.call_book.proofs.reading.entries_of.Given as goal
+
+abbrev pub invariant-loop-i : goal.invariant-loop-i
+invariant-loop-i l = record { so_far : SoFar l.text l.rest l.entries.items; counts : Counts l.made l.entries.items; long : length l.made ≡ 64; place : length l.entries.items ≡ l.i }

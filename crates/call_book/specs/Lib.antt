@@ -1,0 +1,5 @@
+pub mod SectionView
+pub mod Spelling
+pub mod Limits
+pub mod BadLine
+pub mod Reading

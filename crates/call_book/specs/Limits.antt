@@ -1,0 +1,118 @@
+-- Which sections have a spelling, and which of them are read (own).
+use Rattle.std.specs.Prelude.{◌≡◌, ℕ, ◌≤◌, ◌<◌, ◌*◌, ◌^◌, ◌==◌, false, List, [], ◌∷◌, ◌++◌, length, All, count_by, None, IfSome, Ok, if◌then◌else◌}
+use Rattle.attr_check.specs.declared.attr.SchedAttr.{SchedAttr}
+use Rattle.attr_check.specs.ParamsView.{ParamsView}
+use Rattle.attr_check.specs.Accepted.{accepted}
+use Rattle.domain_run.specs.NameView.{IsName}
+use Rattle.domain_run.specs.declared.script.Event.{Event}
+use Rattle.domain_run.specs.declared.script.Event.TheVariants.{Run, Sleep, Timer, Wait}
+use Rattle.domain_run.specs.script.ScriptView.{ScriptView, IsScript}
+use Rattle.domain_run.specs.declared.call.Call.{Call}
+use Rattle.domain_run.specs.declared.call.Call.TheVariants.{Admit, Regrade, Wake, Leave, Advance}
+use Rattle.call_book.specs.declared.section.Entry.{Entry}
+use Rattle.call_book.specs.SectionView.{SectionView}
+
+-- ---- calls
+
+abbrev pub IsClient : ℕ → Type 0
+IsClient c = (0 < c) × (c ≤ 64)
+
+abbrev pub IsNumber : ℕ → Type 0
+IsNumber n = (0 < n) × (n ≤ 65535)
+
+-- a task's own times in nanoseconds, with SCHED_DEADLINE (policy 6) and, where it reclaims, SCHED_FLAG_RECLAIM (2)
+-- (sched_setattr(2))
+abbrev pub attr_of : ParamsView → SchedAttr
+attr_of p = record {
+  policy = 6;
+  flags = if p.reclaim then 2 else 0;
+  runtime = p.runtime * 1000;
+  deadline = p.deadline * 1000;
+  period = p.period * 1000;
+}
+
+-- the attribute check gives these parameters for their own times; a period of 0 is given for none
+abbrev pub IsChecked : ParamsView → Type 0
+IsChecked p = accepted (attr_of p) ≡ Ok p
+
+pub record IsAdmission (number : ℕ) (name : List ℕ) (params : ParamsView) (delay : ℕ) (script : ScriptView) : Type 0 where
+  pub numbered : IsNumber number
+  pub named : IsName name
+  pub checked : IsChecked params
+  pub soon : delay ≤ 1000000000
+  pub scripted : IsScript script
+
+abbrev pub IsCall : Call → Type 0
+IsCall (Admit number name params delay script) = IsAdmission number name params delay script
+IsCall (Regrade number params word) = IsNumber number × IsChecked params × IfSome word (λ seen. seen ≤ 2 ^ 26)
+IsCall (Wake number) = IsNumber number
+IsCall (Leave number) = IsNumber number
+IsCall (Advance ticks) = (0 < ticks) × (ticks ≤ 60000000)
+
+-- ---- entries
+
+-- how many of these calls are a client's
+abbrev pub made_by : ℕ → List Entry → ℕ
+made_by client entries = count_by (λ e. e.client == client) entries
+
+-- each entry's sequence number is the number of its client's earlier calls, where these calls were made before
+abbrev pub IsNumberedAfter : List Entry → List Entry → Type 0
+IsNumberedAfter before [] = Unit {0}
+IsNumberedAfter before (e ∷ entries) = (e.seq ≡ made_by e.client before) × IsNumberedAfter (before ++ e ∷ []) entries
+
+abbrev pub IsNumbered : List Entry → Type 0
+IsNumbered entries = IsNumberedAfter [] entries
+
+pub record IsEntry (e : Entry) : Type 0 where
+  pub client : IsClient e.client
+  pub call : IsCall e.call
+
+-- ---- sections
+
+pub record IsSection (s : SectionView) : Type 0 where
+  pub some_cpus : 0 < s.cpus
+  pub most_cpus : s.cpus ≤ 64
+  pub least_limit : 10485 ≤ s.limit
+  pub most_limit : s.limit ≤ 1048576
+  pub most_entries : length s.entries ≤ 65536
+  pub entries : All IsEntry s.entries
+  pub numbered : IsNumbered s.entries
+
+-- what has a spelling
+pub record AreSections (sections : List SectionView) : Type 0 where
+  pub some : 0 < length sections
+  pub most : length sections ≤ 8
+  pub each : All IsSection sections
+
+-- ---- what is read
+
+-- for now run and sleep
+abbrev pub IsReadEvent : Event → Type 0
+IsReadEvent (Run n) = Unit {0}
+IsReadEvent (Sleep n) = Unit {0}
+IsReadEvent (Timer n) = ⊥
+IsReadEvent Wait = ⊥
+
+abbrev pub IsReadScript : ScriptView → Type 0
+IsReadScript s = All (λ p. All IsReadEvent p.events) s.phases
+
+-- for now admissions of tasks that do not reclaim, and advances
+abbrev pub IsReadCall : Call → Type 0
+IsReadCall (Admit number name params delay script) = (params.reclaim ≡ false) × IsReadScript script
+IsReadCall (Regrade number params word) = ⊥
+IsReadCall (Wake number) = ⊥
+IsReadCall (Leave number) = ⊥
+IsReadCall (Advance ticks) = Unit {0}
+
+-- for now one section, of one CPU
+abbrev pub IsOneCpu : List SectionView → Type 0
+IsOneCpu [] = ⊥
+IsOneCpu (s ∷ []) = s.cpus ≡ 1
+IsOneCpu (s ∷ t ∷ sections) = ⊥
+
+-- what is read: replies are not written, so what is read has none
+pub record AreRead (sections : List SectionView) : Type 0 where
+  pub within : AreSections sections
+  pub unanswered : All (λ s. All (λ e. e.reply ≡ None) s.entries) sections
+  pub calls : All (λ s. All (λ e. IsReadCall e.call) s.entries) sections
+  pub one_cpu : IsOneCpu sections

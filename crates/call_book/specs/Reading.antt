@@ -1,0 +1,231 @@
+-- What the parts of the reader answer, as functions of lists. No public clause names them.
+use Rattle.std.specs.Prelude.{◌≡◌, ℕ, zero, suc, ◌≤◌, ◌<◌, ◌+◌, ◌-◌, ◌*◌, Bool, not, ◌==◌, ◌&&◌, ◌||◌, nat_lt, nat_le, if◌then◌else◌, List, [], ◌∷◌, ◌++◌, map, length, slice_index, Option, Some, None, Result, Ok, Err, codes}
+use Rattle.std.specs.Option.{option_map_or}
+use Rattle.std.specs.Result.{result_ok}
+use Rattle.std.specs.Char.{is_ascii_digit}
+use Rattle.std.specs.Str.{bytes_eq}
+use Rattle.std.specs.List.{before_first, after_first, position_or_len, list_all, AllByRecursion}
+use Rattle.attr_check.specs.ParamsView.{ParamsView}
+use Rattle.attr_check.specs.Accepted.{accepted}
+use Rattle.domain_run.specs.declared.script.Event.{Event}
+use Rattle.domain_run.specs.declared.script.Event.TheVariants.{Run, Sleep}
+use Rattle.domain_run.specs.script.ScriptView.{PhaseView, ScriptView, script_of}
+use Rattle.domain_run.specs.declared.call.Call.{Call}
+use Rattle.domain_run.specs.declared.call.Call.TheVariants.{Admit, Advance}
+use Rattle.call_book.specs.declared.fault.PartFault.{PartFault}
+use Rattle.call_book.specs.declared.fault.PartFault.TheVariants.{Bad, Memory}
+use Rattle.call_book.specs.declared.fault.CallsFault.{CallsFault}
+use Rattle.call_book.specs.declared.fault.CallsFault.TheVariants as faults
+use Rattle.call_book.specs.declared.times.Times.{Times}
+use Rattle.call_book.specs.declared.section.Entry.{Entry}
+use Rattle.call_book.specs.Spelling.{entry_line, text_of}
+use Rattle.call_book.specs.Limits.{IsClient, IsEntry, IsReadCall, IsNumbered, made_by}
+
+-- ---- what a part of the reader answers, seen by view, unless memory ran out
+
+abbrev pub Fails : {Y : Type 0} → PartFault → Option Y → Type 0
+Fails Memory read = Unit {0}
+Fails Bad read = read ≡ None
+
+abbrev pub Gives : {X Y : Type 0} → (X → Y) → Result X PartFault → Option Y → Type 0
+Gives view (Ok x) read = read ≡ Some (view x)
+Gives view (Err e) read = Fails e read
+
+infixl 10 ◌>>=◌
+abbrev pub ◌>>=◌ : {A B : Type 0} → Option A → (A → Option B) → Option B
+None >>= f = None
+(Some x) >>= f = f x
+
+-- ---- parts of a text
+
+-- what stands before and after the first byte of this code
+unfoldable pub cut_at : ℕ → List ℕ → Option (List ℕ × List ℕ)
+cut_at c text = if nat_lt (position_or_len (λ b. b == c) text) (length text) then Some (before_first (λ b. b == c) text, after_first (λ b. b == c) text) else None
+
+-- ---- numbers
+
+-- digits from the left, after the number so far
+abbrev pub digits_on : ℕ → List ℕ → Option ℕ
+digits_on n [] = Some n
+digits_on n (c ∷ cs) = if is_ascii_digit c then digits_on (n * 10 + (c - 48)) cs else None
+
+-- at most 19 digits, and no zero in front of another digit
+abbrev pub is_short : List ℕ → Bool
+is_short text = nat_lt 0 (length text) && nat_le (length text) 19 && (nat_le (length text) 1 || not (slice_index text 0 == 48))
+
+unfoldable pub number_at : List ℕ → Option ℕ
+number_at text = if is_short text then digits_on 0 text else None
+
+unfoldable pub number_within_at : ℕ → ℕ → List ℕ → Option ℕ
+number_within_at least most text = do
+  n ← number_at text
+  if nat_le least n && nat_le n most then Some n else None
+
+-- ---- scripts
+
+unfoldable pub event_at : List ℕ → Option Event
+event_at [] = None
+event_at (c ∷ digits) =
+    if c == 114 then (number_within_at 1 1000000000 digits >>= λ n. Some (Run n))
+    else (if c == 115 then (number_within_at 1 1000000000 digits >>= λ n. Some (Sleep n)) else None)
+
+-- an item and what follows it, again and again, at most so many times
+unfoldable pub many_at : {X : Type 0} → (List ℕ → Option (X × Option (List ℕ))) → ℕ → List ℕ → Option (List X)
+many_at item zero text = None
+many_at item (suc most) text = do
+  first ← item text
+  option_map_or (λ rest. many_at item most rest >>= λ others. Some (first.0 ∷ others)) first.1 (Some (first.0 ∷ []))
+
+-- an event, and what follows the comma after it
+unfoldable pub event_first_at : List ℕ → Option (Event × Option (List ℕ))
+event_first_at text = option_map_or (λ p. event_at p.0 >>= λ e. Some (e, Some p.1)) (cut_at 44 text) (event_at text >>= λ e. Some (e, None))
+
+abbrev pub events_at : List ℕ → Option (List Event)
+events_at text = many_at event_first_at 64 text
+
+-- without the brace at its end
+unfoldable pub phase_at : List ℕ → Option PhaseView
+phase_at text = do
+  p ← cut_at 123 text
+  count ← number_within_at 1 1000000000 p.0
+  events ← events_at p.1
+  Some (record { count = count; events = events })
+
+-- a phase, and what follows the brace after it
+unfoldable pub phase_first_at : List ℕ → Option (PhaseView × Option (List ℕ))
+phase_first_at text = do
+  p ← cut_at 125 text
+  phase ← phase_at p.0
+  Some (phase, if length p.1 == 0 then None else Some p.1)
+
+abbrev pub phases_at : List ℕ → Option (List PhaseView)
+phases_at text = many_at phase_first_at 64 text
+
+unfoldable pub rounds_at : List ℕ → Option (Option ℕ)
+rounds_at text = if bytes_eq text (codes "-1") then Some None else (number_within_at 1 1000000000 text >>= λ n. Some (Some n))
+
+unfoldable pub script_at : List ℕ → Option ScriptView
+script_at text = do
+  p ← cut_at 58 text
+  rounds ← rounds_at p.0
+  phases ← phases_at p.1
+  Some (script_of rounds phases)
+
+-- ---- lines
+
+-- a number up to the next space, and what follows
+unfoldable pub field_at : ℕ → ℕ → List ℕ → Option (ℕ × List ℕ)
+field_at least most text = do
+  p ← cut_at 32 text
+  n ← number_within_at least most p.0
+  Some (n, p.1)
+
+-- each up to the next space
+unfoldable pub times_at : List ℕ → Option (Times × List ℕ)
+times_at text = do
+  runtime ← field_at 1 4294967296 text
+  deadline ← field_at 1 4294967296 runtime.1
+  period ← field_at 1 4294967296 deadline.1
+  Some (record { runtime = runtime.0; deadline = deadline.0; period = period.0 }, period.1)
+
+-- what keeps the times in nanoseconds below 2^64
+pub record AreTimes (t : Times) : Type 0 where
+  pub runtime : t.runtime ≤ 4294967296
+  pub deadline : t.deadline ≤ 4294967296
+  pub period : t.period ≤ 4294967296
+
+-- the parameters that these times give to a task that does not reclaim
+unfoldable pub params_at : Times → Option ParamsView
+params_at t = result_ok (accepted (record { policy = 6; flags = 0; runtime = t.runtime * 1000; deadline = t.deadline * 1000; period = t.period * 1000 }))
+
+-- 1 to 15 bytes of codes 0x21 to 0x7e
+abbrev pub is_name : List ℕ → Bool
+is_name text = nat_lt 0 (length text) && nat_le (length text) 15 && list_all (λ b. nat_le 33 b && nat_le b 126) text
+
+unfoldable pub name_at : List ℕ → Option (List ℕ)
+name_at text = if is_name text then Some text else None
+
+-- the flag, the delay and the script of an admission
+unfoldable pub plan_at : List ℕ → Option (ℕ × ScriptView)
+plan_at text = do
+  flag ← cut_at 32 text
+  delay ← field_at 0 1000000000 flag.1
+  script ← script_at delay.1
+  if bytes_eq flag.0 (codes "-") then Some (delay.0, script) else None
+
+-- what follows the client in an admission
+unfoldable pub admit_at : List ℕ → Option Call
+admit_at text = do
+  number ← field_at 1 65535 text
+  name ← cut_at 32 number.1
+  named ← name_at name.0
+  times ← times_at name.1
+  params ← params_at times.0
+  plan ← plan_at times.1
+  Some (Admit number.0 named params plan.0 plan.1)
+
+unfoldable pub advance_at : List ℕ → Option Call
+advance_at text = do
+  n ← number_within_at 1 60000000 text
+  Some (Advance n)
+
+unfoldable pub call_at : List ℕ → Option (ℕ × Call)
+call_at line = do
+  word ← cut_at 32 line
+  client ← field_at 1 64 word.1
+  call ← (if bytes_eq word.0 (codes "admit") then admit_at client.1 else (if bytes_eq word.0 (codes "advance") then advance_at client.1 else None))
+  Some (client.0, call)
+
+-- the CPUs and the limit of a domain
+unfoldable pub domain_at : List ℕ → Option (ℕ × ℕ)
+domain_at line = do
+  word ← cut_at 32 line
+  cpus ← field_at 1 1 word.1
+  limit ← number_within_at 10485 1048576 cpus.1
+  if bytes_eq word.0 (codes "domain") then Some (cpus.0, limit) else None
+
+-- a part that is bad makes its line bad
+abbrev pub fault_from : ℕ → PartFault → CallsFault
+fault_from n Bad = faults.BadLine n
+fault_from n Memory = faults.Memory
+
+-- ---- the entries of the one section, from line 3 on
+
+pub record IsEntryRead (e : Entry) : Type 0 where
+  pub within : IsEntry e
+  pub read : IsReadCall e.call
+  pub unanswered : e.reply ≡ None
+
+abbrev pub entries_text : List Entry → List ℕ
+entries_text entries = text_of (map entry_line entries)
+
+-- the text is that of these entries, and then the rest
+pub record SoFar (text rest : List ℕ) (entries : List Entry) : Type 0 where
+  pub parts : text ≡ entries_text entries ++ rest
+  pub each : AllByRecursion IsEntryRead entries
+  pub numbered : IsNumbered entries
+
+-- how many calls each client made
+abbrev pub Counts : List ℕ → List Entry → Type 0
+Counts made entries = (client : ℕ) → IsClient client → slice_index made (client - 1) ≡ made_by client entries
+
+-- the entry of a line, where a client made so many calls before
+pub record IsNext (line : List ℕ) (made : List ℕ) (e : Entry) : Type 0 where
+  pub call : call_at line ≡ Some (e.client, e.call)
+  pub client : IsClient e.client
+  pub unanswered : e.reply ≡ None
+  pub seq : e.seq ≡ slice_index made (e.client - 1)
+
+-- after these entries more stands there, and it does not begin with the line of a further entry
+pub record Stops (text : List ℕ) (n : ℕ) : Type 0 where
+  pub entries : List Entry
+  pub rest : List ℕ
+  pub so_far : SoFar text rest entries
+  pub few : length entries ≤ 65536
+  pub place : n ≡ length entries + 3
+  pub more : 0 < length rest
+  pub stops : length entries < 65536 → (e : Entry) (after : List ℕ) → IsEntryRead e → rest ≡ entry_line e ++ 10 ∷ after → ⊥
+
+abbrev pub StopsAt : List ℕ → CallsFault → Type 0
+StopsAt text (faults.BadLine n) = Stops text n
+StopsAt text faults.Memory = Unit {0}

@@ -1,0 +1,15 @@
+ghost use Rattle.std.specs.Prelude.{◌≡◌};
+ghost use Rattle.std.specs.Option.{option_map};
+ghost use Rattle.call_book.specs.Reading.{cut_at};
+
+/// What stands before and after the first byte of this code, or nothing where there is none.
+pub(crate) fn cut(text: &[u8], at: u8) -> Option<(&[u8], &[u8])>
+    ensures { option_map (λ p. (p.0.now, p.1.now)) result ≡ cut_at at text.now }
+{
+    for (i, b) in text.iter().enumerate() {
+        if *b == at {
+            return Some((&text[..i], &text[i + 1..]));
+        }
+    }
+    None
+}

@@ -1,0 +1,127 @@
+ghost use Rattle.std.specs.Prelude.{◌≡◌, IfOk};
+ghost use Rattle.std.specs.Option.{option_map};
+ghost use Rattle.domain_run.specs.script.Segments.{rounds_of, IsLoops};
+ghost use Rattle.call_book.specs.Reading.{Gives, event_at, event_first_at, events_at, phase_at, phase_first_at, phases_at, rounds_at, script_at};
+
+use crate::cut::cut;
+use crate::fault::PartFault;
+use crate::number::number_within;
+use domain_run::{Event, Phase, Script};
+use std::alloc::Global;
+
+/// The most microseconds of an event, the most repetitions of a phase, and the most rounds of a script.
+const MOST: u64 = 1_000_000_000;
+
+/// For now the events run and sleep alone.
+#[tactic(auto, unfolding(crate::specs::Reading::event_at))]
+fn event_of(text: &[u8]) -> Result<Event, PartFault>
+    ensures { Gives (λ e. e) result (event_at text.now) }
+{
+    match text {
+        [b'r', digits @ ..] => Ok(Event::Run(number_within(digits, 1, MOST)?)),
+        [b's', digits @ ..] => Ok(Event::Sleep(number_within(digits, 1, MOST)?)),
+        _ => Err(PartFault::Bad),
+    }
+}
+
+/// An event, and what follows the comma after it.
+#[tactic(auto, unfolding(crate::specs::Reading::event_first_at))]
+fn event_first(text: &[u8]) -> Result<(Event, Option<&[u8]>), PartFault>
+    ensures { Gives (λ p. (p.0, option_map (λ r. r.now) p.1)) result (event_first_at text.now) }
+{
+    match cut(text, b',') {
+        None => Ok((event_of(text)?, None)),
+        Some((first, after)) => Ok((event_of(first)?, Some(after))),
+    }
+}
+
+/// 1 to 64 events, with commas between them.
+fn events_of(alloc: Global, text: &[u8]) -> Result<Vec<Event>, PartFault>
+    ensures { Gives (λ v. v.items) result (events_at text.now) }
+{
+    let mut events = Vec::new(alloc);
+    let mut rest = text;
+    for _ in 0..64u64 {
+        let (event, after) = event_first(rest)?;
+        events.push(event)?;
+        match after {
+            None => return Ok(events),
+            Some(after) => rest = after,
+        }
+    }
+    Err(PartFault::Bad)
+}
+
+/// A count and its events, without the brace at the end.
+#[tactic(auto, unfolding(crate::specs::Reading::phase_at))]
+fn phase_of(alloc: Global, text: &[u8]) -> Result<Phase, PartFault>
+    ensures { Gives (λ p. p) result (phase_at text.now) }
+{
+    let Some((count, events)) = cut(text, b'{') else {
+        return Err(PartFault::Bad);
+    };
+    let count = number_within(count, 1, MOST)?;
+    let events = events_of(alloc, events)?;
+    Ok(Phase { count, events })
+}
+
+/// A phase, and what follows the brace after it.
+#[tactic(auto, unfolding(crate::specs::Reading::phase_first_at))]
+fn phase_first(alloc: Global, text: &[u8]) -> Result<(Phase, Option<&[u8]>), PartFault>
+    ensures { Gives (λ p. (p.0, option_map (λ r. r.now) p.1)) result (phase_first_at text.now) }
+{
+    let Some((phase, after)) = cut(text, b'}') else {
+        return Err(PartFault::Bad);
+    };
+    let phase = phase_of(alloc, phase)?;
+    if after.is_empty() {
+        Ok((phase, None))
+    } else {
+        Ok((phase, Some(after)))
+    }
+}
+
+/// 1 to 64 phases, each with a brace at its end.
+fn phases_of(alloc: Global, text: &[u8]) -> Result<Vec<Phase>, PartFault>
+    ensures { Gives (λ v. v.items) result (phases_at text.now) }
+{
+    let mut phases = Vec::new(alloc);
+    let mut rest = text;
+    for _ in 0..64u64 {
+        let (phase, after) = phase_first(alloc, rest)?;
+        phases.push(phase)?;
+        match after {
+            None => return Ok(phases),
+            Some(after) => rest = after,
+        }
+    }
+    Err(PartFault::Bad)
+}
+
+/// The loop count of a script: -1, or 1 to 10^9.
+#[tactic(auto, unfolding(crate::specs::Reading::rounds_at))]
+fn loops_of(text: &[u8]) -> Result<i64, PartFault>
+    ensures gives { Gives rounds_of result (rounds_at text.now) }
+    ensures within { IfOk result IsLoops }
+{
+    if text == b"-1".as_slice() {
+        return Ok(-1);
+    }
+    Ok(number_within(text, 1, MOST)? as i64)
+}
+
+/// The script that a text spells.
+#[tactic(auto, unfolding(crate::specs::Reading::script_at))]
+pub(crate) fn script_of(alloc: Global, text: &[u8]) -> Result<Script, PartFault>
+    ensures { Gives (λ s. s) result (script_at text.now) }
+{
+    let Some((loops, phases)) = cut(text, b':') else {
+        return Err(PartFault::Bad);
+    };
+    let loops = loops_of(loops)?;
+    let phases = phases_of(alloc, phases)?;
+    match Script::new(loops, phases) {
+        Ok(script) => Ok(script),
+        Err(_) => Err(PartFault::Bad),
+    }
+}
