@@ -1,3 +1,6 @@
 mod Known
 mod Joined
 mod Room
+mod Order
+mod Ahead
+mod Found

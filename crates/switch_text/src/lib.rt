@@ -1,9 +1,14 @@
 //! The trace text of a run, and readers and writers that count their faults.
 #![tactic(auto)]
 
+mod batch;
 mod counted;
 mod fault;
-mod line;
+mod lines;
+mod merge;
+mod run;
 
 pub use counted::Counted;
 pub use fault::{ReadFault, WriteFault};
+pub use lines::line;
+pub use run::Run;

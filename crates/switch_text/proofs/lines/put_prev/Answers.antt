@@ -1,6 +1,6 @@
 use Rattle.switch_text.specs.Line.{prev_part}
 use Rattle.switch_text.proofs.Joined.{joined_8}
-use Rattle.switch_text.proofs.line.put_prev.Goals as goal
+use Rattle.switch_text.proofs.lines.put_prev.Goals as goal
 
 pub returns-clause-text : goal.returns-clause-text
 unfolding prev_part

@@ -2,7 +2,7 @@ use Rattle.std.proofs.Common.{◌+◌, ◌<◌, ◌≤◌, ◌^◌, ℕ, length,
 use Rattle.switch_text.specs.Names.{named}
 use Rattle.switch_text.specs.Line.{task_part, cpu_part, time_part, prev_part, next_part, pid_of}
 use Rattle.switch_text.proofs.Room.{IsShort-from_name, length-task_part, length-cpu_part, length-time_part, length-prev_part, length-next_part}
-use Rattle.switch_text.proofs.line.line.Goals as goal
+use Rattle.switch_text.proofs.lines.line.Goals as goal
 
 pub put_task-at-requires-clause-room : goal.put_task-at-requires-clause-room
 put_task-at-requires-clause-room c =

@@ -1,6 +1,6 @@
 use Rattle.switch_text.specs.Line.{next_part}
 use Rattle.switch_text.proofs.Joined.{joined_7}
-use Rattle.switch_text.proofs.line.put_next.Goals as goal
+use Rattle.switch_text.proofs.lines.put_next.Goals as goal
 
 pub returns-clause-text : goal.returns-clause-text
 unfolding next_part

@@ -1,7 +1,7 @@
 use Rattle.std.proofs.Common.{◌≡◌, ◌+◌, ◌-◌, length, take, drop, replicate, ◌++◌, sym, ap, ◌∙◌, arith}
 use Rattle.std.proofs.lemmas.Grind.{common_steps}
 use Rattle.std.proofs.lemmas.Slice.{take-put_mid}
-use Rattle.switch_text.proofs.line.put_times.Goals as goal
+use Rattle.switch_text.proofs.lines.put_times.Goals as goal
 
 pub returns-clause-text : goal.returns-clause-text
 returns-clause-text c =
