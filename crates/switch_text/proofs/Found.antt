@@ -9,11 +9,11 @@ use Rattle.domain_run.specs.declared.switch.Switch.{Switch}
 use Rattle.switch_text.specs.declared.run.Run.{Run}
 use Rattle.switch_text.specs.declared.merge.Next.{Next}
 use Rattle.switch_text.specs.Names.{HasLine}
-use Rattle.switch_text.specs.Trace.{RunView, Entry, entry_of, entries_of, is_earlier}
+use Rattle.switch_text.specs.Trace.{RunView, Entry, entry_of, entries_of, is_earlier, in_order}
 use Rattle.switch_text.specs.Runs.{view_of, views, is_before, IsRun}
 use Rattle.switch_text.specs.Merging.{left_of, stepped, IsAhead, IsNextOf, IsFound, IsPrinted, next_entry, is_better}
 use Rattle.switch_text.proofs.Ahead.{left_of-done, IsAhead-new, IsAhead-kept, all_left-earlier, run_not_earlier}
-use Rattle.switch_text.proofs.Order.{AllByRecursion-weaker, not_later-from_earlier}
+use Rattle.switch_text.proofs.Order.{AllByRecursion-weaker, not_later-from_earlier, in_order-first}
 
 is_earlier-entry : (r : RunView) (a b : Switch) → IsTrue (is_before a b) → is_earlier (entry_of r a) (entry_of r b) ≡ true
 is_earlier-entry r a b h = grind (arith, nat_tests)
@@ -177,3 +177,11 @@ pub IsFound-kept_at : (runs : List Run) (places : List ℕ) (i : ℕ) (run : Run
 IsFound-kept_at runs places i run n best here next worse found =
     let new = IsFound-kept runs places n best (here_by runs places i run n here next) (there_by places i run n next) worse (subst (λ (k : ℕ). IsFound (take k runs) places best) (sym next.index) found) in
     subst (λ (k : ℕ). IsFound (take (k + 1) runs) places best) next.index new
+
+-- in the order of the trace the next entry comes first
+pub in_order-next : (runs : List Run) (places : List ℕ) (n : Next) → IsNextOf runs places n
+    → in_order (left_of (views runs) places) ≡ next_entry n ∷ in_order (left_of (views runs) (stepped places n.index))
+in_order-next runs places n next =
+    let a = next.ahead in
+    let e = next_entry n in
+    ap in_order a.split ∙ in_order-first a.before e a.after a.earlier a.not_later ∙ ap (λ (es : List Entry). e ∷ in_order es) (sym a.moved)

@@ -4,3 +4,5 @@ mod Room
 mod Order
 mod Ahead
 mod Found
+mod Few
+mod UnderWay

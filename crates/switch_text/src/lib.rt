@@ -7,8 +7,10 @@ mod fault;
 mod lines;
 mod merge;
 mod run;
+mod writing;
 
 pub use counted::Counted;
 pub use fault::{ReadFault, WriteFault};
 pub use lines::line;
 pub use run::Run;
+pub use writing::write_trace;

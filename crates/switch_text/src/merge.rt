@@ -7,14 +7,14 @@ use domain_run::Switch;
 
 /// The next switch of a run, and which of the runs it is.
 #[derive(Clone, Copy)]
-pub(crate) struct Next<'a> {
+pub(crate) struct Next<'a, 'b> {
     pub(crate) index: usize,
-    pub(crate) run: &'a Run<'a>,
-    pub(crate) switch: &'a Switch,
+    pub(crate) run: &'a Run<'b>,
+    pub(crate) switch: &'b Switch,
 }
 
 /// Whether it is earlier by time and CPU of the machine than the best so far.
-fn is_earlier_than<'a>(next: &Next<'a>, best: &Option<Next<'a>>) -> bool
+fn is_earlier_than(next: &Next<'_, '_>, best: &Option<Next<'_, '_>>) -> bool
     requires next { IsPrinted next.now }
     requires best { IfSome best.now IsPrinted }
     ensures { result ≡ is_better next.now best.now }
@@ -32,7 +32,7 @@ fn is_earlier_than<'a>(next: &Next<'a>, best: &Option<Next<'a>>) -> bool
 }
 
 /// The switch at a place of a run.
-fn next_in<'a>(run: &'a Run<'a>, index: usize, place: usize) -> Next<'a>
+fn next_in<'a, 'b>(run: &'a Run<'b>, index: usize, place: usize) -> Next<'a, 'b>
     requires { place < length run.now.switches.now }
     ensures index { result.index ≡ index }
     ensures run { result.run.now ≡ run.now }
@@ -46,7 +46,7 @@ fn next_in<'a>(run: &'a Run<'a>, index: usize, place: usize) -> Next<'a>
 }
 
 /// The earliest switch that is left, of the first run that has one, or none where no switch is left.
-pub(crate) fn earliest<'a>(runs: &'a [Run<'a>], places: &[usize; 8]) -> Option<Next<'a>>
+pub(crate) fn earliest<'a, 'b>(runs: &'a [Run<'b>], places: &[usize; 8]) -> Option<Next<'a, 'b>>
     requires few { length runs.now ≤ 8 }
     requires runs { All IsRun runs.now }
     ensures { IsFound runs.now places.now result }
