@@ -6,3 +6,4 @@ mod Ahead
 mod Found
 mod Few
 mod UnderWay
+pub mod CallerLemmas

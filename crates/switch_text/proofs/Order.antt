@@ -30,19 +30,19 @@ pub AllByRecursion-append : {X : Type 0} (P : X → Type 0) (xs ys : List X) →
 AllByRecursion-append P [] ys all more = more
 AllByRecursion-append P (x ∷ xs) ys all more = (all.0, AllByRecursion-append P xs ys all.1 more)
 
-AllByRecursion-placed_in : (P : Entry → Type 0) (e : Entry) (es : List Entry) → P e → AllByRecursion P es → AllByRecursion P (placed_in e es)
+pub AllByRecursion-placed_in : (P : Entry → Type 0) (e : Entry) (es : List Entry) → P e → AllByRecursion P es → AllByRecursion P (placed_in e es)
 AllByRecursion-placed_in P e [] h all = (h, tt)
 AllByRecursion-placed_in P e (f ∷ fs) h all =
     let more = AllByRecursion-placed_in P e fs h all.1 in
     elim (is_earlier f e) as (λ b. AllByRecursion P (cond b (f ∷ placed_in e fs) (e ∷ f ∷ fs))) [ true ↦ (all.0, more) | false ↦ (h, all) ]
 
-AllByRecursion-in_order : (P : Entry → Type 0) (es : List Entry) → AllByRecursion P es → AllByRecursion P (in_order es)
+pub AllByRecursion-in_order : (P : Entry → Type 0) (es : List Entry) → AllByRecursion P es → AllByRecursion P (in_order es)
 unfolding in_order
 AllByRecursion-in_order P [] all = tt
 AllByRecursion-in_order P (e ∷ es) all = AllByRecursion-placed_in P e (in_order es) all.0 (AllByRecursion-in_order P es all.1)
 
 -- what is later than no other goes first
-placed_in-first : (e : Entry) (es : List Entry) → AllByRecursion (λ x. is_earlier x e ≡ false) es → placed_in e es ≡ e ∷ es
+pub placed_in-first : (e : Entry) (es : List Entry) → AllByRecursion (λ x. is_earlier x e ≡ false) es → placed_in e es ≡ e ∷ es
 placed_in-first e [] all = refl
 placed_in-first e (f ∷ fs) all = rw all.0 refl
 

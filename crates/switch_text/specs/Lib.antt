@@ -5,3 +5,4 @@ pub mod Trace
 pub mod Runs
 pub mod Merging
 pub mod Sending
+pub mod Examples
