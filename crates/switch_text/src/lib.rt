@@ -14,3 +14,6 @@ pub use fault::{ReadFault, WriteFault};
 pub use lines::line;
 pub use run::Run;
 pub use writing::write_trace;
+
+#[cfg(test)]
+mod tests;
