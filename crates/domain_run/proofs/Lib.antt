@@ -9,3 +9,4 @@ pub mod Keeping
 pub mod Seating
 pub mod Placing
 pub mod Ticking
+pub mod Tracing

@@ -1,6 +1,6 @@
 -- A tick keeps what every domain keeps.
 use Rattle.std.proofs.Common.{◌≡◌, ℕ, ◌+◌, ◌*◌, ◌^◌, ◌<◌, ◌≤◌, Bool, true, false, cond, eqb, ltb, Option, Some, None, List, ◌++◌, length, map, get_or, refl, sym, ap, ◌∙◌, subst, arith, inl, inr}
-use Rattle.std.specs.Prelude.{All, AllPairs, IsTrue, filter, position, ◌≢◌, slice_index}
+use Rattle.std.specs.Prelude.{All, Any, AllPairs, pos, ◌<ℤ◌, IsTrue, filter, position, ◌≢◌, slice_index}
 use Rattle.std.specs.List.{list_any, position_or_len}
 use Rattle.std.proofs.lemmas.Bool.{cases_lt, ltb-true}
 use Rattle.std.proofs.lemmas.List.{length-map, get_or_default}
@@ -18,8 +18,10 @@ use Rattle.domain_run.specs.declared.switch.Switch.{Switch}
 use Rattle.domain_run.specs.Switches.{switches_from}
 use Rattle.domain_run.specs.Charging.{ran_with}
 use Rattle.domain_run.specs.Domain.{Domain}
-use Rattle.domain_run.specs.Tick.{shares, sum_of, candidates, awake, with_places, with_awake, begun, ran_if, finished}
-use Rattle.domain_run.specs.Sound.{occupant, IsApart, IsSound, IsPlacement, IsDomain, AreSums}
+use Rattle.domain_run.specs.Tick.{shares, sum_of, candidates, awake, with_places, begun, ran_if, finished, ticked}
+use Rattle.domain_run.specs.Sound.{occupant, IsApart, IsSound, IsPlacement, IsSteady, IsDomain, IsAdmitted, AreSums}
+use Rattle.domain_run.specs.Conditions.{is_ready}
+use Rattle.domain_run.proofs.Tracing.{AreStanding, tick_traced}
 use Rattle.domain_run.proofs.Keeping.{Same, same_itself, same_either, same_replenished, same_settled, same_unblocked, same_ran, AllPairs-map, length-filter_least, sum-map, sum-filter}
 use Rattle.domain_run.proofs.Sums.{uinact_least}
 use Rattle.domain_run.proofs.Seating.{placed_is}
@@ -80,10 +82,10 @@ listed_homed d places tasks wide is =
     (All-weaker (λ t. t.cpu < d.cpus) (λ t. (homed places t).cpu < d.cpus) (λ t h. homed_cpu d.cpus (position (is_task t.number) places) t (λ cpu e. subst (λ n. cpu < n) wide (position_within t.number places cpu e)) h) tasks is.homes)
     is
 
-pub listed_of : (d : Domain) → IsDomain d → AreListed d d.tasks
+pub listed_of : (d : Domain) → IsSteady d → AreListed d d.tasks
 listed_of d is = record { within = is.within; listed = is.listed; homes = is.homes; numbered = is.numbered; known = is.known }
 
-pub listed_awake : (d : Domain) → IsDomain d → AreListed d (awake d.time d.tasks)
+pub listed_awake : (d : Domain) → IsSteady d → AreListed d (awake d.time d.tasks)
 listed_awake d is =
     let a = listed_map d (replenish_due d.time) d.tasks (same_replenished d.time) (listed_of d is) in
     let b = listed_map d (settled d.time) (map (replenish_due d.time) d.tasks) (same_settled d.time) a in
@@ -94,7 +96,7 @@ homed_sound : (time : ℕ) (o : Option ℕ) (t : Task) → IsSound time t → Is
 homed_sound time None t h = h
 homed_sound time (Some cpu) t h = record { served = h.served; spent = h.spent; lifted = h.lifted; dated = h.dated; busy = h.busy; timed = h.timed }
 
-pub begun_is : (d : Domain) → IsDomain d → All (IsSound d.time) (awake d.time d.tasks) → IsDomain (begun d) × IsPlacement (begun d)
+pub begun_is : (d : Domain) → IsSteady d → All (IsSound d.time) (awake d.time d.tasks) → IsSteady (begun d) × IsPlacement (begun d)
 begun_is d is sound =
     let tasks = awake d.time d.tasks in
     let seating = placed_is d.cpus (candidates tasks) d.places is.wide is.apart in
@@ -119,7 +121,7 @@ begun_is d is sound =
 same_ran_if : (d : Domain) (t : Task) → Same t (ran_if d t)
 same_ran_if d t = same_either (stands t.number d.places) t _ t (same_ran d.time _ t) (same_itself t)
 
-pub finished_is : (d : Domain) → IsDomain d → d.time < 2 ^ 42 → All (IsSound (d.time + 1)) (map (ran_if d) d.tasks) → IsDomain (finished d)
+pub finished_is : (d : Domain) → IsSteady d → d.time < 2 ^ 42 → All (IsSound (d.time + 1)) (map (ran_if d) d.tasks) → IsSteady (finished d)
 finished_is d is early sound =
     let l = listed_map d (ran_if d) d.tasks (same_ran_if d) (listed_of d is) in
     record {
@@ -144,7 +146,7 @@ ran_as d idle sum each total =
     let same : (t : Task) → ran_with d.time d.places idle sum d.cpus d.limit t ≡ ran_if d t = λ t. rw (each t.cpu, total) refl in
     λ i. map (λ t. same t i) d.tasks
 
-pub sums_are : (d : Domain) (idle : List ℕ) (sum : ℕ) → IsDomain d → ((cpu : ℕ) → slice_index idle cpu ≡ uinact cpu (shares d.tasks)) → sum ≡ sum_of d.tasks → AreSums idle sum d.cpus d.limit
+pub sums_are : (d : Domain) (idle : List ℕ) (sum : ℕ) → IsSteady d → ((cpu : ℕ) → slice_index idle cpu ≡ uinact cpu (shares d.tasks)) → sum ≡ sum_of d.tasks → AreSums idle sum d.cpus d.limit
 sums_are d idle sum is each total =
     let most : cap d.cpus d.limit ≤ 64 * 1048576 = mul-le-mul is.few is.high in
     record {
@@ -156,20 +158,45 @@ sums_are d idle sum is each total =
       high = is.high;
     }
 
--- the lists that the code makes are those of the begun tick
-pub begun_as : (d e : Domain) (awoken tasks : List Task) (places : Places) (switches : List Switch) → d ≡ e → awoken ≡ awake d.time d.tasks → places ≡ placed d.cpus (candidates awoken) d.places → switches ≡ d.switches ++ switches_from d.time awoken 0 d.places places → tasks ≡ map (homed places) awoken
-    → record d { tasks = tasks; places = places; switches = switches } ≡ begun e
-begun_as d e awoken tasks places switches same awoken-are places-are switches-are tasks-are =
+-- ---- the middle of a tick, as the code has it
+
+pub record IsMiddle (d e : Domain) : Type 0 where
+  pub begun_is : e ≡ begun d
+  pub steady : IsSteady e
+  pub placed : IsPlacement e
+
+pub middle : (d : Domain) (tasks : List Task) (places : Places) (switches : List Switch) (cpus : ℕ) → IsDomain d → cpus ≡ length d.places → All (IsSound d.time) (awake d.time d.tasks)
+    → tasks ≡ map (homed places) (awake d.time d.tasks) → places ≡ placed cpus (candidates (awake d.time d.tasks)) d.places → switches ≡ d.switches ++ switches_from d.time (awake d.time d.tasks) 0 d.places places
+    → IsMiddle d (record d { tasks = tasks; places = places; switches = switches })
+middle d tasks places switches cpus is wide sound tasks-are places-are switches-are =
     let made : List Task → List Switch → Domain = λ ts ss. record d { tasks = ts; places = places; switches = ss } in
-    ap (λ ts. made ts switches) tasks-are ∙ ap (made (map (homed places) awoken)) switches-are ∙ ap (with_places d awoken) places-are ∙ ap (with_awake d) awoken-are ∙ ap begun same
+    let awoken = awake d.time d.tasks in
+    let all : cpus ≡ d.cpus = wide ∙ is.steady.wide in
+    let seated : places ≡ placed d.cpus (candidates awoken) d.places = places-are ∙ ap (λ n. placed n (candidates awoken) d.places) all in
+    let same : record d { tasks = tasks; places = places; switches = switches } ≡ begun d =
+      ap (λ ts. made ts switches) tasks-are ∙ ap (made (map (homed places) awoken)) switches-are ∙ ap (with_places d awoken) seated in
+    let keeps = begun_is d is.steady sound in
+    record { begun_is = same; steady = subst IsSteady (sym same) keeps.0; placed = subst IsPlacement (sym same) keeps.1 }
 
-pub placed_wide : (d : Domain) (ready : List Candidate) (places : Places) → IsDomain d → places ≡ placed d.cpus ready d.places → length places ≡ d.cpus
-placed_wide d ready places is e = ap (λ (ps : Places). length ps) e ∙ (placed_is d.cpus ready d.places is.wide is.apart).wide
+standing_from : (e : Domain) → IsSteady e → IsPlacement e → AreStanding e.used e.places
+standing_from e is at cpu n h = stand_by (at.running cpu n h)
+  where
+    stand_by : Any (λ t. (t.number ≡ n) × (t.cpu ≡ cpu) × IsTrue (is_ready t.condition) × (pos 0 <ℤ t.server.left)) e.tasks → IsAdmitted e.used n
+    stand_by (k, t, within, same, facts) = subst (IsAdmitted e.used) (ap (λ x. x.number) same ∙ facts.0) (is.known k t within)
 
-pub begun_keeps : (d e : Domain) (awoken : List Task) → d ≡ e → IsDomain d → awoken ≡ awake d.time d.tasks → All (IsSound d.time) awoken → IsDomain (begun e) × IsPlacement (begun e)
-begun_keeps d e awoken same is awoken-are sound = subst (λ x. IsDomain (begun x) × IsPlacement (begun x)) same (begun_is d is (subst (All (IsSound d.time)) awoken-are sound))
+pub ticked_is : (d : Domain) → IsDomain d → d.time < 2 ^ 42 → All (IsSound d.time) (awake d.time d.tasks) → All (IsSound (d.time + 1)) (ticked d).tasks → IsDomain (ticked d)
+ticked_is d is early awoken sound =
+    let keeps = begun_is d is.steady awoken in
+    record {
+      steady = finished_is (begun d) keeps.0 early sound;
+      traced = tick_traced d (awake d.time d.tasks) (ticked d).tasks (begun d).places is.steady.wide is.traced (standing_from (begun d) keeps.0 keeps.1);
+    }
 
-pub finished_as : (d e : Domain) (tasks : List Task) → d ≡ e → tasks ≡ map (ran_if d) d.tasks → record d { time = d.time + 1; tasks = tasks } ≡ finished e
-finished_as d e tasks same tasks-are =
-    let made : List Task → Domain = λ ts. record d { time = d.time + 1; tasks = ts } in
-    ap made tasks-are ∙ ap finished same
+-- what the code leaves is the tick
+pub done : (d e : Domain) (tasks : List Task) → IsMiddle d e → tasks ≡ map (ran_if e) e.tasks → record e { time = e.time + 1; tasks = tasks } ≡ ticked d
+done d e tasks is tasks-are =
+    let made : List Task → Domain = λ ts. record e { time = e.time + 1; tasks = ts } in
+    ap made tasks-are ∙ ap finished is.begun_is
+
+pub done_sound : (d e : Domain) (tasks : List Task) → IsMiddle d e → tasks ≡ map (ran_if e) e.tasks → All (IsSound (d.time + 1)) tasks → All (IsSound (d.time + 1)) (ticked d).tasks
+done_sound d e tasks is tasks-are sound = subst (All (IsSound (d.time + 1))) (tasks-are ∙ ap (λ x. (finished x).tasks) is.begun_is) sound

@@ -8,6 +8,8 @@ use Rattle.domain_run.specs.declared.task.Task.{Task}
 use Rattle.domain_run.specs.declared.task.Condition.{Condition}
 use Rattle.domain_run.specs.declared.task.Condition.TheVariants.{Ready, Throttled, Blocked, Waiting, Leaving}
 use Rattle.domain_run.specs.Conditions.{is_ready, is_throttled, is_contending}
+use Rattle.domain_run.specs.declared.switch.Switch.{Switch}
+use Rattle.domain_run.specs.Switches.{is_before}
 use Rattle.domain_run.specs.Domain.{Domain}
 use Rattle.domain_run.specs.Tick.{sum_of}
 
@@ -57,8 +59,8 @@ pub record IsPlacement (d : Domain) : Type 0 where
   pub running : (cpu n : ℕ) → occupant d.places cpu ≡ Some n → Any (λ t. (t.number ≡ n) × (t.cpu ≡ cpu) × IsTrue (is_ready t.condition) × (pos 0 <ℤ t.server.left)) d.tasks
   pub apart : IsApart d.places
 
--- what every domain keeps
-pub record IsDomain (d : Domain) : Type 0 where
+-- what a domain keeps, also in the middle of a tick
+pub record IsSteady (d : Domain) : Type 0 where
   pub early : d.time ≤ 2 ^ 42
   pub some : 0 < d.cpus
   pub few : d.cpus ≤ 64
@@ -74,6 +76,28 @@ pub record IsDomain (d : Domain) : Type 0 where
   pub known : All (λ t. IsTrue (list_any (λ n. n == t.number) d.used)) d.tasks
   pub wide : length d.places ≡ d.cpus
   pub apart : IsApart d.places
+
+-- the number was admitted
+abbrev pub IsAdmitted : List ℕ → ℕ → Type 0
+IsAdmitted used n = IsTrue (list_any (λ m. m == n) used)
+
+-- a switch of an earlier tick, on a CPU of the domain, between tasks that were admitted
+pub record IsSwitch (cpus time : ℕ) (used : List ℕ) (s : Switch) : Type 0 where
+  pub past : s.time < time
+  pub inside : s.cpu < cpus
+  pub prev : IfSome s.prev (IsAdmitted used)
+  pub next : IfSome s.next (IsAdmitted used)
+
+-- the switches rise strictly by time and CPU, and who stands on a CPU was admitted
+pub record IsTraced (d : Domain) : Type 0 where
+  pub switches : All (IsSwitch d.cpus d.time d.used) d.switches
+  pub rising : AllPairs (λ a b. IsTrue (is_before a b)) d.switches
+  pub standing : (cpu n : ℕ) → occupant d.places cpu ≡ Some n → IsAdmitted d.used n
+
+-- what every domain keeps between two ticks
+pub record IsDomain (d : Domain) : Type 0 where
+  pub steady : IsSteady d
+  pub traced : IsTraced d
 
 -- a domain, and the room that its lists have: 256 tasks, as many ready ones, and a place for each CPU
 pub record HasRoom (d : Domain) (tasks ready before idle : ℕ) : Type 0 where

@@ -1,5 +1,5 @@
 -- The switches of a tick (the event sched_switch; own where it says more than the event's text).
-use Rattle.std.specs.Prelude.{ℕ, Bool, true, false, ◌==◌, ◌+◌, if◌then◌else◌, List, [], ◌∷◌, find, Option, Some, None}
+use Rattle.std.specs.Prelude.{ℕ, Bool, true, false, ◌==◌, ◌&&◌, ◌||◌, nat_lt, ◌+◌, if◌then◌else◌, List, [], ◌∷◌, find, Option, Some, None}
 use Rattle.domain_run.specs.edf_pick.Places.{Places}
 use Rattle.domain_run.specs.declared.task.Task.{Task}
 use Rattle.domain_run.specs.declared.task.Condition.{Condition}
@@ -13,6 +13,10 @@ same_occupant None None = true
 same_occupant None (Some n) = false
 same_occupant (Some m) None = false
 same_occupant (Some m) (Some n) = m == n
+
+-- an earlier time, or the same time and a lower CPU
+abbrev pub is_before : Switch → Switch → Bool
+is_before a b = nat_lt a.time b.time || (a.time == b.time && nat_lt a.cpu b.cpu)
 
 -- a task that still wants the CPU was preempted, one that has ended is dead, any other sleeps
 abbrev pub left_in : Condition → PrevState

@@ -12,7 +12,7 @@ ghost use Rattle.domain_run.specs.Sound.{IsDomain, IsPlacement};
 ghost use Rattle.attr_check.specs.Ratio.{cap};
 
 use crate::call::{Refused, Reply};
-use crate::edf_pick::{self, Candidate};
+use crate::edf_pick::Candidate;
 use crate::memory::NoMemory;
 use crate::name::Name;
 use crate::numbers::Numbers;
@@ -95,9 +95,11 @@ impl State {
         self.time
     }
 
-    /// The switches so far, by time and then by CPU.
+    /// The switches so far. They rise strictly by time and then by CPU, are before now and on the domain's CPUs, and name only
+    /// tasks that were admitted.
     pub fn switches(&self) -> &[Switch]
-        ensures { result.now ≡ self.now.switches }
+        ensures switches { result.now ≡ self.now.switches }
+        ensures domain { IsDomain self.now }
     {
         &self.switches
     }
@@ -126,51 +128,7 @@ fn bw_within(params: &Params) -> u64
     params.bw
 }
 
-fn copy_places(before: &mut Vec<Option<u32>>, places: &[Option<u32>])
-    requires { vec_len before.old ≡ length places.now }
-    ensures places { before.new.items ≡ places.now }
-    ensures len { vec_len before.new ≡ vec_len before.old }
-{
-    before.copy_from_slice(places);
-}
-
 impl State {
-    /// What begins in a tick, parts 1 to 5: replenishment, zero-lag times, wake-ups, placement and the switches. Room for the
-    /// switches is made first; where that is refused nothing has changed.
-    fn begin(&mut self) -> Result<(), NoMemory>
-        requires { self.old.time < 2 ^ 42 }
-        ensures ok { OnOk result (self.new ≡ tick.begun self.old) }
-        ensures placed { OnOk result (IsPlacement self.new) }
-        ensures err { OnErr result (self.new ≡ self.old) }
-    {
-        self.switches.try_reserve(self.cpus)?;
-        let time = self.time;
-        sweep::wake_all(&mut self.tasks, time);
-        sweep::gather(&mut self.ready, &self.tasks);
-        copy_places(&mut self.before, &self.places);
-        edf_pick::place(&mut self.places, &self.ready);
-        sweep::add_switches(&mut self.switches, time, &self.tasks, &self.before, &self.places);
-        sweep::home_all(&mut self.tasks, &self.places);
-        Ok(())
-    }
-
-    /// What ends with a tick, part 6: every running task is charged.
-    fn finish(&mut self)
-        requires early { self.old.time < 2 ^ 42 }
-        requires placed { IsPlacement self.old }
-        ensures { self.new ≡ tick.finished self.old }
-    {
-        sweep::inactive(&mut self.idle, &self.tasks);
-        let sums = Sums {
-            idle: &self.idle,
-            sum: sweep::sum_of(&self.tasks),
-            cpus: self.cpus as u64,
-            limit: self.limit,
-        };
-        sweep::run_all(&mut self.tasks, &self.places, &sums, self.time);
-        self.time += 1;
-    }
-
     /// One tick, from the time now to the next microsecond: throttled tasks whose deadline has come are replenished, zero-lag times
     /// that have come are dropped, blocked tasks whose time has come ask their scripts, the ready tasks with the earliest deadlines
     /// are placed, the switches are added, and every running task is charged. Room for the switches is made first: on `Err` nothing
@@ -181,8 +139,24 @@ impl State {
         ensures placed { OnOk result (IsPlacement (tick.begun self.old)) }
         ensures err { OnErr result (self.new ≡ self.old) }
     {
-        self.begin()?;
-        self.finish();
+        self.switches.try_reserve(self.cpus)?;
+        sweep::begin(
+            self.time,
+            &mut self.tasks,
+            &mut self.places,
+            &mut self.switches,
+            &mut self.ready,
+            &mut self.before,
+        );
+        sweep::inactive(&mut self.idle, &self.tasks);
+        let sums = Sums {
+            idle: &self.idle,
+            sum: sweep::sum_of(&self.tasks),
+            cpus: self.cpus as u64,
+            limit: self.limit,
+        };
+        sweep::run_all(&mut self.tasks, &self.places, &sums, self.time);
+        self.time += 1;
         Ok(())
     }
 }

@@ -3,7 +3,7 @@
 ghost use Rattle.std.specs.Prelude.{◌≡◌, ◌<◌, ◌≤◌, ◌^◌, ◌+◌, map, filter, ℕ, All, ◌++◌, length, slice_index, replicate, IsTrue, vec_len, vec_capacity};
 ghost use Rattle.domain_run.specs.Parts as parts_spec;
 ghost use Rattle.domain_run.specs.edf_pick.Places as places_spec;
-ghost use Rattle.domain_run.specs.Sound.{IsSound, AreSums};
+ghost use Rattle.domain_run.specs.Sound.{IsSound, IsApart, AreSums};
 ghost use Rattle.domain_run.specs.Switches as switches_spec;
 ghost use Rattle.domain_run.specs.grub_rules.Sums.{uinact};
 ghost use Rattle.domain_run.specs.Tick as tick_spec;
@@ -67,7 +67,7 @@ fn unblock_all(tasks: &mut Vec<Task>, time: u64)
 }
 
 /// Parts 1 to 3.
-pub(crate) fn wake_all(tasks: &mut Vec<Task>, time: u64)
+fn wake_all(tasks: &mut Vec<Task>, time: u64)
     requires early { time < 2 ^ 42 }
     requires sound { All (IsSound time) tasks.old.items }
     ensures tasks { tasks.new.items ≡ tick_spec.awake time tasks.old.items }
@@ -82,7 +82,7 @@ pub(crate) fn wake_all(tasks: &mut Vec<Task>, time: u64)
 }
 
 /// Part 4: a placed task belongs to its CPU.
-pub(crate) fn home_all(tasks: &mut Vec<Task>, places: &[Option<u32>])
+fn home_all(tasks: &mut Vec<Task>, places: &[Option<u32>])
     ensures tasks { tasks.new.items ≡ map (parts_spec.homed places.now) tasks.old.items }
     ensures room { vec_capacity tasks.new ≡ vec_capacity tasks.old }
 {
@@ -92,7 +92,7 @@ pub(crate) fn home_all(tasks: &mut Vec<Task>, places: &[Option<u32>])
 }
 
 /// Part 4: the ready tasks, as the choice sees them.
-pub(crate) fn gather(ready: &mut Vec<Candidate>, tasks: &[Task])
+fn gather(ready: &mut Vec<Candidate>, tasks: &[Task])
     requires { length tasks.now ≤ vec_capacity ready.old }
     ensures ready { ready.new.items ≡ tick_spec.candidates tasks.now }
     ensures room { vec_capacity ready.new ≡ vec_capacity ready.old }
@@ -118,7 +118,7 @@ pub(crate) fn sum_of(tasks: &[Task]) -> u64
 }
 
 /// Part 5: a switch for each CPU whose occupant differs.
-pub(crate) fn add_switches(
+fn add_switches(
     switches: &mut Vec<Switch>,
     time: u64,
     tasks: &[Task],
@@ -144,6 +144,46 @@ pub(crate) fn add_switches(
             });
         }
     }
+}
+
+fn copy_places(before: &mut Vec<Option<u32>>, places: &[Option<u32>])
+    requires { vec_len before.old ≡ length places.now }
+    ensures places { before.new.items ≡ places.now }
+    ensures len { vec_len before.new ≡ vec_len before.old }
+{
+    before.copy_from_slice(places);
+}
+
+/// Parts 1 to 5: replenishment, zero-lag times, wake-ups, placement and the switches. `ready` and `before` are room.
+pub(crate) fn begin(
+    time: u64,
+    tasks: &mut Vec<Task>,
+    places: &mut Vec<Option<u32>>,
+    switches: &mut Vec<Switch>,
+    ready: &mut Vec<Candidate>,
+    before: &mut Vec<Option<u32>>,
+)
+    requires early { time < 2 ^ 42 }
+    requires sound { All (IsSound time) tasks.old.items }
+    requires few_tasks { vec_len tasks.old ≤ vec_capacity ready.old }
+    requires few_cpus { vec_len places.old ≤ 64 }
+    requires wide { vec_len before.old ≡ vec_len places.old }
+    requires apart { IsApart places.old.items }
+    requires room { vec_len switches.old + vec_len places.old ≤ vec_capacity switches.old }
+    ensures tasks { tasks.new.items ≡ map (parts_spec.homed places.new.items) (tick_spec.awake time tasks.old.items) }
+    ensures awoken { All (IsSound time) (tick_spec.awake time tasks.old.items) }
+    ensures places { places.new.items ≡ places_spec.placed (vec_len places.old) (tick_spec.candidates (tick_spec.awake time tasks.old.items)) places.old.items }
+    ensures switches { switches.new.items ≡ switches.old.items ++ switches_spec.switches_from time (tick_spec.awake time tasks.old.items) 0 places.old.items places.new.items }
+    ensures tasks_room { vec_capacity tasks.new ≡ vec_capacity tasks.old }
+    ensures ready_room { vec_capacity ready.new ≡ vec_capacity ready.old }
+    ensures before_len { vec_len before.new ≡ vec_len before.old }
+{
+    wake_all(tasks, time);
+    gather(ready, tasks);
+    copy_places(before, places);
+    edf_pick::place(places, ready);
+    add_switches(switches, time, tasks, before, places);
+    home_all(tasks, places);
 }
 
 fn clear_all(idle: &mut Vec<u64>)
