@@ -21,6 +21,17 @@ pub record Seen : Type 0 where
   pub writes_failed : ℕ
   pub writes_fail : ℕ
 
+abbrev pub seen : Option (List ℕ) → Option (List ℕ) → Option (List ℕ) → ℕ → ℕ → ℕ → ℕ → Seen
+seen input held holds reads_failed reads_fail writes_failed writes_fail = record {
+  input = input;
+  held = held;
+  holds = holds;
+  reads_failed = reads_failed;
+  reads_fail = reads_fail;
+  writes_failed = writes_failed;
+  writes_fail = writes_fail;
+}
+
 abbrev pub NothingWritten : Seen → Type 0
 NothingWritten s = Keeps s.held s.holds
 
