@@ -82,6 +82,13 @@ pub record IsOutOfMemory (s : Seen) : Type 0 where
   pub unwritten : NothingWritten s
   pub no_fault : NoFault s
 
+-- the writer took exactly so many bytes of a text, and not all
+abbrev pub IsCut : Option (List ℕ) → Option (List ℕ) → List ℕ → SessionFault → Type 0
+IsCut held holds text (Calls n) = ⊥
+IsCut held holds text Read = ⊥
+IsCut held holds text (Write n) = Stops held holds text n
+IsCut held holds text Memory = ⊥
+
 abbrev pub MeansFault : Seen → SessionFault → Type 0
 MeansFault s (Calls n) = IsRefused s n
 MeansFault s Read = IsUnread s

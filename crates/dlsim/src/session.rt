@@ -1,6 +1,7 @@
 //! From bytes to bytes: recorded calls in, their trace out.
 
-ghost use Rattle.std.specs.Prelude.{◌≡◌, ℕ,  ◌<◌, ◌≤◌, ◌+◌, ◌^◌, OnOk, OnErr, IfErr, IfOk, All, vec_len};
+ghost use Rattle.std.specs.Prelude.{◌≡◌, ℕ,  ◌<◌, ◌≤◌, ◌+◌, ◌^◌, OnOk, OnErr, IfErr, IfOk, All, vec_len, [], ◌∷◌};
+ghost use Rattle.std.specs.Io.KnownBytes.{Appends};
 ghost use Rattle.std.specs.String.{string_bytes};
 ghost use Rattle.domain_run.specs.NameView.{IsName};
 ghost use Rattle.domain_run.specs.declared.call.Call.TheVariants as Call;
@@ -8,11 +9,11 @@ ghost use Rattle.domain_run.specs.Domain.{opened};
 ghost use Rattle.domain_run.specs.Calls.{after_call};
 ghost use Rattle.domain_run.specs.Tick.{ticks as ticked_by};
 ghost use Rattle.domain_run.specs.Sound.{IsAdmitted};
-ghost use Rattle.call_book.specs.Limits.{IsNumber, IsAdmission, IsCall, IsEntry, IsReadCall, IsSection, AreRead};
+ghost use Rattle.call_book.specs.Limits.{IsNumber, IsAdmission, IsCall, IsEntry, IsReadCall, IsSection, IsOneCpu, AreRead};
 ghost use Rattle.switch_text.specs.Names.{named, HasName};
 ghost use Rattle.dlsim.specs.Replay.{no_names, with_name, names_after};
-ghost use Rattle.dlsim.specs.Replaying.{AreNamed, IsRunOf, section_view};
-ghost use Rattle.dlsim.specs.Answer.{seen, IsAnswered, MeansFault};
+ghost use Rattle.dlsim.specs.Replaying.{AreNamed, IsRunOf, section_view, trace_of_run};
+ghost use Rattle.dlsim.specs.Answer.{seen, IsAnswered, IsCut, MeansFault};
 
 use call_book::{CallsFault, Entry, Section, read_calls};
 use domain_run::{Call, Name, NoMemory, Script, State};
@@ -42,7 +43,7 @@ pub enum SessionFault {
 
 /// A run under way: the domain, and the names of its tasks by number.
 #[derive(Drop)]
-struct Replay {
+struct Session {
     state: State,
     names: IndexMap<u32, String>,
 }
@@ -72,8 +73,8 @@ fn put_name(
     }
 }
 
-impl Replay {
-    fn open(alloc: Global, cpus: u32, limit: u64) -> Result<Replay, SessionFault>
+impl Session {
+    fn open(alloc: Global, cpus: u32, limit: u64) -> Result<Session, SessionFault>
         requires cpus { (0 < cpus) × (cpus ≤ 64) }
         requires limit { (10485 ≤ limit) × (limit ≤ 1048576) }
         ensures state { IfOk result (λ r. r.state ≡ opened cpus limit) }
@@ -81,7 +82,7 @@ impl Replay {
         ensures err { IfErr result (λ e. e ≡ SessionFault.Memory) }
     {
         match State::open(alloc, cpus, limit) {
-            Ok(state) => Ok(Replay {
+            Ok(state) => Ok(Session {
                 state,
                 names: IndexMap::new(alloc),
             }),
@@ -165,7 +166,7 @@ fn run_entries(
     cpus: u32,
     limit: u64,
     mut entries: Vec<Entry>,
-) -> Result<Replay, SessionFault>
+) -> Result<Session, SessionFault>
     requires cpus { (0 < cpus) × (cpus ≤ 64) }
     requires limit { (10485 ≤ limit) × (limit ≤ 1048576) }
     requires few { vec_len entries ≤ 65536 }
@@ -174,7 +175,7 @@ fn run_entries(
     ensures run { IfOk result (λ r. IsRunOf (section_view cpus limit entries.items) r.state r.names) }
     ensures err { IfErr result (λ e. e ≡ SessionFault.Memory) }
 {
-    let mut run = Replay::open(alloc, cpus, limit)?;
+    let mut run = Session::open(alloc, cpus, limit)?;
     entries.reverse();
     while let Some(entry) = entries.pop() {
         run.make(alloc, entry.call)?;
@@ -183,7 +184,7 @@ fn run_entries(
 }
 
 /// The run of a section.
-fn run_section(alloc: Global, section: Section) -> Result<Replay, SessionFault>
+fn run_section(alloc: Global, section: Section) -> Result<Session, SessionFault>
     requires section { IsSection section }
     requires read { All (λ e. IsReadCall e.call) section.entries }
     ensures run { IfOk result (λ r. IsRunOf section r.state r.names) }
@@ -195,4 +196,71 @@ fn run_section(alloc: Global, section: Section) -> Result<Replay, SessionFault>
         entries,
     } = section;
     run_entries(alloc, cpus, limit, entries)
+}
+
+/// Writes the trace of a run, whose domain has the first CPUs of the machine.
+#[tactic(auto, unfolding(crate::specs::Replaying::trace_of_run))]
+fn write_run<W: Write>(run: &Session, writer: &mut Counted<W>) -> Result<(), SessionFault>
+    requires named { AreNamed run.now.state run.now.names }
+    requires faults { writer.old.faults < 2 ^ 63 }
+    ensures ok { OnOk result (Appends (W.contents writer.old.inner) (W.contents writer.new.inner) (trace_of_run run.now.state run.now.names)) }
+    ensures whole { OnOk result (writer.new.faults ≡ writer.old.faults) }
+    ensures err { IfErr result (IsCut (W.contents writer.old.inner) (W.contents writer.new.inner) (trace_of_run run.now.state run.now.names)) }
+    ensures cut { OnErr result (writer.new.faults ≡ writer.old.faults + 1) }
+{
+    let runs = [Run {
+        base: 0,
+        names: &run.names,
+        switches: run.state.switches(),
+    }];
+    match write_trace(&runs, writer) {
+        Ok(()) => Ok(()),
+        Err(fault) => Err(SessionFault::Write(fault.written)),
+    }
+}
+
+/// The one section of a text that is read.
+fn only_section(mut sections: Vec<Section>) -> Section
+    requires { IsOneCpu sections.items }
+    ensures { sections.items ≡ result ∷ [] }
+{
+    match sections.pop() {
+        Some(section) => section,
+        None => unreachable!(),
+    }
+}
+
+/// Reads a calls text to its end, runs the calls of its section, and writes their trace.
+///
+/// `Ok`: the input spells sections, and what was written is the trace of their run, and nothing else.
+///
+/// # Errors
+/// [`SessionFault::Calls`] with the first bad line of the input, [`SessionFault::Read`] where the reader failed,
+/// [`SessionFault::Memory`] where a growth was refused: nothing was written. [`SessionFault::Write`] where the writer failed: it
+/// took exactly so many bytes, the front of the trace, and not all.
+pub fn replay<R: Read, W: Write>(
+    alloc: Global,
+    reader: &mut Counted<R>,
+    writer: &mut Counted<W>,
+) -> Result<(), SessionFault>
+    requires reader { reader.old.faults < 2 ^ 63 }
+    requires writer { writer.old.faults < 2 ^ 63 }
+    ensures ok { OnOk result (IsAnswered (seen (R.remaining reader.old.inner) (W.contents writer.old.inner) (W.contents writer.new.inner) reader.old.faults reader.new.faults writer.old.faults writer.new.faults)) }
+    ensures err { IfErr result (MeansFault (seen (R.remaining reader.old.inner) (W.contents writer.old.inner) (W.contents writer.new.inner) reader.old.faults reader.new.faults writer.old.faults writer.new.faults)) }
+{
+    let text = match reader.read_all(alloc) {
+        Ok(text) => text,
+        Err(ReadFault::Failed) => return Err(SessionFault::Read),
+        Err(ReadFault::Memory) => return Err(SessionFault::Memory),
+    };
+    let sections = match read_calls(alloc, &text) {
+        Ok(sections) => sections,
+        Err(CallsFault::BadLine { n }) => return Err(SessionFault::Calls(n)),
+        Err(CallsFault::Memory) => return Err(SessionFault::Memory),
+    };
+    let run = match run_section(alloc, only_section(sections)) {
+        Ok(run) => run,
+        Err(_) => return Err(SessionFault::Memory),
+    };
+    write_run(&run, writer)
 }

@@ -1,7 +1,7 @@
 use Rattle.std.proofs.Common.{◌∙◌, ap, arith}
 use Rattle.domain_run.specs.Domain.{Domain}
 use Rattle.dlsim.proofs.Naming.{one_more}
-use Rattle.dlsim.proofs.session.Replay.advance.Goals as goal
+use Rattle.dlsim.proofs.session.Session.advance.Goals as goal
 
 pub loop-preserved : goal.loop-preserved
 loop-preserved c = record {

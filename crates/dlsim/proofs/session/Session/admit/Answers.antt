@@ -7,7 +7,7 @@ use Rattle.domain_run.specs.Domain.{Domain}
 use Rattle.dlsim.specs.Replay.{with_name}
 use Rattle.dlsim.specs.Replaying.{AreNamed}
 use Rattle.dlsim.proofs.Naming.{named_step, on_ok}
-use Rattle.dlsim.proofs.session.Replay.admit.Goals as goal
+use Rattle.dlsim.proofs.session.Session.admit.Goals as goal
 
 pub returns-in-Ok-clause-named : goal.returns-in-Ok-clause-named
 returns-in-Ok-clause-named c =

@@ -1,6 +1,6 @@
 use Rattle.std.proofs.Common.{◌≡◌, ◌+◌}
 use Rattle.domain_run.specs.Tick.{ticks}
-use Rattle.dlsim.proofs.session.Replay.advance.Given as goal
+use Rattle.dlsim.proofs.session.Session.advance.Given as goal
 
 abbrev pub invariant-loop : goal.invariant-loop
 invariant-loop l = record {
