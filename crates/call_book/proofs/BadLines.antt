@@ -10,7 +10,7 @@ use Rattle.call_book.specs.declared.fault.CallsFault.{CallsFault}
 use Rattle.call_book.specs.declared.fault.CallsFault.TheVariants as faults
 use Rattle.call_book.specs.SectionView.{SectionView}
 use Rattle.call_book.specs.Spelling.{entry_line, domain_line, lines_of, text_of, spelling}
-use Rattle.call_book.specs.Limits.{AreRead}
+use Rattle.call_book.specs.Limits.{AreReadable}
 use Rattle.call_book.specs.BadLine.{Begins, IsBadLine, MeansFault}
 use Rattle.call_book.specs.Reading.{cut_at, IsEntryRead}
 use Rattle.call_book.proofs.Cuts.{Lacks, Lacks-written, cut_again}

@@ -11,7 +11,8 @@ use Rattle.call_book.specs.declared.section.Entry.{Entry}
 use Rattle.call_book.specs.declared.fault.PartFault.{PartFault}
 use Rattle.call_book.specs.declared.fault.PartFault.TheVariants.{Bad, Memory}
 use Rattle.call_book.specs.Spelling.{entry_line, text_of}
-use Rattle.call_book.specs.Limits.{IsClient, IsEntry, IsNumbered, IsNumberedAfter, made_by}
+use Rattle.call_book.specs.OwnCalls.{IsNumbered, IsNumberedAfter, made_by}
+use Rattle.call_book.specs.Limits.{IsClient, IsEntry}
 use Rattle.call_book.specs.Reading.{cut_at, call_at, IsEntryRead, entries_text, SoFar, Counts, IsNext, Stops, StopsAt, Fails, fault_from}
 use Rattle.call_book.proofs.Cuts.{cut_takes, cut_again}
 use Rattle.call_book.proofs.Lines.{call_takes, call_again, line_lacks}

@@ -4,11 +4,11 @@ use Rattle.call_book.specs.declared.fault.CallsFault.{CallsFault}
 use Rattle.call_book.specs.declared.fault.CallsFault.TheVariants.{BadLine, Memory}
 use Rattle.call_book.specs.SectionView.{SectionView}
 use Rattle.call_book.specs.Spelling.{lines_of, text_of, spelling}
-use Rattle.call_book.specs.Limits.{AreRead}
+use Rattle.call_book.specs.Limits.{AreReadable}
 
 -- some accepted text begins with these lines
 abbrev pub Begins : List (List ℕ) → Type 0
-Begins lines = (sections : List SectionView) × AreRead sections × (more : List (List ℕ)) × (lines_of sections ≡ lines ++ more)
+Begins lines = (sections : List SectionView) × AreReadable sections × (more : List (List ℕ)) × (lines_of sections ≡ lines ++ more)
 
 -- Line n is the first at which the text stops being a front of whole lines of an accepted text: the lines before it begin an
 -- accepted text, with line n they begin none, and the text itself is not accepted. So an unfinished last line is bad, and
@@ -21,7 +21,7 @@ pub record IsBadLine (text : List ℕ) (n : ℕ) : Type 0 where
   pub place : n ≡ length front + 1
   pub before : Begins front
   pub stops : (line after : List ℕ) → rest ≡ line ++ 10 ∷ after → Begins (front ++ line ∷ []) → ⊥
-  pub refused : (sections : List SectionView) → AreRead sections → text ≢ spelling sections
+  pub refused : (sections : List SectionView) → AreReadable sections → text ≢ spelling sections
 
 abbrev pub MeansFault : List ℕ → CallsFault → Type 0
 MeansFault text (BadLine n) = IsBadLine text n
