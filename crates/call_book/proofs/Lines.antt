@@ -1,10 +1,8 @@
 -- A line that is read is spelled so, and a line that is spelled is read.
-use Rattle.std.proofs.Common.{◌≡◌, ℕ, zero, suc, ◌+◌, ◌≤◌, ◌<◌, Bool, true, false, not, ◌&&◌, cond, leb, eqb, List, [], ◌∷◌, ◌++◌, length, get_or, map, All, Option, Some, None, refl, sym, ap, subst, ◌∙◌, append_assoc, inl, inr, arith}
+use Rattle.std.proofs.Common.{◌≡◌, ℕ, suc, ◌≤◌, ◌<◌, Bool, true, false, cond, List, [], ◌∷◌, ◌++◌, All, Option, Some, None, refl, sym, ap, subst, ◌∙◌, arith}
 use Rattle.std.specs.Prelude.{decimal, codes}
-use Rattle.std.specs.Char.{is_ascii_digit}
 use Rattle.std.specs.Str.{bytes_eq}
-use Rattle.std.specs.List.{join_with_byte, list_all}
-use Rattle.std.proofs.lemmas.Bool.{cases_Bool, eqb-true, eqb-false, ne_eqb}
+use Rattle.std.proofs.lemmas.Bool.{eqb-false}
 use Rattle.std.proofs.lemmas.Option.{same_Some, cond_some}
 use Rattle.std.proofs.lemmas.Slice.Eq.{bytes_eq-Decides}
 use Rattle.attr_check.specs.ParamsView.{ParamsView}
@@ -14,12 +12,12 @@ use Rattle.domain_run.specs.declared.call.Call.{Call}
 use Rattle.domain_run.specs.declared.call.Call.TheVariants.{Admit, Regrade, Wake, Leave, Advance}
 use Rattle.call_book.specs.declared.times.Times.{Times}
 use Rattle.call_book.specs.Spelling.{line_of, call_fields, flag_text, script_text}
-use Rattle.call_book.specs.Limits.{IsClient, IsNumber, IsChecked, IsAdmission, IsCall, IsReadableCall, IsReadableScript}
+use Rattle.call_book.specs.Limits.{IsClient, IsAdmission, IsCall, IsReadableCall, IsReadableScript}
 use Rattle.call_book.specs.Reading.{◌>>=◌, cut_at, number_within_at, field_at, times_at, params_at, name_at, script_at, plan_at, admit_at, advance_at, call_at, domain_at}
 use Rattle.call_book.proofs.Cuts.{Lacks, Lacks-append, Lacks-written, cut_takes, cut_again}
 use Rattle.call_book.proofs.Numbers.{bind_some, within_takes, within_again, decimal_lacks}
 use Rattle.call_book.proofs.Names.{name_yes, name_takes}
-use Rattle.call_book.proofs.Attributes.{times_of, ArePlain, params_take, AreSmall, params_again}
+use Rattle.call_book.proofs.Attributes.{times_of, params_take, AreSmall, params_again}
 use Rattle.call_book.proofs.Scripts.{script_takes, script_again, script_lacks}
 
 -- ---- fields

@@ -1,12 +1,12 @@
 -- The one section of a text, and the first bad line of a text that is no section's.
-use Rattle.std.proofs.Common.{◌≡◌, ◌≢◌, ℕ, zero, suc, ◌+◌, ◌≤◌, ◌<◌, Bool, true, false, not, List, [], ◌∷◌, ◌++◌, length, map, All, Option, Some, None, refl, sym, ap, subst, ◌∙◌, append_assoc, arith}
-use Rattle.std.specs.Prelude.{codes, decimal}
-use Rattle.std.specs.List.{flat_map, AllByRecursion}
+use Rattle.std.proofs.Common.{◌≡◌, ℕ, ◌≤◌, ◌<◌, Bool, true, false, not, List, [], ◌∷◌, ◌++◌, length, map, All, Option, Some, None, refl, sym, ap, subst, ◌∙◌, append_assoc, arith}
+use Rattle.std.specs.Prelude.{codes}
+use Rattle.std.specs.List.{AllByRecursion}
 use Rattle.std.specs.Str.{bytes_eq}
 use Rattle.std.proofs.lemmas.Bool.{not-false}
 use Rattle.std.proofs.lemmas.Slice.Eq.{bytes_eq-Decides}
-use Rattle.std.proofs.lemmas.Option.{some_pair_parts, same_Some}
-use Rattle.std.proofs.lemmas.List.{append-nil, map-append, length-append, length-map}
+use Rattle.std.proofs.lemmas.Option.{some_pair_parts}
+use Rattle.std.proofs.lemmas.List.{append-nil, length-append, length-map}
 use Rattle.std.proofs.lemmas.List.Elements.{All-from_recursion, recursion_from_All, All-weaker, All-head, All-cons, All-nil}
 use Rattle.domain_run.specs.declared.call.Call.{Call}
 use Rattle.domain_run.specs.declared.call.Reply.{Reply}
@@ -18,10 +18,10 @@ use Rattle.call_book.specs.declared.fault.PartFault.TheVariants.{Bad, Memory}
 use Rattle.call_book.specs.SectionView.{SectionView}
 use Rattle.call_book.specs.Spelling.{entry_line, domain_line, section_lines, lines_of, text_of, spelling}
 use Rattle.call_book.specs.OwnCalls.{IsNumbered, IsNumberedAfter, made_by}
-use Rattle.call_book.specs.Limits.{IsClient, IsEntry, IsReadableCall, IsSection, AreSections, AreReadable, IsOneCpu}
-use Rattle.call_book.specs.BadLine.{Begins, IsBadLine, MeansFault}
+use Rattle.call_book.specs.Limits.{IsEntry, IsReadableCall, IsSection, AreReadable}
+use Rattle.call_book.specs.BadLine.{IsBadLine, MeansFault}
 use Rattle.call_book.specs.Reading.{cut_at, call_at, domain_at, IsEntryRead, entries_text, SoFar, Stops, StopsAt, Fails, fault_from}
-use Rattle.call_book.proofs.Cuts.{Lacks, Lacks-written, cut_takes, cut_again}
+use Rattle.call_book.proofs.Cuts.{Lacks-written, cut_takes, cut_again}
 use Rattle.call_book.proofs.Lines.{call_again, line_lacks, domain_takes, domain_again, domain_lacks}
 
 -- a section that is read
@@ -122,7 +122,7 @@ bad_header text other = record {
   place = refl;
   before = (sample ∷ [], are_read sample sample_is, lines_of (sample ∷ []), refl);
   stops = λ line after same begins. other after (same ∙ ap (λ (l : List ℕ). l ++ 10 ∷ after) (first_line begins.0 begins.1 line begins.2 begins.3));
-  refused = λ sections are same. let o = one_read sections are in other (domain_line o.section ++ (10 ∷ entries_text o.section.entries)) (same ∙ ap spelling o.one ∙ spelling_one o.section);
+  refused = λ a. let o = one_read a.0 a.1 in other (domain_line o.section ++ (10 ∷ entries_text o.section.entries)) (a.2 ∙ ap spelling o.one ∙ spelling_one o.section);
 }
 
 -- the second line of an accepted text
@@ -143,9 +143,9 @@ bad_domain text rest header other = record {
       let o = one_read begins.0 begins.1 in
       let line_is = second_line o.section line begins.2 (begun begins.0 (codes "dlcalls 1" ∷ line ∷ []) begins.2 o.section o.one begins.3) in
       other o.section after o.is (same ∙ ap (λ (l : List ℕ). l ++ 10 ∷ after) line_is);
-  refused = λ sections are same.
-      let o = one_read sections are in
-      let whole : codes "dlcalls 1" ++ (10 ∷ rest) ≡ codes "dlcalls 1" ++ (10 ∷ (domain_line o.section ++ (10 ∷ entries_text o.section.entries))) = sym header ∙ same ∙ ap spelling o.one ∙ spelling_one o.section in
+  refused = λ a.
+      let o = one_read a.0 a.1 in
+      let whole : codes "dlcalls 1" ++ (10 ∷ rest) ≡ codes "dlcalls 1" ++ (10 ∷ (domain_line o.section ++ (10 ∷ entries_text o.section.entries))) = sym header ∙ a.2 ∙ ap spelling o.one ∙ spelling_one o.section in
       let cuts = sym (header_cut rest) ∙ ap (cut_at 10) whole ∙ header_cut (domain_line o.section ++ (10 ∷ entries_text o.section.entries)) in
       other o.section (entries_text o.section.entries) o.is (some_pair_parts (codes "dlcalls 1") (codes "dlcalls 1") rest (domain_line o.section ++ (10 ∷ entries_text o.section.entries)) cuts).1;
 }
@@ -234,9 +234,9 @@ bad_line_at text rest s n header is stop same_as =
           let tail = next_line o.section (domain_line s) lines line begins.2 (begun begins.0 (front ++ line ∷ []) begins.2 o.section o.one begins.3) in
           let p = at_place IsEntryRead entry_line o.section.entries lines line begins.2 o.is.each tail in
           stop.stops (omega (arith, p.within, o.is.few, counted)) p.element after p.is (same ∙ ap (λ (l : List ℕ). l ++ 10 ∷ after) (sym p.value));
-      refused = λ sections are same.
-          let o = one_read sections are in
-          let parts = same_parts s o.section rest (entries_text o.section.entries) is o.is (sym header ∙ same ∙ ap spelling o.one ∙ spelling_one o.section) in
+      refused = λ a.
+          let o = one_read a.0 a.1 in
+          let parts = same_parts s o.section rest (entries_text o.section.entries) is o.is (sym header ∙ a.2 ∙ ap spelling o.one ∙ spelling_one o.section) in
           let g = goes_on stop.entries o.section.entries stop.rest stop.so_far.each o.is.each (sym stop.so_far.parts ∙ parts.rest_is) stop.more in
           stop.stops (omega (arith, g.within, o.is.few)) g.entry g.after g.is g.rest_is;
     }

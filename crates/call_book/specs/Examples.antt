@@ -6,7 +6,7 @@ use Rattle.attr_check.specs.Accepted.{accepted}
 use Rattle.attr_check.specs.declared.refusal.AttrRefusal.TheVariants.{Small}
 use Rattle.domain_run.specs.declared.script.Event.{Event}
 use Rattle.domain_run.specs.declared.script.Event.TheVariants.{Run, Sleep, Timer, Wait}
-use Rattle.domain_run.specs.script.ScriptView.{PhaseView, ScriptView, script_of}
+use Rattle.domain_run.specs.script.ScriptView.{PhaseView, script_of}
 use Rattle.domain_run.specs.declared.call.Call.{Call}
 use Rattle.domain_run.specs.declared.call.Call.TheVariants.{Admit, Regrade, Wake, Leave, Advance}
 use Rattle.call_book.specs.declared.section.Entry.{Entry}

@@ -110,12 +110,13 @@ fn section_of(alloc: Global, text: &[u8]) -> Result<Section, CallsFault>
     })
 }
 
-/// The sections that a calls text spells. For now a text is read where it has one section, of one CPU, with the calls admit
-/// and advance, tasks that do not reclaim, and the events run and sleep. One pass over the text.
+/// The sections that a calls text spells, in one pass over the text. Entries have no reply, and each client's are numbered
+/// 0, 1, 2, .. in their order. For now a text is read where it has one section, of one CPU, with the calls admit and advance,
+/// tasks that do not reclaim, and the events run and sleep.
 ///
 /// # Errors
-/// [`CallsFault::BadLine`] names the first line, from 1, at which the text stops being a front of whole lines of a text that
-/// is read; [`CallsFault::Memory`] where a growth was refused.
+/// 30 [`CallsFault::BadLine`]: the first line, from 1, at which the text stops being a front of whole lines of a text that is
+/// read. 31 [`CallsFault::Memory`]: a growth was refused; it may come before any bad line.
 pub fn read_calls(alloc: Global, text: &[u8]) -> Result<Vec<Section>, CallsFault>
     // What is read is spelled so.
     ensures found { IfOk result (λ v. AreReadable v.items × (text.now ≡ spelling v.items)) }
