@@ -1,2 +1,17 @@
 pub mod NameView
 pub mod script
+pub mod cbs_rules
+pub mod grub_rules
+pub mod edf_pick
+pub mod Conditions
+pub mod Parts
+pub mod Switches
+pub mod Domain
+pub mod Tick
+pub mod Charging
+pub mod Numbers
+pub mod Sound
+pub mod Views
+pub mod Calls
+pub mod Run
+pub mod Examples

@@ -54,3 +54,12 @@ pub enum Reply {
     /// 42: the task does not wait.
     NotWaiting,
 }
+
+/// A task that was not admitted: why, and what was handed in.
+#[derive(Debug, Drop)]
+pub struct Refused {
+    /// [`Reply::Full`], [`Reply::Twice`] or [`Reply::Busy`].
+    pub reply: Reply,
+    pub name: Name,
+    pub script: Script,
+}

@@ -6,11 +6,23 @@
 #![tactic(auto)]
 
 mod call;
+pub mod cbs_rules;
+pub mod edf_pick;
+pub mod grub_rules;
+mod memory;
 mod name;
+mod numbers;
+mod parts;
 mod script;
+mod state;
+mod sweep;
 mod switch;
+mod task;
 
-pub use call::{Call, Reply};
+pub use call::{Call, Refused, Reply};
+pub use memory::NoMemory;
 pub use name::Name;
 pub use script::{Cursor, Event, Phase, Script, Segment};
+pub use task::{Condition, Task, TaskView};
+pub use state::State;
 pub use switch::{PrevState, Switch};

@@ -1,0 +1,12 @@
+pub mod Postponing
+pub mod MapStep
+pub mod Served
+pub mod Sums
+pub mod Marks
+pub mod Opening
+pub mod Admitting
+pub mod Keeping
+pub mod Seating
+pub mod Placing
+pub mod Ticking
+pub mod Tracing

@@ -1,0 +1,35 @@
+-- Marks and the numbers that they stand for.
+use Rattle.std.proofs.Common.{◌≡◌, ℕ, zero, suc, ◌+◌, ◌<◌, ◌≤◌, Bool, true, false, cond, eqb, ltb, ◌||◌, List, [], ◌∷◌, length, get_or, set, replicate, refl, sym, ap, arith, eq-eqb}
+use Rattle.std.specs.List.{list_any}
+use Rattle.std.proofs.lemmas.Bool.{lt-ltb, le-ltb, ne_eqb}
+use Rattle.domain_run.specs.Numbers.{marked}
+use Rattle.domain_run.specs.Calls.{with_number}
+
+pub marked_none : (from n : ℕ) → marked from (replicate n false) ≡ []
+marked_none from zero = refl
+marked_none from (suc n) = marked_none (from + 1) n
+
+-- no mark below the first place
+none_below : (from : ℕ) (bs : List Bool) (n : ℕ) → n < from → list_any (λ m. eqb m n) (marked from bs) ≡ false
+none_below from [] n h = refl
+none_below from (true ∷ bs) n h = rw (ne_eqb from n (λ e. absurd (omega arith))) (none_below (from + 1) bs n (omega arith))
+none_below from (false ∷ bs) n h = none_below (from + 1) bs n (omega arith)
+
+pub marked_contains : (from : ℕ) (bs : List Bool) (k n : ℕ) → n ≡ from + k → list_any (λ m. eqb m n) (marked from bs) ≡ get_or bs k false
+marked_contains from [] k n e = refl
+marked_contains from (true ∷ bs) zero n e = let same : from ≡ n = omega arith in rw (eq-eqb from n same) refl
+marked_contains from (true ∷ bs) (suc k) n e = rw (ne_eqb from n (λ q. absurd (omega arith))) (marked_contains (from + 1) bs k n (omega arith))
+marked_contains from (false ∷ bs) zero n e = none_below (from + 1) bs n (omega arith)
+marked_contains from (false ∷ bs) (suc k) n e = marked_contains (from + 1) bs k n (omega arith)
+
+first : (from : ℕ) (bs : List Bool) (n : ℕ) → n < from → with_number n (marked from bs) ≡ n ∷ marked from bs
+first from [] n h = refl
+first from (true ∷ bs) n h = rw (lt-ltb n from h) refl
+first from (false ∷ bs) n h = first (from + 1) bs n (omega arith)
+
+pub marked_set : (from : ℕ) (bs : List Bool) (k n : ℕ) → n ≡ from + k → k < length bs → get_or bs k false ≡ false → marked from (set bs k true) ≡ with_number n (marked from bs)
+marked_set from [] k n e h free = absurd (omega arith)
+marked_set from (true ∷ bs) zero n e h free = absurd cc
+marked_set from (true ∷ bs) (suc k) n e h free = rw (le-ltb n from (omega arith)) (ap (λ (ms : List ℕ). from ∷ ms) (marked_set (from + 1) bs k n (omega arith) (omega arith) free))
+marked_set from (false ∷ bs) zero n e h free = let same : n ≡ from = omega arith in rw same (sym (first (from + 1) bs from (omega arith)))
+marked_set from (false ∷ bs) (suc k) n e h free = marked_set (from + 1) bs k n (omega arith) (omega arith) free

@@ -1,0 +1,202 @@
+-- A tick keeps what every domain keeps.
+use Rattle.std.proofs.Common.{◌≡◌, ℕ, ◌+◌, ◌*◌, ◌^◌, ◌<◌, ◌≤◌, Bool, true, false, cond, eqb, ltb, Option, Some, None, List, ◌++◌, length, map, get_or, refl, sym, ap, ◌∙◌, subst, arith, inl, inr}
+use Rattle.std.specs.Prelude.{All, Any, AllPairs, pos, ◌<ℤ◌, IsTrue, filter, position, ◌≢◌, slice_index}
+use Rattle.std.specs.List.{list_any, position_or_len}
+use Rattle.std.proofs.lemmas.Bool.{cases_lt, ltb-true}
+use Rattle.std.proofs.lemmas.List.{length-map, get_or_default}
+use Rattle.std.proofs.lemmas.List.Elements.{All-map, All-weaker, All-filter}
+use Rattle.std.proofs.lemmas.List.Kept.{AllPairs-filter}
+use Rattle.std.proofs.Math.Nat.{mul-le-mul}
+use Rattle.attr_check.specs.Ratio.{cap}
+use Rattle.domain_run.specs.declared.task.Task.{Task}
+use Rattle.domain_run.specs.grub_rules.Sums.{uinact}
+use Rattle.domain_run.specs.grub_rules.Rate as reclaiming
+use Rattle.domain_run.specs.edf_pick.Places.{Places, is_task, stands, placed}
+use Rattle.domain_run.specs.Parts.{replenish_due, settled, is_listed, unblocked, homed, homed_at, ran}
+use Rattle.domain_run.specs.declared.edf_pick.Candidate.{Candidate}
+use Rattle.domain_run.specs.declared.switch.Switch.{Switch}
+use Rattle.domain_run.specs.Switches.{switches_from}
+use Rattle.domain_run.specs.Charging.{ran_with}
+use Rattle.domain_run.specs.Domain.{Domain}
+use Rattle.domain_run.specs.Tick.{shares, sum_of, candidates, awake, with_places, begun, ran_if, finished, ticked}
+use Rattle.domain_run.specs.Sound.{occupant, IsApart, IsSound, IsPlacement, IsSteady, IsDomain, IsAdmitted, AreSums}
+use Rattle.domain_run.specs.Conditions.{is_ready}
+use Rattle.domain_run.proofs.Tracing.{AreStanding, tick_traced}
+use Rattle.domain_run.proofs.Keeping.{Same, same_itself, same_either, same_replenished, same_settled, same_unblocked, same_ran, AllPairs-map, length-filter_least, sum-map, sum-filter}
+use Rattle.domain_run.proofs.Sums.{uinact_least}
+use Rattle.domain_run.proofs.Seating.{placed_is}
+use Rattle.domain_run.proofs.Placing.{homed_number, homed_params, placed_tasks}
+
+-- what a domain keeps of its tasks, apart from each task's own soundness
+pub record AreListed (d : Domain) (tasks : List Task) : Type 0 where
+  pub within : sum_of tasks ≤ cap d.cpus d.limit
+  pub listed : length tasks ≤ 256
+  pub homes : All (λ t. t.cpu < d.cpus) tasks
+  pub numbered : AllPairs (λ a b. a.number ≢ b.number) tasks
+  pub known : All (λ t. IsTrue (list_any (λ n. eqb n t.number) d.used)) tasks
+
+other_number : (f : Task → Task) → ((t : Task) → (f t).number ≡ t.number) → (a b : Task) → a.number ≢ b.number → (f a).number ≢ (f b).number
+other_number f keeps a b h e = h (sym (keeps a) ∙ e ∙ keeps b)
+
+listed_by : (d : Domain) (f : Task → Task) (tasks : List Task) → ((t : Task) → (f t).number ≡ t.number) → ((t : Task) → (f t).params ≡ t.params) → All (λ t. (f t).cpu < d.cpus) tasks → AreListed d tasks → AreListed d (map f tasks)
+listed_by d f tasks number params homes is =
+    let e : length (map f tasks) ≡ length tasks = simp length-map in
+    record {
+      within = rw (sum-map f params tasks) is.within;
+      listed = omega (arith, is.listed);
+      homes = All-map (λ t. t.cpu < d.cpus) f tasks homes;
+      numbered = AllPairs-map (λ a b. a.number ≢ b.number) f (other_number f number) tasks is.numbered;
+      known = All-map (λ t. IsTrue (list_any (λ n. eqb n t.number) d.used)) f tasks
+        (All-weaker (λ t. IsTrue (list_any (λ n. eqb n t.number) d.used)) (λ t. IsTrue (list_any (λ n. eqb n (f t).number) d.used)) (λ t h. ap (λ m. list_any (λ n. eqb n m) d.used) (number t) ∙ h) tasks is.known);
+    }
+
+listed_map : (d : Domain) (f : Task → Task) (tasks : List Task) → ((t : Task) → Same t (f t)) → AreListed d tasks → AreListed d (map f tasks)
+listed_map d f tasks same is = listed_by d f tasks (λ t. (same t).number) (λ t. (same t).params) (All-weaker (λ t. t.cpu < d.cpus) (λ t. (f t).cpu < d.cpus) (λ t h. subst (λ c. c < d.cpus) (sym (same t).cpu) h) tasks is.homes) is
+
+listed_filter : (d : Domain) (p : Task → Bool) (tasks : List Task) → AreListed d tasks → AreListed d (filter p tasks)
+listed_filter d p tasks is = record {
+  within = omega (arith, sum-filter p tasks, is.within);
+  listed = omega (arith, length-filter_least p tasks, is.listed);
+  homes = All-filter p (λ t. t.cpu < d.cpus) tasks is.homes;
+  numbered = AllPairs-filter (λ a b. a.number ≢ b.number) p tasks is.numbered;
+  known = All-filter p (λ t. IsTrue (list_any (λ n. eqb n t.number) d.used)) tasks is.known;
+}
+
+some_below : (b : Bool) (k cpu : ℕ) → cond b (Some k) None ≡ Some cpu → (b ≡ true) × (k ≡ cpu)
+some_below true k cpu e = (refl, cc)
+some_below false k cpu e = absurd cc
+
+homed_cpu : (cpus : ℕ) (o : Option ℕ) (t : Task) → ((cpu : ℕ) → o ≡ Some cpu → cpu < cpus) → t.cpu < cpus → (homed_at o t).cpu < cpus
+homed_cpu cpus None t within h = h
+homed_cpu cpus (Some cpu) t within h = within cpu refl
+
+position_within : (n : ℕ) (places : Places) (cpu : ℕ) → position (is_task n) places ≡ Some cpu → cpu < length places
+position_within n places cpu e =
+    let k = position_or_len (is_task n) places in
+    let s = some_below (ltb k (length places)) k cpu e in
+    subst (λ x. x < length places) s.1 (ltb-true k (length places) s.0)
+
+listed_homed : (d : Domain) (places : Places) (tasks : List Task) → length places ≡ d.cpus → AreListed d tasks → AreListed d (map (homed places) tasks)
+listed_homed d places tasks wide is =
+    listed_by d (homed places) tasks (λ t. homed_number (position (is_task t.number) places) t) (λ t. homed_params (position (is_task t.number) places) t)
+    (All-weaker (λ t. t.cpu < d.cpus) (λ t. (homed places t).cpu < d.cpus) (λ t h. homed_cpu d.cpus (position (is_task t.number) places) t (λ cpu e. subst (λ n. cpu < n) wide (position_within t.number places cpu e)) h) tasks is.homes)
+    is
+
+pub listed_of : (d : Domain) → IsSteady d → AreListed d d.tasks
+listed_of d is = record { within = is.within; listed = is.listed; homes = is.homes; numbered = is.numbered; known = is.known }
+
+pub listed_awake : (d : Domain) → IsSteady d → AreListed d (awake d.time d.tasks)
+listed_awake d is =
+    let a = listed_map d (replenish_due d.time) d.tasks (same_replenished d.time) (listed_of d is) in
+    let b = listed_map d (settled d.time) (map (replenish_due d.time) d.tasks) (same_settled d.time) a in
+    let c = listed_filter d is_listed (map (settled d.time) (map (replenish_due d.time) d.tasks)) b in
+    listed_map d (unblocked d.time) (filter is_listed (map (settled d.time) (map (replenish_due d.time) d.tasks))) (same_unblocked d.time) c
+
+homed_sound : (time : ℕ) (o : Option ℕ) (t : Task) → IsSound time t → IsSound time (homed_at o t)
+homed_sound time None t h = h
+homed_sound time (Some cpu) t h = record { served = h.served; spent = h.spent; lifted = h.lifted; dated = h.dated; busy = h.busy; timed = h.timed }
+
+pub begun_is : (d : Domain) → IsSteady d → All (IsSound d.time) (awake d.time d.tasks) → IsSteady (begun d) × IsPlacement (begun d)
+begun_is d is sound =
+    let tasks = awake d.time d.tasks in
+    let seating = placed_is d.cpus (candidates tasks) d.places is.wide is.apart in
+    let places = placed d.cpus (candidates tasks) d.places in
+    let l = listed_homed d places tasks seating.wide (listed_awake d is) in
+    (record {
+      early = is.early;
+      some = is.some;
+      few = is.few;
+      low = is.low;
+      high = is.high;
+      within = l.within;
+      listed = l.listed;
+      sound = All-map (IsSound d.time) (homed places) tasks (All-weaker (IsSound d.time) (λ t. IsSound d.time (homed places t)) (λ t h. homed_sound d.time (position (is_task t.number) places) t h) tasks sound);
+      homes = l.homes;
+      numbered = l.numbered;
+      known = l.known;
+      wide = seating.wide;
+      apart = seating.apart;
+    }, placed_tasks d.time d.cpus d tasks places sound seating)
+
+same_ran_if : (d : Domain) (t : Task) → Same t (ran_if d t)
+same_ran_if d t = same_either (stands t.number d.places) t _ t (same_ran d.time _ t) (same_itself t)
+
+pub finished_is : (d : Domain) → IsSteady d → d.time < 2 ^ 42 → All (IsSound (d.time + 1)) (map (ran_if d) d.tasks) → IsSteady (finished d)
+finished_is d is early sound =
+    let l = listed_map d (ran_if d) d.tasks (same_ran_if d) (listed_of d is) in
+    record {
+      early = omega (arith, early);
+      some = is.some;
+      few = is.few;
+      low = is.low;
+      high = is.high;
+      within = l.within;
+      listed = l.listed;
+      sound = sound;
+      homes = l.homes;
+      numbered = l.numbered;
+      known = l.known;
+      wide = is.wide;
+      apart = is.apart;
+    }
+
+-- the rates that the code reads are those of the definition
+pub ran_as : (d : Domain) (idle : List ℕ) (sum : ℕ) → ((cpu : ℕ) → slice_index idle cpu ≡ uinact cpu (shares d.tasks)) → sum ≡ sum_of d.tasks → map (ran_with d.time d.places idle sum d.cpus d.limit) d.tasks ≡ map (ran_if d) d.tasks
+ran_as d idle sum each total =
+    let same : (t : Task) → ran_with d.time d.places idle sum d.cpus d.limit t ≡ ran_if d t = λ t. rw (each t.cpu, total) refl in
+    λ i. map (λ t. same t i) d.tasks
+
+pub sums_are : (d : Domain) (idle : List ℕ) (sum : ℕ) → IsSteady d → ((cpu : ℕ) → slice_index idle cpu ≡ uinact cpu (shares d.tasks)) → sum ≡ sum_of d.tasks → AreSums idle sum d.cpus d.limit
+sums_are d idle sum is each total =
+    let most : cap d.cpus d.limit ≤ 64 * 1048576 = mul-le-mul is.few is.high in
+    record {
+      idle_short = λ k x within. rw (get_or_default idle k x 0 within, each k) (omega (arith, uinact_least k d.tasks, is.within, most));
+      sum_short = omega (arith, total, is.within, most);
+      some = is.some;
+      few = is.few;
+      low = is.low;
+      high = is.high;
+    }
+
+-- ---- the middle of a tick, as the code has it
+
+pub record IsMiddle (d e : Domain) : Type 0 where
+  pub begun_is : e ≡ begun d
+  pub steady : IsSteady e
+  pub placed : IsPlacement e
+
+pub middle : (d : Domain) (tasks : List Task) (places : Places) (switches : List Switch) (cpus : ℕ) → IsDomain d → cpus ≡ length d.places → All (IsSound d.time) (awake d.time d.tasks)
+    → tasks ≡ map (homed places) (awake d.time d.tasks) → places ≡ placed cpus (candidates (awake d.time d.tasks)) d.places → switches ≡ d.switches ++ switches_from d.time (awake d.time d.tasks) 0 d.places places
+    → IsMiddle d (record d { tasks = tasks; places = places; switches = switches })
+middle d tasks places switches cpus is wide sound tasks-are places-are switches-are =
+    let made : List Task → List Switch → Domain = λ ts ss. record d { tasks = ts; places = places; switches = ss } in
+    let awoken = awake d.time d.tasks in
+    let all : cpus ≡ d.cpus = wide ∙ is.steady.wide in
+    let seated : places ≡ placed d.cpus (candidates awoken) d.places = places-are ∙ ap (λ n. placed n (candidates awoken) d.places) all in
+    let same : record d { tasks = tasks; places = places; switches = switches } ≡ begun d =
+      ap (λ ts. made ts switches) tasks-are ∙ ap (made (map (homed places) awoken)) switches-are ∙ ap (with_places d awoken) seated in
+    let keeps = begun_is d is.steady sound in
+    record { begun_is = same; steady = subst IsSteady (sym same) keeps.0; placed = subst IsPlacement (sym same) keeps.1 }
+
+standing_from : (e : Domain) → IsSteady e → IsPlacement e → AreStanding e.used e.places
+standing_from e is at cpu n h = stand_by (at.running cpu n h)
+  where
+    stand_by : Any (λ t. (t.number ≡ n) × (t.cpu ≡ cpu) × IsTrue (is_ready t.condition) × (pos 0 <ℤ t.server.left)) e.tasks → IsAdmitted e.used n
+    stand_by (k, t, within, same, facts) = subst (IsAdmitted e.used) (ap (λ x. x.number) same ∙ facts.0) (is.known k t within)
+
+pub ticked_is : (d : Domain) → IsDomain d → d.time < 2 ^ 42 → All (IsSound d.time) (awake d.time d.tasks) → All (IsSound (d.time + 1)) (ticked d).tasks → IsDomain (ticked d)
+ticked_is d is early awoken sound =
+    let keeps = begun_is d is.steady awoken in
+    record {
+      steady = finished_is (begun d) keeps.0 early sound;
+      traced = tick_traced d (awake d.time d.tasks) (ticked d).tasks (begun d).places is.steady.wide is.traced (standing_from (begun d) keeps.0 keeps.1);
+    }
+
+-- what the code leaves is the tick
+pub done : (d e : Domain) (tasks : List Task) → IsMiddle d e → tasks ≡ map (ran_if e) e.tasks → record e { time = e.time + 1; tasks = tasks } ≡ ticked d
+done d e tasks is tasks-are =
+    let made : List Task → Domain = λ ts. record e { time = e.time + 1; tasks = ts } in
+    ap made tasks-are ∙ ap finished is.begun_is
+
+pub done_sound : (d e : Domain) (tasks : List Task) → IsMiddle d e → tasks ≡ map (ran_if e) e.tasks → All (IsSound (d.time + 1)) tasks → All (IsSound (d.time + 1)) (ticked d).tasks
+done_sound d e tasks is tasks-are sound = subst (All (IsSound (d.time + 1))) (tasks-are ∙ ap (λ x. (finished x).tasks) is.begun_is) sound

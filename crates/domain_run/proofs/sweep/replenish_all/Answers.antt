@@ -1,0 +1,13 @@
+use Rattle.std.proofs.lemmas.List.Elements.{All-set}
+use Rattle.domain_run.specs.Parts.{replenish_due}
+use Rattle.domain_run.specs.Sound.{IsSound}
+use Rattle.domain_run.proofs.MapStep.{map_step}
+use Rattle.domain_run.proofs.sweep.replenish_all.Goals as goal
+
+pub loop-task-preserved : goal.loop-task-preserved
+loop-task-preserved c =
+    let f = replenish_due c.args.time in
+    record {
+      written = map_step f c.deref_mut-task-items.result.now c.loop-task.task-items c.loop-task.task-index c.task-item.result c.replenish_due.new.task c.loop-task-test.true c.loop-task.invariant.written c.replenish_due.ensures.task;
+      sound = All-set (IsSound c.args.time) c.loop-task.task-items c.loop-task.task-index c.replenish_due.new.task c.replenish_due.ensures.sound c.loop-task.invariant.sound;
+    }

@@ -1,0 +1,117 @@
+-- The calls on a domain, made between two ticks: replies and effects (own; the errors of sched_setattr(2)).
+use Rattle.std.specs.Prelude.{ℕ, ◌+◌, ◌-◌, ◌%◌, ◌==◌, Bool, true, false, not, ◌&&◌, nat_lt, nat_le, if◌then◌else◌, List, [], ◌∷◌, ◌++◌, length, map, find, Option, Some, None, pos}
+use Rattle.std.specs.List.{list_any}
+use Rattle.attr_check.specs.ParamsView.{ParamsView}
+use Rattle.attr_check.specs.Ratio.{cap}
+use Rattle.domain_run.specs.script.ScriptView.{ScriptView}
+use Rattle.domain_run.specs.script.Segments.{begun_at}
+use Rattle.domain_run.specs.declared.task.Task.{Task}
+use Rattle.domain_run.specs.declared.task.Condition.TheVariants.{Blocked, Leaving}
+use Rattle.domain_run.specs.declared.call.Call.{Call}
+use Rattle.domain_run.specs.declared.call.Call.TheVariants.{Admit, Regrade, Wake, Leave, Advance}
+use Rattle.domain_run.specs.declared.call.Reply.{Reply}
+use Rattle.domain_run.specs.declared.call.Reply.TheVariants.{Admitted, Changed, Woken, Left, Done, Full, Twice, Busy, NotListed, NotWaiting}
+use Rattle.domain_run.specs.Conditions.{is_contending, is_waiting, is_leaving}
+use Rattle.domain_run.specs.Parts.{stopped}
+use Rattle.domain_run.specs.Domain.{Domain}
+use Rattle.domain_run.specs.Tick.{sum_of, ticks}
+
+-- ADMIT. The tests in their order: 256 tasks are listed; the number was admitted before; the bandwidth does not fit
+abbrev pub admit_reply : Domain → ℕ → ParamsView → Reply
+admit_reply d number params =
+    if nat_le 256 (length d.tasks) then Full
+    else (if list_any (λ n. n == number) d.used then Twice
+    else (if nat_lt (cap d.cpus d.limit) (sum_of d.tasks + params.bw) then Busy (sum_of d.tasks)
+    else Admitted))
+
+-- a new task is blocked until its start, without deadline and budget; before its first placement it belongs to CPU number mod M
+abbrev pub new_task : Domain → ℕ → List ℕ → ParamsView → ℕ → ScriptView → Task
+new_task d number name params delay script = record {
+  number = number;
+  name = name;
+  params = params;
+  server = record { deadline = None; left = pos 0 };
+  zero_lag = None;
+  cpu = number % d.cpus;
+  condition = Blocked (d.time + delay);
+  work = 0;
+  cursor = begun_at script (d.time + delay);
+}
+
+-- a number in its place among rising ones
+abbrev pub with_number : ℕ → List ℕ → List ℕ
+with_number n [] = n ∷ []
+with_number n (m ∷ ms) = if nat_lt n m then n ∷ m ∷ ms else m ∷ with_number n ms
+
+abbrev pub listed : Domain → Task → Domain
+listed d t = record d { tasks = d.tasks ++ t ∷ []; used = with_number t.number d.used }
+
+-- the task of a number, where it is listed and has not ended
+abbrev pub task_of : Domain → ℕ → Option Task
+task_of d number = find (λ t. t.number == number && not (is_leaving t.condition)) d.tasks
+
+-- the same for that task alone
+abbrev pub changed : Domain → ℕ → (Task → Task) → Domain
+changed d number f = record d { tasks = map (λ t. if t.number == number then f t else t) d.tasks }
+
+-- REGRADE. The bandwidth does not fit the domain, or the domain's bandwidth word refused it
+abbrev pub word_reply : Option ℕ → Reply
+word_reply None = Changed
+word_reply (Some s) = Busy s
+
+abbrev pub regrade_reply : Domain → ParamsView → Option ℕ → Option Task → Reply
+regrade_reply d params word None = NotListed
+regrade_reply d params word (Some t) =
+    if nat_lt (cap d.cpus d.limit) (sum_of d.tasks - t.params.bw + params.bw) then Busy (sum_of d.tasks) else word_reply word
+
+-- the new parameters hold at once; deadline, budget and an armed zero-lag time stay
+abbrev pub regraded : ParamsView → Task → Task
+regraded params t = record t { params = params }
+
+-- WAKE. A task that waits asks its script in the next tick
+abbrev pub wake_reply : Option Task → Reply
+wake_reply None = NotListed
+wake_reply (Some t) = if is_waiting t.condition then Woken else NotWaiting
+
+abbrev pub awoken : ℕ → Task → Task
+awoken time t = record t { condition = Blocked time }
+
+-- LEAVE. A task that contends stops; any other keeps its zero-lag time
+abbrev pub leave_reply : Option Task → Reply
+leave_reply None = NotListed
+leave_reply (Some t) = Left
+
+abbrev pub ended : ℕ → Task → Task
+ended time t = if is_contending t.condition then stopped time Leaving t else record t { condition = Leaving }
+
+-- the reply to a call
+abbrev pub reply_to : Domain → Call → Reply
+reply_to d (Admit number name params delay script) = admit_reply d number params
+reply_to d (Regrade number params word) = regrade_reply d params word (task_of d number)
+reply_to d (Wake number) = wake_reply (task_of d number)
+reply_to d (Leave number) = leave_reply (task_of d number)
+reply_to d (Advance n) = Done n
+
+abbrev pub is_refusal : Reply → Bool
+is_refusal Admitted = false
+is_refusal Changed = false
+is_refusal Woken = false
+is_refusal Left = false
+is_refusal (Done n) = false
+is_refusal Full = true
+is_refusal Twice = true
+is_refusal (Busy s) = true
+is_refusal NotListed = true
+is_refusal NotWaiting = true
+
+-- what a call does where it is not refused
+abbrev pub granted : Domain → Call → Domain
+granted d (Admit number name params delay script) = listed d (new_task d number name params delay script)
+granted d (Regrade number params word) = changed d number (regraded params)
+granted d (Wake number) = changed d number (awoken d.time)
+granted d (Leave number) = changed d number (ended d.time)
+granted d (Advance n) = ticks n d
+
+-- a refused call changes nothing
+abbrev pub after_call : Domain → Call → Domain
+after_call d c = if is_refusal (reply_to d c) then d else granted d c

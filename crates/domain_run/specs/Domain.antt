@@ -1,0 +1,24 @@
+-- A root domain between two ticks.
+use Rattle.std.specs.Prelude.{ℕ, List, [], replicate, None}
+use Rattle.domain_run.specs.edf_pick.Places.{Places}
+use Rattle.domain_run.specs.declared.task.Task.{Task}
+use Rattle.domain_run.specs.declared.switch.Switch.{Switch}
+
+pub record Domain : Type 0 where
+  -- how many CPUs it has, and the bandwidth that it may give away for each, in 1/2^20
+  pub cpus : ℕ
+  pub limit : ℕ
+  -- microseconds from the beginning
+  pub time : ℕ
+  -- the listed tasks; no rule looks at their order
+  pub tasks : List Task
+  -- the numbers ever admitted, in rising order
+  pub used : List ℕ
+  -- who stood on each CPU in the last tick
+  pub places : Places
+  -- the switches so far
+  pub switches : List Switch
+
+-- nothing has happened yet
+abbrev pub opened : ℕ → ℕ → Domain
+opened cpus limit = record { cpus = cpus; limit = limit; time = 0; tasks = []; used = []; places = replicate cpus None; switches = [] }

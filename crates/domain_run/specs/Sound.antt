@@ -1,0 +1,108 @@
+-- What every domain keeps between two ticks.
+use Rattle.std.specs.Prelude.{ℕ, ◌≤◌, ◌<◌, ◌^◌, ◌+◌, ◌≡◌, ◌≢◌, ◌==◌, max, ◌≤ℤ◌, ◌<ℤ◌, pos, neg_ℤ, List, length, All, Any, AllPairs, Option, Some, None, slice_index_or, IfSome, IsSome, IsTrue}
+use Rattle.std.specs.List.{list_any}
+use Rattle.attr_check.specs.Ratio.{cap}
+use Rattle.domain_run.specs.edf_pick.Places.{Places}
+use Rattle.domain_run.specs.declared.cbs_rules.Server.{Server}
+use Rattle.domain_run.specs.declared.task.Task.{Task}
+use Rattle.domain_run.specs.declared.task.Condition.{Condition}
+use Rattle.domain_run.specs.declared.task.Condition.TheVariants.{Ready, Throttled, Blocked, Waiting, Leaving}
+use Rattle.domain_run.specs.Conditions.{is_ready, is_throttled, is_contending}
+use Rattle.domain_run.specs.declared.switch.Switch.{Switch}
+use Rattle.domain_run.specs.Switches.{is_before}
+use Rattle.domain_run.specs.Domain.{Domain}
+use Rattle.domain_run.specs.Tick.{sum_of}
+
+-- a deadline not far ahead, and a budget in range
+pub record IsServed (time : ℕ) (s : Server) : Type 0 where
+  pub near : IfSome s.deadline (λ d. d ≤ time + 2 ^ 45)
+  pub low : neg_ℤ (pos (2 ^ 32)) ≤ℤ s.left
+  pub high : s.left ≤ℤ pos (2 ^ 52)
+
+-- the timer's reference is not behind the next time at which the script may be asked; a task that has ended asks no more
+abbrev pub IsTimed : ℕ → Condition → ℕ → Type 0
+IsTimed time Ready reference = reference ≤ time
+IsTimed time Throttled reference = reference ≤ time
+IsTimed time (Blocked u) reference = (reference ≤ max time u) × (u < 2 ^ 49)
+IsTimed time Waiting reference = reference ≤ time
+IsTimed time Leaving reference = Unit {0}
+
+-- a task: throttled exactly as its budget says, with a deadline and work while it contends
+pub record IsSound (time : ℕ) (t : Task) : Type 0 where
+  pub served : IsServed time t.server
+  pub spent : IsTrue (is_throttled t.condition) → t.server.left ≤ℤ pos 0
+  pub lifted : IsTrue (is_ready t.condition) → pos 0 <ℤ t.server.left
+  pub dated : IsTrue (is_contending t.condition) → IsSome t.server.deadline
+  pub busy : IsTrue (is_contending t.condition) → 0 < t.work
+  pub timed : IsTimed time t.condition t.cursor.reference
+
+-- sums, CPUs and limit in range, so that rates are
+pub record AreSums (idle : List ℕ) (sum cpus limit : ℕ) : Type 0 where
+  pub idle_short : All (λ n. n ≤ 2 ^ 26) idle
+  pub sum_short : sum ≤ 2 ^ 26
+  pub some : 0 < cpus
+  pub few : cpus ≤ 64
+  pub low : 10485 ≤ limit
+  pub high : limit ≤ 1048576
+
+-- who stands on a CPU
+abbrev pub occupant : Places → ℕ → Option ℕ
+occupant places cpu = slice_index_or places cpu None
+
+-- no task stands on two CPUs
+pub record IsApart (places : Places) : Type 0 where
+  pub once : (i j n : ℕ) → occupant places i ≡ Some n → occupant places j ≡ Some n → i ≡ j
+
+-- what is placed: on each CPU stands nobody, or a listed task that is ready, has budget left and belongs to that CPU; and no task
+-- stands on two
+pub record IsPlacement (d : Domain) : Type 0 where
+  pub running : (cpu n : ℕ) → occupant d.places cpu ≡ Some n → Any (λ t. (t.number ≡ n) × (t.cpu ≡ cpu) × IsTrue (is_ready t.condition) × (pos 0 <ℤ t.server.left)) d.tasks
+  pub apart : IsApart d.places
+
+-- what a domain keeps, also in the middle of a tick
+pub record IsSteady (d : Domain) : Type 0 where
+  pub early : d.time ≤ 2 ^ 42
+  pub some : 0 < d.cpus
+  pub few : d.cpus ≤ 64
+  pub low : 10485 ≤ d.limit
+  pub high : d.limit ≤ 1048576
+  -- the sum of bandwidths is at most the cap
+  pub within : sum_of d.tasks ≤ cap d.cpus d.limit
+  pub listed : length d.tasks ≤ 256
+  pub sound : All (IsSound d.time) d.tasks
+  pub homes : All (λ t. t.cpu < d.cpus) d.tasks
+  -- no two tasks have one number, and each number was admitted
+  pub numbered : AllPairs (λ a b. a.number ≢ b.number) d.tasks
+  pub known : All (λ t. IsTrue (list_any (λ n. n == t.number) d.used)) d.tasks
+  pub wide : length d.places ≡ d.cpus
+  pub apart : IsApart d.places
+
+-- the number was admitted
+abbrev pub IsAdmitted : List ℕ → ℕ → Type 0
+IsAdmitted used n = IsTrue (list_any (λ m. m == n) used)
+
+-- a switch of an earlier tick, on a CPU of the domain, between tasks that were admitted
+pub record IsSwitch (cpus time : ℕ) (used : List ℕ) (s : Switch) : Type 0 where
+  pub past : s.time < time
+  pub inside : s.cpu < cpus
+  pub prev : IfSome s.prev (IsAdmitted used)
+  pub next : IfSome s.next (IsAdmitted used)
+
+-- the switches rise strictly by time and CPU, and who stands on a CPU was admitted
+pub record IsTraced (d : Domain) : Type 0 where
+  pub switches : All (IsSwitch d.cpus d.time d.used) d.switches
+  pub rising : AllPairs (λ a b. IsTrue (is_before a b)) d.switches
+  pub standing : (cpu n : ℕ) → occupant d.places cpu ≡ Some n → IsAdmitted d.used n
+
+-- what every domain keeps between two ticks
+pub record IsDomain (d : Domain) : Type 0 where
+  pub steady : IsSteady d
+  pub traced : IsTraced d
+
+-- a domain, and the room that its lists have: 256 tasks, as many ready ones, and a place for each CPU
+pub record HasRoom (d : Domain) (tasks ready before idle : ℕ) : Type 0 where
+  pub domain : IsDomain d
+  pub tasks_room : 256 ≤ tasks
+  pub ready_room : 256 ≤ ready
+  pub before_len : before ≡ d.cpus
+  pub idle_len : idle ≡ d.cpus

@@ -1,0 +1,3 @@
+pub mod Lag
+pub mod Sums
+pub mod Rate

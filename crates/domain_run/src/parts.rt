@@ -1,0 +1,377 @@
+//! The parts of a tick, on one task.
+
+ghost use Rattle.std.specs.Prelude.{◌≡◌, ◌<◌, ◌≤◌, ◌^◌, ◌+◌, ◌-◌, ℕ, IsTrue, IsSome, false, position, find, ◌==◌, option_copied, option_map, pos, ◌≤ℤ◌, ◌<ℤ◌};
+ghost use Rattle.domain_run.specs.Conditions as conditions;
+ghost use Rattle.domain_run.specs.cbs_rules.Serving as serving;
+ghost use Rattle.domain_run.specs.edf_pick.Places as places_spec;
+ghost use Rattle.domain_run.specs.Tick as tick_spec;
+ghost use Rattle.domain_run.specs.Switches as switches_spec;
+ghost use Rattle.domain_run.specs.Views as views;
+ghost use Rattle.domain_run.specs.Calls as calls;
+ghost use Rattle.domain_run.specs.Domain.{Domain};
+ghost use Rattle.domain_run.specs.Parts as parts;
+ghost use Rattle.domain_run.specs.script.Segments.{IsSegment, next_ask};
+ghost use Rattle.domain_run.specs.Sound.{IsServed, IsTimed, IsSound};
+
+use crate::cbs_rules::{self, Server};
+use crate::edf_pick::Candidate;
+use crate::grub_rules;
+use crate::name::Name;
+use crate::script::{Script, Segment};
+use crate::switch::PrevState;
+use crate::task::{Condition, Task, TaskView};
+use attr_check::Params;
+
+fn has_come(time: u64, moment: Option<u64>) -> bool
+    ensures { result ≡ conditions.has_come time moment }
+{
+    match moment {
+        None => false,
+        Some(moment) => moment <= time,
+    }
+}
+
+impl Condition {
+    pub(crate) fn is_ready(self) -> bool
+        ensures { result ≡ conditions.is_ready self }
+    {
+        matches!(self, Condition::Ready)
+    }
+
+    pub(crate) fn is_throttled(self) -> bool
+        ensures { result ≡ conditions.is_throttled self }
+    {
+        matches!(self, Condition::Throttled)
+    }
+
+    pub(crate) fn is_contending(self) -> bool
+        ensures { result ≡ conditions.is_contending self }
+    {
+        matches!(self, Condition::Ready | Condition::Throttled)
+    }
+
+    pub(crate) fn is_leaving(self) -> bool
+        ensures { result ≡ conditions.is_leaving self }
+    {
+        matches!(self, Condition::Leaving)
+    }
+
+    fn is_over(self, time: u64) -> bool
+        ensures { result ≡ conditions.is_over time self }
+    {
+        match self {
+            Condition::Blocked(until) => until <= time,
+            _ => false,
+        }
+    }
+}
+
+fn replenish_now(server: Server, task: &Task, time: u64) -> Server
+    requires early { time < 2 ^ 42 }
+    requires served { IsServed time server }
+    requires spent { server.left ≤ℤ pos 0 }
+    requires come { IsTrue (conditions.has_come time server.deadline) }
+    ensures value { result ≡ serving.replenished task.now.params server }
+    ensures served { IsServed time result }
+    ensures lifted { pos 0 <ℤ result.left }
+    ensures dated { IsSome result.deadline }
+{
+    cbs_rules::replenish(server, &task.params)
+}
+
+/// Part 1: a throttled task whose deadline has come is replenished.
+pub(crate) fn replenish_due(task: &mut Task, time: u64)
+    requires early { time < 2 ^ 42 }
+    requires sound { IsSound time task.old }
+    ensures task { task.new ≡ parts.replenish_due time task.old }
+    ensures sound { IsSound time task.new }
+{
+    if task.condition.is_throttled() && has_come(time, task.server.deadline) {
+        task.server = replenish_now(task.server, task, time);
+        task.condition = Condition::Ready;
+    }
+}
+
+/// Part 2: a zero-lag time that has come is dropped.
+pub(crate) fn settle(task: &mut Task, time: u64)
+    requires { IsSound time task.old }
+    ensures task { task.new ≡ parts.settled time task.old }
+    ensures sound { IsSound time task.new }
+{
+    if has_come(time, task.zero_lag) {
+        task.zero_lag = None;
+    }
+}
+
+/// Part 2: whether a task stays listed.
+pub(crate) fn is_listed(task: &Task) -> bool
+    ensures { result ≡ parts.is_listed task.now }
+{
+    !(task.condition.is_leaving() && task.zero_lag.is_none())
+}
+
+fn contend(task: &mut Task, server: Server, time: u64)
+    requires early { time < 2 ^ 42 }
+    requires served { IsServed time server }
+    requires dated { IsSome server.deadline }
+    requires busy { 0 < task.old.work }
+    requires timed { task.old.cursor.reference ≤ time }
+    ensures task { task.new ≡ parts.contending time server task.old }
+    ensures sound { IsSound time task.new }
+{
+    if !cbs_rules::is_throttled(&server) {
+        task.server = server;
+        task.condition = Condition::Ready;
+    } else if has_come(time, server.deadline) {
+        task.server = replenish_now(server, task, time);
+        task.condition = Condition::Ready;
+    } else {
+        task.server = server;
+        task.condition = Condition::Throttled;
+    }
+}
+
+fn wake_server(task: &Task, time: u64) -> Server
+    requires early { time < 2 ^ 42 }
+    requires served { IsServed time task.now.server }
+    ensures value { result ≡ serving.woken task.now.params time task.now.server }
+    ensures served { IsServed time result }
+    ensures dated { IsSome result.deadline }
+{
+    cbs_rules::on_wake(task.server, &task.params, time)
+}
+
+fn wake(task: &mut Task, work: u64, time: u64)
+    requires early { time < 2 ^ 42 }
+    requires served { IsServed time task.old.server }
+    requires busy { 0 < work }
+    requires timed { task.old.cursor.reference ≤ time }
+    ensures task { task.new ≡ parts.woken_task time work task.old }
+    ensures sound { IsSound time task.new }
+{
+    let server = wake_server(task, time);
+    task.zero_lag = None;
+    task.work = work;
+    contend(task, server, time);
+}
+
+fn start(task: &mut Task, segment: Segment, time: u64)
+    requires early { time < 2 ^ 42 }
+    requires served { IsServed time task.old.server }
+    requires within { IsSegment segment }
+    requires timed { task.old.cursor.reference ≤ next_ask time segment }
+    ensures task { task.new ≡ parts.started time segment task.old }
+    ensures sound { IsSound time task.new }
+{
+    match segment {
+        Segment::Run(work) => wake(task, work, time),
+        Segment::Until(until) => task.condition = Condition::Blocked(until),
+        Segment::Wait => task.condition = Condition::Waiting,
+        Segment::End => task.condition = Condition::Leaving,
+    }
+}
+
+/// Part 3: a task whose time of blocking is over asks its script.
+pub(crate) fn unblock(task: &mut Task, time: u64)
+    requires early { time < 2 ^ 42 }
+    requires sound { IsSound time task.old }
+    ensures task { task.new ≡ parts.unblocked time task.old }
+    ensures sound { IsSound time task.new }
+{
+    if task.condition.is_over(time) {
+        let segment = task.cursor.next(time);
+        start(task, segment, time);
+    }
+}
+
+fn run_on(task: &mut Task, time: u64)
+    requires served { IsServed time task.old.server }
+    requires dated { IsSome task.old.server.deadline }
+    requires busy { 0 < task.old.work }
+    requires timed { task.old.cursor.reference ≤ time }
+    ensures task { task.new ≡ parts.running_on task.old }
+    ensures sound { IsSound time task.new }
+{
+    task.condition = if cbs_rules::is_throttled(&task.server) {
+        Condition::Throttled
+    } else {
+        Condition::Ready
+    };
+}
+
+fn stop(task: &mut Task, condition: Condition, time: u64)
+    requires served { IsServed time task.old.server }
+    requires resting { conditions.is_contending condition ≡ false }
+    requires timed { IsTimed time condition task.old.cursor.reference }
+    ensures task { task.new ≡ parts.stopped time condition task.old }
+    ensures sound { IsSound time task.new }
+{
+    task.condition = condition;
+    task.zero_lag = grub_rules::zero_lag(&task.server, &task.params, time);
+}
+
+fn go_on(task: &mut Task, segment: Segment, time: u64)
+    requires served { IsServed time task.old.server }
+    requires dated { IsSome task.old.server.deadline }
+    requires within { IsSegment segment }
+    requires timed { task.old.cursor.reference ≤ next_ask time segment }
+    ensures task { task.new ≡ parts.went_on time segment task.old }
+    ensures sound { IsSound time task.new }
+{
+    match segment {
+        Segment::Run(work) => {
+            task.work = work;
+            run_on(task, time);
+        }
+        Segment::Until(until) => stop(task, Condition::Blocked(until), time),
+        Segment::Wait => stop(task, Condition::Waiting, time),
+        Segment::End => stop(task, Condition::Leaving, time),
+    }
+}
+
+fn after_charge(task: &mut Task, time: u64)
+    requires early { time < 2 ^ 43 }
+    requires served { IsServed time task.old.server }
+    requires dated { IsSome task.old.server.deadline }
+    requires timed { task.old.cursor.reference ≤ time }
+    ensures task { task.new ≡ parts.after_charge time task.old }
+    ensures sound { IsSound time task.new }
+{
+    if task.work == 0 {
+        let segment = task.cursor.next(time);
+        go_on(task, segment, time);
+    } else {
+        run_on(task, time);
+    }
+}
+
+/// Part 6: a tick of running at a rate in 1/2^20.
+pub(crate) fn run(task: &mut Task, rate: u64, time: u64)
+    requires early { time < 2 ^ 42 }
+    requires slow { rate ≤ 2 ^ 32 }
+    requires sound { IsSound time task.old }
+    requires running { IsTrue (conditions.is_ready task.old.condition) }
+    ensures task { task.new ≡ parts.ran time rate task.old }
+    ensures sound { IsSound (time + 1) task.new }
+{
+    task.server = cbs_rules::charge(task.server, rate, 1);
+    task.work -= 1;
+    after_charge(task, time + 1);
+}
+
+fn place_of(number: u32, places: &[Option<u32>]) -> Option<usize>
+    ensures { result ≡ position (places_spec.is_task number) places.now }
+{
+    places
+        .iter()
+        .position(|occupant| *occupant == Some(number))
+}
+
+/// Part 4: a placed task belongs to its CPU.
+pub(crate) fn home(task: &mut Task, places: &[Option<u32>])
+    ensures { task.new ≡ parts.homed places.now task.old }
+{
+    if let Some(cpu) = place_of(task.number, places) {
+        task.cpu = cpu;
+    }
+}
+
+/// Part 4: a ready task as the choice sees it.
+pub(crate) fn candidate_of(task: &Task) -> Candidate
+    ensures { result ≡ tick_spec.candidate_of task.now }
+{
+    Candidate {
+        deadline: task.server.deadline.unwrap_or(0),
+        number: task.number,
+        home: task.cpu,
+    }
+}
+
+/// The bandwidth of a task, at most one CPU.
+pub(crate) fn bw_of(task: &Task) -> u64
+    ensures value { result ≡ task.now.params.bw }
+    ensures most { result ≤ 2 ^ 20 }
+{
+    task.params.bw
+}
+
+/// Whether a task's bandwidth is active: it contends, or has a zero-lag time ahead.
+pub(crate) fn is_active(task: &Task) -> bool
+    ensures { result ≡ (tick_spec.share_of task.now).active }
+{
+    task.condition.is_contending() || task.zero_lag.is_some()
+}
+
+fn left_in(condition: Condition) -> PrevState
+    ensures { result ≡ switches_spec.left_in condition }
+{
+    match condition {
+        Condition::Ready | Condition::Throttled => PrevState::Preempted,
+        Condition::Blocked(_) | Condition::Waiting => PrevState::Sleeping,
+        Condition::Leaving => PrevState::Dead,
+    }
+}
+
+fn find(tasks: &[Task], number: u32) -> Option<&Task>
+    ensures { option_copied result ≡ find (λ t. t.number == number) tasks.now }
+{
+    tasks.iter().find(|task| task.number == number)
+}
+
+/// Part 5: the state in which an occupant leaves its CPU.
+pub(crate) fn state_of(tasks: &[Task], occupant: Option<u32>) -> PrevState
+    ensures { result ≡ switches_spec.state_of tasks.now occupant }
+{
+    match occupant {
+        None => PrevState::Running,
+        Some(number) => match find(tasks, number) {
+            None => PrevState::Dead,
+            Some(task) => left_in(task.condition),
+        },
+    }
+}
+
+/// What a caller may see of the task of a number.
+pub(crate) fn view_of(tasks: &[Task], number: u32) -> Option<TaskView>
+    ensures { result ≡ option_map views.view_of (find (λ t. t.number == number) tasks.now) }
+{
+    match find(tasks, number) {
+        None => None,
+        Some(task) => Some(TaskView {
+            server: task.server,
+            condition: task.condition,
+            zero_lag: task.zero_lag,
+            cpu: task.cpu,
+            params: task.params,
+        }),
+    }
+}
+
+/// A task that is admitted at a time: blocked until its start, without deadline and budget.
+pub(crate) fn new_task(
+    number: u32,
+    name: Name,
+    params: Params,
+    start: u64,
+    script: Script,
+    cpus: usize,
+) -> Task
+    requires some { 0 < cpus }
+    requires early { start < 2 ^ 49 }
+    ensures { (d : Domain) (delay : ℕ) → d.cpus ≡ cpus → d.time + delay ≡ start → result ≡ calls.new_task d number name params delay script }
+{
+    Task {
+        number,
+        name,
+        params,
+        server: Server {
+            deadline: None,
+            left: 0,
+        },
+        zero_lag: None,
+        cpu: number as usize % cpus,
+        condition: Condition::Blocked(start),
+        work: 0,
+        cursor: script.cursor(start),
+    }
+}

@@ -1,0 +1,225 @@
+//! A root domain: the state between two ticks, and what changes it.
+
+ghost use Rattle.std.specs.Prelude.{◌≡◌, ◌<◌, ◌≤◌, ◌^◌, OnOk, OnErr, IfOk, replicate, None, vec_len, length, IsTrue, IfErr, ◌==◌, false};
+ghost use Rattle.std.specs.List.{list_any};
+ghost use Rattle.domain_run.specs.declared.call.Call.TheVariants as Call;
+ghost use Rattle.domain_run.specs.declared.call.Reply.TheVariants as Reply;
+ghost use Rattle.domain_run.specs.Domain.{opened};
+ghost use Rattle.domain_run.specs.Views.{view_in};
+ghost use Rattle.domain_run.specs.Tick as tick;
+ghost use Rattle.domain_run.specs.Calls as calls;
+ghost use Rattle.domain_run.specs.Sound.{IsDomain, IsPlacement};
+ghost use Rattle.attr_check.specs.Ratio.{cap};
+
+use crate::call::{Refused, Reply};
+use crate::edf_pick::Candidate;
+use crate::memory::NoMemory;
+use crate::name::Name;
+use crate::numbers::Numbers;
+use crate::parts;
+use crate::script::Script;
+use crate::sweep::{self, Sums};
+use crate::switch::Switch;
+use crate::task::{Task, TaskView};
+use attr_check::Params;
+use std::alloc::Global;
+use std::marker::Model;
+
+/// A root domain of 1 to 64 CPUs: its tasks, who stands on each CPU, and the switches so far.
+#[derive(Drop)]
+pub struct State {
+    cpus: usize,
+    limit: u64,
+    time: u64,
+    tasks: Vec<Task>,
+    used: Numbers,
+    places: Vec<Option<u32>>,
+    switches: Vec<Switch>,
+    // Room for a tick; between two ticks it means nothing.
+    before: Vec<Option<u32>>,
+    ready: Vec<Candidate>,
+    idle: Vec<u64>,
+}
+
+impl Model for State {
+    ghost use Rattle.std.specs.Prelude.{vec_len, vec_capacity};
+    ghost use Rattle.domain_run.specs.Domain.{Domain};
+    ghost use Rattle.domain_run.specs.Sound.{HasRoom};
+
+    ghost Value = { Domain };
+
+    ghost view = { λ s. record { cpus = s.cpus; limit = s.limit; time = s.time; tasks = s.tasks.items; used = s.used; places = s.places.items; switches = s.switches.items } };
+
+    ghost invariant = { λ s. HasRoom (record { cpus = s.cpus; limit = s.limit; time = s.time; tasks = s.tasks.items; used = s.used; places = s.places.items; switches = s.switches.items }) (vec_capacity s.tasks) (vec_capacity s.ready) (vec_len s.before) (vec_len s.idle) };
+}
+
+fn nobody(alloc: Global, cpus: usize) -> Result<Vec<Option<u32>>, NoMemory>
+    ensures nobody { IfOk result (λ places. places.items ≡ replicate cpus None) }
+    ensures len { IfOk result (λ places. vec_len places ≡ cpus) }
+{
+    let mut places = Vec::with_capacity(alloc, cpus)?;
+    for _ in 0..cpus {
+        places.push_reserved(None);
+    }
+    Ok(places)
+}
+
+impl State {
+    /// An empty domain of 1 to 64 CPUs that may give away `limit` of each, 10485 to 1048576 in 1/2^20. Room for 256 tasks and for
+    /// the numbers ever admitted is made here; after it only [`State::tick`] takes memory. `Err` where a growth was refused.
+    pub fn open(alloc: Global, cpus: u32, limit: u64) -> Result<State, NoMemory>
+        requires cpus { (0 < cpus) × (cpus ≤ 64) }
+        requires limit { (10485 ≤ limit) × (limit ≤ 1048576) }
+        ensures { IfOk result (λ s. s ≡ opened cpus limit) }
+    {
+        let cpus = cpus as usize;
+        Ok(State {
+            cpus,
+            limit,
+            time: 0,
+            tasks: Vec::with_capacity(alloc, 256)?,
+            used: Numbers::open(alloc)?,
+            places: nobody(alloc, cpus)?,
+            switches: Vec::new(alloc),
+            before: nobody(alloc, cpus)?,
+            ready: Vec::with_capacity(alloc, 256)?,
+            idle: vec![in alloc; 0; cpus]?,
+        })
+    }
+
+    /// Microseconds from the beginning; every call is made at this time.
+    pub fn now(&self) -> u64
+        ensures time { result ≡ self.now.time }
+        ensures domain { IsDomain self.now }
+    {
+        self.time
+    }
+
+    /// The switches so far. They rise strictly by time and then by CPU, are before now and on the domain's CPUs, and name only
+    /// tasks that were admitted.
+    pub fn switches(&self) -> &[Switch]
+        ensures switches { result.now ≡ self.now.switches }
+        ensures domain { IsDomain self.now }
+    {
+        &self.switches
+    }
+
+    /// The bandwidth of all listed tasks, in 1/2^20 of a CPU, also of those that have ended and stay listed until their
+    /// zero-lag time. It is at most the number of CPUs times the limit.
+    pub fn sum(&self) -> u64
+        ensures sum { result ≡ tick.sum_of self.now.tasks }
+        ensures within { result ≤ cap self.now.cpus self.now.limit }
+    {
+        sweep::sum_of(&self.tasks)
+    }
+
+    /// The task of a number, where it is listed.
+    pub fn view(&self, number: u32) -> Option<TaskView>
+        ensures { result ≡ view_in self.now number }
+    {
+        parts::view_of(&self.tasks, number)
+    }
+}
+
+fn bw_within(params: &Params) -> u64
+    ensures value { result ≡ params.now.bw }
+    ensures most { result ≤ 2 ^ 20 }
+{
+    params.bw
+}
+
+impl State {
+    /// One tick, from the time now to the next microsecond: throttled tasks whose deadline has come are replenished, zero-lag times
+    /// that have come are dropped, blocked tasks whose time has come ask their scripts, the ready tasks with the earliest deadlines
+    /// are placed, the switches are added, and every running task is charged. Room for the switches is made first: on `Err` nothing
+    /// has changed.
+    pub fn tick(&mut self) -> Result<(), NoMemory>
+        requires { self.old.time < 2 ^ 42 }
+        ensures ok { OnOk result (self.new ≡ tick.ticked self.old) }
+        ensures placed { OnOk result (IsPlacement (tick.begun self.old)) }
+        ensures err { OnErr result (self.new ≡ self.old) }
+    {
+        self.switches.try_reserve(self.cpus)?;
+        sweep::begin(
+            self.time,
+            &mut self.tasks,
+            &mut self.places,
+            &mut self.switches,
+            &mut self.ready,
+            &mut self.before,
+        );
+        sweep::inactive(&mut self.idle, &self.tasks);
+        let sums = Sums {
+            idle: &self.idle,
+            sum: sweep::sum_of(&self.tasks),
+            cpus: self.cpus as u64,
+            limit: self.limit,
+        };
+        sweep::run_all(&mut self.tasks, &self.places, &sums, self.time);
+        self.time += 1;
+        Ok(())
+    }
+}
+
+impl State {
+    /// The reply to an admission, by the tests in their order.
+    fn admit_reply(&self, number: u32, params: &Params) -> Reply
+        requires { number < 65536 }
+        ensures { result ≡ calls.admit_reply self.now number params.now }
+    {
+        let sum = self.sum();
+        if self.tasks.len() >= 256 {
+            Reply::Full
+        } else if self.used.contains(number) {
+            Reply::Twice
+        } else if sum + bw_within(params) > self.cpus as u64 * self.limit {
+            Reply::Busy { seen: sum }
+        } else {
+            Reply::Admitted
+        }
+    }
+
+    fn list(&mut self, number: u32, name: Name, params: Params, delay: u64, script: Script)
+        requires granted { calls.admit_reply self.old number params ≡ Reply.Admitted }
+        requires small { number < 65536 }
+        requires delay { delay ≤ 1000000000 }
+        ensures { self.new ≡ calls.listed self.old (calls.new_task self.old number name params delay script) }
+    {
+        let task = parts::new_task(number, name, params, self.time + delay, script, self.cpus);
+        self.used.insert(number);
+        self.tasks.push_reserved(task);
+    }
+
+    /// Admits a task at the time now: tested in this order, `Full` where 256 tasks are listed, `Twice` where the number was ever
+    /// admitted here, `Busy` with the sum of bandwidths where that sum and the task's bandwidth are above the number of CPUs times
+    /// the limit; equality is admitted. An admitted task is listed and starts after the delay, in microseconds. Where it refuses,
+    /// nothing has changed, and name and script come back. Takes no memory.
+    pub fn admit(
+        &mut self,
+        number: u32,
+        name: Name,
+        params: Params,
+        delay: u64,
+        script: Script,
+    ) -> Result<(), Refused>
+        requires number { (0 < number) × (number < 65536) }
+        requires delay { delay ≤ 1000000000 }
+        ensures domain { self.new ≡ calls.after_call self.old (Call.Admit number name params delay script) }
+        ensures admitted { OnOk result (calls.reply_to self.old (Call.Admit number name params delay script) ≡ Reply.Admitted) }
+        ensures reply { IfErr result (λ r. r.reply ≡ calls.reply_to self.old (Call.Admit number name params delay script)) }
+        ensures refused { IfErr result (λ r. IsTrue (calls.is_refusal r.reply)) }
+        ensures back { IfErr result (λ r. (r.name ≡ name) × (r.script ≡ script)) }
+    {
+        match self.admit_reply(number, &params) {
+            Reply::Admitted => {
+                self.list(number, name, params, delay, script);
+                Ok(())
+            }
+            reply => Err(Refused {
+                reply,
+                name,
+                script,
+            }),
+        }
+    }
+}

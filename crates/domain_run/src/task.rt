@@ -1,0 +1,51 @@
+//! A listed task.
+
+use crate::cbs_rules::Server;
+use crate::name::Name;
+use crate::script::Cursor;
+use attr_check::Params;
+
+/// What a task is doing.
+#[derive(Clone, Copy, Debug, PartialEq, Eq)]
+pub enum Condition {
+    /// It contends for a CPU, with budget left.
+    Ready,
+    /// It contends, with no budget left, until it is replenished at its deadline.
+    Throttled,
+    /// It asks its script again at this time, in microseconds.
+    Blocked(u64),
+    /// It waits for a wake call.
+    Waiting,
+    /// It has ended, and stays listed until its zero-lag time.
+    Leaving,
+}
+
+/// A task of a domain.
+#[derive(Debug, Drop)]
+pub struct Task {
+    /// 1 to 65535.
+    pub number: u32,
+    pub name: Name,
+    pub params: Params,
+    pub server: Server,
+    /// Until when its bandwidth stays active though it does not contend, in microseconds.
+    pub zero_lag: Option<u64>,
+    /// The CPU of the domain to which it belongs, from 0.
+    pub cpu: usize,
+    pub condition: Condition,
+    /// Work left in its segment, in microseconds.
+    pub work: u64,
+    pub cursor: Cursor,
+}
+
+/// What a caller may see of a task.
+#[derive(Clone, Copy, Debug, PartialEq, Eq)]
+pub struct TaskView {
+    pub server: Server,
+    pub condition: Condition,
+    /// Until when its bandwidth stays active though it does not contend, in microseconds.
+    pub zero_lag: Option<u64>,
+    /// The CPU of the domain to which it belongs, from 0.
+    pub cpu: usize,
+    pub params: Params,
+}

@@ -1,0 +1,9 @@
+mod Known
+mod Joined
+mod Room
+mod Order
+mod Ahead
+mod Found
+mod Few
+mod UnderWay
+pub mod CallerLemmas

@@ -1,0 +1,83 @@
+-- No line has more than 256 bytes.
+use Rattle.std.proofs.Common.{◌≡◌, ℕ, ◌+◌, ◌-◌, ◌*◌, ◌/◌, ◌%◌, ◌^◌, ◌<◌, ◌≤◌, List, ◌++◌, length, replicate, Option, Some, None, arith}
+use Rattle.std.specs.Prelude.{decimal, codes, IfSome}
+use Rattle.std.proofs.lemmas.Fmt.{length-decimal-le}
+use Rattle.std.proofs.lemmas.List.{length-append, length-replicate}
+use Rattle.domain_run.specs.declared.switch.PrevState.{PrevState}
+use Rattle.domain_run.specs.declared.switch.PrevState.TheVariants.{Running, Preempted, Sleeping, Dead}
+use Rattle.switch_text.specs.Names.{Names, named, HasName}
+use Rattle.switch_text.specs.Line.{right_in, left_in, digits_in, pid_of, prio_of, title_of, comm_of, letters_of, task_part, cpu_part, time_part, prev_part, next_part}
+
+-- a task whose name has at most 15 bytes
+abbrev pub IsShort : (ℕ → List ℕ) → Option ℕ → Type 0
+IsShort names task = IfSome task (λ n. length (names n) ≤ 15)
+
+pub IsShort-from_name : (names : Names) (task : Option ℕ) → IfSome task (HasName names) → IsShort (named names) task
+IsShort-from_name names None h = tt
+IsShort-from_name names (Some n) h = h.most
+
+length-right_in : (width most : ℕ) (text : List ℕ) → width ≤ most → length text ≤ most → length (right_in width text) ≤ most
+length-right_in width most text h k = omega (arith, length-append (replicate (width - length text) 32) text, length-replicate {A = ℕ} (width - length text) 32)
+
+length-left_in : (width most : ℕ) (text : List ℕ) → width ≤ most → length text ≤ most → length (left_in width text) ≤ most
+length-left_in width most text h k = omega (arith, length-append text (replicate (width - length text) 32), length-replicate {A = ℕ} (width - length text) 32)
+
+length-digits_in : (width most n : ℕ) → width ≤ most → length (decimal n) ≤ most → length (digits_in width n) ≤ most
+length-digits_in width most n h k = omega (arith, length-append (replicate (width - length (decimal n)) 48) (decimal n), length-replicate {A = ℕ} (width - length (decimal n)) 48)
+
+length-pid : (task : Option ℕ) → pid_of task < 2 ^ 33 → length (decimal (pid_of task)) ≤ 10
+length-pid task lt = length-decimal-le 10 (pid_of task) (omega arith) (omega arith) (omega arith)
+
+length-prio : (task : Option ℕ) → length (prio_of task) ≤ 3
+length-prio None = omega arith
+length-prio (Some n) = omega arith
+
+length-letters : (state : PrevState) → length (letters_of state) ≤ 2
+length-letters Running = omega arith
+length-letters Preempted = omega arith
+length-letters Sleeping = omega arith
+length-letters Dead = omega arith
+
+length-title : (names : ℕ → List ℕ) (task : Option ℕ) → IsShort names task → length (title_of names task) ≤ 16
+length-title names None h = omega arith
+length-title names (Some n) h = omega arith
+
+length-comm : (names : ℕ → List ℕ) (cpu : ℕ) (task : Option ℕ) → cpu < 512 → IsShort names task → length (comm_of names cpu task) ≤ 15
+length-comm names cpu None lt h = omega (arith, length-append (codes "swapper/") (decimal cpu), length-decimal-le 3 cpu (omega arith) (omega arith) (omega arith))
+length-comm names cpu (Some n) lt h = h
+
+pub length-task_part : (names : ℕ → List ℕ) (prev : Option ℕ) → IsShort names prev → pid_of prev < 2 ^ 33 → length (task_part names prev) ≤ 27
+unfolding task_part
+length-task_part names prev h small =
+    let title = right_in 16 (title_of names prev) in
+    let number = left_in 7 (decimal (pid_of prev)) in
+    omega (arith, length-append (title ++ codes "-") number, length-append title (codes "-"), length-right_in 16 16 (title_of names prev) (omega arith) (length-title names prev h), length-left_in 7 10 (decimal (pid_of prev)) (omega arith) (length-pid prev small))
+
+pub length-cpu_part : (cpu : ℕ) → cpu < 512 → length (cpu_part cpu) ≤ 13
+unfolding cpu_part
+length-cpu_part cpu lt =
+    let number = digits_in 3 cpu in
+    omega (arith, length-append (codes " [" ++ number) (codes "] d..2. "), length-append (codes " [") number, length-digits_in 3 3 cpu (omega arith) (length-decimal-le 3 cpu (omega arith) (omega arith) (omega arith)))
+
+pub length-time_part : (time : ℕ) → time < 2 ^ 42 → length (time_part time) ≤ 14
+unfolding time_part
+length-time_part time lt =
+    let seconds = right_in 5 (decimal (time / 1000000)) in
+    let rest = digits_in 6 (time % 1000000) in
+    omega (arith, length-append (seconds ++ codes ".") rest, length-append seconds (codes "."), length-right_in 5 7 (decimal (time / 1000000)) (omega arith) (length-decimal-le 7 (time / 1000000) (omega arith) (omega arith) (omega arith)), length-digits_in 6 6 (time % 1000000) (omega arith) (length-decimal-le 6 (time % 1000000) (omega arith) (omega arith) (omega arith)))
+
+pub length-prev_part : (names : ℕ → List ℕ) (cpu : ℕ) (prev : Option ℕ) (state : PrevState) → cpu < 512 → IsShort names prev → pid_of prev < 2 ^ 33 → length (prev_part names cpu prev state) ≤ 89
+unfolding prev_part
+length-prev_part names cpu prev state lt h small =
+    let a = codes ": sched_switch: prev_comm=" ++ comm_of names cpu prev in
+    let b = a ++ codes " prev_pid=" ++ decimal (pid_of prev) in
+    let c = b ++ codes " prev_prio=" ++ prio_of prev in
+    omega (arith, length-append (c ++ codes " prev_state=") (letters_of state), length-append c (codes " prev_state="), length-append (b ++ codes " prev_prio=") (prio_of prev), length-append b (codes " prev_prio="), length-append (a ++ codes " prev_pid=") (decimal (pid_of prev)), length-append a (codes " prev_pid="), length-append (codes ": sched_switch: prev_comm=") (comm_of names cpu prev), length-comm names cpu prev lt h, length-pid prev small, length-prio prev, length-letters state)
+
+pub length-next_part : (names : ℕ → List ℕ) (cpu : ℕ) (next : Option ℕ) → cpu < 512 → IsShort names next → pid_of next < 2 ^ 33 → length (next_part names cpu next) ≤ 66
+unfolding next_part
+length-next_part names cpu next lt h small =
+    let a = codes " ==> next_comm=" ++ comm_of names cpu next in
+    let b = a ++ codes " next_pid=" ++ decimal (pid_of next) in
+    let c = b ++ codes " next_prio=" ++ prio_of next in
+    omega (arith, length-append c (codes "\n"), length-append (b ++ codes " next_prio=") (prio_of next), length-append b (codes " next_prio="), length-append (a ++ codes " next_pid=") (decimal (pid_of next)), length-append a (codes " next_pid="), length-append (codes " ==> next_comm=") (comm_of names cpu next), length-comm names cpu next lt h, length-pid next small, length-prio next)

@@ -1,0 +1,30 @@
+-- The names of a domain's tasks.
+use Rattle.std.specs.Prelude.{ℕ, ◌<◌, ◌≤◌, ◌^◌, ◌+◌, List, [], length, nat_eq, Option, IfSome}
+use Rattle.std.specs.Option.{option_map_or}
+use Rattle.std.specs.String.{string_bytes}
+use Rattle.std.specs.declared.string.String.{String}
+use Rattle.std.specs.Global.{Global}
+use Rattle.std.specs.declared.hash.FoldHasher.{FoldHasher}
+use Rattle.std.specs.declared.hash.BuildHasherDefault.{BuildHasherDefault}
+use Rattle.indexmap.specs.IndexMap.{IndexMap, get}
+use Rattle.domain_run.specs.declared.switch.Switch.{Switch}
+
+-- names by the tasks' numbers
+abbrev pub Names : Type 0
+Names = IndexMap ℕ (String Global) (BuildHasherDefault FoldHasher)
+
+-- the name of a number
+abbrev pub named : Names → ℕ → List ℕ
+named names number = option_map_or string_bytes (get nat_eq names number) []
+
+-- a name of 1 to 15 bytes stands at the number (the kernel's comm has at most 15)
+pub record HasName (names : Names) (number : ℕ) : Type 0 where
+  pub some : 0 < length (named names number)
+  pub most : length (named names number) ≤ 15
+
+-- what has a line: a time below 2^42, a CPU of the machine below 512, and names for who leaves and who comes
+pub record HasLine (names : Names) (base : ℕ) (s : Switch) : Type 0 where
+  pub time : s.time < 2 ^ 42
+  pub cpu : base + s.cpu < 512
+  pub prev : IfSome s.prev (HasName names)
+  pub next : IfSome s.next (HasName names)

@@ -1,0 +1,92 @@
+ghost use Rattle.std.specs.Prelude.{ℕ, ◌≡◌, ◌+◌, ◌<◌, ◌≤◌, ◌^◌, List, [], ◌++◌, length, is_ok, if◌then◌else◌, IfOk, IfErr, OnOk, IsTrue, ◌↔◌};
+ghost use Rattle.switch_text.specs.Sending.{Sends, Stops};
+
+use crate::counted::Counted;
+use std::io::Write;
+use std::marker::Model;
+
+/// How many bytes wait at most: 64 KiB, so that a long trace takes one write for some 400 lines.
+const SIZE: usize = 65536;
+
+/// Bytes that wait to be written together.
+#[derive(Drop)]
+pub(crate) struct Batch {
+    bytes: [u8; SIZE],
+    len: usize,
+}
+
+impl Model for Batch {
+    ghost use Rattle.std.specs.Prelude.{ℕ, List, take, ◌≤◌};
+
+    ghost Value = { List ℕ };
+
+    ghost view = { λ b. take b.len b.bytes };
+
+    ghost invariant = { λ b. b.len ≤ 65536 };
+}
+
+impl Batch {
+    pub(crate) fn new() -> Batch
+        ensures { result ≡ [] }
+    {
+        Batch {
+            bytes: [0; SIZE],
+            len: 0,
+        }
+    }
+
+    fn has_room(&self, more: usize) -> bool
+        requires { more ≤ 65536 }
+        ensures { IsTrue result ↔ (length self.now + more ≤ 65536) }
+    {
+        self.len + more <= SIZE
+    }
+
+    fn append(&mut self, text: &[u8])
+        requires { length self.old + length text.now ≤ 65536 }
+        ensures { self.new ≡ self.old ++ text.now }
+    {
+        let end = self.len + text.len();
+        self.bytes[self.len..end].copy_from_slice(text);
+        self.len = end;
+    }
+
+    /// Writes all that waits: how many bytes went out, also where the writer failed before the last.
+    pub(crate) fn flush<W: Write>(&mut self, writer: &mut Counted<W>) -> Result<usize, usize>
+        requires { writer.old.faults < 2 ^ 63 }
+        ensures ok { IfOk result (λ n. Sends (W.contents writer.old.inner) (W.contents writer.new.inner) self.old n self.new) }
+        ensures emptied { OnOk result (self.new ≡ []) }
+        ensures err { IfErr result (λ n. Stops (W.contents writer.old.inner) (W.contents writer.new.inner) self.old n) }
+        ensures faults { writer.new.faults ≡ (if is_ok result then writer.old.faults else writer.old.faults + 1) }
+    {
+        let waiting = self.len;
+        match writer.write_all(&self.bytes[..waiting]) {
+            Ok(()) => {
+                self.len = 0;
+                Ok(waiting)
+            }
+            Err(n) => Err(n),
+        }
+    }
+
+    /// Adds a text; where it has no room, all that waits is written first. How many bytes went out, also where the writer failed.
+    pub(crate) fn put<W: Write>(&mut self, text: &[u8], writer: &mut Counted<W>) -> Result<usize, usize>
+        requires short { length text.now ≤ 256 }
+        requires faults { writer.old.faults < 2 ^ 63 }
+        ensures ok { IfOk result (λ n. Sends (W.contents writer.old.inner) (W.contents writer.new.inner) (self.old ++ text.now) n self.new) }
+        ensures err { IfErr result (λ n. Stops (W.contents writer.old.inner) (W.contents writer.new.inner) self.old n) }
+        ensures faults { writer.new.faults ≡ (if is_ok result then writer.old.faults else writer.old.faults + 1) }
+    {
+        if self.has_room(text.len()) {
+            self.append(text);
+            return Ok(0);
+        }
+        match self.flush(writer) {
+            Ok(n) => {
+                self.append(text);
+                Ok(n)
+            }
+            Err(n) => Err(n),
+        }
+    }
+}

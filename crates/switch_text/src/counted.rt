@@ -1,0 +1,129 @@
+ghost use Rattle.std.specs.Prelude.{ℕ, ◌≡◌, ◌+◌, ◌<◌, ◌≤◌, ◌^◌, List, length, take, is_some, is_ok, if◌then◌else◌, IfSome, IfNone, IfOk, IfErr, OnOk, OnErr};
+ghost use Rattle.std.specs.Io.KnownBytes.{Appends, Consumes, IsAtEnd, Keeps};
+ghost use Rattle.switch_text.specs.Faults.{faults_after, ConsumesSome};
+
+use crate::fault::ReadFault;
+use std::alloc::Global;
+use std::io::{Read, Write};
+
+/// So many reads without an end are a fault (own).
+const READS: u64 = 1 << 32;
+
+/// A reader or a writer, and how many of its calls failed (own).
+///
+/// Every call goes to the reader or writer once and takes its answer as it is: no error is tried again, also not
+/// `Interrupted`. What the contracts say of bytes holds where the reader or writer tells its bytes (a slice, a `Cursor`, a
+/// queue, a `Vec`); of a file, a pipe or a terminal they claim nothing.
+#[derive(Drop)]
+pub struct Counted<T> {
+    /// The reader or writer.
+    pub inner: T,
+    /// How many of its calls failed.
+    pub faults: u64,
+}
+
+impl<T> Counted<T> {
+    /// A reader or writer of which no call has failed yet. Takes no memory.
+    pub fn new(inner: T) -> Counted<T>
+        ensures inner { result.inner ≡ inner }
+        ensures faults { result.faults ≡ 0 }
+    {
+        Counted { inner, faults: 0 }
+    }
+
+    /// How many calls failed so far: reads and writes that answered an error, writes that took 0 bytes, and each
+    /// [`Counted::read_all`] that met no end.
+    pub fn faults(&self) -> u64
+        ensures { result ≡ self.now.faults }
+    {
+        self.faults
+    }
+}
+
+impl<R: Read> Counted<R> {
+    /// Reads once, into the front of the buffer: how many bytes came, 0 at the end and where the buffer has no room.
+    /// `None` is a fault: the reader answered an error, of any kind, and gave nothing. Takes no memory.
+    pub fn read(&mut self, buf: &mut [u8]) -> Option<usize>
+        requires { self.old.faults < 2 ^ 63 }
+        ensures count { IfSome result (λ n. n ≤ length buf.new) }
+        ensures given { IfSome result (λ n. Consumes (R.remaining self.old.inner) (R.remaining self.new.inner) (take n buf.new)) }
+        ensures end { IfSome result (λ n. n ≡ 0 → 0 < length buf.new → IsAtEnd (R.remaining self.new.inner)) }
+        ensures kept { IfNone result (Keeps (R.remaining self.old.inner) (R.remaining self.new.inner)) }
+        ensures faults { self.new.faults ≡ (if is_some result then self.old.faults else self.old.faults + 1) }
+    {
+        match self.inner.read(buf) {
+            Ok(n) => Some(n),
+            Err(_) => {
+                self.faults += 1;
+                None
+            }
+        }
+    }
+
+    /// Reads to the end: all bytes that were left.
+    ///
+    /// # Errors
+    /// [`ReadFault::Failed`] where a read is a fault, or 2^32 reads met no end; it counts as one fault.
+    /// [`ReadFault::Memory`] where a growth was refused. After an error what was read of the bytes is gone.
+    pub fn read_all(&mut self, alloc: Global) -> Result<Vec<u8>, ReadFault>
+        requires { self.old.faults < 2 ^ 63 }
+        ensures all { IfOk result (λ v. IfSome (R.remaining self.old.inner) (λ bytes. v.items ≡ bytes)) }
+        ensures end { OnOk result (IsAtEnd (R.remaining self.new.inner)) }
+        ensures err { OnErr result (ConsumesSome (R.remaining self.old.inner) (R.remaining self.new.inner)) }
+        ensures faults { self.new.faults ≡ faults_after self.old.faults result }
+    {
+        let mut bytes = Vec::new(alloc);
+        let mut piece = [0u8; 16384];
+        for _ in 0..READS {
+            match self.read(&mut piece) {
+                None => return Err(ReadFault::Failed),
+                Some(0) => return Ok(bytes),
+                Some(n) => {
+                    if bytes.extend_from_slice(&piece[..n]).is_err() {
+                        return Err(ReadFault::Memory);
+                    }
+                }
+            }
+        }
+        self.faults += 1;
+        Err(ReadFault::Failed)
+    }
+}
+
+impl<W: Write> Counted<W> {
+    /// Writes once: how many of the bytes the writer took, from their front; at least one. `None` is a fault: the writer
+    /// answered an error, of any kind, or took 0 bytes, and took nothing. Takes no memory.
+    pub fn write(&mut self, bytes: &[u8]) -> Option<usize>
+        requires { self.old.faults < 2 ^ 63 }
+        ensures count { IfSome result (λ n. (0 < n) × (n ≤ length bytes.now)) }
+        ensures taken { IfSome result (λ n. Appends (W.contents self.old.inner) (W.contents self.new.inner) (take n bytes.now)) }
+        ensures kept { IfNone result (Keeps (W.contents self.old.inner) (W.contents self.new.inner)) }
+        ensures faults { self.new.faults ≡ (if is_some result then self.old.faults else self.old.faults + 1) }
+    {
+        match self.inner.write(bytes) {
+            Ok(0) | Err(_) => {
+                self.faults += 1;
+                None
+            }
+            Ok(n) => Some(n),
+        }
+    }
+
+    /// Writes until all bytes are taken, or the first fault: then how many were taken before it, from the front.
+    pub(crate) fn write_all(&mut self, bytes: &[u8]) -> Result<(), usize>
+        requires { self.old.faults < 2 ^ 63 }
+        ensures ok { OnOk result (Appends (W.contents self.old.inner) (W.contents self.new.inner) bytes.now) }
+        ensures err { IfErr result (λ n. Appends (W.contents self.old.inner) (W.contents self.new.inner) (take n bytes.now)) }
+        ensures some_left { IfErr result (λ n. n < length bytes.now) }
+        ensures faults { self.new.faults ≡ (if is_ok result then self.old.faults else self.old.faults + 1) }
+    {
+        let mut at = 0;
+        while at < bytes.len() {
+            match self.write(&bytes[at..]) {
+                Some(n) => at += n,
+                None => return Err(at),
+            }
+        }
+        Ok(())
+    }
+}

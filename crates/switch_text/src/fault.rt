@@ -1,0 +1,38 @@
+use std::error::Error;
+use std::fmt;
+
+/// Why not all could be read.
+#[derive(Clone, Copy, Debug, PartialEq, Eq)]
+pub enum ReadFault {
+    /// A read failed, or 2^32 reads met no end.
+    Failed,
+    /// A growth was refused.
+    Memory,
+}
+
+impl fmt::Display for ReadFault {
+    fn fmt<W: fmt::Write>(&self, f: &mut fmt::Formatter<W>) -> fmt::Result {
+        f.write_str(match self {
+            ReadFault::Failed => "read failed",
+            ReadFault::Memory => "out of memory",
+        })
+    }
+}
+
+impl Error for ReadFault {}
+
+/// Why not all could be written: the writer failed.
+#[derive(Clone, Copy, Debug, PartialEq, Eq)]
+pub struct WriteFault {
+    /// How many bytes the writer took before its fault.
+    pub written: u64,
+}
+
+impl fmt::Display for WriteFault {
+    fn fmt<W: fmt::Write>(&self, f: &mut fmt::Formatter<W>) -> fmt::Result {
+        let written = self.written;
+        write!(f, "write failed after {written}")
+    }
+}
+
+impl Error for WriteFault {}
