@@ -1,6 +1,5 @@
 -- The parameters that a task's times give, and the times of accepted parameters.
-use Rattle.std.proofs.Common.{◌≡◌, ℕ, ◌+◌, ◌*◌, ◌/◌, ◌^◌, ◌≤◌, ◌<◌, Bool, true, false, not, ◌&&◌, cond, ltb, leb, eqb, List, [], ◌∷◌, Option, Some, None, Result, Ok, Err, refl, sym, ap, subst, ◌∙◌, arith}
-use Rattle.std.specs.Prelude.{find}
+use Rattle.std.proofs.Common.{◌≡◌, ℕ, ◌*◌, ◌/◌, ◌^◌, ◌≤◌, ◌<◌, Bool, true, false, not, cond, eqb, Option, Some, None, Result, Ok, Err, refl, sym, ap, subst, ◌∙◌, arith}
 use Rattle.std.specs.Result.{result_ok}
 use Rattle.std.proofs.Math.Nat.{mul-div_cancel}
 use Rattle.std.proofs.lemmas.Bool.{and_parts, leb-true, not-false, ne_eqb}
@@ -8,8 +7,7 @@ use Rattle.attr_check.specs.declared.attr.SchedAttr.{SchedAttr}
 use Rattle.attr_check.specs.declared.refusal.AttrRefusal.{AttrRefusal}
 use Rattle.attr_check.specs.declared.refusal.AttrRefusal.TheVariants.{NotDeadline, UnknownFlag, TopBit, Small, Order, Grain, Long}
 use Rattle.attr_check.specs.ParamsView.{ParamsView}
-use Rattle.attr_check.specs.Ratio.{ratio}
-use Rattle.attr_check.specs.Accepted.{accepted, unless_refused, first_refusal, refusals, passes, params_of, period_of}
+use Rattle.attr_check.specs.Accepted.{accepted, unless_refused, first_refusal, passes, params_of, period_of}
 use Rattle.call_book.specs.declared.times.Times.{Times}
 use Rattle.call_book.specs.Limits.{IsChecked, attr_of}
 use Rattle.call_book.specs.Reading.{params_at}

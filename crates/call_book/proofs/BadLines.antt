@@ -1,16 +1,14 @@
 -- A text has one bad line.
-use Rattle.std.proofs.Common.{◌≡◌, ℕ, ◌+◌, List, [], ◌∷◌, ◌++◌, ◌⊎◌, length, map, Result, Ok, Err, refl, sym, ap, subst, ◌∙◌, append_assoc, inl, inr, arith}
-use Rattle.std.specs.Prelude.{codes, MatchResult, IfOk, IfErr, IsErrOf}
+use Rattle.std.proofs.Common.{◌≡◌, ℕ, ◌+◌, List, [], ◌∷◌, ◌++◌, ◌⊎◌, length, map, Result, Err, refl, sym, ap, subst, ◌∙◌, append_assoc, inl, inr}
+use Rattle.std.specs.Prelude.{codes, IsErrOf}
 use Rattle.std.specs.Global.{Vec}
-use Rattle.std.specs.List.{flat_map, AllByRecursion}
+use Rattle.std.specs.List.{AllByRecursion}
 use Rattle.std.proofs.lemmas.Option.{some_pair_parts}
 use Rattle.call_book.specs.declared.section.Entry.{Entry}
-use Rattle.call_book.specs.declared.section.Section.{Section}
 use Rattle.call_book.specs.declared.fault.CallsFault.{CallsFault}
 use Rattle.call_book.specs.declared.fault.CallsFault.TheVariants as faults
 use Rattle.call_book.specs.SectionView.{SectionView}
-use Rattle.call_book.specs.Spelling.{entry_line, domain_line, lines_of, text_of, spelling}
-use Rattle.call_book.specs.Limits.{AreRead}
+use Rattle.call_book.specs.Spelling.{entry_line, domain_line, lines_of, text_of}
 use Rattle.call_book.specs.BadLine.{Begins, IsBadLine, MeansFault}
 use Rattle.call_book.specs.Reading.{cut_at, IsEntryRead}
 use Rattle.call_book.proofs.Cuts.{Lacks, Lacks-written, cut_again}

@@ -1,7 +1,7 @@
 -- Entries one after the other.
-use Rattle.std.proofs.Common.{◌≡◌, ℕ, zero, suc, ◌+◌, ◌-◌, ◌≤◌, ◌<◌, Bool, true, false, cond, eqb, List, [], ◌∷◌, ◌++◌, length, get_or, map, set, Option, Some, None, refl, sym, ap, subst, ◌∙◌, append_assoc, inl, inr, arith, get_or-set_same, get_or-set_other}
-use Rattle.std.specs.Prelude.{codes, count_by}
-use Rattle.std.specs.List.{flat_map, AllByRecursion}
+use Rattle.std.proofs.Common.{◌≡◌, ℕ, ◌+◌, ◌-◌, ◌≤◌, ◌<◌, cond, eqb, List, [], ◌∷◌, ◌++◌, length, get_or, map, set, Some, None, refl, sym, ap, ◌∙◌, append_assoc, inl, inr, arith, get_or-set_same, get_or-set_other}
+use Rattle.std.specs.Prelude.{codes}
+use Rattle.std.specs.List.{AllByRecursion}
 use Rattle.std.proofs.lemmas.Bool.{cases_eq, cases_lt, eq-eqb, ne_eqb}
 use Rattle.std.proofs.lemmas.Grind.{flat_map-append}
 use Rattle.std.proofs.lemmas.Option.{some_pair_parts}
@@ -11,7 +11,8 @@ use Rattle.call_book.specs.declared.section.Entry.{Entry}
 use Rattle.call_book.specs.declared.fault.PartFault.{PartFault}
 use Rattle.call_book.specs.declared.fault.PartFault.TheVariants.{Bad, Memory}
 use Rattle.call_book.specs.Spelling.{entry_line, text_of}
-use Rattle.call_book.specs.Limits.{IsClient, IsEntry, IsNumbered, IsNumberedAfter, made_by}
+use Rattle.call_book.specs.OwnCalls.{IsNumberedAfter, made_by}
+use Rattle.call_book.specs.Limits.{IsClient}
 use Rattle.call_book.specs.Reading.{cut_at, call_at, IsEntryRead, entries_text, SoFar, Counts, IsNext, Stops, StopsAt, Fails, fault_from}
 use Rattle.call_book.proofs.Cuts.{cut_takes, cut_again}
 use Rattle.call_book.proofs.Lines.{call_takes, call_again, line_lacks}

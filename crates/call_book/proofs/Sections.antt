@@ -1,12 +1,12 @@
 -- The one section of a text, and the first bad line of a text that is no section's.
-use Rattle.std.proofs.Common.{◌≡◌, ◌≢◌, ℕ, zero, suc, ◌+◌, ◌≤◌, ◌<◌, Bool, true, false, not, List, [], ◌∷◌, ◌++◌, length, map, All, Option, Some, None, refl, sym, ap, subst, ◌∙◌, append_assoc, arith}
-use Rattle.std.specs.Prelude.{codes, decimal}
-use Rattle.std.specs.List.{flat_map, AllByRecursion}
+use Rattle.std.proofs.Common.{◌≡◌, ℕ, ◌≤◌, ◌<◌, Bool, true, false, not, List, [], ◌∷◌, ◌++◌, length, map, All, Option, Some, None, refl, sym, ap, subst, ◌∙◌, append_assoc, arith}
+use Rattle.std.specs.Prelude.{codes}
+use Rattle.std.specs.List.{AllByRecursion}
 use Rattle.std.specs.Str.{bytes_eq}
 use Rattle.std.proofs.lemmas.Bool.{not-false}
 use Rattle.std.proofs.lemmas.Slice.Eq.{bytes_eq-Decides}
-use Rattle.std.proofs.lemmas.Option.{some_pair_parts, same_Some}
-use Rattle.std.proofs.lemmas.List.{append-nil, map-append, length-append, length-map}
+use Rattle.std.proofs.lemmas.Option.{some_pair_parts}
+use Rattle.std.proofs.lemmas.List.{append-nil, length-append, length-map}
 use Rattle.std.proofs.lemmas.List.Elements.{All-from_recursion, recursion_from_All, All-weaker, All-head, All-cons, All-nil}
 use Rattle.domain_run.specs.declared.call.Call.{Call}
 use Rattle.domain_run.specs.declared.call.Reply.{Reply}
@@ -17,10 +17,11 @@ use Rattle.call_book.specs.declared.fault.PartFault.{PartFault}
 use Rattle.call_book.specs.declared.fault.PartFault.TheVariants.{Bad, Memory}
 use Rattle.call_book.specs.SectionView.{SectionView}
 use Rattle.call_book.specs.Spelling.{entry_line, domain_line, section_lines, lines_of, text_of, spelling}
-use Rattle.call_book.specs.Limits.{IsClient, IsEntry, IsReadCall, IsNumbered, IsNumberedAfter, made_by, IsSection, AreSections, AreRead, IsOneCpu}
-use Rattle.call_book.specs.BadLine.{Begins, IsBadLine, MeansFault}
+use Rattle.call_book.specs.OwnCalls.{IsNumbered, IsNumberedAfter, made_by}
+use Rattle.call_book.specs.Limits.{IsEntry, IsReadableCall, IsSection, AreReadable}
+use Rattle.call_book.specs.BadLine.{IsBadLine, MeansFault}
 use Rattle.call_book.specs.Reading.{cut_at, call_at, domain_at, IsEntryRead, entries_text, SoFar, Stops, StopsAt, Fails, fault_from}
-use Rattle.call_book.proofs.Cuts.{Lacks, Lacks-written, cut_takes, cut_again}
+use Rattle.call_book.proofs.Cuts.{Lacks-written, cut_takes, cut_again}
 use Rattle.call_book.proofs.Lines.{call_again, line_lacks, domain_takes, domain_again, domain_lacks}
 
 -- a section that is read
@@ -35,7 +36,7 @@ pub record IsSectionRead (s : SectionView) : Type 0 where
 only_one : {X : Type 0} (P : X → Type 0) (x : X) → P x → All P (x ∷ [])
 only_one P x h = All-cons P x [] h (All-nil P)
 
-pub are_read : (s : SectionView) → IsSectionRead s → AreRead (s ∷ [])
+pub are_read : (s : SectionView) → IsSectionRead s → AreReadable (s ∷ [])
 are_read s is =
     let each = All-from_recursion IsEntryRead s.entries is.each in
     record {
@@ -53,7 +54,7 @@ are_read s is =
         });
       };
       unanswered = only_one (λ (t : SectionView). All (λ (e : Entry). e.reply ≡ None) t.entries) s (All-weaker IsEntryRead (λ e. e.reply ≡ None) (λ e h. h.unanswered) s.entries each);
-      calls = only_one (λ (t : SectionView). All (λ (e : Entry). IsReadCall e.call) t.entries) s (All-weaker IsEntryRead (λ e. IsReadCall e.call) (λ e h. h.read) s.entries each);
+      calls = only_one (λ (t : SectionView). All (λ (e : Entry). IsReadableCall e.call) t.entries) s (All-weaker IsEntryRead (λ e. IsReadableCall e.call) (λ e h. h.read) s.entries each);
       one_cpu = is.one;
     }
 
@@ -63,12 +64,12 @@ pub record OneRead (sections : List SectionView) : Type 0 where
   pub one : sections ≡ section ∷ []
   pub is : IsSectionRead section
 
-pub one_read : (sections : List SectionView) → AreRead sections → OneRead sections
+pub one_read : (sections : List SectionView) → AreReadable sections → OneRead sections
 one_read [] are = absurd are.one_cpu
 one_read (s ∷ []) are =
     let is = All-head IsSection s [] are.within.each in
     let unanswered = All-head (λ (t : SectionView). All (λ (e : Entry). e.reply ≡ None) t.entries) s [] are.unanswered in
-    let calls = All-head (λ (t : SectionView). All (λ (e : Entry). IsReadCall e.call) t.entries) s [] are.calls in
+    let calls = All-head (λ (t : SectionView). All (λ (e : Entry). IsReadableCall e.call) t.entries) s [] are.calls in
     record {
       section = s;
       one = refl;
@@ -110,7 +111,7 @@ sample_is = record { one = refl; low = omega arith; high = omega arith; few = om
 -- ---- the first bad line
 
 -- the first line of an accepted text
-first_line : (sections : List SectionView) → AreRead sections → (line : List ℕ) (more : List (List ℕ)) → lines_of sections ≡ line ∷ more → line ≡ codes "dlcalls 1"
+first_line : (sections : List SectionView) → AreReadable sections → (line : List ℕ) (more : List (List ℕ)) → lines_of sections ≡ line ∷ more → line ≡ codes "dlcalls 1"
 first_line sections are line more e = cc
 
 pub bad_header : (text : List ℕ) → ((after : List ℕ) → text ≡ codes "dlcalls 1" ++ (10 ∷ after) → ⊥) → IsBadLine text 1
@@ -121,7 +122,7 @@ bad_header text other = record {
   place = refl;
   before = (sample ∷ [], are_read sample sample_is, lines_of (sample ∷ []), refl);
   stops = λ line after same begins. other after (same ∙ ap (λ (l : List ℕ). l ++ 10 ∷ after) (first_line begins.0 begins.1 line begins.2 begins.3));
-  refused = λ sections are same. let o = one_read sections are in other (domain_line o.section ++ (10 ∷ entries_text o.section.entries)) (same ∙ ap spelling o.one ∙ spelling_one o.section);
+  refused = λ a. let o = one_read a.0 a.1 in other (domain_line o.section ++ (10 ∷ entries_text o.section.entries)) (a.2 ∙ ap spelling o.one ∙ spelling_one o.section);
 }
 
 -- the second line of an accepted text
@@ -142,9 +143,9 @@ bad_domain text rest header other = record {
       let o = one_read begins.0 begins.1 in
       let line_is = second_line o.section line begins.2 (begun begins.0 (codes "dlcalls 1" ∷ line ∷ []) begins.2 o.section o.one begins.3) in
       other o.section after o.is (same ∙ ap (λ (l : List ℕ). l ++ 10 ∷ after) line_is);
-  refused = λ sections are same.
-      let o = one_read sections are in
-      let whole : codes "dlcalls 1" ++ (10 ∷ rest) ≡ codes "dlcalls 1" ++ (10 ∷ (domain_line o.section ++ (10 ∷ entries_text o.section.entries))) = sym header ∙ same ∙ ap spelling o.one ∙ spelling_one o.section in
+  refused = λ a.
+      let o = one_read a.0 a.1 in
+      let whole : codes "dlcalls 1" ++ (10 ∷ rest) ≡ codes "dlcalls 1" ++ (10 ∷ (domain_line o.section ++ (10 ∷ entries_text o.section.entries))) = sym header ∙ a.2 ∙ ap spelling o.one ∙ spelling_one o.section in
       let cuts = sym (header_cut rest) ∙ ap (cut_at 10) whole ∙ header_cut (domain_line o.section ++ (10 ∷ entries_text o.section.entries)) in
       other o.section (entries_text o.section.entries) o.is (some_pair_parts (codes "dlcalls 1") (codes "dlcalls 1") rest (domain_line o.section ++ (10 ∷ entries_text o.section.entries)) cuts).1;
 }
@@ -233,9 +234,9 @@ bad_line_at text rest s n header is stop same_as =
           let tail = next_line o.section (domain_line s) lines line begins.2 (begun begins.0 (front ++ line ∷ []) begins.2 o.section o.one begins.3) in
           let p = at_place IsEntryRead entry_line o.section.entries lines line begins.2 o.is.each tail in
           stop.stops (omega (arith, p.within, o.is.few, counted)) p.element after p.is (same ∙ ap (λ (l : List ℕ). l ++ 10 ∷ after) (sym p.value));
-      refused = λ sections are same.
-          let o = one_read sections are in
-          let parts = same_parts s o.section rest (entries_text o.section.entries) is o.is (sym header ∙ same ∙ ap spelling o.one ∙ spelling_one o.section) in
+      refused = λ a.
+          let o = one_read a.0 a.1 in
+          let parts = same_parts s o.section rest (entries_text o.section.entries) is o.is (sym header ∙ a.2 ∙ ap spelling o.one ∙ spelling_one o.section) in
           let g = goes_on stop.entries o.section.entries stop.rest stop.so_far.each o.is.each (sym stop.so_far.parts ∙ parts.rest_is) stop.more in
           stop.stops (omega (arith, g.within, o.is.few)) g.entry g.after g.is g.rest_is;
     }
@@ -286,7 +287,7 @@ same_section s t is is' e =
     let entries = same_entries [] s.entries t.entries is.each is'.each is.numbered is'.numbered parts.rest_is in
     ap (λ (c : ℕ). section_from c s.limit s.entries) p.0 ∙ ap (λ (l : ℕ). section_from t.cpus l s.entries) p.1 ∙ ap (section_from t.cpus t.limit) entries
 
-pub same_sections : (ss ts : List SectionView) → AreRead ss → AreRead ts → spelling ss ≡ spelling ts → ss ≡ ts
+pub same_sections : (ss ts : List SectionView) → AreReadable ss → AreReadable ts → spelling ss ≡ spelling ts → ss ≡ ts
 same_sections ss ts are are' e =
     let s = one_read ss are in
     let t = one_read ts are' in
@@ -343,7 +344,7 @@ entries_fault text line rest d (faults.BadLine n) o read stop =
 entries_fault text line rest d faults.Memory o read stop = tt
 
 pub section_found : (text line rest : List ℕ) (d : ℕ × ℕ) (entries : List Entry) → Opens text line rest → domain_at line ≡ Some d → SoFar rest [] entries → length entries ≤ 65536
-    → AreRead (section_from d.0 d.1 entries ∷ []) × (text ≡ spelling (section_from d.0 d.1 entries ∷ []))
+    → AreReadable (section_from d.0 d.1 entries ∷ []) × (text ≡ spelling (section_from d.0 d.1 entries ∷ []))
 section_found text line rest d entries o read so_far few =
     let t = domain_takes line d read in
     let s = section_from d.0 d.1 entries in

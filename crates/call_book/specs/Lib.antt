@@ -1,5 +1,7 @@
 pub mod SectionView
 pub mod Spelling
+pub mod OwnCalls
 pub mod Limits
 pub mod BadLine
+pub mod Examples
 pub mod Reading

@@ -1,5 +1,5 @@
 -- Which sections have a spelling, and which of them are read (own).
-use Rattle.std.specs.Prelude.{◌≡◌, ℕ, ◌≤◌, ◌<◌, ◌*◌, ◌^◌, ◌==◌, false, List, [], ◌∷◌, ◌++◌, length, All, count_by, None, IfSome, Ok, if◌then◌else◌}
+use Rattle.std.specs.Prelude.{◌≡◌, ℕ, ◌≤◌, ◌<◌, ◌*◌, ◌^◌, false, List, [], ◌∷◌, length, All, None, IfSome, Ok, if◌then◌else◌}
 use Rattle.attr_check.specs.declared.attr.SchedAttr.{SchedAttr}
 use Rattle.attr_check.specs.ParamsView.{ParamsView}
 use Rattle.attr_check.specs.Accepted.{accepted}
@@ -11,6 +11,7 @@ use Rattle.domain_run.specs.declared.call.Call.{Call}
 use Rattle.domain_run.specs.declared.call.Call.TheVariants.{Admit, Regrade, Wake, Leave, Advance}
 use Rattle.call_book.specs.declared.section.Entry.{Entry}
 use Rattle.call_book.specs.SectionView.{SectionView}
+use Rattle.call_book.specs.OwnCalls.{IsNumbered}
 
 -- ---- calls
 
@@ -31,7 +32,8 @@ attr_of p = record {
   period = p.period * 1000;
 }
 
--- the attribute check gives these parameters for their own times; a period of 0 is given for none
+-- The attribute check gives these very parameters for their own times. So the period is written out: the check gives the
+-- deadline for a period of 0.
 abbrev pub IsChecked : ParamsView → Type 0
 IsChecked p = accepted (attr_of p) ≡ Ok p
 
@@ -50,18 +52,6 @@ IsCall (Leave number) = IsNumber number
 IsCall (Advance ticks) = (0 < ticks) × (ticks ≤ 60000000)
 
 -- ---- entries
-
--- how many of these calls are a client's
-abbrev pub made_by : ℕ → List Entry → ℕ
-made_by client entries = count_by (λ e. e.client == client) entries
-
--- each entry's sequence number is the number of its client's earlier calls, where these calls were made before
-abbrev pub IsNumberedAfter : List Entry → List Entry → Type 0
-IsNumberedAfter before [] = Unit {0}
-IsNumberedAfter before (e ∷ entries) = (e.seq ≡ made_by e.client before) × IsNumberedAfter (before ++ e ∷ []) entries
-
-abbrev pub IsNumbered : List Entry → Type 0
-IsNumbered entries = IsNumberedAfter [] entries
 
 pub record IsEntry (e : Entry) : Type 0 where
   pub client : IsClient e.client
@@ -87,22 +77,22 @@ pub record AreSections (sections : List SectionView) : Type 0 where
 -- ---- what is read
 
 -- for now run and sleep
-abbrev pub IsReadEvent : Event → Type 0
-IsReadEvent (Run n) = Unit {0}
-IsReadEvent (Sleep n) = Unit {0}
-IsReadEvent (Timer n) = ⊥
-IsReadEvent Wait = ⊥
+abbrev pub IsReadableEvent : Event → Type 0
+IsReadableEvent (Run n) = Unit {0}
+IsReadableEvent (Sleep n) = Unit {0}
+IsReadableEvent (Timer n) = ⊥
+IsReadableEvent Wait = ⊥
 
-abbrev pub IsReadScript : ScriptView → Type 0
-IsReadScript s = All (λ p. All IsReadEvent p.events) s.phases
+abbrev pub IsReadableScript : ScriptView → Type 0
+IsReadableScript s = All (λ p. All IsReadableEvent p.events) s.phases
 
 -- for now admissions of tasks that do not reclaim, and advances
-abbrev pub IsReadCall : Call → Type 0
-IsReadCall (Admit number name params delay script) = (params.reclaim ≡ false) × IsReadScript script
-IsReadCall (Regrade number params word) = ⊥
-IsReadCall (Wake number) = ⊥
-IsReadCall (Leave number) = ⊥
-IsReadCall (Advance ticks) = Unit {0}
+abbrev pub IsReadableCall : Call → Type 0
+IsReadableCall (Admit number name params delay script) = (params.reclaim ≡ false) × IsReadableScript script
+IsReadableCall (Regrade number params word) = ⊥
+IsReadableCall (Wake number) = ⊥
+IsReadableCall (Leave number) = ⊥
+IsReadableCall (Advance ticks) = Unit {0}
 
 -- for now one section, of one CPU
 abbrev pub IsOneCpu : List SectionView → Type 0
@@ -111,8 +101,8 @@ IsOneCpu (s ∷ []) = s.cpus ≡ 1
 IsOneCpu (s ∷ t ∷ sections) = ⊥
 
 -- what is read: replies are not written, so what is read has none
-pub record AreRead (sections : List SectionView) : Type 0 where
+pub record AreReadable (sections : List SectionView) : Type 0 where
   pub within : AreSections sections
   pub unanswered : All (λ s. All (λ e. e.reply ≡ None) s.entries) sections
-  pub calls : All (λ s. All (λ e. IsReadCall e.call) s.entries) sections
+  pub calls : All (λ s. All (λ e. IsReadableCall e.call) s.entries) sections
   pub one_cpu : IsOneCpu sections

@@ -1,9 +1,9 @@
-//! The book of a domain: calls and their replies in the order in which they were made, and calls text, in which they are
-//! written.
+//! The calls on domains with their replies, in the order in which they were made, and calls text, in which calls are written.
 //!
-//! Meets the definition "Calls text" (`specs/Spelling.antt`, `specs/Limits.antt`, `specs/Reading.antt`). To the crates above
-//! it promises that [`read_calls`] accepts exactly the spellings of readable sections, gives back the very sections, and
-//! names the first bad line of every other text.
+//! Meets the definitions "Calls text" (`specs/Spelling.antt`: the text of sections; `specs/Limits.antt`: which sections have
+//! one, and which are read for now; `specs/BadLine.antt`: the first bad line of every other text) and "A client's own calls"
+//! (`specs/OwnCalls.antt`). To the crates above it promises that [`read_calls`] accepts exactly the texts of readable
+//! sections, gives back the very sections, and names the first bad line of every other text.
 #![tactic(auto)]
 
 mod cut;

@@ -10,8 +10,22 @@ use attr_check::{Params, SchedAttr, check};
 use domain_run::{Call, Name, Script};
 use std::alloc::Global;
 
+/// The greatest number of a client.
+const MOST_CLIENT: u64 = 64;
+/// The greatest number of a task.
+const MOST_NUMBER: u64 = 65535;
 /// The most microseconds of a period.
 const MOST_TIME: u64 = 1 << 32;
+/// The most microseconds from an admission to the start of the task.
+const MOST_DELAY: u64 = 1_000_000_000;
+/// The most ticks of one call.
+const MOST_TICKS: u64 = 60_000_000;
+/// The most CPUs of a domain. For now 1.
+const MOST_CPUS: u64 = 1;
+/// 1 % of a CPU, in 1/2^20.
+const LEAST_LIMIT: u64 = 10485;
+/// A whole CPU, in 1/2^20.
+const MOST_LIMIT: u64 = 1_048_576;
 
 /// A number up to the next space, from `least` to `most`, and what follows.
 #[tactic(auto, unfolding(crate::specs::Reading::field_at))]
@@ -26,6 +40,7 @@ fn field(text: &[u8], least: u64, most: u64) -> Result<(u64, &[u8]), PartFault>
     Ok((n, rest))
 }
 
+/// The name that a text is.
 #[tactic(auto, unfolding(crate::specs::Reading::name_at))]
 fn name_of(alloc: Global, text: &[u8]) -> Result<Name, PartFault>
     ensures { Gives (λ n. n) result (name_at text.now) }
@@ -86,7 +101,7 @@ fn plan_of(alloc: Global, text: &[u8]) -> Result<(u64, Script), PartFault>
     let Some((flag, rest)) = cut(text, b' ') else {
         return Err(PartFault::Bad);
     };
-    let (delay, rest) = field(rest, 0, 1_000_000_000)?;
+    let (delay, rest) = field(rest, 0, MOST_DELAY)?;
     let script = script_of(alloc, rest)?;
     if flag != b"-".as_slice() {
         return Err(PartFault::Bad);
@@ -99,7 +114,7 @@ fn plan_of(alloc: Global, text: &[u8]) -> Result<(u64, Script), PartFault>
 fn admit_of(alloc: Global, text: &[u8]) -> Result<Call, PartFault>
     ensures { Gives (λ c. c) result (admit_at text.now) }
 {
-    let (number, rest) = field(text, 1, 65535)?;
+    let (number, rest) = field(text, 1, MOST_NUMBER)?;
     let Some((name, rest)) = cut(rest, b' ') else {
         return Err(PartFault::Bad);
     };
@@ -121,7 +136,7 @@ fn admit_of(alloc: Global, text: &[u8]) -> Result<Call, PartFault>
 fn advance_of(text: &[u8]) -> Result<Call, PartFault>
     ensures { Gives (λ c. c) result (advance_at text.now) }
 {
-    let ticks = number_within(text, 1, 60_000_000)?;
+    let ticks = number_within(text, 1, MOST_TICKS)?;
     Ok(Call::Advance { ticks })
 }
 
@@ -134,7 +149,7 @@ pub(crate) fn call_of(alloc: Global, line: &[u8]) -> Result<(u32, Call), PartFau
     let Some((word, rest)) = cut(line, b' ') else {
         return Err(PartFault::Bad);
     };
-    let (client, rest) = field(rest, 1, 64)?;
+    let (client, rest) = field(rest, 1, MOST_CLIENT)?;
     let call = if word == b"admit".as_slice() {
         admit_of(alloc, rest)?
     } else if word == b"advance".as_slice() {
@@ -145,7 +160,7 @@ pub(crate) fn call_of(alloc: Global, line: &[u8]) -> Result<(u32, Call), PartFau
     Ok((client as u32, call))
 }
 
-/// The CPUs and the limit of the domain that a section line spells. For now one CPU alone.
+/// The CPUs and the limit of the domain that a section's line spells.
 #[tactic(auto, unfolding(crate::specs::Reading::domain_at))]
 pub(crate) fn domain_of(line: &[u8]) -> Result<(u64, u64), PartFault>
     ensures gives { Gives (λ p. p) result (domain_at line.now) }
@@ -154,8 +169,8 @@ pub(crate) fn domain_of(line: &[u8]) -> Result<(u64, u64), PartFault>
     let Some((word, rest)) = cut(line, b' ') else {
         return Err(PartFault::Bad);
     };
-    let (cpus, rest) = field(rest, 1, 1)?;
-    let limit = number_within(rest, 10485, 1_048_576)?;
+    let (cpus, rest) = field(rest, 1, MOST_CPUS)?;
+    let limit = number_within(rest, LEAST_LIMIT, MOST_LIMIT)?;
     if word != b"domain".as_slice() {
         return Err(PartFault::Bad);
     }

@@ -11,6 +11,8 @@ use std::alloc::Global;
 
 /// The most microseconds of an event, the most repetitions of a phase, and the most rounds of a script.
 const MOST: u64 = 1_000_000_000;
+/// The most events of a phase, and the most phases of a script.
+const MOST_ITEMS: u64 = 64;
 
 /// For now the events run and sleep alone.
 #[tactic(auto, unfolding(crate::specs::Reading::event_at))]
@@ -41,7 +43,7 @@ fn events_of(alloc: Global, text: &[u8]) -> Result<Vec<Event>, PartFault>
 {
     let mut events = Vec::new(alloc);
     let mut rest = text;
-    for _ in 0..64u64 {
+    for _ in 0..MOST_ITEMS {
         let (event, after) = event_first(rest)?;
         events.push(event)?;
         match after {
@@ -87,7 +89,7 @@ fn phases_of(alloc: Global, text: &[u8]) -> Result<Vec<Phase>, PartFault>
 {
     let mut phases = Vec::new(alloc);
     let mut rest = text;
-    for _ in 0..64u64 {
+    for _ in 0..MOST_ITEMS {
         let (phase, after) = phase_first(alloc, rest)?;
         phases.push(phase)?;
         match after {

@@ -1,4 +1,4 @@
-use Rattle.std.proofs.Common.{◌<◌, ◌≤◌, length, arith}
+use Rattle.std.proofs.Common.{arith}
 use Rattle.call_book.proofs.Digits.{digits_fit}
 use Rattle.call_book.proofs.number.number.Goals as goal
 

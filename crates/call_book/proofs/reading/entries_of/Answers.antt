@@ -1,7 +1,6 @@
-use Rattle.std.proofs.Common.{◌≡◌, ◌+◌, ◌-◌, ◌∷◌, ◌<◌, ◌∙◌, [], length, refl, sym, ap, arith, length-append, length-set}
+use Rattle.std.proofs.Common.{◌+◌, ◌-◌, ◌∷◌, ◌∙◌, [], refl, sym, arith, length-append, length-set}
 use Rattle.std.proofs.lemmas.List.{get_or-replicate}
 use Rattle.std.proofs.lemmas.Grind.{common_steps}
-use Rattle.call_book.specs.declared.section.Entry.{Entry}
 use Rattle.call_book.proofs.Entries.{one_more, counts_more, counts_few, stops_unfinished, stops_fault, starts}
 use Rattle.call_book.proofs.reading.entries_of.Goals as goal
 

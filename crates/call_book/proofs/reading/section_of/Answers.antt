@@ -1,4 +1,4 @@
-use Rattle.std.proofs.Common.{◌∙◌, sym}
+use Rattle.std.proofs.Common.{sym}
 use Rattle.std.proofs.lemmas.Result.{err_from_is_err_and}
 use Rattle.call_book.proofs.Sections.{Opens, no_header, other_header, no_domain, domain_fault, entries_fault, section_found, not_written, is_written}
 use Rattle.call_book.proofs.reading.section_of.Goals as goal

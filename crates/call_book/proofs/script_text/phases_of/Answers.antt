@@ -1,4 +1,3 @@
-use Rattle.std.proofs.Common.{sym}
 use Rattle.std.proofs.lemmas.Result.{err_from_is_err_and}
 use Rattle.call_book.specs.Reading.{many_at, phase_first_at}
 use Rattle.call_book.proofs.Many.{goes_on, ends, stops, is_full}
