@@ -42,7 +42,7 @@ IsAhead-new runs r places e rest h here next earlier not_later =
       inside = omega (arith, length-append runs (r ∷ []));
       split = left_of-more runs r places h ∙ ap (λ (es : List Entry). left_of runs places ++ es) here;
       moved = left_of-more runs r (set places n v) long ∙ ap (λ (k : ℕ). left_of runs (set places n v) ++ drop k (entries_of r)) at
-      ∙ ap (λ (es : List Entry). left_of runs (set places n v) ++ es) next ∙ ap (λ (es : List Entry). es ++ rest) (left_of-set_past runs places v);
+          ∙ ap (λ (es : List Entry). left_of runs (set places n v) ++ es) next ∙ ap (λ (es : List Entry). es ++ rest) (left_of-set_past runs places v);
       earlier = earlier;
       not_later = not_later;
     }
@@ -65,7 +65,7 @@ IsAhead-kept runs r places i e h a not_later =
       inside = omega (arith, length-append runs (r ∷ []));
       split = left_of-more runs r places h ∙ ap (λ (es : List Entry). es ++ more) a.split ∙ append_assoc a.before (e ∷ a.after) more;
       moved = left_of-more runs r (set places i v) long ∙ ap (λ (k : ℕ). left_of runs (set places i v) ++ drop k (entries_of r)) at
-      ∙ ap (λ (es : List Entry). es ++ more) a.moved ∙ append_assoc a.before a.after more;
+          ∙ ap (λ (es : List Entry). es ++ more) a.moved ∙ append_assoc a.before a.after more;
       earlier = a.earlier;
       not_later = AllByRecursion-append (λ x. is_earlier x e ≡ false) a.after more a.not_later not_later;
     }

@@ -64,4 +64,3 @@ pub length-in_order : (es : List Entry) → length (in_order es) ≡ length es
 unfolding in_order
 length-in_order [] = refl
 length-in_order (e ∷ es) = omega (arith, length-placed_in e (in_order es), length-in_order es)
-
