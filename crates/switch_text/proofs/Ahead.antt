@@ -1,9 +1,9 @@
 -- The next entry of several runs, found run by run.
-use Rattle.std.proofs.Common.{◌≡◌, ℕ, suc, ◌+◌, ◌<◌, ◌≤◌, ◌≢◌, Bool, true, false, List, [], ◌∷◌, ◌++◌, length, drop, set, get_or, refl, sym, ap, subst, ◌∙◌, append_assoc, append-nil, arith}
+use Rattle.std.proofs.Common.{◌≡◌, ℕ, ◌+◌, ◌<◌, ◌≢◌, true, false, List, [], ◌∷◌, ◌++◌, length, drop, set, get_or, refl, sym, ap, subst, ◌∙◌, append_assoc, append-nil, arith}
 use Rattle.std.specs.List.{AllByRecursion}
 use Rattle.std.proofs.lemmas.List.{length-set, length-append, get_or-set_same, get_or-set_other}
 use Rattle.switch_text.specs.Trace.{RunView, Entry, entries_of, is_earlier}
-use Rattle.switch_text.specs.Merging.{left_of, stepped, IsAhead}
+use Rattle.switch_text.specs.Merging.{left_of, IsAhead}
 use Rattle.switch_text.proofs.Order.{AllByRecursion-weaker, AllByRecursion-append, earlier_trans, not_later_trans, earlier_then}
 
 left_of-more : (runs : List RunView) (r : RunView) (places : List ℕ) → length runs < length places
