@@ -38,15 +38,15 @@ impl Batch {
     }
 
     fn has_room(&self, more: usize) -> bool
-        requires { more ≤ 65536 }
-        ensures { IsTrue result ↔ (length self.now + more ≤ 65536) }
+        requires { more ≤ SIZE }
+        ensures { IsTrue result ↔ (length self.now + more ≤ SIZE) }
     {
         self.len + more <= SIZE
     }
 
     /// Adds a text that has room.
     pub(crate) fn append(&mut self, text: &[u8])
-        requires { length self.old + length text.now ≤ 65536 }
+        requires { length self.old + length text.now ≤ SIZE }
         ensures { self.new ≡ self.old ++ text.now }
     {
         let end = self.len + text.len();

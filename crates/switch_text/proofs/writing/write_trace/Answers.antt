@@ -13,7 +13,7 @@ pub loop-next-init : goal.loop-next-init
 loop-next-init g c =
     let before = g.W.Write.contents c.args.writer.now.inner in
     let runs = views c.args.runs.now in
-    let waiting : c.append.new.self ≡ header = c.append.ensures ∙ ap (λ b. b ++ c.header_text.result.now) c.new-batch.ensures ∙ c.header_text.ensures.text in
+    let waiting : c.append.new.self ≡ header = rw (c.append.ensures, c.new-batch.ensures) c.header_text.ensures.text in
     record {
       under_way = subst (λ text. IsUnderWay before before runs (replicate 8 0) 0 text) (sym waiting) (IsUnderWay-start before runs (omega (arith, length-map c.args.runs.now view_of, c.requires.few)));
       faults = refl;
