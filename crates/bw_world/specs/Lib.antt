@@ -1,0 +1,3 @@
+pub mod WorldView
+pub mod WorldStep
+pub mod ExactWord
