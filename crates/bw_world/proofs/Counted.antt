@@ -21,6 +21,10 @@ pub found_adds : {X : Type 0} (f : X → ℕ) (p : X → Bool) (xs : List X) (t 
 found_adds f p [] t found = cc
 found_adds f p (x ∷ xs) t found = grind (arith, found_adds f p xs t, sum_by-cons f x xs)
 
+pub found_any : {X : Type 0} (p : X → Bool) (xs : List X) (t : X) → find p xs ≡ Some t → list_any p xs ≡ true
+found_any p [] t found = cc
+found_any p (x ∷ xs) t found = grind (arith, found_any p xs t)
+
 -- what passes nowhere
 pub none_counted : {X : Type 0} (p : X → Bool) (xs : List X) → list_any p xs ≡ false → count_by p xs ≡ 0
 none_counted p [] none = refl

@@ -1,17 +1,21 @@
 -- Every step keeps the law.
-use Rattle.std.proofs.Common.{◌≡◌, ◌≤◌, ◌<◌, ◌+◌, ◌⊎◌, ℕ, Bool, true, false, not, List, [], ◌∷◌, length, set, take, Option, Some, None, refl, sym, ap, ◌∙◌, subst, ⊎_elim, arith, nat_le}
-use Rattle.std.specs.Prelude.{◌==◌, ◌&&◌, position, slice_get, slice_set}
+use Rattle.std.proofs.Common.{◌≡◌, ◌≤◌, ◌<◌, ◌+◌, ◌⊎◌, ℕ, Bool, true, false, not, List, [], ◌∷◌, ◌++◌, length, set, take, Option, Some, None, Result, Ok, Err, map, get_or, refl, sym, ap, ◌∙◌, subst, ⊎_elim, inr, arith, nat_le}
+use Rattle.std.specs.Prelude.{◌==◌, ◌&&◌, position, slice_get, slice_set, OnOk, OnErr, IsSomeAnd}
 use Rattle.std.specs.List.{sum_by, count_by, list_any, All}
 use Rattle.std.proofs.lemmas.Bool.{eqb-true, cases_Bool, or_parts, and_parts, not-true}
-use Rattle.std.proofs.lemmas.List.Elements.{All-set, All-get_or}
+use Rattle.std.proofs.lemmas.List.Elements.{All-set, All-get_or, All-nil, All-cons}
+use Rattle.std.proofs.lemmas.List.{set-get_or, take_more}
+use Rattle.std.proofs.lemmas.List.Folds.{list_any_at}
 use Rattle.std.proofs.lemmas.List.Sums.{sum_by-set, sum_by-cons, get_or-le-sum_by}
-use Rattle.std.proofs.lemmas.Option.{get_or_from_slice_get, slice_get_within}
+use Rattle.std.proofs.lemmas.Option.{slice_get-get_or, get_or_from_slice_get, slice_get_within}
+use Rattle.bw_world.specs.declared.no_memory.NoMemory.{NoMemory}
+use Rattle.bw_world.specs.declared.step.Outcome.{Outcome}
 use Rattle.bw_world.specs.declared.step.Step.{Step}
 use Rattle.bw_world.specs.declared.step.Step.TheVariants.{Load, Take, Regrade, Give, Enter, Release}
 use Rattle.bw_world.specs.declared.ticket.Ticket.{Ticket}
 use Rattle.bw_world.specs.declared.ticket.Task.{Task}
 use Rattle.bw_world.specs.WorldView.{DomainView}
-use Rattle.bw_world.specs.WorldStep.{DomainStep, unit, is_live_in, is_live, loaded, taken, regraded, given, entered, released, misfit, at_found, at_domain, at_place, at_home, stepped, after}
+use Rattle.bw_world.specs.WorldStep.{DomainStep, unit, opened, is_live_in, is_live, loaded, taken, regraded, given, entered, released, misfit, at_found, at_domain, at_place, at_home, stepped, after, outcomes_of, IsGrowing, IsGrowingAt}
 use Rattle.bw_world.specs.ExactWord.{IsExactDomain, IsExact, live_in, live}
 use Rattle.bw_world.proofs.Counted.{one_if, none_counted}
 use Rattle.bw_world.proofs.DomainLaw.{Keeps, KeepsButFor, IsSingle, give_keeps, regrade_keeps, enter_keeps, release_keeps, take_keeps}
@@ -95,3 +99,69 @@ step_exact (Release id) ds exact = home_exact ds id (released id) exact (release
 pub after_exact : (steps : List Step) (ds : List DomainView) → IsExact ds → IsExact (after steps ds)
 after_exact [] ds exact = exact
 after_exact (s ∷ steps) ds exact = after_exact steps (stepped s ds).domains (step_exact s ds exact)
+
+-- a step that was refused for want of memory leaves what was there
+pub exact_either_way : (r : Result Outcome NoMemory) (s : Step) (before now : List DomainView) → IsExact before → OnOk r (now ≡ (stepped s before).domains) → OnErr r (now ≡ before) → IsExact now
+exact_either_way (Ok o) s before now exact done same = subst IsExact (sym done) (step_exact s before exact)
+exact_either_way (Err e) s before now exact done same = subst IsExact (sym same) exact
+
+-- a world before its first step
+live-opened : (id : ℕ) (caps : List ℕ) → live id (map opened caps) ≡ 0
+live-opened id [] = refl
+live-opened id (cap ∷ caps) = omega (arith, sum_by-cons (live_in id) (opened cap) (map opened caps), live-opened id caps)
+
+opened_exact : (cap : ℕ) → IsExactDomain (opened cap)
+opened_exact cap = record { sum = refl; capped = omega arith; book = refl; numbers = λ number. omega arith }
+
+all_opened : (caps : List ℕ) → All IsExactDomain (map opened caps)
+all_opened [] = All-nil IsExactDomain
+all_opened (cap ∷ caps) = All-cons IsExactDomain (opened cap) (map opened caps) (opened_exact cap) (all_opened caps)
+
+pub opened_world_exact : (caps : List ℕ) → IsExact (map opened caps)
+opened_world_exact caps = record { each = all_opened caps; ids = λ id. omega (arith, live-opened id caps) }
+
+-- Load
+set_same : (ds : List DomainView) (k : ℕ) (found : Option DomainView) → slice_get ds k ≡ found → (at_found ds k loaded found).domains ≡ ds
+set_same ds k None is = refl
+set_same ds k (Some d) is = ap (slice_set ds k) (sym (get_or_from_slice_get ds k d d is)) ∙ set-get_or ds k d
+
+pub load_changes_nothing : (ds : List DomainView) (k : ℕ) → (stepped (Load k) ds).domains ≡ ds
+load_changes_nothing ds k = set_same ds k (slice_get ds k) refl
+
+-- a Regrade that lengthens a book
+pub lengthens_at : (ds : List DomainView) (k id : ℕ) (d : DomainView) → k < length ds → d ≡ get_or ds k d → list_any (λ (t : Task). t.ticket == id) d.admitted ≡ true → list_any (λ (e : DomainView). list_any (λ (t : Task). t.ticket == id) e.admitted) ds ≡ true
+lengthens_at ds k id d within is here = list_any_at (λ (e : DomainView). list_any (λ (t : Task). t.ticket == id) e.admitted) ds k d within (ap (λ (e : DomainView). list_any (λ (t : Task). t.ticket == id) e.admitted) (sym is) ∙ here)
+
+-- one step more
+pub after-push : (steps : List Step) (s : Step) (ds : List DomainView) → after (steps ++ s ∷ []) ds ≡ (stepped s (after steps ds)).domains
+after-push [] s ds = refl
+after-push (r ∷ steps) s ds = after-push steps s (stepped r ds).domains
+
+pub outcomes_of-push : (steps : List Step) (s : Step) (ds : List DomainView) → outcomes_of (steps ++ s ∷ []) ds ≡ outcomes_of steps ds ++ (stepped s (after steps ds)).outcome ∷ []
+outcomes_of-push [] s ds = refl
+outcomes_of-push (r ∷ steps) s ds = ap (λ os. (stepped r ds).outcome ∷ os) (outcomes_of-push steps s (stepped r ds).domains)
+
+pub after_more : (steps : List Step) (i : ℕ) (s : Step) (ds : List DomainView) → i < length steps → after (take (i + 1) steps) ds ≡ (stepped (get_or steps i s) (after (take i steps) ds)).domains
+after_more steps i s ds within = ap (λ ss. after ss ds) (take_more steps i s within) ∙ after-push (take i steps) (get_or steps i s) ds
+
+pub outcomes_of_more : (steps : List Step) (i : ℕ) (s : Step) (ds : List DomainView) → i < length steps → outcomes_of (take (i + 1) steps) ds ≡ outcomes_of (take i steps) ds ++ (stepped (get_or steps i s) (after (take i steps) ds)).outcome ∷ []
+outcomes_of_more steps i s ds within = ap (λ ss. outcomes_of ss ds) (take_more steps i s within) ∙ outcomes_of-push (take i steps) (get_or steps i s) ds
+
+-- the next step of a run, from what stands before it
+pub world_next : (steps : List Step) (i : ℕ) (s : Step) (ds before now : List DomainView) → i < length steps → before ≡ after (take i steps) ds → now ≡ (stepped (get_or steps i s) before).domains → now ≡ after (take (i + 1) steps) ds
+world_next steps i s ds before now within is done = done ∙ ap (λ b. (stepped (get_or steps i s) b).domains) is ∙ sym (after_more steps i s ds within)
+
+pub outcomes_next : (steps : List Step) (i : ℕ) (s : Step) (ds before : List DomainView) (so_far now : List Outcome) (o : Outcome) → i < length steps → before ≡ after (take i steps) ds → so_far ≡ outcomes_of (take i steps) ds → o ≡ (stepped (get_or steps i s) before).outcome → now ≡ so_far ++ o ∷ [] → now ≡ outcomes_of (take (i + 1) steps) ds
+outcomes_next steps i s ds before so_far now o within is told gave pushed =
+    pushed ∙ ap (λ os. os ++ o ∷ []) told ∙ ap (λ a. outcomes_of (take i steps) ds ++ a ∷ []) (gave ∙ ap (λ b. (stepped (get_or steps i s) b).outcome) is) ∙ sym (outcomes_of_more steps i s ds within)
+
+-- the next step wants memory
+pub growing_next : (steps : List Step) (i applied : ℕ) (s : Step) (ds before : List DomainView) → i < length steps → applied ≡ i → before ≡ after (take i steps) ds → IsGrowing (get_or steps i s) before → IsGrowingAt steps applied ds
+growing_next steps i applied s ds before within count is growing =
+    let here : IsGrowing (get_or steps i s) (after (take i steps) ds) = subst (IsGrowing (get_or steps i s)) is growing in
+    let there : IsSomeAnd (slice_get steps i) (λ t. IsGrowing t (after (take i steps) ds)) = subst (λ (o : Option Step). IsSomeAnd o (λ t. IsGrowing t (after (take i steps) ds))) (sym (slice_get-get_or steps i s within)) here in
+    subst (λ n. IsGrowingAt steps n ds) (sym count) (inr there)
+
+pub on_err : {T E P : Type 0} (r : Result T E) → P → OnErr r P
+on_err (Ok x) p = tt
+on_err (Err e) p = p

@@ -1,6 +1,6 @@
 -- What one step makes of the domains, and what it answers (own). The word is the "total bandwidth" that sched-deadline.rst
 -- ("Bandwidth management") compares with M * limit when a task is admitted.
-use Rattle.std.specs.Prelude.{ℕ, Bool, true, false, not, ◌&&◌, ◌||◌, ◌==◌, nat_lt, nat_le, if◌then◌else◌, ◌+◌, ◌-◌, List, [], ◌∷◌, ◌++◌, map, filter, find, position, slice_get, slice_set, Option, Some, None}
+use Rattle.std.specs.Prelude.{ℕ, ◌≡◌, ◌⊎◌, IsTrue, IsSomeAnd, take, Bool, true, false, not, ◌&&◌, ◌||◌, ◌==◌, nat_lt, nat_le, if◌then◌else◌, ◌+◌, ◌-◌, List, [], ◌∷◌, ◌++◌, map, filter, find, position, slice_get, slice_set, Option, Some, None}
 use Rattle.std.specs.List.{list_any}
 use Rattle.bw_world.specs.declared.step.Step.{Step}
 use Rattle.bw_world.specs.declared.step.Step.TheVariants.{Load, Take, Regrade, Give, Enter, Release}
@@ -9,7 +9,7 @@ use Rattle.bw_world.specs.declared.step.Outcome.TheVariants.{Saw, Done, Over, Lo
 use Rattle.bw_world.specs.declared.book.Change.TheVariants.{Entered, Regraded, Released}
 use Rattle.bw_world.specs.declared.ticket.Ticket.{Ticket}
 use Rattle.bw_world.specs.declared.ticket.Task.{Task}
-use Rattle.bw_world.specs.WorldView.{DomainView}
+use Rattle.bw_world.specs.WorldView.{DomainView, WorldView}
 
 -- one whole CPU, the most that one ticket is taken for
 abbrev pub unit : ℕ
@@ -18,6 +18,10 @@ unit = 1048576
 -- a domain before its first step
 abbrev pub opened : ℕ → DomainView
 opened cap = record { cap = cap; word = 0; in_hand = []; admitted = []; changes = [] }
+
+-- a world before its first step
+abbrev pub opened_world : List ℕ → WorldView
+opened_world caps = record { domains = map opened caps; applied = 0 }
 
 -- the ticket in hand with this id
 abbrev pub in_hand_of : ℕ → DomainView → Option Ticket
@@ -187,3 +191,21 @@ after (s ∷ steps) domains = after steps (stepped s domains).domains
 abbrev pub outcomes_of : List Step → List DomainView → List Outcome
 outcomes_of [] domains = []
 outcomes_of (s ∷ steps) domains = (stepped s domains).outcome ∷ outcomes_of steps (stepped s domains).domains
+
+-- the steps that lengthen a list where they are done; a Regrade does where the ticket is admitted
+abbrev pub lengthens : Step → List DomainView → Bool
+lengthens (Load k) domains = false
+lengthens (Take id k bw expected) domains = true
+lengthens (Regrade id bw expected) domains = list_any (λ d. list_any (λ t. t.ticket == id) d.admitted) domains
+lengthens (Give id) domains = false
+lengthens (Enter id number) domains = true
+lengthens (Release id) domains = true
+
+-- a step that may want memory: it would be done, and lengthens a list
+pub record IsGrowing (s : Step) (domains : List DomainView) : Type 0 where
+  pub would_do : (stepped s domains).outcome ≡ Done
+  pub longer : IsTrue (lengthens s domains)
+
+-- what may want memory in a run of which so many steps were applied: the list of answers, before any step, or else the next step
+abbrev pub IsGrowingAt : List Step → ℕ → List DomainView → Type 0
+IsGrowingAt steps applied domains = (applied ≡ 0) ⊎ IsSomeAnd (slice_get steps applied) (λ s. IsGrowing s (after (take applied steps) domains))

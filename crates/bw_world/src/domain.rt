@@ -27,7 +27,8 @@ impl Model for Domain {
 }
 
 impl Domain {
-    ghost use Rattle.std.specs.Prelude.{◌≡◌, ◌≤◌, ◌<◌, ◌+◌, ◌-◌, ◌^◌, IfNone, IfOk, OnOk, OnErr};
+    ghost use Rattle.std.specs.Prelude.{◌≡◌, ◌≤◌, ◌<◌, ◌+◌, ◌-◌, ◌^◌, ◌==◌, IsTrue, IfNone, IfOk, OnOk, OnErr};
+    ghost use Rattle.std.specs.List.{list_any};
     ghost use Rattle.bw_world.specs.declared.step.Outcome.TheVariants.{Done};
     ghost use Rattle.bw_world.specs.ExactWord.{IsExactDomain};
     ghost use Rattle.bw_world.specs.WorldStep.{opened, in_hand_of, admitted_of, is_live_in, refusal_of, taken, regraded, regraded_in_hand, regraded_admitted, given, entered, entered_with, released};
@@ -152,12 +153,14 @@ impl Domain {
     }
 
     /// Gives a live ticket another bandwidth.
+    #[tactic(auto, using(crate::proofs::Counted::found_any))]
     pub fn regrade(&mut self, id: u64, bw: u64, expected: u64) -> Result<Outcome, NoMemory>
         requires { IsExactDomain self.old }
         ensures outcome { IfOk result (λ outcome. outcome ≡ (regraded id bw expected self.old).outcome) }
         ensures domain { OnOk result (self.new ≡ (regraded id bw expected self.old).domain) }
         ensures err { OnErr result (self.new ≡ self.old) }
         ensures err_only { OnErr result ((regraded id bw expected self.old).outcome ≡ Done) }
+        ensures err_admitted { OnErr result (IsTrue (list_any (λ t. t.ticket == id) self.old.admitted)) }
     {
         if let Some(ticket) = self.in_hand_of(id) {
             return Ok(self.regrade_in_hand(id, ticket.bw, bw, expected));
