@@ -88,8 +88,8 @@ regraded_admitted_kept id bw d t exact ids is within =
         sum = omega (arith, exact.sum, sum_by-without (λ (x : Task). x.bw) (λ x. x.ticket == id) d.admitted t one is, sum_by-changed (λ (x : Task). x.bw) (λ x. x.ticket == id) (λ x. record x { bw = bw }) d.admitted t one is);
         capped = within;
         book =
-          one_changed (λ (x : Task). x.ticket == id) (λ x. x.number == t.number) (λ x. record x { bw = bw }) d.admitted t one (exact.numbers t.number) is (eq-eqb t.number t.number refl)
-          ∙ ap (map (numbered_with_bw t.number bw)) exact.book ∙ sym (told_more d.changes (Regraded t.number bw));
+            one_changed (λ (x : Task). x.ticket == id) (λ x. x.number == t.number) (λ x. record x { bw = bw }) d.admitted t one (exact.numbers t.number) is (eq-eqb t.number t.number refl)
+            ∙ ap (map (numbered_with_bw t.number bw)) exact.book ∙ sym (told_more d.changes (Regraded t.number bw));
         numbers = λ number. omega (arith, exact.numbers number, count_by-changed (λ (x : Task). x.number == number) (task_with_bw id bw) (λ x. ap (λ n. n == number) (task_with_bw-number id bw x)) d.admitted);
       };
       ids = λ other. omega (arith, count_by-changed (λ (x : Task). x.ticket == other) (task_with_bw id bw) (λ x. ap (λ n. n == other) (task_with_bw-ticket id bw x)) d.admitted);
@@ -113,8 +113,8 @@ new_number : (number other : ℕ) (d : DomainView) → IsExactDomain d → is_ad
 new_number number other d exact absent =
     ⊎_elim
     (λ (yes : (number == other) ≡ true).
-      let none = subst (λ n. count_by (λ (x : Task). x.number == n) d.admitted ≡ 0) (eqb-true number other yes) (none_counted (λ (x : Task). x.number == number) d.admitted absent) in
-      omega (arith, none, ap one_if yes))
+    let none = subst (λ n. count_by (λ (x : Task). x.number == n) d.admitted ≡ 0) (eqb-true number other yes) (none_counted (λ (x : Task). x.number == number) d.admitted absent) in
+    omega (arith, none, ap one_if yes))
     (λ (no : (number == other) ≡ false). omega (arith, exact.numbers other, ap one_if no))
     (cases_Bool (number == other))
 
@@ -160,8 +160,8 @@ released_kept id d (Some t) exact ids is =
         sum = omega (arith, exact.sum, sum_by-without (λ (x : Task). x.bw) (λ x. x.ticket == id) d.admitted t one is, sum_by_push (λ (x : Ticket). x.bw) d.in_hand ticket);
         capped = exact.capped;
         book =
-          one_kept (λ (x : Task). x.ticket == id) (λ x. x.number == t.number) d.admitted t one (exact.numbers t.number) is (eq-eqb t.number t.number refl)
-          ∙ ap (filter (λ (x : Task). not (x.number == t.number))) exact.book ∙ sym (told_more d.changes (Released t.number));
+            one_kept (λ (x : Task). x.ticket == id) (λ x. x.number == t.number) d.admitted t one (exact.numbers t.number) is (eq-eqb t.number t.number refl)
+            ∙ ap (filter (λ (x : Task). not (x.number == t.number))) exact.book ∙ sym (told_more d.changes (Released t.number));
         numbers = λ other. omega (arith, exact.numbers other, sum_by-without (λ (x : Task). one_if (x.number == other)) (λ x. x.ticket == id) d.admitted t one is);
       };
       ids = λ other. omega (arith, sum_by-without (λ (x : Task). one_if (x.ticket == other)) (λ x. x.ticket == id) d.admitted t one is, count_push (λ (x : Ticket). x.id == other) d.in_hand ticket, ap (λ n. one_if (n == other)) same);

@@ -64,8 +64,8 @@ taken_once : (id other : ℕ) (ds : List DomainView) → IsExact ds → is_live 
 taken_once id other ds exact fresh =
     ⊎_elim
     (λ (yes : (id == other) ≡ true).
-      let none = subst (λ n. live n ds ≡ 0) (eqb-true id other yes) (not_live id ds fresh) in
-      omega (arith, none, ap one_if yes))
+    let none = subst (λ n. live n ds ≡ 0) (eqb-true id other yes) (not_live id ds fresh) in
+    omega (arith, none, ap one_if yes))
     (λ (no : (id == other) ≡ false). omega (arith, exact.ids other, ap one_if no))
     (cases_Bool (id == other))
 

@@ -1,3 +1,4 @@
 pub mod WorldView
 pub mod WorldStep
 pub mod ExactWord
+pub mod Examples

@@ -1,6 +1,6 @@
 -- What one step makes of the domains, and what it answers (own). The word is the "total bandwidth" that sched-deadline.rst
 -- ("Bandwidth management") compares with M * limit when a task is admitted.
-use Rattle.std.specs.Prelude.{ℕ, ◌≡◌, ◌⊎◌, IsTrue, IsSomeAnd, take, Bool, true, false, not, ◌&&◌, ◌||◌, ◌==◌, nat_lt, nat_le, if◌then◌else◌, ◌+◌, ◌-◌, List, [], ◌∷◌, ◌++◌, map, filter, find, position, slice_get, slice_set, Option, Some, None}
+use Rattle.std.specs.Prelude.{ℕ, ◌≡◌, ◌<◌, ◌⊎◌, length, IsTrue, IsSomeAnd, take, Bool, true, false, not, ◌&&◌, ◌||◌, ◌==◌, nat_lt, nat_le, if◌then◌else◌, ◌+◌, ◌-◌, List, [], ◌∷◌, ◌++◌, map, filter, find, position, slice_get, slice_set, Option, Some, None}
 use Rattle.std.specs.List.{list_any}
 use Rattle.bw_world.specs.declared.step.Step.{Step}
 use Rattle.bw_world.specs.declared.step.Step.TheVariants.{Load, Take, Regrade, Give, Enter, Release}
@@ -206,6 +206,6 @@ pub record IsGrowing (s : Step) (domains : List DomainView) : Type 0 where
   pub would_do : (stepped s domains).outcome ≡ Done
   pub longer : IsTrue (lengthens s domains)
 
--- what may want memory in a run of which so many steps were applied: the list of answers, before any step, or else the next step
+-- what may want memory in a run of which so many steps were applied: the list of answers, before the first step, or else the next step
 abbrev pub IsGrowingAt : List Step → ℕ → List DomainView → Type 0
-IsGrowingAt steps applied domains = (applied ≡ 0) ⊎ IsSomeAnd (slice_get steps applied) (λ s. IsGrowing s (after (take applied steps) domains))
+IsGrowingAt steps applied domains = ((0 < length steps) × (applied ≡ 0)) ⊎ IsSomeAnd (slice_get steps applied) (λ s. IsGrowing s (after (take applied steps) domains))

@@ -130,7 +130,13 @@ impl Domain {
     }
 
     // Gives an admitted ticket another bandwidth in the place of `task.bw`.
-    fn regrade_admitted(&mut self, id: u64, task: Task, bw: u64, expected: u64) -> Result<Outcome, NoMemory>
+    fn regrade_admitted(
+        &mut self,
+        id: u64,
+        task: Task,
+        bw: u64,
+        expected: u64,
+    ) -> Result<Outcome, NoMemory>
         requires held { task.bw ≤ self.old.word }
         requires capped { self.old.word ≤ self.old.cap }
         ensures outcome { IfOk result (λ outcome. outcome ≡ (regraded_admitted id task bw expected self.old).outcome) }

@@ -8,6 +8,7 @@
 
 mod book;
 mod domain;
+mod domains;
 mod no_memory;
 mod step;
 mod ticket;

@@ -6,7 +6,9 @@ pub const UNIT: u64 = 1048576;
 #[derive(Clone, Copy, Debug, PartialEq, Eq)]
 pub enum Step {
     /// Reads a domain's word. It fits where the domain exists.
-    Load { domain: usize },
+    Load {
+        domain: usize,
+    },
     /// Takes a new ticket, if the word is the expected one and has room for it. It fits where no live ticket has the id,
     /// the domain exists and `bw` is at most [`UNIT`].
     Take {
@@ -17,15 +19,26 @@ pub enum Step {
     },
     /// Gives a ticket another bandwidth, if the word is the expected one and has room for it. It fits a live ticket, in
     /// hand or in an admitted task; then it is a change of the book too.
-    Regrade { ticket: u64, bw: u64, expected: u64 },
+    Regrade {
+        ticket: u64,
+        bw: u64,
+        expected: u64,
+    },
     /// Gives a ticket's bandwidth back; the ticket is gone. It fits a ticket in hand.
-    Give { ticket: u64 },
+    Give {
+        ticket: u64,
+    },
     /// Puts a ticket into a task, which is admitted so. It fits a ticket in hand whose domain has no admitted task of the
     /// number. The word stays.
-    Enter { ticket: u64, number: u32 },
+    Enter {
+        ticket: u64,
+        number: u32,
+    },
     /// Takes a ticket out of its task, which is admitted no more; the ticket is in hand again. It fits an admitted
     /// ticket. The word stays.
-    Release { ticket: u64 },
+    Release {
+        ticket: u64,
+    },
 }
 
 /// What a world answers to a step.

@@ -1,7 +1,7 @@
 use Rattle.std.proofs.Common.{rules}
 use Rattle.std.proofs.lemmas.Result.{on_err_weaker}
 use Rattle.bw_world.proofs.WorldLaw.{lengthens_at}
-use Rattle.bw_world.proofs.world.regrade.Goals as goal
+use Rattle.bw_world.proofs.domains.regrade.Goals as goal
 
 pub returns-clause-err_longer : goal.returns-clause-err_longer
 returns-clause-err_longer c =
