@@ -149,10 +149,11 @@ impl Domain {
             return Ok(refusal);
         }
         self.changes.try_reserve(1)?;
-        self.changes.push_reserved(Change::Regraded {
+        let regraded = Change::Regraded {
             number: task.number,
             bw,
-        });
+        };
+        self.changes.push_reserved(regraded);
         set_task_bw(&mut self.admitted, id, bw);
         self.word = rest + bw;
         Ok(Outcome::Done)
