@@ -11,7 +11,7 @@ use Rattle.bw_world.specs.declared.step.Outcome.{Outcome}
 use Rattle.bw_world.specs.declared.ticket.Ticket.{Ticket}
 use Rattle.bw_world.specs.declared.ticket.Task.{Task}
 use Rattle.bw_world.specs.WorldView.{DomainView}
-use Rattle.bw_world.specs.WorldStep.{in_hand_of, admitted_of, is_admitted, refusal_of, unless_refused, with_bw, task_with_bw, without, without_task, taken, regraded, regraded_found, regraded_in_hand, regraded_admitted, given, given_found, entered, entered_with, entered_found, released, released_found}
+use Rattle.bw_world.specs.DomainStep.{in_hand_of, admitted_of, is_admitted, refusal_of, unless_refused, with_bw, task_with_bw, without, without_task, taken, regraded, regraded_found, regraded_in_hand, regraded_admitted, given, given_found, entered, entered_with, entered_found, released, released_found}
 use Rattle.bw_world.specs.ExactWord.{IsExactDomain, told, after_change, numbered_with_bw, live_in, sum_in_hand, sum_admitted}
 use Rattle.bw_world.proofs.Counted.{one_if, none_counted, sum_by-without, sum_by-changed, count_by-changed, one_kept, one_changed, found_passes}
 

@@ -3,7 +3,7 @@ use Rattle.std.proofs.Common.{◌≡◌, ◌≤◌, ℕ, Some, arith}
 use Rattle.bw_world.specs.declared.ticket.Ticket.{Ticket}
 use Rattle.bw_world.specs.declared.ticket.Task.{Task}
 use Rattle.bw_world.specs.WorldView.{DomainView}
-use Rattle.bw_world.specs.WorldStep.{in_hand_of, admitted_of}
+use Rattle.bw_world.specs.DomainStep.{in_hand_of, admitted_of}
 use Rattle.bw_world.specs.ExactWord.{IsExactDomain, sum_in_hand, sum_admitted}
 use Rattle.bw_world.proofs.Counted.{found_adds}
 

@@ -15,7 +15,9 @@ use Rattle.bw_world.specs.declared.step.Step.TheVariants.{Load, Take, Regrade, G
 use Rattle.bw_world.specs.declared.ticket.Ticket.{Ticket}
 use Rattle.bw_world.specs.declared.ticket.Task.{Task}
 use Rattle.bw_world.specs.WorldView.{DomainView}
-use Rattle.bw_world.specs.WorldStep.{DomainStep, unit, opened, is_live_in, is_live, loaded, taken, regraded, given, entered, released, misfit, at_found, at_domain, at_place, at_home, stepped, after, outcomes_of, IsGrowing, IsGrowingAt}
+use Rattle.bw_world.specs.DomainStep.{DomainStep, opened, is_live_in, loaded, taken, regraded, given, entered, released}
+use Rattle.bw_world.specs.WorldStep.{unit, may_take, is_live, misfit, at_found, at_domain, at_place, at_home, stepped, after, outcomes_of}
+use Rattle.bw_world.specs.Growing.{IsGrowing, IsGrowingAt}
 use Rattle.bw_world.specs.ExactWord.{IsExactDomain, IsExact, live_in, live}
 use Rattle.bw_world.proofs.Counted.{one_if, none_counted}
 use Rattle.bw_world.proofs.DomainLaw.{Keeps, KeepsButFor, IsSingle, give_keeps, regrade_keeps, enter_keeps, release_keeps, take_keeps}
@@ -80,7 +82,7 @@ taken_exact ds k id bw expected (Some d) is exact fresh =
 
 take_exact : (ds : List DomainView) (k id bw expected : ℕ) → IsExact ds → IsExact (stepped (Take id k bw expected) ds).domains
 take_exact ds k id bw expected exact =
-    let test : Bool = nat_le bw unit && not (is_live id ds) in
+    let test : Bool = may_take id bw ds in
     ⊎_elim
     (λ (yes : test ≡ true). rw yes (taken_exact ds k id bw expected (slice_get ds k) refl exact (not-true (is_live id ds) (and_parts (nat_le bw unit) (not (is_live id ds)) yes).1)))
     (λ (no : test ≡ false). rw no exact)

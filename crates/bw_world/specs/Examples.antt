@@ -5,7 +5,8 @@ use Rattle.bw_world.specs.declared.step.Outcome.TheVariants.{Saw, Done, Over, Lo
 use Rattle.bw_world.specs.declared.step.Step.{Step}
 use Rattle.bw_world.specs.declared.step.Step.TheVariants.{Load, Take, Regrade, Give, Enter, Release}
 use Rattle.bw_world.specs.WorldView.{DomainView}
-use Rattle.bw_world.specs.WorldStep.{opened, after, outcomes_of}
+use Rattle.bw_world.specs.DomainStep.{opened}
+use Rattle.bw_world.specs.WorldStep.{after, outcomes_of}
 use Rattle.bw_world.specs.ExactWord.{told}
 
 -- the words after each of the first steps

@@ -1,10 +1,25 @@
-/// One change of a domain's book, which lists the admitted tasks. Bandwidths are in 1/2^20 of a CPU.
+/// One change of a domain's book, which tells the admitted tasks. Bandwidths are in 1/2^20 of a CPU.
 #[derive(Clone, Copy, Debug, PartialEq, Eq)]
 pub enum Change {
-    /// A task of this number is admitted, with this ticket and its bandwidth.
-    Entered { number: u32, ticket: u64, bw: u64 },
-    /// The admitted task of this number has another bandwidth.
-    Regraded { number: u32, bw: u64 },
-    /// The task of this number is admitted no more.
-    Released { number: u32 },
+    /// A task is admitted.
+    Entered {
+        /// Number of the task.
+        number: u32,
+        /// Id of its ticket.
+        ticket: u64,
+        /// Bandwidth of its ticket.
+        bw: u64,
+    },
+    /// An admitted task has another bandwidth.
+    Regraded {
+        /// Number of the task.
+        number: u32,
+        /// Its new bandwidth.
+        bw: u64,
+    },
+    /// A task is admitted no more.
+    Released {
+        /// Number of the task.
+        number: u32,
+    },
 }

@@ -2,7 +2,9 @@ ghost use Rattle.std.specs.Prelude.{◌≡◌, ◌<◌, length, position, IsTrue
 ghost use Rattle.bw_world.specs.declared.step.Outcome.TheVariants.{Done};
 ghost use Rattle.bw_world.specs.declared.step.Step.TheVariants.{Load, Take, Regrade, Give, Enter, Release};
 ghost use Rattle.bw_world.specs.ExactWord.{IsExact};
-ghost use Rattle.bw_world.specs.WorldStep.{is_live_in, is_live, stepped, lengthens, IsGrowing};
+ghost use Rattle.bw_world.specs.DomainStep.{is_live_in};
+ghost use Rattle.bw_world.specs.WorldStep.{is_live, stepped};
+ghost use Rattle.bw_world.specs.Growing.{lengthens, IsGrowing};
 
 use crate::domain::Domain;
 use crate::no_memory::NoMemory;
@@ -42,8 +44,10 @@ fn take(
     expected: u64,
 ) -> Result<Outcome, NoMemory>
     requires { IsExact domains.old.items }
-    ensures outcome { IfOk result (λ outcome. outcome ≡ (stepped (Take ticket domain bw expected) domains.old.items).outcome) }
-    ensures domains { OnOk result (domains.new.items ≡ (stepped (Take ticket domain bw expected) domains.old.items).domains) }
+    ensures outcome { IfOk result (λ outcome.
+        outcome ≡ (stepped (Take ticket domain bw expected) domains.old.items).outcome) }
+    ensures domains { OnOk result (
+        domains.new.items ≡ (stepped (Take ticket domain bw expected) domains.old.items).domains) }
     ensures err { OnErr result (domains.new.items ≡ domains.old.items) }
     ensures err_only { OnErr result (IsGrowing (Take ticket domain bw expected) domains.old.items) }
 {
@@ -61,8 +65,10 @@ fn regrade(
     expected: u64,
 ) -> Result<Outcome, NoMemory>
     requires { IsExact domains.old.items }
-    ensures outcome { IfOk result (λ outcome. outcome ≡ (stepped (Regrade ticket bw expected) domains.old.items).outcome) }
-    ensures domains { OnOk result (domains.new.items ≡ (stepped (Regrade ticket bw expected) domains.old.items).domains) }
+    ensures outcome { IfOk result (λ outcome.
+        outcome ≡ (stepped (Regrade ticket bw expected) domains.old.items).outcome) }
+    ensures domains { OnOk result (
+        domains.new.items ≡ (stepped (Regrade ticket bw expected) domains.old.items).domains) }
     ensures err { OnErr result (domains.new.items ≡ domains.old.items) }
     ensures err_done { OnErr result ((stepped (Regrade ticket bw expected) domains.old.items).outcome ≡ Done) }
     ensures err_longer { OnErr result (IsTrue (lengthens (Regrade ticket bw expected) domains.old.items)) }
@@ -87,8 +93,10 @@ fn give(domains: &mut Vec<Domain>, ticket: u64) -> Outcome
 }
 
 fn enter(domains: &mut Vec<Domain>, ticket: u64, number: u32) -> Result<Outcome, NoMemory>
-    ensures outcome { IfOk result (λ outcome. outcome ≡ (stepped (Enter ticket number) domains.old.items).outcome) }
-    ensures domains { OnOk result (domains.new.items ≡ (stepped (Enter ticket number) domains.old.items).domains) }
+    ensures outcome { IfOk result (λ outcome.
+        outcome ≡ (stepped (Enter ticket number) domains.old.items).outcome) }
+    ensures domains { OnOk result (
+        domains.new.items ≡ (stepped (Enter ticket number) domains.old.items).domains) }
     ensures err { OnErr result (domains.new.items ≡ domains.old.items) }
     ensures err_only { OnErr result (IsGrowing (Enter ticket number) domains.old.items) }
 {
@@ -100,8 +108,10 @@ fn enter(domains: &mut Vec<Domain>, ticket: u64, number: u32) -> Result<Outcome,
 }
 
 fn release(domains: &mut Vec<Domain>, ticket: u64) -> Result<Outcome, NoMemory>
-    ensures outcome { IfOk result (λ outcome. outcome ≡ (stepped (Release ticket) domains.old.items).outcome) }
-    ensures domains { OnOk result (domains.new.items ≡ (stepped (Release ticket) domains.old.items).domains) }
+    ensures outcome { IfOk result (λ outcome.
+        outcome ≡ (stepped (Release ticket) domains.old.items).outcome) }
+    ensures domains { OnOk result (
+        domains.new.items ≡ (stepped (Release ticket) domains.old.items).domains) }
     ensures err { OnErr result (domains.new.items ≡ domains.old.items) }
     ensures err_only { OnErr result (IsGrowing (Release ticket) domains.old.items) }
 {

@@ -1,6 +1,6 @@
 ghost use Rattle.std.specs.Prelude.{◌≡◌, ◌==◌, not, find, map, filter};
 ghost use Rattle.std.specs.List.{list_any};
-ghost use Rattle.bw_world.specs.WorldStep.{with_bw, task_with_bw, without, without_task};
+ghost use Rattle.bw_world.specs.DomainStep.{with_bw, task_with_bw, without, without_task};
 
 /// A ticket in hand, with the bandwidth that it holds.
 #[derive(Clone, Copy, Debug, PartialEq, Eq)]

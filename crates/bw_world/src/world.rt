@@ -27,7 +27,8 @@ impl Model for World {
 
 impl World {
     ghost use Rattle.std.specs.Prelude.{◌≡◌, ◌<◌, ◌≤◌, ◌^◌, ℕ, length, slice_get, take, All, MatchOption, IsSomeAnd, IfOk, OnOk, OnErr};
-    ghost use Rattle.bw_world.specs.WorldStep.{opened_world, stepped, after, outcomes_of, IsGrowing, IsGrowingAt};
+    ghost use Rattle.bw_world.specs.WorldStep.{opened_world, stepped, after, outcomes_of};
+    ghost use Rattle.bw_world.specs.Growing.{IsGrowing, IsGrowingAt};
     ghost use Rattle.bw_world.specs.ExactWord.{IsExact};
 
     /// A world of one to eight domains, by their caps in 1/2^20 of a CPU, with no ticket, no task and words of 0.

@@ -147,6 +147,60 @@ fn refused_growth_by_run_all(rt: HostRuntime) -> Result<(), Fail> {
     Ok(())
 }
 
+// Does a step, at the second try where the first lacked memory.
+fn assert_done(rt: &impl Abort, world: &mut World, step: Step) {
+    let outcome = match world.apply(step) {
+        Ok(outcome) => Ok(outcome),
+        Err(NoMemory) => world.apply(step),
+    };
+    assert_eq!(rt; outcome, Ok(Outcome::Done), "{step:?}");
+}
+
+// Run with each allocation refused in turn: lists that outgrow their first room, by each step that lengthens one.
+#[test]
+fn refused_growth_of_full_lists(rt: HostRuntime) -> Result<(), Fail> {
+    let mut world = opened_at_last(rt.alloc())?;
+    for ticket in 1..5u64 {
+        assert_done(&rt, &mut world, take(ticket, 1, ticket - 1));
+    }
+    assert_done(
+        &rt,
+        &mut world,
+        Step::Enter {
+            ticket: 1,
+            number: 1,
+        },
+    );
+    assert_done(&rt, &mut world, take(5, 1, 4));
+    assert_done(&rt, &mut world, Step::Release { ticket: 1 });
+    for number in 1..6u32 {
+        let ticket = u64::from(number);
+        assert_done(&rt, &mut world, Step::Enter { ticket, number });
+    }
+    for expected in 5..15u64 {
+        let bw = expected - 3;
+        assert_done(
+            &rt,
+            &mut world,
+            Step::Regrade {
+                ticket: 1,
+                bw,
+                expected,
+            },
+        );
+    }
+    assert_word(&rt, &mut world, 15, 24);
+    assert_eq!(rt; world.changes(0).map(|changes| changes.len()), Some(17));
+    Ok(())
+}
+
+#[test]
+fn no_memory_prints(rt: HostRuntime) -> Result<(), Fail> {
+    let text = format!(in rt.alloc(); "{}", NoMemory)?;
+    assert_eq!(rt; text.as_str(), "out of memory");
+    Ok(())
+}
+
 // One domain's tickets are live in every other one, and the words are apart.
 #[test]
 fn two_domains(rt: HostRuntime) -> Result<(), Fail> {

@@ -1,4 +1,4 @@
-use Rattle.bw_world.specs.WorldStep.{task_with_bw}
+use Rattle.bw_world.specs.DomainStep.{task_with_bw}
 use Rattle.bw_world.proofs.Mapped.{map_written}
 use Rattle.bw_world.proofs.ticket.set_task_bw.Goals as goal
 

@@ -1,5 +1,5 @@
 use Rattle.std.proofs.Common.{◌≡◌, map, ◌++◌, take, drop}
-use Rattle.bw_world.specs.WorldStep.{task_with_bw}
+use Rattle.bw_world.specs.DomainStep.{task_with_bw}
 use Rattle.bw_world.proofs.ticket.set_task_bw.Given as goal
 
 -- the tasks before the index are changed, the others are as they were

@@ -1,4 +1,4 @@
-use Rattle.bw_world.specs.WorldStep.{with_bw}
+use Rattle.bw_world.specs.DomainStep.{with_bw}
 use Rattle.bw_world.proofs.Mapped.{map_written}
 use Rattle.bw_world.proofs.ticket.set_ticket_bw.Goals as goal
 

@@ -1,5 +1,5 @@
 use Rattle.std.proofs.Common.{◌≡◌, map, ◌++◌, take, drop}
-use Rattle.bw_world.specs.WorldStep.{with_bw}
+use Rattle.bw_world.specs.DomainStep.{with_bw}
 use Rattle.bw_world.proofs.ticket.set_ticket_bw.Given as goal
 
 -- the tickets before the index are changed, the others are as they were

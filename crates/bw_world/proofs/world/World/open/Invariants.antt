@@ -1,6 +1,6 @@
 use Rattle.std.proofs.Common.{◌≡◌, length, map, take, vec_len}
 use Rattle.std.specs.Prelude.{vec_capacity}
-use Rattle.bw_world.specs.WorldStep.{opened}
+use Rattle.bw_world.specs.DomainStep.{opened}
 use Rattle.bw_world.proofs.world.World.open.Given as goal
 
 -- a domain for each cap so far, and room for all
