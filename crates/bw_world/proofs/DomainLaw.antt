@@ -1,7 +1,7 @@
 -- What a step within a domain does to the law.
-use Rattle.std.proofs.Common.{◌≡◌, ◌≤◌, ◌+◌, ◌-◌, ◌⊎◌, ℕ, Bool, true, false, cond, not, List, [], ◌∷◌, ◌++◌, map, Option, Some, None, refl, sym, ap, ◌∙◌, subst, ⊎_elim, arith, eqb, eq-eqb}
-use Rattle.std.specs.Prelude.{◌==◌, nat_lt, fold}
-use Rattle.std.specs.List.{sum_by, count_by, filter, find, list_any}
+use Rattle.std.proofs.Common.{◌≡◌, ◌≤◌, ◌+◌, ◌-◌, ℕ, Bool, true, false, not, List, [], ◌∷◌, ◌++◌, map, Option, Some, None, refl, sym, ap, ◌∙◌, subst, ⊎_elim, arith, eq-eqb}
+use Rattle.std.specs.Prelude.{◌==◌}
+use Rattle.std.specs.List.{count_by, filter}
 use Rattle.std.proofs.lemmas.Bool.{eqb-true, cases_Bool}
 use Rattle.std.proofs.lemmas.Bool.Decides.{nat_tests}
 use Rattle.std.proofs.lemmas.List.Sums.{sum_by_push, fold_push}
@@ -11,8 +11,8 @@ use Rattle.bw_world.specs.declared.step.Outcome.{Outcome}
 use Rattle.bw_world.specs.declared.ticket.Ticket.{Ticket}
 use Rattle.bw_world.specs.declared.ticket.Task.{Task}
 use Rattle.bw_world.specs.WorldView.{DomainView}
-use Rattle.bw_world.specs.DomainStep.{in_hand_of, admitted_of, is_admitted, refusal_of, unless_refused, with_bw, task_with_bw, without, without_task, taken, regraded, regraded_found, regraded_in_hand, regraded_admitted, given, given_found, entered, entered_with, entered_found, released, released_found}
-use Rattle.bw_world.specs.ExactWord.{IsExactDomain, told, after_change, numbered_with_bw, live_in, sum_in_hand, sum_admitted}
+use Rattle.bw_world.specs.DomainStep.{in_hand_of, admitted_of, is_admitted, refusal_of, unless_refused, with_bw, task_with_bw, without, taken, regraded, regraded_found, given, given_found, entered, entered_with, entered_found, released, released_found}
+use Rattle.bw_world.specs.ExactWord.{IsExactDomain, told, after_change, numbered_with_bw, live_in}
 use Rattle.bw_world.proofs.Counted.{one_if, none_counted, sum_by-without, sum_by-changed, count_by-changed, one_kept, one_changed, found_passes}
 
 -- the domain is exact, and no id is live more often than before
@@ -135,7 +135,6 @@ entered_kept_fresh id number d t exact ids is absent =
 
 entered_with_kept : (id number : ℕ) (d : DomainView) (t : Ticket) → IsExactDomain d → IsSingle d → in_hand_of id d ≡ Some t → Keeps d (entered_with id number t.bw d).domain
 entered_with_kept id number d t exact ids is =
-    let D = (entered_with id number t.bw d).domain in
     ⊎_elim
     (λ (yes : is_admitted number d ≡ true). rw yes (stays_kept d exact))
     (λ (no : is_admitted number d ≡ false). rw no (entered_kept_fresh id number d t exact ids is no))

@@ -4,7 +4,7 @@ use Rattle.bw_world.specs.declared.ticket.Ticket.{Ticket}
 use Rattle.bw_world.specs.declared.ticket.Task.{Task}
 use Rattle.bw_world.specs.WorldView.{DomainView}
 use Rattle.bw_world.specs.DomainStep.{in_hand_of, admitted_of}
-use Rattle.bw_world.specs.ExactWord.{IsExactDomain, sum_in_hand, sum_admitted}
+use Rattle.bw_world.specs.ExactWord.{IsExactDomain}
 use Rattle.bw_world.proofs.Counted.{found_adds}
 
 pub in_hand_within : (d : DomainView) (id : ℕ) (t : Ticket) → IsExactDomain d → in_hand_of id d ≡ Some t → t.bw ≤ d.word

@@ -1,7 +1,7 @@
 -- Every step keeps the law.
-use Rattle.std.proofs.Common.{◌≡◌, ◌≤◌, ◌<◌, ◌+◌, ◌⊎◌, ℕ, Bool, true, false, not, List, [], ◌∷◌, ◌++◌, length, set, take, Option, Some, None, Result, Ok, Err, map, get_or, refl, sym, ap, ◌∙◌, subst, ⊎_elim, inr, arith, nat_le}
-use Rattle.std.specs.Prelude.{◌==◌, ◌&&◌, position, slice_get, slice_set, OnOk, OnErr, IsSomeAnd}
-use Rattle.std.specs.List.{sum_by, count_by, list_any, All}
+use Rattle.std.proofs.Common.{◌≡◌, ◌≤◌, ◌<◌, ◌+◌, ℕ, Bool, true, false, not, List, [], ◌∷◌, ◌++◌, length, take, Option, Some, None, Result, Ok, Err, map, get_or, refl, sym, ap, ◌∙◌, subst, ⊎_elim, inr, arith, nat_le}
+use Rattle.std.specs.Prelude.{◌==◌, position, slice_get, slice_set, OnOk, OnErr, IsSomeAnd}
+use Rattle.std.specs.List.{list_any, All}
 use Rattle.std.proofs.lemmas.Bool.{eqb-true, cases_Bool, or_parts, and_parts, not-true}
 use Rattle.std.proofs.lemmas.List.Elements.{All-set, All-get_or, All-nil, All-cons}
 use Rattle.std.proofs.lemmas.List.{set-get_or, take_more}
@@ -16,11 +16,11 @@ use Rattle.bw_world.specs.declared.ticket.Ticket.{Ticket}
 use Rattle.bw_world.specs.declared.ticket.Task.{Task}
 use Rattle.bw_world.specs.WorldView.{DomainView}
 use Rattle.bw_world.specs.DomainStep.{DomainStep, opened, is_live_in, loaded, taken, regraded, given, entered, released}
-use Rattle.bw_world.specs.WorldStep.{unit, may_take, is_live, misfit, at_found, at_domain, at_place, at_home, stepped, after, outcomes_of}
+use Rattle.bw_world.specs.WorldStep.{unit, may_take, is_live, at_found, at_place, at_home, stepped, after, outcomes_of}
 use Rattle.bw_world.specs.Growing.{IsGrowing, IsGrowingAt}
 use Rattle.bw_world.specs.ExactWord.{IsExactDomain, IsExact, live_in, live}
 use Rattle.bw_world.proofs.Counted.{one_if, none_counted}
-use Rattle.bw_world.proofs.DomainLaw.{Keeps, KeepsButFor, IsSingle, give_keeps, regrade_keeps, enter_keeps, release_keeps, take_keeps}
+use Rattle.bw_world.proofs.DomainLaw.{Keeps, IsSingle, give_keeps, regrade_keeps, enter_keeps, release_keeps, take_keeps}
 
 -- an id that is not live
 pub not_live : (id : ℕ) (ds : List DomainView) → is_live id ds ≡ false → live id ds ≡ 0

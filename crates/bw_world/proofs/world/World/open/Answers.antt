@@ -1,6 +1,4 @@
-use Rattle.std.proofs.Common.{◌≡◌, ap, sym, ◌∙◌, subst, arith, map}
-use Rattle.std.proofs.lemmas.List.{take_all}
-use Rattle.bw_world.specs.DomainStep.{opened}
+use Rattle.std.proofs.Common.{sym, subst}
 use Rattle.bw_world.specs.ExactWord.{IsExact}
 use Rattle.bw_world.proofs.WorldLaw.{opened_world_exact}
 use Rattle.bw_world.proofs.world.World.open.Goals as goal

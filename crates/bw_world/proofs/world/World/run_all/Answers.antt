@@ -1,7 +1,6 @@
-use Rattle.std.proofs.Common.{◌≡◌, take, ap, ◌∙◌, subst, arith}
+use Rattle.std.proofs.Common.{take, ap, ◌∙◌, subst, arith}
 use Rattle.bw_world.specs.declared.step.Step.TheVariants.{Load}
 use Rattle.bw_world.specs.WorldView.{WorldView}
-use Rattle.bw_world.specs.WorldStep.{stepped}
 use Rattle.bw_world.specs.ExactWord.{IsExact}
 use Rattle.bw_world.proofs.WorldLaw.{after_exact, world_next, outcomes_next, growing_next, on_err}
 use Rattle.bw_world.proofs.world.World.run_all.Goals as goal
