@@ -25,6 +25,7 @@ fn home_of(domains: &[Domain], id: u64) -> Option<usize>
     domains.iter().position(|d| d.is_live(id))
 }
 
+// Load, which changes nothing.
 #[tactic(auto, using(crate::proofs::WorldLaw::load_changes_nothing))]
 fn load(domains: &[Domain], domain: usize) -> Outcome
     ensures outcome { result ≡ (stepped (Load domain) domains.now).outcome }
@@ -36,6 +37,7 @@ fn load(domains: &[Domain], domain: usize) -> Outcome
     }
 }
 
+// Take. The domain takes the ticket, where it may be taken at all.
 fn take(
     domains: &mut Vec<Domain>,
     ticket: u64,
@@ -58,6 +60,7 @@ fn take(
     d.take(ticket, bw, expected)
 }
 
+// Regrade, in the domain in which the ticket is live.
 fn regrade(
     domains: &mut Vec<Domain>,
     ticket: u64,
@@ -70,8 +73,10 @@ fn regrade(
     ensures domains { OnOk result (
         domains.new.items ≡ (stepped (Regrade ticket bw expected) domains.old.items).domains) }
     ensures err { OnErr result (domains.new.items ≡ domains.old.items) }
-    ensures err_done { OnErr result ((stepped (Regrade ticket bw expected) domains.old.items).outcome ≡ Done) }
-    ensures err_longer { OnErr result (IsTrue (lengthens (Regrade ticket bw expected) domains.old.items)) }
+    ensures err_done { OnErr result (
+        (stepped (Regrade ticket bw expected) domains.old.items).outcome ≡ Done) }
+    ensures err_longer { OnErr result (
+        IsTrue (lengthens (Regrade ticket bw expected) domains.old.items)) }
 {
     let Some(k) = home_of(domains.as_slice(), ticket) else {
         return Ok(Outcome::Not);
@@ -80,6 +85,7 @@ fn regrade(
     d.regrade(ticket, bw, expected)
 }
 
+// Give, in the domain in which the ticket is live.
 fn give(domains: &mut Vec<Domain>, ticket: u64) -> Outcome
     requires { IsExact domains.old.items }
     ensures outcome { result ≡ (stepped (Give ticket) domains.old.items).outcome }
@@ -92,6 +98,7 @@ fn give(domains: &mut Vec<Domain>, ticket: u64) -> Outcome
     d.give(ticket)
 }
 
+// Enter, in the domain in which the ticket is live.
 fn enter(domains: &mut Vec<Domain>, ticket: u64, number: u32) -> Result<Outcome, NoMemory>
     ensures outcome { IfOk result (λ outcome.
         outcome ≡ (stepped (Enter ticket number) domains.old.items).outcome) }
@@ -107,6 +114,7 @@ fn enter(domains: &mut Vec<Domain>, ticket: u64, number: u32) -> Result<Outcome,
     d.enter(ticket, number)
 }
 
+// Release, in the domain in which the ticket is live.
 fn release(domains: &mut Vec<Domain>, ticket: u64) -> Result<Outcome, NoMemory>
     ensures outcome { IfOk result (λ outcome.
         outcome ≡ (stepped (Release ticket) domains.old.items).outcome) }
