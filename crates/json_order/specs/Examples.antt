@@ -1,0 +1,2 @@
+-- Worked rows.
+use Rattle.std.specs.Prelude.{ℕ}

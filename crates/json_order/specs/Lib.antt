@@ -1,0 +1,6 @@
+pub mod Json
+pub mod Seen
+pub mod Grammar
+pub mod Fault
+pub mod Machine
+pub mod Examples
