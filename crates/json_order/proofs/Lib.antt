@@ -3,3 +3,7 @@ pub mod Spaces
 pub mod Numbers
 pub mod Strings
 pub mod Values
+pub mod Steps
+pub mod Facts
+pub mod Alive
+pub mod Runs

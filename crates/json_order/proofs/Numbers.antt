@@ -349,14 +349,3 @@ part_goes Mark c =
     (λ n. split (λ b. Goes c (if b then Some Sign else None)) (is_sign c) (λ h. inside_sign c h) (λ m. tt))
 part_goes Sign c = split (λ b. Goes c (if b then Some Exponent else None)) (is_ascii_digit c) (λ h. inside_digit c h) (λ m. tt)
 part_goes Exponent c = split (λ b. Goes c (if b then Some Exponent else None)) (is_ascii_digit c) (λ h. inside_digit c h) (λ m. tt)
-
--- every part of a number has digits that end it
-pub number_ends : (p : Part) → (more : List ℕ) × NumberRest p more
-number_ends Minus = (48 ∷ [], (48 ∷ [], [], [], inl (refl, refl), tt, tt, refl))
-number_ends Zero = ([], ([], [], tt, tt, refl))
-number_ends Whole = ([], ([], [], [], tt, tt, tt, refl))
-number_ends Dot = (48 ∷ [], (48 ∷ [], [], (refl, tt), tt, refl))
-number_ends Fraction = ([], ([], [], tt, tt, refl))
-number_ends Mark = (48 ∷ [], inl (refl, tt))
-number_ends Sign = (48 ∷ [], (refl, tt))
-number_ends Exponent = ([], tt)

@@ -48,28 +48,28 @@ hex_one high n rest after (d, mid, q, h, (w, w')) = (omega arith, omega arith)
 scalar_not : (u : ℕ) → IsScalar u → (0xD800 ≤ u) → (u ≤ 0xDFFF) → ⊥
 scalar_not u h l r = grind (arith, nat_tests)
 
-scalar_is : (u : ℕ) → (u < 0x10000) → ((u < 0xD800) ⊎ (0xDFFF < u)) → IsScalar u
+pub scalar_is : (u : ℕ) → (u < 0x10000) → ((u < 0xD800) ⊎ (0xDFFF < u)) → IsScalar u
 scalar_is u l r = grind (arith, nat_tests)
 
 high_to : (u : ℕ) → is_high_surrogate u ≡ true → (0xD800 ≤ u) × (u ≤ 0xDBFF)
 high_to u h = is_range 0xD800 0xDBFF u h
 
-high_from : (u : ℕ) → 0xD800 ≤ u → u ≤ 0xDBFF → is_high_surrogate u ≡ true
+pub high_from : (u : ℕ) → 0xD800 ≤ u → u ≤ 0xDBFF → is_high_surrogate u ≡ true
 high_from u h k = grind (arith, nat_tests)
 
 low_to : (u : ℕ) → is_low_surrogate u ≡ true → (0xDC00 ≤ u) × (u ≤ 0xDFFF)
 low_to u h = is_range 0xDC00 0xDFFF u h
 
-low_from : (u : ℕ) → 0xDC00 ≤ u → u ≤ 0xDFFF → is_low_surrogate u ≡ true
+pub low_from : (u : ℕ) → 0xDC00 ≤ u → u ≤ 0xDFFF → is_low_surrogate u ≡ true
 low_from u h k = grind (arith, nat_tests)
 
 pub range_not : (lo hi c : ℕ) → is_in_range lo hi c ≡ false → (c < lo) ⊎ (hi < c)
 range_not lo hi c h = grind (arith, nat_tests)
 
-lt_from : (a b : ℕ) → nat_lt a b ≡ true → a < b
+pub lt_from : (a b : ℕ) → nat_lt a b ≡ true → a < b
 lt_from a b h = grind (arith, nat_tests)
 
-lt_not : (a b : ℕ) → nat_lt a b ≡ false → b ≤ a
+pub lt_not : (a b : ℕ) → nat_lt a b ≡ false → b ≤ a
 lt_not a b h = grind (arith, nat_tests)
 
 -- a first unit is no low surrogate

@@ -46,7 +46,7 @@ value_first r d c rest (string bytes) e (cs, mid, q, z, w) = cc
 value_first r d c rest (array items) e (l, (mid, q, w)) = cc
 value_first r d c rest (object ms) e (l, (mid, q, w)) = cc
 
-spaces_are : (c : ℕ) → is_space c ≡ true → (c ≡ 32) ⊎ ((c ≡ 9) ⊎ ((c ≡ 10) ⊎ (c ≡ 13)))
+pub spaces_are : (c : ℕ) → is_space c ≡ true → (c ≡ 32) ⊎ ((c ≡ 9) ⊎ ((c ≡ 10) ⊎ (c ≡ 13)))
 spaces_are c h = grind (arith, nat_tests)
 
 first_not_space : (v : Json) (c : ℕ) → FirstOf v c → is_space c ≡ true → ⊥
