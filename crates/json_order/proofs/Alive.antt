@@ -1,5 +1,6 @@
 -- From every state on some characters complete a text: what is open is closed, and a key is made longer than all others.
 use Rattle.std.specs.Prelude.{nat_lt, encode_utf8, encode_utf8_all, codes}
+use Rattle.std.specs.List.{AllByRecursion}
 use Rattle.std.specs.Str.{all_scalars, bytes_eq}
 use Rattle.std.specs.Char.Utf16.{surrogate_pair_char}
 use Rattle.std.specs.Char.{IsScalar, digit_value}
@@ -147,7 +148,7 @@ slash_ends = (34, 34 ∷ [], refl, λ after. inl (34, refl, refl))
 
 -- THE END OF A STRING
 
-scalars_append : (ds k : List ℕ) → all_scalars ds ≡ true → all_scalars k ≡ true → all_scalars (ds ++ k) ≡ true
+pub scalars_append : (ds k : List ℕ) → all_scalars ds ≡ true → all_scalars k ≡ true → all_scalars (ds ++ k) ≡ true
 scalars_append [] k a b = b
 scalars_append (d ∷ ds) k a b = and_both _ (all_scalars (ds ++ k)) (and_left _ (all_scalars ds) a) (scalars_append ds k (and_right _ (all_scalars ds) a) b)
   where
@@ -261,6 +262,10 @@ number_alive r text p fs =
     let c = closes r fs (number (text ++ n.0)) in
     (n.0 ++ c.0, c.1, scalars_append n.0 c.0 n.2 c.2, (n.0, c.0, n.1, refl, c.3))
 
+ascii_scalars : (ls : List ℕ) → AllByRecursion (λ l. l < 128) ls → all_scalars ls ≡ true
+ascii_scalars [] h = refl
+ascii_scalars (l ∷ ls) h = let s : IsScalar l = scalar_is l (omega (arith, h.0)) (inl (omega (arith, h.0))) in rw s (ascii_scalars ls h.1)
+
 -- EVERY STATE
 
 pub alive : (r : Rules) (p : Place) (fs : List Frame) → IsFinePlace p → Alive r (state p fs)
@@ -273,4 +278,4 @@ alive r (in_key es text e) fs h = key_alive r es text e fs h
 alive r (behind_key es key) fs h = behind_key_alive r es key fs
 alive r (in_string text e) fs h = string_alive r text e fs h
 alive r (in_number text p) fs h = number_alive r text p fs
-alive r (in_word ls v) fs h = let c = closes r fs v in (ls ++ c.0, c.1, scalars_append ls c.0 h c.2, (c.0, refl, c.3))
+alive r (in_word ls v) fs h = let c = closes r fs v in (ls ++ c.0, c.1, scalars_append ls c.0 (ascii_scalars ls h) c.2, (c.0, refl, c.3))

@@ -1,7 +1,7 @@
 -- What every move keeps, and which characters open a list or an object or end a key.
 use Rattle.std.specs.Prelude.{◌==◌, if◌then◌else◌, nat_lt, nat_le, codes, encode_utf8}
 use Rattle.std.specs.Char.Utf16.{surrogate_pair_char}
-use Rattle.std.specs.Str.{all_scalars}
+use Rattle.std.specs.List.{AllByRecursion}
 use Rattle.std.specs.Char.{digit_value}
 use Rattle.std.specs.Int.{is_in_range}
 use Rattle.std.proofs.Common.{ℕ, suc, ◌+◌, ◌*◌, ◌<◌, ◌≤◌, ◌≡◌, ◌⊎◌, inl, inr, Bool, true, false, ◌&&◌, List, [], ◌∷◌, ◌++◌, length, refl, sym, ap, ◌∙◌, subst, arith, Option, Some, None}
@@ -45,11 +45,11 @@ Facts L c stops = Unit {0}
 value_facts : (L c : ℕ) (fs : List Frame) → length fs ≤ L → Facts L c (value_move fs c)
 value_facts L c fs h =
     split (λ b. Facts L c (if b then goes (state (in_word (codes "ull") null) fs) else if c == 116 then goes (state (in_word (codes "rue") (boolean true)) fs) else if c == 102 then goes (state (in_word (codes "alse") (boolean false)) fs) else if c == 34 then goes (state (in_string [] Outside) fs) else if c == 45 then goes (state (in_number (c ∷ []) Minus) fs) else if c == 48 then goes (state (in_number (c ∷ []) Zero) fs) else if is_in_range 49 57 c then goes (state (in_number (c ∷ []) Whole) fs) else if c == 91 then opens (state at_first_item fs) else if c == 123 then opens (state at_first_key fs) else stops)) (c == 110)
-    (λ e. record { fine = refl; shallow = h })
+    (λ e. record { fine = (omega arith, (omega arith, (omega arith, tt))); shallow = h })
     (λ _. split (λ b. Facts L c (if b then goes (state (in_word (codes "rue") (boolean true)) fs) else if c == 102 then goes (state (in_word (codes "alse") (boolean false)) fs) else if c == 34 then goes (state (in_string [] Outside) fs) else if c == 45 then goes (state (in_number (c ∷ []) Minus) fs) else if c == 48 then goes (state (in_number (c ∷ []) Zero) fs) else if is_in_range 49 57 c then goes (state (in_number (c ∷ []) Whole) fs) else if c == 91 then opens (state at_first_item fs) else if c == 123 then opens (state at_first_key fs) else stops)) (c == 116)
-      (λ e. record { fine = refl; shallow = h })
+      (λ e. record { fine = (omega arith, (omega arith, (omega arith, tt))); shallow = h })
       (λ _. split (λ b. Facts L c (if b then goes (state (in_word (codes "alse") (boolean false)) fs) else if c == 34 then goes (state (in_string [] Outside) fs) else if c == 45 then goes (state (in_number (c ∷ []) Minus) fs) else if c == 48 then goes (state (in_number (c ∷ []) Zero) fs) else if is_in_range 49 57 c then goes (state (in_number (c ∷ []) Whole) fs) else if c == 91 then opens (state at_first_item fs) else if c == 123 then opens (state at_first_key fs) else stops)) (c == 102)
-        (λ e. record { fine = refl; shallow = h })
+        (λ e. record { fine = (omega arith, (omega arith, (omega arith, (omega arith, tt)))); shallow = h })
         (λ _. split (λ b. Facts L c (if b then goes (state (in_string [] Outside) fs) else if c == 45 then goes (state (in_number (c ∷ []) Minus) fs) else if c == 48 then goes (state (in_number (c ∷ []) Zero) fs) else if is_in_range 49 57 c then goes (state (in_number (c ∷ []) Whole) fs) else if c == 91 then opens (state at_first_item fs) else if c == 123 then opens (state at_first_key fs) else stops)) (c == 34)
           (λ e. record { fine = tt; shallow = h })
           (λ _. split (λ b. Facts L c (if b then goes (state (in_number (c ∷ []) Minus) fs) else if c == 48 then goes (state (in_number (c ∷ []) Zero) fs) else if is_in_range 49 57 c then goes (state (in_number (c ∷ []) Whole) fs) else if c == 91 then opens (state at_first_item fs) else if c == 123 then opens (state at_first_key fs) else stops)) (c == 45)
@@ -128,13 +128,9 @@ number_facts L c text fs d (Some p) h = record { fine = tt; shallow = h }
 number_facts L c text fs true None h = behind_facts L c (number text) fs h
 number_facts L c text fs false None h = tt
 
-and_right : (a b : Bool) → (a && b) ≡ true → b ≡ true
-and_right true b h = h
-and_right false b h = cc
-
-word_facts : (L c : ℕ) (ls : List ℕ) (v : Json) (fs : List Frame) → all_scalars ls ≡ true → length fs ≤ L → Facts L c (word_move ls v fs c)
+word_facts : (L c : ℕ) (ls : List ℕ) (v : Json) (fs : List Frame) → AllByRecursion (λ l. l < 128) ls → length fs ≤ L → Facts L c (word_move ls v fs c)
 word_facts L c [] v fs a h = behind_facts L c v fs h
-word_facts L c (l ∷ ls) v fs a h = split (λ b. Facts L c (if b then goes (state (in_word ls v) fs) else stops)) (c == l) (λ _. record { fine = and_right _ (all_scalars ls) a; shallow = h }) (λ _. tt)
+word_facts L c (l ∷ ls) v fs a h = split (λ b. Facts L c (if b then goes (state (in_word ls v) fs) else stops)) (c == l) (λ _. record { fine = a.1; shallow = h }) (λ _. tt)
 
 pub facts : (L c : ℕ) (p : Place) (fs : List Frame) → IsSound L (state p fs) → Facts L c (move p fs c)
 facts L c at_value fs s = split (λ b. Facts L c (if b then goes (state at_value fs) else value_move fs c)) (is_space c) (λ _. s) (λ _. value_facts L c fs s.shallow)

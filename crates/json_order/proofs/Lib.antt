@@ -7,3 +7,4 @@ pub mod Steps
 pub mod Facts
 pub mod Alive
 pub mod Runs
+pub mod Foreign

@@ -69,6 +69,9 @@ range_not lo hi c h = grind (arith, nat_tests)
 pub lt_from : (a b : ℕ) → nat_lt a b ≡ true → a < b
 lt_from a b h = grind (arith, nat_tests)
 
+pub lt_to : (a b : ℕ) → a < b → nat_lt a b ≡ true
+lt_to a b h = grind (arith, nat_tests)
+
 pub lt_not : (a b : ℕ) → nat_lt a b ≡ false → b ≤ a
 lt_not a b h = grind (arith, nat_tests)
 

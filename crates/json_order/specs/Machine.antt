@@ -3,7 +3,7 @@ use Rattle.std.specs.Prelude.{ℕ, ◌+◌, ◌*◌, ◌<◌, ◌≤◌, ◌≡�
 use Rattle.std.specs.Char.{digit_value, is_ascii_digit}
 use Rattle.std.specs.Char.Utf16.{surrogate_pair_char}
 use Rattle.std.specs.Int.{is_in_range}
-use Rattle.std.specs.Str.{all_scalars}
+use Rattle.std.specs.List.{AllByRecursion}
 use Rattle.json_order.specs.Json.{Json, null, boolean, number, string, array, object, Items, no_items, item, Members, no_members, member}
 use Rattle.json_order.specs.Seen.{items_with, members_with}
 use Rattle.json_order.specs.Grammar.{Rules, is_space, is_sign, is_mark, short_escape, is_high_surrogate, may_follow}
@@ -81,7 +81,7 @@ IsFinePlace (in_key es text e) = IsFine e
 IsFinePlace (behind_key es key) = Unit {0}
 IsFinePlace (in_string text e) = IsFine e
 IsFinePlace (in_number text p) = Unit {0}
-IsFinePlace (in_word ls v) = all_scalars ls ≡ true
+IsFinePlace (in_word ls v) = AllByRecursion (λ l. l < 128) ls
 
 -- a string that goes on or has ended, with its text so far
 pub data Quote : Type 0 where
