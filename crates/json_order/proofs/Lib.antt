@@ -8,3 +8,4 @@ pub mod Facts
 pub mod Alive
 pub mod Runs
 pub mod Foreign
+pub mod Bytes
