@@ -106,7 +106,9 @@ by_quote c text (Unit3 v) =
     (λ _. split (λ b. ClosesBy c (if b then Some (going text (High (16 * v + digit_value c))) else spelled text (Some (16 * v + digit_value c)))) (is_high_surrogate (16 * v + digit_value c)) (λ _. tt) (λ _. tt)) (λ _. tt)
 by_quote c text (High s) = split (λ b. ClosesBy c (if b then Some (going text (HighSlash s)) else None)) (c == 92) (λ _. tt) (λ _. tt)
 by_quote c text (HighSlash s) = split (λ b. ClosesBy c (if b then Some (going text (Low0 s)) else None)) (c == 117) (λ _. tt) (λ _. tt)
-by_quote c text (Low0 s) = split (λ b. ClosesBy c (if b then Some (going text (Low1 s)) else None)) (digit_value c == 0xD) (λ _. tt) (λ _. tt)
+by_quote c text (Low0 s) =
+    split (λ b. ClosesBy c (if b then (if digit_value c == 0xD then Some (going text (Low1 s)) else None) else None)) (nat_lt (digit_value c) 16)
+    (λ _. split (λ b. ClosesBy c (if b then Some (going text (Low1 s)) else None)) (digit_value c == 0xD) (λ _. tt) (λ _. tt)) (λ _. tt)
 by_quote c text (Low1 s) =
     split (λ b. ClosesBy c (if b then (if is_in_range 0xDC 0xDF (0xD0 + digit_value c) then Some (going text (Low2 s (0xD0 + digit_value c))) else None) else None)) (nat_lt (digit_value c) 16)
     (λ _. split (λ b. ClosesBy c (if b then Some (going text (Low2 s (0xD0 + digit_value c))) else None)) (is_in_range 0xDC 0xDF (0xD0 + digit_value c)) (λ _. tt) (λ _. tt)) (λ _. tt)

@@ -34,9 +34,6 @@ sign_far c h = grind (arith, nat_tests)
 digit_far : (c : ℕ) → 128 ≤ c → nat_lt (digit_value c) 16 ≡ false
 digit_far c h = grind (arith, nat_tests)
 
-digit_eq_far : (c : ℕ) → 128 ≤ c → (digit_value c == 0xD) ≡ false
-digit_eq_far c h = grind (arith, nat_tests)
-
 short_far : (c : ℕ) → 128 ≤ c → short_escape c ≡ None
 short_far c h = rw (eq_far c 34 h (omega arith), eq_far c 92 h (omega arith), eq_far c 47 h (omega arith), eq_far c 98 h (omega arith), eq_far c 102 h (omega arith), eq_far c 110 h (omega arith), eq_far c 114 h (omega arith), eq_far c 116 h (omega arith)) refl
 
@@ -83,7 +80,7 @@ quote_cases text (Unit2 v) = inr (λ c h. rw (digit_far c h) refl)
 quote_cases text (Unit3 v) = inr (λ c h. rw (digit_far c h) refl)
 quote_cases text (High s) = inr (λ c h. rw (eq_far c 92 h (omega arith)) refl)
 quote_cases text (HighSlash s) = inr (λ c h. rw (eq_far c 117 h (omega arith)) refl)
-quote_cases text (Low0 s) = inr (λ c h. rw (digit_eq_far c h) refl)
+quote_cases text (Low0 s) = inr (λ c h. rw (digit_far c h) refl)
 quote_cases text (Low1 s) = inr (λ c h. rw (digit_far c h) refl)
 quote_cases text (Low2 s v) = inr (λ c h. rw (digit_far c h) refl)
 quote_cases text (Low3 s v) = inr (λ c h. rw (digit_far c h) refl)

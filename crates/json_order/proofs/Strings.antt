@@ -6,7 +6,7 @@ use Rattle.std.specs.Char.{IsScalar, digit_value}
 use Rattle.std.specs.Char.Utf16.{surrogate_pair_char}
 use Rattle.std.specs.Int.{is_in_range}
 use Rattle.json_order.specs.Grammar.{is_plain, short_escape, IsHex, IsUnit, is_high_surrogate, is_low_surrogate, IsCharacter, plain, short, one_unit, two_units, AreCharacters}
-use Rattle.json_order.specs.Machine.{IsFine, Quote, going, closed, quote_step, spelled, with_digit, first_unit}
+use Rattle.json_order.specs.Machine.{IsFine, Quote, going, closed, quote_step, spelled, first_unit}
 use Rattle.json_order.specs.declared.place.Escape.{Escape}
 use Rattle.json_order.specs.declared.place.Escape.TheVariants.{Outside, Slash, Unit0, Unit1, Unit2, Unit3, High, HighSlash, Low0, Low1, Low2, Low3}
 use Rattle.json_order.proofs.Language.{UnitRest, LowRest, FirstRest, EscapeRest, FirstCharacter, StringRest}
@@ -250,9 +250,11 @@ never_low0 s c n x rest mid (low, hex, l, e) =
 
 quotes_low0 : (text : List ℕ) (s c : ℕ) → Quotes text (Low0 s) c (quote_step text (Low0 s) c)
 quotes_low0 text s c =
-    split (λ b. Quotes text (Low0 s) c (if b then Some (going text (Low1 s)) else None)) (digit_value c == 0xD)
-    (λ h. goes_by (Low0 s) (Low1 s) text c (on_low0 s c (is_eq _ 0xD h)))
-    (λ n. stops_by (Low0 s) text c (never_low0 s c (not_eq _ 0xD n)))
+    split (λ b. Quotes text (Low0 s) c (if b then (if digit_value c == 0xD then Some (going text (Low1 s)) else None) else None)) (nat_lt (digit_value c) 16)
+    (λ _. split (λ b. Quotes text (Low0 s) c (if b then Some (going text (Low1 s)) else None)) (digit_value c == 0xD)
+      (λ h. goes_by (Low0 s) (Low1 s) text c (on_low0 s c (is_eq _ 0xD h)))
+      (λ n. stops_by (Low0 s) text c (never_low0 s c (not_eq _ 0xD n))))
+    (λ n. stops_by (Low0 s) text c (never_low s 3 0 c (lt_not _ _ n)))
 
 never_low1 : (s c : ℕ) → is_in_range 0xDC 0xDF (0xD0 + digit_value c) ≡ false → Never (LowRest s 3 0xD) c
 never_low1 s c n x rest mid (low, hex, l, e) =
@@ -446,7 +448,9 @@ fine_quote text (Unit3 v) c fine =
     (λ n. tt)
 fine_quote text (High s) c fine = split (λ b. FineQuote (if b then Some (going text (HighSlash s)) else None)) (c == 92) (λ h. fine) (λ n. tt)
 fine_quote text (HighSlash s) c fine = split (λ b. FineQuote (if b then Some (going text (Low0 s)) else None)) (c == 117) (λ h. fine) (λ n. tt)
-fine_quote text (Low0 s) c fine = split (λ b. FineQuote (if b then Some (going text (Low1 s)) else None)) (digit_value c == 0xD) (λ h. fine) (λ n. tt)
+fine_quote text (Low0 s) c fine =
+    split (λ b. FineQuote (if b then (if digit_value c == 0xD then Some (going text (Low1 s)) else None) else None)) (nat_lt (digit_value c) 16)
+    (λ _. split (λ b. FineQuote (if b then Some (going text (Low1 s)) else None)) (digit_value c == 0xD) (λ h. fine) (λ n. tt)) (λ n. tt)
 fine_quote text (Low1 s) c fine =
     split (λ b. FineQuote (if b then (if is_in_range 0xDC 0xDF (0xD0 + digit_value c) then Some (going text (Low2 s (0xD0 + digit_value c))) else None) else None)) (nat_lt (digit_value c) 16)
     (λ h. split (λ b. FineQuote (if b then Some (going text (Low2 s (0xD0 + digit_value c))) else None)) (is_in_range 0xDC 0xDF (0xD0 + digit_value c))

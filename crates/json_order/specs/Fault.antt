@@ -6,6 +6,15 @@ use Rattle.json_order.specs.Grammar.{Rules, IsText}
 use Rattle.json_order.specs.declared.fault.JsonKind.{JsonKind}
 use Rattle.json_order.specs.declared.fault.JsonKind.TheVariants.{Syntax, End, Depth, Duplicate, Utf8, Memory}
 
+-- the number of a kind (own)
+abbrev pub number_of : JsonKind → ℕ
+number_of Syntax = 10
+number_of End = 11
+number_of Depth = 12
+number_of Duplicate = 13
+number_of Utf8 = 14
+number_of Memory = 15
+
 -- at most sixteen lists and objects inside one another, and no key twice in one object
 abbrev pub strict : Rules
 strict = record { limit = 16; repeats = false }

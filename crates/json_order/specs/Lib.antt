@@ -3,4 +3,5 @@ pub mod Seen
 pub mod Grammar
 pub mod Fault
 pub mod Machine
+pub mod Places
 pub mod Examples

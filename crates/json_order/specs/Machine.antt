@@ -92,27 +92,42 @@ abbrev pub spelled : List ℕ → Option ℕ → Option Quote
 spelled text None = None
 spelled text (Some c) = Some (going (text ++ encode_utf8 c) Outside)
 
-abbrev pub with_digit : ℕ → (ℕ → Option Quote) → Option Quote
-with_digit c f = if nat_lt (digit_value c) 16 then f (digit_value c) else None
-
 abbrev pub first_unit : List ℕ → ℕ → Option Quote
 first_unit text n = if is_high_surrogate n then Some (going text (High n)) else spelled text (Some n)
+
+-- a hexadecimal digit of a unit
+abbrev pub digit_quote : List ℕ → Escape → ℕ → Option Quote
+digit_quote text Outside d = None
+digit_quote text Slash d = None
+digit_quote text Unit0 d = Some (going text (Unit1 d))
+-- no low surrogate comes first
+digit_quote text (Unit1 v) d = if is_in_range 0xDC 0xDF (16 * v + d) then None else Some (going text (Unit2 (16 * v + d)))
+digit_quote text (Unit2 v) d = Some (going text (Unit3 (16 * v + d)))
+digit_quote text (Unit3 v) d = first_unit text (16 * v + d)
+digit_quote text (High h) d = None
+digit_quote text (HighSlash h) d = None
+-- a low surrogate comes second
+digit_quote text (Low0 h) d = if d == 0xD then Some (going text (Low1 h)) else None
+digit_quote text (Low1 h) d = if is_in_range 0xDC 0xDF (0xD0 + d) then Some (going text (Low2 h (0xD0 + d))) else None
+digit_quote text (Low2 h v) d = Some (going text (Low3 h (16 * v + d)))
+digit_quote text (Low3 h v) d = spelled text (Some (surrogate_pair_char h (16 * v + d)))
+
+abbrev pub hex_step : List ℕ → Escape → ℕ → Option Quote
+hex_step text e c = if nat_lt (digit_value c) 16 then digit_quote text e (digit_value c) else None
 
 abbrev pub quote_step : List ℕ → Escape → ℕ → Option Quote
 quote_step text Outside c = if c == 34 then Some (closed text) else if c == 92 then Some (going text Slash) else if nat_le 32 c then spelled text (Some c) else None
 quote_step text Slash c = if c == 117 then Some (going text Unit0) else spelled text (short_escape c)
-quote_step text Unit0 c = with_digit c (λ d. Some (going text (Unit1 d)))
--- no low surrogate comes first
-quote_step text (Unit1 v) c = with_digit c (λ d. if is_in_range 0xDC 0xDF (16 * v + d) then None else Some (going text (Unit2 (16 * v + d))))
-quote_step text (Unit2 v) c = with_digit c (λ d. Some (going text (Unit3 (16 * v + d))))
-quote_step text (Unit3 v) c = with_digit c (λ d. first_unit text (16 * v + d))
+quote_step text Unit0 c = hex_step text Unit0 c
+quote_step text (Unit1 v) c = hex_step text (Unit1 v) c
+quote_step text (Unit2 v) c = hex_step text (Unit2 v) c
+quote_step text (Unit3 v) c = hex_step text (Unit3 v) c
 quote_step text (High h) c = if c == 92 then Some (going text (HighSlash h)) else None
 quote_step text (HighSlash h) c = if c == 117 then Some (going text (Low0 h)) else None
--- a low surrogate comes second
-quote_step text (Low0 h) c = if digit_value c == 0xD then Some (going text (Low1 h)) else None
-quote_step text (Low1 h) c = with_digit c (λ d. if is_in_range 0xDC 0xDF (0xD0 + d) then Some (going text (Low2 h (0xD0 + d))) else None)
-quote_step text (Low2 h v) c = with_digit c (λ d. Some (going text (Low3 h (16 * v + d))))
-quote_step text (Low3 h v) c = with_digit c (λ d. spelled text (Some (surrogate_pair_char h (16 * v + d))))
+quote_step text (Low0 h) c = hex_step text (Low0 h) c
+quote_step text (Low1 h) c = hex_step text (Low1 h) c
+quote_step text (Low2 h v) c = hex_step text (Low2 h v) c
+quote_step text (Low3 h v) c = hex_step text (Low3 h v) c
 
 -- NUMBERS
 
