@@ -9,3 +9,5 @@ pub mod Alive
 pub mod Runs
 pub mod Foreign
 pub mod Bytes
+pub mod Keys
+pub mod Trees

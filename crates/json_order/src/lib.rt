@@ -8,9 +8,11 @@
 
 mod fault;
 
+mod members;
 mod number;
 mod place;
 mod quote;
+mod step;
 
 
 mod tree;

@@ -1,3 +1,7 @@
+use crate::members::Members;
+use crate::tree::Tree;
+use crate::word::Word;
+
 /// How far an escape in a string is read. Numbers are units of UTF-16, or the front digits of one.
 #[derive(Clone, Copy, Debug, PartialEq, Eq)]
 pub(crate) enum Escape {
@@ -38,4 +42,38 @@ pub(crate) enum Part {
     Sign,
     /// In the digits of the power.
     Exponent,
+}
+
+/// Where in a text the reader stands, apart from what is open around it.
+#[derive(Drop)]
+pub(crate) enum Place {
+    /// Before a value.
+    Value,
+    /// Behind a `[`, before its first item or its `]`.
+    FirstItem,
+    /// Behind a value.
+    Behind(Tree),
+    /// Behind a `{`, before its first key or its `}`.
+    FirstKey,
+    /// Behind a comma in an object, before a key.
+    NextKey(Members),
+    /// In a key behind these members, with its text so far.
+    Key(Members, String, Escape),
+    /// Behind a key, before its colon.
+    Colon(Members, String),
+    /// In a string, with its text so far.
+    Text(String, Escape),
+    /// In a number, with its text so far.
+    Number(String, Part),
+    /// In a word, of which so many letters are read.
+    Word(Word, usize),
+}
+
+/// A list or an object around the place where the reader stands.
+#[derive(Drop)]
+pub(crate) enum Frame {
+    /// A list with its items so far.
+    List(Vec<Tree>),
+    /// An object with its members so far, and the key of the value that is being read.
+    Object(Members, String),
 }
