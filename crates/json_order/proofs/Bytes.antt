@@ -226,3 +226,12 @@ fault_refuses bytes Depth n v m (u, l, s, x) w = no_longer bytes n v l s w
 fault_refuses bytes Duplicate n v m (u, l, s, x) w = no_longer bytes n v l s w
 fault_refuses bytes Utf8 n v m h w = h.longest (length bytes) h.short (subst (λ x. IsUtf8 x) (sym (take-length bytes)) (spells_utf8 bytes v w))
 fault_refuses bytes Memory n v m h w = m refl
+
+-- what the bytes spell has no fault but want of memory
+pub memory_only : (bytes : List ℕ) (k : JsonKind) (n : ℕ) (v : Json) → Spells strict bytes v → IsFault bytes k n → k ≡ Memory
+memory_only bytes Syntax n v w h = absurd (fault_refuses bytes Syntax n v (λ e. cc) h w)
+memory_only bytes End n v w h = absurd (fault_refuses bytes End n v (λ e. cc) h w)
+memory_only bytes Depth n v w h = absurd (fault_refuses bytes Depth n v (λ e. cc) h w)
+memory_only bytes Duplicate n v w h = absurd (fault_refuses bytes Duplicate n v (λ e. cc) h w)
+memory_only bytes Utf8 n v w h = absurd (fault_refuses bytes Utf8 n v (λ e. cc) h w)
+memory_only bytes Memory n v w h = refl

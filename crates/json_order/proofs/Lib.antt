@@ -11,3 +11,4 @@ pub mod Foreign
 pub mod Bytes
 pub mod Keys
 pub mod Trees
+pub mod Turns

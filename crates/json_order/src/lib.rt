@@ -12,6 +12,7 @@ mod members;
 mod number;
 mod place;
 mod quote;
+mod reading;
 mod step;
 
 
@@ -20,4 +21,5 @@ mod word;
 
 pub use fault::{JsonFault, JsonKind};
 
+pub use reading::read;
 pub use tree::Tree;
