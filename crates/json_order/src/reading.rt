@@ -99,3 +99,6 @@ fn read_text(alloc: Global, text: &str) -> Result<Tree, JsonFault>
         None => Err(fault_at(JsonKind::End, at)),
     }
 }
+
+#[cfg(test)]
+mod tests;
