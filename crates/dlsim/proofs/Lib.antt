@@ -1,3 +1,4 @@
 pub mod Naming
 pub mod Sections
 pub mod Written
+pub mod Replied

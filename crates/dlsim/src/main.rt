@@ -1,7 +1,72 @@
 //! dlsim: a model of SCHED_DEADLINE that writes the switches of recorded calls as a trace.
+//!
+//! The program reads its words with clap, and calls [`session::replay`] with standard input and standard output.
 #![tactic(auto)]
 
 mod session;
 
-fn main(rt: HostRuntime) {
+use clap::error::ErrorKind;
+use clap::{Command, Error};
+use session::{SessionFault, replay};
+use std::alloc::Global;
+use std::env;
+use std::process::ExitCode;
+use switch_text::Counted;
+
+/// Bad input.
+const BAD_INPUT: u8 = 1;
+/// Reading or writing failed.
+const NO_INPUT_OR_OUTPUT: u8 = 3;
+/// A growth was refused.
+const NO_MEMORY: u8 = 4;
+
+fn command<'a>(alloc: Global) -> Result<Command<'a>, Error> {
+    let replay = Command::new(alloc, "replay")
+        .about("Reads recorded calls and writes the trace of their run");
+    let command = Command::new(alloc, "dlsim")
+        .bin_name("dlsim")?
+        .about("A model of SCHED_DEADLINE: recorded calls in, sched_switch trace lines out")
+        .subcommand_required(true)
+        .subcommand(replay)?;
+    Ok(command)
+}
+
+/// Whether the words ask for a replay; else what clap has to say of them.
+fn read_words(alloc: Global, words: &[String]) -> Result<(), Error> {
+    command(alloc)?.try_get_matches_from(words)?;
+    Ok(())
+}
+
+fn status_of(fault: &SessionFault) -> u8 {
+    match fault {
+        SessionFault::Calls(_) => BAD_INPUT,
+        SessionFault::Read | SessionFault::Write(_) => NO_INPUT_OR_OUTPUT,
+        SessionFault::Memory => NO_MEMORY,
+    }
+}
+
+fn end_with(rt: &impl Eprint, fault: &SessionFault) -> ExitCode {
+    let _ = eprintln!(rt; "dlsim: {fault}");
+    ExitCode::from(status_of(fault))
+}
+
+fn main(rt: HostRuntime) -> ExitCode {
+    let alloc = rt.alloc();
+    let words: Vec<String> = match env::args(&rt).and_then(|words| Ok(words.collect(alloc)?)) {
+        Ok(words) => words,
+        Err(_) => return end_with(&rt, &SessionFault::Memory),
+    };
+    if let Err(error) = read_words(alloc, &words) {
+        if error.kind() == ErrorKind::OutOfMemory {
+            return end_with(&rt, &SessionFault::Memory);
+        }
+        let _ = error.print(&rt);
+        return ExitCode::from(error.exit_code() as u8);
+    }
+    let mut reader = Counted::new(rt.stdin());
+    let mut writer = Counted::new(rt.stdout());
+    match replay(alloc, &mut reader, &mut writer) {
+        Ok(()) => ExitCode::SUCCESS,
+        Err(fault) => end_with(&rt, &fault),
+    }
 }
