@@ -1,4 +1,4 @@
-use Rattle.std.proofs.Common.{◌≡◌, ◌∙◌, ◌≤◌, ◌++◌, length, take, replicate, ap, subst, sym, refl, arith}
+use Rattle.std.proofs.Common.{◌≡◌, ◌∙◌, ◌≤◌, ◌++◌, length, take, replicate, subst, sym, refl, arith}
 use Rattle.std.proofs.lemmas.List.{length-map, length-take}
 use Rattle.switch_text.specs.Trace.{header, trace_of}
 use Rattle.switch_text.specs.Runs.{view_of, views}
