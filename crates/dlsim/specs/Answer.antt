@@ -21,6 +21,17 @@ pub record Seen : Type 0 where
   pub writes_failed : ℕ
   pub writes_fail : ℕ
 
+abbrev pub seen : Option (List ℕ) → Option (List ℕ) → Option (List ℕ) → ℕ → ℕ → ℕ → ℕ → Seen
+seen input held holds reads_failed reads_fail writes_failed writes_fail = record {
+  input = input;
+  held = held;
+  holds = holds;
+  reads_failed = reads_failed;
+  reads_fail = reads_fail;
+  writes_failed = writes_failed;
+  writes_fail = writes_fail;
+}
+
 abbrev pub NothingWritten : Seen → Type 0
 NothingWritten s = Keeps s.held s.holds
 
@@ -70,6 +81,13 @@ pub record IsCutOff (s : Seen) (written : ℕ) : Type 0 where
 pub record IsOutOfMemory (s : Seen) : Type 0 where
   pub unwritten : NothingWritten s
   pub no_fault : NoFault s
+
+-- the writer took exactly so many bytes of a text, and not all
+abbrev pub IsCut : Option (List ℕ) → Option (List ℕ) → List ℕ → SessionFault → Type 0
+IsCut held holds text (Calls n) = ⊥
+IsCut held holds text Read = ⊥
+IsCut held holds text (Write n) = Stops held holds text n
+IsCut held holds text Memory = ⊥
 
 abbrev pub MeansFault : Seen → SessionFault → Type 0
 MeansFault s (Calls n) = IsRefused s n

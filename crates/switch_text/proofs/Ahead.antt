@@ -1,9 +1,9 @@
 -- The next entry of several runs, found run by run.
-use Rattle.std.proofs.Common.{◌≡◌, ℕ, suc, ◌+◌, ◌<◌, ◌≤◌, ◌≢◌, Bool, true, false, List, [], ◌∷◌, ◌++◌, length, drop, set, get_or, refl, sym, ap, subst, ◌∙◌, append_assoc, append-nil, arith}
+use Rattle.std.proofs.Common.{◌≡◌, ℕ, ◌+◌, ◌<◌, ◌≢◌, true, false, List, [], ◌∷◌, ◌++◌, length, drop, set, get_or, refl, sym, ap, subst, ◌∙◌, append_assoc, append-nil, arith}
 use Rattle.std.specs.List.{AllByRecursion}
 use Rattle.std.proofs.lemmas.List.{length-set, length-append, get_or-set_same, get_or-set_other}
 use Rattle.switch_text.specs.Trace.{RunView, Entry, entries_of, is_earlier}
-use Rattle.switch_text.specs.Merging.{left_of, stepped, IsAhead}
+use Rattle.switch_text.specs.Merging.{left_of, IsAhead}
 use Rattle.switch_text.proofs.Order.{AllByRecursion-weaker, AllByRecursion-append, earlier_trans, not_later_trans, earlier_then}
 
 left_of-more : (runs : List RunView) (r : RunView) (places : List ℕ) → length runs < length places
@@ -42,7 +42,7 @@ IsAhead-new runs r places e rest h here next earlier not_later =
       inside = omega (arith, length-append runs (r ∷ []));
       split = left_of-more runs r places h ∙ ap (λ (es : List Entry). left_of runs places ++ es) here;
       moved = left_of-more runs r (set places n v) long ∙ ap (λ (k : ℕ). left_of runs (set places n v) ++ drop k (entries_of r)) at
-      ∙ ap (λ (es : List Entry). left_of runs (set places n v) ++ es) next ∙ ap (λ (es : List Entry). es ++ rest) (left_of-set_past runs places v);
+          ∙ ap (λ (es : List Entry). left_of runs (set places n v) ++ es) next ∙ ap (λ (es : List Entry). es ++ rest) (left_of-set_past runs places v);
       earlier = earlier;
       not_later = not_later;
     }
@@ -65,7 +65,7 @@ IsAhead-kept runs r places i e h a not_later =
       inside = omega (arith, length-append runs (r ∷ []));
       split = left_of-more runs r places h ∙ ap (λ (es : List Entry). es ++ more) a.split ∙ append_assoc a.before (e ∷ a.after) more;
       moved = left_of-more runs r (set places i v) long ∙ ap (λ (k : ℕ). left_of runs (set places i v) ++ drop k (entries_of r)) at
-      ∙ ap (λ (es : List Entry). es ++ more) a.moved ∙ append_assoc a.before a.after more;
+          ∙ ap (λ (es : List Entry). es ++ more) a.moved ∙ append_assoc a.before a.after more;
       earlier = a.earlier;
       not_later = AllByRecursion-append (λ x. is_earlier x e ≡ false) a.after more a.not_later not_later;
     }

@@ -1,13 +1,13 @@
 -- Laws of the trace text that callers may cite: the trace of one run, that only the names that occur matter, and what it
 -- means that the entries are in order.
-use Rattle.std.proofs.Common.{◌≡◌, ℕ, suc, ◌+◌, ◌<◌, ◌≤◌, Bool, true, false, cond, List, [], ◌∷◌, ◌++◌, length, map, get_or, eqb, Option, Some, None, refl, sym, ap, ◌∙◌, append_assoc, append-nil, arith}
+use Rattle.std.proofs.Common.{◌≡◌, ℕ, suc, ◌+◌, Bool, true, false, cond, List, [], ◌∷◌, ◌++◌, map, Option, Some, None, refl, ap, ◌∙◌, append-nil, arith}
 use Rattle.std.specs.Prelude.{AllPairs, All, IsTrue, IfSome, filter, ◌&&◌, ◌==◌}
 use Rattle.std.specs.List.{AllByRecursion, AllZip, flat_map}
 use Rattle.std.proofs.lemmas.Bool.Decides.{nat_tests}
 use Rattle.std.proofs.lemmas.List.Elements.{recursion_from_All}
 use Rattle.domain_run.specs.declared.switch.Switch.{Switch}
 use Rattle.domain_run.specs.declared.switch.PrevState.{PrevState}
-use Rattle.switch_text.specs.Line.{title_of, comm_of, task_part, cpu_part, time_part, prev_part, next_part, line_of}
+use Rattle.switch_text.specs.Line.{title_of, comm_of, task_part, prev_part, next_part, line_of}
 use Rattle.switch_text.specs.Trace.{RunView, Entry, entry_of, entries_of, is_earlier, placed_in, in_order, header, lines_of, trace_of}
 use Rattle.switch_text.specs.Runs.{is_before}
 use Rattle.switch_text.proofs.Order.{AllByRecursion-weaker, AllByRecursion-placed_in, placed_in-first, not_later-from_earlier, not_later_twice}

@@ -8,7 +8,7 @@ use Rattle.std.proofs.lemmas.List.Elements.{recursion_from_All}
 use Rattle.domain_run.specs.declared.switch.Switch.{Switch}
 use Rattle.domain_run.specs.declared.switch.PrevState.TheVariants.{Running}
 use Rattle.switch_text.specs.declared.run.Run.{Run}
-use Rattle.switch_text.specs.Trace.{RunView, Entry, entry_of, entries_of}
+use Rattle.switch_text.specs.Trace.{entry_of, entries_of}
 use Rattle.switch_text.specs.Runs.{view_of, views, is_before, IsRun}
 
 -- a number that rises with time and CPU

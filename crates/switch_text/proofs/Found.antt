@@ -1,9 +1,9 @@
 -- The search for the next entry goes on by one run.
-use Rattle.std.proofs.Common.{◌≡◌, ℕ, ◌+◌, ◌^◌, ◌<◌, ◌≤◌, Bool, true, false, List, [], ◌∷◌, ◌++◌, length, map, take, drop, get_or, Option, Some, None, refl, sym, ap, subst, ◌∙◌, arith}
+use Rattle.std.proofs.Common.{◌≡◌, ℕ, ◌+◌, ◌^◌, ◌<◌, ◌≤◌, true, false, List, [], ◌∷◌, ◌++◌, length, map, take, drop, get_or, Option, Some, None, sym, ap, subst, ◌∙◌, arith}
 use Rattle.std.specs.Prelude.{All, IsTrue}
 use Rattle.std.specs.List.{AllByRecursion}
 use Rattle.std.proofs.lemmas.Bool.Decides.{nat_tests}
-use Rattle.std.proofs.lemmas.List.{length-map, length-take-le, length-drop, get_or-map, get_or-drop, drop-map, drop_more, drop_all, map_more, get_or_default}
+use Rattle.std.proofs.lemmas.List.{length-map, length-take-le, length-drop, get_or-map, get_or-drop, drop-map, drop_more, drop_all, map_more}
 use Rattle.std.proofs.lemmas.List.Elements.{recursion_from_All}
 use Rattle.domain_run.specs.declared.switch.Switch.{Switch}
 use Rattle.switch_text.specs.declared.run.Run.{Run}
@@ -61,7 +61,7 @@ place_is : (runs : List Run) (places : List ℕ) (i : ℕ) (run : Run) → IsHer
 place_is runs places i run here = ap (λ (k : ℕ). get_or places k 0) (length-views_take runs places i run here)
 
 in_places : (runs : List Run) (places : List ℕ) (i : ℕ) (run : Run) → IsHere runs places i run → length (views (take i runs)) < length places
-in_places runs places i run here = 
+in_places runs places i run here =
     let room : i < length places = here.room in
     omega (arith, length-views_take runs places i run here)
 
@@ -76,7 +76,7 @@ IsFound-done runs places i run (Some n) here past found =
     let none_there : drop (get_or places (length (views (take i runs))) 0) (entries_of (view_of run)) ≡ [] = ap (λ (k : ℕ). drop k (entries_of (view_of run))) (place_is runs places i run here) ∙ none in
     let e = next_entry n in
     let kept = IsAhead-kept (views (take i runs)) (view_of run) places n.index e (in_places runs places i run here) found.ahead
-        (subst (λ (es : List Entry). AllByRecursion (λ x. is_earlier x e ≡ false) es) (sym none_there) tt) in
+    (subst (λ (es : List Entry). AllByRecursion (λ x. is_earlier x e ≡ false) es) (sym none_there) tt) in
     record {
       ahead = subst (λ (vs : List RunView). IsAhead vs places n.index e) (sym (views_more runs places i run here)) kept;
       printed = found.printed;
@@ -169,7 +169,7 @@ pub IsFound-better_at : (runs : List Run) (places : List ℕ) (i : ℕ) (run : R
     → is_better n best ≡ true → IsFound (take i runs) places best → IsFound (take (i + 1) runs) places (Some n)
 IsFound-better_at runs places i run n best here next small better found =
     let new = IsFound-better runs places n best (here_by runs places i run n here next) (there_by places i run n next) (subst (λ (k : ℕ). get_or places k 0 + 1 < 2 ^ 64) (sym next.index) small) better
-        (subst (λ (k : ℕ). IsFound (take k runs) places best) (sym next.index) found) in
+    (subst (λ (k : ℕ). IsFound (take k runs) places best) (sym next.index) found) in
     subst (λ (k : ℕ). IsNextOf (take (k + 1) runs) places n) next.index new
 
 pub IsFound-kept_at : (runs : List Run) (places : List ℕ) (i : ℕ) (run : Run) (n : Next) (best : Option Next) → IsHere runs places i run → IsNextIn places i run n

@@ -1,5 +1,5 @@
 -- A text that grows piece by piece.
-use Rattle.std.proofs.Common.{◌≡◌, List, ℕ, ◌++◌, refl, append_assoc}
+use Rattle.std.proofs.Common.{◌≡◌, List, ℕ, ◌++◌, append_assoc}
 
 pub joined_7 : (s t1 t2 t3 t4 t5 t6 t7 a b c d e f g : List ℕ) → t1 ≡ s ++ a → t2 ≡ t1 ++ b → t3 ≡ t2 ++ c → t4 ≡ t3 ++ d → t5 ≡ t4 ++ e → t6 ≡ t5 ++ f → t7 ≡ t6 ++ g
     → t7 ≡ s ++ (a ++ b ++ c ++ d ++ e ++ f ++ g)

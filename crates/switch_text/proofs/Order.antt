@@ -1,5 +1,5 @@
 -- Entries in order: the earliest comes first.
-use Rattle.std.proofs.Common.{◌≡◌, ℕ, ◌+◌, ◌<◌, ◌≤◌, Bool, true, false, cond, List, [], ◌∷◌, ◌++◌, length, refl, sym, ap, ◌∙◌, arith}
+use Rattle.std.proofs.Common.{◌≡◌, ◌+◌, true, false, cond, List, [], ◌∷◌, ◌++◌, length, refl, ap, ◌∙◌, arith}
 use Rattle.std.specs.List.{AllByRecursion}
 use Rattle.std.proofs.lemmas.Bool.Decides.{nat_tests}
 use Rattle.switch_text.specs.Trace.{Entry, is_earlier, placed_in, in_order}
@@ -64,4 +64,3 @@ pub length-in_order : (es : List Entry) → length (in_order es) ≡ length es
 unfolding in_order
 length-in_order [] = refl
 length-in_order (e ∷ es) = omega (arith, length-placed_in e (in_order es), length-in_order es)
-

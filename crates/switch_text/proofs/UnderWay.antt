@@ -1,8 +1,8 @@
 -- A trace that goes out line by line.
-use Rattle.std.proofs.Common.{◌≡◌, ℕ, zero, suc, ◌+◌, ◌*◌, ◌<◌, ◌≤◌, ◌^◌, List, [], ◌∷◌, ◌++◌, length, take, drop, replicate, Option, refl, sym, ap, subst, ◌∙◌, append_assoc, append-nil, arith}
+use Rattle.std.proofs.Common.{◌≡◌, ℕ, zero, suc, ◌+◌, ◌*◌, ◌<◌, ◌≤◌, ◌^◌, List, [], ◌∷◌, ◌++◌, length, take, replicate, Option, refl, sym, ap, subst, ◌∙◌, append_assoc, append-nil, arith}
 use Rattle.std.specs.List.{flat_map}
 use Rattle.std.specs.Io.KnownBytes.{Appends}
-use Rattle.std.proofs.KnownBytes.{Appends-trans}
+use Rattle.std.proofs.KnownBytes.{Appends-nil, Appends-trans}
 use Rattle.std.proofs.lemmas.List.{length-append, take-append-le}
 use Rattle.std.proofs.Math.Seq.{take-append-add}
 use Rattle.switch_text.specs.Trace.{RunView, Entry, entries_of, in_order, header, lines_of, trace_of}
@@ -27,8 +27,8 @@ sends_on before mid after text waiting line rest left sent n s t = record {
   taken = Appends-trans before mid after s.gone t.gone s.taken t.taken;
   count = omega (arith, length-append s.gone t.gone, s.count, t.count);
   whole =
-    s.whole ∙ ap (λ (xs : List ℕ). s.gone ++ xs) (sym (append_assoc waiting line rest) ∙ ap (λ (xs : List ℕ). xs ++ rest) t.whole ∙ append_assoc t.gone left rest)
-    ∙ sym (append_assoc s.gone t.gone (left ++ rest));
+      s.whole ∙ ap (λ (xs : List ℕ). s.gone ++ xs) (sym (append_assoc waiting line rest) ∙ ap (λ (xs : List ℕ). xs ++ rest) t.whole ∙ append_assoc t.gone left rest)
+      ∙ sym (append_assoc s.gone t.gone (left ++ rest));
 }
 
 length-sent : (before after : Option (List ℕ)) (text left : List ℕ) (n : ℕ) → Sends before after text n left → length text ≡ n + length left
@@ -58,7 +58,7 @@ IsUnderWay-stops before mid after runs places sent n waiting u s =
     let some_left : n < length waiting = s.some_left in
     let le : n ≤ length waiting = omega arith in
     let front : take (sent + n) text ≡ gone ++ take n waiting = ap (take (sent + n)) u.sends.whole ∙ ap (λ (k : ℕ). take (k + n) (gone ++ (waiting ++ rest))) u.sends.count
-      ∙ take-append-add gone (waiting ++ rest) n ∙ ap (λ (xs : List ℕ). gone ++ xs) (take-append-le n waiting rest le) in
+    ∙ take-append-add gone (waiting ++ rest) n ∙ ap (λ (xs : List ℕ). gone ++ xs) (take-append-le n waiting rest le) in
     record {
       taken = subst (λ (xs : List ℕ). Appends before after xs) (sym front) (Appends-trans before mid after gone (take n waiting) u.sends.taken s.taken);
       some_left = omega (arith, length-sent before mid text (waiting ++ rest) sent u.sends, length-append waiting rest);
@@ -70,7 +70,7 @@ unfolding lines_left lines_of in_order
 IsUnderWay-ends before mid after runs places sent n waiting left u none s empty =
     let made : lines_left runs places ≡ [] = ap (λ (es : List Entry). lines_of (in_order es)) none in
     let text : trace_of runs ≡ u.sends.gone ++ s.gone = u.sends.whole ∙ ap (λ (xs : List ℕ). u.sends.gone ++ xs)
-      (ap (λ (xs : List ℕ). waiting ++ xs) made ∙ append-nil waiting ∙ s.whole ∙ ap (λ (xs : List ℕ). s.gone ++ xs) empty ∙ append-nil s.gone) in
+    (ap (λ (xs : List ℕ). waiting ++ xs) made ∙ append-nil waiting ∙ s.whole ∙ ap (λ (xs : List ℕ). s.gone ++ xs) empty ∙ append-nil s.gone) in
     subst (λ (xs : List ℕ). Appends before after xs) (sym text) (Appends-trans before mid after u.sends.gone s.gone u.sends.taken s.taken)
 
 left_of-start : (runs : List RunView) (n : ℕ) → length runs ≤ n → left_of runs (replicate n 0) ≡ flat_map entries_of runs
@@ -82,19 +82,19 @@ length-header : length header ≡ 14
 unfolding header
 length-header = refl
 
-pub IsUnderWay-start : (before after : Option (List ℕ)) (runs : List RunView) (n : ℕ) (waiting : List ℕ) → length runs ≤ 8 → Sends before after header n waiting → IsUnderWay before after runs (replicate 8 0) n waiting
+-- at first the header waits
+pub IsUnderWay-start : (before : Option (List ℕ)) (runs : List RunView) → length runs ≤ 8 → IsUnderWay before before runs (replicate 8 0) 0 header
 unfolding trace_of lines_left
-IsUnderWay-start before after runs n waiting h s =
+IsUnderWay-start before runs h =
     let start = left_of-start runs 8 h in
-    let rest = lines_of (in_order (left_of runs (replicate 8 0))) in
     record {
       sends = record {
-        gone = s.gone;
-        taken = s.taken;
-        count = s.count;
-        whole = ap (λ (es : List Entry). header ++ lines_of (in_order es)) (sym start) ∙ ap (λ (xs : List ℕ). xs ++ rest) s.whole ∙ append_assoc s.gone waiting rest;
+        gone = [];
+        taken = Appends-nil before;
+        count = refl;
+        whole = ap (λ (es : List Entry). header ++ lines_of (in_order es)) (sym start);
       };
-      bound = omega (arith, length-sent before after header waiting n s, ap length start, length-header);
+      bound = omega (arith, ap length start, length-header);
     }
 
 -- what is counted stays far below 2^64

@@ -1,10 +1,11 @@
--- Several runs at once: what is left of each, and which entry comes next.
+-- Several runs at once: what is left of each, and which entry comes next. The merge's own functions are stated by these
+-- words; the trace text knows nothing of them.
 use Rattle.std.specs.Prelude.{ℕ, ◌≡◌, ◌+◌, ◌<◌, ◌^◌, Bool, true, false, List, [], ◌∷◌, ◌++◌, length, drop, slice_index, slice_set, Option, Some, None}
 use Rattle.std.specs.List.{AllByRecursion}
 use Rattle.switch_text.specs.declared.run.Run.{Run}
 use Rattle.switch_text.specs.declared.merge.Next.{Next}
 use Rattle.switch_text.specs.Names.{HasLine}
-use Rattle.switch_text.specs.Trace.{RunView, Entry, entry_of, entries_of, is_earlier, in_order}
+use Rattle.switch_text.specs.Trace.{RunView, Entry, entry_of, entries_of, is_earlier}
 use Rattle.switch_text.specs.Runs.{view_of, views}
 
 -- the entries of each run from its place on, one run after the other
@@ -43,12 +44,6 @@ pub record IsNextOf (runs : List Run) (places : List ℕ) (n : Next) : Type 0 wh
 abbrev pub IsFound : List Run → List ℕ → Option Next → Type 0
 IsFound runs places None = left_of (views runs) places ≡ []
 IsFound runs places (Some n) = IsNextOf runs places n
-
--- in the order of the trace: nothing is left, or this entry and then the others
-abbrev pub IsTaken : List Run → List ℕ → Option Next → Type 0
-IsTaken runs places None = left_of (views runs) places ≡ []
-IsTaken runs places (Some n) =
-    in_order (left_of (views runs) places) ≡ next_entry n ∷ in_order (left_of (views runs) (stepped places n.index))
 
 -- a next entry that is earlier than the best so far
 abbrev pub is_better : Next → Option Next → Bool

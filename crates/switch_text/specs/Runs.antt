@@ -1,5 +1,5 @@
 -- The runs that are written.
-use Rattle.std.specs.Prelude.{ℕ, ◌==◌, ◌&&◌, ◌||◌, nat_lt, Bool, IsTrue, List, map, All, AllPairs}
+use Rattle.std.specs.Prelude.{◌==◌, ◌&&◌, ◌||◌, nat_lt, Bool, IsTrue, List, map, All, AllPairs}
 use Rattle.domain_run.specs.declared.switch.Switch.{Switch}
 use Rattle.switch_text.specs.declared.run.Run.{Run}
 use Rattle.switch_text.specs.Names.{named, HasLine}

@@ -9,7 +9,7 @@ pub record Sends (before after : Option (List ℕ)) (text : List ℕ) (sent : �
   pub count : sent ≡ length gone
   pub whole : text ≡ gone ++ left
 
--- so many bytes of the text went out, and not all
+-- so many bytes went out, which are the front of the text, and not all of it
 pub record Stops (before after : Option (List ℕ)) (text : List ℕ) (sent : ℕ) : Type 0 where
   pub taken : Appends before after (take sent text)
   pub some_left : sent < length text

@@ -1,4 +1,4 @@
--- The trace text of several runs.
+-- The trace text of several runs: a header, and the lines of all of them in one order (own; ftrace orders by time).
 use Rattle.std.specs.Prelude.{ℕ, ◌+◌, ◌==◌, ◌&&◌, ◌||◌, nat_lt, Bool, if◌then◌else◌, List, [], ◌∷◌, ◌++◌, map, codes}
 use Rattle.std.specs.List.{flat_map}
 use Rattle.domain_run.specs.declared.switch.Switch.{Switch}
@@ -36,6 +36,7 @@ unfoldable pub in_order : List Entry → List Entry
 in_order [] = []
 in_order (e ∷ es) = placed_in e (in_order es)
 
+-- as ftrace writes it for its tracer nop
 unfoldable pub header : List ℕ
 header = codes "# tracer: nop\n"
 

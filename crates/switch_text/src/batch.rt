@@ -1,3 +1,5 @@
+//! A buffer of a fixed size that goes out in one write when it is full.
+
 ghost use Rattle.std.specs.Prelude.{ℕ, ◌≡◌, ◌+◌, ◌<◌, ◌≤◌, ◌^◌, List, [], ◌++◌, length, is_ok, if◌then◌else◌, IfOk, IfErr, OnOk, IsTrue, ◌↔◌};
 ghost use Rattle.switch_text.specs.Sending.{Sends, Stops};
 
@@ -36,14 +38,15 @@ impl Batch {
     }
 
     fn has_room(&self, more: usize) -> bool
-        requires { more ≤ 65536 }
-        ensures { IsTrue result ↔ (length self.now + more ≤ 65536) }
+        requires { more ≤ SIZE }
+        ensures { IsTrue result ↔ (length self.now + more ≤ SIZE) }
     {
         self.len + more <= SIZE
     }
 
-    fn append(&mut self, text: &[u8])
-        requires { length self.old + length text.now ≤ 65536 }
+    /// Adds a text that has room.
+    pub(crate) fn append(&mut self, text: &[u8])
+        requires { length self.old + length text.now ≤ SIZE }
         ensures { self.new ≡ self.old ++ text.now }
     {
         let end = self.len + text.len();
@@ -70,7 +73,11 @@ impl Batch {
     }
 
     /// Adds a text; where it has no room, all that waits is written first. How many bytes went out, also where the writer failed.
-    pub(crate) fn put<W: Write>(&mut self, text: &[u8], writer: &mut Counted<W>) -> Result<usize, usize>
+    pub(crate) fn put<W: Write>(
+        &mut self,
+        text: &[u8],
+        writer: &mut Counted<W>,
+    ) -> Result<usize, usize>
         requires short { length text.now ≤ 256 }
         requires faults { writer.old.faults < 2 ^ 63 }
         ensures ok { IfOk result (λ n. Sends (W.contents writer.old.inner) (W.contents writer.new.inner) (self.old ++ text.now) n self.new) }

@@ -1,3 +1,5 @@
+//! Readers and writers whose faults are counted.
+
 ghost use Rattle.std.specs.Prelude.{ℕ, ◌≡◌, ◌+◌, ◌<◌, ◌≤◌, ◌^◌, List, length, take, is_some, is_ok, if◌then◌else◌, IfSome, IfNone, IfOk, IfErr, OnOk, OnErr};
 ghost use Rattle.std.specs.Io.KnownBytes.{Appends, Consumes, IsAtEnd, Keeps};
 ghost use Rattle.switch_text.specs.Faults.{faults_after, ConsumesSome};
@@ -63,8 +65,9 @@ impl<R: Read> Counted<R> {
     /// Reads to the end: all bytes that were left.
     ///
     /// # Errors
-    /// [`ReadFault::Failed`] where a read is a fault, or 2^32 reads met no end; it counts as one fault.
-    /// [`ReadFault::Memory`] where a growth was refused. After an error what was read of the bytes is gone.
+    /// [`ReadFault::Failed`] where a read is a fault, or 2^32 reads met no end; both count as one fault.
+    /// [`ReadFault::Memory`] where a growth was refused, which is no fault of the reader. After an error the bytes read so far
+    /// are gone.
     pub fn read_all(&mut self, alloc: Global) -> Result<Vec<u8>, ReadFault>
         requires { self.old.faults < 2 ^ 63 }
         ensures all { IfOk result (λ v. IfSome (R.remaining self.old.inner) (λ bytes. v.items ≡ bytes)) }

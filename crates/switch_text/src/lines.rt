@@ -1,3 +1,5 @@
+//! The line of a switch, put together piece by piece.
+
 ghost use Rattle.std.specs.Prelude.{ℕ, ◌≡◌, ◌+◌, ◌-◌, ◌<◌, ◌≤◌, ◌^◌, ◌++◌, length, take, replicate, decimal, IfSome};
 ghost use Rattle.switch_text.specs.Names.{named, HasName, HasLine};
 ghost use Rattle.switch_text.specs.Line.{right_in, left_in, digits_in, pid_of, prio_of, title_of, comm_of, letters_of, task_part, cpu_part, time_part, prev_part, next_part, line_of};
@@ -6,6 +8,8 @@ use domain_run::{PrevState, Switch};
 use indexmap::IndexMap;
 use itoa::Buffer;
 
+/// Copies a text to a place of the line, and gives the place behind it. So do the others below.
+#[inline(always)]
 fn put(out: &mut [u8; 256], at: usize, text: &[u8]) -> usize
     requires { at + length text.now ≤ 256 }
     ensures place { result ≡ at + length text.now }
@@ -16,6 +20,7 @@ fn put(out: &mut [u8; 256], at: usize, text: &[u8]) -> usize
     end
 }
 
+#[inline(always)]
 fn put_times(out: &mut [u8; 256], at: usize, times: usize, byte: u8) -> usize
     requires { at + times ≤ 256 }
     ensures place { result ≡ at + times }
@@ -35,6 +40,7 @@ fn put_decimal(out: &mut [u8; 256], at: usize, n: u64) -> usize
     put(out, at, buffer.format(n).as_bytes())
 }
 
+/// With spaces before it, where it is shorter than the width.
 fn put_right(out: &mut [u8; 256], at: usize, width: usize, text: &[u8]) -> usize
     requires { at + length (right_in width text.now) ≤ 256 }
     ensures place { result ≡ at + length (right_in width text.now) }
@@ -44,6 +50,7 @@ fn put_right(out: &mut [u8; 256], at: usize, width: usize, text: &[u8]) -> usize
     put(out, at, text)
 }
 
+/// With spaces behind it, where it is shorter than the width.
 fn put_left(out: &mut [u8; 256], at: usize, width: usize, text: &[u8]) -> usize
     requires { at + length (left_in width text.now) ≤ 256 }
     ensures place { result ≡ at + length (left_in width text.now) }
@@ -53,6 +60,7 @@ fn put_left(out: &mut [u8; 256], at: usize, width: usize, text: &[u8]) -> usize
     put_times(out, at, width.saturating_sub(text.len()), b' ')
 }
 
+/// With zeros before it, where it has fewer digits.
 fn put_digits(out: &mut [u8; 256], at: usize, width: usize, n: u64) -> usize
     requires { at + length (digits_in width n) ≤ 256 }
     ensures place { result ≡ at + length (digits_in width n) }
@@ -71,7 +79,14 @@ fn name_of(names: &IndexMap<u32, String>, number: u32) -> &str
     names.get(&number).unwrap().as_str()
 }
 
-fn put_comm(out: &mut [u8; 256], at: usize, names: &IndexMap<u32, String>, cpu: u32, task: Option<u32>) -> usize
+/// The name in the event's fields.
+fn put_comm(
+    out: &mut [u8; 256],
+    at: usize,
+    names: &IndexMap<u32, String>,
+    cpu: u32,
+    task: Option<u32>,
+) -> usize
     requires name { IfSome task (HasName names.now) }
     requires room { at + length (comm_of (named names.now) cpu task) ≤ 256 }
     ensures place { result ≡ at + length (comm_of (named names.now) cpu task) }
@@ -86,6 +101,7 @@ fn put_comm(out: &mut [u8; 256], at: usize, names: &IndexMap<u32, String>, cpu: 
     }
 }
 
+/// The number that the trace shows: 1000 above the task's own (own), 0 for idle.
 fn pid_for(task: Option<u32>) -> u64
     ensures value { result ≡ pid_of task }
     ensures small { result < 2 ^ 33 }
@@ -96,6 +112,7 @@ fn pid_for(task: Option<u32>) -> u64
     }
 }
 
+/// What ftrace shows as the priority: -1 for a deadline task, 120 for idle.
 fn prio(task: Option<u32>) -> &'static [u8]
     ensures { result.now ≡ prio_of task }
 {
@@ -105,6 +122,7 @@ fn prio(task: Option<u32>) -> &'static [u8]
     }
 }
 
+/// The letters of prev_state.
 fn letters(state: PrevState) -> &'static [u8]
     ensures { result.now ≡ letters_of state }
 {
@@ -116,6 +134,7 @@ fn letters(state: PrevState) -> &'static [u8]
     }
 }
 
+/// The name in front of a line.
 fn title(names: &IndexMap<u32, String>, task: Option<u32>) -> &str
     requires { IfSome task (HasName names.now) }
     ensures { result.now ≡ title_of (named names.now) task }
@@ -126,6 +145,7 @@ fn title(names: &IndexMap<u32, String>, task: Option<u32>) -> &str
     }
 }
 
+/// Whose place is taken.
 #[tactic(auto, unfolding(crate::specs::Line::task_part))]
 fn put_task(
     out: &mut [u8; 256],
@@ -146,6 +166,7 @@ fn put_task(
     put_left(out, at, 7, buffer.format(pid).as_bytes())
 }
 
+/// On which CPU of the machine.
 #[tactic(auto, unfolding(crate::specs::Line::cpu_part))]
 fn put_cpu(out: &mut [u8; 256], at: usize, cpu: u32) -> usize
     requires { at + length (cpu_part cpu) ≤ 256 }
@@ -157,6 +178,7 @@ fn put_cpu(out: &mut [u8; 256], at: usize, cpu: u32) -> usize
     put(out, at, b"] d..2. ")
 }
 
+/// When, in seconds and microseconds.
 #[tactic(auto, unfolding(crate::specs::Line::time_part))]
 fn put_time(out: &mut [u8; 256], at: usize, time: u64) -> usize
     requires { at + length (time_part time) ≤ 256 }
@@ -169,6 +191,7 @@ fn put_time(out: &mut [u8; 256], at: usize, time: u64) -> usize
     put_digits(out, at, 6, time % 1_000_000)
 }
 
+/// The event's fields of who leaves.
 #[tactic(auto, unfolding(crate::specs::Line::prev_part))]
 fn put_prev(
     out: &mut [u8; 256],
@@ -195,6 +218,7 @@ fn put_prev(
     put(out, at, letters(state))
 }
 
+/// The event's fields of who comes, and the end of the line.
 #[tactic(auto, unfolding(crate::specs::Line::next_part))]
 fn put_next(
     out: &mut [u8; 256],
@@ -219,13 +243,15 @@ fn put_next(
     put(out, at, b"\n")
 }
 
+/// Writes the line of a switch to the front of the buffer, its LF included, and gives the line's length, at most 256 bytes
+/// (ftrace's event sched_switch; widths, prefix and the letters of the states are this project's own). What stands behind
+/// the line is left open. Takes no memory.
+///
+/// `base` is the CPU of the machine that is the domain's CPU 0; `names` has the tasks' names by number. The caller sees to
+/// it that the switch's time is below 2^42 us and its CPU of the machine below 512, and that each task of the switch has
+/// a name of 1 to 15 bytes.
 #[tactic(auto, unfolding(crate::specs::Line::line_of))]
-pub fn line(
-    switch: &Switch,
-    base: u32,
-    names: &IndexMap<u32, String>,
-    out: &mut [u8; 256],
-) -> usize
+pub fn line(switch: &Switch, base: u32, names: &IndexMap<u32, String>, out: &mut [u8; 256]) -> usize
     requires { HasLine names.now base switch.now }
     ensures len { result ≡ length (line_of (named names.now) base switch.now) }
     ensures short { result ≤ 256 }

@@ -1,4 +1,6 @@
-ghost use Rattle.std.specs.Prelude.{ℕ, ◌≡◌, ◌+◌, ◌<◌, ◌≤◌, length, slice_index_or, All, IfSome};
+//! Which switch of several runs comes next.
+
+ghost use Rattle.std.specs.Prelude.{ℕ, ◌≡◌, ◌+◌, ◌<◌, ◌≤◌, ◌^◌, length, slice_index_or, All, IfSome, IsTrue, ◌↔◌};
 ghost use Rattle.switch_text.specs.Runs.{IsRun};
 ghost use Rattle.switch_text.specs.Merging.{IsFound, IsPrinted, is_better};
 
@@ -8,6 +10,7 @@ use domain_run::Switch;
 /// The next switch of a run, and which of the runs it is.
 #[derive(Clone, Copy)]
 pub(crate) struct Next<'a, 'b> {
+    /// The place of the run among the runs.
     pub(crate) index: usize,
     pub(crate) run: &'a Run<'b>,
     pub(crate) switch: &'b Switch,
@@ -26,9 +29,18 @@ fn is_earlier_than(next: &Next<'_, '_>, best: &Option<Next<'_, '_>>) -> bool
             let best_time = best.switch.time;
             time < best_time
                 || (time == best_time
-                    && next.run.base + u32::from(next.switch.cpu) < best.run.base + u32::from(best.switch.cpu))
+                    && next.run.base + u32::from(next.switch.cpu)
+                        < best.run.base + u32::from(best.switch.cpu))
         }
     }
+}
+
+/// Whether a switch stands at a place of a run.
+fn is_left(run: &Run<'_>, place: usize) -> bool
+    ensures inside { IsTrue result ↔ (place < length run.now.switches.now) }
+    ensures counted { length run.now.switches.now < 2 ^ 64 }
+{
+    place < run.switches.len()
 }
 
 /// The switch at a place of a run.
@@ -45,7 +57,8 @@ fn next_in<'a, 'b>(run: &'a Run<'b>, index: usize, place: usize) -> Next<'a, 'b>
     }
 }
 
-/// The earliest switch that is left, of the first run that has one, or none where no switch is left.
+/// The earliest switch by time and CPU of the machine, where each run goes on from its place, or none where nothing is left.
+/// Of switches of one time and CPU, that of the first run.
 pub(crate) fn earliest<'a, 'b>(runs: &'a [Run<'b>], places: &[usize; 8]) -> Option<Next<'a, 'b>>
     requires few { length runs.now ≤ 8 }
     requires runs { All IsRun runs.now }
@@ -54,7 +67,7 @@ pub(crate) fn earliest<'a, 'b>(runs: &'a [Run<'b>], places: &[usize; 8]) -> Opti
     let mut best = None;
     for (i, run) in runs.iter().enumerate() {
         let place = places[i];
-        if place < run.switches.len() {
+        if is_left(run, place) {
             let next = next_in(run, i, place);
             if is_earlier_than(&next, &best) {
                 best = Some(next);

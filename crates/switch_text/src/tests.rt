@@ -24,14 +24,44 @@ const THROTTLED: &[u8] = b"# tracer: nop
 ";
 
 const THROTTLED_SWITCHES: [Switch; 4] = [
-    Switch { time: 0, prev: None, next: Some(1), cpu: 0, state: PrevState::Running },
-    Switch { time: 2, prev: Some(1), next: None, cpu: 0, state: PrevState::Preempted },
-    Switch { time: 5, prev: None, next: Some(1), cpu: 0, state: PrevState::Running },
-    Switch { time: 7, prev: Some(1), next: None, cpu: 0, state: PrevState::Dead },
+    Switch {
+        time: 0,
+        prev: None,
+        next: Some(1),
+        cpu: 0,
+        state: PrevState::Running,
+    },
+    Switch {
+        time: 2,
+        prev: Some(1),
+        next: None,
+        cpu: 0,
+        state: PrevState::Preempted,
+    },
+    Switch {
+        time: 5,
+        prev: None,
+        next: Some(1),
+        cpu: 0,
+        state: PrevState::Running,
+    },
+    Switch {
+        time: 7,
+        prev: Some(1),
+        next: None,
+        cpu: 0,
+        state: PrevState::Dead,
+    },
 ];
 
 fn at(time: u64, cpu: u16, prev: Option<u32>, state: PrevState, next: Option<u32>) -> Switch {
-    Switch { time, prev, next, cpu, state }
+    Switch {
+        time,
+        prev,
+        next,
+        cpu,
+        state,
+    }
 }
 
 fn names_of(alloc: Global, tasks: &[(u32, &str)]) -> Result<IndexMap<u32, String>, Fail> {
@@ -50,7 +80,11 @@ fn reclaiming_example(rt: HostRuntime) -> Result<(), Fail> {
         at(2, 0, Some(1), PrevState::Sleeping, Some(2)),
         at(8, 0, Some(2), PrevState::Preempted, Some(1)),
     ];
-    let runs = [Run { base: 0, names: &names, switches: &switches }];
+    let runs = [Run {
+        base: 0,
+        names: &names,
+        switches: &switches,
+    }];
     assert!(rt; are_runs(&runs));
     let mut writer = Counted::new(Vec::new(rt.alloc()));
     write_trace(&runs, &mut writer)?;
@@ -62,7 +96,11 @@ fn reclaiming_example(rt: HostRuntime) -> Result<(), Fail> {
 #[test]
 fn throttled_inside_a_job(rt: HostRuntime) -> Result<(), Fail> {
     let names = names_of(rt.alloc(), &[(1, "a")])?;
-    let runs = [Run { base: 0, names: &names, switches: &THROTTLED_SWITCHES }];
+    let runs = [Run {
+        base: 0,
+        names: &names,
+        switches: &THROTTLED_SWITCHES,
+    }];
     assert!(rt; are_runs(&runs));
     let mut writer = Counted::new(Vec::new(rt.alloc()));
     write_trace(&runs, &mut writer)?;
@@ -73,23 +111,37 @@ fn throttled_inside_a_job(rt: HostRuntime) -> Result<(), Fail> {
 #[test]
 fn no_switch_gives_the_header_alone(rt: HostRuntime) -> Result<(), Fail> {
     let names = names_of(rt.alloc(), &[])?;
-    let runs = [Run { base: 0, names: &names, switches: &[] }];
+    let runs = [Run {
+        base: 0,
+        names: &names,
+        switches: &[],
+    }];
     assert!(rt; are_runs(&runs));
     let mut writer = Counted::new(Vec::new(rt.alloc()));
     write_trace(&runs, &mut writer)?;
     write_trace(&[], &mut writer)?;
-    assert_eq!(rt; writer.inner.as_slice(), b"# tracer: nop\n# tracer: nop\n".as_slice());
+    assert_eq!(rt;
+        writer.inner.as_slice(),
+        b"# tracer: nop\n# tracer: nop\n".as_slice()
+    );
     Ok(())
 }
 
 #[test]
 fn a_line_stands_in_front_of_the_buffer(rt: HostRuntime) -> Result<(), Fail> {
     let names = names_of(rt.alloc(), &[(4294967295, "fifteen_letters")])?;
-    let switch = at(4398046511103, 63, Some(4294967295), PrevState::Preempted, None);
+    let switch = at(
+        4398046511103,
+        63,
+        Some(4294967295),
+        PrevState::Preempted,
+        None,
+    );
     let mut out = [7u8; 256];
     assert!(rt; has_line(&names, 448, &switch));
     let len = line(&switch, 448, &names, &mut out);
-    let text: &[u8] = b" fifteen_letters-4294968295 [511] d..2. 4398046.511103: sched_switch: prev_comm=fifteen_letters prev_pid=4294968295 prev_prio=-1 prev_state=R+ ==> next_comm=swapper/511 next_pid=0 next_prio=120\n";
+    let text: &[u8] =
+        b" fifteen_letters-4294968295 [511] d..2. 4398046.511103: sched_switch: prev_comm=fifteen_letters prev_pid=4294968295 prev_prio=-1 prev_state=R+ ==> next_comm=swapper/511 next_pid=0 next_prio=120\n";
     assert_eq!(rt; &out[..len], text);
     Ok(())
 }
@@ -97,11 +149,25 @@ fn a_line_stands_in_front_of_the_buffer(rt: HostRuntime) -> Result<(), Fail> {
 #[test]
 fn runs_are_merged_by_time_and_cpu(rt: HostRuntime) -> Result<(), Fail> {
     let names = names_of(rt.alloc(), &[(1, "a-0"), (4, "b-0")])?;
-    let second = [at(0, 0, None, PrevState::Running, Some(4)), at(50, 0, Some(4), PrevState::Sleeping, None)];
-    let first = [at(0, 0, None, PrevState::Running, Some(1)), at(49, 0, Some(1), PrevState::Dead, None)];
+    let second = [
+        at(0, 0, None, PrevState::Running, Some(4)),
+        at(50, 0, Some(4), PrevState::Sleeping, None),
+    ];
+    let first = [
+        at(0, 0, None, PrevState::Running, Some(1)),
+        at(49, 0, Some(1), PrevState::Dead, None),
+    ];
     let runs = [
-        Run { base: 1, names: &names, switches: &second },
-        Run { base: 0, names: &names, switches: &first },
+        Run {
+            base: 1,
+            names: &names,
+            switches: &second,
+        },
+        Run {
+            base: 0,
+            names: &names,
+            switches: &first,
+        },
     ];
     assert!(rt; are_runs(&runs));
     let mut writer = Counted::new(Vec::new(rt.alloc()));
@@ -119,7 +185,11 @@ fn runs_are_merged_by_time_and_cpu(rt: HostRuntime) -> Result<(), Fail> {
 #[test]
 fn a_writer_takes_100_bytes_and_fails(rt: HostRuntime) -> Result<(), Fail> {
     let names = names_of(rt.alloc(), &[(1, "a")])?;
-    let runs = [Run { base: 0, names: &names, switches: &THROTTLED_SWITCHES }];
+    let runs = [Run {
+        base: 0,
+        names: &names,
+        switches: &THROTTLED_SWITCHES,
+    }];
     assert!(rt; are_runs(&runs));
     let mut writer = Counted::new(Taker::new(rt.alloc(), 1000, 100, Some(ErrorKind::BrokenPipe)));
     let outcome = write_trace(&runs, &mut writer);
@@ -133,14 +203,28 @@ fn a_writer_takes_100_bytes_and_fails(rt: HostRuntime) -> Result<(), Fail> {
 #[test]
 fn a_writer_fails_in_each_call(rt: HostRuntime) -> Result<(), Fail> {
     let names = names_of(rt.alloc(), &[(1, "a")])?;
-    let runs = [Run { base: 0, names: &names, switches: &THROTTLED_SWITCHES }];
+    let runs = [Run {
+        base: 0,
+        names: &names,
+        switches: &THROTTLED_SWITCHES,
+    }];
     assert!(rt; are_runs(&runs));
     for kind in [Some(ErrorKind::Interrupted), None] {
         for room in 0..THROTTLED.len() {
             let mut writer = Counted::new(Taker::new(rt.alloc(), 1, room, kind));
             let outcome = write_trace(&runs, &mut writer);
-            assert_eq!(rt; outcome, Err(WriteFault { written: room as u64 }), "after {room}");
-            assert_eq!(rt; writer.inner.taken.as_slice(), &THROTTLED[..room], "after {room}");
+            assert_eq!(rt;
+                outcome,
+                Err(WriteFault {
+                    written: room as u64
+                }),
+                "after {room}"
+            );
+            assert_eq!(rt;
+                writer.inner.taken.as_slice(),
+                &THROTTLED[..room],
+                "after {room}"
+            );
             assert_eq!(rt; writer.faults(), 1, "after {room}");
             assert_eq!(rt; writer.inner.calls, room + 1, "after {room}");
         }
@@ -151,7 +235,11 @@ fn a_writer_fails_in_each_call(rt: HostRuntime) -> Result<(), Fail> {
 #[test]
 fn a_writer_takes_one_byte_at_a_time(rt: HostRuntime) -> Result<(), Fail> {
     let names = names_of(rt.alloc(), &[(1, "a")])?;
-    let runs = [Run { base: 0, names: &names, switches: &THROTTLED_SWITCHES }];
+    let runs = [Run {
+        base: 0,
+        names: &names,
+        switches: &THROTTLED_SWITCHES,
+    }];
     assert!(rt; are_runs(&runs));
     let mut writer = Counted::new(Taker::new(rt.alloc(), 1, THROTTLED.len(), None));
     write_trace(&runs, &mut writer)?;
@@ -174,7 +262,11 @@ fn many_lines_take_few_writes(rt: HostRuntime) -> Result<(), Fail> {
         text.extend_from_slice(&out[..len])?;
         switches.push(switch)?;
     }
-    let runs = [Run { base: 0, names: &names, switches: switches.as_slice() }];
+    let runs = [Run {
+        base: 0,
+        names: &names,
+        switches: switches.as_slice(),
+    }];
     assert!(rt; are_runs(&runs));
     let mut writer = Counted::new(Taker::new(rt.alloc(), usize::MAX, usize::MAX, None));
     write_trace(&runs, &mut writer)?;
@@ -226,10 +318,16 @@ fn single_calls_are_counted(rt: HostRuntime) -> Result<(), Fail> {
 #[test]
 fn faults_have_texts(rt: HostRuntime) -> Result<(), Fail> {
     let fault = WriteFault { written: 100 };
-    assert_eq!(rt; format!(in rt.alloc(); "{fault}")?.as_str(), "write failed after 100");
+    assert_eq!(rt;
+        format!(in rt.alloc(); "{fault}")?.as_str(),
+        "write failed after 100"
+    );
     let failed = ReadFault::Failed;
     assert_eq!(rt; format!(in rt.alloc(); "{failed}")?.as_str(), "read failed");
     let memory = ReadFault::Memory;
-    assert_eq!(rt; format!(in rt.alloc(); "{memory}")?.as_str(), "out of memory");
+    assert_eq!(rt;
+        format!(in rt.alloc(); "{memory}")?.as_str(),
+        "out of memory"
+    );
     Ok(())
 }

@@ -1,3 +1,5 @@
+//! The trace text of runs.
+
 ghost use Rattle.std.specs.Prelude.{ℕ, ◌≡◌, ◌+◌, ◌<◌, ◌≤◌, ◌^◌, ◌++◌, length, is_ok, if◌then◌else◌, All, IfOk, IfErr, OnOk};
 ghost use Rattle.std.specs.Io.KnownBytes.{Appends};
 ghost use Rattle.switch_text.specs.Trace.{header, trace_of};
@@ -20,8 +22,22 @@ fn header_text() -> &'static [u8]
     b"# tracer: nop\n"
 }
 
-/// Writes the trace text of the runs: the header, and then the lines of all their switches by time and CPU of the machine.
-/// Takes no memory.
+fn stopped_after(written: usize, more: usize) -> WriteFault
+    requires { written + more < 2 ^ 64 }
+    ensures { result.written ≡ written + more }
+{
+    WriteFault {
+        written: (written + more) as u64,
+    }
+}
+
+/// Writes the trace text of at most 8 runs: the header `# tracer: nop`, and then the line of each switch, ordered by time and
+/// CPU of the machine; of switches of one time and CPU, that of the earlier run first. Takes no memory: up to 64 KiB wait in a
+/// fixed buffer, which goes out in one write when it is full.
+///
+/// # Errors
+/// The writer's first fault ends the call. [`WriteFault::written`] is exactly the number of bytes that the writer took; they
+/// are the front of the trace text, and not all of it.
 pub fn write_trace<W: Write>(runs: &[Run<'_>], writer: &mut Counted<W>) -> Result<(), WriteFault>
     requires few { length runs.now ≤ 8 }
     requires runs { All IsRun runs.now }
@@ -31,22 +47,20 @@ pub fn write_trace<W: Write>(runs: &[Run<'_>], writer: &mut Counted<W>) -> Resul
     ensures faults { writer.new.faults ≡ (if is_ok result then writer.old.faults else writer.old.faults + 1) }
 {
     let mut batch = Batch::new();
+    batch.append(header_text());
+    let mut written = 0;
     let mut places = [0usize; 8];
     let mut text = [0u8; 256];
-    let mut written = match batch.put(header_text(), writer) {
-        Ok(n) => n,
-        Err(n) => return Err(WriteFault { written: n as u64 }),
-    };
     while let Some(next) = earliest(runs, &places) {
         places[next.index] += 1;
         let len = line(next.switch, next.run.base, next.run.names, &mut text);
         match batch.put(&text[..len], writer) {
             Ok(n) => written += n,
-            Err(n) => return Err(WriteFault { written: (written + n) as u64 }),
+            Err(n) => return Err(stopped_after(written, n)),
         }
     }
     match batch.flush(writer) {
         Ok(_) => Ok(()),
-        Err(n) => Err(WriteFault { written: (written + n) as u64 }),
+        Err(n) => Err(stopped_after(written, n)),
     }
 }

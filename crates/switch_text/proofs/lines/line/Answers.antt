@@ -1,6 +1,5 @@
-use Rattle.std.proofs.Common.{◌+◌, ◌<◌, ◌≤◌, ◌^◌, ℕ, length, arith, subst, sym, refl}
+use Rattle.std.proofs.Common.{◌+◌, arith}
 use Rattle.switch_text.specs.Names.{named}
-use Rattle.switch_text.specs.Line.{task_part, cpu_part, time_part, prev_part, next_part, pid_of}
 use Rattle.switch_text.proofs.Room.{IsShort-from_name, length-task_part, length-cpu_part, length-time_part, length-prev_part, length-next_part}
 use Rattle.switch_text.proofs.lines.line.Goals as goal
 

@@ -1,9 +1,8 @@
-use Rattle.std.proofs.Common.{◌≡◌, ◌∙◌, ◌+◌, ◌<◌, ◌≤◌, ◌^◌, ◌++◌, ℕ, List, length, take, ap, subst, sym, arith}
-use Rattle.std.specs.List.{flat_map}
+use Rattle.std.proofs.Common.{◌≡◌, ◌∙◌, ◌≤◌, ◌++◌, length, take, replicate, ap, subst, sym, refl, arith}
 use Rattle.std.proofs.lemmas.List.{length-map, length-take}
-use Rattle.switch_text.specs.Trace.{header, entries_of}
+use Rattle.switch_text.specs.Trace.{header, trace_of}
 use Rattle.switch_text.specs.Runs.{view_of, views}
-use Rattle.switch_text.specs.Sending.{Sends}
+use Rattle.switch_text.specs.Sending.{Sends, Stops}
 use Rattle.switch_text.specs.Merging.{next_entry, stepped}
 use Rattle.switch_text.proofs.Few.{few}
 use Rattle.switch_text.proofs.Found.{in_order-next}
@@ -12,41 +11,45 @@ use Rattle.switch_text.proofs.writing.write_trace.Goals as goal
 
 pub loop-next-init : goal.loop-next-init
 loop-next-init g c =
-    let text : c.new-batch.result ++ c.header_text.result.now ≡ header = ap (λ b. b ++ c.header_text.result.now) c.new-batch.ensures ∙ c.header_text.ensures.text in
+    let before = g.W.Write.contents c.args.writer.now.inner in
+    let runs = views c.args.runs.now in
+    let waiting : c.append.new.self ≡ header = rw (c.append.ensures, c.new-batch.ensures) c.header_text.ensures.text in
     record {
-      under_way = IsUnderWay-start _ _ (views c.args.runs.now) c.in-Ok.n c.put.new.self (omega (arith, length-map c.args.runs.now view_of, c.requires.few))
-        (subst (λ t. Sends (g.W.Write.contents c.args.writer.now.inner) (g.W.Write.contents c.put.new.writer.inner) t c.in-Ok.n c.put.new.self) text c.in-Ok.ensures.ok);
-      faults = c.in-Ok.ensures.faults;
+      under_way = subst (λ text. IsUnderWay before before runs (replicate 8 0) 0 text) (sym waiting) (IsUnderWay-start before runs (omega (arith, length-map c.args.runs.now view_of, c.requires.few)));
+      faults = refl;
     }
 
 pub overflow_add-written : goal.overflow_add-written
 overflow_add-written g c =
     let line = take c.line-len.result c.line-len.new.out in
     let short : length line ≤ 256 = omega (arith, length-take c.line-len.result c.line-len.new.out, c.line-len.ensures.short) in
-    let within = sent_within _ _ c.loop-next.batch line c.put-in-Some.new.self c.in-Ok-put.n c.in-Ok-put.ensures.ok short in
-    omega (arith, count_fits _ _ (views c.args.runs.now) c.loop-next.places c.loop-next.written c.in-Ok-put.n c.loop-next.batch c.loop-next.invariant.under_way (few c.args.runs.now c.requires.few c.requires.runs) within)
+    let within = sent_within _ _ c.loop-next.batch line c.put.new.self c.in-Ok.n c.in-Ok.ensures.ok short in
+    omega (arith, count_fits _ _ (views c.args.runs.now) c.loop-next.places c.loop-next.written c.in-Ok.n c.loop-next.batch c.loop-next.invariant.under_way (few c.args.runs.now c.requires.few c.requires.runs) within)
 
 pub loop-next-preserved : goal.loop-next-preserved
 loop-next-preserved g c =
     let e = next_entry c.in-Some.next in
-    let s = subst (λ t. Sends (g.W.Write.contents c.loop-next.writer.inner) (g.W.Write.contents c.put-in-Some.new.writer.inner) (c.loop-next.batch ++ t) c.in-Ok-put.n c.put-in-Some.new.self) c.line-len.ensures.text c.in-Ok-put.ensures.ok in
+    let mid = g.W.Write.contents c.loop-next.writer.inner in
+    let after = g.W.Write.contents c.put.new.writer.inner in
+    let sends = subst (λ text. Sends mid after (c.loop-next.batch ++ text) c.in-Ok.n c.put.new.self) c.line-len.ensures.text c.in-Ok.ensures.ok in
     record {
-      under_way = IsUnderWay-next _ (g.W.Write.contents c.loop-next.writer.inner) _ (views c.args.runs.now) c.loop-next.places (stepped c.loop-next.places c.in-Some.next.index) c.loop-next.written c.in-Ok-put.n c.loop-next.batch c.put-in-Some.new.self e
-        c.loop-next.invariant.under_way (in_order-next c.args.runs.now c.loop-next.places c.in-Some.next c.in-Some.ensures) s (omega (arith, c.line-len.ensures.len, c.line-len.ensures.short));
-      faults = c.in-Ok-put.ensures.faults ∙ c.loop-next.invariant.faults;
+      under_way = IsUnderWay-next _ mid after (views c.args.runs.now) c.loop-next.places (stepped c.loop-next.places c.in-Some.next.index) c.loop-next.written c.in-Ok.n c.loop-next.batch c.put.new.self e
+          c.loop-next.invariant.under_way (in_order-next c.args.runs.now c.loop-next.places c.in-Some.next c.in-Some.ensures) sends (omega (arith, c.line-len.ensures.len, c.line-len.ensures.short));
+      faults = c.in-Ok.ensures.faults ∙ c.loop-next.invariant.faults;
     }
 
-pub overflow_add-result : goal.overflow_add-result
-overflow_add-result g c =
-    let lt = c.in-Err-put.ensures.err.some_left in
-    omega (arith, count_fits _ _ (views c.args.runs.now) c.loop-next.places c.loop-next.written c.in-Err-put.n c.loop-next.batch c.loop-next.invariant.under_way (few c.args.runs.now c.requires.few c.requires.runs) (omega (arith, lt)))
+pub stopped_after-requires : goal.stopped_after-requires
+stopped_after-requires g c =
+    let lt = c.in-Err.ensures.err.some_left in
+    omega (arith, count_fits _ _ (views c.args.runs.now) c.loop-next.places c.loop-next.written c.in-Err.n c.loop-next.batch c.loop-next.invariant.under_way (few c.args.runs.now c.requires.few c.requires.runs) (omega (arith, lt)))
 
-pub returns-in-Err-put-clause-err : goal.returns-in-Err-put-clause-err
-returns-in-Err-put-clause-err g c =
-    IsUnderWay-stops _ _ _ (views c.args.runs.now) c.loop-next.places c.loop-next.written c.in-Err-put.n c.loop-next.batch c.loop-next.invariant.under_way c.in-Err-put.ensures.err
+pub returns-in-Err-clause-err : goal.returns-in-Err-clause-err
+returns-in-Err-clause-err g c =
+    subst (λ n. Stops (g.W.Write.contents c.args.writer.now.inner) (g.W.Write.contents c.put.new.writer.inner) (trace_of (views c.args.runs.now)) n) (sym c.stopped_after.ensures)
+    (IsUnderWay-stops _ _ _ (views c.args.runs.now) c.loop-next.places c.loop-next.written c.in-Err.n c.loop-next.batch c.loop-next.invariant.under_way c.in-Err.ensures.err)
 
-pub overflow_add-result-in-Err-flush : goal.overflow_add-result-in-Err-flush
-overflow_add-result-in-Err-flush g c =
+pub stopped_after-requires-in-Err-flush : goal.stopped_after-requires-in-Err-flush
+stopped_after-requires-in-Err-flush g c =
     let lt = c.in-Err-flush.ensures.err.some_left in
     omega (arith, count_fits _ _ (views c.args.runs.now) c.loop-next.places c.loop-next.written c.in-Err-flush.n c.loop-next.batch c.loop-next.invariant.under_way (few c.args.runs.now c.requires.few c.requires.runs) (omega (arith, lt)))
 
@@ -56,4 +59,5 @@ returns-in-Ok-flush-clause-ok g c =
 
 pub returns-in-Err-flush-clause-err : goal.returns-in-Err-flush-clause-err
 returns-in-Err-flush-clause-err g c =
-    IsUnderWay-stops _ _ _ (views c.args.runs.now) c.loop-next.places c.loop-next.written c.in-Err-flush.n c.loop-next.batch c.loop-next.invariant.under_way c.in-Err-flush.ensures.err
+    subst (λ n. Stops (g.W.Write.contents c.args.writer.now.inner) (g.W.Write.contents c.flush.new.writer.inner) (trace_of (views c.args.runs.now)) n) (sym c.stopped_after-in-Err-flush.ensures)
+    (IsUnderWay-stops _ _ _ (views c.args.runs.now) c.loop-next.places c.loop-next.written c.in-Err-flush.n c.loop-next.batch c.loop-next.invariant.under_way c.in-Err-flush.ensures.err)

@@ -1,4 +1,4 @@
-use Rattle.std.proofs.Common.{arith, rules, ◌∙◌}
+use Rattle.std.proofs.Common.{arith, ◌∙◌}
 use Rattle.std.proofs.lemmas.Grind.{common_steps}
 use Rattle.switch_text.proofs.Known.{Appends-next}
 use Rattle.switch_text.proofs.counted.Counted.write_all.Goals as goal

@@ -1,0 +1,34 @@
+use Rattle.std.proofs.Common.{take, ap, ◌∙◌, subst, arith}
+use Rattle.bw_world.specs.declared.step.Step.TheVariants.{Load}
+use Rattle.bw_world.specs.WorldView.{WorldView}
+use Rattle.bw_world.specs.ExactWord.{IsExact}
+use Rattle.bw_world.proofs.WorldLaw.{after_exact, world_next, outcomes_next, growing_next, on_err}
+use Rattle.bw_world.proofs.world.World.run_all.Goals as goal
+
+pub returns-in_err-outcomes-clause-exact : goal.returns-in_err-outcomes-clause-exact
+returns-in_err-outcomes-clause-exact c = λ k. after_exact (take k c.args.steps.now) c.args.self.now.domains (subst (λ (w : WorldView). IsExact w.domains) c.self.view_is c.self.invariant)
+
+pub returns-in_err-outcome-clause-err_only : goal.returns-in_err-outcome-clause-err_only
+returns-in_err-outcome-clause-err_only c =
+    let i = c.loop-step.invariant in
+    let count = ap (λ (w : WorldView). w.applied) c.in_err-outcome.ensures.err ∙ i.applied in
+    on_err c.from_residual-in_err-outcome.result (growing_next c.args.steps.now c.loop-step.step-index c.apply.new.self.applied (Load 0) c.args.self.now.domains c.loop-step.self.domains c.loop-step-test.true count i.world c.in_err-outcome.ensures.err_only)
+
+pub returns-in_err-outcome-clause-exact : goal.returns-in_err-outcome-clause-exact
+returns-in_err-outcome-clause-exact c = λ k. after_exact (take k c.args.steps.now) c.args.self.now.domains (subst (λ (w : WorldView). IsExact w.domains) c.self.view_is c.self.invariant)
+
+pub loop-step-preserved : goal.loop-step-preserved
+loop-step-preserved c =
+    let i = c.loop-step.invariant in
+    let stood = ap (λ (w : WorldView). w.domains) c.self-in-loop-step.view_is ∙ ap (λ (w : WorldView). w.domains) c.in_ok-outcome.ensures.world in
+    let counted = ap (λ (w : WorldView). w.applied) c.self-in-loop-step.view_is ∙ ap (λ (w : WorldView). w.applied) c.in_ok-outcome.ensures.world in
+    record {
+      outcomes = outcomes_next c.args.steps.now c.loop-step.step-index (Load 0) c.args.self.now.domains c.loop-step.self.domains _ _ _ c.loop-step-test.true i.world i.outcomes c.in_ok-outcome.ensures.outcome c.push_reserved.ensures.items;
+      world = world_next c.args.steps.now c.loop-step.step-index (Load 0) c.args.self.now.domains c.loop-step.self.domains _ c.loop-step-test.true i.world stood;
+      applied = omega (arith, counted, i.applied);
+      count = omega (arith, c.push_reserved.ensures.len, i.count);
+      room = omega (arith, c.push_reserved.ensures.capacity, i.room);
+    }
+
+pub returns-clause-exact : goal.returns-clause-exact
+returns-clause-exact c = λ k. after_exact (take k c.args.steps.now) c.args.self.now.domains (subst (λ (w : WorldView). IsExact w.domains) c.self.view_is c.self.invariant)

@@ -1,0 +1,143 @@
+-- What a step does within one domain (own). The word is the sum of bandwidths that sched-deadline.rst, "Bandwidth
+-- management", compares with M * limit, the cap, when a task is admitted.
+use Rattle.std.specs.Prelude.{ℕ, Bool, not, ◌||◌, ◌==◌, nat_lt, if◌then◌else◌, ◌+◌, ◌-◌, List, [], ◌∷◌, ◌++◌, map, filter, find, Option, Some, None}
+use Rattle.std.specs.List.{list_any}
+use Rattle.bw_world.specs.declared.book.Change.TheVariants.{Entered, Regraded, Released}
+use Rattle.bw_world.specs.declared.step.Outcome.{Outcome}
+use Rattle.bw_world.specs.declared.step.Outcome.TheVariants.{Saw, Done, Over, Lost, Not}
+use Rattle.bw_world.specs.declared.ticket.Ticket.{Ticket}
+use Rattle.bw_world.specs.declared.ticket.Task.{Task}
+use Rattle.bw_world.specs.WorldView.{DomainView}
+
+-- a domain before its first step
+abbrev pub opened : ℕ → DomainView
+opened cap = record { cap = cap; word = 0; in_hand = []; admitted = []; changes = [] }
+
+-- the ticket in hand with this id
+abbrev pub in_hand_of : ℕ → DomainView → Option Ticket
+in_hand_of id d = find (λ t. t.id == id) d.in_hand
+
+-- the admitted task that holds the ticket with this id
+abbrev pub admitted_of : ℕ → DomainView → Option Task
+admitted_of id d = find (λ t. t.ticket == id) d.admitted
+
+-- some admitted task has this number
+abbrev pub is_admitted : ℕ → DomainView → Bool
+is_admitted number d = list_any (λ t. t.number == number) d.admitted
+
+-- live: in a hand or in an admitted task
+abbrev pub is_live_in : ℕ → DomainView → Bool
+is_live_in id d = list_any (λ t. t.id == id) d.in_hand || list_any (λ t. t.ticket == id) d.admitted
+
+-- the tickets, or the tasks, without the one of this id
+abbrev pub without : ℕ → List Ticket → List Ticket
+without id tickets = filter (λ t. not (t.id == id)) tickets
+
+abbrev pub without_task : ℕ → List Task → List Task
+without_task id tasks = filter (λ t. not (t.ticket == id)) tasks
+
+-- the same, with a new bandwidth where it is the one of this id
+abbrev pub with_bw : ℕ → ℕ → Ticket → Ticket
+with_bw id bw t = if t.id == id then record t { bw = bw } else t
+
+abbrev pub task_with_bw : ℕ → ℕ → Task → Task
+task_with_bw id bw t = if t.ticket == id then record t { bw = bw } else t
+
+-- the domain after a step, and the answer
+pub record DomainStep : Type 0 where
+  pub domain : DomainView
+  pub outcome : Outcome
+
+-- an answer that changes nothing
+abbrev pub stays : DomainView → Outcome → DomainStep
+stays d outcome = record { domain = d; outcome = outcome }
+
+abbrev pub done : DomainView → DomainStep
+done d = record { domain = d; outcome = Done }
+
+-- why the word is not exchanged for a wanted one: it is not the expected one, else the wanted one is above the cap.
+-- One equal to the cap is granted
+abbrev pub refusal_of : ℕ → ℕ → DomainView → Option Outcome
+refusal_of expected wanted d =
+    if not (d.word == expected) then Some (Lost d.word)
+    else if nat_lt d.cap wanted then Some (Over d.word)
+    else None
+
+-- the changed domain, unless the exchange is refused
+abbrev pub unless_refused : DomainView → Option Outcome → DomainView → DomainStep
+unless_refused d (Some outcome) changed = stays d outcome
+unless_refused d None changed = done changed
+
+-- Load
+abbrev pub loaded : DomainView → DomainStep
+loaded d = stays d (Saw d.word)
+
+-- Take: where the exchange is granted, a new ticket is in hand
+abbrev pub taken : ℕ → ℕ → ℕ → DomainView → DomainStep
+taken id bw expected d =
+    unless_refused d (refusal_of expected (d.word + bw) d)
+    (record d { word = d.word + bw; in_hand = d.in_hand ++ record { id = id; bw = bw } ∷ [] })
+
+-- Regrade of a ticket in hand that had the bandwidth `was`
+abbrev pub regraded_in_hand : ℕ → ℕ → ℕ → ℕ → DomainView → DomainStep
+regraded_in_hand id was bw expected d =
+    unless_refused d (refusal_of expected (d.word - was + bw) d)
+    (record d { word = d.word - was + bw; in_hand = map (with_bw id bw) d.in_hand })
+
+-- Regrade of the ticket in the task t, which is a change of the book too
+abbrev pub regraded_admitted : ℕ → Task → ℕ → ℕ → DomainView → DomainStep
+regraded_admitted id t bw expected d =
+    unless_refused d (refusal_of expected (d.word - t.bw + bw) d)
+    (record d {
+      word = d.word - t.bw + bw;
+      admitted = map (task_with_bw id bw) d.admitted;
+      changes = d.changes ++ Regraded t.number bw ∷ [];
+    })
+
+abbrev pub regraded_found : ℕ → ℕ → ℕ → DomainView → Option Ticket → Option Task → DomainStep
+regraded_found id bw expected d (Some t) task = regraded_in_hand id t.bw bw expected d
+regraded_found id bw expected d None (Some t) = regraded_admitted id t bw expected d
+regraded_found id bw expected d None None = stays d Not
+
+-- Regrade, which fits a live ticket
+abbrev pub regraded : ℕ → ℕ → ℕ → DomainView → DomainStep
+regraded id bw expected d = regraded_found id bw expected d (in_hand_of id d) (admitted_of id d)
+
+abbrev pub given_found : ℕ → DomainView → Option Ticket → DomainStep
+given_found id d None = stays d Not
+given_found id d (Some t) = done (record d { word = d.word - t.bw; in_hand = without id d.in_hand })
+
+-- Give, which fits a ticket in hand: its bandwidth goes back and it is gone
+abbrev pub given : ℕ → DomainView → DomainStep
+given id d = given_found id d (in_hand_of id d)
+
+-- Enter of a ticket in hand that has the bandwidth bw: it goes into a task, and the word stays
+abbrev pub entered_with : ℕ → ℕ → ℕ → DomainView → DomainStep
+entered_with id number bw d =
+    if is_admitted number d then stays d Not
+    else done (record d {
+      in_hand = without id d.in_hand;
+      admitted = d.admitted ++ record { number = number; ticket = id; bw = bw } ∷ [];
+      changes = d.changes ++ Entered number id bw ∷ [];
+    })
+
+abbrev pub entered_found : ℕ → ℕ → DomainView → Option Ticket → DomainStep
+entered_found id number d None = stays d Not
+entered_found id number d (Some t) = entered_with id number t.bw d
+
+-- Enter, which fits a ticket in hand where no admitted task of the domain has the number
+abbrev pub entered : ℕ → ℕ → DomainView → DomainStep
+entered id number d = entered_found id number d (in_hand_of id d)
+
+abbrev pub released_found : ℕ → DomainView → Option Task → DomainStep
+released_found id d None = stays d Not
+released_found id d (Some t) =
+    done (record d {
+      in_hand = d.in_hand ++ record { id = id; bw = t.bw } ∷ [];
+      admitted = without_task id d.admitted;
+      changes = d.changes ++ Released t.number ∷ [];
+    })
+
+-- Release, which fits an admitted ticket: it is in hand again, and the word stays
+abbrev pub released : ℕ → DomainView → DomainStep
+released id d = released_found id d (admitted_of id d)

@@ -1,0 +1,69 @@
+-- Worked rows, each of which the definitions compute.
+use Rattle.std.specs.Prelude.{◌≡◌, ℕ, List, [], ◌∷◌, map, take, refl}
+use Rattle.bw_world.specs.declared.book.Change.TheVariants.{Entered, Regraded, Released}
+use Rattle.bw_world.specs.declared.step.Outcome.TheVariants.{Saw, Done, Over, Lost, Not}
+use Rattle.bw_world.specs.declared.step.Step.{Step}
+use Rattle.bw_world.specs.declared.step.Step.TheVariants.{Load, Take, Regrade, Give, Enter, Release}
+use Rattle.bw_world.specs.WorldView.{DomainView}
+use Rattle.bw_world.specs.DomainStep.{opened}
+use Rattle.bw_world.specs.WorldStep.{after, outcomes_of}
+use Rattle.bw_world.specs.ExactWord.{told}
+
+-- the words after each of the first steps
+abbrev words_after : List Step → List DomainView → ℕ → List ℕ
+words_after steps domains k = map (λ d. d.word) (after (take k steps) domains)
+
+-- world_steps: one domain of the cap 524288
+abbrev one : List DomainView
+one = opened 524288 ∷ []
+
+abbrev steps : List Step
+steps =
+    Load 0 ∷ Take 1 0 262144 0 ∷ Take 2 0 262144 0 ∷ Take 2 0 262144 262144 ∷ Take 3 0 1 524288 ∷ Enter 1 7
+    ∷ Give 1 ∷ Regrade 1 131072 524288 ∷ Release 1 ∷ Give 1 ∷ []
+
+world_steps_outcomes : outcomes_of steps one ≡ Saw 0 ∷ Done ∷ Lost 262144 ∷ Done ∷ Over 524288 ∷ Done ∷ Not ∷ Done ∷ Done ∷ Done ∷ []
+world_steps_outcomes = refl
+
+world_steps_words : map (words_after steps one) (1 ∷ 2 ∷ 3 ∷ 4 ∷ 5 ∷ 6 ∷ 7 ∷ 8 ∷ 9 ∷ 10 ∷ [])
+    ≡ (0 ∷ []) ∷ (262144 ∷ []) ∷ (262144 ∷ []) ∷ (524288 ∷ []) ∷ (524288 ∷ []) ∷ (524288 ∷ []) ∷ (524288 ∷ []) ∷ (393216 ∷ []) ∷ (393216 ∷ []) ∷ (262144 ∷ []) ∷ []
+world_steps_words = refl
+
+world_steps_end : after steps one ≡ record {
+  cap = 524288;
+  word = 262144;
+  in_hand = record { id = 2; bw = 262144 } ∷ [];
+  admitted = [];
+  changes = Entered 7 1 262144 ∷ Regraded 7 131072 ∷ Released 7 ∷ [];
+} ∷ []
+world_steps_end = refl
+
+-- a step that does not fit: no such domain; more than one CPU for one ticket; an id that is live in another domain; a
+-- number that is admitted; a ticket in hand to release; a ticket that is gone
+abbrev two : List DomainView
+two = opened 2097152 ∷ opened 1048576 ∷ []
+
+misfits : outcomes_of (Load 2 ∷ Take 1 2 0 0 ∷ Take 1 0 1048577 0 ∷ Take 1 0 1048576 0 ∷ Take 1 1 0 0 ∷ Enter 1 5 ∷ Enter 1 6 ∷ Take 2 0 0 1048576 ∷ Enter 2 5 ∷ Release 2 ∷ Release 1 ∷ Give 1 ∷ Give 1 ∷ Regrade 1 0 0 ∷ []) two
+    ≡ Not ∷ Not ∷ Not ∷ Done ∷ Not ∷ Done ∷ Not ∷ Done ∷ Not ∷ Not ∷ Done ∷ Done ∷ Not ∷ Not ∷ []
+misfits = refl
+
+-- Lost before Over, in a Take and in a Regrade; a word equal to the cap is granted; a Regrade may go above one CPU
+refused : outcomes_of (Take 1 0 1048576 0 ∷ Take 2 0 1048577 7 ∷ Take 2 0 1048576 7 ∷ Regrade 1 3000000 7 ∷ Regrade 1 3000000 1048576 ∷ Regrade 1 2097152 1048576 ∷ Regrade 1 2097153 2097152 ∷ Take 2 0 0 2097152 ∷ []) two
+    ≡ Done ∷ Not ∷ Lost 1048576 ∷ Lost 1048576 ∷ Over 1048576 ∷ Done ∷ Over 2097152 ∷ Done ∷ []
+refused = refl
+
+-- two tasks of one domain, of which one is given another bandwidth and the other is released
+abbrev book : List Step
+book = Take 8 1 100 0 ∷ Take 9 1 200 100 ∷ Enter 9 4 ∷ Enter 8 3 ∷ Regrade 8 150 300 ∷ Release 9 ∷ []
+
+book_end : after book two ≡ opened 2097152 ∷ record {
+  cap = 1048576;
+  word = 350;
+  in_hand = record { id = 9; bw = 200 } ∷ [];
+  admitted = record { number = 3; ticket = 8; bw = 150 } ∷ [];
+  changes = Entered 4 9 200 ∷ Entered 3 8 100 ∷ Regraded 3 150 ∷ Released 4 ∷ [];
+} ∷ []
+book_end = refl
+
+book_told : told (Entered 4 9 200 ∷ Entered 3 8 100 ∷ Regraded 3 150 ∷ Released 4 ∷ []) ≡ record { number = 3; ticket = 8; bw = 150 } ∷ []
+book_told = refl

@@ -1,0 +1,70 @@
+-- What one step makes of a world's domains, and what it answers (own).
+use Rattle.std.specs.Prelude.{ℕ, Bool, not, ◌&&◌, nat_le, if◌then◌else◌, List, [], ◌∷◌, map, position, slice_get, slice_set, Option, Some, None}
+use Rattle.std.specs.List.{list_any}
+use Rattle.bw_world.specs.declared.step.Step.{Step}
+use Rattle.bw_world.specs.declared.step.Step.TheVariants.{Load, Take, Regrade, Give, Enter, Release}
+use Rattle.bw_world.specs.declared.step.Outcome.{Outcome}
+use Rattle.bw_world.specs.declared.step.Outcome.TheVariants.{Not}
+use Rattle.bw_world.specs.WorldView.{DomainView, WorldView}
+use Rattle.bw_world.specs.DomainStep.{DomainStep, opened, is_live_in, loaded, taken, regraded, given, entered, released}
+
+-- one whole CPU, the most that one ticket is taken for
+abbrev pub unit : ℕ
+unit = 1048576
+
+-- a world before its first step
+abbrev pub opened_world : List ℕ → WorldView
+opened_world caps = record { domains = map opened caps; applied = 0 }
+
+-- live in some domain
+abbrev pub is_live : ℕ → List DomainView → Bool
+is_live id domains = list_any (is_live_in id) domains
+
+-- the domains after a step, and the answer
+pub record WorldStep : Type 0 where
+  pub domains : List DomainView
+  pub outcome : Outcome
+
+-- a step that does not fit changes nothing
+abbrev pub misfit : List DomainView → WorldStep
+misfit domains = record { domains = domains; outcome = Not }
+
+abbrev pub at_found : List DomainView → ℕ → (DomainView → DomainStep) → Option DomainView → WorldStep
+at_found domains k rule None = misfit domains
+at_found domains k rule (Some d) = record { domains = slice_set domains k (rule d).domain; outcome = (rule d).outcome }
+
+-- a step within the domain of this index, which fits where there is one
+abbrev pub at_domain : List DomainView → ℕ → (DomainView → DomainStep) → WorldStep
+at_domain domains k rule = at_found domains k rule (slice_get domains k)
+
+abbrev pub at_place : List DomainView → (DomainView → DomainStep) → Option ℕ → WorldStep
+at_place domains rule None = misfit domains
+at_place domains rule (Some k) = at_domain domains k rule
+
+-- a step within the domain in which the ticket is live, which fits where there is one
+abbrev pub at_home : List DomainView → ℕ → (DomainView → DomainStep) → WorldStep
+at_home domains id rule = at_place domains rule (position (is_live_in id) domains)
+
+-- a ticket may be taken where it is not live and asks for one CPU at most
+abbrev pub may_take : ℕ → ℕ → List DomainView → Bool
+may_take id bw domains = nat_le bw unit && not (is_live id domains)
+
+-- one step, by cases
+abbrev pub stepped : Step → List DomainView → WorldStep
+stepped (Load k) domains = at_domain domains k loaded
+stepped (Take id k bw expected) domains =
+    if may_take id bw domains then at_domain domains k (taken id bw expected) else misfit domains
+stepped (Regrade id bw expected) domains = at_home domains id (regraded id bw expected)
+stepped (Give id) domains = at_home domains id (given id)
+stepped (Enter id number) domains = at_home domains id (entered id number)
+stepped (Release id) domains = at_home domains id (released id)
+
+-- the domains after steps, one after another
+abbrev pub after : List Step → List DomainView → List DomainView
+after [] domains = domains
+after (s ∷ steps) domains = after steps (stepped s domains).domains
+
+-- the answer to each step
+abbrev pub outcomes_of : List Step → List DomainView → List Outcome
+outcomes_of [] domains = []
+outcomes_of (s ∷ steps) domains = (stepped s domains).outcome ∷ outcomes_of steps (stepped s domains).domains

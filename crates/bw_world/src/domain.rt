@@ -1,0 +1,255 @@
+use crate::book::Change;
+use crate::no_memory::NoMemory;
+use crate::step::Outcome;
+use crate::ticket::{
+    Task, Ticket, any_number, any_task, any_ticket, remove_task, remove_ticket, set_task_bw,
+    set_ticket_bw, task_of, ticket_of,
+};
+use std::alloc::Global;
+use std::marker::Model;
+
+/// One root domain of a world.
+#[derive(Debug, Drop)]
+pub(crate) struct Domain {
+    cap: u64,
+    word: u64,
+    in_hand: Vec<Ticket>,
+    admitted: Vec<Task>,
+    changes: Vec<Change>,
+}
+
+impl Model for Domain {
+    ghost use Rattle.bw_world.specs.WorldView.{DomainView};
+
+    ghost Value = { DomainView };
+
+    ghost view = { λ d. record { cap = d.cap; word = d.word; in_hand = d.in_hand.items; admitted = d.admitted.items; changes = d.changes.items } };
+}
+
+impl Domain {
+    ghost use Rattle.std.specs.Prelude.{◌≡◌, ◌≤◌, ◌<◌, ◌+◌, ◌-◌, ◌^◌, ◌==◌, IsTrue, IfNone, IfOk, OnOk, OnErr};
+    ghost use Rattle.std.specs.List.{list_any};
+    ghost use Rattle.bw_world.specs.declared.step.Outcome.TheVariants.{Done};
+    ghost use Rattle.bw_world.specs.ExactWord.{IsExactDomain};
+    ghost use Rattle.bw_world.specs.DomainStep.{opened, in_hand_of, admitted_of, is_live_in, refusal_of, taken, regraded, regraded_in_hand, regraded_admitted, given, entered, entered_with, released};
+
+    /// A domain before its first step. Takes no memory.
+    pub fn open(alloc: Global, cap: u64) -> Domain
+        ensures { result ≡ opened cap }
+    {
+        Domain {
+            cap,
+            word: 0,
+            in_hand: Vec::new(alloc),
+            admitted: Vec::new(alloc),
+            changes: Vec::new(alloc),
+        }
+    }
+
+    /// The bandwidth word.
+    pub fn word(&self) -> u64
+        ensures { result ≡ self.now.word }
+    {
+        self.word
+    }
+
+    /// The changes of the book, oldest first.
+    pub fn changes(&self) -> &[Change]
+        ensures { result.now ≡ self.now.changes }
+    {
+        self.changes.as_slice()
+    }
+
+    /// Whether the ticket is in a hand or in an admitted task here.
+    pub fn is_live(&self, id: u64) -> bool
+        ensures { result ≡ is_live_in id self.now }
+    {
+        any_ticket(self.in_hand.as_slice(), id) || any_task(self.admitted.as_slice(), id)
+    }
+
+    // The ticket in hand with this id.
+    fn in_hand_of(&self, id: u64) -> Option<Ticket>
+        ensures { result ≡ in_hand_of id self.now }
+    {
+        ticket_of(self.in_hand.as_slice(), id)
+    }
+
+    // The admitted task that holds the ticket.
+    fn admitted_of(&self, id: u64) -> Option<Task>
+        ensures { result ≡ admitted_of id self.now }
+    {
+        task_of(self.admitted.as_slice(), id)
+    }
+
+    // Why the word is not exchanged for `rest + bw`, where `rest` is the word without what goes.
+    fn refusal(&self, expected: u64, rest: u64, bw: u64) -> Option<Outcome>
+        requires { rest ≤ self.now.cap }
+        ensures refusal { result ≡ refusal_of expected (rest + bw) self.now }
+        ensures fits { IfNone result (rest + bw < 2 ^ 64) }
+    {
+        if self.word != expected {
+            return Some(Outcome::Lost(self.word));
+        }
+        if bw > self.cap - rest {
+            return Some(Outcome::Over(self.word));
+        }
+        None
+    }
+
+    /// Takes a new ticket.
+    pub fn take(&mut self, id: u64, bw: u64, expected: u64) -> Result<Outcome, NoMemory>
+        requires { self.old.word ≤ self.old.cap }
+        ensures outcome { IfOk result (λ outcome. outcome ≡ (taken id bw expected self.old).outcome) }
+        ensures domain { OnOk result (self.new ≡ (taken id bw expected self.old).domain) }
+        ensures err { OnErr result (self.new ≡ self.old) }
+        ensures err_only { OnErr result ((taken id bw expected self.old).outcome ≡ Done) }
+    {
+        if let Some(refusal) = self.refusal(expected, self.word, bw) {
+            return Ok(refusal);
+        }
+        self.in_hand.try_reserve(1)?;
+        self.in_hand.push_reserved(Ticket { id, bw });
+        self.word += bw;
+        Ok(Outcome::Done)
+    }
+
+    // Gives a ticket in hand another bandwidth in the place of `was`.
+    fn regrade_in_hand(&mut self, id: u64, was: u64, bw: u64, expected: u64) -> Outcome
+        requires held { was ≤ self.old.word }
+        requires capped { self.old.word ≤ self.old.cap }
+        ensures outcome { result ≡ (regraded_in_hand id was bw expected self.old).outcome }
+        ensures domain { self.new ≡ (regraded_in_hand id was bw expected self.old).domain }
+    {
+        let rest = self.word - was;
+        if let Some(refusal) = self.refusal(expected, rest, bw) {
+            return refusal;
+        }
+        set_ticket_bw(&mut self.in_hand, id, bw);
+        self.word = rest + bw;
+        Outcome::Done
+    }
+
+    // Gives an admitted ticket another bandwidth in the place of `task.bw`.
+    fn regrade_admitted(
+        &mut self,
+        id: u64,
+        task: Task,
+        bw: u64,
+        expected: u64,
+    ) -> Result<Outcome, NoMemory>
+        requires held { task.bw ≤ self.old.word }
+        requires capped { self.old.word ≤ self.old.cap }
+        ensures outcome { IfOk result (λ outcome. outcome ≡ (regraded_admitted id task bw expected self.old).outcome) }
+        ensures domain { OnOk result (self.new ≡ (regraded_admitted id task bw expected self.old).domain) }
+        ensures err { OnErr result (self.new ≡ self.old) }
+        ensures err_only { OnErr result ((regraded_admitted id task bw expected self.old).outcome ≡ Done) }
+    {
+        let rest = self.word - task.bw;
+        if let Some(refusal) = self.refusal(expected, rest, bw) {
+            return Ok(refusal);
+        }
+        self.changes.try_reserve(1)?;
+        let regraded = Change::Regraded {
+            number: task.number,
+            bw,
+        };
+        self.changes.push_reserved(regraded);
+        set_task_bw(&mut self.admitted, id, bw);
+        self.word = rest + bw;
+        Ok(Outcome::Done)
+    }
+
+    /// Gives a live ticket another bandwidth.
+    #[tactic(auto, using(crate::proofs::Counted::found_any))]
+    pub fn regrade(&mut self, id: u64, bw: u64, expected: u64) -> Result<Outcome, NoMemory>
+        requires { IsExactDomain self.old }
+        ensures outcome { IfOk result (λ outcome. outcome ≡ (regraded id bw expected self.old).outcome) }
+        ensures domain { OnOk result (self.new ≡ (regraded id bw expected self.old).domain) }
+        ensures err { OnErr result (self.new ≡ self.old) }
+        ensures err_only { OnErr result ((regraded id bw expected self.old).outcome ≡ Done) }
+        ensures err_admitted { OnErr result (IsTrue (list_any (λ t. t.ticket == id) self.old.admitted)) }
+    {
+        if let Some(ticket) = self.in_hand_of(id) {
+            return Ok(self.regrade_in_hand(id, ticket.bw, bw, expected));
+        }
+        match self.admitted_of(id) {
+            Some(task) => self.regrade_admitted(id, task, bw, expected),
+            None => Ok(Outcome::Not),
+        }
+    }
+
+    /// Gives a ticket back.
+    pub fn give(&mut self, id: u64) -> Outcome
+        requires { IsExactDomain self.old }
+        ensures outcome { result ≡ (given id self.old).outcome }
+        ensures domain { self.new ≡ (given id self.old).domain }
+    {
+        match self.in_hand_of(id) {
+            None => Outcome::Not,
+            Some(ticket) => {
+                self.word -= ticket.bw;
+                remove_ticket(&mut self.in_hand, id);
+                Outcome::Done
+            }
+        }
+    }
+
+    /// Puts a ticket into a task.
+    pub fn enter(&mut self, id: u64, number: u32) -> Result<Outcome, NoMemory>
+        ensures outcome { IfOk result (λ outcome. outcome ≡ (entered id number self.old).outcome) }
+        ensures domain { OnOk result (self.new ≡ (entered id number self.old).domain) }
+        ensures err { OnErr result (self.new ≡ self.old) }
+        ensures err_only { OnErr result ((entered id number self.old).outcome ≡ Done) }
+    {
+        let Some(ticket) = self.in_hand_of(id) else {
+            return Ok(Outcome::Not);
+        };
+        self.enter_with(id, number, ticket.bw)
+    }
+
+    // Puts a ticket in hand, of the bandwidth `bw`, into a task.
+    fn enter_with(&mut self, id: u64, number: u32, bw: u64) -> Result<Outcome, NoMemory>
+        ensures outcome { IfOk result (λ outcome. outcome ≡ (entered_with id number bw self.old).outcome) }
+        ensures domain { OnOk result (self.new ≡ (entered_with id number bw self.old).domain) }
+        ensures err { OnErr result (self.new ≡ self.old) }
+        ensures err_only { OnErr result ((entered_with id number bw self.old).outcome ≡ Done) }
+    {
+        if any_number(self.admitted.as_slice(), number) {
+            return Ok(Outcome::Not);
+        }
+        self.admitted.try_reserve(1)?;
+        self.changes.try_reserve(1)?;
+        self.admitted.push_reserved(Task {
+            number,
+            ticket: id,
+            bw,
+        });
+        self.changes.push_reserved(Change::Entered {
+            number,
+            ticket: id,
+            bw,
+        });
+        remove_ticket(&mut self.in_hand, id);
+        Ok(Outcome::Done)
+    }
+
+    /// Takes a ticket out of its task.
+    pub fn release(&mut self, id: u64) -> Result<Outcome, NoMemory>
+        ensures outcome { IfOk result (λ outcome. outcome ≡ (released id self.old).outcome) }
+        ensures domain { OnOk result (self.new ≡ (released id self.old).domain) }
+        ensures err { OnErr result (self.new ≡ self.old) }
+        ensures err_only { OnErr result ((released id self.old).outcome ≡ Done) }
+    {
+        let Some(task) = self.admitted_of(id) else {
+            return Ok(Outcome::Not);
+        };
+        self.in_hand.try_reserve(1)?;
+        self.changes.try_reserve(1)?;
+        self.in_hand.push_reserved(Ticket { id, bw: task.bw });
+        self.changes.push_reserved(Change::Released {
+            number: task.number,
+        });
+        remove_task(&mut self.admitted, id);
+        Ok(Outcome::Done)
+    }
+}

@@ -1,0 +1,14 @@
+pub mod Language
+pub mod Spaces
+pub mod Numbers
+pub mod Strings
+pub mod Values
+pub mod Steps
+pub mod Facts
+pub mod Alive
+pub mod Runs
+pub mod Foreign
+pub mod Bytes
+pub mod Keys
+pub mod Trees
+pub mod Turns

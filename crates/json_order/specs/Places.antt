@@ -1,0 +1,79 @@
+-- What the reader's own types stand for. Private contracts cite these.
+use Rattle.std.specs.Prelude.{ℕ, ◌≡◌, Bool, true, false, List, [], ◌∷◌, ◌++◌, length, map, reverse, drop, Option, Some, None, Result, Ok, Err, codes, string_bytes}
+use Rattle.std.specs.declared.string.String.{String}
+use Rattle.std.specs.declared.alloc.Global.{Global}
+use Rattle.json_order.specs.Json.{Json, null, boolean}
+use Rattle.json_order.specs.Seen.{json_of, entry_of}
+use Rattle.json_order.specs.Machine.{Entries, Quote, going, closed, Place, at_value, at_first_item, behind, at_first_key, at_next_key, in_key, behind_key, in_string, in_number, in_word, Frame, in_list, in_object, State, state}
+use Rattle.json_order.specs.declared.tree.Tree.{Tree}
+use Rattle.json_order.specs.declared.fault.JsonKind.{JsonKind}
+use Rattle.json_order.specs.declared.fault.JsonKind.TheVariants.{Syntax, End, Depth, Duplicate, Utf8, Memory}
+use Rattle.json_order.specs.declared.word.Word.{Word}
+use Rattle.json_order.specs.declared.word.Word.TheVariants.{Null, True, False}
+use Rattle.json_order.specs.declared.members.Members.{Members}
+use Rattle.json_order.specs.declared.place.Place.{Place as CodePlace}
+use Rattle.json_order.specs.declared.place.Place.TheVariants.{Value, FirstItem, Behind, FirstKey, NextKey, Key, Colon, Text, Number, Word as WordPlace}
+use Rattle.json_order.specs.declared.place.Frame.{Frame as CodeFrame}
+use Rattle.json_order.specs.declared.place.Frame.TheVariants.{List as ListFrame, Object as ObjectFrame}
+use Rattle.json_order.specs.declared.quote.Quote.{Quote as CodeQuote}
+use Rattle.json_order.specs.declared.quote.Quote.TheVariants.{Going, Closed}
+
+-- the letters behind the first few
+abbrev pub letters_from : Word → ℕ → List ℕ
+letters_from Null n = drop n (codes "null")
+letters_from True n = drop n (codes "true")
+letters_from False n = drop n (codes "false")
+
+abbrev pub value_of : Word → Json
+value_of Null = null
+value_of True = boolean true
+value_of False = boolean false
+
+abbrev pub quote_of : CodeQuote → Quote
+quote_of (Going s e) = going (string_bytes s) e
+quote_of (Closed s) = closed (string_bytes s)
+
+-- a kind where a string does not go on
+abbrev pub Misses : {A : Type 0} → Option A → JsonKind → Type 0
+Misses o Syntax = o ≡ None
+Misses o Memory = Unit {0}
+Misses o End = ⊥
+Misses o Depth = ⊥
+Misses o Duplicate = ⊥
+Misses o Utf8 = ⊥
+
+-- members as keys and values
+abbrev pub entries_of : List (String Global × Tree) → Entries
+entries_of ms = map (λ m. (string_bytes m.0, json_of m.1)) ms
+
+abbrev pub place_of : CodePlace → Place
+place_of Value = at_value
+place_of FirstItem = at_first_item
+place_of (Behind t) = behind (json_of t)
+place_of FirstKey = at_first_key
+place_of (NextKey ms) = at_next_key (entries_of ms.list.items)
+place_of (Key ms s e) = in_key (entries_of ms.list.items) (string_bytes s) e
+place_of (Colon ms s) = behind_key (entries_of ms.list.items) (string_bytes s)
+place_of (Text s e) = in_string (string_bytes s) e
+place_of (Number s p) = in_number (string_bytes s) p
+place_of (WordPlace w n) = in_word (letters_from w n) (value_of w)
+
+abbrev pub frame_of : CodeFrame → Frame
+frame_of (ListFrame v) = in_list (map json_of v.items)
+frame_of (ObjectFrame ms key) = in_object (entries_of ms.list.items) (string_bytes key)
+
+-- the last frame of the stack is the innermost
+abbrev pub frames_of : List CodeFrame → List Frame
+frames_of fs = reverse (map frame_of fs)
+
+abbrev pub state_of : CodePlace → List CodeFrame → State
+state_of p fs = state (place_of p) (frames_of fs)
+
+-- the reader's kind is that of the move, unless memory ran out
+abbrev pub Says : Result State JsonKind → JsonKind → Type 0
+Says o Memory = Unit {0}
+Says o Syntax = o ≡ Err Syntax
+Says o End = o ≡ Err End
+Says o Depth = o ≡ Err Depth
+Says o Duplicate = o ≡ Err Duplicate
+Says o Utf8 = o ≡ Err Utf8

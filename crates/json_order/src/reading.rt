@@ -1,0 +1,104 @@
+ghost use Rattle.std.specs.Prelude.{List, ◌≡◌, ◌≢◌, Some, None, IsUtf8, IfOk, IfErr, IfSome, IfNone};
+ghost use Rattle.json_order.specs.declared.fault.JsonKind.TheVariants.{End, Memory};
+ghost use Rattle.json_order.specs.Fault.{strict, Spells, IsFault};
+ghost use Rattle.json_order.specs.Json.{Json};
+ghost use Rattle.json_order.specs.Machine.{ended};
+ghost use Rattle.json_order.specs.Places.{place_of, frames_of};
+ghost use Rattle.json_order.specs.Seen.{json_of};
+
+use std::alloc::Global;
+use std::str;
+
+use crate::fault::{JsonFault, JsonKind};
+use crate::number::is_done;
+use crate::place::{Frame, Place};
+use crate::step::{DEPTH, step};
+use crate::tree::Tree;
+
+/// Reads a JSON text (RFC 8259, narrower where the formats say so). Memory for the tree alone is taken; the time is
+/// linear in the input but for the keys of an object, which cost the logarithm of their number.
+///
+/// An Err tells the kind and the place of the first fault; see [`JsonKind`] and [`JsonFault`]. Utf8 is tested first, over
+/// the whole input. Memory may come before any other fault.
+pub fn read(alloc: Global, bytes: &[u8]) -> Result<Tree, JsonFault>
+    // What is read is what the input spells,
+    ensures found { IfOk result (λ tree. Spells strict bytes.now (json_of tree)) }
+    // and it spells nothing else.
+    ensures only { IfOk result (λ tree. (value : Json) → Spells strict bytes.now value → value ≡ json_of tree) }
+    // What the input spells is read, unless memory runs out.
+    ensures accepted { (value : Json) → Spells strict bytes.now value → IfErr result (λ fault. fault.kind ≡ Memory) }
+    // Which fault it is, and where.
+    ensures fault { IfErr result (λ fault. IsFault bytes.now fault.kind fault.at) }
+{
+    match str::from_utf8(bytes) {
+        Ok(text) => read_text(alloc, text),
+        Err(e) => Err(JsonFault {
+            at: e.valid_up_to(),
+            kind: JsonKind::Utf8,
+        }),
+    }
+}
+
+/// A fault at this place; want of memory has the place 0.
+fn fault_at(kind: JsonKind, at: usize) -> JsonFault
+    ensures kind { result.kind ≡ kind }
+    ensures memory { kind ≡ Memory → result.at ≡ 0 }
+    ensures other { kind ≢ Memory → result.at ≡ at }
+{
+    match kind {
+        JsonKind::Memory => JsonFault { at: 0, kind },
+        _ => JsonFault { at, kind },
+    }
+}
+
+/// The value of a text that ends here, none where it may not.
+fn value_at_end(place: Place, stack: &Vec<Frame>) -> Option<Tree>
+    ensures none { IfNone result (ended (place_of place) (frames_of stack.now.items) ≡ None) }
+    ensures some { IfSome result (λ tree. ended (place_of place) (frames_of stack.now.items) ≡ Some (json_of tree)) }
+{
+    if !stack.is_empty() {
+        return None;
+    }
+    match place {
+        Place::Behind(value) => Some(value),
+        Place::Number(text, part) => {
+            if is_done(part) {
+                return Some(Tree::Number(text));
+            }
+            None
+        }
+        Place::Word(word, read) => match word.letter(read) {
+            Some(_) => None,
+            None => Some(word.tree()),
+        },
+        _ => None,
+    }
+}
+
+/// Reads a text in UTF-8.
+fn read_text(alloc: Global, text: &str) -> Result<Tree, JsonFault>
+    ensures found { IfOk result (λ tree. Spells strict text.now (json_of tree)) }
+    ensures only { IfOk result (λ tree. (value : Json) → Spells strict text.now value → value ≡ json_of tree) }
+    ensures fault { IfErr result (λ fault. IsFault text.now fault.kind fault.at) }
+{
+    let mut stack = match Vec::with_capacity(alloc, DEPTH + 1) {
+        Ok(stack) => stack,
+        Err(_) => return Err(fault_at(JsonKind::Memory, 0)),
+    };
+    let mut place = Place::Value;
+    let mut at = 0;
+    for c in text.chars() {
+        match step(alloc, place, &mut stack, c) {
+            Ok(next) => place = next,
+            Err(kind) => return Err(fault_at(kind, at)),
+        }
+        at += c.len_utf8();
+    }
+    match value_at_end(place, &stack) {
+        Some(tree) => Ok(tree),
+        None => Err(fault_at(JsonKind::End, at)),
+    }
+}
+
+#[cfg(test)]
+mod tests;

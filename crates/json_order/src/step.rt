@@ -1,0 +1,311 @@
+ghost use Rattle.std.specs.Prelude.{List, ◌≡◌, ◌<◌, ◌++◌, [], ◌∷◌, Ok, IfOk, IfErr, map, string_bytes};
+ghost use Rattle.json_order.specs.declared.fault.JsonKind.TheVariants.{Memory};
+ghost use Rattle.json_order.specs.Fault.{strict};
+ghost use Rattle.json_order.specs.Grammar as grammar;
+ghost use Rattle.json_order.specs.Json.{array, no_items, object, no_members};
+ghost use Rattle.json_order.specs.Machine.{Frame as StackFrame, IsFine, IsFinePlace, in_list, in_object, state, judged, step as machine_step, move, at_first_item, at_first_key, at_next_key, in_key, behind_key, in_string, in_number, in_word, value_move, next_move, behind_move};
+ghost use Rattle.json_order.specs.Places.{place_of, frames_of, state_of, entries_of, letters_from, value_of, Says};
+ghost use Rattle.json_order.specs.Seen.{json_of, members_with};
+
+use std::alloc::Global;
+
+use crate::fault::JsonKind;
+use crate::members::{Members, with_member};
+use crate::number::{is_done, part_step};
+use crate::place::{Escape, Frame, Part, Place};
+use crate::quote::{Quote, quote_step};
+use crate::tree::Tree;
+use crate::word::Word;
+
+/// How deep lists and objects nest; the outermost has depth 1.
+pub(crate) const DEPTH: usize = 16;
+
+/// White space (RFC 8259, section 2).
+fn is_space(c: char) -> bool
+    ensures { result ≡ grammar.is_space c }
+{
+    matches!(c, ' ' | '\t' | '\n' | '\r')
+}
+
+/// A text of one ASCII character.
+fn one(alloc: Global, c: char) -> Result<String, JsonKind>
+    requires { c < 128 }
+    ensures ok { IfOk result (λ s. string_bytes s ≡ c ∷ []) }
+    ensures err { IfErr result (λ k. k ≡ Memory) }
+{
+    let mut text = String::new(alloc);
+    text.push(c)?;
+    Ok(text)
+}
+
+/// A value's first character.
+fn value_step(alloc: Global, stack: &Vec<Frame>, c: char) -> Result<Place, JsonKind>
+    ensures ok { IfOk result (λ p. judged strict (value_move (frames_of stack.now.items) c) ≡ Ok (state_of p stack.now.items)) }
+    ensures err { IfErr result (Says (judged strict (value_move (frames_of stack.now.items) c))) }
+{
+    match c {
+        'n' => Ok(Place::Word(Word::Null, 1)),
+        't' => Ok(Place::Word(Word::True, 1)),
+        'f' => Ok(Place::Word(Word::False, 1)),
+        '"' => Ok(Place::Text(String::new(alloc), Escape::Outside)),
+        '-' => Ok(Place::Number(one(alloc, c)?, Part::Minus)),
+        '0' => Ok(Place::Number(one(alloc, c)?, Part::Zero)),
+        '1'..='9' => Ok(Place::Number(one(alloc, c)?, Part::Whole)),
+        '[' if stack.len() < DEPTH => Ok(Place::FirstItem),
+        '{' if stack.len() < DEPTH => Ok(Place::FirstKey),
+        '[' | '{' => Err(JsonKind::Depth),
+        _ => Err(JsonKind::Syntax),
+    }
+}
+
+/// Behind an item of a list.
+fn item_step(
+    stack: &mut Vec<Frame>,
+    mut items: Vec<Tree>,
+    value: Tree,
+    c: char,
+) -> Result<Place, JsonKind>
+    ensures ok { IfOk result (λ p. judged strict (next_move (json_of value) (in_list (map json_of items.items) ∷ frames_of stack.old.items) c) ≡ Ok (state_of p stack.new.items)) }
+    ensures err { IfErr result (Says (judged strict (next_move (json_of value) (in_list (map json_of items.items) ∷ frames_of stack.old.items) c))) }
+{
+    match c {
+        ',' => {
+            items.push(value)?;
+            stack.push(Frame::List(items))?;
+            Ok(Place::Value)
+        }
+        ']' => {
+            items.push(value)?;
+            Ok(Place::Behind(Tree::List(items)))
+        }
+        _ => Err(JsonKind::Syntax),
+    }
+}
+
+/// The object of these members.
+fn object_of(members: Members) -> Tree
+    ensures { json_of result ≡ object (members_with (entries_of members.list.items) no_members) }
+{
+    let Members { list, keys: _ } = members;
+    Tree::Object(list)
+}
+
+/// Behind the value of a member of an object.
+fn member_step(
+    members: Members,
+    key: String,
+    value: Tree,
+    c: char,
+) -> Result<Place, JsonKind>
+    ensures ok { IfOk result (λ p. (fs : List StackFrame) → judged strict (next_move (json_of value) (in_object (entries_of members.list.items) (string_bytes key) ∷ fs) c) ≡ Ok (state (place_of p) fs)) }
+    ensures err { IfErr result (λ k. (fs : List StackFrame) → Says (judged strict (next_move (json_of value) (in_object (entries_of members.list.items) (string_bytes key) ∷ fs) c)) k) }
+{
+    match c {
+        ',' => Ok(Place::NextKey(with_member(members, key, value)?)),
+        '}' => Ok(Place::Behind(object_of(with_member(members, key, value)?))),
+        _ => Err(JsonKind::Syntax),
+    }
+}
+
+/// Behind a value and its white space.
+fn next_step(stack: &mut Vec<Frame>, value: Tree, c: char) -> Result<Place, JsonKind>
+    ensures ok { IfOk result (λ p. judged strict (next_move (json_of value) (frames_of stack.old.items) c) ≡ Ok (state_of p stack.new.items)) }
+    ensures err { IfErr result (Says (judged strict (next_move (json_of value) (frames_of stack.old.items) c))) }
+{
+    match stack.pop() {
+        None => Err(JsonKind::Syntax),
+        Some(Frame::List(items)) => item_step(stack, items, value, c),
+        Some(Frame::Object(members, key)) => member_step(members, key, value, c),
+    }
+}
+
+/// Behind a value.
+fn behind_step(stack: &mut Vec<Frame>, value: Tree, c: char) -> Result<Place, JsonKind>
+    ensures ok { IfOk result (λ p. judged strict (behind_move (json_of value) (frames_of stack.old.items) c) ≡ Ok (state_of p stack.new.items)) }
+    ensures err { IfErr result (Says (judged strict (behind_move (json_of value) (frames_of stack.old.items) c))) }
+{
+    if is_space(c) {
+        return Ok(Place::Behind(value));
+    }
+    next_step(stack, value, c)
+}
+
+/// A list without items.
+fn empty_list(alloc: Global) -> Tree
+    ensures { json_of result ≡ array no_items }
+{
+    Tree::List(Vec::new(alloc))
+}
+
+/// Behind a `[`.
+fn first_item_step(
+    alloc: Global,
+    stack: &mut Vec<Frame>,
+    c: char,
+) -> Result<Place, JsonKind>
+    ensures ok { IfOk result (λ p. judged strict (move at_first_item (frames_of stack.old.items) c) ≡ Ok (state_of p stack.new.items)) }
+    ensures err { IfErr result (Says (judged strict (move at_first_item (frames_of stack.old.items) c))) }
+{
+    if is_space(c) {
+        return Ok(Place::FirstItem);
+    }
+    if c == ']' {
+        return Ok(Place::Behind(empty_list(alloc)));
+    }
+    stack.push(Frame::List(Vec::new(alloc)))?;
+    value_step(alloc, stack, c)
+}
+
+/// Behind a `{`.
+fn first_key_step(alloc: Global, c: char) -> Result<Place, JsonKind>
+    ensures ok { IfOk result (λ p. (fs : List StackFrame) → judged strict (move at_first_key fs c) ≡ Ok (state (place_of p) fs)) }
+    ensures err { IfErr result (λ k. (fs : List StackFrame) → Says (judged strict (move at_first_key fs c)) k) }
+{
+    match c {
+        ' ' | '\t' | '\n' | '\r' => Ok(Place::FirstKey),
+        '"' => Ok(Place::Key(Members::new(alloc), String::new(alloc), Escape::Outside)),
+        '}' => Ok(Place::Behind(Tree::Object(Vec::new(alloc)))),
+        _ => Err(JsonKind::Syntax),
+    }
+}
+
+/// Behind a comma in an object.
+fn next_key_step(alloc: Global, members: Members, c: char) -> Result<Place, JsonKind>
+    ensures ok { IfOk result (λ p. (fs : List StackFrame) → judged strict (move (at_next_key (entries_of members.list.items)) fs c) ≡ Ok (state (place_of p) fs)) }
+    ensures err { IfErr result (λ k. (fs : List StackFrame) → Says (judged strict (move (at_next_key (entries_of members.list.items)) fs c)) k) }
+{
+    match c {
+        ' ' | '\t' | '\n' | '\r' => Ok(Place::NextKey(members)),
+        '"' => Ok(Place::Key(members, String::new(alloc), Escape::Outside)),
+        _ => Err(JsonKind::Syntax),
+    }
+}
+
+/// In a key.
+fn key_step(
+    members: Members,
+    text: String,
+    escape: Escape,
+    c: char,
+) -> Result<Place, JsonKind>
+    requires fine { IsFine escape }
+    ensures ok { IfOk result (λ p. (fs : List StackFrame) → judged strict (move (in_key (entries_of members.list.items) (string_bytes text) escape) fs c) ≡ Ok (state (place_of p) fs)) }
+    ensures err { IfErr result (λ k. (fs : List StackFrame) → Says (judged strict (move (in_key (entries_of members.list.items) (string_bytes text) escape) fs c)) k) }
+{
+    match quote_step(text, escape, c)? {
+        Quote::Going(text, escape) => Ok(Place::Key(members, text, escape)),
+        Quote::Closed(key) => {
+            if members.has(key.as_str()) {
+                return Err(JsonKind::Duplicate);
+            }
+            Ok(Place::Colon(members, key))
+        }
+    }
+}
+
+/// Behind a key.
+fn colon_step(
+    stack: &mut Vec<Frame>,
+    members: Members,
+    key: String,
+    c: char,
+) -> Result<Place, JsonKind>
+    ensures ok { IfOk result (λ p. judged strict (move (behind_key (entries_of members.list.items) (string_bytes key)) (frames_of stack.old.items) c) ≡ Ok (state_of p stack.new.items)) }
+    ensures err { IfErr result (Says (judged strict (move (behind_key (entries_of members.list.items) (string_bytes key)) (frames_of stack.old.items) c))) }
+{
+    match c {
+        ' ' | '\t' | '\n' | '\r' => Ok(Place::Colon(members, key)),
+        ':' => {
+            stack.push(Frame::Object(members, key))?;
+            Ok(Place::Value)
+        }
+        _ => Err(JsonKind::Syntax),
+    }
+}
+
+/// In a string.
+fn text_step(text: String, escape: Escape, c: char) -> Result<Place, JsonKind>
+    requires fine { IsFine escape }
+    ensures ok { IfOk result (λ p. (fs : List StackFrame) → judged strict (move (in_string (string_bytes text) escape) fs c) ≡ Ok (state (place_of p) fs)) }
+    ensures err { IfErr result (λ k. (fs : List StackFrame) → Says (judged strict (move (in_string (string_bytes text) escape) fs c)) k) }
+{
+    match quote_step(text, escape, c)? {
+        Quote::Going(text, escape) => Ok(Place::Text(text, escape)),
+        Quote::Closed(text) => Ok(Place::Behind(Tree::Text(text))),
+    }
+}
+
+/// In a number, which ends where a character does not go on with it.
+fn number_step(
+    stack: &mut Vec<Frame>,
+    mut text: String,
+    part: Part,
+    c: char,
+) -> Result<Place, JsonKind>
+    ensures ok { IfOk result (λ p. judged strict (move (in_number (string_bytes text) part) (frames_of stack.old.items) c) ≡ Ok (state_of p stack.new.items)) }
+    ensures err { IfErr result (Says (judged strict (move (in_number (string_bytes text) part) (frames_of stack.old.items) c))) }
+{
+    match part_step(part, c) {
+        Some(next) => {
+            text.push(c)?;
+            Ok(Place::Number(text, next))
+        }
+        None => {
+            if is_done(part) {
+                return behind_step(stack, Tree::Number(text), c);
+            }
+            Err(JsonKind::Syntax)
+        }
+    }
+}
+
+/// In a word.
+fn word_step(
+    stack: &mut Vec<Frame>,
+    word: Word,
+    read: usize,
+    c: char,
+) -> Result<Place, JsonKind>
+    ensures ok { IfOk result (λ p. judged strict (move (in_word (letters_from word read) (value_of word)) (frames_of stack.old.items) c) ≡ Ok (state_of p stack.new.items)) }
+    ensures err { IfErr result (Says (judged strict (move (in_word (letters_from word read) (value_of word)) (frames_of stack.old.items) c))) }
+{
+    match word.letter(read) {
+        Some(letter) => {
+            if c == letter {
+                return Ok(Place::Word(word, read + 1));
+            }
+            Err(JsonKind::Syntax)
+        }
+        None => behind_step(stack, word.tree(), c),
+    }
+}
+
+/// The place once c follows; the stack holds what is open around it. On an error the stack is left as it may be.
+pub(crate) fn step(
+    alloc: Global,
+    place: Place,
+    stack: &mut Vec<Frame>,
+    c: char,
+) -> Result<Place, JsonKind>
+    requires fine { IsFinePlace (place_of place) }
+    ensures ok { IfOk result (λ p. machine_step strict (state_of place stack.old.items) c ≡ Ok (state_of p stack.new.items)) }
+    ensures err { IfErr result (Says (machine_step strict (state_of place stack.old.items) c)) }
+{
+    match place {
+        Place::Value => {
+            if is_space(c) {
+                return Ok(Place::Value);
+            }
+            value_step(alloc, stack, c)
+        }
+        Place::FirstItem => first_item_step(alloc, stack, c),
+        Place::Behind(value) => behind_step(stack, value, c),
+        Place::FirstKey => first_key_step(alloc, c),
+        Place::NextKey(members) => next_key_step(alloc, members, c),
+        Place::Key(members, text, escape) => key_step(members, text, escape, c),
+        Place::Colon(members, key) => colon_step(stack, members, key, c),
+        Place::Text(text, escape) => text_step(text, escape, c),
+        Place::Number(text, part) => number_step(stack, text, part, c),
+        Place::Word(word, read) => word_step(stack, word, read, c),
+    }
+}
