@@ -12,7 +12,7 @@ use Rattle.domain_run.specs.declared.call.Call.{Call}
 use Rattle.domain_run.specs.declared.call.Call.TheVariants.{Admit, Regrade, Wake, Leave, Advance}
 use Rattle.call_book.specs.declared.times.Times.{Times}
 use Rattle.call_book.specs.Spelling.{line_of, call_fields, flag_text, script_text}
-use Rattle.call_book.specs.Limits.{IsClient, IsAdmission, IsCall, IsReadableCall, IsReadableScript}
+use Rattle.call_book.specs.Limits.{IsClient, IsAdmission, IsCall, IsReadCall, IsReadScript}
 use Rattle.call_book.specs.Reading.{◌>>=◌, cut_at, number_within_at, field_at, times_at, params_at, name_at, script_at, plan_at, admit_at, advance_at, call_at, domain_at}
 use Rattle.call_book.proofs.Cuts.{Lacks, Lacks-append, Lacks-written, cut_takes, cut_again}
 use Rattle.call_book.proofs.Numbers.{bind_some, within_takes, within_again, decimal_lacks}
@@ -115,7 +115,7 @@ record TookPlan (text : List ℕ) (delay : ℕ) (script : ScriptView) : Type 0 w
   text_is : text ≡ codes "-" ++ (32 ∷ (decimal delay ++ (32 ∷ script_text script)))
   soon : delay ≤ 1000000000
   scripted : IsScript script
-  read : IsReadableScript script
+  read : IsReadScript script
 
 took_plan : (text : List ℕ) (plan : ℕ × ScriptView) → PlanParts text plan → TookPlan text plan.0 plan.1
 took_plan text plan p =
@@ -130,7 +130,7 @@ took_plan text plan p =
 plan_takes : (text : List ℕ) (plan : ℕ × ScriptView) → plan_at text ≡ Some plan → TookPlan text plan.0 plan.1
 plan_takes text plan h = took_plan text plan (plan_parts text plan h)
 
-plan_again : (delay : ℕ) (script : ScriptView) → delay ≤ 1000000000 → IsScript script → IsReadableScript script → plan_at (codes "-" ++ (32 ∷ (decimal delay ++ (32 ∷ script_text script)))) ≡ paired delay script
+plan_again : (delay : ℕ) (script : ScriptView) → delay ≤ 1000000000 → IsScript script → IsReadScript script → plan_at (codes "-" ++ (32 ∷ (decimal delay ++ (32 ∷ script_text script)))) ≡ paired delay script
 unfolding plan_at
 plan_again delay script soon is read =
     rw (cut_again 32 (codes "-") (decimal delay ++ (32 ∷ script_text script)) ((λ e. absurd (omega arith)), tt), field_again 0 1000000000 delay (script_text script) (omega arith) soon (omega arith), script_again script is read) refl
@@ -143,7 +143,7 @@ admit_text number name params delay script = decimal number ++ (32 ∷ (name ++ 
 
 -- a call that is read
 abbrev pub IsCallRead : Call → Type 0
-IsCallRead call = IsCall call × IsReadableCall call
+IsCallRead call = IsCall call × IsReadCall call
 
 -- what follows the client in a call that is read
 abbrev call_text : Call → List ℕ
@@ -222,7 +222,7 @@ name_lacks : (c : ℕ) (text : List ℕ) → c < 33 → All (λ b. (33 ≤ b) ×
 name_lacks c [] low h = tt
 name_lacks c (x ∷ xs) low h = ((λ same. omega (arith, same, h 0 0 (omega arith))), name_lacks c xs low (λ k d lt. h (suc k) d (omega arith)))
 
-admit_again : (number : ℕ) (name : List ℕ) (params : ParamsView) (delay : ℕ) (script : ScriptView) → IsAdmission number name params delay script → params.reclaim ≡ false → IsReadableScript script
+admit_again : (number : ℕ) (name : List ℕ) (params : ParamsView) (delay : ℕ) (script : ScriptView) → IsAdmission number name params delay script → params.reclaim ≡ false → IsReadScript script
     → admit_at (admit_text number name params delay script) ≡ Some (Admit number name params delay script)
 unfolding admit_at
 admit_again number name params delay script is plain read =
@@ -261,7 +261,7 @@ by_word word text call true advance is other h = subst (λ (w : List ℕ). TookC
 by_word word text call false true other is h = subst (λ (w : List ℕ). TookCall w text call) (sym ((bytes_eq-Decides word (codes "advance")).0 is)) (advance_takes text call h)
 by_word word text call false false other another h = absurd cc
 
-line_is : (client : ℕ) (call : Call) → IsReadableCall call → line_of (call_fields client call) ≡ word_text call ++ (32 ∷ (decimal client ++ (32 ∷ call_text call)))
+line_is : (client : ℕ) (call : Call) → IsReadCall call → line_of (call_fields client call) ≡ word_text call ++ (32 ∷ (decimal client ++ (32 ∷ call_text call)))
 line_is client (Admit number name params delay script) read = refl
 line_is client (Regrade number params word) read = absurd read
 line_is client (Wake number) read = absurd read

@@ -16,7 +16,7 @@ use Rattle.domain_run.specs.declared.script.Event.TheVariants.{Run, Sleep, Timer
 use Rattle.domain_run.specs.script.Segments.{rounds_of, IsLoops}
 use Rattle.domain_run.specs.script.ScriptView.{PhaseView, ScriptView, script_of, IsEvent, IsPhase, IsScript}
 use Rattle.call_book.specs.Spelling.{event_text, events_text, phase_text, loops_text, script_text}
-use Rattle.call_book.specs.Limits.{IsReadableEvent, IsReadableScript}
+use Rattle.call_book.specs.Limits.{IsReadEvent, IsReadScript}
 use Rattle.call_book.specs.Reading.{◌>>=◌, cut_at, number_within_at, event_at, event_first_at, events_at, phase_at, phase_first_at, phases_at, rounds_at, script_at}
 use Rattle.call_book.proofs.Cuts.{Lacks, Lacks-append, cut_takes, cut_none, cut_again}
 use Rattle.call_book.proofs.Numbers.{bind_some, within_takes, within_again, decimal_lacks}
@@ -25,7 +25,7 @@ use Rattle.call_book.proofs.Lists.{ReadsItems, TookItem, many_takes, many_again,
 -- ---- events
 
 abbrev pub IsEventRead : Event → Type 0
-IsEventRead e = IsEvent e × IsReadableEvent e
+IsEventRead e = IsEvent e × IsReadEvent e
 
 run_takes : (digits : List ℕ) (e : Event) → (number_within_at 1 1000000000 digits >>= λ n. Some (Run n)) ≡ Some e → IsEventRead e × (114 ∷ digits ≡ event_text e)
 run_takes digits e h =
@@ -213,20 +213,20 @@ abbrev AreRounds : Option ℕ → Type 0
 AreRounds rounds = IfSome rounds (λ n. (0 < n) × (n ≤ 1000000000))
 
 -- what the definitions say of a script that is read
-pub is_phase : (p : PhaseView) → IsPhaseRead p → IsPhase p × All IsReadableEvent p.events
+pub is_phase : (p : PhaseView) → IsPhaseRead p → IsPhase p × All IsReadEvent p.events
 is_phase p is =
     let each = All-from_recursion IsEventRead p.events is.2.each in
-    (record { some = is.0; most = is.1; some_events = is.2.some; most_events = is.2.few; events = All-weaker IsEventRead IsEvent (λ e h. h.0) p.events each }, All-weaker IsEventRead IsReadableEvent (λ e h. h.1) p.events each)
+    (record { some = is.0; most = is.1; some_events = is.2.some; most_events = is.2.few; events = All-weaker IsEventRead IsEvent (λ e h. h.0) p.events each }, All-weaker IsEventRead IsReadEvent (λ e h. h.1) p.events each)
 
-pub phase_is : (p : PhaseView) → IsPhase p → All IsReadableEvent p.events → IsPhaseRead p
+pub phase_is : (p : PhaseView) → IsPhase p → All IsReadEvent p.events → IsPhaseRead p
 phase_is p is read = (is.some, is.most, record { some = is.some_events; few = is.most_events; each = recursion_from_All IsEventRead p.events (λ k d lt. (is.events k d lt, read k d lt)) })
 
-pub is_script : (s : ScriptView) → AreRounds s.rounds → ArePhasesRead s.phases → IsScript s × IsReadableScript s
+pub is_script : (s : ScriptView) → AreRounds s.rounds → ArePhasesRead s.phases → IsScript s × IsReadScript s
 is_script s rounds are =
     let each = All-from_recursion IsPhaseRead s.phases are.each in
-    (record { rounds = rounds; some_phases = are.some; most_phases = are.few; phases = All-weaker IsPhaseRead IsPhase (λ p h. (is_phase p h).0) s.phases each }, All-weaker IsPhaseRead (λ p. All IsReadableEvent p.events) (λ p h. (is_phase p h).1) s.phases each)
+    (record { rounds = rounds; some_phases = are.some; most_phases = are.few; phases = All-weaker IsPhaseRead IsPhase (λ p h. (is_phase p h).0) s.phases each }, All-weaker IsPhaseRead (λ p. All IsReadEvent p.events) (λ p h. (is_phase p h).1) s.phases each)
 
-pub script_is : (s : ScriptView) → IsScript s → IsReadableScript s → ArePhasesRead s.phases
+pub script_is : (s : ScriptView) → IsScript s → IsReadScript s → ArePhasesRead s.phases
 script_is s is read = record { some = is.some_phases; few = is.most_phases; each = recursion_from_All IsPhaseRead s.phases (λ k d lt. phase_is _ (is.phases k d lt) (read k d lt)) }
 
 rounds_by : (text : List ℕ) (rounds : Option ℕ) (b : Bool) → bytes_eq text (codes "-1") ≡ b → cond b (Some None) (number_within_at 1 1000000000 text >>= λ n. Some (Some n)) ≡ Some rounds → AreRounds rounds × (text ≡ loops_text rounds)
@@ -264,7 +264,7 @@ phases_lack c (p ∷ phases) mark no_comma no_brace no_end each =
     Lacks-append c (phase_text p) (flat_map phase_text phases) first (phases_lack c phases mark no_comma no_brace no_end each.1)
 
 -- a script has no line break
-pub script_lacks : (s : ScriptView) → IsScript s → IsReadableScript s → Lacks 10 (script_text s)
+pub script_lacks : (s : ScriptView) → IsScript s → IsReadScript s → Lacks 10 (script_text s)
 script_lacks s is read =
     Lacks-append 10 (loops_text s.rounds) (58 ∷ flat_map phase_text s.phases) (loops_lack 10 s.rounds refl refl is.rounds)
     (eqb-false 58 10 refl, phases_lack 10 s.phases (record { digit = refl; run = refl; sleep = refl }) refl refl refl (script_is s is read).each)
@@ -272,7 +272,7 @@ script_lacks s is read =
 abbrev made_script : Option ℕ → List PhaseView → Option ScriptView
 made_script rounds phases = Some (script_of rounds phases)
 
-pub script_takes : (text : List ℕ) (s : ScriptView) → script_at text ≡ Some s → (IsScript s × IsReadableScript s) × (text ≡ script_text s)
+pub script_takes : (text : List ℕ) (s : ScriptView) → script_at text ≡ Some s → (IsScript s × IsReadScript s) × (text ≡ script_text s)
 unfolding script_at
 script_takes text s h =
     let a = bind_some (cut_at 58 text) (λ q. rounds_at q.0 >>= λ rounds. phases_at q.1 >>= λ phases. made_script rounds phases) s h in
@@ -281,9 +281,9 @@ script_takes text s h =
     let rounds = rounds_take a.0.0 b.0 b.1 in
     let phases = phases_take a.0.1 d.0 d.1 in
     let whole : text ≡ loops_text b.0 ++ (58 ∷ flat_map phase_text d.0) = cut_takes 58 text a.0 a.1 ∙ ap (λ (x : List ℕ). x ++ (58 ∷ a.0.1)) rounds.1 ∙ ap (λ (y : List ℕ). loops_text b.0 ++ (58 ∷ y)) phases.1 in
-    subst (λ (q : ScriptView). (IsScript q × IsReadableScript q) × (text ≡ script_text q)) (same_Some (script_of b.0 d.0) s d.2) (is_script (script_of b.0 d.0) rounds.0 phases.0, whole)
+    subst (λ (q : ScriptView). (IsScript q × IsReadScript q) × (text ≡ script_text q)) (same_Some (script_of b.0 d.0) s d.2) (is_script (script_of b.0 d.0) rounds.0 phases.0, whole)
 
-pub script_again : (s : ScriptView) → IsScript s → IsReadableScript s → script_at (script_text s) ≡ Some s
+pub script_again : (s : ScriptView) → IsScript s → IsReadScript s → script_at (script_text s) ≡ Some s
 unfolding script_at
 script_again s is read =
     rw (cut_again 58 (loops_text s.rounds) (flat_map phase_text s.phases) (loops_lack 58 s.rounds refl refl is.rounds), rounds_again s.rounds is.rounds, phases_again s.phases (script_is s is read)) refl

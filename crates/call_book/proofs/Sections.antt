@@ -18,7 +18,7 @@ use Rattle.call_book.specs.declared.fault.PartFault.TheVariants.{Bad, Memory}
 use Rattle.call_book.specs.SectionView.{SectionView}
 use Rattle.call_book.specs.Spelling.{entry_line, domain_line, section_lines, lines_of, text_of, spelling}
 use Rattle.call_book.specs.OwnCalls.{IsNumbered, IsNumberedAfter, made_by}
-use Rattle.call_book.specs.Limits.{IsEntry, IsReadableCall, IsSection, AreReadable}
+use Rattle.call_book.specs.Limits.{IsEntry, IsReadCall, IsSection, AreRead}
 use Rattle.call_book.specs.BadLine.{IsBadLine, MeansFault}
 use Rattle.call_book.specs.Reading.{cut_at, call_at, domain_at, IsEntryRead, entries_text, SoFar, Stops, StopsAt, Fails, fault_from}
 use Rattle.call_book.proofs.Cuts.{Lacks-written, cut_takes, cut_again}
@@ -36,7 +36,7 @@ pub record IsSectionRead (s : SectionView) : Type 0 where
 only_one : {X : Type 0} (P : X → Type 0) (x : X) → P x → All P (x ∷ [])
 only_one P x h = All-cons P x [] h (All-nil P)
 
-pub are_read : (s : SectionView) → IsSectionRead s → AreReadable (s ∷ [])
+pub are_read : (s : SectionView) → IsSectionRead s → AreRead (s ∷ [])
 are_read s is =
     let each = All-from_recursion IsEntryRead s.entries is.each in
     record {
@@ -54,7 +54,7 @@ are_read s is =
         });
       };
       unanswered = only_one (λ (t : SectionView). All (λ (e : Entry). e.reply ≡ None) t.entries) s (All-weaker IsEntryRead (λ e. e.reply ≡ None) (λ e h. h.unanswered) s.entries each);
-      calls = only_one (λ (t : SectionView). All (λ (e : Entry). IsReadableCall e.call) t.entries) s (All-weaker IsEntryRead (λ e. IsReadableCall e.call) (λ e h. h.read) s.entries each);
+      calls = only_one (λ (t : SectionView). All (λ (e : Entry). IsReadCall e.call) t.entries) s (All-weaker IsEntryRead (λ e. IsReadCall e.call) (λ e h. h.read) s.entries each);
       one_cpu = is.one;
     }
 
@@ -64,12 +64,12 @@ pub record OneRead (sections : List SectionView) : Type 0 where
   pub one : sections ≡ section ∷ []
   pub is : IsSectionRead section
 
-pub one_read : (sections : List SectionView) → AreReadable sections → OneRead sections
+pub one_read : (sections : List SectionView) → AreRead sections → OneRead sections
 one_read [] are = absurd are.one_cpu
 one_read (s ∷ []) are =
     let is = All-head IsSection s [] are.within.each in
     let unanswered = All-head (λ (t : SectionView). All (λ (e : Entry). e.reply ≡ None) t.entries) s [] are.unanswered in
-    let calls = All-head (λ (t : SectionView). All (λ (e : Entry). IsReadableCall e.call) t.entries) s [] are.calls in
+    let calls = All-head (λ (t : SectionView). All (λ (e : Entry). IsReadCall e.call) t.entries) s [] are.calls in
     record {
       section = s;
       one = refl;
@@ -111,7 +111,7 @@ sample_is = record { one = refl; low = omega arith; high = omega arith; few = om
 -- ---- the first bad line
 
 -- the first line of an accepted text
-first_line : (sections : List SectionView) → AreReadable sections → (line : List ℕ) (more : List (List ℕ)) → lines_of sections ≡ line ∷ more → line ≡ codes "dlcalls 1"
+first_line : (sections : List SectionView) → AreRead sections → (line : List ℕ) (more : List (List ℕ)) → lines_of sections ≡ line ∷ more → line ≡ codes "dlcalls 1"
 first_line sections are line more e = cc
 
 pub bad_header : (text : List ℕ) → ((after : List ℕ) → text ≡ codes "dlcalls 1" ++ (10 ∷ after) → ⊥) → IsBadLine text 1
@@ -287,7 +287,7 @@ same_section s t is is' e =
     let entries = same_entries [] s.entries t.entries is.each is'.each is.numbered is'.numbered parts.rest_is in
     ap (λ (c : ℕ). section_from c s.limit s.entries) p.0 ∙ ap (λ (l : ℕ). section_from t.cpus l s.entries) p.1 ∙ ap (section_from t.cpus t.limit) entries
 
-pub same_sections : (ss ts : List SectionView) → AreReadable ss → AreReadable ts → spelling ss ≡ spelling ts → ss ≡ ts
+pub same_sections : (ss ts : List SectionView) → AreRead ss → AreRead ts → spelling ss ≡ spelling ts → ss ≡ ts
 same_sections ss ts are are' e =
     let s = one_read ss are in
     let t = one_read ts are' in
@@ -344,7 +344,7 @@ entries_fault text line rest d (faults.BadLine n) o read stop =
 entries_fault text line rest d faults.Memory o read stop = tt
 
 pub section_found : (text line rest : List ℕ) (d : ℕ × ℕ) (entries : List Entry) → Opens text line rest → domain_at line ≡ Some d → SoFar rest [] entries → length entries ≤ 65536
-    → AreReadable (section_from d.0 d.1 entries ∷ []) × (text ≡ spelling (section_from d.0 d.1 entries ∷ []))
+    → AreRead (section_from d.0 d.1 entries ∷ []) × (text ≡ spelling (section_from d.0 d.1 entries ∷ []))
 section_found text line rest d entries o read so_far few =
     let t = domain_takes line d read in
     let s = section_from d.0 d.1 entries in

@@ -4,15 +4,15 @@ use Rattle.call_book.specs.declared.fault.CallsFault.{CallsFault}
 use Rattle.call_book.specs.declared.fault.CallsFault.TheVariants.{BadLine, Memory}
 use Rattle.call_book.specs.SectionView.{SectionView}
 use Rattle.call_book.specs.Spelling.{lines_of, text_of, spelling}
-use Rattle.call_book.specs.Limits.{AreReadable}
+use Rattle.call_book.specs.Limits.{AreRead}
 
 -- for now a text is accepted where it is that of sections that are read
 abbrev pub IsAccepted : List ℕ → Type 0
-IsAccepted text = (sections : List SectionView) × AreReadable sections × (text ≡ spelling sections)
+IsAccepted text = (sections : List SectionView) × AreRead sections × (text ≡ spelling sections)
 
 -- these are the first lines of some accepted text
 abbrev pub Begins : List (List ℕ) → Type 0
-Begins lines = (sections : List SectionView) × AreReadable sections × (more : List (List ℕ)) × (lines_of sections ≡ lines ++ more)
+Begins lines = (sections : List SectionView) × AreRead sections × (more : List (List ℕ)) × (lines_of sections ≡ lines ++ more)
 
 -- Line n is the first at which the text stops being a front of whole lines of an accepted text: the lines before it begin an
 -- accepted text, with line n they begin none, and the text itself is not accepted. So an unfinished last line is bad, and

@@ -77,22 +77,22 @@ pub record AreSections (sections : List SectionView) : Type 0 where
 -- ---- what is read
 
 -- for now run and sleep
-abbrev pub IsReadableEvent : Event → Type 0
-IsReadableEvent (Run n) = Unit {0}
-IsReadableEvent (Sleep n) = Unit {0}
-IsReadableEvent (Timer n) = ⊥
-IsReadableEvent Wait = ⊥
+abbrev pub IsReadEvent : Event → Type 0
+IsReadEvent (Run n) = Unit {0}
+IsReadEvent (Sleep n) = Unit {0}
+IsReadEvent (Timer n) = ⊥
+IsReadEvent Wait = ⊥
 
-abbrev pub IsReadableScript : ScriptView → Type 0
-IsReadableScript s = All (λ p. All IsReadableEvent p.events) s.phases
+abbrev pub IsReadScript : ScriptView → Type 0
+IsReadScript s = All (λ p. All IsReadEvent p.events) s.phases
 
 -- for now admissions of tasks that do not reclaim, and advances
-abbrev pub IsReadableCall : Call → Type 0
-IsReadableCall (Admit number name params delay script) = (params.reclaim ≡ false) × IsReadableScript script
-IsReadableCall (Regrade number params word) = ⊥
-IsReadableCall (Wake number) = ⊥
-IsReadableCall (Leave number) = ⊥
-IsReadableCall (Advance ticks) = Unit {0}
+abbrev pub IsReadCall : Call → Type 0
+IsReadCall (Admit number name params delay script) = (params.reclaim ≡ false) × IsReadScript script
+IsReadCall (Regrade number params word) = ⊥
+IsReadCall (Wake number) = ⊥
+IsReadCall (Leave number) = ⊥
+IsReadCall (Advance ticks) = Unit {0}
 
 -- for now one section, of one CPU
 abbrev pub IsOneCpu : List SectionView → Type 0
@@ -101,8 +101,8 @@ IsOneCpu (s ∷ []) = s.cpus ≡ 1
 IsOneCpu (s ∷ t ∷ sections) = ⊥
 
 -- what is read: replies are not written, so what is read has none
-pub record AreReadable (sections : List SectionView) : Type 0 where
+pub record AreRead (sections : List SectionView) : Type 0 where
   pub within : AreSections sections
   pub unanswered : All (λ s. All (λ e. e.reply ≡ None) s.entries) sections
-  pub calls : All (λ s. All (λ e. IsReadableCall e.call) s.entries) sections
+  pub calls : All (λ s. All (λ e. IsReadCall e.call) s.entries) sections
   pub one_cpu : IsOneCpu sections

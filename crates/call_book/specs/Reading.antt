@@ -20,7 +20,7 @@ use Rattle.call_book.specs.declared.times.Times.{Times}
 use Rattle.call_book.specs.declared.section.Entry.{Entry}
 use Rattle.call_book.specs.Spelling.{entry_line, text_of}
 use Rattle.call_book.specs.OwnCalls.{IsNumbered, made_by}
-use Rattle.call_book.specs.Limits.{IsClient, IsEntry, IsReadableCall}
+use Rattle.call_book.specs.Limits.{IsClient, IsEntry, IsReadCall}
 
 -- ---- what a part of the reader answers, seen by view, unless memory ran out
 
@@ -194,7 +194,7 @@ fault_from n Memory = faults.Memory
 
 pub record IsEntryRead (e : Entry) : Type 0 where
   pub within : IsEntry e
-  pub read : IsReadableCall e.call
+  pub read : IsReadCall e.call
   pub unanswered : e.reply ≡ None
 
 abbrev pub entries_text : List Entry → List ℕ

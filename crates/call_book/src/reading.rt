@@ -1,7 +1,7 @@
 ghost use Rattle.std.specs.Prelude.{◌≡◌, ◌+◌, ◌-◌, ◌≤◌, ℕ, List, [], ◌∷◌, length, slice_index, slice_set, IfOk, IfErr, IsErrOf, MatchResult, ◌⊎◌};
 ghost use Rattle.call_book.specs.SectionView.{SectionView};
 ghost use Rattle.call_book.specs.Spelling.{spelling};
-ghost use Rattle.call_book.specs.Limits.{IsClient, AreReadable};
+ghost use Rattle.call_book.specs.Limits.{IsClient, AreRead};
 ghost use Rattle.call_book.specs.BadLine.{IsBadLine, MeansFault};
 ghost use Rattle.call_book.specs.Reading.{Fails, fault_from, call_at, IsNext, SoFar, StopsAt};
 
@@ -86,7 +86,7 @@ fn entries_of(alloc: Global, text: &[u8]) -> Result<Vec<Entry>, CallsFault>
 
 /// The one section that a calls text spells.
 fn section_of(alloc: Global, text: &[u8]) -> Result<Section, CallsFault>
-    ensures found { IfOk result (λ s. AreReadable (s ∷ []) × (text.now ≡ spelling (s ∷ []))) }
+    ensures found { IfOk result (λ s. AreRead (s ∷ []) × (text.now ≡ spelling (s ∷ []))) }
     ensures fault { IfErr result (MeansFault text.now) }
 {
     let Some((header, rest)) = cut(text, b'\n') else {
@@ -119,9 +119,9 @@ fn section_of(alloc: Global, text: &[u8]) -> Result<Section, CallsFault>
 /// read. 31 [`CallsFault::Memory`]: a growth was refused; it may come before any bad line.
 pub fn read_calls(alloc: Global, text: &[u8]) -> Result<Vec<Section>, CallsFault>
     // What is read is spelled so.
-    ensures found { IfOk result (λ v. AreReadable v.items × (text.now ≡ spelling v.items)) }
+    ensures found { IfOk result (λ v. AreRead v.items × (text.now ≡ spelling v.items)) }
     // What is spelled so is read, unless memory runs out.
-    ensures only { (sections : List SectionView) → AreReadable sections → text.now ≡ spelling sections
+    ensures only { (sections : List SectionView) → AreRead sections → text.now ≡ spelling sections
         → MatchResult result (λ v. v.items ≡ sections) (λ e. e ≡ CallsFault.Memory) }
     // The line of a fault is the bad one.
     ensures fault { IfErr result (MeansFault text.now) }
