@@ -1,3 +1,4 @@
 pub mod Ratio
 pub mod ParamsView
 pub mod Accepted
+pub mod Examples
