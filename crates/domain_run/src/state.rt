@@ -149,7 +149,13 @@ impl State {
         sweep::gather(&mut self.ready, &self.tasks);
         copy_places(&mut self.before, &self.places);
         edf_pick::place(&mut self.places, &self.ready);
-        sweep::add_switches(&mut self.switches, time, &self.tasks, &self.before, &self.places);
+        sweep::add_switches(
+            &mut self.switches,
+            time,
+            &self.tasks,
+            &self.before,
+            &self.places,
+        );
         sweep::home_all(&mut self.tasks, &self.places);
         Ok(())
     }

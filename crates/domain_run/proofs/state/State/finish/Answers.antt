@@ -30,9 +30,9 @@ invariant_of-self c =
     let d : Domain = record { cpus = s.cpus; limit = s.limit; time = s.time; tasks = s.tasks.items; used = s.used; places = s.places.items; switches = s.switches.items } in
     let each : (cpu : ℕ) → slice_index c.inactive.new.idle.items cpu ≡ uinact cpu (shares d.tasks) = λ cpu. c.inactive.ensures.each cpu ∙ ap (λ ts. uinact cpu (shares ts)) c.deref.ensures.value in
     let ran : c.run_all.new.tasks.items ≡ map (ran_if d) d.tasks =
-      c.run_all.ensures.tasks
-      ∙ ap (λ (ps : Places). map (ran_with s.time ps c.inactive.new.idle.items c.sum_of.result s.cpus s.limit) d.tasks) c.deref-3.ensures.value
-      ∙ ran_as d c.inactive.new.idle.items c.sum_of.result each (c.sum_of.ensures ∙ ap sum_of c.deref-2.ensures.value) in
+    c.run_all.ensures.tasks
+    ∙ ap (λ (ps : Places). map (ran_with s.time ps c.inactive.new.idle.items c.sum_of.result s.cpus s.limit) d.tasks) c.deref-3.ensures.value
+    ∙ ran_as d c.inactive.new.idle.items c.sum_of.result each (c.sum_of.ensures ∙ ap sum_of c.deref-2.ensures.value) in
     let early : d.time < 2 ^ 42 = subst (λ (x : Domain). x.time < 2 ^ 42) (sym c.self.view_is) c.requires.early in
     let is = finished_is d c.self.invariant.domain early (subst (All (IsSound (d.time + 1))) ran c.run_all.ensures.sound) in
     record {
@@ -49,7 +49,7 @@ returns c =
     let d : Domain = record { cpus = s.cpus; limit = s.limit; time = s.time; tasks = s.tasks.items; used = s.used; places = s.places.items; switches = s.switches.items } in
     let each : (cpu : ℕ) → slice_index c.inactive.new.idle.items cpu ≡ uinact cpu (shares d.tasks) = λ cpu. c.inactive.ensures.each cpu ∙ ap (λ ts. uinact cpu (shares ts)) c.deref.ensures.value in
     let ran : c.run_all.new.tasks.items ≡ map (ran_if d) d.tasks =
-      c.run_all.ensures.tasks
-      ∙ ap (λ (ps : Places). map (ran_with s.time ps c.inactive.new.idle.items c.sum_of.result s.cpus s.limit) d.tasks) c.deref-3.ensures.value
-      ∙ ran_as d c.inactive.new.idle.items c.sum_of.result each (c.sum_of.ensures ∙ ap sum_of c.deref-2.ensures.value) in
+    c.run_all.ensures.tasks
+    ∙ ap (λ (ps : Places). map (ran_with s.time ps c.inactive.new.idle.items c.sum_of.result s.cpus s.limit) d.tasks) c.deref-3.ensures.value
+    ∙ ran_as d c.inactive.new.idle.items c.sum_of.result each (c.sum_of.ensures ∙ ap sum_of c.deref-2.ensures.value) in
     finished_as d c.args.self.now c.run_all.new.tasks.items c.self.view_is ran
