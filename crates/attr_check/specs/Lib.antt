@@ -1,3 +1,5 @@
 pub mod Ratio
 pub mod ParamsView
 pub mod Accepted
+pub mod RefusalName
+pub mod Examples

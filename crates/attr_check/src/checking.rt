@@ -7,6 +7,7 @@ use crate::ratio::to_ratio;
 use crate::refusal::AttrRefusal;
 
 const SCHED_DEADLINE: u32 = 6;
+
 const TOP: u64 = 1 << 63;
 
 /// The parameters of accepted attributes, in microseconds, or the first refusal, in the order of [`AttrRefusal`]

@@ -22,6 +22,11 @@ pub enum AttrRefusal {
 }
 
 impl fmt::Display for AttrRefusal {
+    ghost use Rattle.std.specs.Prelude.{Some};
+    ghost use Rattle.attr_check.specs.RefusalName.{refusal_name};
+
+    ghost output = { λ r. Some (refusal_name r) };
+
     fn fmt<W: fmt::Write>(&self, f: &mut fmt::Formatter<W>) -> fmt::Result {
         f.write_str(match self {
             AttrRefusal::NotDeadline => "NotDeadline",

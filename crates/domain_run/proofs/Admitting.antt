@@ -68,8 +68,8 @@ listed_is d number name params delay script is short room fresh fits =
       homes = All-push (λ t. t.cpu < d.cpus) d.tasks t is.homes (omega (arith, is.some));
       numbered = all_pairs_push (λ a b. a.number ≢ b.number) d.tasks t is.numbered (λ k x h e. let no : true ≡ false = sym (is.known k x h) ∙ ap (λ m. list_any (λ n. eqb n m) d.used) e ∙ fresh in absurd cc);
       known = All-push (λ t. IsTrue (list_any (λ n. eqb n t.number) (with_number number d.used))) d.tasks t
-        (All-weaker (λ t. IsTrue (list_any (λ n. eqb n t.number) d.used)) (λ t. IsTrue (list_any (λ n. eqb n t.number) (with_number number d.used))) (λ x h. with_number_contains number x.number d.used ∙ or_right (eqb number x.number) (list_any (λ n. eqb n x.number) d.used) h) d.tasks is.known)
-        (with_number_contains number number d.used ∙ or_left (eqb number number) (list_any (λ n. eqb n number) d.used) (eq-eqb number number refl));
+          (All-weaker (λ t. IsTrue (list_any (λ n. eqb n t.number) d.used)) (λ t. IsTrue (list_any (λ n. eqb n t.number) (with_number number d.used))) (λ x h. with_number_contains number x.number d.used ∙ or_right (eqb number x.number) (list_any (λ n. eqb n x.number) d.used) h) d.tasks is.known)
+          (with_number_contains number number d.used ∙ or_left (eqb number number) (list_any (λ n. eqb n number) d.used) (eq-eqb number number refl));
       wide = is.wide;
       apart = is.apart;
     }

@@ -54,10 +54,10 @@ position_at : (places : Places) (cpu n : ℕ) → IsApart places → occupant pl
 position_at places cpu n apart e =
     let within = there places cpu n e in
     let before : (k : ℕ) → k < cpu → is_task n (get_or places k None) ≡ false = λ k less.
-      elim (is_task n (occupant places k)) as (λ b. is_task n (occupant places k) ≡ b → b ≡ false) [
-        | true ↦ λ h. let same : k ≡ cpu = apart.once k cpu n (task_there n (occupant places k) h) e in absurd (omega arith)
-        | false ↦ λ h. refl
-      ] refl in
+    elim (is_task n (occupant places k)) as (λ b. is_task n (occupant places k) ≡ b → b ≡ false) [
+      | true ↦ λ h. let same : k ≡ cpu = apart.once k cpu n (task_there n (occupant places k) h) e in absurd (omega arith)
+      | false ↦ λ h. refl
+    ] refl in
     rw (position_or_len_is (is_task n) places cpu None (omega arith) before (λ h. task_is n (occupant places cpu) e), lt-ltb cpu (length places) within) refl
 
 homed_condition : (o : Option ℕ) (t : Task) → (homed_at o t).condition ≡ t.condition
@@ -90,9 +90,13 @@ placed_one time tasks places cpu n sound at_cpu (k, t, within, same, test) =
     let homed_there : (homed places t).cpu ≡ cpu = ap (λ x. (homed_at x t).cpu) at in
     let is_sound : IsSound time t = subst (IsSound time) same (sound k t within) in
     let left : pos 0 <ℤ t.server.left = is_sound.lifted both.1 in
-    let e : length (map (homed places) tasks) ≡ length tasks = simp length-map in
-    (k, homed places t, omega arith, get_or-map (homed places) tasks k t (homed places t) within ∙ ap (homed places) same,
-      (homed_number o t ∙ number, homed_there, ap is_ready (homed_condition o t) ∙ both.1, subst (λ s. pos 0 <ℤ s.left) (sym (homed_server o t)) left))
+    let e : length (map (homed places) tasks) ≡ length tasks = simp length-map in (
+      k,
+      homed places t,
+      omega arith,
+      get_or-map (homed places) tasks k t (homed places t) within ∙ ap (homed places) same,
+      (homed_number o t ∙ number, homed_there, ap is_ready (homed_condition o t) ∙ both.1, subst (λ s. pos 0 <ℤ s.left) (sym (homed_server o t)) left),
+    )
 
 -- the placement of a list of sound tasks
 pub placed_tasks : (time cpus : ℕ) (d : Domain) (tasks : List Task) (places : Places) → All (IsSound time) tasks → IsSeating (candidates tasks) cpus places → IsPlacement (with_places d tasks places)
@@ -109,9 +113,9 @@ one_index tasks i j t u numbered h k e =
     elim (cases_lt i j) [
       | inl less ↦ absurd (numbered i j t less k e)
       | inr at_least ↦ elim (cases_lt j i) [
-          | inl more ↦ absurd (numbered j i t more h (sym e))
-          | inr at_most ↦ omega arith
-        ]
+        | inl more ↦ absurd (numbered j i t more h (sym e))
+        | inr at_most ↦ omega arith
+      ]
     ]
 
 ready_one : (tasks : List Task) (i cpu n : ℕ) (t : Task) → AllPairs (λ a b. a.number ≢ b.number) tasks → i < length tasks → (get_or tasks i t).number ≡ n

@@ -16,13 +16,13 @@ first_is test start zero k low high at_k before =
 first_is test start (suc more) k low high at_k before =
     elim (test start) as (λ b. test start ≡ b → first_passing test b start (suc more) ≡ k) [
       | true ↦ λ e. elim (cases_lt start k) [
-          | inl less ↦ let no : true ≡ false = sym e ∙ before start less in absurd cc
-          | inr at_least ↦ omega arith
-        ]
+        | inl less ↦ let no : true ≡ false = sym e ∙ before start less in absurd cc
+        | inr at_least ↦ omega arith
+      ]
       | false ↦ λ e. elim (cases_lt start k) [
-          | inl less ↦ first_is test (suc start) more k (omega arith) (omega arith) at_k before
-          | inr at_least ↦ let same : start ≡ k = omega arith in let no : true ≡ false = sym at_k ∙ rw (← same) e in absurd cc
-        ]
+        | inl less ↦ first_is test (suc start) more k (omega arith) (omega arith) at_k before
+        | inr at_least ↦ let same : start ≡ k = omega arith in let no : true ≡ false = sym at_k ∙ rw (← same) e in absurd cc
+      ]
     ] refl
 
 -- a number that passes, where no smaller one does

@@ -55,14 +55,14 @@ kept_at cpus ready places cpu =
 pub kept_candidates : (cpus : ℕ) (ready : List Candidate) (places : Places) → AreCandidates ready (map (kept cpus ready) places)
 kept_candidates cpus ready places = record {
   each = λ cpu n e.
-    let k = kept_number cpus ready (occupant places cpu) n (sym (kept_at cpus ready places cpu) ∙ e) in
-    list_any_weaker (λ c. eqb c.number n && is_chosen cpus ready c) (λ c. eqb c.number n) (λ c h. and_left _ _ h) ready k.1;
+      let k = kept_number cpus ready (occupant places cpu) n (sym (kept_at cpus ready places cpu) ∙ e) in
+      list_any_weaker (λ c. eqb c.number n && is_chosen cpus ready c) (λ c. eqb c.number n) (λ c h. and_left _ _ h) ready k.1;
 }
 
 pub kept_apart : (cpus : ℕ) (ready : List Candidate) (places : Places) → IsApart places → IsApart (map (kept cpus ready) places)
 kept_apart cpus ready places apart = record {
   once = λ i j n a b.
-    apart.once i j n (kept_number cpus ready (occupant places i) n (sym (kept_at cpus ready places i) ∙ a)).0 (kept_number cpus ready (occupant places j) n (sym (kept_at cpus ready places j) ∙ b)).0;
+      apart.once i j n (kept_number cpus ready (occupant places i) n (sym (kept_at cpus ready places i) ∙ a)).0 (kept_number cpus ready (occupant places j) n (sym (kept_at cpus ready places j) ∙ b)).0;
 }
 
 -- SEATED
@@ -82,17 +82,17 @@ set_other places cpu i n number h =
     elim (cases_lt i cpu) [
       | inl less ↦ inr (sym (get_or-set_other places cpu i (Some number) None (λ e. absurd (omega arith))) ∙ h)
       | inr at_least ↦ elim (cases_lt cpu i) [
-          | inl more ↦ inr (sym (get_or-set_other places cpu i (Some number) None (λ e. absurd (omega arith))) ∙ h)
-          | inr at_most ↦
+        | inl more ↦ inr (sym (get_or-set_other places cpu i (Some number) None (λ e. absurd (omega arith))) ∙ h)
+        | inr at_most ↦
             let same : i ≡ cpu = omega arith in
             let h2 : occupant (set places cpu (Some number)) cpu ≡ Some n = ap (occupant (set places cpu (Some number))) (sym same) ∙ h in
             elim (cases_lt cpu (length places)) [
               | inl within ↦ inl (same, same_Some n number (sym h2 ∙ get_or-set_same places cpu (Some number) None within))
               | inr past ↦
-                let e : length (set places cpu (Some number)) ≡ length places = length-set places cpu (Some number) in
-                let no : None ≡ Some n = sym (get_or_past (set places cpu (Some number)) cpu None (omega arith)) ∙ h2 in absurd cc
+                  let e : length (set places cpu (Some number)) ≡ length places = length-set places cpu (Some number) in
+                  let no : None ≡ Some n = sym (get_or_past (set places cpu (Some number)) cpu None (omega arith)) ∙ h2 in absurd cc
             ]
-        ]
+      ]
     ]
 
 -- a task that stands nowhere may be put anywhere
@@ -100,16 +100,16 @@ put_apart : (places : Places) (number : ℕ) (cpu : Option ℕ) → stands numbe
 put_apart places number None free apart = apart
 put_apart places number (Some cpu) free apart = record {
   once = λ i j n a b.
-    elim (set_other places cpu i n number a) [
-      | inl p ↦ elim (set_other places cpu j n number b) [
+      elim (set_other places cpu i n number a) [
+        | inl p ↦ elim (set_other places cpu j n number b) [
           | inl q ↦ p.0 ∙ sym q.0
           | inr q ↦ absurd (not_there number places free j (q ∙ ap (λ x. Some x) p.1))
         ]
-      | inr p ↦ elim (set_other places cpu j n number b) [
+        | inr p ↦ elim (set_other places cpu j n number b) [
           | inl q ↦ absurd (not_there number places free i (p ∙ ap (λ x. Some x) q.1))
           | inr q ↦ apart.once i j n p q
         ]
-    ];
+      ];
 }
 
 put_candidates : (ready : List Candidate) (places : Places) (number : ℕ) (cpu : Option ℕ) → is_candidate ready number ≡ true → AreCandidates ready places → AreCandidates ready (put places number cpu)
@@ -133,10 +133,10 @@ seated_keeps ready cpus places c one is =
     elim (stands c.number places) as (λ b. stands c.number places ≡ b → IsSeating ready cpus (cond b places (put places c.number (seat_of places c)))) [
       | true ↦ λ e. is
       | false ↦ λ e. record {
-          wide = put_wide places c.number (seat_of places c) ∙ is.wide;
-          apart = put_apart places c.number (seat_of places c) e is.apart;
-          candidates = put_candidates ready places c.number (seat_of places c) one is.candidates;
-        }
+        wide = put_wide places c.number (seat_of places c) ∙ is.wide;
+        apart = put_apart places c.number (seat_of places c) e is.apart;
+        candidates = put_candidates ready places c.number (seat_of places c) one is.candidates;
+      }
     ] refl
 
 found_passes : {X : Type 0} (p q : X → Bool) (xs : List X) (x : X) → find p xs ≡ Some x → q x ≡ true → list_any q xs ≡ true

@@ -47,7 +47,7 @@ listed_by d f tasks number params homes is =
       homes = All-map (λ t. t.cpu < d.cpus) f tasks homes;
       numbered = AllPairs-map (λ a b. a.number ≢ b.number) f (other_number f number) tasks is.numbered;
       known = All-map (λ t. IsTrue (list_any (λ n. eqb n t.number) d.used)) f tasks
-        (All-weaker (λ t. IsTrue (list_any (λ n. eqb n t.number) d.used)) (λ t. IsTrue (list_any (λ n. eqb n (f t).number) d.used)) (λ t h. ap (λ m. list_any (λ n. eqb n m) d.used) (number t) ∙ h) tasks is.known);
+          (All-weaker (λ t. IsTrue (list_any (λ n. eqb n t.number) d.used)) (λ t. IsTrue (list_any (λ n. eqb n (f t).number) d.used)) (λ t h. ap (λ m. list_any (λ n. eqb n m) d.used) (number t) ∙ h) tasks is.known);
     }
 
 listed_map : (d : Domain) (f : Task → Task) (tasks : List Task) → ((t : Task) → Same t (f t)) → AreListed d tasks → AreListed d (map f tasks)
@@ -101,22 +101,24 @@ begun_is d is sound =
     let tasks = awake d.time d.tasks in
     let seating = placed_is d.cpus (candidates tasks) d.places is.wide is.apart in
     let places = placed d.cpus (candidates tasks) d.places in
-    let l = listed_homed d places tasks seating.wide (listed_awake d is) in
-    (record {
-      early = is.early;
-      some = is.some;
-      few = is.few;
-      low = is.low;
-      high = is.high;
-      within = l.within;
-      listed = l.listed;
-      sound = All-map (IsSound d.time) (homed places) tasks (All-weaker (IsSound d.time) (λ t. IsSound d.time (homed places t)) (λ t h. homed_sound d.time (position (is_task t.number) places) t h) tasks sound);
-      homes = l.homes;
-      numbered = l.numbered;
-      known = l.known;
-      wide = seating.wide;
-      apart = seating.apart;
-    }, placed_tasks d.time d.cpus d tasks places sound seating)
+    let l = listed_homed d places tasks seating.wide (listed_awake d is) in (
+      record {
+        early = is.early;
+        some = is.some;
+        few = is.few;
+        low = is.low;
+        high = is.high;
+        within = l.within;
+        listed = l.listed;
+        sound = All-map (IsSound d.time) (homed places) tasks (All-weaker (IsSound d.time) (λ t. IsSound d.time (homed places t)) (λ t h. homed_sound d.time (position (is_task t.number) places) t h) tasks sound);
+        homes = l.homes;
+        numbered = l.numbered;
+        known = l.known;
+        wide = seating.wide;
+        apart = seating.apart;
+      },
+      placed_tasks d.time d.cpus d tasks places sound seating,
+    )
 
 same_ran_if : (d : Domain) (t : Task) → Same t (ran_if d t)
 same_ran_if d t = same_either (stands t.number d.places) t _ t (same_ran d.time _ t) (same_itself t)

@@ -14,4 +14,4 @@ pub mod Sound
 pub mod Views
 pub mod Calls
 pub mod Run
-pub mod Examples
+pub mod examples

@@ -23,11 +23,17 @@ pub enum Call {
         word: Option<u64>,
     },
     /// Wakes a task that waits.
-    Wake { number: u32 },
+    Wake {
+        number: u32,
+    },
     /// Ends a task.
-    Leave { number: u32 },
+    Leave {
+        number: u32,
+    },
     /// Goes on by so many ticks, 1 to 60000000.
-    Advance { ticks: u64 },
+    Advance {
+        ticks: u64,
+    },
 }
 
 /// What a domain answers to a call.

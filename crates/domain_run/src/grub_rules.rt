@@ -14,7 +14,11 @@ fn lag_of(server: &Server, params: &Params) -> u128
     requires high { server.now.left ≤ℤ pos (2 ^ 63) }
     ensures { result ≡ above_zero server.now.left * params.now.period / budget params.now }
 {
-    let left = if server.left > 0 { server.left as u128 } else { 0 };
+    let left = if server.left > 0 {
+        server.left as u128
+    } else {
+        0
+    };
     left * u128::from(params.period) / u128::from(params.runtime * UNIT)
 }
 

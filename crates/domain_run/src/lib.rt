@@ -23,6 +23,9 @@ pub use call::{Call, Refused, Reply};
 pub use memory::NoMemory;
 pub use name::Name;
 pub use script::{Cursor, Event, Phase, Script, Segment};
-pub use task::{Condition, Task, TaskView};
 pub use state::State;
 pub use switch::{PrevState, Switch};
+pub use task::{Condition, Task, TaskView};
+
+#[cfg(test)]
+mod tests;

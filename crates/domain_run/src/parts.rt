@@ -262,9 +262,7 @@ pub(crate) fn run(task: &mut Task, rate: u64, time: u64)
 fn place_of(number: u32, places: &[Option<u32>]) -> Option<usize>
     ensures { result ≡ position (places_spec.is_task number) places.now }
 {
-    places
-        .iter()
-        .position(|occupant| *occupant == Some(number))
+    places.iter().position(|occupant| *occupant == Some(number))
 }
 
 /// Part 4: a placed task belongs to its CPU.

@@ -11,10 +11,9 @@ ghost use Rattle.domain_run.specs.Charging.{inactive_of, rate_with, ran_with};
 ghost use Rattle.domain_run.specs.Conditions as conditions;
 
 use crate::edf_pick::{self, Candidate};
-use crate::grub_rules;
-use crate::parts;
 use crate::switch::Switch;
 use crate::task::Task;
+use crate::{grub_rules, parts};
 
 /// Part 1: replenishment.
 fn replenish_all(tasks: &mut Vec<Task>, time: u64)

@@ -1,0 +1,556 @@
+ghost use Rattle.std.specs.Prelude.{◌≡◌};
+ghost use Rattle.domain_run.specs.script.Segments.{next_ask};
+
+use super::cbs_rules::{Server, charge, is_throttled, on_wake, replenish};
+use super::edf_pick::{Candidate, place};
+use super::grub_rules::{rate, zero_lag};
+use super::{
+    Condition, Event, Name, Phase, PrevState, Refused, Reply, Script, Segment, State, Switch,
+    TaskView,
+};
+use attr_check::{AttrRefusal, Params, SchedAttr, check};
+use std::alloc::Global;
+use std::process::Abort;
+use std::test::Fail;
+
+const UNIT: u64 = 1048576;
+
+const LEFT: i128 = 1048576;
+
+fn params(runtime: u32, deadline: u32, period: u32, reclaim: bool) -> Result<Params, AttrRefusal> {
+    check(&SchedAttr {
+        policy: 6,
+        flags: if reclaim { 2 } else { 0 },
+        runtime: u64::from(runtime) * 1000,
+        deadline: u64::from(deadline) * 1000,
+        period: u64::from(period) * 1000,
+    })
+}
+
+fn plain(runtime: u32, deadline: u32, period: u32) -> Result<Params, AttrRefusal> {
+    params(runtime, deadline, period, false)
+}
+
+fn reclaiming(runtime: u32, deadline: u32, period: u32) -> Result<Params, AttrRefusal> {
+    params(runtime, deadline, period, true)
+}
+
+fn script(alloc: Global, loops: i64, events: &[Event]) -> Result<Script, Fail> {
+    let mut phases = Vec::new(alloc);
+    phases.push(Phase {
+        count: 1,
+        events: events.to_vec(alloc)?,
+    })?;
+    Ok(Script::new(loops, phases)?)
+}
+
+fn admit(
+    rt: &impl Abort,
+    alloc: Global,
+    state: &mut State,
+    number: u32,
+    params: Params,
+    script: Script,
+) -> Result<Reply, Fail> {
+    assert!(rt; 0 < number && number < 65536);
+    let name = Name::new(String::from_str(alloc, "T")?)?;
+    Ok(match state.admit(number, name, params, 0, script) {
+        Ok(()) => Reply::Admitted,
+        Err(refused) => refused.reply,
+    })
+}
+
+fn advance(rt: &impl Abort, state: &mut State, ticks: u64) -> Result<(), Fail> {
+    for _ in 0..ticks {
+        assert!(rt; state.now() < 1 << 42);
+        state.tick()?;
+    }
+    Ok(())
+}
+
+fn switch(time: u64, cpu: u16, prev: Option<u32>, state: PrevState, next: Option<u32>) -> Switch {
+    Switch {
+        time,
+        prev,
+        next,
+        cpu,
+        state,
+    }
+}
+
+fn view(rt: &impl Abort, state: &State, number: u32) -> TaskView {
+    state.view(number).expect(rt, "a listed task")
+}
+
+#[test]
+fn reclaiming_example(rt: HostRuntime) -> Result<(), Fail> {
+    let alloc = rt.alloc();
+    let mut state = State::open(alloc, 1, UNIT)?;
+    let sleeper = script(alloc, -1, &[Event::Run(2), Event::Sleep(6)])?;
+    admit(&rt, alloc, &mut state, 1, reclaiming(4, 8, 8)?, sleeper)?;
+    let worker = script(alloc, 1, &[Event::Run(100)])?;
+    admit(&rt, alloc, &mut state, 2, reclaiming(4, 8, 8)?, worker)?;
+    advance(&rt, &mut state, 2)?;
+    assert_eq!(rt; view(&rt, &state, 1).zero_lag, Some(4));
+    assert_eq!(rt; view(&rt, &state, 1).condition, Condition::Blocked(8));
+    advance(&rt, &mut state, 2)?;
+    assert_eq!(rt; view(&rt, &state, 2).server.left, 2 * LEFT);
+    advance(&rt, &mut state, 4)?;
+    assert_eq!(rt; view(&rt, &state, 2).server.left, 0);
+    advance(&rt, &mut state, 1)?;
+    assert_eq!(rt; view(&rt, &state, 1).server.deadline, Some(16));
+    assert_eq!(rt; view(&rt, &state, 2).server.deadline, Some(16));
+    assert_eq!(rt; state.now(), 9);
+    let switches = [
+        switch(0, 0, None, PrevState::Running, Some(1)),
+        switch(2, 0, Some(1), PrevState::Sleeping, Some(2)),
+        switch(8, 0, Some(2), PrevState::Preempted, Some(1)),
+    ];
+    assert_eq!(rt; state.switches(), switches.as_slice());
+    Ok(())
+}
+
+#[test]
+fn throttled_inside_a_job(rt: HostRuntime) -> Result<(), Fail> {
+    let alloc = rt.alloc();
+    let switches = [
+        switch(0, 0, None, PrevState::Running, Some(1)),
+        switch(2, 0, Some(1), PrevState::Preempted, None),
+        switch(5, 0, None, PrevState::Running, Some(1)),
+        switch(7, 0, Some(1), PrevState::Dead, None),
+    ];
+    for (ticks, sum) in [(10, 419430), (11, 0)] {
+        let mut state = State::open(alloc, 1, UNIT)?;
+        let job = script(alloc, 1, &[Event::Run(4)])?;
+        admit(&rt, alloc, &mut state, 1, plain(2, 5, 5)?, job)?;
+        advance(&rt, &mut state, ticks)?;
+        assert_eq!(rt; state.sum(), sum, "after {ticks}");
+        assert_eq!(rt; state.switches(), switches.as_slice());
+        assert_eq!(rt; state.view(1).is_some(), sum > 0);
+    }
+    Ok(())
+}
+
+#[test]
+fn zero_start(rt: HostRuntime) -> Result<(), Fail> {
+    let alloc = rt.alloc();
+    let mut state = State::open(alloc, 1, UNIT)?;
+    for (number, deadline) in [(1, 8), (2, 3)] {
+        let job = script(alloc, 1, &[Event::Run(2)])?;
+        admit(&rt, alloc, &mut state, number, plain(2, deadline, 8)?, job)?;
+    }
+    advance(&rt, &mut state, 1)?;
+    assert_eq!(rt;
+        view(&rt, &state, 2).server,
+        Server {
+            deadline: Some(3),
+            left: LEFT
+        }
+    );
+    advance(&rt, &mut state, 4)?;
+    let switches = [
+        switch(0, 0, None, PrevState::Running, Some(2)),
+        switch(2, 0, Some(2), PrevState::Dead, Some(1)),
+        switch(4, 0, Some(1), PrevState::Dead, None),
+    ];
+    assert_eq!(rt; state.switches(), switches.as_slice());
+    Ok(())
+}
+
+#[test]
+fn full_domain_and_no_bandwidth(rt: HostRuntime) -> Result<(), Fail> {
+    let alloc = rt.alloc();
+    let mut state = State::open(alloc, 1, 524288)?;
+    for (number, runtime, period, reply) in [
+        (1, 500, 1000, Reply::Admitted),
+        (2, 2, 100, Reply::Busy { seen: 524288 }),
+        (3, 2, 4_000_000, Reply::Admitted),
+        (1, 2, 4_000_000, Reply::Twice),
+        (2, 2, 4_000_000, Reply::Admitted),
+    ] {
+        let job = script(alloc, 1, &[Event::Run(1)])?;
+        let given = admit(
+            &rt,
+            alloc,
+            &mut state,
+            number,
+            plain(runtime, period, period)?,
+            job,
+        )?;
+        assert_eq!(rt; given, reply, "{runtime} in {period}");
+        assert_eq!(rt; state.sum(), 524288);
+    }
+    Ok(())
+}
+
+#[test]
+fn rounding_down_admits(rt: HostRuntime) -> Result<(), Fail> {
+    let alloc = rt.alloc();
+    let mut state = State::open(alloc, 1, UNIT)?;
+    for (number, runtime, period, reply, sum) in [
+        (1, 10000, 30000, Reply::Admitted, 349525),
+        (2, 10000, 30000, Reply::Admitted, 699050),
+        (3, 10000, 30000, Reply::Admitted, 1048575),
+        (4, 2, 2_000_000, Reply::Admitted, 1048576),
+        (5, 2, 2_000_000, Reply::Busy { seen: 1048576 }, 1048576),
+    ] {
+        let job = script(alloc, 1, &[Event::Run(1)])?;
+        let given = admit(
+            &rt,
+            alloc,
+            &mut state,
+            number,
+            plain(runtime, period, period)?,
+            job,
+        )?;
+        assert_eq!(rt; given, reply, "task {number}");
+        assert_eq!(rt; state.sum(), sum);
+    }
+    Ok(())
+}
+
+fn events_of(phase: &Phase) -> &[Event] {
+    &phase.events
+}
+
+#[test]
+fn number_257_is_full(rt: HostRuntime) -> Result<(), Fail> {
+    let alloc = rt.alloc();
+    let mut state = State::open(alloc, 1, UNIT)?;
+    for number in 1..257 {
+        let job = script(alloc, 1, &[Event::Wait])?;
+        let given = admit(
+            &rt,
+            alloc,
+            &mut state,
+            number,
+            plain(2, 2_000_000, 2_000_000)?,
+            job,
+        )?;
+        assert_eq!(rt; given, Reply::Admitted, "task {number}");
+    }
+    assert_eq!(rt; state.sum(), 256);
+    for number in [257, 1] {
+        assert!(rt; 0 < number && number < 65536);
+        let name = Name::new(String::from_str(alloc, "the_last")?)?;
+        let job = script(alloc, 7, &[Event::Run(3), Event::Wait])?;
+        match state.admit(number, name, plain(2, 2, 2)?, 5, job) {
+            Ok(()) => assert!(rt; false, "admitted"),
+            Err(
+                Refused {
+                    reply,
+                    name,
+                    script,
+                },
+            ) => {
+                assert_eq!(rt; reply, Reply::Full);
+                assert_eq!(rt; name.as_str(), "the_last");
+                assert_eq!(rt; script.loops(), 7);
+                let phases = script.phases();
+                assert_eq!(rt; phases.len(), 1);
+                let events = [Event::Run(3), Event::Wait];
+                assert_eq!(rt; events_of(&phases[0]), events.as_slice());
+            }
+        }
+    }
+    assert_eq!(rt; state.sum(), 256);
+    Ok(())
+}
+
+#[test]
+fn wake_test_is_strict(rt: HostRuntime) -> Result<(), Fail> {
+    let given = plain(4, 8, 8)?;
+    let half = Server {
+        deadline: Some(8),
+        left: 2 * LEFT,
+    };
+    for (time, deadline, left) in [(4, 8, 2), (5, 13, 4), (8, 16, 4), (9, 17, 4)] {
+        assert!(rt; time < 1 << 48);
+        let woken = on_wake(half, &given, time);
+        assert_eq!(rt;
+            woken,
+            Server {
+                deadline: Some(deadline),
+                left: left * LEFT
+            },
+            "at {time}"
+        );
+    }
+    let fresh = Server {
+        deadline: None,
+        left: 0,
+    };
+    assert_eq!(rt; on_wake(fresh, &given, 5).deadline, Some(13));
+    let alloc = rt.alloc();
+    let mut state = State::open(alloc, 1, UNIT)?;
+    let job = script(alloc, -1, &[Event::Run(2), Event::Sleep(2)])?;
+    admit(&rt, alloc, &mut state, 1, given, job)?;
+    advance(&rt, &mut state, 4)?;
+    assert_eq!(rt; view(&rt, &state, 1).zero_lag, Some(4));
+    assert_eq!(rt; view(&rt, &state, 1).server, half);
+    advance(&rt, &mut state, 1)?;
+    assert_eq!(rt; view(&rt, &state, 1).zero_lag, None);
+    assert_eq!(rt;
+        view(&rt, &state, 1).server,
+        Server {
+            deadline: Some(8),
+            left: LEFT
+        }
+    );
+    Ok(())
+}
+
+#[test]
+fn servers(rt: HostRuntime) -> Result<(), Fail> {
+    let given = plain(2, 5, 5)?;
+    let spent = charge(
+        Server {
+            deadline: Some(5),
+            left: 4 * LEFT,
+        },
+        1572864,
+        4,
+    );
+    assert_eq!(rt;
+        spent,
+        Server {
+            deadline: Some(5),
+            left: -2 * LEFT
+        }
+    );
+    assert!(rt; is_throttled(&spent));
+    assert!(rt;
+        is_throttled(&Server {
+            deadline: None,
+            left: 0
+        })
+    );
+    assert!(rt;
+        !is_throttled(&Server {
+            deadline: None,
+            left: 1
+        })
+    );
+    for (left, deadline, lifted) in [(0, 10, 2), (-1, 10, 1), (-2, 15, 2), (-4, 20, 2)] {
+        let server = Server {
+            deadline: Some(5),
+            left: left * LEFT,
+        };
+        assert!(rt; server.left <= 0 && server.left >= -4294967296);
+        let after = replenish(server, &given);
+        assert_eq!(rt;
+            after,
+            Server {
+                deadline: Some(deadline),
+                left: lifted * LEFT
+            },
+            "from {left}"
+        );
+    }
+    let half = Server {
+        deadline: Some(8),
+        left: 2 * LEFT,
+    };
+    let given = reclaiming(4, 8, 8)?;
+    for (time, zero) in [(2, Some(4)), (3, Some(4)), (4, None)] {
+        assert_eq!(rt; zero_lag(&half, &given, time), zero, "at {time}");
+    }
+    assert_eq!(rt; rate(&given, 0, 524288, 1, 996147), 551883);
+    assert_eq!(rt; rate(&given, 524288, 1048576, 1, UNIT), 524288);
+    assert_eq!(rt; rate(&plain(4, 8, 8)?, 524288, 1048576, 1, UNIT), UNIT);
+    Ok(())
+}
+
+#[test]
+fn spent_while_blocking(rt: HostRuntime) -> Result<(), Fail> {
+    let alloc = rt.alloc();
+    let mut state = State::open(alloc, 1, UNIT)?;
+    let job = script(alloc, -1, &[Event::Run(4), Event::Sleep(2)])?;
+    admit(&rt, alloc, &mut state, 1, plain(4, 8, 8)?, job)?;
+    advance(&rt, &mut state, 7)?;
+    assert_eq!(rt; view(&rt, &state, 1).condition, Condition::Throttled);
+    assert_eq!(rt;
+        view(&rt, &state, 1).server,
+        Server {
+            deadline: Some(8),
+            left: 0
+        }
+    );
+    advance(&rt, &mut state, 6)?;
+    let switches = [
+        switch(0, 0, None, PrevState::Running, Some(1)),
+        switch(4, 0, Some(1), PrevState::Sleeping, None),
+        switch(8, 0, None, PrevState::Running, Some(1)),
+        switch(12, 0, Some(1), PrevState::Sleeping, None),
+    ];
+    assert_eq!(rt; state.switches(), switches.as_slice());
+    Ok(())
+}
+
+#[test]
+fn fraction_and_carry(rt: HostRuntime) -> Result<(), Fail> {
+    let alloc = rt.alloc();
+    let mut state = State::open(alloc, 1, 996147)?;
+    let job = script(alloc, 1, &[Event::Run(1000)])?;
+    admit(&rt, alloc, &mut state, 1, reclaiming(4, 8, 8)?, job)?;
+    for (ticks, time, left) in [(8, 8, -220760), (8, 16, -441520), (7, 23, -110397)] {
+        advance(&rt, &mut state, ticks)?;
+        assert_eq!(rt; state.now(), time);
+        assert_eq!(rt; view(&rt, &state, 1).server.left, left, "at {time}");
+    }
+    advance(&rt, &mut state, 2)?;
+    let switches = [
+        switch(0, 0, None, PrevState::Running, Some(1)),
+        switch(23, 0, Some(1), PrevState::Preempted, None),
+        switch(24, 0, None, PrevState::Running, Some(1)),
+    ];
+    assert_eq!(rt; state.switches(), switches.as_slice());
+    Ok(())
+}
+
+#[test]
+fn two_cpus(rt: HostRuntime) -> Result<(), Fail> {
+    let alloc = rt.alloc();
+    let mut state = State::open(alloc, 2, UNIT)?;
+    for number in 1..4 {
+        let job = script(alloc, -1, &[Event::Run(4), Event::Timer(8)])?;
+        admit(&rt, alloc, &mut state, number, plain(4, 8, 8)?, job)?;
+    }
+    advance(&rt, &mut state, 5)?;
+    let switches = [
+        switch(0, 0, None, PrevState::Running, Some(2)),
+        switch(0, 1, None, PrevState::Running, Some(1)),
+        switch(4, 0, Some(2), PrevState::Sleeping, None),
+        switch(4, 1, Some(1), PrevState::Sleeping, Some(3)),
+    ];
+    assert_eq!(rt; state.switches(), switches.as_slice());
+    assert_eq!(rt; view(&rt, &state, 3).cpu, 1);
+    let ready = [
+        Candidate {
+            deadline: 8,
+            number: 2,
+            home: 0,
+        },
+        Candidate {
+            deadline: 5,
+            number: 1,
+            home: 0,
+        },
+    ];
+    let mut places = vec![in alloc; Some(2), None]?;
+    place(&mut places, &ready);
+    assert_eq!(rt; places.as_slice(), [Some(2), Some(1)].as_slice());
+    Ok(())
+}
+
+fn earliest_after(time: u64, segment: Segment) -> u64
+    ensures { result ≡ next_ask time segment }
+{
+    match segment {
+        Segment::Until(until) => until,
+        Segment::Run(_) | Segment::Wait | Segment::End => time,
+    }
+}
+
+#[test]
+fn timer_cursor(rt: HostRuntime) -> Result<(), Fail> {
+    let timer = script(rt.alloc(), -1, &[Event::Run(4), Event::Timer(8)])?;
+    let mut cursor = timer.cursor(0);
+    let mut earliest = 0;
+    for (time, segment) in [
+        (0, Segment::Run(4)),
+        (4, Segment::Until(8)),
+        (8, Segment::Run(4)),
+        (20, Segment::Run(4)),
+        (24, Segment::Until(28)),
+    ] {
+        assert!(rt; earliest <= time && time < 1 << 48);
+        let given = cursor.next(time);
+        assert_eq!(rt; given, segment, "at {time}");
+        earliest = earliest_after(time, given);
+    }
+    Ok(())
+}
+
+fn is_script(
+    alloc: Global,
+    loops: i64,
+    phases: usize,
+    count: u64,
+    events: usize,
+    event: Event,
+) -> Result<bool, Fail> {
+    let mut list = Vec::new(alloc);
+    for _ in 0..phases {
+        list.push(Phase {
+            count,
+            events: vec![in alloc; event; events]?,
+        })?;
+    }
+    Ok(match Script::new(loops, list) {
+        Ok(script) => script.loops() == loops && script.phases().len() == phases,
+        Err(_) => false,
+    })
+}
+
+#[test]
+fn limits_of_scripts_and_names(rt: HostRuntime) -> Result<(), Fail> {
+    let alloc = rt.alloc();
+    const MOST: u64 = 1_000_000_000;
+    for (loops, phases, count, events, event, is_one) in [
+        (-2, 1, 1, 1, Event::Wait, false),
+        (-1, 1, 1, 1, Event::Wait, true),
+        (0, 1, 1, 1, Event::Wait, false),
+        (1, 1, 1, 1, Event::Wait, true),
+        (1_000_000_000, 1, 1, 1, Event::Wait, true),
+        (1_000_000_001, 1, 1, 1, Event::Wait, false),
+        (1, 0, 1, 1, Event::Wait, false),
+        (1, 64, 1, 1, Event::Wait, true),
+        (1, 65, 1, 1, Event::Wait, false),
+        (1, 1, 0, 1, Event::Wait, false),
+        (1, 1, MOST, 1, Event::Wait, true),
+        (1, 1, MOST + 1, 1, Event::Wait, false),
+        (1, 1, 1, 0, Event::Wait, false),
+        (1, 1, 1, 64, Event::Wait, true),
+        (1, 1, 1, 65, Event::Wait, false),
+        (1, 1, 1, 1, Event::Run(0), false),
+        (1, 1, 1, 1, Event::Run(MOST), true),
+        (1, 1, 1, 1, Event::Run(MOST + 1), false),
+        (1, 1, 1, 1, Event::Sleep(0), false),
+        (1, 1, 1, 1, Event::Sleep(MOST), true),
+        (1, 1, 1, 1, Event::Sleep(MOST + 1), false),
+        (1, 1, 1, 1, Event::Timer(0), false),
+        (1, 1, 1, 1, Event::Timer(MOST), true),
+        (1, 1, 1, 1, Event::Timer(MOST + 1), false),
+    ] {
+        let given = is_script(alloc, loops, phases, count, events, event)?;
+        assert_eq!(rt;
+            given,
+            is_one,
+            "{loops} {phases} {count} {events} {event:?}"
+        );
+    }
+    for (text, is_one) in [
+        ("", false),
+        ("!", true),
+        ("~~~~~~~~~~~~~~~", true),
+        ("sixteen_of_these", false),
+        ("a b", false),
+        ("a\x7f", false),
+        ("\u{e9}", false),
+    ] {
+        match Name::new(String::from_str(alloc, text)?) {
+            Ok(name) => {
+                assert!(rt; is_one && name.as_str() == text, "{text}");
+                assert_eq!(rt; name.into_string().as_str(), text);
+            }
+            Err(back) => assert!(rt; !is_one && back.as_str() == text, "{text}"),
+        }
+    }
+    Ok(())
+}
+
+#[test]
+fn a_switch_is_small(rt: HostRuntime) {
+    assert!(rt; std::mem::size_of::<Switch>() <= 32);
+}
