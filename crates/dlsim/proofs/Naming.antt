@@ -56,9 +56,9 @@ named_step d was is number name params delay script reply old good each n h =
     elim (eqb n number) as (λ b. eqb n number ≡ b → HasName is n) [
       | true ↦ λ e. has_name is n name (each n ∙ rw e refl) good.some good.most
       | false ↦ λ e.
-        let there : IsAdmitted d.used n = sym (ap (λ b. b || list_any (λ m. eqb m n) d.used) (eqb-swap number n ∙ e)) ∙ h2 in
-        let was_named = old n there in
-        has_name is n (named was n) (each n ∙ rw e refl) was_named.some was_named.most
+          let there : IsAdmitted d.used n = sym (ap (λ b. b || list_any (λ m. eqb m n) d.used) (eqb-swap number n ∙ e)) ∙ h2 in
+          let was_named = old n there in
+          has_name is n (named was n) (each n ∙ rw e refl) was_named.some was_named.most
     ] refl
 
 pub admit_time : (d : Domain) (number : ℕ) (name : List ℕ) (params : ParamsView) (delay : ℕ) (script : ScriptView) → (after_call d (Admit number name params delay script)).time ≡ d.time

@@ -4,7 +4,7 @@ use Rattle.std.specs.Prelude.{OnOk, OnErr, IfErr}
 use Rattle.std.specs.Io.KnownBytes.{Appends}
 use Rattle.call_book.specs.SectionView.{SectionView}
 use Rattle.call_book.specs.Spelling.{spelling}
-use Rattle.call_book.specs.Limits.{AreReadable}
+use Rattle.call_book.specs.Limits.{AreRead}
 use Rattle.switch_text.specs.Sending.{Stops}
 use Rattle.dlsim.specs.declared.session.SessionFault.{SessionFault}
 use Rattle.dlsim.specs.declared.session.SessionFault.TheVariants.{Calls, Read, Write, Memory}
@@ -24,7 +24,7 @@ pub record IsSpelled (s : Seen) (trace : List ℕ) : Type 0 where
   pub text : List ℕ
   pub sections : List SectionView
   pub input : IsInput s text
-  pub read : AreReadable sections
+  pub read : AreRead sections
   pub spelled : text ≡ spelling sections
   pub same : trace ≡ trace_of_sections sections
   pub reads : s.reads_fail ≡ s.reads_failed

@@ -3,7 +3,7 @@ use Rattle.std.specs.Prelude.{ℕ, ◌≡◌, ◌+◌, List, Option, IfSome}
 use Rattle.std.specs.Io.KnownBytes.{Appends, Keeps}
 use Rattle.call_book.specs.SectionView.{SectionView}
 use Rattle.call_book.specs.Spelling.{spelling}
-use Rattle.call_book.specs.Limits.{AreReadable}
+use Rattle.call_book.specs.Limits.{AreRead}
 use Rattle.call_book.specs.BadLine.{IsBadLine}
 use Rattle.switch_text.specs.Sending.{Stops}
 use Rattle.dlsim.specs.declared.session.SessionFault.{SessionFault}
@@ -47,7 +47,7 @@ pub record IsAnswered (s : Seen) : Type 0 where
   pub text : List ℕ
   pub sections : List SectionView
   pub input : IsInput s text
-  pub read : AreReadable sections
+  pub read : AreRead sections
   pub spelled : text ≡ spelling sections
   pub written : Appends s.held s.holds (trace_of_sections sections)
   pub no_fault : NoFault s
@@ -71,7 +71,7 @@ pub record IsCutOff (s : Seen) (written : ℕ) : Type 0 where
   pub text : List ℕ
   pub sections : List SectionView
   pub input : IsInput s text
-  pub read : AreReadable sections
+  pub read : AreRead sections
   pub spelled : text ≡ spelling sections
   pub taken : Stops s.held s.holds (trace_of_sections sections) written
   pub reads : s.reads_fail ≡ s.reads_failed

@@ -21,8 +21,9 @@ const NO_INPUT_OR_OUTPUT: u8 = 3;
 const NO_MEMORY: u8 = 4;
 
 fn command<'a>(alloc: Global) -> Result<Command<'a>, Error> {
-    let replay = Command::new(alloc, "replay")
-        .about("Reads recorded calls and writes the trace of their run");
+    let replay = Command::new(alloc, "replay").about(
+        "Reads recorded calls and writes the trace of their run",
+    );
     let command = Command::new(alloc, "dlsim")
         .bin_name("dlsim")?
         .about("A model of SCHED_DEADLINE: recorded calls in, sched_switch trace lines out")

@@ -1,6 +1,6 @@
 //! From bytes to bytes: recorded calls in, their trace out.
 
-ghost use Rattle.std.specs.Prelude.{◌≡◌, ℕ,  ◌<◌, ◌≤◌, ◌+◌, ◌^◌, OnOk, OnErr, IfErr, IfOk, All, vec_len, [], ◌∷◌};
+ghost use Rattle.std.specs.Prelude.{◌≡◌, ℕ, ◌<◌, ◌≤◌, ◌+◌, ◌^◌, OnOk, OnErr, IfErr, IfOk, All, vec_len, [], ◌∷◌};
 ghost use Rattle.std.specs.Io.KnownBytes.{Appends};
 ghost use Rattle.std.specs.String.{string_bytes};
 ghost use Rattle.domain_run.specs.NameView.{IsName};
@@ -9,15 +9,15 @@ ghost use Rattle.domain_run.specs.Domain.{opened};
 ghost use Rattle.domain_run.specs.Calls.{after_call};
 ghost use Rattle.domain_run.specs.Tick.{ticks as ticked_by};
 ghost use Rattle.domain_run.specs.Sound.{IsAdmitted};
-ghost use Rattle.call_book.specs.Limits.{IsNumber, IsAdmission, IsCall, IsEntry, IsReadableCall, IsSection, IsOneCpu, AreReadable};
+ghost use Rattle.call_book.specs.Limits.{IsNumber, IsAdmission, IsCall, IsEntry, IsReadCall, IsSection, IsOneCpu, AreRead};
 ghost use Rattle.switch_text.specs.Names.{named, HasName};
 ghost use Rattle.dlsim.specs.Replay.{no_names, with_name, names_after};
 ghost use Rattle.dlsim.specs.Replaying.{AreNamed, IsRunOf, section_view, trace_of_run};
 ghost use Rattle.dlsim.specs.Answer.{seen, IsAnswered, IsCut, MeansFault};
 
+use attr_check::Params;
 use call_book::{CallsFault, Entry, Section, read_calls};
 use domain_run::{Call, Name, NoMemory, Script, State};
-use attr_check::Params;
 use indexmap::IndexMap;
 use std::alloc::Global;
 use std::io::{Read, Write};
@@ -119,7 +119,7 @@ impl Session {
     /// Makes a call that is read.
     fn make(&mut self, alloc: Global, call: Call) -> Result<(), SessionFault>
         requires call { IsCall call }
-        requires read { IsReadableCall call }
+        requires read { IsReadCall call }
         requires early { self.old.state.time + 60000000 ≤ 2 ^ 42 }
         requires named { AreNamed self.old.state self.old.names }
         ensures state { OnOk result (self.new.state ≡ after_call self.old.state call) }
@@ -171,7 +171,7 @@ fn run_entries(
     requires limit { (10485 ≤ limit) × (limit ≤ 1048576) }
     requires few { vec_len entries ≤ 65536 }
     requires entries { All IsEntry entries.items }
-    requires read { All (λ e. IsReadableCall e.call) entries.items }
+    requires read { All (λ e. IsReadCall e.call) entries.items }
     ensures run { IfOk result (λ r. IsRunOf (section_view cpus limit entries.items) r.state r.names) }
     ensures err { IfErr result (λ e. e ≡ SessionFault.Memory) }
 {
@@ -186,7 +186,7 @@ fn run_entries(
 /// The run of a section.
 fn run_section(alloc: Global, section: Section) -> Result<Session, SessionFault>
     requires section { IsSection section }
-    requires read { All (λ e. IsReadableCall e.call) section.entries }
+    requires read { All (λ e. IsReadCall e.call) section.entries }
     ensures run { IfOk result (λ r. IsRunOf section r.state r.names) }
     ensures err { IfErr result (λ e. e ≡ SessionFault.Memory) }
 {

@@ -1,6 +1,6 @@
 -- A domain with one more task keeps what every domain keeps.
-use Rattle.std.proofs.Common.{◌≡◌, ℕ, zero, suc, ◌+◌, ◌*◌, ◌%◌, ◌^◌, ◌<◌, ◌≤◌, Bool, true, false, cond, eqb, ltb, leb, ◌||◌, Option, Some, None, List, [], ◌∷◌, ◌++◌, length, map, get_or, refl, sym, ap, ◌∙◌, subst, arith, length-append, inl, inr, eq-eqb}
-use Rattle.std.specs.Prelude.{All, AllPairs, IsTrue, pos, max, ◌≢◌, sum_by}
+use Rattle.std.proofs.Common.{◌≡◌, ℕ, ◌+◌, ◌^◌, ◌<◌, ◌≤◌, Bool, true, false, cond, eqb, ltb, leb, ◌||◌, List, [], ◌∷◌, ◌++◌, length, refl, sym, ap, ◌∙◌, subst, arith, length-append, eq-eqb}
+use Rattle.std.specs.Prelude.{IsTrue, ◌≢◌, sum_by}
 use Rattle.std.specs.List.{list_any}
 use Rattle.std.proofs.lemmas.Bool.{ltb-false, leb-false}
 use Rattle.std.proofs.lemmas.Int.{ints}
@@ -17,7 +17,7 @@ use Rattle.domain_run.specs.Domain.{Domain}
 use Rattle.domain_run.specs.Tick.{share_of, shares, sum_of}
 use Rattle.domain_run.specs.Calls.{new_task, with_number, listed, admit_reply}
 use Rattle.domain_run.specs.declared.call.Reply.TheVariants.{Admitted, Full, Twice, Busy}
-use Rattle.domain_run.specs.Sound.{IsSound, IsServed, IsSteady, IsDomain}
+use Rattle.domain_run.specs.Sound.{IsSound, IsSteady, IsDomain}
 use Rattle.domain_run.proofs.Tracing.{listed_traced}
 
 swapped : (a b c : Bool) → (a || (b || c)) ≡ (b || (a || c))

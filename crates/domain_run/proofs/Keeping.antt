@@ -1,5 +1,5 @@
 -- What the parts of a tick keep of a task, and of all tasks.
-use Rattle.std.proofs.Common.{◌≡◌, ℕ, zero, suc, ◌+◌, ◌<◌, ◌≤◌, Bool, true, false, cond, Option, Some, None, List, [], ◌∷◌, length, map, get_or, refl, sym, ap, ◌∙◌, arith}
+use Rattle.std.proofs.Common.{◌≡◌, ℕ, ◌+◌, ◌<◌, ◌≤◌, Bool, true, false, cond, None, List, [], ◌∷◌, length, map, refl, ap, ◌∙◌, arith}
 use Rattle.std.specs.Prelude.{AllPairs, filter}
 use Rattle.std.proofs.lemmas.List.{get_or-map, length-map}
 use Rattle.std.proofs.lemmas.List.Sums.{sum_by-cons}
@@ -8,11 +8,10 @@ use Rattle.domain_run.specs.declared.cbs_rules.Server.{Server}
 use Rattle.domain_run.specs.declared.task.Task.{Task}
 use Rattle.domain_run.specs.declared.script.Segment.{Segment}
 use Rattle.domain_run.specs.declared.script.Segment.TheVariants.{Run as RunFor, Until, Wait as WaitFor, End}
-use Rattle.domain_run.specs.declared.task.Condition.TheVariants.{Ready, Throttled, Blocked, Waiting, Leaving}
-use Rattle.domain_run.specs.Conditions.{is_throttled, is_over, has_come}
-use Rattle.domain_run.specs.cbs_rules.Serving.{is_spent, replenished, woken, charged}
+use Rattle.domain_run.specs.Conditions.{is_over, has_come}
+use Rattle.domain_run.specs.cbs_rules.Serving.{is_spent, woken}
 use Rattle.domain_run.specs.script.Segments.{asked}
-use Rattle.domain_run.specs.Parts.{replenish_due, settled, contending, woken_task, started, unblocked, running_on, stopped, went_on, ran}
+use Rattle.domain_run.specs.Parts.{replenish_due, settled, contending, started, unblocked, went_on, ran}
 use Rattle.domain_run.specs.Tick.{share_of, shares, sum_of}
 
 -- the same task: its number, its parameters and the CPU to which it belongs

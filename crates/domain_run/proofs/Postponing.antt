@@ -1,5 +1,5 @@
 -- The least number of postponements that lifts a budget above zero is a quotient.
-use Rattle.std.proofs.Common.{◌≡◌, ℕ, zero, suc, ◌+◌, ◌-◌, ◌*◌, ◌/◌, ◌^◌, ◌<◌, ◌≤◌, Bool, true, false, Option, Some, None, refl, sym, ap, ◌∙◌, arith, inl, inr}
+use Rattle.std.proofs.Common.{◌≡◌, ℕ, zero, suc, ◌+◌, ◌*◌, ◌/◌, ◌^◌, ◌<◌, ◌≤◌, Bool, true, false, Option, Some, None, refl, sym, ap, ◌∙◌, arith, inl, inr}
 use Rattle.std.specs.Prelude.{ℤ, pos, negsuc, ◌+ℤ◌, ◌<ℤ◌, ◌≤ℤ◌, int_lt, IsSome, IsSomeAnd, IfSome}
 use Rattle.std.proofs.lemmas.Bool.{cases_lt}
 use Rattle.std.proofs.lemmas.Int.{ints}
@@ -7,7 +7,7 @@ use Rattle.std.proofs.Math.Nat.{mul-le-mul, mul-le-mul_right, div-mul-le_self}
 use Rattle.attr_check.specs.ParamsView.{ParamsView}
 use Rattle.domain_run.specs.declared.cbs_rules.Server.{Server}
 use Rattle.domain_run.specs.cbs_rules.Budget.{budget, below_zero}
-use Rattle.domain_run.specs.cbs_rules.Serving.{later, postponed, postponed_by, first_passing, least, lifts, replenished}
+use Rattle.domain_run.specs.cbs_rules.Serving.{later, postponed_by, first_passing, least, lifts, replenished}
 
 first_is : (test : ℕ → Bool) (start more k : ℕ) → start ≤ k → k ≤ start + more → test k ≡ true → ((j : ℕ) → j < k → test j ≡ false) → first_passing test (test start) start more ≡ k
 first_is test start zero k low high at_k before =

@@ -1,11 +1,9 @@
 -- What a wake leaves is in range.
-use Rattle.std.proofs.Common.{◌≡◌, ℕ, ◌+◌, ◌*◌, ◌^◌, ◌<◌, ◌≤◌, Bool, true, false, cond, Option, Some, None, refl, arith}
+use Rattle.std.proofs.Common.{ℕ, ◌+◌, ◌^◌, ◌≤◌, true, false, cond, Option, Some, None, arith}
 use Rattle.std.specs.Prelude.{ℤ, pos, neg_ℤ, ◌≤ℤ◌, IfSome}
 use Rattle.std.proofs.lemmas.Int.{ints}
-use Rattle.std.proofs.Math.Nat.{mul-le-mul}
 use Rattle.attr_check.specs.ParamsView.{ParamsView, IsOrdered}
 use Rattle.domain_run.specs.declared.cbs_rules.Server.{Server}
-use Rattle.domain_run.specs.cbs_rules.Budget.{budget}
 use Rattle.domain_run.specs.cbs_rules.Serving.{renewed, is_outlived, woken_at, woken}
 use Rattle.domain_run.specs.Sound.{IsServed}
 

@@ -1,8 +1,8 @@
 -- A tick keeps what every domain keeps.
-use Rattle.std.proofs.Common.{◌≡◌, ℕ, ◌+◌, ◌*◌, ◌^◌, ◌<◌, ◌≤◌, Bool, true, false, cond, eqb, ltb, Option, Some, None, List, ◌++◌, length, map, get_or, refl, sym, ap, ◌∙◌, subst, arith, inl, inr}
+use Rattle.std.proofs.Common.{◌≡◌, ℕ, ◌+◌, ◌*◌, ◌^◌, ◌<◌, ◌≤◌, Bool, true, false, cond, eqb, ltb, Option, Some, None, List, ◌++◌, length, map, refl, sym, ap, ◌∙◌, subst, arith}
 use Rattle.std.specs.Prelude.{All, Any, AllPairs, pos, ◌<ℤ◌, IsTrue, filter, position, ◌≢◌, slice_index}
 use Rattle.std.specs.List.{list_any, position_or_len}
-use Rattle.std.proofs.lemmas.Bool.{cases_lt, ltb-true}
+use Rattle.std.proofs.lemmas.Bool.{ltb-true}
 use Rattle.std.proofs.lemmas.List.{length-map, get_or_default}
 use Rattle.std.proofs.lemmas.List.Elements.{All-map, All-weaker, All-filter}
 use Rattle.std.proofs.lemmas.List.Kept.{AllPairs-filter}
@@ -10,16 +10,14 @@ use Rattle.std.proofs.Math.Nat.{mul-le-mul}
 use Rattle.attr_check.specs.Ratio.{cap}
 use Rattle.domain_run.specs.declared.task.Task.{Task}
 use Rattle.domain_run.specs.grub_rules.Sums.{uinact}
-use Rattle.domain_run.specs.grub_rules.Rate as reclaiming
 use Rattle.domain_run.specs.edf_pick.Places.{Places, is_task, stands, placed}
-use Rattle.domain_run.specs.Parts.{replenish_due, settled, is_listed, unblocked, homed, homed_at, ran}
-use Rattle.domain_run.specs.declared.edf_pick.Candidate.{Candidate}
+use Rattle.domain_run.specs.Parts.{replenish_due, settled, is_listed, unblocked, homed, homed_at}
 use Rattle.domain_run.specs.declared.switch.Switch.{Switch}
 use Rattle.domain_run.specs.Switches.{switches_from}
 use Rattle.domain_run.specs.Charging.{ran_with}
 use Rattle.domain_run.specs.Domain.{Domain}
 use Rattle.domain_run.specs.Tick.{shares, sum_of, candidates, awake, with_places, begun, ran_if, finished, ticked}
-use Rattle.domain_run.specs.Sound.{occupant, IsApart, IsSound, IsPlacement, IsSteady, IsDomain, IsAdmitted, AreSums}
+use Rattle.domain_run.specs.Sound.{IsSound, IsPlacement, IsSteady, IsDomain, IsAdmitted, AreSums}
 use Rattle.domain_run.specs.Conditions.{is_ready}
 use Rattle.domain_run.proofs.Tracing.{AreStanding, tick_traced}
 use Rattle.domain_run.proofs.Keeping.{Same, same_itself, same_either, same_replenished, same_settled, same_unblocked, same_ran, AllPairs-map, length-filter_least, sum-map, sum-filter}
@@ -176,7 +174,7 @@ middle d tasks places switches cpus is wide sound tasks-are places-are switches-
     let all : cpus ≡ d.cpus = wide ∙ is.steady.wide in
     let seated : places ≡ placed d.cpus (candidates awoken) d.places = places-are ∙ ap (λ n. placed n (candidates awoken) d.places) all in
     let same : record d { tasks = tasks; places = places; switches = switches } ≡ begun d =
-      ap (λ ts. made ts switches) tasks-are ∙ ap (made (map (homed places) awoken)) switches-are ∙ ap (with_places d awoken) seated in
+    ap (λ ts. made ts switches) tasks-are ∙ ap (made (map (homed places) awoken)) switches-are ∙ ap (with_places d awoken) seated in
     let keeps = begun_is d is.steady sound in
     record { begun_is = same; steady = subst IsSteady (sym same) keeps.0; placed = subst IsPlacement (sym same) keeps.1 }
 

@@ -1,7 +1,6 @@
 -- The switches of a run rise strictly by time and CPU, and name admitted tasks alone.
-use Rattle.std.proofs.Common.{◌≡◌, ℕ, zero, suc, ◌+◌, ◌-◌, ◌<◌, ◌≤◌, Bool, true, false, cond, eqb, ltb, ◌||◌, ◌&&◌, Option, Some, None, List, [], ◌∷◌, ◌++◌, length, get_or, refl, sym, ap, ◌∙◌, subst, arith, inl, inr, eq-eqb, length-append}
+use Rattle.std.proofs.Common.{◌≡◌, ℕ, suc, ◌+◌, ◌-◌, ◌<◌, ◌≤◌, Bool, true, false, cond, ltb, ◌||◌, Option, Some, None, List, [], ◌∷◌, ◌++◌, length, get_or, refl, sym, arith, inl, inr, eq-eqb, length-append}
 use Rattle.std.specs.Prelude.{All, AllPairs, IfSome, IsTrue}
-use Rattle.std.specs.List.{list_any}
 use Rattle.std.proofs.lemmas.Bool.{cases_lt, lt-ltb}
 use Rattle.std.proofs.lemmas.List.{get_or-append_right}
 use Rattle.std.proofs.Math.ListN.{get_or-append}
@@ -43,10 +42,10 @@ here_all time tasks used cpu (p ∷ before) (n ∷ after) a b =
     let P = IsHere time cpu (cpu + length (p ∷ before)) used in
     let e : cpu + length (p ∷ before) ≡ cpu + 1 + length before = omega arith in
     let rest : All P (switches_from time tasks (cpu + 1) before after) =
-      All-weaker (IsHere time (cpu + 1) (cpu + 1 + length before) used) P (λ s h. rw e (here_later time cpu (cpu + 1 + length before) used s h)) (switches_from time tasks (cpu + 1) before after)
-      (here_all time tasks used (cpu + 1) before after (standing_rest used p before a) (standing_rest used n after b)) in
+    All-weaker (IsHere time (cpu + 1) (cpu + 1 + length before) used) P (λ s h. rw e (here_later time cpu (cpu + 1 + length before) used s h)) (switches_from time tasks (cpu + 1) before after)
+    (here_all time tasks used (cpu + 1) before after (standing_rest used p before a) (standing_rest used n after b)) in
     let one : P (record { time = time; prev = p; next = n; cpu = cpu; state = state_of tasks p }) =
-      record { at = refl; not_below = omega arith; below = omega arith; prev = standing_first used p before a; next = standing_first used n after b } in
+    record { at = refl; not_below = omega arith; below = omega arith; prev = standing_first used p before a; next = standing_first used n after b } in
     elim (same_occupant p n) as (λ b. All P (cond b (switches_from time tasks (cpu + 1) before after) (record { time = time; prev = p; next = n; cpu = cpu; state = state_of tasks p } ∷ switches_from time tasks (cpu + 1) before after))) [
       | true ↦ rest
       | false ↦ All-cons P _ _ one rest
@@ -74,8 +73,8 @@ rising_here time tasks used cpu (p ∷ before) (n ∷ after) a b =
     let rest : AllPairs Rises more = rising_here time tasks used (cpu + 1) before after (standing_rest used p before a) (standing_rest used n after b) in
     let s : Switch = record { time = time; prev = p; next = n; cpu = cpu; state = state_of tasks p } in
     let first : All (Rises s) more =
-      All-weaker (IsHere time (cpu + 1) (cpu + 1 + length before) used) (Rises s) (λ x h. before_same s x (sym h.at) (omega (arith, h.not_below))) more
-      (here_all time tasks used (cpu + 1) before after (standing_rest used p before a) (standing_rest used n after b)) in
+    All-weaker (IsHere time (cpu + 1) (cpu + 1 + length before) used) (Rises s) (λ x h. before_same s x (sym h.at) (omega (arith, h.not_below))) more
+    (here_all time tasks used (cpu + 1) before after (standing_rest used p before a) (standing_rest used n after b)) in
     elim (same_occupant p n) as (λ b. AllPairs Rises (cond b more (s ∷ more))) [
       | true ↦ rest
       | false ↦ AllPairs-cons Rises s more first rest
@@ -88,9 +87,9 @@ AllPairs-append R xs ys first second across i j d less within =
     elim (cases_lt j n) [
       | inl h ↦ let k : i < n = omega arith in rw (get_or-append xs ys d i k, get_or-append xs ys d j h) (first i j d less h)
       | inr h ↦ elim (cases_lt i n) [
-          | inl k ↦ rw (get_or-append xs ys d i k, get_or-append_right xs ys n j d refl h) (across i (j - n) d k (omega arith))
-          | inr k ↦ rw (get_or-append_right xs ys n i d refl k, get_or-append_right xs ys n j d refl h) (second (i - n) (j - n) d (omega arith) (omega arith))
-        ]
+        | inl k ↦ rw (get_or-append xs ys d i k, get_or-append_right xs ys n j d refl h) (across i (j - n) d k (omega arith))
+        | inr k ↦ rw (get_or-append_right xs ys n i d refl k, get_or-append_right xs ys n j d refl h) (second (i - n) (j - n) d (omega arith) (omega arith))
+      ]
     ]
 
 pub tick_traced : (d : Domain) (tasks ran : List Task) (places : Places) → length d.places ≡ d.cpus → IsTraced d → AreStanding d.used places
@@ -102,10 +101,10 @@ tick_traced d tasks ran places wide is standing =
     let Here = IsHere d.time 0 (0 + length d.places) d.used in
     record {
       switches = All-append P d.switches more
-        (All-weaker (IsSwitch d.cpus d.time d.used) P (λ s h. record { past = omega (arith, h.past); inside = h.inside; prev = h.prev; next = h.next }) d.switches is.switches)
-        (All-weaker Here P (λ s h. record { past = omega (arith, h.at); inside = omega (arith, h.below, wide); prev = h.prev; next = h.next }) more here);
+          (All-weaker (IsSwitch d.cpus d.time d.used) P (λ s h. record { past = omega (arith, h.past); inside = h.inside; prev = h.prev; next = h.next }) d.switches is.switches)
+          (All-weaker Here P (λ s h. record { past = omega (arith, h.at); inside = omega (arith, h.below, wide); prev = h.prev; next = h.next }) more here);
       rising = AllPairs-append Rises d.switches more is.rising (rising_here d.time tasks d.used 0 d.places places is.standing standing)
-        (λ i j x h k. before_time (get_or d.switches i x) (get_or more j x) (omega (arith, (is.switches i x h).past, (here j x k).at)));
+          (λ i j x h k. before_time (get_or d.switches i x) (get_or more j x) (omega (arith, (is.switches i x h).past, (here j x k).at)));
       standing = standing;
     }
 

@@ -1,5 +1,5 @@
 -- What each part of a tick does to one task (own, over the rules of sched-deadline.rst that it cites).
-use Rattle.std.specs.Prelude.{ℕ, ◌+◌, ◌-◌, Bool, not, ◌&&◌, ◌==◌, if◌then◌else◌, List, map, filter, Option, Some, None, is_none, position}
+use Rattle.std.specs.Prelude.{ℕ, ◌+◌, ◌-◌, Bool, not, ◌&&◌, ◌==◌, if◌then◌else◌, Option, Some, None, is_none, position}
 use Rattle.domain_run.specs.cbs_rules.Serving.{replenished, woken, charged, is_spent}
 use Rattle.domain_run.specs.grub_rules.Lag as lag
 use Rattle.domain_run.specs.edf_pick.Places.{Places, is_task}

@@ -1,5 +1,5 @@
 -- One tick of a domain, in six parts (own, over the rules that the parts cite).
-use Rattle.std.specs.Prelude.{ℕ, zero, suc, ◌+◌, Bool, ◌||◌, if◌then◌else◌, List, ◌++◌, map, filter, is_some, unwrap_or}
+use Rattle.std.specs.Prelude.{ℕ, zero, suc, ◌+◌, ◌||◌, if◌then◌else◌, List, ◌++◌, map, filter, is_some, unwrap_or}
 use Rattle.domain_run.specs.grub_rules.Sums.{Share, total_bw, uinact}
 use Rattle.domain_run.specs.grub_rules.Rate as reclaiming
 use Rattle.domain_run.specs.edf_pick.Places.{Places, placed, stands}

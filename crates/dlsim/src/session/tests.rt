@@ -5,9 +5,11 @@ use std::io;
 use std::io::ErrorKind;
 use std::test::Fail;
 
-const THROTTLED: &[u8] = b"dlcalls 1\ndomain 1 1048576\nadmit 1 1 a 2 5 5 - 0 1:1{r4}\nadvance 1 11\n";
+const THROTTLED: &[u8] =
+    b"dlcalls 1\ndomain 1 1048576\nadmit 1 1 a 2 5 5 - 0 1:1{r4}\nadvance 1 11\n";
 
-const THROTTLED_TRACE: &[u8] = b"# tracer: nop\n          <idle>-0       [000] d..2.     0.000000: sched_switch: prev_comm=swapper/0 prev_pid=0 prev_prio=120 prev_state=R ==> next_comm=a next_pid=1001 next_prio=-1\n               a-1001    [000] d..2.     0.000002: sched_switch: prev_comm=a prev_pid=1001 prev_prio=-1 prev_state=R+ ==> next_comm=swapper/0 next_pid=0 next_prio=120\n          <idle>-0       [000] d..2.     0.000005: sched_switch: prev_comm=swapper/0 prev_pid=0 prev_prio=120 prev_state=R ==> next_comm=a next_pid=1001 next_prio=-1\n               a-1001    [000] d..2.     0.000007: sched_switch: prev_comm=a prev_pid=1001 prev_prio=-1 prev_state=X ==> next_comm=swapper/0 next_pid=0 next_prio=120\n";
+const THROTTLED_TRACE: &[u8] =
+    b"# tracer: nop\n          <idle>-0       [000] d..2.     0.000000: sched_switch: prev_comm=swapper/0 prev_pid=0 prev_prio=120 prev_state=R ==> next_comm=a next_pid=1001 next_prio=-1\n               a-1001    [000] d..2.     0.000002: sched_switch: prev_comm=a prev_pid=1001 prev_prio=-1 prev_state=R+ ==> next_comm=swapper/0 next_pid=0 next_prio=120\n          <idle>-0       [000] d..2.     0.000005: sched_switch: prev_comm=swapper/0 prev_pid=0 prev_prio=120 prev_state=R ==> next_comm=a next_pid=1001 next_prio=-1\n               a-1001    [000] d..2.     0.000007: sched_switch: prev_comm=a prev_pid=1001 prev_prio=-1 prev_state=X ==> next_comm=swapper/0 next_pid=0 next_prio=120\n";
 
 const HEADER: &[u8] = b"# tracer: nop\n";
 
@@ -104,11 +106,23 @@ fn bad_lines(rt: HostRuntime) -> Result<(), Fail> {
     let table: [(&[u8], &str); 7] = [
         (b"", "calls 30 line 1"),
         (b"dlcalls 1\n", "calls 30 line 2"),
-        (b"dlcalls 1\ndomain 1 1048576\nadmit 1 1 T1 1 8 8 - 0 1:1{r1}\n", "calls 30 line 3"),
-        (b"dlcalls 1\ndomain 1 1048576\nadmit 1 1 a 2 5 5 - 0 1:1{r4}\nadvan", "calls 30 line 4"),
+        (
+            b"dlcalls 1\ndomain 1 1048576\nadmit 1 1 T1 1 8 8 - 0 1:1{r1}\n",
+            "calls 30 line 3",
+        ),
+        (
+            b"dlcalls 1\ndomain 1 1048576\nadmit 1 1 a 2 5 5 - 0 1:1{r4}\nadvan",
+            "calls 30 line 4",
+        ),
         (b"dlcalls 1\ndomain 2 1048576\n", "calls 30 line 2"),
-        (b"dlcalls 1\ndomain 1 1048576\nadmit 1 1 a 2 5 5 R 0 1:1{r4}\n", "calls 30 line 3"),
-        (b"dlcalls 1\ndomain 1 1048576\nadmit 1 1 a 2 5 5 - 0 1:1{w}\n", "calls 30 line 3"),
+        (
+            b"dlcalls 1\ndomain 1 1048576\nadmit 1 1 a 2 5 5 R 0 1:1{r4}\n",
+            "calls 30 line 3",
+        ),
+        (
+            b"dlcalls 1\ndomain 1 1048576\nadmit 1 1 a 2 5 5 - 0 1:1{w}\n",
+            "calls 30 line 3",
+        ),
     ];
     for (text, wanted) in table {
         let (answer, taken) = told(rt.alloc(), text, usize::MAX)?;
@@ -129,7 +143,8 @@ fn bare_text_gives_the_header(rt: HostRuntime) -> Result<(), Fail> {
 // 500 / 1000 fits a limit of one half, 2 / 100 no longer, and 2 us of 4 s round down to nothing; the refused task never runs.
 #[test]
 fn full_domain_and_no_bandwidth(rt: HostRuntime) -> Result<(), Fail> {
-    let text = b"dlcalls 1\ndomain 1 524288\nadmit 1 1 a 500 1000 1000 - 0 1:1{r1}\nadmit 1 2 b 2 100 100 - 0 1:1{r1}\nadmit 1 3 c 2 4000000 4000000 - 0 1:1{r1}\nadvance 1 3\n";
+    let text =
+        b"dlcalls 1\ndomain 1 524288\nadmit 1 1 a 500 1000 1000 - 0 1:1{r1}\nadmit 1 2 b 2 100 100 - 0 1:1{r1}\nadmit 1 3 c 2 4000000 4000000 - 0 1:1{r1}\nadvance 1 3\n";
     let (answer, taken) = told(rt.alloc(), text, usize::MAX)?;
     assert_eq!(rt; answer.as_str(), "");
     let trace = String::from_utf8(taken)?;

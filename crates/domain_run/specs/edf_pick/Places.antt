@@ -1,5 +1,5 @@
 -- On which CPU each chosen task runs (own).
-use Rattle.std.specs.Prelude.{ℕ, zero, suc, position, Bool, true, false, ◌&&◌, ◌==◌, if◌then◌else◌, List, map, slice_get, slice_set, Option, Some, None, is_none}
+use Rattle.std.specs.Prelude.{ℕ, zero, suc, position, Bool, false, ◌&&◌, ◌==◌, if◌then◌else◌, List, map, slice_get, slice_set, Option, Some, None, is_none}
 use Rattle.std.specs.List.{list_any}
 use Rattle.domain_run.specs.declared.edf_pick.Candidate.{Candidate}
 use Rattle.domain_run.specs.edf_pick.Choice.{is_chosen, ranked}

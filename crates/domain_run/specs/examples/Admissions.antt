@@ -1,16 +1,14 @@
 -- Worked rows of the calls: replies, and what they leave.
-use Rattle.std.specs.Prelude.{ℕ, pos, ◌≡◌, List, [], ◌∷◌, Option, Some, None, refl}
+use Rattle.std.specs.Prelude.{ℕ, ◌≡◌, List, [], ◌∷◌, Some, None, refl}
 use Rattle.domain_run.specs.declared.script.Event.TheVariants as event
-use Rattle.domain_run.specs.declared.cbs_rules.Server.{Server}
-use Rattle.domain_run.specs.declared.task.Condition.TheVariants as condition
-use Rattle.domain_run.specs.declared.switch.PrevState.TheVariants.{Running, Preempted, Sleeping, Dead}
+use Rattle.domain_run.specs.declared.switch.PrevState.TheVariants.{Running, Sleeping, Dead}
 use Rattle.domain_run.specs.declared.call.Call.{Call}
-use Rattle.domain_run.specs.declared.call.Call.TheVariants.{Admit, Regrade, Wake, Leave, Advance}
-use Rattle.domain_run.specs.declared.call.Reply.TheVariants.{Admitted, Changed, Woken, Left, Done, Full, Twice, Busy, NotListed, NotWaiting}
+use Rattle.domain_run.specs.declared.call.Call.TheVariants.{Regrade, Wake, Leave, Advance}
+use Rattle.domain_run.specs.declared.call.Reply.TheVariants.{Admitted, Changed, Woken, Left, Done, Twice, Busy, NotListed, NotWaiting}
 use Rattle.domain_run.specs.script.ScriptView.{ScriptView}
-use Rattle.domain_run.specs.Domain.{Domain, opened}
+use Rattle.domain_run.specs.Domain.{opened}
 use Rattle.domain_run.specs.Run.{run_of, replies_to}
-use Rattle.domain_run.specs.examples.Calling.{plain, reclaiming, once, forever, admit, switch, sum_after, server_in, condition_in, zero_lag_in}
+use Rattle.domain_run.specs.examples.Calling.{plain, once, forever, admit, switch, sum_after, zero_lag_in}
 
 abbrev short : ScriptView
 short = once (event.Run 1 ∷ [])

@@ -2,7 +2,7 @@
 use Rattle.std.specs.Prelude.{ℕ, true, false, List, [], ◌∷◌, Option, Some, None, codes, find, option_map, ◌==◌}
 use Rattle.attr_check.specs.ParamsView.{ParamsView}
 use Rattle.attr_check.specs.Ratio.{ratio}
-use Rattle.domain_run.specs.script.ScriptView.{ScriptView, PhaseView}
+use Rattle.domain_run.specs.script.ScriptView.{ScriptView}
 use Rattle.domain_run.specs.declared.script.Event.{Event}
 use Rattle.domain_run.specs.declared.cbs_rules.Server.{Server}
 use Rattle.domain_run.specs.declared.task.Task.{Task}

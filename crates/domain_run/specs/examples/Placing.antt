@@ -1,5 +1,5 @@
 -- Worked rows of the choice and the placement.
-use Rattle.std.specs.Prelude.{ℕ, ◌≡◌, List, [], ◌∷◌, Some, None, refl}
+use Rattle.std.specs.Prelude.{ℕ, ◌≡◌, [], ◌∷◌, Some, None, refl}
 use Rattle.domain_run.specs.declared.edf_pick.Candidate.{Candidate}
 use Rattle.domain_run.specs.edf_pick.Places.{placed}
 

@@ -1,6 +1,5 @@
 -- Worked rows of the rules alone.
-use Rattle.std.specs.Prelude.{ℕ, pos, neg_ℤ, ◌≡◌, List, [], ◌∷◌, Option, Some, None, refl}
-use Rattle.attr_check.specs.ParamsView.{ParamsView}
+use Rattle.std.specs.Prelude.{ℕ, pos, neg_ℤ, ◌≡◌, List, [], ◌∷◌, Some, None, refl}
 use Rattle.domain_run.specs.script.ScriptView.{ScriptView, CursorView}
 use Rattle.domain_run.specs.script.Segments.{begun_at, asked}
 use Rattle.domain_run.specs.declared.script.Event.TheVariants as event
@@ -10,7 +9,7 @@ use Rattle.domain_run.specs.declared.cbs_rules.Server.{Server}
 use Rattle.domain_run.specs.cbs_rules.Serving.{woken, charged, replenished}
 use Rattle.domain_run.specs.grub_rules.Lag.{zero_lag}
 use Rattle.domain_run.specs.grub_rules.Rate.{rate}
-use Rattle.domain_run.specs.examples.Calling.{plain, reclaiming, forever, rounds}
+use Rattle.domain_run.specs.examples.Calling.{plain, reclaiming, forever}
 
 abbrev server : ℕ → ℕ → Server
 server deadline left = record { deadline = Some deadline; left = pos left }

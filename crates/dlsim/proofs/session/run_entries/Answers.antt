@@ -3,7 +3,7 @@ use Rattle.std.specs.Prelude.{reverse}
 use Rattle.std.proofs.lemmas.List.{reverse-reverse, nil_from_length}
 use Rattle.std.proofs.lemmas.List.Elements.{All-head, All-rest}
 use Rattle.call_book.specs.declared.section.Entry.{Entry}
-use Rattle.call_book.specs.Limits.{IsEntry, IsReadableCall}
+use Rattle.call_book.specs.Limits.{IsEntry, IsReadCall}
 use Rattle.domain_run.specs.declared.call.Call.{Call}
 use Rattle.domain_run.specs.Domain.{Domain, opened}
 use Rattle.domain_run.specs.Run.{after_calls, run_of}
@@ -40,7 +40,7 @@ make-requires-clause-call c =
 pub make-requires-clause-read : goal.make-requires-clause-read
 make-requires-clause-read c =
     let more = reverse_more c.pop.new.self.items c.loop-entry.entries.items c.in-Some.entry c.in-Some.ensures.items in
-    All-head (λ e. IsReadableCall e.call) c.in-Some.entry (reverse c.pop.new.self.items) (subst (All (λ e. IsReadableCall e.call)) more c.loop-entry.invariant.read)
+    All-head (λ e. IsReadCall e.call) c.in-Some.entry (reverse c.pop.new.self.items) (subst (All (λ e. IsReadCall e.call)) more c.loop-entry.invariant.read)
 
 pub loop-entry-preserved : goal.loop-entry-preserved
 loop-entry-preserved c =
@@ -57,7 +57,7 @@ loop-entry-preserved c =
       names = left_names was.state is.state e.call (left_calls c.pop.new.self.items) (left_calls c.loop-entry.entries.items) (named was.names) (named is.names) (names_of start calls no_names) m c.in_ok-make.ensures.state c.in_ok-make.ensures.names c.loop-entry.invariant.names;
       named = c.in_ok-make.ensures.named;
       entries = All-rest IsEntry e (reverse c.pop.new.self.items) (reverse c.loop-entry.entries.items) more c.loop-entry.invariant.entries;
-      read = All-rest (λ e. IsReadableCall e.call) e (reverse c.pop.new.self.items) (reverse c.loop-entry.entries.items) more c.loop-entry.invariant.read;
+      read = All-rest (λ e. IsReadCall e.call) e (reverse c.pop.new.self.items) (reverse c.loop-entry.entries.items) more c.loop-entry.invariant.read;
       early = omega (arith, c.in_ok-make.ensures.time, c.loop-entry.invariant.early, c.in-Some.ensures.cases);
     }
 

@@ -1,4 +1,4 @@
-use Rattle.std.proofs.Common.{◌≡◌, take, drop, ◌++◌, replicate}
+use Rattle.std.proofs.Common.{◌≡◌, drop, ◌++◌, replicate}
 use Rattle.domain_run.proofs.sweep.clear_all.Given as goal
 
 abbrev pub invariant-loop-bw : goal.invariant-loop-bw

@@ -1,4 +1,4 @@
-use Rattle.std.proofs.Common.{◌≡◌, ◌≤◌, take, vec_len, length}
+use Rattle.std.proofs.Common.{◌≡◌, ◌≤◌, take, vec_len}
 use Rattle.std.specs.Prelude.{vec_capacity}
 use Rattle.domain_run.specs.Tick.{candidates}
 use Rattle.domain_run.proofs.sweep.gather.Given as goal

@@ -1,4 +1,4 @@
-use Rattle.std.proofs.Common.{◌≡◌, ℕ, ◌<◌, ◌+◌, false, ◌∙◌, sym, ap, eqb, List, length, get_or, arith, vec_len}
+use Rattle.std.proofs.Common.{◌≡◌, ℕ, ◌<◌, ◌+◌, false, ◌∙◌, sym, ap, eqb, List, length, get_or, arith}
 use Rattle.std.specs.List.{list_any}
 use Rattle.domain_run.specs.Calls.{with_number}
 use Rattle.domain_run.proofs.Marks.{marked_contains, marked_set}

@@ -1,11 +1,11 @@
-use Rattle.std.proofs.Common.{◌≡◌, ℕ, ◌+◌, ◌<◌, ◌≤◌, ◌^◌, length, map, vec_len, refl, sym, ap, ◌∙◌, subst, arith}
-use Rattle.std.specs.Prelude.{All, slice_index}
+use Rattle.std.proofs.Common.{◌≡◌, ℕ, ◌<◌, ◌^◌, map, vec_len, refl, sym, ap, ◌∙◌, subst, arith}
+use Rattle.std.specs.Prelude.{slice_index}
 use Rattle.domain_run.specs.grub_rules.Sums.{uinact}
 use Rattle.domain_run.specs.edf_pick.Places.{Places}
 use Rattle.domain_run.specs.Charging.{ran_with}
 use Rattle.domain_run.specs.Domain.{Domain}
 use Rattle.domain_run.specs.Tick.{shares, sum_of, ran_if, begun, ticked}
-use Rattle.domain_run.specs.Sound.{IsDomain, IsPlacement, IsSound}
+use Rattle.domain_run.specs.Sound.{IsDomain, IsPlacement}
 use Rattle.domain_run.proofs.Placing.{running_ready}
 use Rattle.domain_run.proofs.Ticking.{middle, sums_are, ran_as, ticked_is, done, done_sound}
 use Rattle.domain_run.proofs.state.State.tick.Goals as goal
@@ -86,9 +86,9 @@ invariant_of-self-2 c =
     let each : (cpu : ℕ) → slice_index c.inactive.new.idle.items cpu ≡ uinact cpu (shares e.tasks) = λ cpu. c.inactive.ensures.each cpu ∙ ap (λ ts. uinact cpu (shares ts)) c.deref.ensures.value in
     let total : c.sum_of.result ≡ sum_of e.tasks = c.sum_of.ensures ∙ ap sum_of c.deref-2.ensures.value in
     let ran : c.run_all.new.tasks.items ≡ map (ran_if e) e.tasks =
-      c.run_all.ensures.tasks
-      ∙ ap (λ (ps : Places). map (ran_with s.time ps c.inactive.new.idle.items c.sum_of.result s.cpus s.limit) e.tasks) c.deref-3.ensures.value
-      ∙ ran_as e c.inactive.new.idle.items c.sum_of.result each total in
+    c.run_all.ensures.tasks
+    ∙ ap (λ (ps : Places). map (ran_with s.time ps c.inactive.new.idle.items c.sum_of.result s.cpus s.limit) e.tasks) c.deref-3.ensures.value
+    ∙ ran_as e c.inactive.new.idle.items c.sum_of.result each total in
     let early : d.time < 2 ^ 42 = subst (λ (x : Domain). x.time < 2 ^ 42) (sym c.self.view_is) c.requires in
     let sound = done_sound d e c.run_all.new.tasks.items m ran c.run_all.ensures.sound in
     record {
@@ -109,9 +109,9 @@ returns-clause-ok c =
     let each : (cpu : ℕ) → slice_index c.inactive.new.idle.items cpu ≡ uinact cpu (shares e.tasks) = λ cpu. c.inactive.ensures.each cpu ∙ ap (λ ts. uinact cpu (shares ts)) c.deref.ensures.value in
     let total : c.sum_of.result ≡ sum_of e.tasks = c.sum_of.ensures ∙ ap sum_of c.deref-2.ensures.value in
     let ran : c.run_all.new.tasks.items ≡ map (ran_if e) e.tasks =
-      c.run_all.ensures.tasks
-      ∙ ap (λ (ps : Places). map (ran_with s.time ps c.inactive.new.idle.items c.sum_of.result s.cpus s.limit) e.tasks) c.deref-3.ensures.value
-      ∙ ran_as e c.inactive.new.idle.items c.sum_of.result each total in
+    c.run_all.ensures.tasks
+    ∙ ap (λ (ps : Places). map (ran_with s.time ps c.inactive.new.idle.items c.sum_of.result s.cpus s.limit) e.tasks) c.deref-3.ensures.value
+    ∙ ran_as e c.inactive.new.idle.items c.sum_of.result each total in
     done d e c.run_all.new.tasks.items m ran ∙ ap ticked c.self.view_is
 
 pub returns-clause-placed : goal.returns-clause-placed
