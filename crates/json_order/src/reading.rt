@@ -6,14 +6,13 @@ ghost use Rattle.json_order.specs.Machine.{ended};
 ghost use Rattle.json_order.specs.Places.{place_of, frames_of};
 ghost use Rattle.json_order.specs.Seen.{json_of};
 
-use std::alloc::Global;
-use std::str;
-
 use crate::fault::{JsonFault, JsonKind};
 use crate::number::is_done;
 use crate::place::{Frame, Place};
 use crate::step::{DEPTH, step};
 use crate::tree::Tree;
+use std::alloc::Global;
+use std::str;
 
 /// Reads a JSON text (RFC 8259, narrower where the formats say so). Memory for the tree alone is taken; the time is
 /// linear in the input but for the keys of an object, which cost the logarithm of their number.

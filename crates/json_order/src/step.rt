@@ -7,8 +7,6 @@ ghost use Rattle.json_order.specs.Machine.{Frame as StackFrame, IsFine, IsFinePl
 ghost use Rattle.json_order.specs.Places.{place_of, frames_of, state_of, entries_of, letters_from, value_of, Says};
 ghost use Rattle.json_order.specs.Seen.{json_of, members_with};
 
-use std::alloc::Global;
-
 use crate::fault::JsonKind;
 use crate::members::{Members, with_member};
 use crate::number::{is_done, part_step};
@@ -16,6 +14,7 @@ use crate::place::{Escape, Frame, Part, Place};
 use crate::quote::{Quote, quote_step};
 use crate::tree::Tree;
 use crate::word::Word;
+use std::alloc::Global;
 
 /// How deep lists and objects nest; the outermost has depth 1.
 pub(crate) const DEPTH: usize = 16;
@@ -91,12 +90,7 @@ fn object_of(members: Members) -> Tree
 }
 
 /// Behind the value of a member of an object.
-fn member_step(
-    members: Members,
-    key: String,
-    value: Tree,
-    c: char,
-) -> Result<Place, JsonKind>
+fn member_step(members: Members, key: String, value: Tree, c: char) -> Result<Place, JsonKind>
     ensures ok { IfOk result (λ p. (fs : List StackFrame) → judged strict (next_move (json_of value) (in_object (entries_of members.list.items) (string_bytes key) ∷ fs) c) ≡ Ok (state (place_of p) fs)) }
     ensures err { IfErr result (λ k. (fs : List StackFrame) → Says (judged strict (next_move (json_of value) (in_object (entries_of members.list.items) (string_bytes key) ∷ fs) c)) k) }
 {
@@ -138,11 +132,7 @@ fn empty_list(alloc: Global) -> Tree
 }
 
 /// Behind a `[`.
-fn first_item_step(
-    alloc: Global,
-    stack: &mut Vec<Frame>,
-    c: char,
-) -> Result<Place, JsonKind>
+fn first_item_step(alloc: Global, stack: &mut Vec<Frame>, c: char) -> Result<Place, JsonKind>
     ensures ok { IfOk result (λ p. judged strict (move at_first_item (frames_of stack.old.items) c) ≡ Ok (state_of p stack.new.items)) }
     ensures err { IfErr result (Says (judged strict (move at_first_item (frames_of stack.old.items) c))) }
 {
@@ -182,12 +172,7 @@ fn next_key_step(alloc: Global, members: Members, c: char) -> Result<Place, Json
 }
 
 /// In a key.
-fn key_step(
-    members: Members,
-    text: String,
-    escape: Escape,
-    c: char,
-) -> Result<Place, JsonKind>
+fn key_step(members: Members, text: String, escape: Escape, c: char) -> Result<Place, JsonKind>
     requires fine { IsFine escape }
     ensures ok { IfOk result (λ p. (fs : List StackFrame) → judged strict (move (in_key (entries_of members.list.items) (string_bytes text) escape) fs c) ≡ Ok (state (place_of p) fs)) }
     ensures err { IfErr result (λ k. (fs : List StackFrame) → Says (judged strict (move (in_key (entries_of members.list.items) (string_bytes text) escape) fs c)) k) }
@@ -260,12 +245,7 @@ fn number_step(
 }
 
 /// In a word.
-fn word_step(
-    stack: &mut Vec<Frame>,
-    word: Word,
-    read: usize,
-    c: char,
-) -> Result<Place, JsonKind>
+fn word_step(stack: &mut Vec<Frame>, word: Word, read: usize, c: char) -> Result<Place, JsonKind>
     ensures ok { IfOk result (λ p. judged strict (move (in_word (letters_from word read) (value_of word)) (frames_of stack.old.items) c) ≡ Ok (state_of p stack.new.items)) }
     ensures err { IfErr result (Says (judged strict (move (in_word (letters_from word read) (value_of word)) (frames_of stack.old.items) c))) }
 {

@@ -13,7 +13,7 @@ use Rattle.json_order.proofs.reading.read_text.Goals as goal
 pub returns-in-Err-step-clause-fault : goal.returns-in-Err-step-clause-fault
 returns-in-Err-step-clause-fault c =
     let told : Told c.in-Err-step.kind c.loop-c.at c.fault_at-in-Err-step.result.kind c.fault_at-in-Err-step.result.at =
-        record { same = c.fault_at-in-Err-step.ensures.kind; memory = c.fault_at-in-Err-step.ensures.memory; other = c.fault_at-in-Err-step.ensures.other } in
+    record { same = c.fault_at-in-Err-step.ensures.kind; memory = c.fault_at-in-Err-step.ensures.memory; other = c.fault_at-in-Err-step.ensures.other } in
     fault_told c.args.text.now c.loop-c.yielded c.in-Some.c (chars_rest c.loop-c.c-iterator) (chars_rest c.next.new.self) (state_of c.loop-c.place c.loop-c.stack.items)
     c.in-Err-step.kind c.loop-c.at c.fault_at-in-Err-step.result.kind c.fault_at-in-Err-step.result.at
     c.utf8.text c.loop-c.invariant.seen c.in-Some.ensures.steps.0 c.loop-c.invariant.ran c.in-Err-step.ensures.err c.loop-c.invariant.place told
@@ -33,14 +33,14 @@ loop-c-preserved c =
 pub returns-in-Some-value_at_end-clause-found : goal.returns-in-Some-value_at_end-clause-found
 returns-in-Some-value_at_end-clause-found c =
     (end_value c.args.text.now c.loop-c.yielded (state_of c.loop-c.place c.loop-c.stack.items) (json_of c.in-Some-value_at_end.tree)
-      (all_seen c.args.text.now c.loop-c.yielded (chars_rest c.loop-c.c-iterator) c.utf8.text c.loop-c.invariant.seen c.in-None.ensures.steps.0.0)
-      c.loop-c.invariant.ran c.in-Some-value_at_end.ensures.some).0
+    (all_seen c.args.text.now c.loop-c.yielded (chars_rest c.loop-c.c-iterator) c.utf8.text c.loop-c.invariant.seen c.in-None.ensures.steps.0.0)
+    c.loop-c.invariant.ran c.in-Some-value_at_end.ensures.some).0
 
 pub returns-in-Some-value_at_end-clause-only : goal.returns-in-Some-value_at_end-clause-only
 returns-in-Some-value_at_end-clause-only c =
     (end_value c.args.text.now c.loop-c.yielded (state_of c.loop-c.place c.loop-c.stack.items) (json_of c.in-Some-value_at_end.tree)
-      (all_seen c.args.text.now c.loop-c.yielded (chars_rest c.loop-c.c-iterator) c.utf8.text c.loop-c.invariant.seen c.in-None.ensures.steps.0.0)
-      c.loop-c.invariant.ran c.in-Some-value_at_end.ensures.some).1
+    (all_seen c.args.text.now c.loop-c.yielded (chars_rest c.loop-c.c-iterator) c.utf8.text c.loop-c.invariant.seen c.in-None.ensures.steps.0.0)
+    c.loop-c.invariant.ran c.in-Some-value_at_end.ensures.some).1
 
 pub returns-clause-fault : goal.returns-clause-fault
 returns-clause-fault c =
