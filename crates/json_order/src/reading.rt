@@ -9,7 +9,7 @@ ghost use Rattle.json_order.specs.Seen.{json_of};
 use crate::fault::{JsonFault, JsonKind};
 use crate::number::is_done;
 use crate::place::{Frame, Place};
-use crate::step::{DEPTH, step};
+use crate::step::{DEPTH, turn};
 use crate::tree::Tree;
 use std::alloc::Global;
 use std::str;
@@ -87,11 +87,10 @@ fn read_text(alloc: Global, text: &str) -> Result<Tree, JsonFault>
     let mut place = Place::Value;
     let mut at = 0;
     for c in text.chars() {
-        match step(alloc, place, &mut stack, c) {
-            Ok(next) => place = next,
+        match turn(alloc, &mut place, &mut stack, c) {
+            Ok(()) => at += c.len_utf8(),
             Err(kind) => return Err(fault_at(kind, at)),
         }
-        at += c.len_utf8();
     }
     match value_at_end(place, &stack) {
         Some(tree) => Ok(tree),
