@@ -93,9 +93,12 @@ unit_ends u l (inl h) = go (nat_lt u 0xD800) refl
     go : (b : Bool) → nat_lt u 0xD800 ≡ b → (c : ℕ) × (ds : List ℕ) × (all_scalars ds ≡ true) × ((after : List ℕ) → UnitRest u c (ds ++ after) after)
     go true e = (u, [], refl, λ after. inl (refl, scalar_is u l (inl (lt_from u 0xD800 e)), refl))
     go false e =
-        let m = lt_not u 0xD800 e in
-        (surrogate_pair_char u 0xDC00, 92 ∷ 117 ∷ 100 ∷ 99 ∷ 48 ∷ 48 ∷ [], refl,
-          λ after. inr (high_from u m (omega arith), (let w = low_unit u after in (w.0, (100 ∷ 99 ∷ 48 ∷ 48 ∷ after, refl, w.1), w.2, w.3))))
+        let m = lt_not u 0xD800 e in (
+          surrogate_pair_char u 0xDC00,
+          92 ∷ 117 ∷ 100 ∷ 99 ∷ 48 ∷ 48 ∷ [],
+          refl,
+          λ after. inr (high_from u m (omega arith), (let w = low_unit u after in (w.0, (100 ∷ 99 ∷ 48 ∷ 48 ∷ after, refl, w.1), w.2, w.3))),
+        )
 
 -- a `0` for each digit that is missing
 unit3_ends : (v : ℕ) → IsFine (Unit3 v) → EscapeEnds (Unit3 v)
@@ -155,9 +158,11 @@ scalars_append (d ∷ ds) k a b = and_both _ (all_scalars (ds ++ k)) (and_left _
     and_left : (a b : Bool) → (a && b) ≡ true → a ≡ true
     and_left true b h = refl
     and_left false b h = h
+
     and_right : (a b : Bool) → (a && b) ≡ true → b ≡ true
     and_right true b h = h
     and_right false b h = cc
+
     and_both : (a b : Bool) → a ≡ true → b ≡ true → (a && b) ≡ true
     and_both true b x y = y
     and_both false b x y = x
@@ -173,9 +178,11 @@ abbrev FirstEnds : Escape → ℕ → Type 0
 FirstEnds e n = (cs : List ℕ) × (n ≤ length (encode_utf8_all cs)) × ((k : List ℕ) → all_scalars k ≡ true → (before : List ℕ) × (all_scalars before ≡ true) × FirstCharacter e cs before k)
 
 first_ends : (e : Escape) (n : ℕ) → EscapeEnds e → FirstEnds e n
-first_ends e n (c, ds, s, w) =
-    (c ∷ letters n, (let l = letters_length n in let a = length-append (encode_utf8 c) (encode_utf8_all (letters n)) in omega arith),
-      λ k h. (ds ++ (letters n ++ (34 ∷ k)), scalars_append ds (letters n ++ (34 ∷ k)) s (letters_scalars n k h), (letters n ++ (34 ∷ k), w (letters n ++ (34 ∷ k)), letters_plain n k)))
+first_ends e n (c, ds, s, w) = (
+  c ∷ letters n,
+  (let l = letters_length n in let a = length-append (encode_utf8 c) (encode_utf8_all (letters n)) in omega arith),
+  λ k h. (ds ++ (letters n ++ (34 ∷ k)), scalars_append ds (letters n ++ (34 ∷ k)) s (letters_scalars n k h), (letters n ++ (34 ∷ k), w (letters n ++ (34 ∷ k)), letters_plain n k)),
+)
 
 string_ends : (e : Escape) (n : ℕ) → IsFine e → StringEnds e n
 string_ends Outside n h = outside_ends n
@@ -219,6 +226,7 @@ follows r ks key h = go r.repeats
     flip : (x : Bool) → x ≡ false → not x ≡ true
     flip true e = sym e
     flip false e = refl
+
     go : (b : Bool) → (b || not (has_key ks key)) ≡ true
     go true = refl
     go false = flip (has_key ks key) (new_key ks key h)

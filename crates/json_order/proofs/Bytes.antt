@@ -61,6 +61,7 @@ same_first c d x y e = go (nat_lt c 128) (nat_lt d 128) refl refl
   where
     some : (f : ℕ) (z : List ℕ) → 0 < length (encode_utf8 f ++ z)
     some f z = let l = length-append (encode_utf8 f) z in let s = encode_some f in omega arith
+
     go : (p q : Bool) → nat_lt c 128 ≡ p → nat_lt d 128 ≡ q → (c ≡ d) ⊎ ((128 ≤ c) × (128 ≤ d))
     go true q a b =
         let l = lt_from c 128 a in
@@ -97,14 +98,15 @@ pub refused_front : (r : Rules) (ys : List ℕ) (c : ℕ) (s : State) (k : JsonK
 refused_front r ys c s k h g bytes z q m l (rest, v, (cs, sc, e, text)) =
     let n = length (encode_utf8_all ys) in
     let split' : take m bytes ≡ encode_utf8_all ys ++ take (m - n) (encode_utf8 c ++ z) =
-        ap (take m) q ∙ ap (λ x. take x (encode_utf8_all ys ++ (encode_utf8 c ++ z))) (let a : m ≡ n + (m - n) = omega arith in a) ∙ take-append-add (encode_utf8_all ys) (encode_utf8 c ++ z) (m - n) in
+    ap (take m) q ∙ ap (λ x. take x (encode_utf8_all ys ++ (encode_utf8 c ++ z))) (let a : m ≡ n + (m - n) = omega arith in a) ∙ take-append-add (encode_utf8_all ys) (encode_utf8 c ++ z) (m - n) in
     let whole : encode_utf8_all cs ≡ encode_utf8_all ys ++ (take (m - n) (encode_utf8 c ++ z) ++ rest) =
-        sym e ∙ ap (λ x. x ++ rest) split' ∙ append_assoc (encode_utf8_all ys) (take (m - n) (encode_utf8 c ++ z)) rest in
+    sym e ∙ ap (λ x. x ++ rest) split' ∙ append_assoc (encode_utf8_all ys) (take (m - n) (encode_utf8 c ++ z)) rest in
     let f = encodes_front ys cs (take (m - n) (encode_utf8 c ++ z) ++ rest) whole in
     next f.0 (m - n) (omega arith) (subst (λ x. IsText r v x) f.1 text) f.2
   where
     none : (j : ℕ) → 0 < j → [] ≡ take j (encode_utf8 c ++ z) ++ rest → ⊥
     none j p w = front_some (encode_utf8 c) z j (encode_some c) p rest w
+
     next : (es : List ℕ) (j : ℕ) → 0 < j → IsText r v (ys ++ es) → encode_utf8_all es ≡ take j (encode_utf8 c ++ z) ++ rest → ⊥
     next [] j p t w = none j p w
     next (d ∷ es) j p t w =
@@ -143,9 +145,10 @@ slice_get_seam (y ∷ xs) x ys = slice_get_seam xs x ys
 byte_here : (bytes ys : List ℕ) (c : ℕ) (z : List ℕ) → c < 128 → At bytes ys c z → (slice_get bytes (length (encode_utf8_all ys)) ≡ Some c) × (take (length (encode_utf8_all ys) + 1) bytes ≡ encode_utf8_all (ys ++ c ∷ []))
 byte_here bytes ys c z l a =
     let e : bytes ≡ encode_utf8_all ys ++ (c ∷ z) = a.here ∙ ap (λ x. encode_utf8_all ys ++ (x ++ z)) (encode_ascii c l) in
-    let one : encode_utf8_all (ys ++ c ∷ []) ≡ encode_utf8_all ys ++ (c ∷ []) = encodes-append ys (c ∷ []) ∙ ap (λ x. encode_utf8_all ys ++ (x ++ [])) (encode_ascii c l) in
-    (ap (λ x. slice_get x (length (encode_utf8_all ys))) e ∙ slice_get_seam (encode_utf8_all ys) c z,
-     ap (take (length (encode_utf8_all ys) + 1)) e ∙ take-append-add (encode_utf8_all ys) (c ∷ z) 1 ∙ sym one)
+    let one : encode_utf8_all (ys ++ c ∷ []) ≡ encode_utf8_all ys ++ (c ∷ []) = encodes-append ys (c ∷ []) ∙ ap (λ x. encode_utf8_all ys ++ (x ++ [])) (encode_ascii c l) in (
+      ap (λ x. slice_get x (length (encode_utf8_all ys))) e ∙ slice_get_seam (encode_utf8_all ys) c z,
+      ap (take (length (encode_utf8_all ys) + 1)) e ∙ take-append-add (encode_utf8_all ys) (c ∷ z) 1 ∙ sym one,
+    )
 
 ascii_scalar : (ys : List ℕ) (c : ℕ) → c < 128 → all_scalars ys ≡ true → all_scalars (ys ++ c ∷ []) ≡ true
 ascii_scalar ys c l h = scalars_append ys (c ∷ []) h (rw (low_scalar c (omega arith)) refl)
@@ -166,19 +169,28 @@ pub fault_at : (bytes ys : List ℕ) (c : ℕ) (z : List ℕ) (s : State) (k : J
 fault_at bytes ys c z s k a h = go k (longest_front bytes ys c z s k a h) (why ys c s k h) h
   where
     go : (k : JsonKind) → IsLongestFront bytes (length (encode_utf8_all ys)) → Why c (move s.place s.frames c) k → Stuck ys c s k → IsFault bytes k (length (encode_utf8_all ys))
-    go Syntax l w h =
-        (a.utf8, l, short_front bytes ys c z a,
-         λ x. rejects deeper (omega arith) bytes ys c z s Syntax a h (w deeper) x.1,
-         λ x. rejects repeating (omega arith) bytes ys c z s Syntax a h (w repeating) x.1)
+    go Syntax l w h = (
+      a.utf8,
+      l,
+      short_front bytes ys c z a,
+      λ x. rejects deeper (omega arith) bytes ys c z s Syntax a h (w deeper) x.1,
+      λ x. rejects repeating (omega arith) bytes ys c z s Syntax a h (w repeating) x.1,
+    )
     go Depth l w h =
         let b : c < 128 = elim w.0 [ inl e ↦ omega arith | inr e ↦ omega arith ] in
-        let g = (byte_here bytes ys c z b a).0 in
-        (a.utf8, l, short_front bytes ys c z a,
-         (elim w.0 [ inl e ↦ inl (g ∙ ap Some e) | inr e ↦ inr (g ∙ ap Some e) ], accepts deeper (omega arith) bytes ys c z s w.1.0 Depth b a h w.1.1))
+        let g = (byte_here bytes ys c z b a).0 in (
+          a.utf8,
+          l,
+          short_front bytes ys c z a,
+          (elim w.0 [ inl e ↦ inl (g ∙ ap Some e) | inr e ↦ inr (g ∙ ap Some e) ], accepts deeper (omega arith) bytes ys c z s w.1.0 Depth b a h w.1.1),
+        )
     go Duplicate l w h =
-        let b : c < 128 = omega (arith, w.0) in
-        (a.utf8, l, short_front bytes ys c z a,
-         ((byte_here bytes ys c z b a).0 ∙ ap Some w.0, accepts repeating (omega arith) bytes ys c z s w.1.0 Duplicate b a h w.1.1))
+        let b : c < 128 = omega (arith, w.0) in (
+          a.utf8,
+          l,
+          short_front bytes ys c z a,
+          ((byte_here bytes ys c z b a).0 ∙ ap Some w.0, accepts repeating (omega arith) bytes ys c z s w.1.0 Duplicate b a h w.1.1),
+        )
     go End l w h = absurd w
     go Utf8 l w h = absurd w
     go Memory l w h = absurd w
@@ -198,18 +210,22 @@ spelled_by : (r : Rules) (bytes ys : List ℕ) (v : Json) → AtEnd bytes ys →
 spelled_by r bytes ys v a (cs, s, e, t) = subst (λ x. IsText r v x) (encodes_same cs ys (sym e ∙ a.here)) t
 
 pub end_value : (bytes ys : List ℕ) (s : State) (v : Json) → AtEnd bytes ys → run strict (Ok start) ys ≡ Ok s → ended s.place s.frames ≡ Some v → Spells strict bytes v × ((u : Json) → Spells strict bytes u → u ≡ v)
-end_value bytes ys s v a h e =
-    ((ys, end_scalars bytes ys a, a.here, (text_of_run strict ys s h v).1 e),
-     λ u w. let f = (text_of_run strict ys s h u).0 (spelled_by strict bytes ys u a w) in let g : Some u ≡ Some v = sym f ∙ e in cc)
+end_value bytes ys s v a h e = (
+  (ys, end_scalars bytes ys a, a.here, (text_of_run strict ys s h v).1 e),
+  λ u w. let f = (text_of_run strict ys s h u).0 (spelled_by strict bytes ys u a w) in let g : Some u ≡ Some v = sym f ∙ e in cc,
+)
 
 pub end_fault : (bytes ys : List ℕ) (s : State) → AtEnd bytes ys → run strict (Ok start) ys ≡ Ok s → ended s.place s.frames ≡ None → IsFault bytes End (length bytes)
-end_fault bytes ys s a h e =
-    (a.utf8, record {
-      within = omega arith;
-      begins = subst (λ x. Begins strict x) (sym (take-length bytes)) (subst (λ x. Begins strict x) (sym a.here) (begins_from strict ys s h (end_scalars bytes ys a)));
-      longest = λ m l w _. omega arith;
-    }, refl,
-     λ v w. let f = (text_of_run strict ys s h v).0 (spelled_by strict bytes ys v a w) in let g : Some v ≡ None = sym f ∙ e in cc)
+end_fault bytes ys s a h e = (
+  a.utf8,
+  record {
+    within = omega arith;
+    begins = subst (λ x. Begins strict x) (sym (take-length bytes)) (subst (λ x. Begins strict x) (sym a.here) (begins_from strict ys s h (end_scalars bytes ys a)));
+    longest = λ m l w _. omega arith;
+  },
+  refl,
+  λ v w. let f = (text_of_run strict ys s h v).0 (spelled_by strict bytes ys v a w) in let g : Some v ≡ None = sym f ∙ e in cc,
+)
 
 -- A FAULT AND A VALUE EXCLUDE EACH OTHER
 

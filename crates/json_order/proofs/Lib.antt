@@ -12,3 +12,4 @@ pub mod Bytes
 pub mod Keys
 pub mod Trees
 pub mod Turns
+pub mod Rows

@@ -136,13 +136,15 @@ parts_minus c =
     split (λ b. Parts Minus c (if b then Some Zero else if is_in_range 49 57 c then Some Whole else None)) (c == 48)
     (λ h rest. (zero rest h, λ w. (c ∷ [], w.0, w.1, inl (is_eq c 48 h, refl), w.2, w.3, ap (λ x. c ∷ x) w.4)))
     (λ n. split (λ b. Parts Minus c (if b then Some Whole else None)) (is_in_range 49 57 c)
-      (λ h rest. (whole rest h, λ w. (c ∷ w.0, w.1, w.2, inr (h, w.3), w.4, w.5, ap (λ x. c ∷ x) w.6)))
-      (λ m rest. none rest n m))
+    (λ h rest. (whole rest h, λ w. (c ∷ w.0, w.1, w.2, inr (h, w.3), w.4, w.5, ap (λ x. c ∷ x) w.6)))
+    (λ m rest. none rest n m))
   where
     zero : (rest : List ℕ) → (c == 48) ≡ true → NumberRest Minus (c ∷ rest) → NumberRest Zero rest
     zero rest h w = elim (minus_to c rest w) [ inl a ↦ a.1 | inr b ↦ absurd (zero_no_other c (is_eq c 48 h) b.0) ]
+
     whole : (rest : List ℕ) → is_in_range 49 57 c ≡ true → NumberRest Minus (c ∷ rest) → NumberRest Whole rest
     whole rest h w = elim (minus_to c rest w) [ inl a ↦ absurd (zero_no_other c a.0 h) | inr b ↦ b.1 ]
+
     none : (rest : List ℕ) → (c == 48) ≡ false → is_in_range 49 57 c ≡ false → NumberRest Minus (c ∷ rest) → ⊥
     none rest n m w = elim (minus_to c rest w) [ inl a ↦ not_eq c 48 n a.0 | inr b ↦ against _ b.0 m ]
 
@@ -151,13 +153,15 @@ parts_zero c =
     split (λ b. Parts Zero c (if b then Some Dot else if is_mark c then Some Mark else None)) (c == 46)
     (λ h rest. (dot rest h, λ w. (c ∷ w.0, w.1, (is_eq c 46 h, w.2), w.3, ap (λ x. c ∷ x) w.4)))
     (λ n. split (λ b. Parts Zero c (if b then Some Mark else None)) (is_mark c)
-      (λ h rest. (mark rest n h, λ w. ([], c ∷ rest, tt, (h, w), refl)))
-      (λ m rest. none rest n m))
+    (λ h rest. (mark rest n h, λ w. ([], c ∷ rest, tt, (h, w), refl)))
+    (λ m rest. none rest n m))
   where
     dot : (rest : List ℕ) → (c == 46) ≡ true → NumberRest Zero (c ∷ rest) → NumberRest Dot rest
     dot rest h w = elim (zero_to c rest w) [ inl a ↦ a.1 | inr b ↦ absurd (point_no_mark c (is_eq c 46 h) b.0) ]
+
     mark : (rest : List ℕ) → (c == 46) ≡ false → is_mark c ≡ true → NumberRest Zero (c ∷ rest) → IsPower rest
     mark rest n h w = elim (zero_to c rest w) [ inl a ↦ absurd (not_eq c 46 n a.0) | inr b ↦ b.1 ]
+
     none : (rest : List ℕ) → (c == 46) ≡ false → is_mark c ≡ false → NumberRest Zero (c ∷ rest) → ⊥
     none rest n m w = elim (zero_to c rest w) [ inl a ↦ not_eq c 46 n a.0 | inr b ↦ against _ b.0 m ]
 
@@ -166,17 +170,20 @@ parts_whole c =
     split (λ b. Parts Whole c (if b then Some Whole else if c == 46 then Some Dot else if is_mark c then Some Mark else None)) (is_ascii_digit c)
     (λ h rest. (digit rest h, λ w. (c ∷ w.0, w.1, w.2, (h, w.3), w.4, w.5, ap (λ x. c ∷ x) w.6)))
     (λ d. split (λ b. Parts Whole c (if b then Some Dot else if is_mark c then Some Mark else None)) (c == 46)
-      (λ h rest. (dot rest d h, λ w. ([], c ∷ w.0, w.1, tt, (is_eq c 46 h, w.2), w.3, ap (λ x. c ∷ x) w.4)))
-      (λ n. split (λ b. Parts Whole c (if b then Some Mark else None)) (is_mark c)
-        (λ h rest. (mark rest d n h, λ w. ([], [], c ∷ rest, tt, tt, (h, w), refl)))
-        (λ m rest. none rest d n m)))
+    (λ h rest. (dot rest d h, λ w. ([], c ∷ w.0, w.1, tt, (is_eq c 46 h, w.2), w.3, ap (λ x. c ∷ x) w.4)))
+    (λ n. split (λ b. Parts Whole c (if b then Some Mark else None)) (is_mark c)
+    (λ h rest. (mark rest d n h, λ w. ([], [], c ∷ rest, tt, tt, (h, w), refl)))
+    (λ m rest. none rest d n m)))
   where
     digit : (rest : List ℕ) → is_ascii_digit c ≡ true → NumberRest Whole (c ∷ rest) → NumberRest Whole rest
     digit rest h w = elim (whole_to c rest w) [ inl a ↦ a.1 | inr (inl b) ↦ absurd (digit_no_point c h b.0) | inr (inr b) ↦ absurd (digit_no_mark c h b.0) ]
+
     dot : (rest : List ℕ) → is_ascii_digit c ≡ false → (c == 46) ≡ true → NumberRest Whole (c ∷ rest) → NumberRest Dot rest
     dot rest d h w = elim (whole_to c rest w) [ inl a ↦ against _ a.0 d | inr (inl b) ↦ b.1 | inr (inr b) ↦ absurd (point_no_mark c (is_eq c 46 h) b.0) ]
+
     mark : (rest : List ℕ) → is_ascii_digit c ≡ false → (c == 46) ≡ false → is_mark c ≡ true → NumberRest Whole (c ∷ rest) → IsPower rest
     mark rest d n h w = elim (whole_to c rest w) [ inl a ↦ against _ a.0 d | inr (inl b) ↦ absurd (not_eq c 46 n b.0) | inr (inr b) ↦ b.1 ]
+
     none : (rest : List ℕ) → is_ascii_digit c ≡ false → (c == 46) ≡ false → is_mark c ≡ false → NumberRest Whole (c ∷ rest) → ⊥
     none rest d n m w = elim (whole_to c rest w) [ inl a ↦ against _ a.0 d | inr (inl b) ↦ not_eq c 46 n b.0 | inr (inr b) ↦ against _ b.0 m ]
 
@@ -191,13 +198,15 @@ parts_fraction c =
     split (λ b. Parts Fraction c (if b then Some Fraction else if is_mark c then Some Mark else None)) (is_ascii_digit c)
     (λ h rest. (digit rest h, λ w. (c ∷ w.0, w.1, (h, w.2), w.3, ap (λ x. c ∷ x) w.4)))
     (λ d. split (λ b. Parts Fraction c (if b then Some Mark else None)) (is_mark c)
-      (λ h rest. (mark rest d h, λ w. ([], c ∷ rest, tt, (h, w), refl)))
-      (λ m rest. none rest d m))
+    (λ h rest. (mark rest d h, λ w. ([], c ∷ rest, tt, (h, w), refl)))
+    (λ m rest. none rest d m))
   where
     digit : (rest : List ℕ) → is_ascii_digit c ≡ true → NumberRest Fraction (c ∷ rest) → NumberRest Fraction rest
     digit rest h w = elim (fraction_to c rest w) [ inl a ↦ a.1 | inr b ↦ absurd (digit_no_mark c h b.0) ]
+
     mark : (rest : List ℕ) → is_ascii_digit c ≡ false → is_mark c ≡ true → NumberRest Fraction (c ∷ rest) → IsPower rest
     mark rest d h w = elim (fraction_to c rest w) [ inl a ↦ against _ a.0 d | inr b ↦ b.1 ]
+
     none : (rest : List ℕ) → is_ascii_digit c ≡ false → is_mark c ≡ false → NumberRest Fraction (c ∷ rest) → ⊥
     none rest d m w = elim (fraction_to c rest w) [ inl a ↦ against _ a.0 d | inr b ↦ against _ b.0 m ]
 
@@ -206,13 +215,15 @@ parts_mark c =
     split (λ b. Parts Mark c (if b then Some Exponent else if is_sign c then Some Sign else None)) (is_ascii_digit c)
     (λ h rest. (digit rest h, λ w. inl (h, w)))
     (λ d. split (λ b. Parts Mark c (if b then Some Sign else None)) (is_sign c)
-      (λ h rest. (sign rest d, λ w. inr (h, w)))
-      (λ m rest. none rest d m))
+    (λ h rest. (sign rest d, λ w. inr (h, w)))
+    (λ m rest. none rest d m))
   where
     digit : (rest : List ℕ) → is_ascii_digit c ≡ true → NumberRest Mark (c ∷ rest) → NumberRest Exponent rest
     digit rest h w = elim w [ inl a ↦ a.1 | inr b ↦ absurd (digit_no_sign c h b.0) ]
+
     sign : (rest : List ℕ) → is_ascii_digit c ≡ false → NumberRest Mark (c ∷ rest) → SomeDigits rest
     sign rest d w = elim w [ inl a ↦ against _ a.0 d | inr b ↦ b.1 ]
+
     none : (rest : List ℕ) → is_ascii_digit c ≡ false → is_sign c ≡ false → NumberRest Mark (c ∷ rest) → ⊥
     none rest d m w = elim w [ inl a ↦ against _ a.0 d | inr b ↦ against _ b.0 m ]
 
@@ -336,8 +347,8 @@ part_goes Whole c =
     split (λ b. Goes c (if b then Some Whole else if c == 46 then Some Dot else if is_mark c then Some Mark else None)) (is_ascii_digit c)
     (λ h. inside_digit c h)
     (λ d. split (λ b. Goes c (if b then Some Dot else if is_mark c then Some Mark else None)) (c == 46)
-      (λ h. inside_eq c 46 h (omega arith) (omega arith))
-      (λ n. split (λ b. Goes c (if b then Some Mark else None)) (is_mark c) (λ h. inside_mark c h) (λ m. tt)))
+    (λ h. inside_eq c 46 h (omega arith) (omega arith))
+    (λ n. split (λ b. Goes c (if b then Some Mark else None)) (is_mark c) (λ h. inside_mark c h) (λ m. tt)))
 part_goes Dot c = split (λ b. Goes c (if b then Some Fraction else None)) (is_ascii_digit c) (λ h. inside_digit c h) (λ m. tt)
 part_goes Fraction c =
     split (λ b. Goes c (if b then Some Fraction else if is_mark c then Some Mark else None)) (is_ascii_digit c)

@@ -62,6 +62,7 @@ ran r s (c ∷ cs) h = go (λ u g. ran r u cs g) (step r s c) (one_step r s c h)
     then' : (u : State) → IsSound r.limit u → Onto r (λ rest t. Completes r s (c ∷ rest) t) u → (o : Result State JsonKind) → Ran r u cs o → Ran r s (c ∷ cs) o
     then' u g on (Ok v) w = (w.0, λ rest t. (λ x. (w.1 rest t).0 ((on (cs ++ rest) t).0 x), λ x. (on (cs ++ rest) t).1 ((w.1 rest t).1 x)))
     then' u g on (Err k) w = λ rest t x. w rest t ((on (cs ++ rest) t).0 x)
+
     go : ((u : State) → IsSound r.limit u → Ran r u cs (run r (Ok u) cs)) → (o : Result State JsonKind) → Judged r (λ rest t. Completes r s (c ∷ rest) t) o → Ran r s (c ∷ cs) (run r o cs)
     go more (Ok u) j = then' u j.0 j.1 (run r (Ok u) cs) (more u j.0)
     go more (Err k) j = subst (λ o. Ran r s (c ∷ cs) o) (sym (run_err r k cs)) (λ rest t x. j (cs ++ rest) t x)
@@ -197,9 +198,10 @@ pub text_of_run : (r : Rules) (cs : List ℕ) (u : State) → run r (Ok start) c
 text_of_run r cs u h t = go (subst (λ o. Ran r start cs o) h (ran r start cs (start_sound r.limit)))
   where
     go : Ran r start cs (Ok u) → (IsText r t cs → ended u.place u.frames ≡ Some t) × (ended u.place u.frames ≡ Some t → IsText r t cs)
-    go w =
-        (λ x. ended_to r u.place u.frames t ((w.1 [] t).0 (subst (λ y. Completes r start y t) (sym (append-nil cs)) (text_to r t cs x))),
-         λ e. text_from r t cs (subst (λ y. Completes r start y t) (append-nil cs) ((w.1 [] t).1 (ended_from r u.place u.frames t e))))
+    go w = (
+      λ x. ended_to r u.place u.frames t ((w.1 [] t).0 (subst (λ y. Completes r start y t) (sym (append-nil cs)) (text_to r t cs x))),
+      λ e. text_from r t cs (subst (λ y. Completes r start y t) (append-nil cs) ((w.1 [] t).1 (ended_from r u.place u.frames t e))),
+    )
 
 -- some text goes on from it
 pub front_of_run : (r : Rules) (cs : List ℕ) (u : State) → run r (Ok start) cs ≡ Ok u → (rest : List ℕ) × (t : Json) × (all_scalars rest ≡ true) × IsText r t (cs ++ rest)
@@ -230,6 +232,7 @@ judged_weaker r w (names earlier key s) u h = go (has_key earlier key) refl h
     flip : (b : Bool) → (b || true) ≡ true
     flip true = refl
     flip false = refl
+
     go : (b : Bool) → has_key earlier key ≡ b → (if not b then Ok s else Err Duplicate) ≡ Ok u → judged r (names earlier key s) ≡ Ok u
     go true e h = cc
     go false e h = rw (e, flip r.repeats) h

@@ -28,10 +28,10 @@ at_space : (r : Rules) (L : List ℕ → Json → Type 0) (A : List ℕ → Json
 at_space r L A s c m form same not leads =
     split (λ b. Leads r (λ rest t. L (c ∷ rest) t) (if b then goes s else m)) (is_space c)
     (λ h rest t. let w = behind_space (λ x. A x t) c h (λ x. not h x t) rest in
-      (λ l. (same rest t).1 ((form rest t).1 (w.0 ((form (c ∷ rest) t).0 l))), λ l. (form (c ∷ rest) t).1 (w.1 ((form rest t).0 ((same rest t).0 l)))))
+    (λ l. (same rest t).1 ((form rest t).1 (w.0 ((form (c ∷ rest) t).0 l))), λ l. (form (c ∷ rest) t).1 (w.1 ((form rest t).0 ((same rest t).0 l)))))
     (λ n. leads_by r (λ rest t. L (c ∷ rest) t) (λ rest t. A (c ∷ rest) t)
-      (λ rest t. let w = behind_other (λ x. A x t) c n rest in (λ l. w.0 ((form (c ∷ rest) t).0 l), λ a. (form (c ∷ rest) t).1 (w.1 a)))
-      m (leads n))
+    (λ rest t. let w = behind_other (λ x. A x t) c n rest in (λ l. w.0 ((form (c ∷ rest) t).0 l), λ a. (form (c ∷ rest) t).1 (w.1 a)))
+    m (leads n))
 
 -- AT A VALUE
 
@@ -53,6 +53,7 @@ first_item_form r fs rest t = (to, from)
     to : CompletesAt r at_first_item fs rest t → Behind (λ x. FirstItem r fs x t) rest
     to (no_items, after, sp, k) = (93 ∷ after, sp, inl (after, refl, k))
     to (item v is, after, (s, e, m, sp, w, sp', more), k) = (s, sp, inr (v, e, w, (is, m, after, sp', more, k)))
+
     from : Behind (λ x. FirstItem r fs x t) rest → CompletesAt r at_first_item fs rest t
     from (s, sp, inl (after, q, k)) = (no_items, after, subst (λ y. IsSpaced rest y) q sp, k)
     from (s, sp, inr (v, e, w, (is, m, after, sp', more, k))) = (item v is, after, (s, e, m, sp, w, sp', more), k)
@@ -66,14 +67,15 @@ leads_first_item r fs c =
     (first_item_form r fs) (λ rest t. (λ w. w, λ w. w))
     (λ h rest t w. elim w [ inl a ↦ space_no_other c 93 h (let q = a.1 in cc) (omega arith) | inr b ↦ value_not_space r (in_list [] ∷ fs) c rest t h b ])
     (λ n. split (λ b. Leads r (λ rest t. FirstItem r fs (c ∷ rest) t) (if b then goes (state (behind (array no_items)) fs) else value_move (in_list [] ∷ fs) c)) (c == 93)
-      (λ h rest t. (close rest t h, λ k. inl (rest, ap (λ y. y ∷ rest) (is_eq c 93 h), k)))
-      (λ m. leads_by r (λ rest t. FirstItem r fs (c ∷ rest) t) (λ rest t. BeginsValue r (in_list [] ∷ fs) (c ∷ rest) t)
-        (λ rest t. (other rest t m, λ b. inr b))
-        (value_move (in_list [] ∷ fs) c) (value_leads r (in_list [] ∷ fs) c)))
+    (λ h rest t. (close rest t h, λ k. inl (rest, ap (λ y. y ∷ rest) (is_eq c 93 h), k)))
+    (λ m. leads_by r (λ rest t. FirstItem r fs (c ∷ rest) t) (λ rest t. BeginsValue r (in_list [] ∷ fs) (c ∷ rest) t)
+    (λ rest t. (other rest t m, λ b. inr b))
+    (value_move (in_list [] ∷ fs) c) (value_leads r (in_list [] ∷ fs) c)))
   where
     close : (rest : List ℕ) (t : Json) → (c == 93) ≡ true → FirstItem r fs (c ∷ rest) t → Closes r fs (array no_items) rest t
     close rest t h (inl (after, q, k)) = let tail : after ≡ rest = cc in subst (λ y. Closes r fs (array no_items) y t) tail k
     close rest t h (inr b) = absurd (value_not_bracket r (in_list [] ∷ fs) c rest t (is_eq c 93 h) b)
+
     other : (rest : List ℕ) (t : Json) → (c == 93) ≡ false → FirstItem r fs (c ∷ rest) t → BeginsValue r (in_list [] ∷ fs) (c ∷ rest) t
     other rest t m (inl (after, q, k)) = absurd (not_eq c 93 m cc)
     other rest t m (inr b) = b
@@ -120,6 +122,7 @@ item_comma r fs vs v c h rest t = (to, from)
     to (item x is, after, (b, s, e, m, q, sp, w, sp', more), k) =
         let tail : b ≡ rest = cc in
         (s, subst (λ y. IsSpaced y s) tail sp, (x, e, w, (is, m, after, sp', more, subst (λ y. Closes r fs (array y) after t) (sym (items_push vs v (item x is))) k)))
+
     from : Opens r (in_list (vs ++ v ∷ []) ∷ fs) rest t → Next r (in_list vs ∷ fs) v (c ∷ rest) t
     from (s, sp, (x, e, w, (is, m, after, sp', more, k))) =
         (item x is, after, (rest, s, e, m, ap (λ y. y ∷ rest) h, sp, w, sp', more), subst (λ y. Closes r fs (array y) after t) (items_push vs v (item x is)) k)
@@ -133,6 +136,7 @@ item_close r fs vs v c h rest t = (to, from)
         let tail : after ≡ rest = cc in
         subst (λ y. Closes r fs (array y) rest t) (sym (items_push vs v no_items)) (subst (λ y. Closes r fs (array (items_with vs (item v no_items))) y t) tail k)
     to (item x is, after, (b, s, e, m, q, sp, w, sp', more), k) = absurd (let z : c ≡ 44 = cc in omega arith)
+
     from : Closes r fs (array (items_with (vs ++ v ∷ []) no_items)) rest t → Next r (in_list vs ∷ fs) v (c ∷ rest) t
     from k = (no_items, rest, ap (λ y. y ∷ rest) h, subst (λ y. Closes r fs (array y) rest t) (items_push vs v no_items) k)
 
@@ -141,9 +145,10 @@ abbrev KeyAt : Rules → Entries → List Frame → List ℕ → Json → Type 0
 KeyAt r es fs s t = (key k c m : List ℕ) × IsString key s k × (may_follow r (keys es) key ≡ true) × IsSpaced k c × (c ≡ 58 ∷ m) × Opens r (in_object es key ∷ fs) m t
 
 next_key_form : (r : Rules) (es : Entries) (fs : List Frame) (rest : List ℕ) (t : Json) → (CompletesAt r (at_next_key es) fs rest t → Behind (λ x. KeyAt r es fs x t) rest) × (Behind (λ x. KeyAt r es fs x t) rest → CompletesAt r (at_next_key es) fs rest t)
-next_key_form r es fs rest t =
-    (λ w. (w.2.0, w.2.3, (w.0, w.2.1, w.2.2, w.1, w.2.4, w.2.5, w.2.6, w.2.7, w.3)),
-     λ w. (w.2.0, w.2.3, (w.0, w.2.1, w.2.2, w.1, w.2.4, w.2.5, w.2.6, w.2.7), w.2.8))
+next_key_form r es fs rest t = (
+  λ w. (w.2.0, w.2.3, (w.0, w.2.1, w.2.2, w.1, w.2.4, w.2.5, w.2.6, w.2.7, w.3)),
+  λ w. (w.2.0, w.2.3, (w.0, w.2.1, w.2.2, w.1, w.2.4, w.2.5, w.2.6, w.2.7), w.2.8),
+)
 
 member_comma : (r : Rules) (fs : List Frame) (es : Entries) (key : List ℕ) (v : Json) (c : ℕ) → c ≡ 44 → (rest : List ℕ) (t : Json) →
     (Next r (in_object es key ∷ fs) v (c ∷ rest) t → CompletesAt r (at_next_key (es ++ (key, v) ∷ [])) fs rest t) × (CompletesAt r (at_next_key (es ++ (key, v) ∷ [])) fs rest t → Next r (in_object es key ∷ fs) v (c ∷ rest) t)
@@ -152,15 +157,37 @@ member_comma r fs es key v c h rest t = (to, from)
     to : Next r (in_object es key ∷ fs) v (c ∷ rest) t → CompletesAt r (at_next_key (es ++ (key, v) ∷ [])) fs rest t
     to (no_members, after, q, k) = absurd (let z : c ≡ 125 = cc in omega arith)
     to (member x y ms, after, (b, n, s, e, m, q, isk, sp, w, sp', more), k) =
-        let tail : b ≡ rest = cc in let ks = sym (keys_push es key v) in
-        (x, n, subst (λ z. IsKey r z x rest n) ks (subst (λ z. IsKey r (keys es ++ key ∷ []) x z n) tail isk),
-          (s, sp, (y, e, w, (ms, m, after, sp', subst (λ z. AreMoreMembers r (suc (length fs)) (z ++ x ∷ []) ms m after) ks more,
-            subst (λ z. Closes r fs (object z) after t) (sym (members_push es key v (member x y ms))) k))))
+        let tail : b ≡ rest = cc in let ks = sym (keys_push es key v) in (
+          x,
+          n,
+          subst (λ z. IsKey r z x rest n) ks (subst (λ z. IsKey r (keys es ++ key ∷ []) x z n) tail isk),
+          (
+            s,
+            sp,
+            (
+              y,
+              e,
+              w,
+              (
+                ms,
+                m,
+                after,
+                sp',
+                subst (λ z. AreMoreMembers r (suc (length fs)) (z ++ x ∷ []) ms m after) ks more,
+                subst (λ z. Closes r fs (object z) after t) (sym (members_push es key v (member x y ms))) k,
+              ),
+            ),
+          ),
+        )
+
     from : CompletesAt r (at_next_key (es ++ (key, v) ∷ [])) fs rest t → Next r (in_object es key ∷ fs) v (c ∷ rest) t
     from (x, n, isk, (s, sp, (y, e, w, (ms, m, after, sp', more, k)))) =
-        let ks = keys_push es key v in
-        (member x y ms, after, (rest, n, s, e, m, ap (λ z. z ∷ rest) h, subst (λ z. IsKey r z x rest n) ks isk, sp, w, sp', subst (λ z. AreMoreMembers r (suc (length fs)) (z ++ x ∷ []) ms m after) ks more),
-          subst (λ z. Closes r fs (object z) after t) (members_push es key v (member x y ms)) k)
+        let ks = keys_push es key v in (
+          member x y ms,
+          after,
+          (rest, n, s, e, m, ap (λ z. z ∷ rest) h, subst (λ z. IsKey r z x rest n) ks isk, sp, w, sp', subst (λ z. AreMoreMembers r (suc (length fs)) (z ++ x ∷ []) ms m after) ks more),
+          subst (λ z. Closes r fs (object z) after t) (members_push es key v (member x y ms)) k,
+        )
 
 member_close : (r : Rules) (fs : List Frame) (es : Entries) (key : List ℕ) (v : Json) (c : ℕ) → c ≡ 125 → (rest : List ℕ) (t : Json) →
     (Next r (in_object es key ∷ fs) v (c ∷ rest) t → Closes r fs (object (members_with (es ++ (key, v) ∷ []) no_members)) rest t) × (Closes r fs (object (members_with (es ++ (key, v) ∷ []) no_members)) rest t → Next r (in_object es key ∷ fs) v (c ∷ rest) t)
@@ -171,6 +198,7 @@ member_close r fs es key v c h rest t = (to, from)
         let tail : after ≡ rest = cc in
         subst (λ y. Closes r fs (object y) rest t) (sym (members_push es key v no_members)) (subst (λ y. Closes r fs (object (members_with es (member key v no_members))) y t) tail k)
     to (member x y ms, after, (b, n, s, e, m, q, isk, sp, w, sp', more), k) = absurd (let z : c ≡ 44 = cc in omega arith)
+
     from : Closes r fs (object (members_with (es ++ (key, v) ∷ []) no_members)) rest t → Next r (in_object es key ∷ fs) v (c ∷ rest) t
     from k = (no_members, rest, ap (λ y. y ∷ rest) h, subst (λ y. Closes r fs (object y) rest t) (members_push es key v no_members) k)
 
@@ -180,8 +208,8 @@ next_leads r (in_list vs ∷ fs) v c =
     split (λ b. Leads r (λ rest t. Next r (in_list vs ∷ fs) v (c ∷ rest) t) (if b then goes (state at_value (in_list (vs ++ v ∷ []) ∷ fs)) else if c == 93 then goes (state (behind (array (items_with (vs ++ v ∷ []) no_items))) fs) else stops)) (c == 44)
     (λ h. item_comma r fs vs v c (is_eq c 44 h))
     (λ n. split (λ b. Leads r (λ rest t. Next r (in_list vs ∷ fs) v (c ∷ rest) t) (if b then goes (state (behind (array (items_with (vs ++ v ∷ []) no_items))) fs) else stops)) (c == 93)
-      (λ h. item_close r fs vs v c (is_eq c 93 h))
-      (λ m rest t w. none rest t (not_eq c 44 n) (not_eq c 93 m) w))
+    (λ h. item_close r fs vs v c (is_eq c 93 h))
+    (λ m rest t w. none rest t (not_eq c 44 n) (not_eq c 93 m) w))
   where
     none : (rest : List ℕ) (t : Json) → c ≢ 44 → c ≢ 93 → Next r (in_list vs ∷ fs) v (c ∷ rest) t → ⊥
     none rest t n m (no_items, after, q, k) = m cc
@@ -190,8 +218,8 @@ next_leads r (in_object es key ∷ fs) v c =
     split (λ b. Leads r (λ rest t. Next r (in_object es key ∷ fs) v (c ∷ rest) t) (if b then goes (state (at_next_key (es ++ (key, v) ∷ [])) fs) else if c == 125 then goes (state (behind (object (members_with (es ++ (key, v) ∷ []) no_members))) fs) else stops)) (c == 44)
     (λ h. member_comma r fs es key v c (is_eq c 44 h))
     (λ n. split (λ b. Leads r (λ rest t. Next r (in_object es key ∷ fs) v (c ∷ rest) t) (if b then goes (state (behind (object (members_with (es ++ (key, v) ∷ []) no_members))) fs) else stops)) (c == 125)
-      (λ h. member_close r fs es key v c (is_eq c 125 h))
-      (λ m rest t w. none rest t (not_eq c 44 n) (not_eq c 125 m) w))
+    (λ h. member_close r fs es key v c (is_eq c 125 h))
+    (λ m rest t w. none rest t (not_eq c 44 n) (not_eq c 125 m) w))
   where
     none : (rest : List ℕ) (t : Json) → c ≢ 44 → c ≢ 125 → Next r (in_object es key ∷ fs) v (c ∷ rest) t → ⊥
     none rest t n m (no_members, after, q, k) = m cc
@@ -222,6 +250,7 @@ key_quote r es fs c h rest t = (to, from)
     to (key, k, d, m, (cs, mid, q, z, w), f, sp, e, o) =
         let tail : mid ≡ rest = cc in
         (cs, k, d, m, subst (λ y. AreCharacters cs y k) tail w, subst (λ y. may_follow r (keys es) y ≡ true) z f, sp, e, subst (λ y. Opens r (in_object es y ∷ fs) m t) z o)
+
     from : CompletesAt r (in_key es [] Outside) fs rest t → KeyAt r es fs (c ∷ rest) t
     from (cs, k, d, m, w, f, sp, e, o) = (encode_utf8_all cs, k, d, m, (cs, rest, ap (λ y. y ∷ rest) h, refl, w), f, sp, e, o)
 
@@ -234,8 +263,8 @@ leads_next_key r es fs c =
     (next_key_form r es fs) (λ rest t. (λ w. w, λ w. w))
     (λ h rest t w. space_no_other c 34 h (key_is_quote r es fs c rest t w) (omega arith))
     (λ n. split (λ b. Leads r (λ rest t. KeyAt r es fs (c ∷ rest) t) (if b then goes (state (in_key es [] Outside) fs) else stops)) (c == 34)
-      (λ h. key_quote r es fs c (is_eq c 34 h))
-      (λ m rest t w. not_eq c 34 m (key_is_quote r es fs c rest t w)))
+    (λ h. key_quote r es fs c (is_eq c 34 h))
+    (λ m rest t w. not_eq c 34 m (key_is_quote r es fs c rest t w)))
 
 -- AT A FIRST KEY
 
@@ -249,6 +278,7 @@ first_key_form r fs rest t = (to, from)
     to (no_members, after, sp, k) = (125 ∷ after, sp, inl (after, refl, k))
     to (member x y ms, after, (n, s, e, m, (s', k', d, sp0, str, f, sp1, q), sp, w, sp', more), k) =
         (s', sp0, inr (x, k', d, n, str, f, sp1, q, (s, sp, (y, e, w, (ms, m, after, sp', more, k)))))
+
     from : Behind (λ x. FirstKey r fs x t) rest → CompletesAt r at_first_key fs rest t
     from (s, sp, inl (after, q, k)) = (no_members, after, subst (λ y. IsSpaced rest y) q sp, k)
     from (s', sp0, inr (x, k', d, n, str, f, sp1, q, (s, sp, (y, e, w, (ms, m, after, sp', more, k))))) =
@@ -260,17 +290,19 @@ leads_first_key r fs c =
     (first_key_form r fs) (λ rest t. (λ w. w, λ w. w))
     (λ h rest t w. elim w [ inl a ↦ space_no_other c 125 h (let q = a.1 in cc) (omega arith) | inr b ↦ space_no_other c 34 h (key_is_quote r [] fs c rest t b) (omega arith) ])
     (λ n. split (λ b. Leads r (λ rest t. FirstKey r fs (c ∷ rest) t) (if b then goes (state (in_key [] [] Outside) fs) else if c == 125 then goes (state (behind (object no_members)) fs) else stops)) (c == 34)
-      (λ h. leads_by r (λ rest t. FirstKey r fs (c ∷ rest) t) (λ rest t. KeyAt r [] fs (c ∷ rest) t) (λ rest t. (key rest t (is_eq c 34 h), λ b. inr b)) (goes (state (in_key [] [] Outside) fs)) (key_quote r [] fs c (is_eq c 34 h)))
-      (λ m. split (λ b. Leads r (λ rest t. FirstKey r fs (c ∷ rest) t) (if b then goes (state (behind (object no_members)) fs) else stops)) (c == 125)
-        (λ h rest t. (close rest t (is_eq c 125 h), λ k. inl (rest, ap (λ y. y ∷ rest) (is_eq c 125 h), k)))
-        (λ l rest t w. none rest t (not_eq c 34 m) (not_eq c 125 l) w)))
+    (λ h. leads_by r (λ rest t. FirstKey r fs (c ∷ rest) t) (λ rest t. KeyAt r [] fs (c ∷ rest) t) (λ rest t. (key rest t (is_eq c 34 h), λ b. inr b)) (goes (state (in_key [] [] Outside) fs)) (key_quote r [] fs c (is_eq c 34 h)))
+    (λ m. split (λ b. Leads r (λ rest t. FirstKey r fs (c ∷ rest) t) (if b then goes (state (behind (object no_members)) fs) else stops)) (c == 125)
+    (λ h rest t. (close rest t (is_eq c 125 h), λ k. inl (rest, ap (λ y. y ∷ rest) (is_eq c 125 h), k)))
+    (λ l rest t w. none rest t (not_eq c 34 m) (not_eq c 125 l) w)))
   where
     key : (rest : List ℕ) (t : Json) → c ≡ 34 → FirstKey r fs (c ∷ rest) t → KeyAt r [] fs (c ∷ rest) t
     key rest t h (inl (after, q, k)) = absurd (let z : c ≡ 125 = cc in omega arith)
     key rest t h (inr b) = b
+
     close : (rest : List ℕ) (t : Json) → c ≡ 125 → FirstKey r fs (c ∷ rest) t → Closes r fs (object no_members) rest t
     close rest t h (inl (after, q, k)) = let tail : after ≡ rest = cc in subst (λ y. Closes r fs (object no_members) y t) tail k
     close rest t h (inr b) = absurd (let z = key_is_quote r [] fs c rest t b in omega arith)
+
     none : (rest : List ℕ) (t : Json) → c ≢ 34 → c ≢ 125 → FirstKey r fs (c ∷ rest) t → ⊥
     none rest t n m (inl (after, q, k)) = m cc
     none rest t n m (inr b) = n (key_is_quote r [] fs c rest t b)
@@ -286,8 +318,8 @@ leads_behind_key r es key fs c =
     (λ rest t. (λ w. (w.0, w.2, (w.1, w.3, w.4)), λ w. (w.0, w.2.0, w.1, w.2.1, w.2.2))) (λ rest t. (λ w. w, λ w. w))
     (λ h rest t w. space_no_other c 58 h (let q = w.1 in cc) (omega arith))
     (λ n. split (λ b. Leads r (λ rest t. Colon r es key fs (c ∷ rest) t) (if b then goes (state at_value (in_object es key ∷ fs)) else stops)) (c == 58)
-      (λ h rest t. (λ w. subst (λ y. Opens r (in_object es key ∷ fs) y t) (tail w.0 rest w.1) w.2, λ o. (rest, ap (λ y. y ∷ rest) (is_eq c 58 h), o)))
-      (λ m rest t w. not_eq c 58 m (let q = w.1 in cc)))
+    (λ h rest t. (λ w. subst (λ y. Opens r (in_object es key ∷ fs) y t) (tail w.0 rest w.1) w.2, λ o. (rest, ap (λ y. y ∷ rest) (is_eq c 58 h), o)))
+    (λ m rest t w. not_eq c 58 m (let q = w.1 in cc)))
   where
     tail : (xs rest : List ℕ) → c ∷ rest ≡ 58 ∷ xs → xs ≡ rest
     tail xs rest q = cc
@@ -330,6 +362,7 @@ key_form r es fs text e rest t = (to, from)
   where
     to : CompletesAt r (in_key es text e) fs rest t → Quoted (KeyEnd r es fs) text e rest t
     to (cs, k, c, m, w, f, sp, q, o) = (k, text ++ encode_utf8_all cs, (cs, w, refl), (f, (c, m, sp, q, o)))
+
     from : Quoted (KeyEnd r es fs) text e rest t → CompletesAt r (in_key es text e) fs rest t
     from (k, whole, (cs, w, z), (f, (c, m, sp, q, o))) =
         (cs, k, c, m, w, subst (λ y. may_follow r (keys es) y ≡ true) z f, sp, q, subst (λ y. Opens r (in_object es y ∷ fs) m t) z o)
@@ -351,16 +384,20 @@ leads_number r fs text p c = go (part_step p c) (is_done p) refl (parts p c) (pa
   where
     push : (more : List ℕ) → text ++ (c ∷ more) ≡ (text ++ c ∷ []) ++ more
     push more = sym (append_assoc text (c ∷ []) more)
+
     on : (q : Part) → Parts p c (Some q) → IsInside c → (rest : List ℕ) (t : Json) → CompletesAt r (in_number text p) fs (c ∷ rest) t → CompletesAt r (in_number (text ++ c ∷ []) q) fs rest t
     on q same i rest t ([], m, w, z, k) = absurd (closes_not_inside r fs (number (text ++ [])) c rest t i (subst (λ y. Closes r fs (number (text ++ [])) y t) (sym z) k))
     on q same i rest t (x ∷ more, m, w, z, k) =
         let head : x ≡ c = cc in let tail : rest ≡ more ++ m = cc in
         (more, m, (same more).0 (subst (λ y. NumberRest p (y ∷ more)) head w), tail, subst (λ y. Closes r fs (number y) m t) (push more) (subst (λ y. Closes r fs (number (text ++ (y ∷ more))) m t) head k))
+
     back : (q : Part) → Parts p c (Some q) → (rest : List ℕ) (t : Json) → CompletesAt r (in_number (text ++ c ∷ []) q) fs rest t → CompletesAt r (in_number text p) fs (c ∷ rest) t
     back q same rest t (more, m, w, z, k) = (c ∷ more, m, (same more).1 w, ap (λ y. c ∷ y) z, subst (λ y. Closes r fs (number y) m t) (sym (push more)) k)
+
     ends : Parts p c None → (rest : List ℕ) (t : Json) → CompletesAt r (in_number text p) fs (c ∷ rest) t → NumberRest p [] × Closes r fs (number text) (c ∷ rest) t
     ends same rest t ([], m, w, z, k) = (w, subst (λ y. Closes r fs (number y) (c ∷ rest) t) (append-nil text) (subst (λ y. Closes r fs (number (text ++ [])) y t) (sym z) k))
     ends same rest t (x ∷ more, m, w, z, k) = absurd (let head : x ≡ c = cc in same more (subst (λ y. NumberRest p (y ∷ more)) head w))
+
     go : (o : Option Part) (d : Bool) → is_done p ≡ d → Parts p c o → Goes c o → Leads r (λ rest t. CompletesAt r (in_number text p) fs (c ∷ rest) t) (number_move text fs c d o)
     go (Some q) d done same i = λ rest t. (on q same i rest t, back q same rest t)
     go None true done same i =

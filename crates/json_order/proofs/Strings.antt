@@ -113,6 +113,7 @@ last_first E c u last text rest after whole = (to, from)
     to (x, xs, mid, h, w, q) =
         let r = (last x rest mid).0 h in
         (xs, subst (λ m. AreCharacters xs m after) r.1 w, q ∙ ap (λ y. text ++ (encode_utf8 y ++ encode_utf8_all xs)) r.0 ∙ sym (append_assoc text (encode_utf8 u) (encode_utf8_all xs)))
+
     from : Spelt (text ++ encode_utf8 u) Outside rest after whole → First text E (c ∷ rest) after whole
     from (xs, w, q) = (u, xs, rest, (last u rest rest).1 (refl, refl), w, q ∙ append_assoc text (encode_utf8 u) (encode_utf8_all xs))
 
@@ -163,7 +164,7 @@ quotes_unit0 : (text : List ℕ) (c : ℕ) → Quotes text Unit0 c (quote_step t
 quotes_unit0 text c =
     split (λ b. Quotes text Unit0 c (if b then Some (going text (Unit1 (digit_value c))) else None)) (nat_lt (digit_value c) 16)
     (λ h. let on : On (EscapeRest Unit0) c (EscapeRest (Unit1 (digit_value c))) = subst (λ v. On (FirstRest 4 0) c (FirstRest 3 v)) (zero-add (digit_value c)) (on_digit 3 0 c (lt_from _ _ h)) in
-      goes_by Unit0 (Unit1 (digit_value c)) text c on)
+    goes_by Unit0 (Unit1 (digit_value c)) text c on)
     (λ n. stops_by Unit0 text c (never_digit 3 0 c (lt_not _ _ n)))
 
 no_first_low : (v c : ℕ) → is_in_range 0xDC 0xDF (16 * v + digit_value c) ≡ true → digit_value c < 16 → Never (FirstRest 3 v) c
@@ -175,8 +176,8 @@ quotes_unit1 : (text : List ℕ) (v c : ℕ) → Quotes text (Unit1 v) c (quote_
 quotes_unit1 text v c =
     split (λ b. Quotes text (Unit1 v) c (if b then (if is_in_range 0xDC 0xDF (16 * v + digit_value c) then None else Some (going text (Unit2 (16 * v + digit_value c)))) else None)) (nat_lt (digit_value c) 16)
     (λ h. split (λ b. Quotes text (Unit1 v) c (if b then None else Some (going text (Unit2 (16 * v + digit_value c))))) (is_in_range 0xDC 0xDF (16 * v + digit_value c))
-      (λ low. stops_by (Unit1 v) text c (no_first_low v c low (lt_from _ _ h)))
-      (λ m. goes_by (Unit1 v) (Unit2 (16 * v + digit_value c)) text c (on_digit 2 v c (lt_from _ _ h))))
+    (λ low. stops_by (Unit1 v) text c (no_first_low v c low (lt_from _ _ h)))
+    (λ m. goes_by (Unit1 v) (Unit2 (16 * v + digit_value c)) text c (on_digit 2 v c (lt_from _ _ h))))
     (λ n. stops_by (Unit1 v) text c (never_digit 2 v c (lt_not _ _ n)))
 
 quotes_unit2 : (text : List ℕ) (v c : ℕ) → Quotes text (Unit2 v) c (quote_step text (Unit2 v) c)
@@ -196,6 +197,7 @@ on_high v c h s x rest mid = (to, from)
     to (u, m, hex, inr (k, (low, (m', q, hex'), l, e))) =
         let r = (hex_to 0 v u c rest m hex).1 in
         (m', r.1 ∙ q, (low, hex', l, e ∙ ap (λ y. surrogate_pair_char y low) r.0))
+
     from : EscapeRest (High (16 * v + digit_value c)) x rest mid → FirstRest 1 v x (c ∷ rest) mid
     from (m', q, (low, hex', l, e)) = (16 * v + digit_value c, rest, hex_from 0 v _ c rest rest h (refl, refl), inr (s, (low, (m', q, hex'), l, e)))
 
@@ -211,6 +213,7 @@ last_unit v c fine h s x rest mid = (to, from)
     to : FirstRest 1 v x (c ∷ rest) mid → (x ≡ 16 * v + digit_value c) × (mid ≡ rest)
     to (u, m, hex, inl unit) = let r = (hex_to 0 v u c rest m hex).1 in (unit.0 ∙ r.0, sym (r.1 ∙ unit.2))
     to (u, m, hex, inr w) = let r = (hex_to 0 v u c rest m hex).1 in against _ (subst (λ y. is_high_surrogate y ≡ true) r.0 w.0) s
+
     from : (x ≡ 16 * v + digit_value c) × (mid ≡ rest) → FirstRest 1 v x (c ∷ rest) mid
     from (e, q) =
         let b = range_not 0xD800 0xDBFF (16 * v + digit_value c) s in
@@ -221,8 +224,8 @@ quotes_unit3 : (text : List ℕ) (v c : ℕ) → IsFine (Unit3 v) → Quotes tex
 quotes_unit3 text v c fine =
     split (λ b. Quotes text (Unit3 v) c (if b then first_unit text (16 * v + digit_value c) else None)) (nat_lt (digit_value c) 16)
     (λ h. split (λ b. Quotes text (Unit3 v) c (if b then Some (going text (High (16 * v + digit_value c))) else spelled text (Some (16 * v + digit_value c)))) (is_high_surrogate (16 * v + digit_value c))
-      (λ s. goes_by (Unit3 v) (High (16 * v + digit_value c)) text c (on_high v c (lt_from _ _ h) s))
-      (λ s. ends_by (Unit3 v) text c (16 * v + digit_value c) (last_unit v c fine (lt_from _ _ h) s)))
+    (λ s. goes_by (Unit3 v) (High (16 * v + digit_value c)) text c (on_high v c (lt_from _ _ h) s))
+    (λ s. ends_by (Unit3 v) text c (16 * v + digit_value c) (last_unit v c fine (lt_from _ _ h) s)))
     (λ n. stops_by (Unit3 v) text c (never_digit 0 v c (lt_not _ _ n)))
 
 quotes_high : (text : List ℕ) (s c : ℕ) → Quotes text (High s) c (quote_step text (High s) c)
@@ -252,8 +255,8 @@ quotes_low0 : (text : List ℕ) (s c : ℕ) → Quotes text (Low0 s) c (quote_st
 quotes_low0 text s c =
     split (λ b. Quotes text (Low0 s) c (if b then (if digit_value c == 0xD then Some (going text (Low1 s)) else None) else None)) (nat_lt (digit_value c) 16)
     (λ _. split (λ b. Quotes text (Low0 s) c (if b then Some (going text (Low1 s)) else None)) (digit_value c == 0xD)
-      (λ h. goes_by (Low0 s) (Low1 s) text c (on_low0 s c (is_eq _ 0xD h)))
-      (λ n. stops_by (Low0 s) text c (never_low0 s c (not_eq _ 0xD n))))
+    (λ h. goes_by (Low0 s) (Low1 s) text c (on_low0 s c (is_eq _ 0xD h)))
+    (λ n. stops_by (Low0 s) text c (never_low0 s c (not_eq _ 0xD n))))
     (λ n. stops_by (Low0 s) text c (never_low s 3 0 c (lt_not _ _ n)))
 
 never_low1 : (s c : ℕ) → is_in_range 0xDC 0xDF (0xD0 + digit_value c) ≡ false → Never (LowRest s 3 0xD) c
@@ -265,8 +268,8 @@ quotes_low1 : (text : List ℕ) (s c : ℕ) → Quotes text (Low1 s) c (quote_st
 quotes_low1 text s c =
     split (λ b. Quotes text (Low1 s) c (if b then (if is_in_range 0xDC 0xDF (0xD0 + digit_value c) then Some (going text (Low2 s (0xD0 + digit_value c))) else None) else None)) (nat_lt (digit_value c) 16)
     (λ h. split (λ b. Quotes text (Low1 s) c (if b then Some (going text (Low2 s (0xD0 + digit_value c))) else None)) (is_in_range 0xDC 0xDF (0xD0 + digit_value c))
-      (λ low. goes_by (Low1 s) (Low2 s (0xD0 + digit_value c)) text c (on_low s 2 0xD c (lt_from _ _ h)))
-      (λ m. stops_by (Low1 s) text c (never_low1 s c m)))
+    (λ low. goes_by (Low1 s) (Low2 s (0xD0 + digit_value c)) text c (on_low s 2 0xD c (lt_from _ _ h)))
+    (λ m. stops_by (Low1 s) text c (never_low1 s c m)))
     (λ n. stops_by (Low1 s) text c (never_low s 2 0xD c (lt_not _ _ n)))
 
 quotes_low2 : (text : List ℕ) (s v c : ℕ) → Quotes text (Low2 s v) c (quote_step text (Low2 s v) c)
@@ -280,6 +283,7 @@ last_low s v c fine h x rest mid = (to, from)
   where
     to : LowRest s 1 v x (c ∷ rest) mid → (x ≡ surrogate_pair_char s (16 * v + digit_value c)) × (mid ≡ rest)
     to (low, hex, l, e) = let r = (hex_to 0 v low c rest mid hex).1 in (e ∙ ap (λ y. surrogate_pair_char s y) r.0, sym r.1)
+
     from : (x ≡ surrogate_pair_char s (16 * v + digit_value c)) × (mid ≡ rest) → LowRest s 1 v x (c ∷ rest) mid
     from (e, q) = (16 * v + digit_value c, hex_from 0 v _ c rest mid h (refl, sym q), low_from (16 * v + digit_value c) (omega (arith, fine.2)) (omega (arith, fine.3)), e)
 
@@ -358,6 +362,7 @@ outside_slash text c h rest after whole = (to, from)
     to : Spelt text Outside (c ∷ rest) after whole → Spelt text Slash rest after whole
     to ([], q, e) = absurd (let z : c ≡ 34 = cc in omega arith)
     to (x ∷ xs, (mid, ch, w), e) = elim (char_head x c rest mid ch) [ inl p ↦ absurd ((plain_to x p.0).2 (p.1 ∙ h)) | inr s ↦ (x ∷ xs, (mid, s.1, w), e) ]
+
     from : Spelt text Slash rest after whole → Spelt text Outside (c ∷ rest) after whole
     from ([], q, e) = absurd q
     from (x ∷ xs, (mid, s, w), e) = (x ∷ xs, (mid, subst (λ y. IsCharacter x (y ∷ rest) mid) (sym h) (char_slash x rest mid s), w), e)
@@ -367,9 +372,11 @@ outside_plain text c n m k rest after whole = (to, from)
   where
     here : (x : ℕ) (xs mid : List ℕ) → x ≡ c → mid ≡ rest → AreCharacters xs mid after → whole ≡ text ++ (encode_utf8 x ++ encode_utf8_all xs) → Spelt (text ++ encode_utf8 c) Outside rest after whole
     here x xs mid e q w z = (xs, subst (λ y. AreCharacters xs y after) q w, z ∙ ap (λ y. text ++ (encode_utf8 y ++ encode_utf8_all xs)) e ∙ sym (append_assoc text (encode_utf8 c) (encode_utf8_all xs)))
+
     to : Spelt text Outside (c ∷ rest) after whole → Spelt (text ++ encode_utf8 c) Outside rest after whole
     to ([], q, e) = absurd (n cc)
     to (x ∷ xs, (mid, ch, w), e) = elim (char_head x c rest mid ch) [ inl p ↦ here x xs mid p.1 p.2 w e | inr s ↦ absurd (m s.0) ]
+
     from : Spelt (text ++ encode_utf8 c) Outside rest after whole → Spelt text Outside (c ∷ rest) after whole
     from (xs, w, e) = (c ∷ xs, (rest, plain k refl, w), e ∙ append_assoc text (encode_utf8 c) (encode_utf8_all xs))
 
@@ -389,10 +396,10 @@ quotes_outside text c =
     split (λ b. Quotes text Outside c (if b then Some (closed text) else if c == 92 then Some (going text Slash) else if nat_le 32 c then spelled text (Some c) else None)) (c == 34)
     (λ h. outside_quote text c (is_eq c 34 h))
     (λ n. split (λ b. Quotes text Outside c (if b then Some (going text Slash) else if nat_le 32 c then spelled text (Some c) else None)) (c == 92)
-      (λ h. outside_slash text c (is_eq c 92 h))
-      (λ m. split (λ b. Quotes text Outside c (if b then spelled text (Some c) else None)) (nat_le 32 c)
-        (λ h. outside_plain text c (not_eq c 34 n) (not_eq c 92 m) (plain_from c (le_from 32 c h) (not_eq c 34 n) (not_eq c 92 m)))
-        (λ l. outside_none text c (not_eq c 34 n) (not_eq c 92 m) (le_not 32 c l))))
+    (λ h. outside_slash text c (is_eq c 92 h))
+    (λ m. split (λ b. Quotes text Outside c (if b then spelled text (Some c) else None)) (nat_le 32 c)
+    (λ h. outside_plain text c (not_eq c 34 n) (not_eq c 92 m) (plain_from c (le_from 32 c h) (not_eq c 34 n) (not_eq c 92 m)))
+    (λ l. outside_none text c (not_eq c 34 n) (not_eq c 92 m) (le_not 32 c l))))
 
 pub quotes : (text : List ℕ) (e : Escape) (c : ℕ) → IsFine e → Quotes text e c (quote_step text e c)
 quotes text Outside c fine = quotes_outside text c
@@ -430,13 +437,13 @@ pub fine_quote : (text : List ℕ) (e : Escape) (c : ℕ) → IsFine e → FineQ
 fine_quote text Outside c fine =
     split (λ b. FineQuote (if b then Some (closed text) else if c == 92 then Some (going text Slash) else if nat_le 32 c then spelled text (Some c) else None)) (c == 34) (λ h. tt)
     (λ n. split (λ b. FineQuote (if b then Some (going text Slash) else if nat_le 32 c then spelled text (Some c) else None)) (c == 92) (λ h. tt)
-      (λ m. split (λ b. FineQuote (if b then spelled text (Some c) else None)) (nat_le 32 c) (λ h. tt) (λ l. tt)))
+    (λ m. split (λ b. FineQuote (if b then spelled text (Some c) else None)) (nat_le 32 c) (λ h. tt) (λ l. tt)))
 fine_quote text Slash c fine = split (λ b. FineQuote (if b then Some (going text Unit0) else spelled text (short_escape c))) (c == 117) (λ h. tt) (λ n. fine_spelled text (short_escape c))
 fine_quote text Unit0 c fine = split (λ b. FineQuote (if b then Some (going text (Unit1 (digit_value c))) else None)) (nat_lt (digit_value c) 16) (λ h. lt_from (digit_value c) 16 h) (λ n. tt)
 fine_quote text (Unit1 v) c fine =
     split (λ b. FineQuote (if b then (if is_in_range 0xDC 0xDF (16 * v + digit_value c) then None else Some (going text (Unit2 (16 * v + digit_value c)))) else None)) (nat_lt (digit_value c) 16)
     (λ h. split (λ b. FineQuote (if b then None else Some (going text (Unit2 (16 * v + digit_value c))))) (is_in_range 0xDC 0xDF (16 * v + digit_value c))
-      (λ low. tt) (λ m. fine_unit2 v (digit_value c) fine (lt_from (digit_value c) 16 h) m))
+    (λ low. tt) (λ m. fine_unit2 v (digit_value c) fine (lt_from (digit_value c) 16 h) m))
     (λ n. tt)
 fine_quote text (Unit2 v) c fine =
     split (λ b. FineQuote (if b then Some (going text (Unit3 (16 * v + digit_value c))) else None)) (nat_lt (digit_value c) 16)
@@ -444,7 +451,7 @@ fine_quote text (Unit2 v) c fine =
 fine_quote text (Unit3 v) c fine =
     split (λ b. FineQuote (if b then first_unit text (16 * v + digit_value c) else None)) (nat_lt (digit_value c) 16)
     (λ h. split (λ b. FineQuote (if b then Some (going text (High (16 * v + digit_value c))) else spelled text (Some (16 * v + digit_value c)))) (is_high_surrogate (16 * v + digit_value c))
-      (λ s. high_to (16 * v + digit_value c) s) (λ s. tt))
+    (λ s. high_to (16 * v + digit_value c) s) (λ s. tt))
     (λ n. tt)
 fine_quote text (High s) c fine = split (λ b. FineQuote (if b then Some (going text (HighSlash s)) else None)) (c == 92) (λ h. fine) (λ n. tt)
 fine_quote text (HighSlash s) c fine = split (λ b. FineQuote (if b then Some (going text (Low0 s)) else None)) (c == 117) (λ h. fine) (λ n. tt)
@@ -454,7 +461,7 @@ fine_quote text (Low0 s) c fine =
 fine_quote text (Low1 s) c fine =
     split (λ b. FineQuote (if b then (if is_in_range 0xDC 0xDF (0xD0 + digit_value c) then Some (going text (Low2 s (0xD0 + digit_value c))) else None) else None)) (nat_lt (digit_value c) 16)
     (λ h. split (λ b. FineQuote (if b then Some (going text (Low2 s (0xD0 + digit_value c))) else None)) (is_in_range 0xDC 0xDF (0xD0 + digit_value c))
-      (λ low. let r = is_range 0xDC 0xDF (0xD0 + digit_value c) low in (fine.0, fine.1, r.0, r.1)) (λ m. tt))
+    (λ low. let r = is_range 0xDC 0xDF (0xD0 + digit_value c) low in (fine.0, fine.1, r.0, r.1)) (λ m. tt))
     (λ n. tt)
 fine_quote text (Low2 s v) c fine =
     split (λ b. FineQuote (if b then Some (going text (Low3 s (16 * v + digit_value c))) else None)) (nat_lt (digit_value c) 16)

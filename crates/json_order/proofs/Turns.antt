@@ -24,6 +24,7 @@ fault_told bytes ys c rest z s k at kind place u seen next ran says here told = 
     real k n e t =
         subst (λ x. IsFault bytes k x) (sym (t.other n ∙ here))
         (fault_at bytes ys c z s k (record { utf8 = u; here = seen ∙ ap (λ x. encode_utf8_all ys ++ x) next }) (record { until = ran; refused = e }))
+
     go : (k : JsonKind) → Says (step strict s c) k → Told k at kind place → IsFault bytes k place
     go Syntax e t = real Syntax (λ x. cc) e t
     go End e t = real End (λ x. cc) e t

@@ -22,8 +22,30 @@ number_text = inr (refl, (codes "0", codes ".5", codes "e+10", inl (refl, refl),
 -- `[1, 2]` is the list of two numbers
 pub two_items : Spells strict (codes "[1, 2]") (array (item (number (codes "1")) (item (number (codes "2")) no_items)))
 unfolding encode_utf8
-two_items = (codes "[1, 2]", refl, refl, (codes "[1, 2]", [], none (codes "[1, 2]"),
-  (omega arith, (codes "1, 2]", refl,
-    (codes "1, 2]", codes ", 2]", codes ", 2]", none (codes "1, 2]"), (inl (codes "1", [], [], inr (refl, tt), tt, tt, refl), refl), none (codes ", 2]"),
-      (codes " 2]", codes "2]", codes "]", codes "]", refl, (32 ∷ [], (refl, tt), refl), (inl (codes "2", [], [], inr (refl, tt), tt, tt, refl), refl), none (codes "]"), refl)))),
-  none []))
+two_items = (
+  codes "[1, 2]",
+  refl,
+  refl,
+  (
+    codes "[1, 2]",
+    [],
+    none (codes "[1, 2]"),
+    (
+      omega arith,
+      (
+        codes "1, 2]",
+        refl,
+        (
+          codes "1, 2]",
+          codes ", 2]",
+          codes ", 2]",
+          none (codes "1, 2]"),
+          (inl (codes "1", [], [], inr (refl, tt), tt, tt, refl), refl),
+          none (codes ", 2]"),
+          (codes " 2]", codes "2]", codes "]", codes "]", refl, (32 ∷ [], (refl, tt), refl), (inl (codes "2", [], [], inr (refl, tt), tt, tt, refl), refl), none (codes "]"), refl),
+        ),
+      ),
+    ),
+    none [],
+  ),
+)

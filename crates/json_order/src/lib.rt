@@ -7,19 +7,15 @@
 #![tactic(auto)]
 
 mod fault;
-
 mod members;
 mod number;
 mod place;
 mod quote;
 mod reading;
 mod step;
-
-
 mod tree;
 mod word;
 
 pub use fault::{JsonFault, JsonKind};
-
 pub use reading::read;
 pub use tree::Tree;

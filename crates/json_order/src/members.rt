@@ -4,11 +4,10 @@ ghost use Rattle.json_order.specs.declared.fault.JsonKind.TheVariants.{Memory};
 ghost use Rattle.json_order.specs.Grammar.{has_key};
 ghost use Rattle.json_order.specs.Entries.{keys_of};
 
-use std::alloc::Global;
-use std::collections::BTreeSet;
-
 use crate::fault::JsonKind;
 use crate::tree::Tree;
+use std::alloc::Global;
+use std::collections::BTreeSet;
 
 /// The members of an object so far, in the order of the text, and beside them their keys in order, so that a key that
 /// stands twice is found in logarithmic time.

@@ -4,6 +4,7 @@ ghost use Rattle.json_order.specs.Machine as machine;
 use crate::place::Part;
 
 /// How far a number is read once it goes on with c, none where it does not.
+#[inline(always)]
 pub(crate) fn part_step(part: Part, c: char) -> Option<Part>
     ensures { result ≡ machine.part_step part c }
 {

@@ -18,6 +18,7 @@ pub(crate) enum Quote {
 }
 
 /// One more character of a string.
+#[inline(always)]
 fn spelled(mut text: String, c: char) -> Result<Quote, JsonKind>
     ensures ok { IfOk result (λ q. quote_of q ≡ going (string_bytes text ++ encode_utf8 c) Outside) }
     ensures err { IfErr result (λ k. k ≡ Memory) }
@@ -26,6 +27,7 @@ fn spelled(mut text: String, c: char) -> Result<Quote, JsonKind>
     Ok(Quote::Going(text, Escape::Outside))
 }
 
+#[cold]
 fn short_escape(c: char) -> Option<char>
     ensures { result ≡ grammar.short_escape c }
 {
@@ -108,6 +110,7 @@ fn digit_step(text: String, escape: Escape, digit: u32) -> Result<Quote, JsonKin
 }
 
 /// A character that has to be a hexadecimal digit.
+#[cold]
 fn hexed(text: String, escape: Escape, c: char) -> Result<Quote, JsonKind>
     requires fine { IsFine escape }
     ensures ok { IfOk result (λ q. hex_step (string_bytes text) escape c ≡ Some (quote_of q)) }
@@ -120,6 +123,7 @@ fn hexed(text: String, escape: Escape, c: char) -> Result<Quote, JsonKind>
 }
 
 /// The string once c follows: it goes on or ends. Syntax where no string goes on with c.
+#[inline(always)]
 pub(crate) fn quote_step(text: String, escape: Escape, c: char) -> Result<Quote, JsonKind>
     requires fine { IsFine escape }
     ensures ok { IfOk result (λ q. machine.quote_step (string_bytes text) escape c ≡ Some (quote_of q)) }

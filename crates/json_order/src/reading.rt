@@ -6,14 +6,13 @@ ghost use Rattle.json_order.specs.Machine.{ended};
 ghost use Rattle.json_order.specs.Places.{place_of, frames_of};
 ghost use Rattle.json_order.specs.Seen.{json_of};
 
-use std::alloc::Global;
-use std::str;
-
 use crate::fault::{JsonFault, JsonKind};
 use crate::number::is_done;
 use crate::place::{Frame, Place};
-use crate::step::{DEPTH, step};
+use crate::step::{DEPTH, turn};
 use crate::tree::Tree;
+use std::alloc::Global;
+use std::str;
 
 /// Reads a JSON text (RFC 8259, narrower where the formats say so). Memory for the tree alone is taken; the time is
 /// linear in the input but for the keys of an object, which cost the logarithm of their number.
@@ -88,11 +87,10 @@ fn read_text(alloc: Global, text: &str) -> Result<Tree, JsonFault>
     let mut place = Place::Value;
     let mut at = 0;
     for c in text.chars() {
-        match step(alloc, place, &mut stack, c) {
-            Ok(next) => place = next,
+        match turn(alloc, &mut place, &mut stack, c) {
+            Ok(()) => at += c.len_utf8(),
             Err(kind) => return Err(fault_at(kind, at)),
         }
-        at += c.len_utf8();
     }
     match value_at_end(place, &stack) {
         Some(tree) => Ok(tree),

@@ -1,4 +1,5 @@
-ghost use Rattle.std.specs.Prelude.{List, ◌≡◌, ◌<◌, ◌++◌, [], ◌∷◌, Ok, IfOk, IfErr, map, string_bytes};
+ghost use Rattle.std.specs.Prelude.{List, ◌≡◌, ◌<◌, ◌++◌, [], ◌∷◌, Ok, IfOk, OnOk, IfErr, map, string_bytes};
+ghost use Rattle.std.specs.Bool.{OnTrue, OnFalse};
 ghost use Rattle.json_order.specs.declared.fault.JsonKind.TheVariants.{Memory};
 ghost use Rattle.json_order.specs.Fault.{strict};
 ghost use Rattle.json_order.specs.Grammar as grammar;
@@ -7,8 +8,6 @@ ghost use Rattle.json_order.specs.Machine.{Frame as StackFrame, IsFine, IsFinePl
 ghost use Rattle.json_order.specs.Places.{place_of, frames_of, state_of, entries_of, letters_from, value_of, Says};
 ghost use Rattle.json_order.specs.Seen.{json_of, members_with};
 
-use std::alloc::Global;
-
 use crate::fault::JsonKind;
 use crate::members::{Members, with_member};
 use crate::number::{is_done, part_step};
@@ -16,6 +15,8 @@ use crate::place::{Escape, Frame, Part, Place};
 use crate::quote::{Quote, quote_step};
 use crate::tree::Tree;
 use crate::word::Word;
+use std::alloc::Global;
+use std::mem;
 
 /// How deep lists and objects nest; the outermost has depth 1.
 pub(crate) const DEPTH: usize = 16;
@@ -91,12 +92,7 @@ fn object_of(members: Members) -> Tree
 }
 
 /// Behind the value of a member of an object.
-fn member_step(
-    members: Members,
-    key: String,
-    value: Tree,
-    c: char,
-) -> Result<Place, JsonKind>
+fn member_step(members: Members, key: String, value: Tree, c: char) -> Result<Place, JsonKind>
     ensures ok { IfOk result (λ p. (fs : List StackFrame) → judged strict (next_move (json_of value) (in_object (entries_of members.list.items) (string_bytes key) ∷ fs) c) ≡ Ok (state (place_of p) fs)) }
     ensures err { IfErr result (λ k. (fs : List StackFrame) → Says (judged strict (next_move (json_of value) (in_object (entries_of members.list.items) (string_bytes key) ∷ fs) c)) k) }
 {
@@ -138,11 +134,7 @@ fn empty_list(alloc: Global) -> Tree
 }
 
 /// Behind a `[`.
-fn first_item_step(
-    alloc: Global,
-    stack: &mut Vec<Frame>,
-    c: char,
-) -> Result<Place, JsonKind>
+fn first_item_step(alloc: Global, stack: &mut Vec<Frame>, c: char) -> Result<Place, JsonKind>
     ensures ok { IfOk result (λ p. judged strict (move at_first_item (frames_of stack.old.items) c) ≡ Ok (state_of p stack.new.items)) }
     ensures err { IfErr result (Says (judged strict (move at_first_item (frames_of stack.old.items) c))) }
 {
@@ -182,12 +174,8 @@ fn next_key_step(alloc: Global, members: Members, c: char) -> Result<Place, Json
 }
 
 /// In a key.
-fn key_step(
-    members: Members,
-    text: String,
-    escape: Escape,
-    c: char,
-) -> Result<Place, JsonKind>
+#[inline(always)]
+fn key_step(members: Members, text: String, escape: Escape, c: char) -> Result<Place, JsonKind>
     requires fine { IsFine escape }
     ensures ok { IfOk result (λ p. (fs : List StackFrame) → judged strict (move (in_key (entries_of members.list.items) (string_bytes text) escape) fs c) ≡ Ok (state (place_of p) fs)) }
     ensures err { IfErr result (λ k. (fs : List StackFrame) → Says (judged strict (move (in_key (entries_of members.list.items) (string_bytes text) escape) fs c)) k) }
@@ -224,6 +212,7 @@ fn colon_step(
 }
 
 /// In a string.
+#[inline(always)]
 fn text_step(text: String, escape: Escape, c: char) -> Result<Place, JsonKind>
     requires fine { IsFine escape }
     ensures ok { IfOk result (λ p. (fs : List StackFrame) → judged strict (move (in_string (string_bytes text) escape) fs c) ≡ Ok (state (place_of p) fs)) }
@@ -236,6 +225,7 @@ fn text_step(text: String, escape: Escape, c: char) -> Result<Place, JsonKind>
 }
 
 /// In a number, which ends where a character does not go on with it.
+#[inline(always)]
 fn number_step(
     stack: &mut Vec<Frame>,
     mut text: String,
@@ -260,12 +250,7 @@ fn number_step(
 }
 
 /// In a word.
-fn word_step(
-    stack: &mut Vec<Frame>,
-    word: Word,
-    read: usize,
-    c: char,
-) -> Result<Place, JsonKind>
+fn word_step(stack: &mut Vec<Frame>, word: Word, read: usize, c: char) -> Result<Place, JsonKind>
     ensures ok { IfOk result (λ p. judged strict (move (in_word (letters_from word read) (value_of word)) (frames_of stack.old.items) c) ≡ Ok (state_of p stack.new.items)) }
     ensures err { IfErr result (Says (judged strict (move (in_word (letters_from word read) (value_of word)) (frames_of stack.old.items) c))) }
 {
@@ -281,7 +266,8 @@ fn word_step(
 }
 
 /// The place once c follows; the stack holds what is open around it. On an error the stack is left as it may be.
-pub(crate) fn step(
+#[inline(always)]
+fn step(
     alloc: Global,
     place: Place,
     stack: &mut Vec<Frame>,
@@ -308,4 +294,46 @@ pub(crate) fn step(
         Place::Number(text, part) => number_step(stack, text, part, c),
         Place::Word(word, read) => word_step(stack, word, read, c),
     }
+}
+
+/// In a string and in no escape, where c stands for itself: takes it in place and says so. Elsewhere nothing changes.
+#[inline(always)]
+fn take_plain(place: &mut Place, c: char) -> Result<bool, JsonKind>
+    ensures taken { IfOk result (λ b. OnTrue b ((fs : List StackFrame) → machine_step strict (state (place_of place.old) fs) c ≡ Ok (state (place_of place.new) fs))) }
+    ensures not_taken { IfOk result (λ b. OnFalse b (place.new ≡ place.old)) }
+    ensures err { IfErr result (λ k. k ≡ Memory) }
+{
+    if c < ' ' || c == '"' || c == '\\' {
+        return Ok(false);
+    }
+    match place {
+        Place::Text(text, Escape::Outside) => {
+            text.push(c)?;
+            Ok(true)
+        }
+        Place::Key(_, text, Escape::Outside) => {
+            text.push(c)?;
+            Ok(true)
+        }
+        _ => Ok(false),
+    }
+}
+
+/// The place and the stack once c follows. On an error they are left as they may be.
+pub(crate) fn turn(
+    alloc: Global,
+    place: &mut Place,
+    stack: &mut Vec<Frame>,
+    c: char,
+) -> Result<(), JsonKind>
+    requires fine { IsFinePlace (place_of place.old) }
+    ensures ok { OnOk result (machine_step strict (state_of place.old stack.old.items) c ≡ Ok (state_of place.new stack.new.items)) }
+    ensures err { IfErr result (Says (machine_step strict (state_of place.old stack.old.items) c)) }
+{
+    if take_plain(place, c)? {
+        return Ok(());
+    }
+    let before = mem::replace(place, Place::Value);
+    *place = step(alloc, before, stack, c)?;
+    Ok(())
 }

@@ -29,7 +29,8 @@ fn count(alloc: Global, bytes: &[u8]) -> Option<usize> {
     }
 }
 
-const SCENARIO: &str = "{\"tasks\":{\"p\":{\"policy\":\"SCHED_DEADLINE\",\"dl-runtime\":5,\"dl-period\":10,\"phases\":{\"light\":{\"loop\":2,\"run0\":3,\"sleep1\":7},\"heavy\":{\"run0\":4,\"sleep1\":2,\"run2\":1}}}},\"global\":{\"duration\":0}}";
+const SCENARIO: &str =
+    "{\"tasks\":{\"p\":{\"policy\":\"SCHED_DEADLINE\",\"dl-runtime\":5,\"dl-period\":10,\"phases\":{\"light\":{\"loop\":2,\"run0\":3,\"sleep1\":7},\"heavy\":{\"run0\":4,\"sleep1\":2,\"run2\":1}}}},\"global\":{\"duration\":0}}";
 
 #[test]
 fn cut_json(rt: HostRuntime) {
@@ -52,17 +53,27 @@ fn cut_json(rt: HostRuntime) {
         ("\"a\nb\"", 10, 2),
         ("\"\\x\"", 10, 2),
     ] {
-        assert_eq!(rt; fault(rt.alloc(), text.as_bytes()), Some((number, at)), "{text}");
+        assert_eq!(rt;
+            fault(rt.alloc(), text.as_bytes()),
+            Some((number, at)),
+            "{text}"
+        );
     }
 }
 
 #[test]
 fn member_order(rt: HostRuntime) -> Result<(), Fail> {
     let tree = printed(rt.alloc(), SCENARIO.as_bytes())?;
-    assert_eq!(rt; tree.as_str(), "Object([(\"tasks\", Object([(\"p\", Object([(\"policy\", Text(\"SCHED_DEADLINE\")), (\"dl-runtime\", Number(\"5\")), (\"dl-period\", Number(\"10\")), (\"phases\", Object([(\"light\", Object([(\"loop\", Number(\"2\")), (\"run0\", Number(\"3\")), (\"sleep1\", Number(\"7\"))])), (\"heavy\", Object([(\"run0\", Number(\"4\")), (\"sleep1\", Number(\"2\")), (\"run2\", Number(\"1\"))]))]))]))])), (\"global\", Object([(\"duration\", Number(\"0\"))]))])");
+    assert_eq!(rt;
+        tree.as_str(),
+        "Object([(\"tasks\", Object([(\"p\", Object([(\"policy\", Text(\"SCHED_DEADLINE\")), (\"dl-runtime\", Number(\"5\")), (\"dl-period\", Number(\"10\")), (\"phases\", Object([(\"light\", Object([(\"loop\", Number(\"2\")), (\"run0\", Number(\"3\")), (\"sleep1\", Number(\"7\"))])), (\"heavy\", Object([(\"run0\", Number(\"4\")), (\"sleep1\", Number(\"2\")), (\"run2\", Number(\"1\"))]))]))]))])), (\"global\", Object([(\"duration\", Number(\"0\"))]))])"
+    );
     assert_eq!(rt; fault(rt.alloc(), b"{\"run\":1,\"run\":2}"), Some((13, 13)));
     // One key may stand in two objects.
-    assert_eq!(rt; fault(rt.alloc(), b"{\"a\":{\"a\":1},\"b\":{\"a\":1}}"), None);
+    assert_eq!(rt;
+        fault(rt.alloc(), b"{\"a\":{\"a\":1},\"b\":{\"a\":1}}"),
+        None
+    );
     Ok(())
 }
 
@@ -75,11 +86,23 @@ fn every_kind_of_value(rt: HostRuntime) -> Result<(), Fail> {
         ("-0", "Number(\"-0\")"),
         ("10.50e+07", "Number(\"10.50e+07\")"),
         ("[ ]", "List([])"),
-        ("[1 , [2] ,3 ]", "List([Number(\"1\"), List([Number(\"2\")]), Number(\"3\")])"),
+        (
+            "[1 , [2] ,3 ]",
+            "List([Number(\"1\"), List([Number(\"2\")]), Number(\"3\")])",
+        ),
         ("{ }", "Object([])"),
-        ("{ \"b\" : 1 , \"a\" : [ ] }", "Object([(\"b\", Number(\"1\")), (\"a\", List([]))])"),
-        ("\"\\u0041\\/\\u00e9\\ud83d\\ude00z\"", "Text(\"A/\u{e9}\u{1f600}z\")"),
-        ("\"\u{e9}\u{20ac}\u{1f600}\"", "Text(\"\u{e9}\u{20ac}\u{1f600}\")"),
+        (
+            "{ \"b\" : 1 , \"a\" : [ ] }",
+            "Object([(\"b\", Number(\"1\")), (\"a\", List([]))])",
+        ),
+        (
+            "\"\\u0041\\/\\u00e9\\ud83d\\ude00z\"",
+            "Text(\"A/\u{e9}\u{1f600}z\")",
+        ),
+        (
+            "\"\u{e9}\u{20ac}\u{1f600}\"",
+            "Text(\"\u{e9}\u{20ac}\u{1f600}\")",
+        ),
         ("\"\\\"\\\\\\n\\r\\t\"", "Text(\"\\\"\\\\\\n\\r\\t\")"),
         ("\"\\b\\f\"", "Text(\"\\u{8}\\u{c}\")"),
     ] {
@@ -101,15 +124,25 @@ fn surrogates(rt: HostRuntime) {
         ("\"\\ud83d\\ude0", 11, 12),
         ("\"\\u00g0\"", 10, 5),
     ] {
-        assert_eq!(rt; fault(rt.alloc(), text.as_bytes()), Some((number, at)), "{text}");
+        assert_eq!(rt;
+            fault(rt.alloc(), text.as_bytes()),
+            Some((number, at)),
+            "{text}"
+        );
     }
 }
 
 #[test]
 fn profile_faults(rt: HostRuntime) {
     assert_eq!(rt; fault(rt.alloc(), b"[[[[[[[[[[[[[[[[["), Some((12, 16)));
-    assert_eq!(rt; fault(rt.alloc(), b"[[[[[[[[[[[[[[[[]]]]]]]]]]]]]]]]"), None);
-    assert_eq!(rt; fault(rt.alloc(), b"[[[[[[[[[[[[[[[{\"a\":{"), Some((12, 20)));
+    assert_eq!(rt;
+        fault(rt.alloc(), b"[[[[[[[[[[[[[[[[]]]]]]]]]]]]]]]]"),
+        None
+    );
+    assert_eq!(rt;
+        fault(rt.alloc(), b"[[[[[[[[[[[[[[[{\"a\":{"),
+        Some((12, 20))
+    );
     // No value may begin where a key is wanted.
     assert_eq!(rt; fault(rt.alloc(), b"[[[[[[[[[[[[[[[{["), Some((10, 16)));
 }
@@ -121,7 +154,10 @@ fn cut_and_hostile_bytes(rt: HostRuntime) -> Result<(), Fail> {
         assert_eq!(rt; fault(rt.alloc(), &whole[..n]), Some((11, n)), "{n}");
     }
     assert_eq!(rt; fault(rt.alloc(), whole), None);
-    assert_eq!(rt; fault(rt.alloc(), b"{\"a\":1,\"\\u0061\":2}"), Some((13, 14)));
+    assert_eq!(rt;
+        fault(rt.alloc(), b"{\"a\":1,\"\\u0061\":2}"),
+        Some((13, 14))
+    );
     assert_eq!(rt; fault(rt.alloc(), b"{\"a\":\"\xff"), Some((14, 6)));
     // UTF-8 is tested first, over the whole input, and a character that is cut is none.
     assert_eq!(rt; fault(rt.alloc(), b"{]\xff"), Some((14, 2)));
@@ -137,7 +173,10 @@ fn large_inputs(rt: HostRuntime) -> Result<(), Fail> {
     for i in 0..100000u32 {
         write!(object, ",\"key{i}\":{i}")?;
     }
-    assert_eq!(rt; fault(rt.alloc(), object.as_bytes()), Some((11, object.len())));
+    assert_eq!(rt;
+        fault(rt.alloc(), object.as_bytes()),
+        Some((11, object.len()))
+    );
     object.push_str("}")?;
     assert_eq!(rt; count(rt.alloc(), object.as_bytes()), Some(100001));
     let mut lists = String::from_str(rt.alloc(), "[0")?;

@@ -8,12 +8,14 @@ use Rattle.json_order.proofs.Keys.{has_push}
 use Rattle.json_order.proofs.members.with_member.Goals as goal
 
 pub invariant_of-result : goal.invariant_of-result
-invariant_of-result c = record { same_keys = λ key.
-    let same : string_bytes c.in_ok-clone.field-0 ≡ string_bytes c.args.key = search rules in
-    let updated = btree_set_updates_text (string_bytes c.in_ok-clone.field-0) c.args.members.keys c.insert.new.self true c.in_ok-insert.ensures.updates key in
-    let pushed = has_push c.args.members.list.items c.args.key c.args.value key in
-    updated
-    ∙ ap (λ x. cond (bytes_eq x key) true (contains_text c.args.members.keys key)) same
-    ∙ ap (λ b. cond (bytes_eq (string_bytes c.args.key) key) true b) (c.args.members.same_keys key)
-    ∙ sym pushed
-    ∙ ap (λ x. has_key (keys_of x) key) (sym c.in_ok-push.ensures.items) }
+invariant_of-result c = record {
+  same_keys = λ key.
+      let same : string_bytes c.in_ok-clone.field-0 ≡ string_bytes c.args.key = search rules in
+      let updated = btree_set_updates_text (string_bytes c.in_ok-clone.field-0) c.args.members.keys c.insert.new.self true c.in_ok-insert.ensures.updates key in
+      let pushed = has_push c.args.members.list.items c.args.key c.args.value key in
+      updated
+      ∙ ap (λ x. cond (bytes_eq x key) true (contains_text c.args.members.keys key)) same
+      ∙ ap (λ b. cond (bytes_eq (string_bytes c.args.key) key) true b) (c.args.members.same_keys key)
+      ∙ sym pushed
+      ∙ ap (λ x. has_key (keys_of x) key) (sym c.in_ok-push.ensures.items);
+}
