@@ -7,7 +7,6 @@ use Rattle.attr_check.specs.ParamsView.{ParamsView}
 use Rattle.domain_run.specs.NameView.{IsName}
 use Rattle.domain_run.specs.script.ScriptView.{ScriptView}
 use Rattle.domain_run.specs.declared.call.Call.TheVariants.{Admit}
-use Rattle.domain_run.specs.declared.call.Reply.{Reply}
 use Rattle.domain_run.specs.declared.call.Reply.TheVariants.{Admitted}
 use Rattle.domain_run.specs.Domain.{Domain}
 use Rattle.domain_run.specs.Calls.{with_number, reply_to, is_refusal, after_call, granted}

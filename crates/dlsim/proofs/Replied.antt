@@ -1,5 +1,5 @@
 -- What a replay answers, from what its parts answered.
-use Rattle.std.proofs.Common.{◌≡◌, ℕ, ◌+◌, List, [], ◌∷◌, Result, Ok, Err, refl, sym, ap, ◌∙◌, subst}
+use Rattle.std.proofs.Common.{◌≡◌, ℕ, ◌+◌, List, Result, Ok, Err, subst}
 use Rattle.std.specs.Prelude.{OnOk, OnErr, IfErr}
 use Rattle.std.specs.Io.KnownBytes.{Appends}
 use Rattle.call_book.specs.SectionView.{SectionView}
@@ -9,7 +9,7 @@ use Rattle.switch_text.specs.Sending.{Stops}
 use Rattle.dlsim.specs.declared.session.SessionFault.{SessionFault}
 use Rattle.dlsim.specs.declared.session.SessionFault.TheVariants.{Calls, Read, Write, Memory}
 use Rattle.dlsim.specs.Replay.{trace_of_sections}
-use Rattle.dlsim.specs.Answer.{Seen, IsInput, IsAnswered, IsCutOff, IsCut, MeansFault}
+use Rattle.dlsim.specs.Answer.{Seen, IsInput, IsAnswered, IsCut, MeansFault}
 
 pub on_both : {T E : Type 0} (r : Result T E) (P Q R : Type 0) → (P → Q → R) → OnOk r P → OnOk r Q → OnOk r R
 on_both (Ok x) P Q R f a b = f a b

@@ -1,9 +1,8 @@
 -- The trace of a run that is that of a section.
-use Rattle.std.proofs.Common.{◌≡◌, ℕ, ◌+◌, ◌<◌, ◌≤◌, ◌^◌, Option, Some, None, List, [], ◌∷◌, length, refl, sym, ap, ◌∙◌, arith}
-use Rattle.std.specs.Prelude.{All, AllPairs, IfSome, IsTrue}
-use Rattle.std.proofs.lemmas.List.Elements.{All-weaker, All-head}
+use Rattle.std.proofs.Common.{◌≡◌, ℕ, Option, Some, None, List, [], ◌∷◌, ap, ◌∙◌, arith}
+use Rattle.std.specs.Prelude.{All, IfSome}
+use Rattle.std.proofs.lemmas.List.Elements.{All-weaker}
 use Rattle.domain_run.specs.declared.switch.Switch.{Switch}
-use Rattle.domain_run.specs.Switches.{is_before}
 use Rattle.domain_run.specs.Domain.{Domain, opened}
 use Rattle.domain_run.specs.Run.{run_of}
 use Rattle.domain_run.specs.Sound.{IsAdmitted, IsSwitch, IsDomain}

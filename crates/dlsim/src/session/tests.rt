@@ -1,5 +1,7 @@
 //! Whole replays, over readers and writers that work in small pieces, and fail.
 
+ghost use Rattle.std.specs.Prelude.{◌≡◌};
+
 use super::*;
 use std::io;
 use std::io::ErrorKind;
@@ -63,7 +65,7 @@ impl Write for Taker {
     }
 }
 
-fn taker(alloc: Global, step: usize, room: usize) -> Counted<Taker>
+fn taking(alloc: Global, step: usize, room: usize) -> Counted<Taker>
     ensures { result.faults ≡ 0 }
 {
     Counted::new(Taker {
@@ -73,7 +75,7 @@ fn taker(alloc: Global, step: usize, room: usize) -> Counted<Taker>
     })
 }
 
-fn giver(bytes: &[u8], bad: usize) -> Counted<Giver<'_>>
+fn giving(bytes: &[u8], bad: usize) -> Counted<Giver<'_>>
     ensures { result.faults ≡ 0 }
 {
     Counted::new(Giver {
@@ -85,8 +87,8 @@ fn giver(bytes: &[u8], bad: usize) -> Counted<Giver<'_>>
 
 /// How a replay of these bytes ends, as the program tells it.
 fn told(alloc: Global, text: &[u8], room: usize) -> Result<(String, Vec<u8>), Fail> {
-    let mut writer = taker(alloc, usize::MAX, room);
-    let answer = match replay(alloc, &mut giver(text, usize::MAX), &mut writer) {
+    let mut writer = taking(alloc, usize::MAX, room);
+    let answer = match replay(alloc, &mut giving(text, usize::MAX), &mut writer) {
         Ok(()) => String::new(alloc),
         Err(fault) => fault.to_string(alloc)?,
     };
@@ -167,8 +169,8 @@ fn failing_writer(rt: HostRuntime) -> Result<(), Fail> {
 
 #[test]
 fn one_byte_at_a_time(rt: HostRuntime) -> Result<(), Fail> {
-    let mut writer = taker(rt.alloc(), 1, usize::MAX);
-    assert!(rt; replay(rt.alloc(), &mut giver(THROTTLED, usize::MAX), &mut writer).is_ok());
+    let mut writer = taking(rt.alloc(), 1, usize::MAX);
+    assert!(rt; replay(rt.alloc(), &mut giving(THROTTLED, usize::MAX), &mut writer).is_ok());
     assert_eq!(rt; writer.inner.taken.as_slice(), THROTTLED_TRACE);
     Ok(())
 }
@@ -176,8 +178,8 @@ fn one_byte_at_a_time(rt: HostRuntime) -> Result<(), Fail> {
 #[test]
 fn failing_reader(rt: HostRuntime) -> Result<(), Fail> {
     for bad in 0..=THROTTLED.len() {
-        let mut writer = taker(rt.alloc(), 7, usize::MAX);
-        let answer = replay(rt.alloc(), &mut giver(THROTTLED, bad), &mut writer);
+        let mut writer = taking(rt.alloc(), 7, usize::MAX);
+        let answer = replay(rt.alloc(), &mut giving(THROTTLED, bad), &mut writer);
         assert!(rt; matches!(answer, Err(SessionFault::Read)), "in call {bad}");
         assert!(rt; writer.inner.taken.is_empty());
     }

@@ -1,8 +1,7 @@
-use Rattle.std.proofs.Common.{◌≡◌, ℕ, ◌+◌, List, [], ◌∷◌, All, sym, ap, ◌∙◌, subst}
+use Rattle.std.proofs.Common.{◌≡◌, ℕ, ◌+◌, List, [], All, sym, ap, ◌∙◌, subst}
 use Rattle.std.specs.Io.KnownBytes.{Appends}
 use Rattle.std.proofs.lemmas.List.Elements.{All-head}
-use Rattle.call_book.specs.SectionView.{SectionView}
-use Rattle.call_book.specs.Limits.{AreRead, IsSection}
+use Rattle.call_book.specs.Limits.{IsSection}
 use Rattle.dlsim.specs.Replay.{trace_of_sections}
 use Rattle.dlsim.specs.Replaying.{trace_of_run}
 use Rattle.dlsim.specs.Answer.{seen, Seen, IsAnswered, IsCut, MeansFault}

@@ -1,8 +1,7 @@
-use Rattle.std.proofs.Common.{◌≡◌, ℕ, ◌+◌, Bool, true, false, List, ◌∷◌, [], length, map, refl, sym, ap, ◌∙◌, subst, arith, All, vec_len}
+use Rattle.std.proofs.Common.{◌≡◌, ℕ, true, false, List, [], length, map, sym, ap, ◌∙◌, subst, arith, All}
 use Rattle.std.specs.Prelude.{reverse}
 use Rattle.std.proofs.lemmas.List.{reverse-reverse, nil_from_length}
 use Rattle.std.proofs.lemmas.List.Elements.{All-head, All-rest}
-use Rattle.call_book.specs.declared.section.Entry.{Entry}
 use Rattle.call_book.specs.Limits.{IsEntry, IsReadCall}
 use Rattle.domain_run.specs.declared.call.Call.{Call}
 use Rattle.domain_run.specs.Domain.{Domain, opened}

@@ -1,8 +1,6 @@
 use Rattle.std.proofs.Common.{◌≡◌, ℕ, List, ◌∙◌, ap, sym, subst}
 use Rattle.std.specs.String.{string_bytes}
-use Rattle.domain_run.specs.declared.call.Call.TheVariants.{Admit}
-use Rattle.domain_run.specs.Calls.{after_call}
-use Rattle.switch_text.specs.Names.{Names, named}
+use Rattle.switch_text.specs.Names.{named}
 use Rattle.domain_run.specs.Domain.{Domain}
 use Rattle.dlsim.specs.Replay.{with_name}
 use Rattle.dlsim.specs.Replaying.{AreNamed}
