@@ -267,12 +267,7 @@ fn word_step(stack: &mut Vec<Frame>, word: Word, read: usize, c: char) -> Result
 
 /// The place once c follows; the stack holds what is open around it. On an error the stack is left as it may be.
 #[inline(always)]
-fn step(
-    alloc: Global,
-    place: Place,
-    stack: &mut Vec<Frame>,
-    c: char,
-) -> Result<Place, JsonKind>
+fn step(alloc: Global, place: Place, stack: &mut Vec<Frame>, c: char) -> Result<Place, JsonKind>
     requires fine { IsFinePlace (place_of place) }
     ensures ok { IfOk result (λ p. machine_step strict (state_of place stack.old.items) c ≡ Ok (state_of p stack.new.items)) }
     ensures err { IfErr result (Says (machine_step strict (state_of place stack.old.items) c)) }
