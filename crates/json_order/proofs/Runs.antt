@@ -88,10 +88,6 @@ spaced_nil : (m : List ℕ) → IsSpaced [] m → m ≡ []
 spaced_nil m ([], a, q) = sym q
 spaced_nil m (x ∷ xs, a, q) = cc
 
-ends_word : (ls m : List ℕ) → [] ≡ ls ++ m → (ls ≡ []) × (m ≡ [])
-ends_word [] m q = (refl, sym q)
-ends_word (l ∷ ls) m q = cc
-
 char_none : (c : ℕ) (mid : List ℕ) → IsCharacter c [] mid → ⊥
 char_none c mid (plain h q) = cc
 char_none c mid (short e s q) = cc

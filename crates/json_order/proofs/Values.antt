@@ -133,9 +133,6 @@ module _ (r : Rules) (fs : List Frame) (c : ℕ) (rest : List ℕ) (t : Json) wh
   object_from : c ≡ 123 → (length fs < r.limit) × Completes r (state at_first_key fs) rest t → Starts
   object_from h (l, (members, e, w, k)) = (object members, e, (l, (rest, ap (λ y. y ∷ rest) h, w)), k)
 
-  abbrev pub IsFirst : Type 0
-  IsFirst = (c ≡ 110) ⊎ ((c ≡ 116) ⊎ ((c ≡ 102) ⊎ ((c ≡ 34) ⊎ ((c ≡ 45) ⊎ ((c ≡ 48) ⊎ (((49 ≤ c) × (c ≤ 57)) ⊎ ((c ≡ 91) ⊎ (c ≡ 123))))))))
-
   nothing_to : c ≢ 110 → c ≢ 116 → c ≢ 102 → c ≢ 34 → c ≢ 45 → c ≢ 48 → ((c < 49) ⊎ (57 < c)) → c ≢ 91 → c ≢ 123 → (v : Json) → FirstOf v c → ⊥
   nothing_to a b d e f g h i j null w = a w
   nothing_to a b d e f g h i j (boolean x) w = omega arith
