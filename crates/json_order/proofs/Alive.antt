@@ -1,22 +1,21 @@
 -- From every state on some characters complete a text: what is open is closed, and a key is made longer than all others.
-use Rattle.std.specs.Prelude.{nat_lt, encode_utf8, encode_utf8_all, codes}
+use Rattle.std.specs.Prelude.{nat_lt, encode_utf8, encode_utf8_all}
 use Rattle.std.specs.List.{AllByRecursion}
 use Rattle.std.specs.Str.{all_scalars, bytes_eq}
 use Rattle.std.specs.Char.Utf16.{surrogate_pair_char}
-use Rattle.std.specs.Char.{IsScalar, digit_value}
-use Rattle.std.proofs.Common.{ℕ, zero, suc, ◌+◌, ◌*◌, ◌<◌, ◌≤◌, ◌≡◌, ◌≢◌, ◌⊎◌, inl, inr, Bool, true, false, not, ◌&&◌, ◌||◌, List, [], ◌∷◌, ◌++◌, length, refl, sym, ap, ◌∙◌, subst, arith, Option, Some, None, append-nil, append_assoc, length-append, add-one}
-use Rattle.std.proofs.lemmas.Bool.Decides.{nat_tests}
+use Rattle.std.specs.Char.{IsScalar}
+use Rattle.std.proofs.Common.{ℕ, zero, suc, ◌+◌, ◌*◌, ◌<◌, ◌≤◌, ◌≡◌, ◌⊎◌, inl, inr, Bool, true, false, not, ◌&&◌, ◌||◌, List, [], ◌∷◌, ◌++◌, length, refl, sym, ap, arith, length-append}
 use Rattle.std.proofs.lemmas.Slice.Eq.{bytes_eq-Decides}
 use Rattle.std.proofs.lemmas.Str.{encode_ascii}
-use Rattle.json_order.specs.Json.{Json, null, boolean, number, string, array, object, Items, no_items, item, Members, no_members, member}
+use Rattle.json_order.specs.Json.{Json, null, number, string, array, object, no_items, item, no_members, member}
 use Rattle.json_order.specs.Seen.{items_with, members_with}
-use Rattle.json_order.specs.Grammar.{Rules, IsSpaced, IsHex, IsCharacter, plain, AreCharacters, IsString, IsKey, has_key, may_follow, is_low_surrogate, is_high_surrogate}
+use Rattle.json_order.specs.Grammar.{Rules, plain, AreCharacters, has_key, may_follow}
 use Rattle.json_order.specs.Machine.{Entries, keys, Place, at_value, at_first_item, behind, at_first_key, at_next_key, in_key, behind_key, in_string, in_number, in_word, Frame, in_list, in_object, State, state, IsFine, IsFinePlace}
 use Rattle.json_order.specs.declared.place.Escape.{Escape}
 use Rattle.json_order.specs.declared.place.Escape.TheVariants.{Outside, Slash, Unit0, Unit1, Unit2, Unit3, High, HighSlash, Low0, Low1, Low2, Low3}
 use Rattle.json_order.specs.declared.place.Part.{Part}
 use Rattle.json_order.specs.declared.place.Part.TheVariants.{Minus, Zero, Whole, Dot, Fraction, Mark, Sign, Exponent}
-use Rattle.json_order.proofs.Language.{NumberRest, UnitRest, LowRest, FirstRest, EscapeRest, FirstCharacter, StringRest, Closes, BeginsValue, Opens, CompletesAt, Completes}
+use Rattle.json_order.proofs.Language.{NumberRest, UnitRest, LowRest, EscapeRest, FirstCharacter, StringRest, Closes, Completes}
 use Rattle.json_order.proofs.Spaces.{none_spaced}
 use Rattle.json_order.proofs.Strings.{scalar_is, low_from, high_from, lt_from, lt_not}
 

@@ -1,18 +1,17 @@
 -- From characters to bytes: what the reader says of a text's characters is the definition's answer for its bytes.
 use Rattle.std.specs.Prelude.{nat_lt, encode_utf8, encode_utf8_all, slice_get, IsUtf8}
-use Rattle.std.specs.Str.{all_scalars, IsValidUpTo}
-use Rattle.std.proofs.Common.{ℕ, zero, suc, ◌+◌, ◌-◌, ◌<◌, ◌≤◌, ◌≡◌, ◌≢◌, ◌⊎◌, inl, inr, Bool, true, false, ◌&&◌, List, [], ◌∷◌, ◌++◌, length, take, get_or, refl, sym, ap, ◌∙◌, subst, arith, Option, Some, None, Result, Ok, Err, append-nil, append_assoc, length-append}
+use Rattle.std.specs.Str.{all_scalars}
+use Rattle.std.proofs.Common.{ℕ, zero, suc, ◌+◌, ◌-◌, ◌<◌, ◌≤◌, ◌≡◌, ◌≢◌, ◌⊎◌, inl, inr, Bool, true, false, ◌&&◌, List, [], ◌∷◌, ◌++◌, length, take, get_or, refl, sym, ap, ◌∙◌, subst, arith, Some, None, Ok, Err, append-nil, append_assoc, length-append}
 use Rattle.std.proofs.Math.Seq.{take-append_seam, take-append-add, take-length}
 use Rattle.std.proofs.lemmas.Str.{encodes-append, encode_ascii, cons_from_encodes, byte_from_char, char_from_byte, length-encode, len_utf8_bounds, encodes_same}
 use Rattle.std.proofs.Math.Utf8.{low_scalar}
 use Rattle.json_order.specs.Json.{Json}
 use Rattle.json_order.specs.Grammar.{Rules, IsText}
-use Rattle.json_order.specs.Fault.{strict, deeper, repeating, Spells, Begins, IsLongestFront, OpensTooDeep, RepeatsKey, IsFault}
-use Rattle.json_order.specs.Machine.{State, state, Move, goes, move, judged, step, start, run, ended, IsFinePlace}
+use Rattle.json_order.specs.Fault.{strict, deeper, repeating, Spells, Begins, IsLongestFront, IsFault}
+use Rattle.json_order.specs.Machine.{State, move, judged, step, start, run, ended, IsFinePlace}
 use Rattle.json_order.specs.declared.fault.JsonKind.{JsonKind}
 use Rattle.json_order.specs.declared.fault.JsonKind.TheVariants.{Syntax, End, Depth, Duplicate, Utf8, Memory}
 use Rattle.json_order.proofs.Strings.{lt_from, lt_not}
-use Rattle.json_order.proofs.Facts.{IsSound}
 use Rattle.json_order.proofs.Alive.{scalars_append}
 use Rattle.json_order.proofs.Runs.{text_of_run, front_of_run, sound_run, refused_run, Why, Stuck, why, run_other, run_step}
 use Rattle.json_order.proofs.Foreign.{far}

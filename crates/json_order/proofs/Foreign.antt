@@ -1,12 +1,12 @@
 -- Characters from 128 on stand in strings alone, and all of them do: the reader treats them alike.
-use Rattle.std.specs.Prelude.{◌==◌, if◌then◌else◌, nat_lt, nat_le, codes, encode_utf8}
+use Rattle.std.specs.Prelude.{◌==◌, nat_lt, nat_le, encode_utf8}
 use Rattle.std.specs.Char.{digit_value, is_ascii_digit}
 use Rattle.std.specs.Int.{is_in_range}
-use Rattle.std.proofs.Common.{ℕ, suc, ◌+◌, ◌*◌, ◌<◌, ◌≤◌, ◌≡◌, ◌≢◌, ◌⊎◌, inl, inr, Bool, true, false, List, [], ◌∷◌, ◌++◌, refl, sym, ap, ◌∙◌, subst, arith, Option, Some, None}
+use Rattle.std.proofs.Common.{ℕ, ◌<◌, ◌≤◌, ◌≡◌, ◌⊎◌, inl, inr, Bool, true, false, List, [], ◌∷◌, ◌++◌, refl, sym, ap, subst, arith, Some, None}
 use Rattle.std.proofs.lemmas.Bool.Decides.{nat_tests}
 use Rattle.json_order.specs.Json.{Json, number}
 use Rattle.json_order.specs.Grammar.{is_space, is_sign, is_mark, short_escape}
-use Rattle.json_order.specs.Machine.{Entries, Place, at_value, at_first_item, behind, at_first_key, at_next_key, in_key, behind_key, in_string, in_number, in_word, Frame, in_list, in_object, State, state, Move, goes, opens, names, stops, value_move, next_move, behind_move, key_move, string_move, number_move, word_move, move, Quote, going, closed, quote_step, part_step, is_done, IsFinePlace}
+use Rattle.json_order.specs.Machine.{Entries, Place, at_value, at_first_item, behind, at_first_key, at_next_key, in_key, behind_key, in_string, in_number, in_word, Frame, in_list, in_object, State, state, goes, stops, value_move, next_move, behind_move, key_move, string_move, number_move, word_move, move, going, quote_step, part_step, is_done, IsFinePlace}
 use Rattle.std.specs.List.{AllByRecursion}
 use Rattle.json_order.specs.declared.place.Escape.{Escape}
 use Rattle.json_order.specs.declared.place.Escape.TheVariants.{Outside, Slash, Unit0, Unit1, Unit2, Unit3, High, HighSlash, Low0, Low1, Low2, Low3}

@@ -1,13 +1,13 @@
 -- What may follow a state of the reader: which characters complete a text from there, and to which value. No step of the
 -- reader is spoken of here.
-use Rattle.std.proofs.Common.{ℕ, suc, ◌+◌, ◌*◌, ◌<◌, ◌≤◌, ◌≡◌, ◌⊎◌, List, [], ◌∷◌, ◌++◌, length, true, Some}
+use Rattle.std.proofs.Common.{ℕ, suc, ◌≡◌, ◌⊎◌, List, [], ◌∷◌, ◌++◌, length, true, Some}
 use Rattle.std.specs.Prelude.{encode_utf8_all}
 use Rattle.std.specs.Char.{IsScalar}
 use Rattle.std.specs.Char.Utf16.{surrogate_pair_char}
-use Rattle.json_order.specs.Json.{Json, null, boolean, number, string, array, object, Items, no_items, item, Members, no_members, member}
+use Rattle.json_order.specs.Json.{Json, number, string, array, object, Items, item, Members, member}
 use Rattle.json_order.specs.Seen.{items_with, members_with}
 use Rattle.json_order.specs.Grammar.{Rules, IsSpaced, AreDigits, SomeDigits, IsFraction, IsExponent, IsPower, IsUnsigned, short_escape, IsHex, IsUnit, is_high_surrogate, is_low_surrogate, AreCharacters, IsKey, may_follow, IsValue, AreItems, AreMoreItems, AreMembers, AreMoreMembers}
-use Rattle.json_order.specs.Machine.{Entries, keys, Place, at_value, at_first_item, behind, at_first_key, at_next_key, in_key, behind_key, in_string, in_number, in_word, Frame, in_list, in_object, State}
+use Rattle.json_order.specs.Machine.{keys, Place, at_value, at_first_item, behind, at_first_key, at_next_key, in_key, behind_key, in_string, in_number, in_word, Frame, in_list, in_object, State}
 use Rattle.json_order.specs.declared.place.Escape.{Escape}
 use Rattle.json_order.specs.declared.place.Escape.TheVariants.{Outside, Slash, Unit0, Unit1, Unit2, Unit3, High, HighSlash, Low0, Low1, Low2, Low3}
 use Rattle.json_order.specs.declared.place.Part.{Part}

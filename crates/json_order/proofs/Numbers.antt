@@ -1,10 +1,10 @@
 -- A number, a character at a time.
 use Rattle.std.specs.Prelude.{◌==◌, if◌then◌else◌}
-use Rattle.std.proofs.Common.{ℕ, ◌+◌, ◌<◌, ◌≤◌, ◌≡◌, ◌≢◌, ◌⊎◌, inl, inr, Bool, true, false, cond, List, [], ◌∷◌, ◌++◌, length, refl, sym, ap, ◌∙◌, subst, arith, eqb, ltb, leb, Option, Some, None, append-nil}
-use Rattle.std.proofs.lemmas.Bool.Decides.{nat_tests, eqb_tells}
+use Rattle.std.proofs.Common.{ℕ, ◌≤◌, ◌≡◌, ◌≢◌, ◌⊎◌, inl, inr, Bool, true, false, List, [], ◌∷◌, ◌++◌, refl, sym, ap, ◌∙◌, subst, arith, Option, Some, None}
+use Rattle.std.proofs.lemmas.Bool.Decides.{nat_tests}
 use Rattle.std.specs.Char.{is_ascii_digit}
 use Rattle.std.specs.Int.{is_in_range}
-use Rattle.json_order.specs.Grammar.{AreDigits, SomeDigits, IsInteger, IsFraction, IsExponent, IsPower, IsUnsigned, IsNumber, is_sign, is_mark}
+use Rattle.json_order.specs.Grammar.{AreDigits, SomeDigits, IsInteger, IsFraction, IsExponent, IsPower, IsNumber, is_sign, is_mark}
 use Rattle.json_order.specs.Machine.{part_step, is_done}
 use Rattle.json_order.specs.declared.place.Part.{Part}
 use Rattle.json_order.specs.declared.place.Part.TheVariants.{Minus, Zero, Whole, Dot, Fraction, Mark, Sign, Exponent}
@@ -98,10 +98,6 @@ against b y n = cc
 
 -- EVERY PART
 
--- from here to there and back, where the front of the rest is split
-both : (A B : Type 0) → (A → B) → (B → A) → (A → B) × (B → A)
-both A B f g = (f, g)
-
 minus_to : (c : ℕ) (rest : List ℕ) → NumberRest Minus (c ∷ rest) → ((c ≡ 48) × NumberRest Zero rest) ⊎ ((is_in_range 49 57 c ≡ true) × NumberRest Whole rest)
 minus_to c rest (i, f, e, h, g, x, q) = unsigned_cons c rest i f e h g x q
 
@@ -121,17 +117,7 @@ fraction_to c rest (ds, e, h, x, q) = go (digits_cons c rest ds e h x q)
     go (inl w) = inl (w.0, (w.1.0, e, w.1.1, x, w.1.2))
     go (inr w) = inr w
 
-mark_from : (c : ℕ) (rest : List ℕ) → is_mark c ≡ true → IsPower rest → IsExponent (c ∷ rest)
-mark_from c rest m p = (m, p)
-
-some_digits : (rest : List ℕ) → SomeDigits rest → IsPower rest
-some_digits [] h = absurd h
-some_digits (d ∷ ds) h = inl h
-
-digits_power : (c : ℕ) (rest : List ℕ) → is_ascii_digit c ≡ true → AreDigits rest → SomeDigits (c ∷ rest)
-digits_power c rest h d = (h, d)
-
-abbrev parts_minus : (c : ℕ) → Parts Minus c (part_step Minus c)
+parts_minus : (c : ℕ) → Parts Minus c (part_step Minus c)
 parts_minus c =
     split (λ b. Parts Minus c (if b then Some Zero else if is_in_range 49 57 c then Some Whole else None)) (c == 48)
     (λ h rest. (zero rest h, λ w. (c ∷ [], w.0, w.1, inl (is_eq c 48 h, refl), w.2, w.3, ap (λ x. c ∷ x) w.4)))
@@ -250,10 +236,6 @@ parts Sign c = parts_sign c
 parts Exponent c = parts_exponent c
 
 -- WHERE A NUMBER ENDS
-
-no_more : (xs ys : List ℕ) → [] ≡ xs ++ ys → (xs ≡ []) × (ys ≡ [])
-no_more [] ys q = (refl, sym q)
-no_more (x ∷ xs) ys q = cc
 
 no_digits : (ds e : List ℕ) → SomeDigits ds → [] ≡ ds ++ e → ⊥
 no_digits [] e h q = h

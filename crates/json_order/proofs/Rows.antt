@@ -1,9 +1,8 @@
 -- Worked rows of faults, by the theorem: the reader's run over the characters is computed, and the fault is the definition's.
 use Rattle.std.specs.Char.{encode_utf8}
-use Rattle.std.proofs.Common.{ℕ, List, [], ◌∷◌, ◌++◌, refl, length}
-use Rattle.std.specs.Prelude.{codes}
-use Rattle.json_order.specs.Fault.{strict, IsFault}
-use Rattle.json_order.specs.Machine.{state, at_value, in_number, behind_key, in_key, in_string, at_first_item, at_next_key, Frame, in_list, in_object}
+use Rattle.std.proofs.Common.{ℕ, List, [], ◌∷◌, ◌++◌, refl}
+use Rattle.json_order.specs.Fault.{IsFault}
+use Rattle.json_order.specs.Machine.{state, at_value, in_number, in_key, at_first_item, Frame, in_list, in_object}
 use Rattle.json_order.specs.Json.{number}
 use Rattle.json_order.specs.declared.fault.JsonKind.TheVariants.{Syntax, End, Depth, Duplicate}
 use Rattle.json_order.specs.declared.place.Escape.TheVariants.{Outside}

@@ -1,23 +1,23 @@
 -- A run of the reader over characters: it has a state just while some text begins so, and the state's texts are those.
-use Rattle.std.specs.Prelude.{if◌then◌else◌, nat_lt, IsNone}
+use Rattle.std.specs.Prelude.{if◌then◌else◌, nat_lt}
 use Rattle.std.specs.Str.{all_scalars}
-use Rattle.std.proofs.Common.{ℕ, suc, ◌+◌, ◌<◌, ◌≤◌, ◌≡◌, ◌≢◌, ◌⊎◌, inl, inr, Bool, true, false, not, ◌||◌, List, [], ◌∷◌, ◌++◌, length, refl, sym, ap, ◌∙◌, subst, arith, Option, Some, None, Result, Ok, Err, append-nil, append_assoc}
+use Rattle.std.proofs.Common.{ℕ, suc, ◌≤◌, ◌≡◌, ◌⊎◌, inl, inr, Bool, true, false, not, ◌||◌, List, [], ◌∷◌, ◌++◌, length, refl, sym, ap, ◌∙◌, subst, arith, Some, None, Result, Ok, Err, append-nil}
 use Rattle.json_order.specs.Json.{Json, null, boolean, number, string, array, object, no_items, item, no_members, member}
-use Rattle.json_order.specs.Grammar.{Rules, IsSpaced, AreSpaces, IsCharacter, plain, short, one_unit, two_units, IsNumber, IsString, IsKey, has_key, may_follow, IsValue, AreMoreItems, AreMoreMembers, IsText}
+use Rattle.json_order.specs.Grammar.{Rules, IsSpaced, IsCharacter, plain, short, one_unit, two_units, IsKey, has_key, may_follow, IsValue, IsText}
 use Rattle.json_order.specs.Fault.{strict, deeper, repeating}
-use Rattle.json_order.specs.Machine.{Place, at_value, at_first_item, behind, at_first_key, at_next_key, in_key, behind_key, in_string, in_number, in_word, Frame, in_list, in_object, State, state, Move, goes, opens, names, stops, move, IsFinePlace, judged, step, start, run_on, run, ended, is_done}
+use Rattle.json_order.specs.Machine.{Place, at_value, at_first_item, behind, at_first_key, at_next_key, in_key, behind_key, in_string, in_number, in_word, Frame, in_list, in_object, State, Move, goes, opens, names, stops, move, judged, step, start, run_on, run, ended, is_done}
 use Rattle.json_order.specs.declared.fault.JsonKind.{JsonKind}
 use Rattle.json_order.specs.declared.fault.JsonKind.TheVariants.{Syntax, End, Depth, Duplicate, Utf8, Memory}
 use Rattle.json_order.specs.declared.place.Escape.{Escape}
 use Rattle.json_order.specs.declared.place.Escape.TheVariants.{Outside, Slash, Unit0, Unit1, Unit2, Unit3, High, HighSlash, Low0, Low1, Low2, Low3}
 use Rattle.json_order.proofs.Language.{StringRest, Closes, Opens, CompletesAt, Completes}
-use Rattle.json_order.proofs.Spaces.{split, none_spaced, Behind}
+use Rattle.json_order.proofs.Spaces.{split, none_spaced}
 use Rattle.json_order.proofs.Numbers.{done_from, done_to}
 use Rattle.json_order.proofs.Strings.{lt_from, lt_not, lt_to}
 use Rattle.json_order.proofs.Values.{Leads}
 use Rattle.json_order.proofs.Steps.{leads}
 use Rattle.json_order.proofs.Facts.{IsSound, Facts, facts}
-use Rattle.json_order.proofs.Alive.{Alive, alive}
+use Rattle.json_order.proofs.Alive.{alive}
 
 -- ONE STEP
 
@@ -87,10 +87,6 @@ text_from r t cs (s, sp, (v, e, w, (sp', q))) = (s, e, sp, subst (λ y. IsValue 
 spaced_nil : (m : List ℕ) → IsSpaced [] m → m ≡ []
 spaced_nil m ([], a, q) = sym q
 spaced_nil m (x ∷ xs, a, q) = cc
-
-ends_word : (ls m : List ℕ) → [] ≡ ls ++ m → (ls ≡ []) × (m ≡ [])
-ends_word [] m q = (refl, sym q)
-ends_word (l ∷ ls) m q = cc
 
 char_none : (c : ℕ) (mid : List ℕ) → IsCharacter c [] mid → ⊥
 char_none c mid (plain h q) = cc

@@ -1,14 +1,14 @@
 -- Every place: what may follow a character is what may follow the state that it leads to.
-use Rattle.std.specs.Prelude.{◌==◌, if◌then◌else◌, nat_lt, nat_le, codes, encode_utf8, encode_utf8_all, map}
-use Rattle.std.proofs.Common.{ℕ, zero, suc, ◌+◌, ◌<◌, ◌≤◌, ◌≡◌, ◌≢◌, ◌⊎◌, inl, inr, Bool, true, false, List, [], ◌∷◌, ◌++◌, length, refl, sym, ap, ◌∙◌, subst, arith, Option, Some, None, append-nil, append_assoc}
-use Rattle.json_order.specs.Json.{Json, null, boolean, number, string, array, object, Items, no_items, item, Members, no_members, member}
+use Rattle.std.specs.Prelude.{◌==◌, if◌then◌else◌, encode_utf8_all}
+use Rattle.std.proofs.Common.{ℕ, suc, ◌≤◌, ◌≡◌, ◌≢◌, ◌⊎◌, inl, inr, Bool, true, false, List, [], ◌∷◌, ◌++◌, length, refl, sym, ap, subst, arith, Option, Some, None, append-nil, append_assoc}
+use Rattle.json_order.specs.Json.{Json, number, string, array, object, Items, no_items, item, Members, no_members, member}
 use Rattle.json_order.specs.Seen.{items_with, members_with}
-use Rattle.json_order.specs.Grammar.{Rules, is_space, IsSpaced, AreCharacters, IsString, IsKey, may_follow, IsValue, AreItems, AreMoreItems, AreMembers, AreMoreMembers}
-use Rattle.json_order.specs.Machine.{Entries, keys, Place, at_value, at_first_item, behind, at_first_key, at_next_key, in_key, behind_key, in_string, in_number, in_word, Frame, in_list, in_object, State, state, Move, goes, opens, names, stops, value_move, next_move, behind_move, key_move, string_move, number_move, word_move, move, IsFine, IsFinePlace, Quote, going, closed, quote_step, part_step, is_done}
+use Rattle.json_order.specs.Grammar.{Rules, is_space, IsSpaced, AreCharacters, IsString, IsKey, may_follow, AreMoreItems, AreMoreMembers}
+use Rattle.json_order.specs.Machine.{Entries, keys, Place, at_value, at_first_item, behind, at_first_key, at_next_key, in_key, behind_key, in_string, in_number, in_word, Frame, in_list, in_object, State, state, Move, goes, stops, value_move, next_move, behind_move, key_move, string_move, number_move, move, IsFine, IsFinePlace, Quote, going, closed, quote_step, part_step, is_done}
 use Rattle.json_order.specs.declared.place.Escape.{Escape}
 use Rattle.json_order.specs.declared.place.Escape.TheVariants.{Outside}
 use Rattle.json_order.specs.declared.place.Part.{Part}
-use Rattle.json_order.proofs.Language.{NumberRest, StringRest, Closes, BeginsValue, Opens, CompletesAt, Completes}
+use Rattle.json_order.proofs.Language.{NumberRest, Closes, BeginsValue, Opens, CompletesAt, Completes}
 use Rattle.json_order.proofs.Spaces.{split, Behind, behind_space, behind_other}
 use Rattle.json_order.proofs.Numbers.{is_eq, not_eq, against, Parts, parts, done_from, done_to, Goes, IsInside, part_goes}
 use Rattle.json_order.proofs.Strings.{Spelt, Quotes, quotes}

@@ -3,15 +3,14 @@ use Rattle.std.specs.Prelude.{string_bytes}
 use Rattle.std.specs.declared.string.String.{String}
 use Rattle.std.specs.declared.vec.Vec.{Vec}
 use Rattle.std.specs.declared.alloc.Global.{Global}
-use Rattle.std.proofs.Common.{ℕ, ◌≡◌, Bool, true, false, List, [], ◌∷◌, ◌++◌, map, refl, sym, ap, ◌∙◌, Option, Some, None, Result, Ok, Err}
-use Rattle.std.proofs.lemmas.Simd.{map-map}
+use Rattle.std.proofs.Common.{ℕ, ◌≡◌, true, false, List, [], ◌∷◌, map, refl, sym, ap, ◌∙◌, Option, Some, Ok, Err}
 use Rattle.json_order.specs.Json.{Json, object, no_members}
 use Rattle.json_order.specs.Seen.{json_of, seen_step, entry_of, members_with}
-use Rattle.json_order.specs.Grammar.{has_key, may_follow}
+use Rattle.json_order.specs.Grammar.{has_key}
 use Rattle.json_order.specs.Fault.{strict}
 use Rattle.json_order.specs.Entries.{keys_of}
 use Rattle.json_order.specs.Places.{entries_of}
-use Rattle.json_order.specs.Machine.{Entries, keys, Frame, State, state, behind_key, Quote, closed, key_move, judged}
+use Rattle.json_order.specs.Machine.{keys, Frame, state, behind_key, Quote, closed, key_move, judged}
 use Rattle.json_order.specs.declared.fault.JsonKind.TheVariants.{Duplicate}
 use Rattle.json_order.specs.declared.tree.Tree.{Tree}
 use Rattle.json_order.specs.declared.tree.Tree.TheVariants.{Object, rolls-Object}

@@ -1,17 +1,17 @@
 -- The first character of a value.
-use Rattle.std.specs.Prelude.{◌==◌, if◌then◌else◌, nat_lt, nat_le, codes, encode_utf8, encode_utf8_all}
-use Rattle.std.proofs.Common.{ℕ, zero, suc, ◌+◌, ◌*◌, ◌<◌, ◌≤◌, ◌≡◌, ◌≢◌, ◌⊎◌, inl, inr, Bool, true, false, cond, List, [], ◌∷◌, ◌++◌, length, refl, sym, ap, ◌∙◌, subst, arith, Option, Some, None, append-nil, append_assoc}
+use Rattle.std.specs.Prelude.{◌==◌, if◌then◌else◌, codes, encode_utf8_all}
+use Rattle.std.proofs.Common.{ℕ, suc, ◌<◌, ◌≤◌, ◌≡◌, ◌≢◌, ◌⊎◌, inl, inr, true, false, List, [], ◌∷◌, ◌++◌, length, refl, ap, subst, arith}
 use Rattle.std.proofs.lemmas.Bool.Decides.{nat_tests}
 use Rattle.std.specs.Int.{is_in_range}
-use Rattle.json_order.specs.Json.{Json, null, boolean, number, string, array, object, Items, no_items, item, Members, no_members, member}
-use Rattle.json_order.specs.Grammar.{Rules, is_space, IsSpaced, IsNumber, AreCharacters, IsString, IsKey, may_follow, IsValue, AreItems, AreMoreItems, AreMembers, AreMoreMembers}
-use Rattle.json_order.specs.Machine.{Place, at_value, at_first_item, behind, at_first_key, at_next_key, in_key, behind_key, in_string, in_number, in_word, Frame, in_list, in_object, State, state, Move, goes, opens, names, stops, value_move}
+use Rattle.json_order.specs.Json.{Json, null, boolean, number, string, array, object}
+use Rattle.json_order.specs.Grammar.{Rules, is_space, IsNumber, AreCharacters, may_follow, IsValue, AreItems, AreMembers}
+use Rattle.json_order.specs.Machine.{at_first_item, at_first_key, in_string, in_number, in_word, Frame, state, Move, goes, opens, names, stops, value_move}
 use Rattle.json_order.specs.declared.place.Escape.TheVariants.{Outside}
 use Rattle.json_order.specs.declared.place.Part.{Part}
 use Rattle.json_order.specs.declared.place.Part.TheVariants.{Minus, Zero, Whole}
-use Rattle.json_order.proofs.Language.{NumberRest, Closes, BeginsValue, Opens, CompletesAt, Completes}
+use Rattle.json_order.proofs.Language.{NumberRest, Closes, BeginsValue, Completes}
 use Rattle.json_order.proofs.Spaces.{split}
-use Rattle.json_order.proofs.Numbers.{is_range, is_eq, not_eq, against, number_first, number_minus, number_zero, number_whole}
+use Rattle.json_order.proofs.Numbers.{is_range, is_eq, not_eq, number_first, number_minus, number_zero, number_whole}
 use Rattle.json_order.proofs.Strings.{range_not}
 
 -- L is what may follow, and the move leads to a state from which just that may follow
@@ -132,9 +132,6 @@ module _ (r : Rules) (fs : List Frame) (c : ℕ) (rest : List ℕ) (t : Json) wh
 
   object_from : c ≡ 123 → (length fs < r.limit) × Completes r (state at_first_key fs) rest t → Starts
   object_from h (l, (members, e, w, k)) = (object members, e, (l, (rest, ap (λ y. y ∷ rest) h, w)), k)
-
-  abbrev pub IsFirst : Type 0
-  IsFirst = (c ≡ 110) ⊎ ((c ≡ 116) ⊎ ((c ≡ 102) ⊎ ((c ≡ 34) ⊎ ((c ≡ 45) ⊎ ((c ≡ 48) ⊎ (((49 ≤ c) × (c ≤ 57)) ⊎ ((c ≡ 91) ⊎ (c ≡ 123))))))))
 
   nothing_to : c ≢ 110 → c ≢ 116 → c ≢ 102 → c ≢ 34 → c ≢ 45 → c ≢ 48 → ((c < 49) ⊎ (57 < c)) → c ≢ 91 → c ≢ 123 → (v : Json) → FirstOf v c → ⊥
   nothing_to a b d e f g h i j null w = a w

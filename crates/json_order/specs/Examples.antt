@@ -1,9 +1,9 @@
 -- Worked rows: what some inputs spell. Each is a derivation by the grammar, checked like any proof.
-use Rattle.std.specs.Prelude.{ℕ, List, [], ◌∷◌, codes, true}
+use Rattle.std.specs.Prelude.{ℕ, List, [], ◌∷◌, codes}
 use Rattle.std.specs.Char.{encode_utf8}
 use Rattle.std.proofs.Common.{refl, inl, inr, arith}
-use Rattle.json_order.specs.Json.{Json, null, boolean, number, string, array, object, no_items, item, no_members, member}
-use Rattle.json_order.specs.Grammar.{Rules, IsSpaced, IsValue, IsNumber, plain, short, one_unit, two_units}
+use Rattle.json_order.specs.Json.{null, number, array, no_items, item}
+use Rattle.json_order.specs.Grammar.{IsSpaced, IsNumber}
 use Rattle.json_order.specs.Fault.{strict, Spells}
 
 -- nothing is white space too

@@ -1,5 +1,5 @@
 -- Which bytes are accepted, and what the fault of the others is.
-use Rattle.std.specs.Prelude.{ℕ, ◌+◌, ◌<◌, ◌≤◌, ◌≡◌, Bool, true, false, ◌⊎◌, List, [], ◌∷◌, ◌++◌, length, take, slice_get, Some, encode_utf8_all, IsUtf8}
+use Rattle.std.specs.Prelude.{ℕ, ◌+◌, ◌<◌, ◌≤◌, ◌≡◌, true, false, ◌⊎◌, List, ◌++◌, length, take, slice_get, Some, encode_utf8_all, IsUtf8}
 use Rattle.std.specs.Str.{all_scalars, IsValidUpTo}
 use Rattle.json_order.specs.Json.{Json}
 use Rattle.json_order.specs.Grammar.{Rules, IsText}

@@ -1,10 +1,10 @@
 -- The reader's own steps, which private contracts cite. No public clause names them: that they follow the grammar is proved.
-use Rattle.std.specs.Prelude.{ℕ, ◌+◌, ◌*◌, ◌<◌, ◌≤◌, ◌≡◌, ◌⊎◌, Bool, true, false, ◌==◌, nat_le, nat_lt, if◌then◌else◌, List, [], ◌∷◌, ◌++◌, length, map, Option, Some, None, Result, Ok, Err, codes, encode_utf8}
+use Rattle.std.specs.Prelude.{ℕ, ◌+◌, ◌*◌, ◌<◌, ◌≤◌, ◌⊎◌, Bool, true, false, ◌==◌, nat_le, nat_lt, if◌then◌else◌, List, [], ◌∷◌, ◌++◌, length, map, Option, Some, None, Result, Ok, Err, codes, encode_utf8}
 use Rattle.std.specs.Char.{digit_value, is_ascii_digit}
 use Rattle.std.specs.Char.Utf16.{surrogate_pair_char}
 use Rattle.std.specs.Int.{is_in_range}
 use Rattle.std.specs.List.{AllByRecursion}
-use Rattle.json_order.specs.Json.{Json, null, boolean, number, string, array, object, Items, no_items, item, Members, no_members, member}
+use Rattle.json_order.specs.Json.{Json, null, boolean, number, string, array, object, no_items, no_members}
 use Rattle.json_order.specs.Seen.{items_with, members_with}
 use Rattle.json_order.specs.Grammar.{Rules, is_space, is_sign, is_mark, short_escape, is_high_surrogate, may_follow}
 use Rattle.json_order.specs.declared.fault.JsonKind.{JsonKind}

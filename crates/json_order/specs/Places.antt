@@ -1,16 +1,15 @@
 -- What the reader's own types stand for. Private contracts cite these.
-use Rattle.std.specs.Prelude.{ℕ, ◌≡◌, Bool, true, false, List, [], ◌∷◌, ◌++◌, length, map, reverse, drop, Option, Some, None, Result, Ok, Err, codes, string_bytes}
+use Rattle.std.specs.Prelude.{ℕ, ◌≡◌, true, false, List, map, reverse, drop, Option, None, Result, Err, codes, string_bytes}
 use Rattle.std.specs.declared.string.String.{String}
 use Rattle.std.specs.declared.alloc.Global.{Global}
 use Rattle.json_order.specs.Json.{Json, null, boolean}
-use Rattle.json_order.specs.Seen.{json_of, entry_of}
+use Rattle.json_order.specs.Seen.{json_of}
 use Rattle.json_order.specs.Machine.{Entries, Quote, going, closed, Place, at_value, at_first_item, behind, at_first_key, at_next_key, in_key, behind_key, in_string, in_number, in_word, Frame, in_list, in_object, State, state}
 use Rattle.json_order.specs.declared.tree.Tree.{Tree}
 use Rattle.json_order.specs.declared.fault.JsonKind.{JsonKind}
 use Rattle.json_order.specs.declared.fault.JsonKind.TheVariants.{Syntax, End, Depth, Duplicate, Utf8, Memory}
 use Rattle.json_order.specs.declared.word.Word.{Word}
 use Rattle.json_order.specs.declared.word.Word.TheVariants.{Null, True, False}
-use Rattle.json_order.specs.declared.members.Members.{Members}
 use Rattle.json_order.specs.declared.place.Place.{Place as CodePlace}
 use Rattle.json_order.specs.declared.place.Place.TheVariants.{Value, FirstItem, Behind, FirstKey, NextKey, Key, Colon, Text, Number, Word as WordPlace}
 use Rattle.json_order.specs.declared.place.Frame.{Frame as CodeFrame}

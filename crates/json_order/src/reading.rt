@@ -14,8 +14,11 @@ use crate::tree::Tree;
 use std::alloc::Global;
 use std::str;
 
-/// Reads a JSON text (RFC 8259, narrower where the formats say so). Memory for the tree alone is taken; the time is
-/// linear in the input but for the keys of an object, which cost the logarithm of their number.
+/// Reads a JSON text (RFC 8259, narrower as the page on formats says: UTF-8 alone, at most 16 lists and objects inside one
+/// another, no key twice in one object, no lone surrogate). The members of an object keep the order of the text.
+///
+/// Memory is taken for the tree, for a second copy of the keys of objects that are open, and for a stack of at most 17
+/// frames. The time is linear in the input but for the keys of an object, which cost the logarithm of their number.
 ///
 /// An Err tells the kind and the place of the first fault; see [`JsonKind`] and [`JsonFault`]. Utf8 is tested first, over
 /// the whole input. Memory may come before any other fault.

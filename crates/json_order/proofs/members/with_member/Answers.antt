@@ -1,4 +1,4 @@
-use Rattle.std.proofs.Common.{rules, ℕ, List, ◌≡◌, ◌++◌, [], ◌∷◌, string_bytes, cond, true, sym, ap, ◌∙◌}
+use Rattle.std.proofs.Common.{rules, ◌≡◌, string_bytes, cond, true, sym, ap, ◌∙◌}
 use Rattle.std.specs.BTreeSet.{contains_text}
 use Rattle.std.specs.Str.{bytes_eq}
 use Rattle.std.proofs.lemmas.Map.Text.{btree_set_updates_text}

@@ -1,12 +1,10 @@
-use Rattle.std.specs.Prelude.{encode_utf8, encode_utf8_all, IsUtf8}
 use Rattle.std.specs.Str.Iter.{chars_rest}
-use Rattle.std.proofs.Common.{rules, ℕ, ◌+◌, ◌≡◌, List, [], ◌∷◌, ◌++◌, length, Ok, Some, None, sym, ap, ◌∙◌, subst}
-use Rattle.json_order.specs.Fault.{strict, Spells, IsFault}
-use Rattle.json_order.specs.Machine.{step, start, run, ended, IsFinePlace}
-use Rattle.json_order.specs.Places.{place_of, frames_of, state_of, Says}
+use Rattle.std.proofs.Common.{◌≡◌, [], ◌∷◌, ◌++◌, length, sym, ap, ◌∙◌, subst}
+use Rattle.json_order.specs.Fault.{IsFault}
+use Rattle.json_order.specs.Places.{state_of}
 use Rattle.json_order.specs.Seen.{json_of}
 use Rattle.json_order.specs.declared.fault.JsonKind.TheVariants.{End}
-use Rattle.json_order.proofs.Bytes.{AtEnd, end_value, end_fault}
+use Rattle.json_order.proofs.Bytes.{end_value, end_fault}
 use Rattle.json_order.proofs.Turns.{Told, fault_told, seen_more, place_more, ran_more, fine_more, all_seen}
 use Rattle.json_order.proofs.reading.read_text.Goals as goal
 

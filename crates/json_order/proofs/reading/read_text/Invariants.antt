@@ -1,6 +1,6 @@
 use Rattle.std.specs.Prelude.{encode_utf8_all}
 use Rattle.std.specs.Str.Iter.{chars_rest}
-use Rattle.std.proofs.Common.{ℕ, ◌≡◌, ◌++◌, length, Ok}
+use Rattle.std.proofs.Common.{◌≡◌, ◌++◌, length, Ok}
 use Rattle.json_order.specs.Fault.{strict}
 use Rattle.json_order.specs.Machine.{IsFinePlace, run, start}
 use Rattle.json_order.specs.Places.{place_of, state_of}

@@ -1,4 +1,4 @@
-use Rattle.std.proofs.Common.{rules, ◌≡◌, ◌∙◌, sym, ap, Some, string_bytes, true, false}
+use Rattle.std.proofs.Common.{rules, ◌≡◌, Some, string_bytes, true, false}
 use Rattle.json_order.specs.Grammar.{has_key}
 use Rattle.json_order.specs.Entries.{keys_of}
 use Rattle.json_order.specs.Machine.{quote_step, closed}

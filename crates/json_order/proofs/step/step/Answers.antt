@@ -1,4 +1,4 @@
-use Rattle.std.proofs.Common.{◌≡◌, IfErr, Result, Ok, Err, List}
+use Rattle.std.proofs.Common.{IfErr, Result, Ok, Err, List}
 use Rattle.json_order.specs.Places.{frames_of}
 use Rattle.json_order.specs.Machine.{Frame}
 use Rattle.json_order.proofs.step.step.Goals as goal
