@@ -3,13 +3,13 @@ use Rattle.std.proofs.Common.{◌≡◌, ℕ, ◌+◌, ◌<◌, ◌≤◌, Bool,
 use Rattle.std.specs.Prelude.{AllPairs, filter}
 use Rattle.std.proofs.lemmas.List.{get_or-map, length-map}
 use Rattle.std.proofs.lemmas.List.Sums.{sum_by-cons}
-use Rattle.domain_run.specs.grub_rules.Sums.{Share}
-use Rattle.domain_run.specs.declared.cbs_rules.Server.{Server}
+use Rattle.grub_rules.specs.Sums.{Share}
+use Rattle.cbs_rules.specs.declared.server.Server.{Server}
 use Rattle.domain_run.specs.declared.task.Task.{Task}
 use Rattle.domain_run.specs.declared.script.Segment.{Segment}
 use Rattle.domain_run.specs.declared.script.Segment.TheVariants.{Run as RunFor, Until, Wait as WaitFor, End}
 use Rattle.domain_run.specs.Conditions.{is_over, has_come}
-use Rattle.domain_run.specs.cbs_rules.Serving.{is_spent, woken}
+use Rattle.cbs_rules.specs.Serving.{is_spent, woken}
 use Rattle.domain_run.specs.script.Segments.{asked}
 use Rattle.domain_run.specs.Parts.{replenish_due, settled, contending, started, unblocked, went_on, ran}
 use Rattle.domain_run.specs.Tick.{share_of, shares, sum_of}

@@ -1,5 +1,3 @@
-pub mod Postponing
-pub mod MapStep
 pub mod Served
 pub mod Sums
 pub mod Marks

@@ -5,9 +5,9 @@ use Rattle.std.specs.List.{list_any}
 use Rattle.std.proofs.lemmas.Bool.{cases_lt}
 use Rattle.std.proofs.lemmas.List.{get_or-map, length-map, get_or_past, length-set, get_or-set_other, get_or-set_same}
 use Rattle.std.proofs.lemmas.Option.{same_Some}
-use Rattle.domain_run.specs.declared.edf_pick.Candidate.{Candidate}
-use Rattle.domain_run.specs.edf_pick.Choice.{rank, is_chosen, ranked}
-use Rattle.domain_run.specs.edf_pick.Places.{Places, is_task, stands, is_chosen_number, kept, seat_of, put, seated, seated_if, seated_upto, placed}
+use Rattle.edf_pick.specs.declared.candidate.Candidate.{Candidate}
+use Rattle.edf_pick.specs.Choice.{rank, is_chosen, ranked}
+use Rattle.edf_pick.specs.Places.{Places, is_task, stands, is_chosen_number, kept, seat_of, put, seated, seated_if, seated_upto, placed}
 use Rattle.domain_run.specs.Sound.{occupant, IsApart}
 
 -- a number among the candidates

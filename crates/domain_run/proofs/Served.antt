@@ -3,8 +3,8 @@ use Rattle.std.proofs.Common.{ℕ, ◌+◌, ◌^◌, ◌≤◌, true, false, con
 use Rattle.std.specs.Prelude.{ℤ, pos, neg_ℤ, ◌≤ℤ◌, IfSome}
 use Rattle.std.proofs.lemmas.Int.{ints}
 use Rattle.attr_check.specs.ParamsView.{ParamsView, IsOrdered}
-use Rattle.domain_run.specs.declared.cbs_rules.Server.{Server}
-use Rattle.domain_run.specs.cbs_rules.Serving.{renewed, is_outlived, woken_at, woken}
+use Rattle.cbs_rules.specs.declared.server.Server.{Server}
+use Rattle.cbs_rules.specs.Serving.{renewed, is_outlived, woken_at, woken}
 use Rattle.domain_run.specs.Sound.{IsServed}
 
 renewed_served : (p : ParamsView) (time : ℕ) → IsOrdered p → IsServed time (renewed p time)

@@ -9,8 +9,8 @@ use Rattle.std.proofs.lemmas.List.Kept.{AllPairs-filter}
 use Rattle.std.proofs.Math.Nat.{mul-le-mul}
 use Rattle.attr_check.specs.Ratio.{cap}
 use Rattle.domain_run.specs.declared.task.Task.{Task}
-use Rattle.domain_run.specs.grub_rules.Sums.{uinact}
-use Rattle.domain_run.specs.edf_pick.Places.{Places, is_task, stands, placed}
+use Rattle.grub_rules.specs.Sums.{uinact}
+use Rattle.edf_pick.specs.Places.{Places, is_task, stands, placed}
 use Rattle.domain_run.specs.Parts.{replenish_due, settled, is_listed, unblocked, homed, homed_at}
 use Rattle.domain_run.specs.declared.switch.Switch.{Switch}
 use Rattle.domain_run.specs.Switches.{switches_from}

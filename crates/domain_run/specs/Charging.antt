@@ -1,7 +1,7 @@
 -- What part 6 of a tick needs of each task, for the code's own contracts.
 use Rattle.std.specs.Prelude.{ℕ, not, ◌==◌, ◌&&◌, if◌then◌else◌, List, slice_index}
-use Rattle.domain_run.specs.grub_rules.Rate as reclaiming
-use Rattle.domain_run.specs.edf_pick.Places.{Places, stands}
+use Rattle.grub_rules.specs.Rate as reclaiming
+use Rattle.edf_pick.specs.Places.{Places, stands}
 use Rattle.domain_run.specs.declared.task.Task.{Task}
 use Rattle.domain_run.specs.Parts.{ran}
 use Rattle.domain_run.specs.Tick.{share_of}

@@ -1,6 +1,6 @@
 -- A root domain between two ticks.
 use Rattle.std.specs.Prelude.{ℕ, List, [], replicate, None}
-use Rattle.domain_run.specs.edf_pick.Places.{Places}
+use Rattle.edf_pick.specs.Places.{Places}
 use Rattle.domain_run.specs.declared.task.Task.{Task}
 use Rattle.domain_run.specs.declared.switch.Switch.{Switch}
 

@@ -1,8 +1,5 @@
 pub mod NameView
 pub mod script
-pub mod cbs_rules
-pub mod grub_rules
-pub mod edf_pick
 pub mod Conditions
 pub mod Parts
 pub mod Switches

@@ -1,9 +1,9 @@
 -- What each part of a tick does to one task (own, over the rules of sched-deadline.rst that it cites).
 use Rattle.std.specs.Prelude.{ℕ, ◌+◌, ◌-◌, Bool, not, ◌&&◌, ◌==◌, if◌then◌else◌, Option, Some, None, is_none, position}
-use Rattle.domain_run.specs.cbs_rules.Serving.{replenished, woken, charged, is_spent}
-use Rattle.domain_run.specs.grub_rules.Lag as lag
-use Rattle.domain_run.specs.edf_pick.Places.{Places, is_task}
-use Rattle.domain_run.specs.declared.cbs_rules.Server.{Server}
+use Rattle.cbs_rules.specs.Serving.{replenished, woken, charged, is_spent}
+use Rattle.grub_rules.specs.Lag as lag
+use Rattle.edf_pick.specs.Places.{Places, is_task}
+use Rattle.cbs_rules.specs.declared.server.Server.{Server}
 use Rattle.domain_run.specs.declared.task.Task.{Task}
 use Rattle.domain_run.specs.declared.task.Condition.{Condition}
 use Rattle.domain_run.specs.declared.task.Condition.TheVariants.{Ready, Throttled, Blocked, Waiting, Leaving}

@@ -1,6 +1,6 @@
 -- The switches of a tick (the event sched_switch; own where it says more than the event's text).
 use Rattle.std.specs.Prelude.{ℕ, Bool, true, false, ◌==◌, ◌&&◌, ◌||◌, nat_lt, ◌+◌, if◌then◌else◌, List, [], ◌∷◌, find, Option, Some, None}
-use Rattle.domain_run.specs.edf_pick.Places.{Places}
+use Rattle.edf_pick.specs.Places.{Places}
 use Rattle.domain_run.specs.declared.task.Task.{Task}
 use Rattle.domain_run.specs.declared.task.Condition.{Condition}
 use Rattle.domain_run.specs.declared.task.Condition.TheVariants.{Ready, Throttled, Blocked, Waiting, Leaving}

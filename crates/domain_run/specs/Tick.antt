@@ -1,9 +1,9 @@
 -- One tick of a domain, in six parts (own, over the rules that the parts cite).
 use Rattle.std.specs.Prelude.{ℕ, zero, suc, ◌+◌, ◌||◌, if◌then◌else◌, List, ◌++◌, map, filter, is_some, unwrap_or}
-use Rattle.domain_run.specs.grub_rules.Sums.{Share, total_bw, uinact}
-use Rattle.domain_run.specs.grub_rules.Rate as reclaiming
-use Rattle.domain_run.specs.edf_pick.Places.{Places, placed, stands}
-use Rattle.domain_run.specs.declared.edf_pick.Candidate.{Candidate}
+use Rattle.grub_rules.specs.Sums.{Share, total_bw, uinact}
+use Rattle.grub_rules.specs.Rate as reclaiming
+use Rattle.edf_pick.specs.Places.{Places, placed, stands}
+use Rattle.edf_pick.specs.declared.candidate.Candidate.{Candidate}
 use Rattle.domain_run.specs.declared.task.Task.{Task}
 use Rattle.domain_run.specs.Conditions.{is_ready, is_contending}
 use Rattle.domain_run.specs.Parts.{replenish_due, settled, is_listed, unblocked, homed, ran}

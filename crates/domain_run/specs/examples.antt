@@ -1,5 +1,4 @@
 pub mod Calling
-pub mod Rules
-pub mod Placing
+pub mod Scripts
 pub mod Admissions
 pub mod Runs

@@ -6,9 +6,6 @@
 #![tactic(auto)]
 
 mod call;
-pub mod cbs_rules;
-pub mod edf_pick;
-pub mod grub_rules;
 mod memory;
 mod name;
 mod numbers;

@@ -2,8 +2,8 @@
 
 ghost use Rattle.std.specs.Prelude.{◌≡◌, ◌<◌, ◌≤◌, ◌^◌, ◌+◌, ◌-◌, ℕ, IsTrue, IsSome, false, position, find, ◌==◌, option_copied, option_map, pos, ◌≤ℤ◌, ◌<ℤ◌};
 ghost use Rattle.domain_run.specs.Conditions as conditions;
-ghost use Rattle.domain_run.specs.cbs_rules.Serving as serving;
-ghost use Rattle.domain_run.specs.edf_pick.Places as places_spec;
+ghost use Rattle.cbs_rules.specs.Serving as serving;
+ghost use Rattle.edf_pick.specs.Places as places_spec;
 ghost use Rattle.domain_run.specs.Tick as tick_spec;
 ghost use Rattle.domain_run.specs.Switches as switches_spec;
 ghost use Rattle.domain_run.specs.Views as views;
@@ -13,14 +13,13 @@ ghost use Rattle.domain_run.specs.Parts as parts;
 ghost use Rattle.domain_run.specs.script.Segments.{IsSegment, next_ask};
 ghost use Rattle.domain_run.specs.Sound.{IsServed, IsTimed, IsSound};
 
-use crate::cbs_rules::{self, Server};
-use crate::edf_pick::Candidate;
-use crate::grub_rules;
 use crate::name::Name;
 use crate::script::{Script, Segment};
 use crate::switch::PrevState;
 use crate::task::{Condition, Task, TaskView};
 use attr_check::Params;
+use cbs_rules::Server;
+use edf_pick::Candidate;
 
 fn has_come(time: u64, moment: Option<u64>) -> bool
     ensures { result ≡ conditions.has_come time moment }

@@ -12,7 +12,6 @@ ghost use Rattle.domain_run.specs.Sound.{IsDomain, IsPlacement};
 ghost use Rattle.attr_check.specs.Ratio.{cap};
 
 use crate::call::{Refused, Reply};
-use crate::edf_pick::Candidate;
 use crate::memory::NoMemory;
 use crate::name::Name;
 use crate::numbers::Numbers;
@@ -22,6 +21,7 @@ use crate::sweep::{self, Sums};
 use crate::switch::Switch;
 use crate::task::{Task, TaskView};
 use attr_check::Params;
+use edf_pick::Candidate;
 use std::alloc::Global;
 use std::marker::Model;
 

@@ -2,18 +2,18 @@
 
 ghost use Rattle.std.specs.Prelude.{◌≡◌, ◌<◌, ◌≤◌, ◌^◌, ◌+◌, map, filter, ℕ, All, ◌++◌, length, slice_index, replicate, IsTrue, vec_len, vec_capacity};
 ghost use Rattle.domain_run.specs.Parts as parts_spec;
-ghost use Rattle.domain_run.specs.edf_pick.Places as places_spec;
+ghost use Rattle.edf_pick.specs.Places as places_spec;
 ghost use Rattle.domain_run.specs.Sound.{IsSound, IsApart, AreSums};
 ghost use Rattle.domain_run.specs.Switches as switches_spec;
-ghost use Rattle.domain_run.specs.grub_rules.Sums.{uinact};
+ghost use Rattle.grub_rules.specs.Sums.{uinact};
 ghost use Rattle.domain_run.specs.Tick as tick_spec;
 ghost use Rattle.domain_run.specs.Charging.{inactive_of, rate_with, ran_with};
 ghost use Rattle.domain_run.specs.Conditions as conditions;
 
-use crate::edf_pick::{self, Candidate};
+use crate::parts;
 use crate::switch::Switch;
 use crate::task::Task;
-use crate::{grub_rules, parts};
+use edf_pick::Candidate;
 
 /// Part 1: replenishment.
 fn replenish_all(tasks: &mut Vec<Task>, time: u64)

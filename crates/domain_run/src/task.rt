@@ -1,9 +1,9 @@
 //! A listed task.
 
-use crate::cbs_rules::Server;
 use crate::name::Name;
 use crate::script::Cursor;
 use attr_check::Params;
+use cbs_rules::Server;
 
 /// What a task is doing.
 #[derive(Clone, Copy, Debug, PartialEq, Eq)]

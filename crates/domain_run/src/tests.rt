@@ -1,14 +1,12 @@
 ghost use Rattle.std.specs.Prelude.{◌≡◌};
 ghost use Rattle.domain_run.specs.script.Segments.{next_ask};
 
-use super::cbs_rules::{Server, charge, is_throttled, on_wake, replenish};
-use super::edf_pick::{Candidate, place};
-use super::grub_rules::{rate, zero_lag};
 use super::{
     Condition, Event, Name, Phase, PrevState, Refused, Reply, Script, Segment, State, Switch,
     TaskView,
 };
 use attr_check::{AttrRefusal, Params, SchedAttr, check};
+use cbs_rules::Server;
 use std::alloc::Global;
 use std::process::Abort;
 use std::test::Fail;
@@ -264,23 +262,6 @@ fn wake_test_is_strict(rt: HostRuntime) -> Result<(), Fail> {
         deadline: Some(8),
         left: 2 * LEFT,
     };
-    for (time, deadline, left) in [(4, 8, 2), (5, 13, 4), (8, 16, 4), (9, 17, 4)] {
-        assert!(rt; time < 1 << 48);
-        let woken = on_wake(half, &given, time);
-        assert_eq!(rt;
-            woken,
-            Server {
-                deadline: Some(deadline),
-                left: left * LEFT
-            },
-            "at {time}"
-        );
-    }
-    let fresh = Server {
-        deadline: None,
-        left: 0,
-    };
-    assert_eq!(rt; on_wake(fresh, &given, 5).deadline, Some(13));
     let alloc = rt.alloc();
     let mut state = State::open(alloc, 1, UNIT)?;
     let job = script(alloc, -1, &[Event::Run(2), Event::Sleep(2)])?;
@@ -297,67 +278,6 @@ fn wake_test_is_strict(rt: HostRuntime) -> Result<(), Fail> {
             left: LEFT
         }
     );
-    Ok(())
-}
-
-#[test]
-fn servers(rt: HostRuntime) -> Result<(), Fail> {
-    let given = plain(2, 5, 5)?;
-    let spent = charge(
-        Server {
-            deadline: Some(5),
-            left: 4 * LEFT,
-        },
-        1572864,
-        4,
-    );
-    assert_eq!(rt;
-        spent,
-        Server {
-            deadline: Some(5),
-            left: -2 * LEFT
-        }
-    );
-    assert!(rt; is_throttled(&spent));
-    assert!(rt;
-        is_throttled(&Server {
-            deadline: None,
-            left: 0
-        })
-    );
-    assert!(rt;
-        !is_throttled(&Server {
-            deadline: None,
-            left: 1
-        })
-    );
-    for (left, deadline, lifted) in [(0, 10, 2), (-1, 10, 1), (-2, 15, 2), (-4, 20, 2)] {
-        let server = Server {
-            deadline: Some(5),
-            left: left * LEFT,
-        };
-        assert!(rt; server.left <= 0 && server.left >= -4294967296);
-        let after = replenish(server, &given);
-        assert_eq!(rt;
-            after,
-            Server {
-                deadline: Some(deadline),
-                left: lifted * LEFT
-            },
-            "from {left}"
-        );
-    }
-    let half = Server {
-        deadline: Some(8),
-        left: 2 * LEFT,
-    };
-    let given = reclaiming(4, 8, 8)?;
-    for (time, zero) in [(2, Some(4)), (3, Some(4)), (4, None)] {
-        assert_eq!(rt; zero_lag(&half, &given, time), zero, "at {time}");
-    }
-    assert_eq!(rt; rate(&given, 0, 524288, 1, 996147), 551883);
-    assert_eq!(rt; rate(&given, 524288, 1048576, 1, UNIT), 524288);
-    assert_eq!(rt; rate(&plain(4, 8, 8)?, 524288, 1048576, 1, UNIT), UNIT);
     Ok(())
 }
 
@@ -425,21 +345,6 @@ fn two_cpus(rt: HostRuntime) -> Result<(), Fail> {
     ];
     assert_eq!(rt; state.switches(), switches.as_slice());
     assert_eq!(rt; view(&rt, &state, 3).cpu, 1);
-    let ready = [
-        Candidate {
-            deadline: 8,
-            number: 2,
-            home: 0,
-        },
-        Candidate {
-            deadline: 5,
-            number: 1,
-            home: 0,
-        },
-    ];
-    let mut places = vec![in alloc; Some(2), None]?;
-    place(&mut places, &ready);
-    assert_eq!(rt; places.as_slice(), [Some(2), Some(1)].as_slice());
     Ok(())
 }
 

@@ -4,7 +4,7 @@ use Rattle.attr_check.specs.ParamsView.{ParamsView}
 use Rattle.attr_check.specs.Ratio.{ratio}
 use Rattle.domain_run.specs.script.ScriptView.{ScriptView}
 use Rattle.domain_run.specs.declared.script.Event.{Event}
-use Rattle.domain_run.specs.declared.cbs_rules.Server.{Server}
+use Rattle.cbs_rules.specs.declared.server.Server.{Server}
 use Rattle.domain_run.specs.declared.task.Task.{Task}
 use Rattle.domain_run.specs.declared.task.Condition.{Condition}
 use Rattle.domain_run.specs.declared.switch.Switch.{Switch}

@@ -1,7 +1,7 @@
 -- Worked rows of whole runs.
 use Rattle.std.specs.Prelude.{ℕ, pos, neg_ℤ, ◌≡◌, [], ◌∷◌, Option, Some, None, refl}
 use Rattle.domain_run.specs.declared.script.Event.TheVariants.{Run, Sleep, Timer}
-use Rattle.domain_run.specs.declared.cbs_rules.Server.{Server}
+use Rattle.cbs_rules.specs.declared.server.Server.{Server}
 use Rattle.domain_run.specs.declared.task.Condition.TheVariants.{Throttled, Blocked}
 use Rattle.domain_run.specs.declared.switch.PrevState.TheVariants.{Running, Preempted, Sleeping, Dead}
 use Rattle.domain_run.specs.declared.call.Call.TheVariants.{Advance}

@@ -1,5 +1,5 @@
 use Rattle.std.proofs.Common.{length, sym, ap, ◌∙◌, vec_len}
-use Rattle.domain_run.specs.edf_pick.Places.{Places}
+use Rattle.edf_pick.specs.Places.{Places}
 use Rattle.domain_run.proofs.Seating.{placed_is}
 use Rattle.domain_run.proofs.sweep.begin.Goals as goal
 

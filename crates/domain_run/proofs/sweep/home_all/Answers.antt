@@ -1,5 +1,5 @@
 use Rattle.domain_run.specs.Parts.{homed}
-use Rattle.domain_run.proofs.MapStep.{map_step}
+use Rattle.edf_pick.proofs.MapStep.{map_step}
 use Rattle.domain_run.proofs.sweep.home_all.Goals as goal
 
 pub loop-task-preserved : goal.loop-task-preserved

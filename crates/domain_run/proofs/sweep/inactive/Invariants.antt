@@ -1,5 +1,5 @@
 use Rattle.std.proofs.Common.{◌≡◌, ℕ, ◌≤◌, ◌*◌, ◌^◌, take, get_or, vec_len}
-use Rattle.domain_run.specs.grub_rules.Sums.{uinact}
+use Rattle.grub_rules.specs.Sums.{uinact}
 use Rattle.domain_run.specs.Tick.{shares}
 use Rattle.domain_run.proofs.sweep.inactive.Given as goal
 

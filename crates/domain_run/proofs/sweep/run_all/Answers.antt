@@ -2,7 +2,7 @@ use Rattle.std.proofs.Common.{◌+◌, ◌<◌, length, arith}
 use Rattle.std.proofs.lemmas.List.Elements.{AllWithin-more_set}
 use Rattle.domain_run.specs.Charging.{ran_with}
 use Rattle.domain_run.specs.Sound.{IsSound}
-use Rattle.domain_run.proofs.MapStep.{map_step}
+use Rattle.edf_pick.proofs.MapStep.{map_step}
 use Rattle.domain_run.proofs.sweep.run_all.Goals as goal
 
 pub loop-task-preserved : goal.loop-task-preserved

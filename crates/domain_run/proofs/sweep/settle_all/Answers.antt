@@ -1,7 +1,7 @@
 use Rattle.std.proofs.lemmas.List.Elements.{All-set}
 use Rattle.domain_run.specs.Parts.{settled}
 use Rattle.domain_run.specs.Sound.{IsSound}
-use Rattle.domain_run.proofs.MapStep.{map_step}
+use Rattle.edf_pick.proofs.MapStep.{map_step}
 use Rattle.domain_run.proofs.sweep.settle_all.Goals as goal
 
 pub loop-task-preserved : goal.loop-task-preserved

@@ -1,7 +1,7 @@
 use Rattle.std.proofs.Common.{◌≡◌, ℕ, ◌<◌, ◌^◌, map, vec_len, refl, sym, ap, ◌∙◌, subst, arith}
 use Rattle.std.specs.Prelude.{slice_index}
-use Rattle.domain_run.specs.grub_rules.Sums.{uinact}
-use Rattle.domain_run.specs.edf_pick.Places.{Places}
+use Rattle.grub_rules.specs.Sums.{uinact}
+use Rattle.edf_pick.specs.Places.{Places}
 use Rattle.domain_run.specs.Charging.{ran_with}
 use Rattle.domain_run.specs.Domain.{Domain}
 use Rattle.domain_run.specs.Tick.{shares, sum_of, ran_if, begun, ticked}

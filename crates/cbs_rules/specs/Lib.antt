@@ -1,0 +1,3 @@
+pub mod Budget
+pub mod Serving
+pub mod Examples

@@ -1,2 +1,0 @@
-pub mod Budget
-pub mod Serving

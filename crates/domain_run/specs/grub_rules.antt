@@ -1,3 +1,0 @@
-pub mod Lag
-pub mod Sums
-pub mod Rate

@@ -1,0 +1,53 @@
+-- On which CPU each chosen task runs (own).
+use Rattle.std.specs.Prelude.{ℕ, zero, suc, position, Bool, false, ◌&&◌, ◌==◌, if◌then◌else◌, List, map, slice_get, slice_set, Option, Some, None, is_none}
+use Rattle.std.specs.List.{list_any}
+use Rattle.edf_pick.specs.declared.candidate.Candidate.{Candidate}
+use Rattle.edf_pick.specs.Choice.{is_chosen, ranked}
+
+-- who stands on each CPU, none for idle
+abbrev pub Places : Type 0
+Places = List (Option ℕ)
+
+-- the occupant is this task
+abbrev pub is_task : ℕ → Option ℕ → Bool
+is_task number None = false
+is_task number (Some n) = n == number
+
+abbrev pub stands : ℕ → Places → Bool
+stands number places = list_any (is_task number) places
+
+abbrev pub is_chosen_number : ℕ → List Candidate → ℕ → Bool
+is_chosen_number cpus ready number = list_any (λ c. c.number == number && is_chosen cpus ready c) ready
+
+-- an occupant that is chosen stays
+abbrev pub kept : ℕ → List Candidate → Option ℕ → Option ℕ
+kept cpus ready None = None
+kept cpus ready (Some n) = if is_chosen_number cpus ready n then Some n else None
+
+abbrev pub is_free : Option (Option ℕ) → Bool
+is_free None = false
+is_free (Some occupant) = is_none occupant
+
+-- the CPU for a task that stands nowhere: the one to which it belongs where that is free, else the lowest free one
+abbrev pub seat_of : Places → Candidate → Option ℕ
+seat_of places c = if is_free (slice_get places c.home) then Some c.home else position (λ occupant. is_none occupant) places
+
+abbrev pub put : Places → ℕ → Option ℕ → Places
+put places number None = places
+put places number (Some cpu) = slice_set places cpu (Some number)
+
+abbrev pub seated : Places → Candidate → Places
+seated places c = if stands c.number places then places else put places c.number (seat_of places c)
+
+abbrev pub seated_if : Places → Option Candidate → Places
+seated_if places None = places
+seated_if places (Some c) = seated places c
+
+-- the tasks before which 0, 1, .. others are, one after another
+abbrev pub seated_upto : List Candidate → Places → ℕ → Places
+seated_upto ready places zero = places
+seated_upto ready places (suc r) = seated_if (seated_upto ready places r) (ranked ready r)
+
+-- those that stay, and then the other chosen ones in the order of the choice
+abbrev pub placed : ℕ → List Candidate → Places → Places
+placed cpus ready before = seated_upto ready (map (kept cpus ready) before) cpus

@@ -1,0 +1,14 @@
+//! Which ready tasks run, and on which CPU: global EDF (sched-deadline.rst, "Main algorithm"; ties and placement are own).
+//!
+//! Meets the definition "Choice and placement" (`specs/Choice.antt`, `specs/Places.antt`). To the crate above it promises that
+//! the occupants of the CPUs are exactly those.
+#![tactic(auto)]
+
+mod candidate;
+mod placing;
+
+pub use candidate::Candidate;
+pub use placing::{place, stands};
+
+#[cfg(test)]
+mod tests;

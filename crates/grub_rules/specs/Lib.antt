@@ -1,0 +1,4 @@
+pub mod Lag
+pub mod Sums
+pub mod Rate
+pub mod Examples

@@ -1,0 +1,57 @@
+//! Zero-lag times and the reclaiming rate (sched-deadline.rst, "Bandwidth reclaiming").
+
+ghost use Rattle.std.specs.Prelude.{◌≡◌, ◌<◌, ◌≤◌, ◌^◌, ◌+◌, ◌*◌, ◌/◌, ◌-◌, max, pos, neg_ℤ, ◌≤ℤ◌, IfSome};
+ghost use Rattle.attr_check.specs.ParamsView.{IsOrdered};
+ghost use Rattle.cbs_rules.specs.Budget.{above_zero, budget};
+ghost use Rattle.grub_rules.specs.Lag as lag;
+ghost use Rattle.grub_rules.specs.Rate as rates;
+
+use attr_check::{Params, UNIT};
+use cbs_rules::Server;
+
+/// How long before its deadline a server would be in step with the fluid schedule, in microseconds.
+fn lag_of(server: &Server, params: &Params) -> u128
+    requires high { server.now.left ≤ℤ pos (2 ^ 63) }
+    ensures { result ≡ above_zero server.now.left * params.now.period / budget params.now }
+{
+    let left = if server.left > 0 {
+        server.left as u128
+    } else {
+        0
+    };
+    left * u128::from(params.period) / u128::from(params.runtime * UNIT)
+}
+
+/// The zero-lag time of a task that stops contending at this time, in microseconds: until then its bandwidth stays active.
+/// None where it is inactive at once. Takes no memory.
+pub fn zero_lag(server: &Server, params: &Params, time: u64) -> Option<u64>
+    requires { server.now.left ≤ℤ pos (2 ^ 63) }
+    ensures { result ≡ lag.zero_lag params.now time server.now }
+{
+    let deadline = server.deadline?;
+    let lag = lag_of(server, params);
+    let zero = u128::from(deadline).saturating_sub(lag) as u64;
+    if zero <= time { None } else { Some(zero) }
+}
+
+/// The rate at which a running task uses its budget up, in 1/2^20: one where it does not reclaim, else its share of the
+/// domain's limit, where what is inactive on its CPU and what the domain could still give away count as free. `sum` is the
+/// bandwidth of all tasks of the domain, `uinact` what is inactive on the task's CPU. Takes no memory.
+pub fn rate(params: &Params, uinact: u64, sum: u64, cpus: u64, limit: u64) -> u64
+    requires uinact { uinact ≤ 2 ^ 26 }
+    requires sum { sum ≤ 2 ^ 26 }
+    requires cpus { (0 < cpus) × (cpus ≤ 64) }
+    requires limit { (10485 ≤ limit) × (limit ≤ 1048576) }
+    ensures value { result ≡ rates.rate params.now uinact sum cpus limit }
+    ensures some { 0 < result }
+    ensures slow { result ≤ 2 ^ 32 }
+{
+    if !params.reclaim {
+        return UNIT;
+    }
+    let extra = limit.saturating_sub(sum / cpus);
+    let taken = params
+        .bw
+        .max(limit.saturating_sub(uinact).saturating_sub(extra));
+    ((taken * UNIT + limit - 1) / limit).max(1)
+}
