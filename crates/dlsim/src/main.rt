@@ -8,8 +8,9 @@ mod session;
 use clap::error::ErrorKind;
 use clap::{Command, Error};
 use session::{SessionFault, replay};
-use std::alloc::Global;
-use std::env;
+use std::alloc::{AllocError, Global};
+use std::env::{self, Env};
+use std::io;
 use std::process::ExitCode;
 use switch_text::Counted;
 
@@ -32,9 +33,21 @@ fn command<'a>(alloc: Global) -> Result<Command<'a>, Error> {
     Ok(command)
 }
 
+/// What clap has to say of a word that is not UTF-8.
+fn not_utf8(alloc: Global) -> Result<Error, Error> {
+    let message = "invalid UTF-8 was detected in one or more arguments";
+    Ok(command(alloc)?.error(ErrorKind::InvalidValue, message)?)
+}
+
 /// Whether the words ask for a replay; else what clap has to say of them.
-fn read_words(alloc: Global, words: &[String]) -> Result<(), Error> {
-    command(alloc)?.try_get_matches_from(words)?;
+fn read_words(rt: &(impl Env + Alloc<A = Global>)) -> Result<(), Error> {
+    let alloc = rt.alloc();
+    let words: Vec<String> = match env::args(rt) {
+        Ok(words) => words.collect(alloc)?,
+        Err(error) if error.kind() == io::ErrorKind::InvalidData => return Err(not_utf8(alloc)?),
+        Err(_) => return Err(Error::from(AllocError)),
+    };
+    command(alloc)?.try_get_matches_from(&words)?;
     Ok(())
 }
 
@@ -53,11 +66,7 @@ fn end_with(rt: &impl Eprint, fault: &SessionFault) -> ExitCode {
 
 fn main(rt: HostRuntime) -> ExitCode {
     let alloc = rt.alloc();
-    let words: Vec<String> = match env::args(&rt).and_then(|words| Ok(words.collect(alloc)?)) {
-        Ok(words) => words,
-        Err(_) => return end_with(&rt, &SessionFault::Memory),
-    };
-    if let Err(error) = read_words(alloc, &words) {
+    if let Err(error) = read_words(&rt) {
         if error.kind() == ErrorKind::OutOfMemory {
             return end_with(&rt, &SessionFault::Memory);
         }

@@ -6,5 +6,6 @@ pub mod Admitting
 pub mod Keeping
 pub mod Seating
 pub mod Placing
+pub mod Changing
 pub mod Ticking
 pub mod Tracing

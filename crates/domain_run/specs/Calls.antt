@@ -50,9 +50,12 @@ listed d t = record d { tasks = d.tasks ++ t ∷ []; used = with_number t.number
 abbrev pub task_of : Domain → ℕ → Option Task
 task_of d number = find (λ t. t.number == number && not (is_leaving t.condition)) d.tasks
 
--- the same for that task alone
+-- a change of the task of a number alone
+abbrev pub of_number : ℕ → (Task → Task) → Task → Task
+of_number number f t = if t.number == number then f t else t
+
 abbrev pub changed : Domain → ℕ → (Task → Task) → Domain
-changed d number f = record d { tasks = map (λ t. if t.number == number then f t else t) d.tasks }
+changed d number f = record d { tasks = map (of_number number f) d.tasks }
 
 -- REGRADE. The bandwidth does not fit the domain, or the domain's bandwidth word refused it
 abbrev pub word_reply : Option ℕ → Reply

@@ -1,6 +1,6 @@
 //! The parts of a tick, on one task.
 
-ghost use Rattle.std.specs.Prelude.{◌≡◌, ◌<◌, ◌≤◌, ◌^◌, ◌+◌, ◌-◌, ℕ, IsTrue, IsSome, false, position, find, ◌==◌, option_copied, option_map, pos, ◌≤ℤ◌, ◌<ℤ◌};
+ghost use Rattle.std.specs.Prelude.{◌≡◌, ◌<◌, ◌≤◌, ◌^◌, ◌+◌, ◌-◌, ℕ, IsTrue, IsSome, false, position, find, ◌==◌, option_copied, option_map, pos, ◌≤ℤ◌, ◌<ℤ◌, ◌&&◌, not};
 ghost use Rattle.domain_run.specs.Conditions as conditions;
 ghost use Rattle.cbs_rules.specs.Serving as serving;
 ghost use Rattle.edf_pick.specs.Places as places_spec;
@@ -47,6 +47,12 @@ impl Condition {
         ensures { result ≡ conditions.is_contending self }
     {
         matches!(self, Condition::Ready | Condition::Throttled)
+    }
+
+    pub(crate) fn is_waiting(self) -> bool
+        ensures { result ≡ conditions.is_waiting self }
+    {
+        matches!(self, Condition::Waiting)
     }
 
     pub(crate) fn is_leaving(self) -> bool
@@ -354,7 +360,6 @@ pub(crate) fn new_task(
     cpus: usize,
 ) -> Task
     requires some { 0 < cpus }
-    requires early { start < 2 ^ 49 }
     ensures { (d : Domain) (delay : ℕ) → d.cpus ≡ cpus → d.time + delay ≡ start → result ≡ calls.new_task d number name params delay script }
 {
     Task {
@@ -370,5 +375,48 @@ pub(crate) fn new_task(
         condition: Condition::Blocked(start),
         work: 0,
         cursor: script.cursor(start),
+    }
+}
+
+/// The task of a number, where it is listed and has not ended.
+pub(crate) fn live(tasks: &[Task], number: u32) -> Option<&Task>
+    ensures { option_copied result ≡ find (λ t. t.number == number && not (conditions.is_leaving t.condition)) tasks.now }
+{
+    tasks
+        .iter()
+        .find(|task| task.number == number && !task.condition.is_leaving())
+}
+
+/// A regrade of the task of a number: new parameters.
+pub(crate) fn regrade(task: &mut Task, number: u32, params: &Params)
+    ensures { task.new ≡ calls.of_number number (calls.regraded params.now) task.old }
+{
+    if task.number == number {
+        task.params = *params;
+    }
+}
+
+/// A wake of the task of a number: it asks its script in the next tick.
+pub(crate) fn awaken(task: &mut Task, number: u32, time: u64)
+    ensures { task.new ≡ calls.of_number number (calls.awoken time) task.old }
+{
+    if task.number == number {
+        task.condition = Condition::Blocked(time);
+    }
+}
+
+/// The end of the task of a number: where it contends, its zero-lag time is told from now.
+pub(crate) fn end(task: &mut Task, number: u32, time: u64)
+    requires { IsSound time task.old }
+    ensures task { task.new ≡ calls.of_number number (calls.ended time) task.old }
+    ensures sound { IsSound time task.new }
+{
+    if task.number != number {
+        return;
+    }
+    if task.condition.is_contending() {
+        stop(task, Condition::Leaving, time);
+    } else {
+        task.condition = Condition::Leaving;
     }
 }

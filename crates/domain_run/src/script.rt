@@ -166,7 +166,6 @@ impl Script {
 
     /// A cursor at the script's beginning, for a task that starts at this time, in microseconds.
     pub fn cursor(self, start: u64) -> Cursor
-        requires { start < 2 ^ 49 }
         ensures { result ≡ begun_at self start }
     {
         Cursor {
@@ -262,7 +261,7 @@ fn place_behind(script: &Script, place: u128) -> u128
 
 fn is_late_at(event: Option<Event>, reference: u64, time: u64) -> bool
     requires event { IfSome event IsEvent }
-    requires early { reference ≤ 2 ^ 49 }
+    requires early { reference < 2 ^ 48 }
     ensures { result ≡ is_late event reference time }
 {
     match event {
@@ -280,7 +279,6 @@ impl Cursor {
     }
 
     fn step(&mut self, reference: u64)
-        requires early { reference < 2 ^ 49 }
         requires more { IsSome (event_at self.old.script self.old.place) }
         ensures { self.new ≡ moved self.old reference }
     {
@@ -290,11 +288,11 @@ impl Cursor {
 
     fn give(&mut self, time: u64) -> Segment
         requires early { time < 2 ^ 48 }
-        requires in_order { self.old.reference ≤ time }
+        requires reference { self.old.reference < 2 ^ 48 }
         ensures segment { result ≡ (given_at self.old time).segment }
         ensures cursor { self.new ≡ (given_at self.old time).cursor }
         ensures within { IsSegment result }
-        ensures in_order { self.new.reference ≤ next_ask time result }
+        ensures in_order { self.old.reference ≤ time → self.new.reference ≤ next_ask time result }
     {
         let reference = self.reference;
         match self.event() {
@@ -318,15 +316,16 @@ impl Cursor {
         }
     }
 
-    /// What the task does next, asked at this time in microseconds, which is not before the start, the end of the last
-    /// timer or the time at which the last late timer was met. Takes no memory.
+    /// What the task does next, asked at this time, in microseconds below 2^48. The timer's reference is below 2^48 wherever no
+    /// ask is before the start, or before the end of the last segment [`Segment::Until`]; so asked, it is never behind the next
+    /// ask. Takes no memory.
     pub fn next(&mut self, time: u64) -> Segment
         requires early { time < 2 ^ 48 }
-        requires in_order { self.old.reference ≤ time }
+        requires reference { self.old.reference < 2 ^ 48 }
         ensures segment { result ≡ (asked self.old time).segment }
         ensures cursor { self.new ≡ (asked self.old time).cursor }
         ensures within { IsSegment result }
-        ensures in_order { self.new.reference ≤ next_ask time result }
+        ensures in_order { self.old.reference ≤ time → self.new.reference ≤ next_ask time result }
     {
         if is_late_at(self.event(), self.reference, time) {
             self.step(time);

@@ -11,6 +11,8 @@ ghost use Rattle.domain_run.specs.Calls as calls;
 ghost use Rattle.domain_run.specs.Sound.{IsDomain, IsPlacement};
 ghost use Rattle.attr_check.specs.Ratio.{cap};
 
+mod calls;
+
 use crate::call::{Refused, Reply};
 use crate::memory::NoMemory;
 use crate::name::Name;

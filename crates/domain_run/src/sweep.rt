@@ -9,10 +9,12 @@ ghost use Rattle.grub_rules.specs.Sums.{uinact};
 ghost use Rattle.domain_run.specs.Tick as tick_spec;
 ghost use Rattle.domain_run.specs.Charging.{inactive_of, rate_with, ran_with};
 ghost use Rattle.domain_run.specs.Conditions as conditions;
+ghost use Rattle.domain_run.specs.Calls as calls;
 
 use crate::parts;
 use crate::switch::Switch;
 use crate::task::Task;
+use attr_check::Params;
 use edf_pick::Candidate;
 
 /// Part 1: replenishment.
@@ -266,5 +268,37 @@ pub(crate) fn run_all(tasks: &mut Vec<Task>, places: &[Option<u32>], sums: &Sums
 {
     for task in tasks.iter_mut() {
         run_if(task, places, sums, time);
+    }
+}
+
+/// A regrade of the task of a number.
+pub(crate) fn regrade_one(tasks: &mut Vec<Task>, number: u32, params: &Params)
+    ensures tasks { tasks.new.items ≡ map (calls.of_number number (calls.regraded params.now)) tasks.old.items }
+    ensures room { vec_capacity tasks.new ≡ vec_capacity tasks.old }
+{
+    for task in tasks.iter_mut() {
+        parts::regrade(task, number, params);
+    }
+}
+
+/// A wake of the task of a number.
+pub(crate) fn awaken_one(tasks: &mut Vec<Task>, number: u32, time: u64)
+    ensures tasks { tasks.new.items ≡ map (calls.of_number number (calls.awoken time)) tasks.old.items }
+    ensures room { vec_capacity tasks.new ≡ vec_capacity tasks.old }
+{
+    for task in tasks.iter_mut() {
+        parts::awaken(task, number, time);
+    }
+}
+
+/// The end of the task of a number.
+pub(crate) fn end_one(tasks: &mut Vec<Task>, number: u32, time: u64)
+    requires sound { All (IsSound time) tasks.old.items }
+    ensures tasks { tasks.new.items ≡ map (calls.of_number number (calls.ended time)) tasks.old.items }
+    ensures sound { All (IsSound time) tasks.new.items }
+    ensures room { vec_capacity tasks.new ≡ vec_capacity tasks.old }
+{
+    for task in tasks.iter_mut() {
+        parts::end(task, number, time);
     }
 }

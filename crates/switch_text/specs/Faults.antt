@@ -1,5 +1,5 @@
 -- How a reader's faults are counted.
-use Rattle.std.specs.Prelude.{ℕ, ◌+◌, List, Option, Result, Ok, Err}
+use Rattle.std.specs.Prelude.{ℕ, ◌+◌, List, Option, Result, Ok, Err, codes}
 use Rattle.std.specs.Io.KnownBytes.{Consumes}
 use Rattle.switch_text.specs.declared.fault.ReadFault.{ReadFault}
 use Rattle.switch_text.specs.declared.fault.ReadFault.TheVariants.{Failed, Memory}
@@ -13,3 +13,8 @@ faults_after before (Err Memory) = before
 -- some of the known bytes, from the front, are gone
 abbrev pub ConsumesSome : Option (List ℕ) → Option (List ℕ) → Type 0
 ConsumesSome before after = (bytes : List ℕ) × Consumes before after bytes
+
+-- how a reader's fault prints (own)
+abbrev pub read_fault_text : ReadFault → List ℕ
+read_fault_text Failed = codes "read failed"
+read_fault_text Memory = codes "out of memory"

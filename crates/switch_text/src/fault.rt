@@ -11,6 +11,11 @@ pub enum ReadFault {
 }
 
 impl fmt::Display for ReadFault {
+    ghost use Rattle.std.specs.Prelude.{Some};
+    ghost use Rattle.switch_text.specs.Faults.{read_fault_text};
+
+    ghost output = { λ e. Some (read_fault_text e) };
+
     fn fmt<W: fmt::Write>(&self, f: &mut fmt::Formatter<W>) -> fmt::Result {
         f.write_str(match self {
             ReadFault::Failed => "read failed",
@@ -29,6 +34,10 @@ pub struct WriteFault {
 }
 
 impl fmt::Display for WriteFault {
+    ghost use Rattle.std.specs.Prelude.{Some, codes, decimal, ◌++◌};
+
+    ghost output = { λ e. Some (codes "write failed after " ++ decimal e.written) };
+
     fn fmt<W: fmt::Write>(&self, f: &mut fmt::Formatter<W>) -> fmt::Result {
         let written = self.written;
         write!(f, "write failed after {written}")

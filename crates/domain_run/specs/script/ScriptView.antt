@@ -49,8 +49,7 @@ phase_len p = p.count * length p.events
 abbrev pub round_len : ScriptView → ℕ
 round_len s = sum_by phase_len s.phases
 
--- what every cursor keeps: a reference far below 2^64, and a place within the rounds
+-- what every cursor keeps: a place within the rounds
 pub record IsCursor (c : CursorView) : Type 0 where
-  pub early : c.reference < 2 ^ 49
   pub within : IfSome c.script.rounds (λ n. c.place ≤ n * round_len c.script)
   pub short : c.place ≤ 2 ^ 80

@@ -1,0 +1,191 @@
+-- A call on one listed task keeps what every domain keeps.
+use Rattle.std.proofs.Common.{◌≡◌, ℕ, zero, suc, ◌+◌, ◌-◌, ◌^◌, ◌<◌, ◌≤◌, Bool, true, false, cond, eqb, ltb, ◌&&◌, Option, Some, None, List, [], ◌∷◌, length, map, refl, sym, ap, ◌∙◌, subst, arith}
+use Rattle.std.specs.Prelude.{All, AllPairs, IsTrue, ◌≢◌, find, not}
+use Rattle.std.specs.List.{list_any}
+use Rattle.std.proofs.lemmas.Bool.{ltb-false, eqb-true}
+use Rattle.std.proofs.lemmas.List.{length-map}
+use Rattle.std.proofs.lemmas.List.Elements.{All-map, All-weaker, All-cons}
+use Rattle.std.proofs.lemmas.List.Sums.{sum_by-cons}
+use Rattle.attr_check.specs.ParamsView.{ParamsView}
+use Rattle.attr_check.specs.Ratio.{cap}
+use Rattle.grub_rules.specs.Sums.{Share}
+use Rattle.domain_run.specs.declared.task.Task.{Task}
+use Rattle.domain_run.specs.declared.task.Condition.{Condition}
+use Rattle.domain_run.specs.declared.task.Condition.TheVariants.{Ready, Throttled, Blocked, Waiting, Leaving}
+use Rattle.domain_run.specs.declared.call.Reply.TheVariants.{Changed, Woken, Busy, NotWaiting}
+use Rattle.domain_run.specs.Conditions.{is_leaving, is_waiting, is_contending}
+use Rattle.domain_run.specs.Domain.{Domain}
+use Rattle.domain_run.specs.Tick.{share_of, shares, sum_of}
+use Rattle.domain_run.specs.Calls.{task_of, of_number, changed, regrade_reply, regraded, wake_reply, awoken, ended}
+use Rattle.domain_run.specs.Sound.{IsSound, IsTimed, IsSteady, IsDomain}
+use Rattle.domain_run.specs.Parts.{stopped}
+use Rattle.domain_run.proofs.Keeping.{AllPairs-map, sum-map}
+use Rattle.domain_run.proofs.Tracing.{listed_traced}
+
+abbrev Differ : List Task → Type 0
+Differ tasks = AllPairs (λ a b. a.number ≢ b.number) tasks
+
+-- of a list, its first element against the others, and the others
+first_differs : (t : Task) (tasks : List Task) → Differ (t ∷ tasks) → All (λ u. t.number ≢ u.number) tasks
+first_differs t tasks all k d h = all zero (suc k) d (omega arith) (omega arith)
+
+rest_differ : (t : Task) (tasks : List Task) → Differ (t ∷ tasks) → Differ tasks
+rest_differ t tasks all i j d less within = all (suc i) (suc j) d (omega arith) (omega arith)
+
+-- no task of a number
+abbrev HasNone : ℕ → List Task → Type 0
+HasNone number tasks = All (λ u. u.number ≢ number) tasks
+
+none_first : (number : ℕ) (t : Task) (tasks : List Task) → HasNone number (t ∷ tasks) → t.number ≢ number
+none_first number t tasks all = all zero t (omega arith)
+
+none_rest : (number : ℕ) (t : Task) (tasks : List Task) → HasNone number (t ∷ tasks) → HasNone number tasks
+none_rest number t tasks all k d h = all (suc k) d (omega arith)
+
+not_equal : (a b : ℕ) → a ≢ b → eqb a b ≡ false
+not_equal a b h = elim (eqb a b) as (λ x. eqb a b ≡ x → x ≡ false) [ true ↦ λ e. absurd (h (eqb-true a b e)) | false ↦ λ e. refl ] refl
+
+none_left : (number : ℕ) (t : Task) (tasks : List Task) → Differ (t ∷ tasks) → eqb t.number number ≡ true → HasNone number tasks
+none_left number t tasks differ e =
+    let same : t.number ≡ number = eqb-true t.number number e in
+    All-weaker (λ u. t.number ≢ u.number) (λ u. u.number ≢ number) (λ u h k. h (same ∙ sym k)) tasks (first_differs t tasks differ)
+
+abbrev is_live : ℕ → Task → Bool
+is_live number t = eqb t.number number && not (is_leaving t.condition)
+
+find_none : (number : ℕ) (tasks : List Task) (t : Task) → HasNone number tasks → find (is_live number) tasks ≡ Some t → ⊥
+find_none number [] t none e = absurd cc
+find_none number (u ∷ tasks) t none e = find_none number tasks t (none_rest number u tasks none) (sym (rw (not_equal u.number number (none_first number u tasks none)) refl) ∙ e)
+
+map_none : (f : Task → Task) (number : ℕ) (tasks : List Task) → HasNone number tasks → map (of_number number f) tasks ≡ tasks
+map_none f number [] none = refl
+map_none f number (u ∷ tasks) none =
+    let e : of_number number f u ≡ u = rw (not_equal u.number number (none_first number u tasks none)) refl in
+    rw (e, map_none f number tasks (none_rest number u tasks none)) refl
+
+-- a change of the one live task of a number
+changed_one : (P : Task → Type 0) (f : Task → Task) (number : ℕ) (tasks : List Task) (t : Task) → Differ tasks → find (is_live number) tasks ≡ Some t → (P t → P (f t)) → All P tasks → All P (map (of_number number f) tasks)
+changed_one P f number [] t differ e step all = absurd cc
+changed_one P f number (u ∷ tasks) t differ e step all =
+    let head : P u = all zero u (omega arith) in
+    let rest : All P tasks = λ k d h. all (suc k) d (omega arith) in
+    let more = map (of_number number f) tasks in
+    elim (eqb u.number number) as (λ b. eqb u.number number ≡ b → cond (b && not (is_leaving u.condition)) (Some u) (find (is_live number) tasks) ≡ Some t → All P (cond b (f u) u ∷ more)) [
+      | true ↦ λ here found. let none = none_left number u tasks differ here in elim (not (is_leaving u.condition)) as (λ b. cond b (Some u) (find (is_live number) tasks) ≡ Some t → All P (f u ∷ more)) [
+        | true ↦ λ is. let same : u ≡ t = cc in All-cons P (f u) more (subst (λ x. P (f x)) (sym same) (step (subst P same head))) (rw (map_none f number tasks none) rest)
+        | false ↦ λ is. absurd (find_none number tasks t none is)
+      ] found
+      | false ↦ λ here found. All-cons P u more head (changed_one P f number tasks t (rest_differ u tasks differ) found step rest)
+    ] refl e
+
+-- ---- sums
+
+sum_first : (t : Task) (tasks : List Task) → sum_of (t ∷ tasks) ≡ t.params.bw + sum_of tasks
+sum_first t tasks = sum_by-cons (λ (s : Share). s.bw) (share_of t) (shares tasks)
+
+sum_regraded : (number : ℕ) (p : ParamsView) (tasks : List Task) (t : Task) → Differ tasks → find (is_live number) tasks ≡ Some t → sum_of (map (of_number number (regraded p)) tasks) + t.params.bw ≡ sum_of tasks + p.bw
+sum_regraded number p [] t differ e = absurd cc
+sum_regraded number p (u ∷ tasks) t differ e =
+    let more = map (of_number number (regraded p)) tasks in
+    elim (eqb u.number number) as (λ b. eqb u.number number ≡ b → cond (b && not (is_leaving u.condition)) (Some u) (find (is_live number) tasks) ≡ Some t → sum_of (cond b (regraded p u) u ∷ more) + t.params.bw ≡ sum_of (u ∷ tasks) + p.bw) [
+      | true ↦ λ here found. let none = none_left number u tasks differ here in elim (not (is_leaving u.condition)) as (λ b. cond b (Some u) (find (is_live number) tasks) ≡ Some t → sum_of (regraded p u ∷ more) + t.params.bw ≡ sum_of (u ∷ tasks) + p.bw) [
+        | true ↦ λ is. let same : u ≡ t = cc in
+        let bw : u.params.bw ≡ t.params.bw = ap (λ x. x.params.bw) same in
+        let kept : sum_of more ≡ sum_of tasks = ap sum_of (map_none (regraded p) number tasks none) in
+        omega (arith, sum_first (regraded p u) more, sum_first u tasks, bw, kept)
+        | false ↦ λ is. absurd (find_none number tasks t none is)
+      ] found
+      | false ↦ λ here found. let rest = sum_regraded number p tasks t (rest_differ u tasks differ) found in omega (arith, sum_first u more, sum_first u tasks, rest)
+    ] refl e
+
+sum_kept : (f : Task → Task) → ((t : Task) → (f t).params ≡ t.params) → (number : ℕ) (tasks : List Task) → sum_of (map (of_number number f) tasks) ≡ sum_of tasks
+sum_kept f keeps number tasks = sum-map (of_number number f) (λ t. elim (eqb t.number number) as (λ b. (cond b (f t) t).params ≡ t.params) [ true ↦ keeps t | false ↦ refl ]) tasks
+
+-- ---- each change keeps a task sound
+
+regraded_sound : (time : ℕ) (p : ParamsView) (t : Task) → IsSound time t → IsSound time (regraded p t)
+regraded_sound time p t h = record { served = h.served; spent = h.spent; lifted = h.lifted; dated = h.dated; busy = h.busy; timed = h.timed }
+
+waiting_timed : (time reference : ℕ) (c : Condition) → is_waiting c ≡ true → IsTimed time c reference → reference ≤ time
+waiting_timed time reference Ready e h = absurd cc
+waiting_timed time reference Throttled e h = absurd cc
+waiting_timed time reference (Blocked u) e h = absurd cc
+waiting_timed time reference Waiting e h = h
+waiting_timed time reference Leaving e h = absurd cc
+
+awoken_sound : (time : ℕ) (t : Task) → time ≤ 2 ^ 42 → is_waiting t.condition ≡ true → IsSound time t → IsSound time (awoken time t)
+awoken_sound time t early e h =
+    let behind = waiting_timed time t.cursor.reference t.condition e h.timed in
+    record { served = h.served; spent = λ x. absurd cc; lifted = λ x. absurd cc; dated = λ x. absurd cc; busy = λ x. absurd cc; timed = (omega arith, omega arith) }
+
+-- ---- each call keeps a domain
+
+-- a change of one task that keeps its number and its CPU
+pub record IsChange (f : Task → Task) : Type 0 where
+  pub number : (t : Task) → (f t).number ≡ t.number
+  pub cpu : (t : Task) → (f t).cpu ≡ t.cpu
+
+one_change : (number : ℕ) (f : Task → Task) → IsChange f → IsChange (of_number number f)
+one_change number f is = record {
+  number = λ t. elim (eqb t.number number) as (λ b. (cond b (f t) t).number ≡ t.number) [ true ↦ is.number t | false ↦ refl ];
+  cpu = λ t. elim (eqb t.number number) as (λ b. (cond b (f t) t).cpu ≡ t.cpu) [ true ↦ is.cpu t | false ↦ refl ];
+}
+
+changed_steady : (d : Domain) (f : Task → Task) → IsChange f → IsSteady d → sum_of (map f d.tasks) ≤ cap d.cpus d.limit → All (IsSound d.time) (map f d.tasks) → IsSteady (record d { tasks = map f d.tasks })
+changed_steady d f change is within sound =
+    let e : length (map f d.tasks) ≡ length d.tasks = simp length-map in
+    record {
+      early = is.early;
+      some = is.some;
+      few = is.few;
+      low = is.low;
+      high = is.high;
+      within = within;
+      listed = omega (arith, is.listed);
+      sound = sound;
+      homes = All-map (λ t. t.cpu < d.cpus) f d.tasks (All-weaker (λ t. t.cpu < d.cpus) (λ t. (f t).cpu < d.cpus) (λ t h. subst (λ c. c < d.cpus) (sym (change.cpu t)) h) d.tasks is.homes);
+      numbered = AllPairs-map (λ a b. a.number ≢ b.number) f (λ a b h same. h (sym (change.number a) ∙ same ∙ change.number b)) d.tasks is.numbered;
+      known = All-map (λ t. IsTrue (list_any (λ n. eqb n t.number) d.used)) f d.tasks
+          (All-weaker (λ t. IsTrue (list_any (λ n. eqb n t.number) d.used)) (λ t. IsTrue (list_any (λ n. eqb n (f t).number) d.used)) (λ t h. ap (λ m. list_any (λ n. eqb n m) d.used) (change.number t) ∙ h) d.tasks is.known);
+      wide = is.wide;
+      apart = is.apart;
+    }
+
+changed_is : (d : Domain) (number : ℕ) (f : Task → Task) → IsChange f → IsDomain d → sum_of (map (of_number number f) d.tasks) ≤ cap d.cpus d.limit → All (IsSound d.time) (map (of_number number f) d.tasks) → IsDomain (changed d number f)
+changed_is d number f change is within sound = record {
+  steady = changed_steady d (of_number number f) (one_change number f change) is.steady within sound;
+  traced = listed_traced d (changed d number f) refl refl refl refl (λ n h. h) is.traced;
+}
+
+not_busy : (b : Bool) (s : ℕ) → cond b (Busy s) Changed ≡ Changed → b ≡ false
+not_busy true s e = absurd cc
+not_busy false s e = refl
+
+may_change : (d : Domain) (p : ParamsView) (o : Option Task) → regrade_reply d p None o ≡ Changed → (t : Task) × (o ≡ Some t) × (sum_of d.tasks - t.params.bw + p.bw ≤ cap d.cpus d.limit)
+may_change d p None e = absurd cc
+may_change d p (Some t) e = (t, refl, ltb-false (cap d.cpus d.limit) (sum_of d.tasks - t.params.bw + p.bw) (not_busy (ltb (cap d.cpus d.limit) (sum_of d.tasks - t.params.bw + p.bw)) (sum_of d.tasks) e))
+
+pub regrade_keeps : (d : Domain) (number : ℕ) (p : ParamsView) → IsDomain d → regrade_reply d p None (task_of d number) ≡ Changed → IsDomain (changed d number (regraded p))
+regrade_keeps d number p is reply =
+    let g = may_change d p (task_of d number) reply in
+    let sum = sum_regraded number p d.tasks g.0 is.steady.numbered g.1 in
+    let sound : All (IsSound d.time) (map (of_number number (regraded p)) d.tasks) =
+    changed_one (IsSound d.time) (regraded p) number d.tasks g.0 is.steady.numbered g.1 (regraded_sound d.time p g.0) is.steady.sound in
+    changed_is d number (regraded p) (record { number = λ t. refl; cpu = λ t. refl }) is (omega (arith, sum, g.2)) sound
+
+woken_waits : (o : Option Task) → wake_reply o ≡ Woken → (t : Task) × (o ≡ Some t) × (is_waiting t.condition ≡ true)
+woken_waits None e = absurd cc
+woken_waits (Some t) e = (t, refl, elim (is_waiting t.condition) as (λ b. cond b Woken NotWaiting ≡ Woken → b ≡ true) [ true ↦ λ h. refl | false ↦ λ h. absurd cc ] e)
+
+pub wake_keeps : (d : Domain) (number : ℕ) → IsDomain d → wake_reply (task_of d number) ≡ Woken → IsDomain (changed d number (awoken d.time))
+wake_keeps d number is reply =
+    let g = woken_waits (task_of d number) reply in
+    let sound : All (IsSound d.time) (map (of_number number (awoken d.time)) d.tasks) =
+    changed_one (IsSound d.time) (awoken d.time) number d.tasks g.0 is.steady.numbered g.1 (awoken_sound d.time g.0 is.steady.early g.2) is.steady.sound in
+    changed_is d number (awoken d.time) (record { number = λ t. refl; cpu = λ t. refl }) is (rw (sum_kept (awoken d.time) (λ t. refl) number d.tasks) is.steady.within) sound
+
+pub leave_keeps : (d : Domain) (number : ℕ) → IsDomain d → All (IsSound d.time) (map (of_number number (ended d.time)) d.tasks) → IsDomain (changed d number (ended d.time))
+leave_keeps d number is sound =
+    let same : (t : Task) → ((ended d.time t).number ≡ t.number) × ((ended d.time t).cpu ≡ t.cpu) × ((ended d.time t).params ≡ t.params) =
+    λ t. elim (is_contending t.condition) as (λ b. ((cond b (stopped d.time Leaving t) (record t { condition = Leaving })).number ≡ t.number) × ((cond b (stopped d.time Leaving t) (record t { condition = Leaving })).cpu ≡ t.cpu) × ((cond b (stopped d.time Leaving t) (record t { condition = Leaving })).params ≡ t.params)) [ true ↦ (refl, refl, refl) | false ↦ (refl, refl, refl) ] in
+    changed_is d number (ended d.time) (record { number = λ t. (same t).0; cpu = λ t. (same t).1 }) is (rw (sum_kept (ended d.time) (λ t. (same t).2) number d.tasks) is.steady.within) sound

@@ -1,0 +1,6 @@
+use Rattle.std.proofs.Common.{◌≡◌, map, take, drop, ◌++◌}
+use Rattle.domain_run.specs.Calls.{of_number, awoken}
+use Rattle.domain_run.proofs.sweep.awaken_one.Given as goal
+
+abbrev pub invariant-loop-task : goal.invariant-loop-task
+invariant-loop-task l = l.task-items ≡ map (of_number l.number (awoken l.time)) (take l.task-index l.initial.task-items) ++ drop l.task-index l.initial.task-items

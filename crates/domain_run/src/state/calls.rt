@@ -1,0 +1,115 @@
+//! The calls on a listed task: regrade, wake and leave.
+
+ghost use Rattle.std.specs.Prelude.{◌≡◌, None};
+ghost use Rattle.domain_run.specs.declared.call.Call.TheVariants as Call;
+ghost use Rattle.domain_run.specs.declared.call.Reply.TheVariants as Reply;
+ghost use Rattle.domain_run.specs.Calls as calls;
+
+use super::{State, bw_within};
+use crate::call::Reply;
+use crate::{parts, sweep};
+use attr_check::Params;
+
+impl State {
+    /// The reply to a regrade, by the tests in their order.
+    fn regrade_reply(&self, number: u32, params: &Params, word: Option<u64>) -> Reply
+        ensures { result ≡ calls.regrade_reply self.now params.now word (calls.task_of self.now number) }
+    {
+        let Some(task) = parts::live(&self.tasks, number) else {
+            return Reply::NotListed;
+        };
+        let sum = self.sum();
+        if sum.saturating_sub(parts::bw_of(task)) + bw_within(params)
+            > self.cpus as u64 * self.limit
+        {
+            return Reply::Busy { seen: sum };
+        }
+        match word {
+            None => Reply::Changed,
+            Some(seen) => Reply::Busy { seen },
+        }
+    }
+
+    fn change(&mut self, number: u32, params: &Params)
+        requires { calls.regrade_reply self.old params.now None (calls.task_of self.old number) ≡ Reply.Changed }
+        ensures { self.new ≡ calls.changed self.old number (calls.regraded params.now) }
+    {
+        sweep::regrade_one(&mut self.tasks, number, params);
+    }
+
+    /// Gives a listed task new parameters at the time now, at once; its deadline, its budget and a zero-lag time ahead stay. Tested
+    /// in this order: [`Reply::NotListed`] where no task of this number is listed, or it has ended; [`Reply::Busy`] with the sum of
+    /// bandwidths where that sum, less the old and with the new bandwidth, is above the number of CPUs times the limit;
+    /// `Busy` with the number with which the domain's bandwidth word refused, where `word` says that it did; else
+    /// [`Reply::Changed`]. Where it refuses, nothing has changed. Takes no memory.
+    pub fn regrade(&mut self, number: u32, params: Params, word: Option<u64>) -> Reply
+        ensures reply { result ≡ calls.reply_to self.old (Call.Regrade number params word) }
+        ensures domain { self.new ≡ calls.after_call self.old (Call.Regrade number params word) }
+    {
+        let reply = self.regrade_reply(number, &params, word);
+        if reply == Reply::Changed {
+            self.change(number, &params);
+        }
+        reply
+    }
+
+    fn wake_reply(&self, number: u32) -> Reply
+        ensures { result ≡ calls.wake_reply (calls.task_of self.now number) }
+    {
+        match parts::live(&self.tasks, number) {
+            None => Reply::NotListed,
+            Some(task) if task.condition.is_waiting() => Reply::Woken,
+            Some(_) => Reply::NotWaiting,
+        }
+    }
+
+    fn awaken(&mut self, number: u32)
+        requires { calls.wake_reply (calls.task_of self.old number) ≡ Reply.Woken }
+        ensures { self.new ≡ calls.changed self.old number (calls.awoken self.old.time) }
+    {
+        sweep::awaken_one(&mut self.tasks, number, self.time);
+    }
+
+    /// Wakes a task that waits: in the next tick it asks its script. [`Reply::NotListed`] where no task of this number is listed, or
+    /// it has ended; [`Reply::NotWaiting`] where it does not wait; else [`Reply::Woken`]. Where it refuses, nothing has changed.
+    /// Takes no memory.
+    pub fn wake(&mut self, number: u32) -> Reply
+        ensures reply { result ≡ calls.reply_to self.old (Call.Wake number) }
+        ensures domain { self.new ≡ calls.after_call self.old (Call.Wake number) }
+    {
+        let reply = self.wake_reply(number);
+        if reply == Reply::Woken {
+            self.awaken(number);
+        }
+        reply
+    }
+
+    fn leave_reply(&self, number: u32) -> Reply
+        ensures { result ≡ calls.leave_reply (calls.task_of self.now number) }
+    {
+        match parts::live(&self.tasks, number) {
+            None => Reply::NotListed,
+            Some(_) => Reply::Left,
+        }
+    }
+
+    fn end(&mut self, number: u32)
+        ensures { self.new ≡ calls.changed self.old number (calls.ended self.old.time) }
+    {
+        sweep::end_one(&mut self.tasks, number, self.time);
+    }
+
+    /// Ends a task: it stays listed until its zero-lag time, which is told from now where it contends, and its bandwidth with it.
+    /// [`Reply::NotListed`] where no task of this number is listed, or it has ended already; else [`Reply::Left`]. Where it
+    /// refuses, nothing has changed. Takes no memory.
+    pub fn leave(&mut self, number: u32) -> Reply
+        ensures reply { result ≡ calls.reply_to self.old (Call.Leave number) }
+        ensures domain { self.new ≡ calls.after_call self.old (Call.Leave number) }
+    {
+        let reply = self.leave_reply(number);
+        if reply == Reply::Left {
+            self.end(number);
+        }
+        reply
+    }
+}
