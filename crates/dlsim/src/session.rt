@@ -9,7 +9,7 @@ ghost use Rattle.domain_run.specs.Domain.{opened};
 ghost use Rattle.domain_run.specs.Calls.{after_call};
 ghost use Rattle.domain_run.specs.Tick.{ticks as ticked_by};
 ghost use Rattle.domain_run.specs.Sound.{IsAdmitted};
-ghost use Rattle.call_book.specs.Limits.{IsNumber, IsAdmission, IsCall, IsEntry, IsReadCall, IsSection, IsOneCpu, AreRead};
+ghost use Rattle.call_book.specs.Limits.{IsNumber, IsAdmission, IsCall, IsEntry, IsSection, IsOneCpu, AreRead};
 ghost use Rattle.switch_text.specs.Names.{named, HasName};
 ghost use Rattle.dlsim.specs.Replay.{no_names, with_name, names_after};
 ghost use Rattle.dlsim.specs.Replaying.{AreNamed, IsRunOf, section_view, trace_of_run};
@@ -116,10 +116,9 @@ impl Session {
         }
     }
 
-    /// Makes a call that is read.
+    /// Makes a call.
     fn make(&mut self, alloc: Global, call: Call) -> Result<(), SessionFault>
         requires call { IsCall call }
-        requires read { IsReadCall call }
         requires early { self.old.state.time + 60000000 ≤ 2 ^ 42 }
         requires named { AreNamed self.old.state self.old.names }
         ensures state { OnOk result (self.new.state ≡ after_call self.old.state call) }
@@ -137,7 +136,22 @@ impl Session {
                 script,
             } => self.admit(alloc, number, name, params, delay, script),
             Call::Advance { ticks } => self.advance(ticks),
-            Call::Regrade { .. } | Call::Wake { .. } | Call::Leave { .. } => unreachable!(),
+            Call::Regrade {
+                number,
+                params,
+                word,
+            } => {
+                self.state.regrade(number, params, word);
+                Ok(())
+            }
+            Call::Wake { number } => {
+                self.state.wake(number);
+                Ok(())
+            }
+            Call::Leave { number } => {
+                self.state.leave(number);
+                Ok(())
+            }
         }
     }
 
@@ -171,7 +185,6 @@ fn run_entries(
     requires limit { (10485 ≤ limit) × (limit ≤ 1048576) }
     requires few { vec_len entries ≤ 65536 }
     requires entries { All IsEntry entries.items }
-    requires read { All (λ e. IsReadCall e.call) entries.items }
     ensures run { IfOk result (λ r. IsRunOf (section_view cpus limit entries.items) r.state r.names) }
     ensures err { IfErr result (λ e. e ≡ SessionFault.Memory) }
 {
@@ -186,7 +199,6 @@ fn run_entries(
 /// The run of a section.
 fn run_section(alloc: Global, section: Section) -> Result<Session, SessionFault>
     requires section { IsSection section }
-    requires read { All (λ e. IsReadCall e.call) section.entries }
     ensures run { IfOk result (λ r. IsRunOf section r.state r.names) }
     ensures err { IfErr result (λ e. e ≡ SessionFault.Memory) }
 {

@@ -90,9 +90,9 @@ sum_regraded number p (u ∷ tasks) t differ e =
     elim (eqb u.number number) as (λ b. eqb u.number number ≡ b → cond (b && not (is_leaving u.condition)) (Some u) (find (is_live number) tasks) ≡ Some t → sum_of (cond b (regraded p u) u ∷ more) + t.params.bw ≡ sum_of (u ∷ tasks) + p.bw) [
       | true ↦ λ here found. let none = none_left number u tasks differ here in elim (not (is_leaving u.condition)) as (λ b. cond b (Some u) (find (is_live number) tasks) ≡ Some t → sum_of (regraded p u ∷ more) + t.params.bw ≡ sum_of (u ∷ tasks) + p.bw) [
         | true ↦ λ is. let same : u ≡ t = cc in
-        let bw : u.params.bw ≡ t.params.bw = ap (λ x. x.params.bw) same in
-        let kept : sum_of more ≡ sum_of tasks = ap sum_of (map_none (regraded p) number tasks none) in
-        omega (arith, sum_first (regraded p u) more, sum_first u tasks, bw, kept)
+            let bw : u.params.bw ≡ t.params.bw = ap (λ x. x.params.bw) same in
+            let kept : sum_of more ≡ sum_of tasks = ap sum_of (map_none (regraded p) number tasks none) in
+            omega (arith, sum_first (regraded p u) more, sum_first u tasks, bw, kept)
         | false ↦ λ is. absurd (find_none number tasks t none is)
       ] found
       | false ↦ λ here found. let rest = sum_regraded number p tasks t (rest_differ u tasks differ) found in omega (arith, sum_first u more, sum_first u tasks, rest)

@@ -382,9 +382,7 @@ pub(crate) fn new_task(
 pub(crate) fn live(tasks: &[Task], number: u32) -> Option<&Task>
     ensures { option_copied result ≡ find (λ t. t.number == number && not (conditions.is_leaving t.condition)) tasks.now }
 {
-    tasks
-        .iter()
-        .find(|task| task.number == number && !task.condition.is_leaving())
+    tasks.iter().find(|task| task.number == number && !task.condition.is_leaving())
 }
 
 /// A regrade of the task of a number: new parameters.

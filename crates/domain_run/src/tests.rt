@@ -348,6 +348,100 @@ fn two_cpus(rt: HostRuntime) -> Result<(), Fail> {
     Ok(())
 }
 
+#[test]
+fn waiting(rt: HostRuntime) -> Result<(), Fail> {
+    let alloc = rt.alloc();
+    let mut state = State::open(alloc, 1, UNIT)?;
+    let waiter = script(alloc, -1, &[Event::Wait, Event::Run(1)])?;
+    admit(&rt, alloc, &mut state, 1, plain(2, 10, 10)?, waiter)?;
+    assert_eq!(rt; state.wake(1), Reply::NotWaiting);
+    advance(&rt, &mut state, 3)?;
+    assert_eq!(rt; view(&rt, &state, 1).condition, Condition::Waiting);
+    assert_eq!(rt; state.wake(2), Reply::NotListed);
+    assert_eq!(rt; state.wake(1), Reply::Woken);
+    assert_eq!(rt; view(&rt, &state, 1).condition, Condition::Blocked(3));
+    assert_eq!(rt; state.wake(1), Reply::NotWaiting);
+    advance(&rt, &mut state, 3)?;
+    assert_eq!(rt; view(&rt, &state, 1).zero_lag, Some(8));
+    let switches = [
+        switch(3, 0, None, PrevState::Running, Some(1)),
+        switch(4, 0, Some(1), PrevState::Sleeping, None),
+    ];
+    assert_eq!(rt; state.switches(), switches.as_slice());
+    Ok(())
+}
+
+#[test]
+fn regrade(rt: HostRuntime) -> Result<(), Fail> {
+    let alloc = rt.alloc();
+    let mut state = State::open(alloc, 1, 524288)?;
+    let job = script(alloc, -1, &[Event::Run(2), Event::Sleep(6)])?;
+    admit(&rt, alloc, &mut state, 1, plain(2, 8, 8)?, job)?;
+    advance(&rt, &mut state, 1)?;
+    let before = view(&rt, &state, 1);
+    let busy = Reply::Busy { seen: 524288 };
+    let refused = Reply::Busy { seen: 393216 };
+    assert_eq!(rt; state.regrade(1, plain(4, 8, 8)?, Some(393216)), refused);
+    assert_eq!(rt; view(&rt, &state, 1), before);
+    assert_eq!(rt; state.regrade(1, plain(4, 8, 8)?, None), Reply::Changed);
+    let after = TaskView {
+        params: plain(4, 8, 8)?,
+        ..before
+    };
+    assert_eq!(rt; view(&rt, &state, 1), after);
+    assert_eq!(rt; state.sum(), 524288);
+    assert_eq!(rt; state.regrade(1, plain(5, 8, 8)?, Some(1)), busy);
+    assert_eq!(rt; state.regrade(1, plain(5, 8, 8)?, None), busy);
+    assert_eq!(rt; state.regrade(7, plain(4, 8, 8)?, None), Reply::NotListed);
+    assert_eq!(rt; view(&rt, &state, 1), after);
+    assert_eq!(rt; state.leave(1), Reply::Left);
+    assert_eq!(rt; state.regrade(1, plain(2, 8, 8)?, None), Reply::NotListed);
+    Ok(())
+}
+
+#[test]
+fn leaving_keeps_bandwidth_until_zero_lag(rt: HostRuntime) -> Result<(), Fail> {
+    let alloc = rt.alloc();
+    let mut state = State::open(alloc, 1, UNIT)?;
+    let job = script(alloc, 1, &[Event::Run(100)])?;
+    admit(&rt, alloc, &mut state, 1, plain(4, 8, 8)?, job)?;
+    advance(&rt, &mut state, 2)?;
+    assert_eq!(rt; state.leave(2), Reply::NotListed);
+    assert_eq!(rt; state.leave(1), Reply::Left);
+    assert_eq!(rt; state.leave(1), Reply::NotListed);
+    assert_eq!(rt; state.wake(1), Reply::NotListed);
+    assert_eq!(rt; view(&rt, &state, 1).zero_lag, Some(4));
+    advance(&rt, &mut state, 2)?;
+    assert_eq!(rt; state.sum(), 524288);
+    let switches = [
+        switch(0, 0, None, PrevState::Running, Some(1)),
+        switch(2, 0, Some(1), PrevState::Dead, None),
+    ];
+    assert_eq!(rt; state.switches(), switches.as_slice());
+    advance(&rt, &mut state, 1)?;
+    assert_eq!(rt; state.sum(), 0);
+    assert_eq!(rt; state.view(1), None);
+    let again = script(alloc, 1, &[Event::Run(1)])?;
+    let reply = admit(&rt, alloc, &mut state, 1, plain(4, 8, 8)?, again)?;
+    assert_eq!(rt; reply, Reply::Twice);
+    Ok(())
+}
+
+#[test]
+fn a_sleeper_that_leaves_keeps_its_zero_lag_time(rt: HostRuntime) -> Result<(), Fail> {
+    let alloc = rt.alloc();
+    let mut state = State::open(alloc, 1, UNIT)?;
+    let job = script(alloc, -1, &[Event::Run(2), Event::Timer(100)])?;
+    admit(&rt, alloc, &mut state, 1, plain(4, 8, 8)?, job)?;
+    advance(&rt, &mut state, 3)?;
+    assert_eq!(rt; view(&rt, &state, 1).zero_lag, Some(4));
+    assert_eq!(rt; state.leave(1), Reply::Left);
+    assert_eq!(rt; view(&rt, &state, 1).zero_lag, Some(4));
+    advance(&rt, &mut state, 2)?;
+    assert_eq!(rt; state.view(1), None);
+    Ok(())
+}
+
 fn earliest_after(time: u64, segment: Segment) -> u64
     ensures { result ≡ next_ask time segment }
 {

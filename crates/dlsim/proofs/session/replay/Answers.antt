@@ -9,8 +9,8 @@ use Rattle.dlsim.proofs.Replied.{on_both, if_err, IsSpelled, answered, means_cut
 use Rattle.dlsim.proofs.Written.{trace_is}
 use Rattle.dlsim.proofs.session.replay.Goals as goal
 
-pub run_section-requires-clause-section : goal.run_section-requires-clause-section
-run_section-requires-clause-section g c = All-head IsSection c.only_section.result [] (subst (All IsSection) c.only_section.ensures c.in-Ok-read_calls.ensures.found.0.within.each)
+pub run_section-requires : goal.run_section-requires
+run_section-requires g c = record { section = All-head IsSection c.only_section.result [] (subst (All IsSection) c.only_section.ensures c.in-Ok-read_calls.ensures.found.0.within.each) }
 
 pub returns-clause-ok : goal.returns-clause-ok
 returns-clause-ok g c =

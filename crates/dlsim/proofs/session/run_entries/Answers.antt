@@ -2,7 +2,7 @@ use Rattle.std.proofs.Common.{◌≡◌, ℕ, true, false, List, [], length, map
 use Rattle.std.specs.Prelude.{reverse}
 use Rattle.std.proofs.lemmas.List.{reverse-reverse, nil_from_length}
 use Rattle.std.proofs.lemmas.List.Elements.{All-head, All-rest}
-use Rattle.call_book.specs.Limits.{IsEntry, IsReadCall}
+use Rattle.call_book.specs.Limits.{IsEntry}
 use Rattle.domain_run.specs.declared.call.Call.{Call}
 use Rattle.domain_run.specs.Domain.{Domain, opened}
 use Rattle.domain_run.specs.Run.{after_calls, run_of}
@@ -27,7 +27,6 @@ loop-entry-init c =
       names = λ n. ap (λ (cs : List Call). names_of r.state cs (named r.names) n) left ∙ ap (λ (d : Domain). names_of d calls (named r.names) n) state ∙ ap (λ (f : ℕ → List ℕ). names_of (opened c.args.cpus c.args.limit) calls f n) nobody;
       named = λ n h. let no : false ≡ true = subst (λ (d : Domain). IsAdmitted d.used n) state h in absurd cc;
       entries = rw back c.requires.entries;
-      read = rw back c.requires.read;
       early = let time = ap (λ (d : Domain). d.time) state in omega (arith, time, c.reverse.ensures.len, c.requires.few);
     }
 
@@ -35,11 +34,6 @@ pub make-requires-clause-call : goal.make-requires-clause-call
 make-requires-clause-call c =
     let more = reverse_more c.pop.new.self.items c.loop-entry.entries.items c.in-Some.entry c.in-Some.ensures.items in
     (All-head IsEntry c.in-Some.entry (reverse c.pop.new.self.items) (subst (All IsEntry) more c.loop-entry.invariant.entries)).call
-
-pub make-requires-clause-read : goal.make-requires-clause-read
-make-requires-clause-read c =
-    let more = reverse_more c.pop.new.self.items c.loop-entry.entries.items c.in-Some.entry c.in-Some.ensures.items in
-    All-head (λ e. IsReadCall e.call) c.in-Some.entry (reverse c.pop.new.self.items) (subst (All (λ e. IsReadCall e.call)) more c.loop-entry.invariant.read)
 
 pub loop-entry-preserved : goal.loop-entry-preserved
 loop-entry-preserved c =
@@ -56,7 +50,6 @@ loop-entry-preserved c =
       names = left_names was.state is.state e.call (left_calls c.pop.new.self.items) (left_calls c.loop-entry.entries.items) (named was.names) (named is.names) (names_of start calls no_names) m c.in_ok-make.ensures.state c.in_ok-make.ensures.names c.loop-entry.invariant.names;
       named = c.in_ok-make.ensures.named;
       entries = All-rest IsEntry e (reverse c.pop.new.self.items) (reverse c.loop-entry.entries.items) more c.loop-entry.invariant.entries;
-      read = All-rest (λ e. IsReadCall e.call) e (reverse c.pop.new.self.items) (reverse c.loop-entry.entries.items) more c.loop-entry.invariant.read;
       early = omega (arith, c.in_ok-make.ensures.time, c.loop-entry.invariant.early, c.in-Some.ensures.cases);
     }
 

@@ -2,7 +2,7 @@ use Rattle.std.proofs.Common.{◌≡◌, ℕ, ◌≤◌, ◌+◌, ◌*◌, ◌^�
 use Rattle.std.specs.Prelude.{reverse}
 use Rattle.domain_run.specs.Domain.{opened}
 use Rattle.domain_run.specs.Run.{after_calls, run_of}
-use Rattle.call_book.specs.Limits.{IsEntry, IsReadCall}
+use Rattle.call_book.specs.Limits.{IsEntry}
 use Rattle.switch_text.specs.Names.{named}
 use Rattle.dlsim.specs.Replay.{names_of, no_names, calls_of}
 use Rattle.dlsim.specs.Replaying.{AreNamed, section_view}
@@ -18,7 +18,6 @@ invariant-loop-entry l =
       names : (n : ℕ) → names_of l.run.state (left_calls l.entries.items) (named l.run.names) n ≡ names_of (opened l.fn.cpus l.fn.limit) (calls_of s) no_names n;
       named : AreNamed l.run.state l.run.names;
       entries : All IsEntry (reverse l.entries.items);
-      read : All (λ e. IsReadCall e.call) (reverse l.entries.items);
       early : l.run.state.time + vec_len l.entries * 60000000 ≤ 2 ^ 42;
     }
 
