@@ -3,5 +3,6 @@ pub mod Spelling
 pub mod OwnCalls
 pub mod Limits
 pub mod BadLine
+pub mod FaultText
 pub mod Examples
 pub mod Reading
