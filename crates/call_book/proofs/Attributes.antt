@@ -1,16 +1,21 @@
 -- The parameters that a task's times give, and the times of accepted parameters.
-use Rattle.std.proofs.Common.{◌≡◌, ℕ, ◌*◌, ◌/◌, ◌^◌, ◌≤◌, ◌<◌, Bool, true, false, not, cond, eqb, Option, Some, None, Result, Ok, Err, refl, sym, ap, subst, ◌∙◌, arith}
+use Rattle.std.proofs.Common.{◌≡◌, ℕ, ◌*◌, ◌/◌, ◌%◌, ◌^◌, ◌≤◌, ◌<◌, Bool, true, false, not, cond, eqb, List, Option, Some, None, Result, Ok, Err, refl, ap, subst, ◌∙◌, arith}
+use Rattle.std.specs.Prelude.{codes}
 use Rattle.std.specs.Result.{result_ok}
+use Rattle.std.specs.Str.{bytes_eq}
 use Rattle.std.proofs.Math.Nat.{mul-div_cancel}
-use Rattle.std.proofs.lemmas.Bool.{and_parts, leb-true, not-false, ne_eqb}
+use Rattle.std.proofs.lemmas.Bool.{and_parts, leb-true, not-false, ne_eqb, eqb-false}
+use Rattle.std.proofs.lemmas.Option.{same_Some}
+use Rattle.std.proofs.lemmas.Slice.Eq.{bytes_eq-Decides}
 use Rattle.attr_check.specs.declared.attr.SchedAttr.{SchedAttr}
 use Rattle.attr_check.specs.declared.refusal.AttrRefusal.{AttrRefusal}
 use Rattle.attr_check.specs.declared.refusal.AttrRefusal.TheVariants.{NotDeadline, UnknownFlag, TopBit, Small, Order, Grain, Long}
 use Rattle.attr_check.specs.ParamsView.{ParamsView}
 use Rattle.attr_check.specs.Accepted.{accepted, unless_refused, first_refusal, passes, params_of, period_of}
 use Rattle.call_book.specs.declared.times.Times.{Times}
-use Rattle.call_book.specs.Limits.{IsChecked, attr_of}
-use Rattle.call_book.specs.Reading.{params_at}
+use Rattle.call_book.specs.Limits.{IsChecked}
+use Rattle.call_book.specs.Reading.{params_at, flag_at}
+use Rattle.call_book.proofs.Cuts.{Lacks}
 
 unless_is : (a : SchedAttr) (r : Option AttrRefusal) (p : ParamsView) → unless_refused a r ≡ Ok p → (r ≡ None) × (params_of a ≡ p)
 unless_is a None p e = (refl, cc)
@@ -51,37 +56,38 @@ passes_times a e =
       long = leb-true _ _ (not-false (passes a Long) t7.0);
     }
 
-abbrev pub attr_at : Times → SchedAttr
-attr_at t = record { policy = 6; flags = 0; runtime = t.runtime * 1000; deadline = t.deadline * 1000; period = t.period * 1000 }
+abbrev pub attr_at : Times → Bool → SchedAttr
+attr_at t reclaim = record { policy = 6; flags = cond reclaim 2 0; runtime = t.runtime * 1000; deadline = t.deadline * 1000; period = t.period * 1000 }
 
 abbrev pub times_of : ParamsView → Times
 times_of p = record { runtime = p.runtime; deadline = p.deadline; period = p.period }
 
--- the times of the parameters are those that were given
-pub record ArePlain (t : Times) (p : ParamsView) : Type 0 where
+-- the times and the flag of the parameters are those that were given
+pub record AreGiven (t : Times) (reclaim : Bool) (p : ParamsView) : Type 0 where
   pub times : times_of p ≡ t
-  pub plain : p.reclaim ≡ false
+  pub flag : p.reclaim ≡ reclaim
   pub checked : IsChecked p
 
-with_times : (t : Times) (p : ParamsView) → params_of (attr_at t) ≡ p → 0 < t.period → (times_of p ≡ t) × (p.reclaim ≡ false)
-with_times t p e some =
+flag_kept : (reclaim : Bool) → eqb (cond reclaim 2 0 / 2 % 2) 1 ≡ reclaim
+flag_kept true = refl
+flag_kept false = refl
+
+with_times : (t : Times) (reclaim : Bool) (p : ParamsView) → params_of (attr_at t reclaim) ≡ p → 0 < t.period → (times_of p ≡ t) × (p.reclaim ≡ reclaim)
+with_times t reclaim p e some =
     let period : eqb (t.period * 1000) 0 ≡ false = ne_eqb _ _ (λ none. omega (arith, none)) in
     let a = mul-div_cancel t.runtime {n = 1000} (omega arith) in
     let b = mul-div_cancel t.deadline {n = 1000} (omega arith) in
     let c = mul-div_cancel t.period {n = 1000} (omega arith) in
-    let same : times_of (params_of (attr_at t)) ≡ t = rw (period, a, b, c) refl in
-    subst (λ (q : ParamsView). (times_of q ≡ t) × (q.reclaim ≡ false)) e (same, refl)
+    let same : times_of (params_of (attr_at t reclaim)) ≡ t = rw (period, a, b, c) refl in
+    subst (λ (q : ParamsView). (times_of q ≡ t) × (q.reclaim ≡ reclaim)) e (same, flag_kept reclaim)
 
-attr_is : (p : ParamsView) → p.reclaim ≡ false → attr_of p ≡ attr_at (times_of p)
-attr_is p plain = rw plain refl
-
-pub params_take : (t : Times) (p : ParamsView) → 0 < t.period → params_at t ≡ Some p → ArePlain t p
+pub params_take : (t : Times) (reclaim : Bool) (p : ParamsView) → 0 < t.period → params_at t reclaim ≡ Some p → AreGiven t reclaim p
 unfolding params_at
-params_take t p some h =
-    let given = result_is (accepted (attr_at t)) p h in
-    let is = accepted_is (attr_at t) p given in
-    let w = with_times t p is.1 some in
-    record { times = w.0; plain = w.1; checked = ap accepted (attr_is p w.1 ∙ ap attr_at w.0) ∙ given }
+params_take t reclaim p some h =
+    let given = result_is (accepted (attr_at t reclaim)) p h in
+    let is = accepted_is (attr_at t reclaim) p given in
+    let w = with_times t reclaim p is.1 some in
+    record { times = w.0; flag = w.1; checked = ap (λ (u : Times). accepted (attr_at u p.reclaim)) w.0 ∙ ap (λ (f : Bool). accepted (attr_at t f)) w.1 ∙ given }
 
 pub record AreSmall (t : Times) : Type 0 where
   pub runtime : (1 ≤ t.runtime) × (t.runtime ≤ 4294967296)
@@ -95,15 +101,37 @@ small_times q d p x small runtime_first deadline_first long period = record {
   period = (omega arith, omega arith);
 }
 
-pub params_again : (p : ParamsView) → IsChecked p → p.reclaim ≡ false → (params_at (times_of p) ≡ Some p) × AreSmall (times_of p)
+pub params_again : (p : ParamsView) → IsChecked p → (params_at (times_of p) p.reclaim ≡ Some p) × AreSmall (times_of p)
 unfolding params_at
-params_again p is plain =
-    let given : accepted (attr_at (times_of p)) ≡ Ok p = ap accepted (sym (attr_is p plain)) ∙ is in
-    let a = accepted_is (attr_at (times_of p)) p given in
-    let t = passes_times (attr_at (times_of p)) a.0 in
-    let period : period_of (attr_at (times_of p)) / 1000 ≡ p.period = ap (λ (q : ParamsView). q.period) a.1 in
+params_again p is =
+    let a = accepted_is (attr_at (times_of p) p.reclaim) p is in
+    let t = passes_times (attr_at (times_of p) p.reclaim) a.0 in
+    let period : period_of (attr_at (times_of p) p.reclaim) / 1000 ≡ p.period = ap (λ (q : ParamsView). q.period) a.1 in
     let s = t.small in
     let r = t.runtime_first in
     let d = t.deadline_first in
     let l = t.long in
-    (ap result_ok given, small_times p.runtime p.deadline p.period (period_of (attr_at (times_of p))) s r d l period)
+    (ap result_ok is, small_times p.runtime p.deadline p.period (period_of (attr_at (times_of p) p.reclaim)) s r d l period)
+
+-- ---- the flag
+
+abbrev pub flag_word : Bool → List ℕ
+flag_word reclaim = cond reclaim (codes "R") (codes "-")
+
+flag_by : (text : List ℕ) (reclaim r dash : Bool) → bytes_eq text (codes "R") ≡ r → bytes_eq text (codes "-") ≡ dash → cond r (Some true) (cond dash (Some false) None) ≡ Some reclaim → text ≡ flag_word reclaim
+flag_by text reclaim true dash is other h = (bytes_eq-Decides text (codes "R")).0 is ∙ ap flag_word (same_Some true reclaim h)
+flag_by text reclaim false true other is h = (bytes_eq-Decides text (codes "-")).0 is ∙ ap flag_word (same_Some false reclaim h)
+flag_by text reclaim false false other another h = absurd cc
+
+pub flag_takes : (text : List ℕ) (reclaim : Bool) → flag_at text ≡ Some reclaim → text ≡ flag_word reclaim
+unfolding flag_at
+flag_takes text reclaim h = flag_by text reclaim (bytes_eq text (codes "R")) (bytes_eq text (codes "-")) refl refl h
+
+pub flag_again : (reclaim : Bool) → flag_at (flag_word reclaim) ≡ Some reclaim
+unfolding flag_at
+flag_again true = refl
+flag_again false = refl
+
+pub flag_lacks : (c : ℕ) (reclaim : Bool) → eqb 82 c ≡ false → eqb 45 c ≡ false → Lacks c (flag_word reclaim)
+flag_lacks c true r dash = (eqb-false _ _ r, tt)
+flag_lacks c false r dash = (eqb-false _ _ dash, tt)

@@ -31,7 +31,7 @@ front_lines (l ∷ front) more all = (all.0, front_lines front more all.1)
 begun_lines : (front : List (List ℕ)) → Begins front → AreLines front
 begun_lines front begins =
     let o = one_read begins.0 begins.1 in
-    let all : AreLines (codes "dlcalls 1" ∷ domain_line o.section ∷ map entry_line o.section.entries) = (Lacks-written 10 (codes "dlcalls 1") refl, (domain_lacks o.section.cpus o.section.limit o.is.one o.is.high, entry_lines o.section.entries o.is.each)) in
+    let all : AreLines (codes "dlcalls 1" ∷ domain_line o.section ∷ map entry_line o.section.entries) = (Lacks-written 10 (codes "dlcalls 1") refl, (domain_lacks o.section.cpus o.section.limit o.is.most o.is.high, entry_lines o.section.entries o.is.each)) in
     front_lines front begins.2 (subst AreLines (sym (lines_one o.section) ∙ ap lines_of (sym o.one) ∙ begins.3) all)
 
 -- a further line stands behind the shorter of two fronts

@@ -56,8 +56,8 @@ cut_again c a b h =
     e ∙ rw (take_at a (c ∷ b) (length a) refl, drop-append-add a (c ∷ b) 1) refl
 
 -- a slice from k on is what is dropped to
-pub rest_is : (k : ℕ) (text : List ℕ) → take (length text - k) (drop k text) ≡ drop k text
-rest_is k text = ap (λ (n : ℕ). take n (drop k text)) (sym (length-drop k text)) ∙ take-length (drop k text)
+pub rest_is : {X : Type 0} (k : ℕ) (items : List X) → take (length items - k) (drop k items) ≡ drop k items
+rest_is k items = ap (λ (n : ℕ). take n (drop k items)) (sym (length-drop k items)) ∙ take-length (drop k items)
 
 pub Lacks-append : (c : ℕ) (a b : List ℕ) → Lacks c a → Lacks c b → Lacks c (a ++ b)
 Lacks-append c [] b h k = k

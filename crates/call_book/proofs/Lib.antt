@@ -9,4 +9,5 @@ pub mod Attributes
 pub mod Lines
 pub mod Entries
 pub mod Sections
+pub mod Written
 pub mod BadLines

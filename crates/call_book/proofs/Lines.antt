@@ -1,8 +1,9 @@
 -- A line that is read is spelled so, and a line that is spelled is read.
-use Rattle.std.proofs.Common.{◌≡◌, ℕ, suc, ◌≤◌, ◌<◌, Bool, true, false, cond, List, [], ◌∷◌, ◌++◌, All, Option, Some, None, refl, sym, ap, subst, ◌∙◌, arith}
+use Rattle.std.proofs.Common.{◌≡◌, ℕ, suc, ◌≤◌, ◌<◌, Bool, true, false, cond, leb, List, [], ◌∷◌, ◌++◌, All, Option, Some, None, refl, sym, ap, subst, ◌∙◌, arith}
 use Rattle.std.specs.Prelude.{decimal, codes}
+use Rattle.std.specs.List.{list_all}
 use Rattle.std.specs.Str.{bytes_eq}
-use Rattle.std.proofs.lemmas.Bool.{eqb-false}
+use Rattle.std.proofs.lemmas.Bool.{and_parts, leb-true, eqb-false}
 use Rattle.std.proofs.lemmas.Option.{same_Some, cond_some}
 use Rattle.std.proofs.lemmas.Slice.Eq.{bytes_eq-Decides}
 use Rattle.attr_check.specs.ParamsView.{ParamsView}
@@ -12,12 +13,12 @@ use Rattle.domain_run.specs.declared.call.Call.{Call}
 use Rattle.domain_run.specs.declared.call.Call.TheVariants.{Admit, Regrade, Wake, Leave, Advance}
 use Rattle.call_book.specs.declared.times.Times.{Times}
 use Rattle.call_book.specs.Spelling.{line_of, call_fields, flag_text, script_text}
-use Rattle.call_book.specs.Limits.{IsClient, IsAdmission, IsCall, IsReadCall, IsReadScript}
-use Rattle.call_book.specs.Reading.{◌>>=◌, cut_at, number_within_at, field_at, times_at, params_at, name_at, script_at, plan_at, admit_at, advance_at, call_at, domain_at}
+use Rattle.call_book.specs.Limits.{IsClient, IsNumber, IsChecked, IsAdmission, IsCall, IsReadCall}
+use Rattle.call_book.specs.Reading.{◌>>=◌, cut_at, number_within_at, field_at, times_at, flag_at, params_at, name_at, script_at, plan_at, admit_at, regrade_at, numbered_at, worded_at, call_at, domain_at}
 use Rattle.call_book.proofs.Cuts.{Lacks, Lacks-append, Lacks-written, cut_takes, cut_again}
 use Rattle.call_book.proofs.Numbers.{bind_some, within_takes, within_again, decimal_lacks}
 use Rattle.call_book.proofs.Names.{name_yes, name_takes}
-use Rattle.call_book.proofs.Attributes.{times_of, params_take, AreSmall, params_again}
+use Rattle.call_book.proofs.Attributes.{times_of, params_take, AreSmall, params_again, flag_word, flag_takes, flag_again, flag_lacks}
 use Rattle.call_book.proofs.Scripts.{script_takes, script_again, script_lacks}
 
 -- ---- fields
@@ -80,92 +81,67 @@ times_again t rest s =
       field_again 1 4294967296 t.period rest s.period.0 s.period.1 (omega arith),
     ) refl
 
--- ---- calls
+-- ---- the delay and the script
 
-dash : (p : ParamsView) → p.reclaim ≡ false → flag_text p ≡ codes "-"
-dash p plain = rw plain refl
+abbrev made_plan : ℕ → ScriptView → Option (ℕ × ScriptView)
+made_plan delay script = Some (delay, script)
 
--- ---- the flag, the delay and the script
-
-abbrev made_plan : List ℕ → ℕ → ScriptView → Option (ℕ × ScriptView)
-made_plan flag delay script = cond (bytes_eq flag (codes "-")) (Some (delay, script)) None
-
-record PlanParts (text : List ℕ) (plan : ℕ × ScriptView) : Type 0 where
-  flag : List ℕ × List ℕ
-  delay : ℕ × List ℕ
-  script : ScriptView
-  flag_is : cut_at 32 text ≡ Some flag
-  delay_is : field_at 0 1000000000 flag.1 ≡ Some delay
-  script_is : script_at delay.1 ≡ Some script
-  plan_is : made_plan flag.0 delay.0 script ≡ Some plan
-
-plan_parts : (text : List ℕ) (plan : ℕ × ScriptView) → plan_at text ≡ Some plan → PlanParts text plan
-unfolding plan_at
-plan_parts text plan h =
-    let a = bind_some (cut_at 32 text) (λ flag. field_at 0 1000000000 flag.1 >>= λ delay. script_at delay.1 >>= λ script. made_plan flag.0 delay.0 script) plan h in
-    let b = bind_some (field_at 0 1000000000 a.0.1) (λ delay. script_at delay.1 >>= λ script. made_plan a.0.0 delay.0 script) plan a.2 in
-    let c = bind_some (script_at b.0.1) (λ script. made_plan a.0.0 b.0.0 script) plan b.2 in
-    record { flag = a.0; delay = b.0; script = c.0; flag_is = a.1; delay_is = b.1; script_is = c.1; plan_is = c.2 }
-
-two_more : (text flag flagged after_flag delayed after_delay scripted : List ℕ) → text ≡ flag ++ 32 ∷ after_flag → flag ≡ flagged → after_flag ≡ delayed ++ 32 ∷ after_delay → after_delay ≡ scripted
-    → text ≡ flagged ++ (32 ∷ (delayed ++ (32 ∷ scripted)))
-two_more text flag flagged after_flag delayed after_delay scripted e1 e2 e3 e4 = e1 ∙ ap (λ (x : List ℕ). x ++ 32 ∷ after_flag) e2 ∙ after flagged (e3 ∙ after delayed e4)
+abbrev plan_text : ℕ → ScriptView → List ℕ
+plan_text delay script = decimal delay ++ (32 ∷ script_text script)
 
 record TookPlan (text : List ℕ) (delay : ℕ) (script : ScriptView) : Type 0 where
-  text_is : text ≡ codes "-" ++ (32 ∷ (decimal delay ++ (32 ∷ script_text script)))
+  text_is : text ≡ plan_text delay script
   soon : delay ≤ 1000000000
   scripted : IsScript script
-  read : IsReadScript script
-
-took_plan : (text : List ℕ) (plan : ℕ × ScriptView) → PlanParts text plan → TookPlan text plan.0 plan.1
-took_plan text plan p =
-    let made : ℕ × ScriptView = (p.delay.0, p.script) in
-    let last = cond_some (bytes_eq p.flag.0 (codes "-")) made plan p.plan_is in
-    let delay = field_takes 0 1000000000 p.flag.1 p.delay p.delay_is in
-    let script = script_takes p.delay.1 p.script p.script_is in
-    let flag : p.flag.0 ≡ codes "-" = (bytes_eq-Decides p.flag.0 (codes "-")).0 last.0 in
-    subst (λ (x : ℕ × ScriptView). TookPlan text x.0 x.1) last.1
-    (record { text_is = two_more text p.flag.0 (codes "-") p.flag.1 (decimal p.delay.0) p.delay.1 (script_text p.script) (cut_takes 32 text p.flag p.flag_is) flag delay.text_is script.1; soon = delay.high; scripted = script.0.0; read = script.0.1 })
 
 plan_takes : (text : List ℕ) (plan : ℕ × ScriptView) → plan_at text ≡ Some plan → TookPlan text plan.0 plan.1
-plan_takes text plan h = took_plan text plan (plan_parts text plan h)
-
-plan_again : (delay : ℕ) (script : ScriptView) → delay ≤ 1000000000 → IsScript script → IsReadScript script → plan_at (codes "-" ++ (32 ∷ (decimal delay ++ (32 ∷ script_text script)))) ≡ paired delay script
 unfolding plan_at
-plan_again delay script soon is read =
-    rw (cut_again 32 (codes "-") (decimal delay ++ (32 ∷ script_text script)) ((λ e. absurd (omega arith)), tt), field_again 0 1000000000 delay (script_text script) (omega arith) soon (omega arith), script_again script is read) refl
+plan_takes text plan h =
+    let a = bind_some (field_at 0 1000000000 text) (λ delay. script_at delay.1 >>= λ script. made_plan delay.0 script) plan h in
+    let b = bind_some (script_at a.0.1) (λ script. made_plan a.0.0 script) plan a.2 in
+    let delay = field_takes 0 1000000000 text a.0 a.1 in
+    let script = script_takes a.0.1 b.0 b.1 in
+    let made : ℕ × ScriptView = (a.0.0, b.0) in
+    subst (λ (x : ℕ × ScriptView). TookPlan text x.0 x.1) (same_Some made plan b.2)
+    (record { text_is = delay.text_is ∙ after (decimal a.0.0) script.1; soon = delay.high; scripted = script.0 })
 
--- ---- admissions
+plan_again : (delay : ℕ) (script : ScriptView) → delay ≤ 1000000000 → IsScript script → plan_at (plan_text delay script) ≡ paired delay script
+unfolding plan_at
+plan_again delay script soon is = rw (field_again 0 1000000000 delay (script_text script) (omega arith) soon (omega arith), script_again script is) refl
 
--- what follows the client in an admission
+-- ---- what follows the client in a call that is read
+
 abbrev admit_text : ℕ → List ℕ → ParamsView → ℕ → ScriptView → List ℕ
-admit_text number name params delay script = decimal number ++ (32 ∷ (name ++ (32 ∷ times_text (times_of params) (flag_text params ++ (32 ∷ (decimal delay ++ (32 ∷ script_text script)))))))
+admit_text number name params delay script = decimal number ++ (32 ∷ (name ++ (32 ∷ times_text (times_of params) (flag_text params ++ (32 ∷ plan_text delay script)))))
+
+abbrev regrade_text : ℕ → ParamsView → List ℕ
+regrade_text number params = decimal number ++ (32 ∷ times_text (times_of params) (flag_text params))
+
+abbrev call_text : Call → List ℕ
+call_text (Admit number name params delay script) = admit_text number name params delay script
+call_text (Regrade number params word) = regrade_text number params
+call_text (Wake number) = decimal number
+call_text (Leave number) = decimal number
+call_text (Advance ticks) = decimal ticks
+
+abbrev word_text : Call → List ℕ
+word_text (Admit number name params delay script) = codes "admit"
+word_text (Regrade number params word) = codes "regrade"
+word_text (Wake number) = codes "wake"
+word_text (Leave number) = codes "leave"
+word_text (Advance ticks) = codes "advance"
 
 -- a call that is read
 abbrev pub IsCallRead : Call → Type 0
 IsCallRead call = IsCall call × IsReadCall call
-
--- what follows the client in a call that is read
-abbrev call_text : Call → List ℕ
-call_text (Admit number name params delay script) = admit_text number name params delay script
-call_text (Regrade number params word) = []
-call_text (Wake number) = []
-call_text (Leave number) = []
-call_text (Advance ticks) = decimal ticks
-
--- the word of a call that is read
-abbrev word_text : Call → List ℕ
-word_text (Admit number name params delay script) = codes "admit"
-word_text (Regrade number params word) = []
-word_text (Wake number) = []
-word_text (Leave number) = []
-word_text (Advance ticks) = codes "advance"
 
 -- what was read of a call
 pub record TookCall (word text : List ℕ) (call : Call) : Type 0 where
   is_read : IsCallRead call
   text_is : text ≡ call_text call
   word_is : word ≡ word_text call
+
+-- ---- admissions
 
 abbrev made_admit : ℕ → List ℕ → ParamsView → ℕ × ScriptView → Option Call
 made_admit number name params plan = Some (Admit number name params plan.0 plan.1)
@@ -175,45 +151,61 @@ record AdmitParts (text : List ℕ) (call : Call) : Type 0 where
   name : List ℕ × List ℕ
   named : List ℕ
   times : Times × List ℕ
+  flag : List ℕ × List ℕ
+  reclaim : Bool
   params : ParamsView
   plan : ℕ × ScriptView
   number_is : field_at 1 65535 text ≡ Some number
   name_is : cut_at 32 number.1 ≡ Some name
   named_is : name_at name.0 ≡ Some named
   times_is : times_at name.1 ≡ Some times
-  params_is : params_at times.0 ≡ Some params
-  plan_is : plan_at times.1 ≡ Some plan
+  flag_is : cut_at 32 times.1 ≡ Some flag
+  reclaim_is : flag_at flag.0 ≡ Some reclaim
+  params_is : params_at times.0 reclaim ≡ Some params
+  plan_is : plan_at flag.1 ≡ Some plan
   call_is : made_admit number.0 named params plan ≡ Some call
+
+-- what follows the name
+abbrev timed : ℕ → List ℕ → List ℕ → Option Call
+timed number named text = times_at text >>= λ times. cut_at 32 times.1 >>= λ flag. flag_at flag.0 >>= λ reclaim. params_at times.0 reclaim >>= λ params. plan_at flag.1 >>= λ plan. made_admit number named params plan
 
 admit_parts : (text : List ℕ) (call : Call) → admit_at text ≡ Some call → AdmitParts text call
 unfolding admit_at
 admit_parts text call h =
-    let a = bind_some (field_at 1 65535 text) (λ number. cut_at 32 number.1 >>= λ name. name_at name.0 >>= λ named. times_at name.1 >>= λ times. params_at times.0 >>= λ params. plan_at times.1 >>= λ plan. made_admit number.0 named params plan) call h in
-    let b = bind_some (cut_at 32 a.0.1) (λ name. name_at name.0 >>= λ named. times_at name.1 >>= λ times. params_at times.0 >>= λ params. plan_at times.1 >>= λ plan. made_admit a.0.0 named params plan) call a.2 in
-    let c = bind_some (name_at b.0.0) (λ named. times_at b.0.1 >>= λ times. params_at times.0 >>= λ params. plan_at times.1 >>= λ plan. made_admit a.0.0 named params plan) call b.2 in
-    let d = bind_some (times_at b.0.1) (λ times. params_at times.0 >>= λ params. plan_at times.1 >>= λ plan. made_admit a.0.0 c.0 params plan) call c.2 in
-    let e = bind_some (params_at d.0.0) (λ params. plan_at d.0.1 >>= λ plan. made_admit a.0.0 c.0 params plan) call d.2 in
-    let f = bind_some (plan_at d.0.1) (λ plan. made_admit a.0.0 c.0 e.0 plan) call e.2 in
-    record { number = a.0; name = b.0; named = c.0; times = d.0; params = e.0; plan = f.0; number_is = a.1; name_is = b.1; named_is = c.1; times_is = d.1; params_is = e.1; plan_is = f.1; call_is = f.2 }
+    let a = bind_some (field_at 1 65535 text) (λ number. cut_at 32 number.1 >>= λ name. name_at name.0 >>= λ named. timed number.0 named name.1) call h in
+    let b = bind_some (cut_at 32 a.0.1) (λ name. name_at name.0 >>= λ named. timed a.0.0 named name.1) call a.2 in
+    let c = bind_some (name_at b.0.0) (λ named. timed a.0.0 named b.0.1) call b.2 in
+    let d = bind_some (times_at b.0.1) (λ times. cut_at 32 times.1 >>= λ flag. flag_at flag.0 >>= λ reclaim. params_at times.0 reclaim >>= λ params. plan_at flag.1 >>= λ plan. made_admit a.0.0 c.0 params plan) call c.2 in
+    let e = bind_some (cut_at 32 d.0.1) (λ flag. flag_at flag.0 >>= λ reclaim. params_at d.0.0 reclaim >>= λ params. plan_at flag.1 >>= λ plan. made_admit a.0.0 c.0 params plan) call d.2 in
+    let f = bind_some (flag_at e.0.0) (λ reclaim. params_at d.0.0 reclaim >>= λ params. plan_at e.0.1 >>= λ plan. made_admit a.0.0 c.0 params plan) call e.2 in
+    let g = bind_some (params_at d.0.0 f.0) (λ params. plan_at e.0.1 >>= λ plan. made_admit a.0.0 c.0 params plan) call f.2 in
+    let i = bind_some (plan_at e.0.1) (λ plan. made_admit a.0.0 c.0 g.0 plan) call g.2 in
+    record { number = a.0; name = b.0; named = c.0; times = d.0; flag = e.0; reclaim = f.0; params = g.0; plan = i.0; number_is = a.1; name_is = b.1; named_is = c.1; times_is = d.1; flag_is = e.1; reclaim_is = f.1; params_is = g.1; plan_is = i.1; call_is = i.2 }
 
-three_more : (text numbered after_number name named after_name timed : List ℕ) → text ≡ numbered ++ 32 ∷ after_number → after_number ≡ name ++ 32 ∷ after_name → name ≡ named → after_name ≡ timed
-    → text ≡ numbered ++ (32 ∷ (named ++ (32 ∷ timed)))
-three_more text numbered after_number name named after_name timed e1 e2 e3 e4 = e1 ∙ after numbered (e2 ∙ ap (λ (x : List ℕ). x ++ 32 ∷ after_name) e3 ∙ after named e4)
+three_more : (text numbered after_number name named after_name timed_text : List ℕ) → text ≡ numbered ++ 32 ∷ after_number → after_number ≡ name ++ 32 ∷ after_name → name ≡ named → after_name ≡ timed_text
+    → text ≡ numbered ++ (32 ∷ (named ++ (32 ∷ timed_text)))
+three_more text numbered after_number name named after_name timed_text e1 e2 e3 e4 = e1 ∙ after numbered (e2 ∙ ap (λ (x : List ℕ). x ++ 32 ∷ after_name) e3 ∙ after named e4)
 
-timed_is : (text : List ℕ) (t u : Times) (rest planned flagged more : List ℕ) → text ≡ times_text t rest → u ≡ t → rest ≡ planned ++ more → flagged ≡ planned → text ≡ times_text u (flagged ++ more)
-timed_is text t u rest planned flagged more e1 e2 e3 e4 = e1 ∙ ap (λ (x : Times). times_text x rest) (sym e2) ∙ ap (times_text u) (e3 ∙ ap (λ (x : List ℕ). x ++ more) (sym e4))
+-- the text of a flag is that of the parameters that have it
+flag_of : (text : List ℕ) (reclaim : Bool) (p : ParamsView) → flag_at text ≡ Some reclaim → p.reclaim ≡ reclaim → text ≡ flag_text p
+flag_of text reclaim p h e = flag_takes text reclaim h ∙ ap flag_word (sym e)
+
+timed_is : (text : List ℕ) (t u : Times) (rest written : List ℕ) → text ≡ times_text t rest → u ≡ t → rest ≡ written → text ≡ times_text u written
+timed_is text t u rest written e1 e2 e3 = e1 ∙ ap (λ (x : Times). times_text x rest) (sym e2) ∙ ap (times_text u) e3
 
 took_admit : (text : List ℕ) (call : Call) → AdmitParts text call → TookCall (codes "admit") text call
 took_admit text call p =
     let number = field_takes 1 65535 text p.number p.number_is in
     let name = name_takes p.name.0 p.named p.named_is in
     let times = times_take p.name.1 p.times p.times_is in
-    let params = params_take p.times.0 p.params (omega (arith, times.1.period.0)) p.params_is in
-    let plan = plan_takes p.times.1 p.plan p.plan_is in
-    let timed = timed_is p.name.1 p.times.0 (times_of p.params) p.times.1 (codes "-") (flag_text p.params) (32 ∷ (decimal p.plan.0 ++ (32 ∷ script_text p.plan.1))) times.0 params.times plan.text_is (dash p.params params.plain) in
-    let whole = three_more text (decimal p.number.0) p.number.1 p.name.0 p.named p.name.1 (times_text (times_of p.params) (flag_text p.params ++ (32 ∷ (decimal p.plan.0 ++ (32 ∷ script_text p.plan.1))))) number.text_is (cut_takes 32 p.number.1 p.name p.name_is) name.0 timed in
+    let params = params_take p.times.0 p.reclaim p.params (omega (arith, times.1.period.0)) p.params_is in
+    let flag = flag_of p.flag.0 p.reclaim p.params p.reclaim_is params.flag in
+    let plan = plan_takes p.flag.1 p.plan p.plan_is in
+    let flagged : p.times.1 ≡ flag_text p.params ++ (32 ∷ plan_text p.plan.0 p.plan.1) = cut_takes 32 p.times.1 p.flag p.flag_is ∙ ap (λ (x : List ℕ). x ++ 32 ∷ p.flag.1) flag ∙ after (flag_text p.params) plan.text_is in
+    let timed_text = timed_is p.name.1 p.times.0 (times_of p.params) p.times.1 (flag_text p.params ++ (32 ∷ plan_text p.plan.0 p.plan.1)) times.0 params.times flagged in
+    let whole = three_more text (decimal p.number.0) p.number.1 p.name.0 p.named p.name.1 (times_text (times_of p.params) (flag_text p.params ++ (32 ∷ plan_text p.plan.0 p.plan.1))) number.text_is (cut_takes 32 p.number.1 p.name p.name_is) name.0 timed_text in
     subst (TookCall (codes "admit") text) (same_Some (Admit p.number.0 p.named p.params p.plan.0 p.plan.1) call p.call_is)
-    (record { is_read = (record { numbered = (omega (arith, number.low), number.high); named = subst IsName name.0 name.1; checked = params.checked; soon = plan.soon; scripted = plan.scripted }, (params.plain, plan.read)); text_is = whole; word_is = refl })
+    (record { is_read = (record { numbered = (omega (arith, number.low), number.high); named = subst IsName name.0 name.1; checked = params.checked; soon = plan.soon; scripted = plan.scripted }, tt); text_is = whole; word_is = refl })
 
 admit_takes : (text : List ℕ) (call : Call) → admit_at text ≡ Some call → TookCall (codes "admit") text call
 admit_takes text call h = took_admit text call (admit_parts text call h)
@@ -222,50 +214,127 @@ name_lacks : (c : ℕ) (text : List ℕ) → c < 33 → All (λ b. (33 ≤ b) ×
 name_lacks c [] low h = tt
 name_lacks c (x ∷ xs) low h = ((λ same. omega (arith, same, h 0 0 (omega arith))), name_lacks c xs low (λ k d lt. h (suc k) d (omega arith)))
 
-admit_again : (number : ℕ) (name : List ℕ) (params : ParamsView) (delay : ℕ) (script : ScriptView) → IsAdmission number name params delay script → params.reclaim ≡ false → IsReadScript script
+admit_again : (number : ℕ) (name : List ℕ) (params : ParamsView) (delay : ℕ) (script : ScriptView) → IsAdmission number name params delay script
     → admit_at (admit_text number name params delay script) ≡ Some (Admit number name params delay script)
 unfolding admit_at
-admit_again number name params delay script is plain read =
-    let planned = codes "-" ++ (32 ∷ (decimal delay ++ (32 ∷ script_text script))) in
-    let timed = times_text (times_of params) planned in
-    let small = params_again params is.checked plain in
-    let whole : admit_text number name params delay script ≡ decimal number ++ (32 ∷ (name ++ (32 ∷ timed))) = rw plain refl in
+admit_again number name params delay script is =
+    let planned = plan_text delay script in
+    let flagged = flag_text params ++ (32 ∷ planned) in
+    let timed_text = times_text (times_of params) flagged in
+    let again = params_again params is.checked in
     rw (
-      whole,
-      field_again 1 65535 number (name ++ (32 ∷ timed)) (omega (arith, is.numbered.0)) is.numbered.1 (omega arith),
-      cut_again 32 name timed (name_lacks 32 name (omega arith) is.named.bytes),
+      field_again 1 65535 number (name ++ (32 ∷ timed_text)) (omega (arith, is.numbered.0)) is.numbered.1 (omega arith),
+      cut_again 32 name timed_text (name_lacks 32 name (omega arith) is.named.bytes),
       name_yes name is.named,
-      times_again (times_of params) planned small.1,
-      small.0,
-      plan_again delay script is.soon is.scripted read,
+      times_again (times_of params) flagged again.1,
+      cut_again 32 (flag_text params) planned (flag_lacks 32 params.reclaim refl refl),
+      flag_again params.reclaim,
+      again.0,
+      plan_again delay script is.soon is.scripted,
     ) refl
 
--- ---- advances
+-- ---- regrades
 
-advance_takes : (text : List ℕ) (call : Call) → advance_at text ≡ Some call → TookCall (codes "advance") text call
-unfolding advance_at
+abbrev made_regrade : ℕ → ParamsView → Option Call
+made_regrade number params = Some (Regrade number params None)
+
+regrade_takes : (text : List ℕ) (call : Call) → regrade_at text ≡ Some call → TookCall (codes "regrade") text call
+unfolding regrade_at
+regrade_takes text call h =
+    let a = bind_some (field_at 1 65535 text) (λ number. times_at number.1 >>= λ times. flag_at times.1 >>= λ reclaim. params_at times.0 reclaim >>= λ params. made_regrade number.0 params) call h in
+    let b = bind_some (times_at a.0.1) (λ times. flag_at times.1 >>= λ reclaim. params_at times.0 reclaim >>= λ params. made_regrade a.0.0 params) call a.2 in
+    let c = bind_some (flag_at b.0.1) (λ reclaim. params_at b.0.0 reclaim >>= λ params. made_regrade a.0.0 params) call b.2 in
+    let d = bind_some (params_at b.0.0 c.0) (λ params. made_regrade a.0.0 params) call c.2 in
+    let number = field_takes 1 65535 text a.0 a.1 in
+    let times = times_take a.0.1 b.0 b.1 in
+    let params = params_take b.0.0 c.0 d.0 (omega (arith, times.1.period.0)) d.1 in
+    let timed_text = timed_is a.0.1 b.0.0 (times_of d.0) b.0.1 (flag_text d.0) times.0 params.times (flag_of b.0.1 c.0 d.0 c.1 params.flag) in
+    subst (TookCall (codes "regrade") text) (same_Some (Regrade a.0.0 d.0 None) call d.2)
+    (record { is_read = (((omega (arith, number.low), number.high), params.checked, tt), refl); text_is = number.text_is ∙ after (decimal a.0.0) timed_text; word_is = refl })
+
+regrade_again : (number : ℕ) (params : ParamsView) → IsNumber number → IsChecked params → regrade_at (regrade_text number params) ≡ made_regrade number params
+unfolding regrade_at
+regrade_again number params is checked =
+    let again = params_again params checked in
+    rw (
+      field_again 1 65535 number (times_text (times_of params) (flag_text params)) (omega (arith, is.0)) is.1 (omega arith),
+      times_again (times_of params) (flag_text params) again.1,
+      flag_again params.reclaim,
+      again.0,
+    ) refl
+
+-- ---- calls of a number alone
+
+record TookNumbered (most : ℕ) (call : ℕ → Call) (text : List ℕ) (read : Call) : Type 0 where
+  n : ℕ
+  some : 0 < n
+  high : n ≤ most
+  text_is : text ≡ decimal n
+  read_is : call n ≡ read
+
+numbered_takes : (most : ℕ) (call : ℕ → Call) (text : List ℕ) (read : Call) → numbered_at most call text ≡ Some read → TookNumbered most call text read
+unfolding numbered_at
+numbered_takes most call text read h =
+    let a = bind_some (number_within_at 1 most text) (λ n. Some (call n)) read h in
+    let w = within_takes 1 most text a.0 a.1 in
+    record { n = a.0; some = omega (arith, w.1); high = w.2; text_is = w.0; read_is = same_Some (call a.0) read a.2 }
+
+numbered_again : (most : ℕ) (call : ℕ → Call) (n : ℕ) → 0 < n → n ≤ most → most < 10000000000000000000 → numbered_at most call (decimal n) ≡ Some (call n)
+unfolding numbered_at
+numbered_again most call n low high small = rw (within_again 1 most n (omega arith) high small) refl
+
+wake_takes : (text : List ℕ) (call : Call) → numbered_at 65535 Wake text ≡ Some call → TookCall (codes "wake") text call
+wake_takes text call h =
+    let t = numbered_takes 65535 Wake text call h in
+    subst (TookCall (codes "wake") text) t.read_is (record { is_read = ((t.some, t.high), tt); text_is = t.text_is; word_is = refl })
+
+leave_takes : (text : List ℕ) (call : Call) → numbered_at 65535 Leave text ≡ Some call → TookCall (codes "leave") text call
+leave_takes text call h =
+    let t = numbered_takes 65535 Leave text call h in
+    subst (TookCall (codes "leave") text) t.read_is (record { is_read = ((t.some, t.high), tt); text_is = t.text_is; word_is = refl })
+
+advance_takes : (text : List ℕ) (call : Call) → numbered_at 60000000 Advance text ≡ Some call → TookCall (codes "advance") text call
 advance_takes text call h =
-    let a = bind_some (number_within_at 1 60000000 text) (λ n. Some (Advance n)) call h in
-    let w = within_takes 1 60000000 text a.0 a.1 in
-    subst (TookCall (codes "advance") text) (same_Some (Advance a.0) call a.2) (record { is_read = ((omega (arith, w.1), w.2), tt); text_is = w.0; word_is = refl })
+    let t = numbered_takes 60000000 Advance text call h in
+    subst (TookCall (codes "advance") text) t.read_is (record { is_read = ((t.some, t.high), tt); text_is = t.text_is; word_is = refl })
 
-advance_again : (ticks : ℕ) → 0 < ticks → ticks ≤ 60000000 → advance_at (decimal ticks) ≡ Some (Advance ticks)
-unfolding advance_at
-advance_again ticks low high = rw (within_again 1 60000000 ticks (omega arith) high (omega arith)) refl
+-- ---- words
+
+-- a word that was read as this one
+as_word : (word known text : List ℕ) (call : Call) → bytes_eq word known ≡ true → TookCall known text call → TookCall word text call
+as_word word known text call is took = subst (λ (w : List ℕ). TookCall w text call) (sym ((bytes_eq-Decides word known).0 is)) took
+
+by_word : (word text : List ℕ) (call : Call) (admit regrade wake leave advance : Bool) → bytes_eq word (codes "admit") ≡ admit → bytes_eq word (codes "regrade") ≡ regrade → bytes_eq word (codes "wake") ≡ wake → bytes_eq word (codes "leave") ≡ leave → bytes_eq word (codes "advance") ≡ advance
+    → cond admit (admit_at text) (cond regrade (regrade_at text) (cond wake (numbered_at 65535 Wake text) (cond leave (numbered_at 65535 Leave text) (cond advance (numbered_at 60000000 Advance text) None)))) ≡ Some call → TookCall word text call
+by_word word text call true regrade wake leave advance is e2 e3 e4 e5 h = as_word word (codes "admit") text call is (admit_takes text call h)
+by_word word text call false true wake leave advance e1 is e3 e4 e5 h = as_word word (codes "regrade") text call is (regrade_takes text call h)
+by_word word text call false false true leave advance e1 e2 is e4 e5 h = as_word word (codes "wake") text call is (wake_takes text call h)
+by_word word text call false false false true advance e1 e2 e3 is e5 h = as_word word (codes "leave") text call is (leave_takes text call h)
+by_word word text call false false false false true e1 e2 e3 e4 is h = as_word word (codes "advance") text call is (advance_takes text call h)
+by_word word text call false false false false false e1 e2 e3 e4 e5 h = absurd cc
+
+worded_takes : (word text : List ℕ) (call : Call) → worded_at word text ≡ Some call → TookCall word text call
+unfolding worded_at
+worded_takes word text call h =
+    by_word word text call (bytes_eq word (codes "admit")) (bytes_eq word (codes "regrade")) (bytes_eq word (codes "wake")) (bytes_eq word (codes "leave")) (bytes_eq word (codes "advance")) refl refl refl refl refl h
+
+worded_again : (call : Call) → IsCallRead call → worded_at (word_text call) (call_text call) ≡ Some call
+unfolding worded_at
+worded_again (Admit number name params delay script) read = admit_again number name params delay script read.0
+worded_again (Regrade number params None) read = regrade_again number params read.0.0 read.0.1
+worded_again (Regrade number params (Some seen)) read = absurd (let e = read.1 in cc)
+worded_again (Wake number) read = numbered_again 65535 Wake number read.0.0 read.0.1 (omega arith)
+worded_again (Leave number) read = numbered_again 65535 Leave number read.0.0 read.0.1 (omega arith)
+worded_again (Advance ticks) read = numbered_again 60000000 Advance ticks read.0.0 read.0.1 (omega arith)
 
 -- ---- the lines of calls
 
-by_word : (word text : List ℕ) (call : Call) (admit advance : Bool) → bytes_eq word (codes "admit") ≡ admit → bytes_eq word (codes "advance") ≡ advance
-    → cond admit (admit_at text) (cond advance (advance_at text) None) ≡ Some call → TookCall word text call
-by_word word text call true advance is other h = subst (λ (w : List ℕ). TookCall w text call) (sym ((bytes_eq-Decides word (codes "admit")).0 is)) (admit_takes text call h)
-by_word word text call false true other is h = subst (λ (w : List ℕ). TookCall w text call) (sym ((bytes_eq-Decides word (codes "advance")).0 is)) (advance_takes text call h)
-by_word word text call false false other another h = absurd cc
-
 line_is : (client : ℕ) (call : Call) → IsReadCall call → line_of (call_fields client call) ≡ word_text call ++ (32 ∷ (decimal client ++ (32 ∷ call_text call)))
 line_is client (Admit number name params delay script) read = refl
-line_is client (Regrade number params word) read = absurd read
-line_is client (Wake number) read = absurd read
-line_is client (Leave number) read = absurd read
+line_is client (Regrade number params None) read = refl
+line_is client (Regrade number params (Some seen)) read = absurd cc
+line_is client (Wake number) read = refl
+line_is client (Leave number) read = refl
 line_is client (Advance ticks) read = refl
 
 abbrev made_call : ℕ → Call → Option (ℕ × Call)
@@ -283,48 +352,71 @@ framed line word after_word numbered after_client texted worded e1 e2 e3 e4 = e1
 pub call_takes : (line : List ℕ) (p : ℕ × Call) → call_at line ≡ Some p → TookLine line p.0 p.1
 unfolding call_at
 call_takes line p h =
-    let a = bind_some (cut_at 32 line) (λ word. field_at 1 64 word.1 >>= λ client. cond (bytes_eq word.0 (codes "admit")) (admit_at client.1) (cond (bytes_eq word.0 (codes "advance")) (advance_at client.1) None) >>= λ call. made_call client.0 call) p h in
-    let b = bind_some (field_at 1 64 a.0.1) (λ client. cond (bytes_eq a.0.0 (codes "admit")) (admit_at client.1) (cond (bytes_eq a.0.0 (codes "advance")) (advance_at client.1) None) >>= λ call. made_call client.0 call) p a.2 in
-    let c = bind_some (cond (bytes_eq a.0.0 (codes "admit")) (admit_at b.0.1) (cond (bytes_eq a.0.0 (codes "advance")) (advance_at b.0.1) None)) (λ call. made_call b.0.0 call) p b.2 in
+    let a = bind_some (cut_at 32 line) (λ word. field_at 1 64 word.1 >>= λ client. worded_at word.0 client.1 >>= λ call. made_call client.0 call) p h in
+    let b = bind_some (field_at 1 64 a.0.1) (λ client. worded_at a.0.0 client.1 >>= λ call. made_call client.0 call) p a.2 in
+    let c = bind_some (worded_at a.0.0 b.0.1) (λ call. made_call b.0.0 call) p b.2 in
     let client = field_takes 1 64 a.0.1 b.0 b.1 in
-    let call = by_word a.0.0 b.0.1 c.0 (bytes_eq a.0.0 (codes "admit")) (bytes_eq a.0.0 (codes "advance")) refl refl c.1 in
+    let call = worded_takes a.0.0 b.0.1 c.0 c.1 in
     let whole = framed line a.0.0 a.0.1 (decimal b.0.0) b.0.1 (call_text c.0) (word_text c.0) (cut_takes 32 line a.0 a.1) client.text_is call.text_is call.word_is in
     let made : ℕ × Call = (b.0.0, c.0) in
     subst (λ (q : ℕ × Call). TookLine line q.0 q.1) (same_Some made p c.2) (record { client_is = (omega (arith, client.low), client.high); is_read = call.is_read; line_is = whole ∙ sym (line_is b.0.0 c.0 call.is_read.1) })
 
+letters_lack : (c : ℕ) (word : List ℕ) → c < 97 → list_all (λ b. leb 97 b) word ≡ true → Lacks c word
+letters_lack c [] low h = tt
+letters_lack c (x ∷ xs) low h =
+    let p = and_parts (leb 97 x) (list_all (λ b. leb 97 b) xs) h in
+    let high = leb-true _ _ p.0 in
+    ((λ same. omega (arith, same, high)), letters_lack c xs low p.1)
+
+word_lacks : (c : ℕ) (call : Call) → c < 97 → Lacks c (word_text call)
+word_lacks c (Admit number name params delay script) low = letters_lack c (codes "admit") low refl
+word_lacks c (Regrade number params word) low = letters_lack c (codes "regrade") low refl
+word_lacks c (Wake number) low = letters_lack c (codes "wake") low refl
+word_lacks c (Leave number) low = letters_lack c (codes "leave") low refl
+word_lacks c (Advance ticks) low = letters_lack c (codes "advance") low refl
+
 pub call_again : (client : ℕ) (call : Call) → IsClient client → IsCallRead call → call_at (line_of (call_fields client call)) ≡ made_call client call
 unfolding call_at
-call_again client (Admit number name params delay script) is read =
-    let text = admit_text number name params delay script in
-    rw (cut_again 32 (codes "admit") (decimal client ++ (32 ∷ text)) (Lacks-written 32 (codes "admit") refl), field_again 1 64 client text (omega (arith, is.0)) is.1 (omega arith), admit_again number name params delay script read.0 read.1.0 read.1.1) refl
-call_again client (Regrade number params word) is read = absurd read.1
-call_again client (Wake number) is read = absurd read.1
-call_again client (Leave number) is read = absurd read.1
-call_again client (Advance ticks) is read =
-    rw (cut_again 32 (codes "advance") (decimal client ++ (32 ∷ decimal ticks)) (Lacks-written 32 (codes "advance") refl), field_again 1 64 client (decimal ticks) (omega (arith, is.0)) is.1 (omega arith), advance_again ticks read.0.0 read.0.1) refl
+call_again client call is read =
+    rw (
+      line_is client call read.1,
+      cut_again 32 (word_text call) (decimal client ++ (32 ∷ call_text call)) (word_lacks 32 call (omega arith)),
+      field_again 1 64 client (call_text call) (omega (arith, is.0)) is.1 (omega arith),
+      worded_again call read,
+    ) refl
 
--- a line has no line break
+-- ---- a line has no line break
+
 between_lacks : (a b : List ℕ) → Lacks 10 a → Lacks 10 b → Lacks 10 (a ++ (32 ∷ b))
 between_lacks a b h k = Lacks-append 10 a (32 ∷ b) h (eqb-false 32 10 refl, k)
 
+times_lack : (t : Times) (rest : List ℕ) → AreSmall t → Lacks 10 rest → Lacks 10 (times_text t rest)
+times_lack t rest small h =
+    let p = between_lacks (decimal t.period) rest (decimal_lacks 10 t.period refl (omega (arith, small.period.1))) h in
+    let d = between_lacks (decimal t.deadline) (decimal t.period ++ (32 ∷ rest)) (decimal_lacks 10 t.deadline refl (omega (arith, small.deadline.1))) p in
+    between_lacks (decimal t.runtime) (decimal t.deadline ++ (32 ∷ (decimal t.period ++ (32 ∷ rest)))) (decimal_lacks 10 t.runtime refl (omega (arith, small.runtime.1))) d
+
+number_lacks : (number : ℕ) (rest : List ℕ) → IsNumber number → Lacks 10 rest → Lacks 10 (decimal number ++ (32 ∷ rest))
+number_lacks number rest is h = between_lacks (decimal number) rest (decimal_lacks 10 number refl (omega (arith, is.1))) h
+
+call_lacks : (call : Call) → IsCallRead call → Lacks 10 (call_text call)
+call_lacks (Admit number name params delay script) read =
+    let scripted = between_lacks (decimal delay) (script_text script) (decimal_lacks 10 delay refl (omega (arith, read.0.soon))) (script_lacks script read.0.scripted) in
+    let flagged = between_lacks (flag_text params) (plan_text delay script) (flag_lacks 10 params.reclaim refl refl) scripted in
+    let planned = flag_text params ++ (32 ∷ plan_text delay script) in
+    let timed_text = times_lack (times_of params) planned (params_again params read.0.checked).1 flagged in
+    let named = between_lacks name (times_text (times_of params) planned) (name_lacks 10 name (omega arith) read.0.named.bytes) timed_text in
+    number_lacks number (name ++ (32 ∷ times_text (times_of params) planned)) read.0.numbered named
+call_lacks (Regrade number params word) read =
+    number_lacks number (times_text (times_of params) (flag_text params)) read.0.0 (times_lack (times_of params) (flag_text params) (params_again params read.0.1).1 (flag_lacks 10 params.reclaim refl refl))
+call_lacks (Wake number) read = decimal_lacks 10 number refl (omega (arith, read.0.1))
+call_lacks (Leave number) read = decimal_lacks 10 number refl (omega (arith, read.0.1))
+call_lacks (Advance ticks) read = decimal_lacks 10 ticks refl (omega (arith, read.0.1))
+
 pub line_lacks : (client : ℕ) (call : Call) → IsClient client → IsCallRead call → Lacks 10 (line_of (call_fields client call))
-line_lacks client (Admit number name params delay script) is read =
-    let small = (params_again params read.0.checked read.1.0).1 in
-    let scripted = between_lacks (decimal delay) (script_text script) (decimal_lacks 10 delay refl (omega (arith, read.0.soon))) (script_lacks script read.0.scripted read.1.1) in
-    let flag : Lacks 10 (flag_text params) = subst (Lacks 10) (sym (dash params read.1.0)) (Lacks-written 10 (codes "-") refl) in
-    let planned = between_lacks (flag_text params) _ flag scripted in
-    let p = between_lacks (decimal params.period) _ (decimal_lacks 10 params.period refl (omega (arith, small.period.1))) planned in
-    let d = between_lacks (decimal params.deadline) _ (decimal_lacks 10 params.deadline refl (omega (arith, small.deadline.1))) p in
-    let q = between_lacks (decimal params.runtime) _ (decimal_lacks 10 params.runtime refl (omega (arith, small.runtime.1))) d in
-    let n = between_lacks name _ (name_lacks 10 name (omega arith) read.0.named.bytes) q in
-    let m = between_lacks (decimal number) _ (decimal_lacks 10 number refl (omega (arith, read.0.numbered.1))) n in
-    let c = between_lacks (decimal client) _ (decimal_lacks 10 client refl (omega (arith, is.1))) m in
-    between_lacks (codes "admit") _ (Lacks-written 10 (codes "admit") refl) c
-line_lacks client (Regrade number params word) is read = absurd read.1
-line_lacks client (Wake number) is read = absurd read.1
-line_lacks client (Leave number) is read = absurd read.1
-line_lacks client (Advance ticks) is read =
-    between_lacks (codes "advance") _ (Lacks-written 10 (codes "advance") refl) (between_lacks (decimal client) _ (decimal_lacks 10 client refl (omega (arith, is.1))) (decimal_lacks 10 ticks refl (omega (arith, read.0.1))))
+line_lacks client call is read =
+    let texted = between_lacks (decimal client) (call_text call) (decimal_lacks 10 client refl (omega (arith, is.1))) (call_lacks call read) in
+    subst (Lacks 10) (sym (line_is client call read.1)) (between_lacks (word_text call) (decimal client ++ (32 ∷ call_text call)) (word_lacks 10 call (omega arith)) texted)
 
 -- ---- the line of a section
 
@@ -337,29 +429,30 @@ made_domain word cpus limit = cond (bytes_eq word (codes "domain")) (Some (cpus,
 -- what was read of a section's line
 pub record TookDomain (line : List ℕ) (cpus limit : ℕ) : Type 0 where
   pub line_is : line ≡ domain_text cpus limit
-  pub one : cpus ≡ 1
+  pub some : 0 < cpus
+  pub few : cpus ≤ 64
   pub low : 10485 ≤ limit
   pub high : limit ≤ 1048576
 
 pub domain_takes : (line : List ℕ) (d : ℕ × ℕ) → domain_at line ≡ Some d → TookDomain line d.0 d.1
 unfolding domain_at
 domain_takes line d h =
-    let a = bind_some (cut_at 32 line) (λ word. field_at 1 1 word.1 >>= λ cpus. number_within_at 10485 1048576 cpus.1 >>= λ limit. made_domain word.0 cpus.0 limit) d h in
-    let b = bind_some (field_at 1 1 a.0.1) (λ cpus. number_within_at 10485 1048576 cpus.1 >>= λ limit. made_domain a.0.0 cpus.0 limit) d a.2 in
+    let a = bind_some (cut_at 32 line) (λ word. field_at 1 64 word.1 >>= λ cpus. number_within_at 10485 1048576 cpus.1 >>= λ limit. made_domain word.0 cpus.0 limit) d h in
+    let b = bind_some (field_at 1 64 a.0.1) (λ cpus. number_within_at 10485 1048576 cpus.1 >>= λ limit. made_domain a.0.0 cpus.0 limit) d a.2 in
     let c = bind_some (number_within_at 10485 1048576 b.0.1) (λ limit. made_domain a.0.0 b.0.0 limit) d b.2 in
-    let cpus = field_takes 1 1 a.0.1 b.0 b.1 in
+    let cpus = field_takes 1 64 a.0.1 b.0 b.1 in
     let limit = within_takes 10485 1048576 b.0.1 c.0 c.1 in
     let made : ℕ × ℕ = (b.0.0, c.0) in
     let last = cond_some (bytes_eq a.0.0 (codes "domain")) made d c.2 in
     let word : a.0.0 ≡ codes "domain" = (bytes_eq-Decides a.0.0 (codes "domain")).0 last.0 in
     let whole = framed line a.0.0 a.0.1 (decimal b.0.0) b.0.1 (decimal c.0) (codes "domain") (cut_takes 32 line a.0 a.1) cpus.text_is limit.0 word in
-    subst (λ (q : ℕ × ℕ). TookDomain line q.0 q.1) last.1 (record { line_is = whole; one = omega (arith, cpus.low, cpus.high); low = limit.1; high = limit.2 })
+    subst (λ (q : ℕ × ℕ). TookDomain line q.0 q.1) last.1 (record { line_is = whole; some = omega (arith, cpus.low); few = cpus.high; low = limit.1; high = limit.2 })
 
-pub domain_again : (cpus limit : ℕ) → cpus ≡ 1 → 10485 ≤ limit → limit ≤ 1048576 → domain_at (domain_text cpus limit) ≡ paired cpus limit
+pub domain_again : (cpus limit : ℕ) → 0 < cpus → cpus ≤ 64 → 10485 ≤ limit → limit ≤ 1048576 → domain_at (domain_text cpus limit) ≡ paired cpus limit
 unfolding domain_at
-domain_again cpus limit one low high =
-    rw (cut_again 32 (codes "domain") (decimal cpus ++ (32 ∷ decimal limit)) (Lacks-written 32 (codes "domain") refl), field_again 1 1 cpus (decimal limit) (omega (arith, one)) (omega (arith, one)) (omega arith), within_again 10485 1048576 limit low high (omega arith)) refl
+domain_again cpus limit some few low high =
+    rw (cut_again 32 (codes "domain") (decimal cpus ++ (32 ∷ decimal limit)) (Lacks-written 32 (codes "domain") refl), field_again 1 64 cpus (decimal limit) (omega (arith, some)) few (omega arith), within_again 10485 1048576 limit low high (omega arith)) refl
 
-pub domain_lacks : (cpus limit : ℕ) → cpus ≡ 1 → limit ≤ 1048576 → Lacks 10 (domain_text cpus limit)
-domain_lacks cpus limit one high =
-    between_lacks (codes "domain") (decimal cpus ++ (32 ∷ decimal limit)) (Lacks-written 10 (codes "domain") refl) (between_lacks (decimal cpus) (decimal limit) (decimal_lacks 10 cpus refl (omega (arith, one))) (decimal_lacks 10 limit refl (omega arith)))
+pub domain_lacks : (cpus limit : ℕ) → cpus ≤ 64 → limit ≤ 1048576 → Lacks 10 (domain_text cpus limit)
+domain_lacks cpus limit few high =
+    between_lacks (codes "domain") (decimal cpus ++ (32 ∷ decimal limit)) (Lacks-written 10 (codes "domain") refl) (between_lacks (decimal cpus) (decimal limit) (decimal_lacks 10 cpus refl (omega (arith, few))) (decimal_lacks 10 limit refl (omega arith)))

@@ -1,12 +1,12 @@
 -- A script that is read is spelled so, and a script that is spelled is read.
-use Rattle.std.proofs.Common.{◌≡◌, ℕ, ◌≤◌, ◌<◌, Bool, true, false, cond, eqb, List, [], ◌∷◌, ◌++◌, length, All, Option, Some, None, refl, sym, ap, subst, ◌∙◌, append_assoc, inl, inr, arith, ℤ, pos, negsuc, w64, to_z, of_z}
+use Rattle.std.proofs.Common.{◌≡◌, ℕ, ◌≤◌, ◌<◌, Bool, true, false, ◌&&◌, cond, eqb, List, [], ◌∷◌, ◌++◌, length, Option, Some, None, refl, sym, ap, subst, ◌∙◌, append_assoc, inl, inr, arith, ℤ, pos, negsuc, w64, to_z, of_z}
 use Rattle.std.specs.Prelude.{decimal, codes, IfSome}
 use Rattle.std.specs.Char.{is_ascii_digit}
 use Rattle.std.specs.Str.{bytes_eq}
 use Rattle.std.specs.Option.{option_map_or}
 use Rattle.std.specs.List.{flat_map, AllByRecursion}
 use Rattle.std.proofs.lemmas.Int.{to_z-of_z, ints}
-use Rattle.std.proofs.lemmas.Bool.{cases_Bool, eqb-true, eqb-false, ne_eqb}
+use Rattle.std.proofs.lemmas.Bool.{cases_Bool, and_parts, eqb-true, eqb-false, ne_eqb}
 use Rattle.std.proofs.lemmas.Option.{same_Some}
 use Rattle.std.proofs.lemmas.List.{append-nil, length-append}
 use Rattle.std.proofs.lemmas.List.Elements.{All-from_recursion, recursion_from_All, All-weaker}
@@ -16,59 +16,68 @@ use Rattle.domain_run.specs.declared.script.Event.TheVariants.{Run, Sleep, Timer
 use Rattle.domain_run.specs.script.Segments.{rounds_of, IsLoops}
 use Rattle.domain_run.specs.script.ScriptView.{PhaseView, ScriptView, script_of, IsEvent, IsPhase, IsScript}
 use Rattle.call_book.specs.Spelling.{event_text, events_text, phase_text, loops_text, script_text}
-use Rattle.call_book.specs.Limits.{IsReadEvent, IsReadScript}
-use Rattle.call_book.specs.Reading.{◌>>=◌, cut_at, number_within_at, event_at, event_first_at, events_at, phase_at, phase_first_at, phases_at, rounds_at, script_at}
+use Rattle.call_book.specs.Reading.{◌>>=◌, cut_at, number_within_at, lasting_at, event_at, event_first_at, events_at, phase_at, phase_first_at, phases_at, rounds_at, script_at}
 use Rattle.call_book.proofs.Cuts.{Lacks, Lacks-append, cut_takes, cut_none, cut_again}
 use Rattle.call_book.proofs.Numbers.{bind_some, within_takes, within_again, decimal_lacks}
 use Rattle.call_book.proofs.Lists.{ReadsItems, TookItem, many_takes, many_again, joined-comma, joined-flat}
 
 -- ---- events
 
-abbrev pub IsEventRead : Event → Type 0
-IsEventRead e = IsEvent e × IsReadEvent e
+nothing_left : (rest : List ℕ) → length rest ≡ 0 → rest ≡ []
+nothing_left [] e = refl
+nothing_left (x ∷ rest) e = absurd (omega arith)
 
-run_takes : (digits : List ℕ) (e : Event) → (number_within_at 1 1000000000 digits >>= λ n. Some (Run n)) ≡ Some e → IsEventRead e × (114 ∷ digits ≡ event_text e)
-run_takes digits e h =
-    let b = bind_some (number_within_at 1 1000000000 digits) (λ n. Some (Run n)) e h in
+-- an event of so many microseconds
+lasting_takes : (letter : ℕ) (event : ℕ → Event) (digits : List ℕ) (e : Event) → ((n : ℕ) → (0 < n) × (n ≤ 1000000000) → IsEvent (event n)) → ((n : ℕ) → letter ∷ decimal n ≡ event_text (event n))
+    → lasting_at event digits ≡ Some e → IsEvent e × (letter ∷ digits ≡ event_text e)
+lasting_takes letter event digits e within text h =
+    let b = bind_some (number_within_at 1 1000000000 digits) (λ n. Some (event n)) e h in
     let w = within_takes 1 1000000000 digits b.0 b.1 in
-    subst (λ (x : Event). IsEventRead x × (114 ∷ digits ≡ event_text x)) (same_Some (Run b.0) e b.2) (((omega (arith, w.1), w.2), tt), ap (λ (d : List ℕ). 114 ∷ d) w.0)
+    subst (λ (x : Event). IsEvent x × (letter ∷ digits ≡ event_text x)) (same_Some (event b.0) e b.2) (within b.0 (omega (arith, w.1), w.2), ap (λ (d : List ℕ). letter ∷ d) w.0 ∙ text b.0)
 
-sleep_takes : (digits : List ℕ) (e : Event) → (number_within_at 1 1000000000 digits >>= λ n. Some (Sleep n)) ≡ Some e → IsEventRead e × (115 ∷ digits ≡ event_text e)
-sleep_takes digits e h =
-    let b = bind_some (number_within_at 1 1000000000 digits) (λ n. Some (Sleep n)) e h in
-    let w = within_takes 1 1000000000 digits b.0 b.1 in
-    subst (λ (x : Event). IsEventRead x × (115 ∷ digits ≡ event_text x)) (same_Some (Sleep b.0) e b.2) (((omega (arith, w.1), w.2), tt), ap (λ (d : List ℕ). 115 ∷ d) w.0)
+wait_takes : (c : ℕ) (digits : List ℕ) (e : Event) → (eqb c 119 && eqb (length digits) 0) ≡ true → Some Wait ≡ Some e → IsEvent e × (c ∷ digits ≡ event_text e)
+wait_takes c digits e is h =
+    let p = and_parts (eqb c 119) (eqb (length digits) 0) is in
+    subst (λ (x : Event). IsEvent x × (c ∷ digits ≡ event_text x)) (same_Some Wait e h)
+    (tt, ap (λ (x : ℕ). x ∷ digits) (eqb-true _ _ p.0) ∙ ap (λ (d : List ℕ). 119 ∷ d) (nothing_left digits (eqb-true _ _ p.1)))
 
-by_letter : (c : ℕ) (digits : List ℕ) (e : Event) (run sleep : Bool) → eqb c 114 ≡ run → eqb c 115 ≡ sleep
-    → cond run (number_within_at 1 1000000000 digits >>= λ n. Some (Run n)) (cond sleep (number_within_at 1 1000000000 digits >>= λ n. Some (Sleep n)) None) ≡ Some e
-    → IsEventRead e × (c ∷ digits ≡ event_text e)
-by_letter c digits e true sleep is isnt h = let t = run_takes digits e h in (t.0, ap (λ (x : ℕ). x ∷ digits) (eqb-true _ _ is) ∙ t.1)
-by_letter c digits e false true isnt is h = let t = sleep_takes digits e h in (t.0, ap (λ (x : ℕ). x ∷ digits) (eqb-true _ _ is) ∙ t.1)
-by_letter c digits e false false isnt other h = absurd cc
+with_letter : (c letter : ℕ) (digits : List ℕ) (e : Event) → eqb c letter ≡ true → IsEvent e × (letter ∷ digits ≡ event_text e) → IsEvent e × (c ∷ digits ≡ event_text e)
+with_letter c letter digits e is t = (t.0, ap (λ (x : ℕ). x ∷ digits) (eqb-true _ _ is) ∙ t.1)
 
-event_takes : (text : List ℕ) (e : Event) → event_at text ≡ Some e → IsEventRead e × (text ≡ event_text e)
+by_letter : (c : ℕ) (digits : List ℕ) (e : Event) (run sleep timer wait : Bool) → eqb c 114 ≡ run → eqb c 115 ≡ sleep → eqb c 116 ≡ timer → (eqb c 119 && eqb (length digits) 0) ≡ wait
+    → cond run (lasting_at Run digits) (cond sleep (lasting_at Sleep digits) (cond timer (lasting_at Timer digits) (cond wait (Some Wait) None))) ≡ Some e
+    → IsEvent e × (c ∷ digits ≡ event_text e)
+by_letter c digits e true sleep timer wait is e2 e3 e4 h = with_letter c 114 digits e is (lasting_takes 114 Run digits e (λ n w. w) (λ n. refl) h)
+by_letter c digits e false true timer wait e1 is e3 e4 h = with_letter c 115 digits e is (lasting_takes 115 Sleep digits e (λ n w. w) (λ n. refl) h)
+by_letter c digits e false false true wait e1 e2 is e4 h = with_letter c 116 digits e is (lasting_takes 116 Timer digits e (λ n w. w) (λ n. refl) h)
+by_letter c digits e false false false true e1 e2 e3 is h = wait_takes c digits e is h
+by_letter c digits e false false false false e1 e2 e3 e4 h = absurd cc
+
+event_takes : (text : List ℕ) (e : Event) → event_at text ≡ Some e → IsEvent e × (text ≡ event_text e)
 unfolding event_at
 event_takes [] e h = absurd cc
-event_takes (c ∷ digits) e h = by_letter c digits e (eqb c 114) (eqb c 115) refl refl h
+event_takes (c ∷ digits) e h = by_letter c digits e (eqb c 114) (eqb c 115) (eqb c 116) (eqb c 119 && eqb (length digits) 0) refl refl refl refl h
 
-event_again : (e : Event) → IsEventRead e → event_at (event_text e) ≡ Some e
+event_again : (e : Event) → IsEvent e → event_at (event_text e) ≡ Some e
 unfolding event_at
-event_again (Run n) is = rw (within_again 1 1000000000 n (omega (arith, is.0.0)) is.0.1 (omega arith)) refl
-event_again (Sleep n) is = rw (within_again 1 1000000000 n (omega (arith, is.0.0)) is.0.1 (omega arith)) refl
-event_again (Timer n) is = absurd is.1
-event_again Wait is = absurd is.1
+event_again (Run n) is = rw (within_again 1 1000000000 n (omega (arith, is.0)) is.1 (omega arith)) refl
+event_again (Sleep n) is = rw (within_again 1 1000000000 n (omega (arith, is.0)) is.1 (omega arith)) refl
+event_again (Timer n) is = rw (within_again 1 1000000000 n (omega (arith, is.0)) is.1 (omega arith)) refl
+event_again Wait is = refl
 
 -- a byte that stands in no event
 pub record IsMark (c : ℕ) : Type 0 where
   pub digit : is_ascii_digit c ≡ false
   pub run : eqb 114 c ≡ false
   pub sleep : eqb 115 c ≡ false
+  pub timer : eqb 116 c ≡ false
+  pub wait : eqb 119 c ≡ false
 
-event_lacks : (c : ℕ) (e : Event) → IsMark c → IsEventRead e → Lacks c (event_text e)
-event_lacks c (Run n) mark is = (eqb-false _ _ mark.run, decimal_lacks c n mark.digit (omega (arith, is.0.1)))
-event_lacks c (Sleep n) mark is = (eqb-false _ _ mark.sleep, decimal_lacks c n mark.digit (omega (arith, is.0.1)))
-event_lacks c (Timer n) mark is = absurd is.1
-event_lacks c Wait mark is = absurd is.1
+event_lacks : (c : ℕ) (e : Event) → IsMark c → IsEvent e → Lacks c (event_text e)
+event_lacks c (Run n) mark is = (eqb-false _ _ mark.run, decimal_lacks c n mark.digit (omega (arith, is.1)))
+event_lacks c (Sleep n) mark is = (eqb-false _ _ mark.sleep, decimal_lacks c n mark.digit (omega (arith, is.1)))
+event_lacks c (Timer n) mark is = (eqb-false _ _ mark.timer, decimal_lacks c n mark.digit (omega (arith, is.1)))
+event_lacks c Wait mark is = (eqb-false _ _ mark.wait, tt)
 
 event_some : (e : Event) → 0 < length (event_text e)
 event_some (Run n) = omega arith
@@ -82,20 +91,20 @@ put x rest = Some (x, rest)
 
 first_by : (text : List ℕ) (x : Event) (rest : Option (List ℕ)) (o : Option (List ℕ × List ℕ)) → cut_at 44 text ≡ o
     → option_map_or (λ p. event_at p.0 >>= λ e. put e (Some p.1)) o (event_at text >>= λ e. put e None) ≡ put x rest
-    → TookItem IsEventRead (44 ∷ []) event_text text x rest
+    → TookItem IsEvent (44 ∷ []) event_text text x rest
 first_by text x rest None cut h =
     let b = bind_some (event_at text) (λ e. put e None) (x, rest) h in
-    subst (λ (q : Event × Option (List ℕ)). TookItem IsEventRead (44 ∷ []) event_text text q.0 q.1) (same_Some (b.0, None) (x, rest) b.2) (event_takes text b.0 b.1)
+    subst (λ (q : Event × Option (List ℕ)). TookItem IsEvent (44 ∷ []) event_text text q.0 q.1) (same_Some (b.0, None) (x, rest) b.2) (event_takes text b.0 b.1)
 first_by text x rest (Some p) cut h =
     let b = bind_some (event_at p.0) (λ e. put e (Some p.1)) (x, rest) h in
     let t = event_takes p.0 b.0 b.1 in
     let whole : text ≡ event_text b.0 ++ (44 ∷ p.1) = cut_takes 44 text p cut ∙ ap (λ (a : List ℕ). a ++ (44 ∷ p.1)) t.1 in
-    subst (λ (q : Event × Option (List ℕ)). TookItem IsEventRead (44 ∷ []) event_text text q.0 q.1) (same_Some (b.0, Some p.1) (x, rest) b.2) (t.0, whole)
+    subst (λ (q : Event × Option (List ℕ)). TookItem IsEvent (44 ∷ []) event_text text q.0 q.1) (same_Some (b.0, Some p.1) (x, rest) b.2) (t.0, whole)
 
 comma : IsMark 44
-comma = record { digit = refl; run = refl; sleep = refl }
+comma = record { digit = refl; run = refl; sleep = refl; timer = refl; wait = refl }
 
-reads_events : ReadsItems event_first_at IsEventRead (44 ∷ []) event_text
+reads_events : ReadsItems event_first_at IsEvent (44 ∷ []) event_text
 unfolding event_first_at
 reads_events = record {
   takes = λ text x rest h. first_by text x rest (cut_at 44 text) refl h;
@@ -107,17 +116,17 @@ reads_events = record {
 pub record AreEventsRead (events : List Event) : Type 0 where
   pub some : 0 < length events
   pub few : length events ≤ 64
-  pub each : AllByRecursion IsEventRead events
+  pub each : AllByRecursion IsEvent events
 
 events_take : (text : List ℕ) (events : List Event) → events_at text ≡ Some events → AreEventsRead events × (text ≡ events_text events)
 events_take text events h =
-    let t = many_takes event_first_at IsEventRead (44 ∷ []) event_text reads_events 64 text events h in
+    let t = many_takes event_first_at IsEvent (44 ∷ []) event_text reads_events 64 text events h in
     (record { some = t.some; few = t.few; each = t.each }, t.text_is ∙ joined-comma event_text events)
 
 events_again : (events : List Event) → AreEventsRead events → events_at (events_text events) ≡ Some events
-events_again events are = ap events_at (sym (joined-comma event_text events)) ∙ many_again event_first_at IsEventRead (44 ∷ []) event_text reads_events 64 events are.some are.few are.each
+events_again events are = ap events_at (sym (joined-comma event_text events)) ∙ many_again event_first_at IsEvent (44 ∷ []) event_text reads_events 64 events are.some are.few are.each
 
-events_lack : (c : ℕ) (events : List Event) → IsMark c → eqb 44 c ≡ false → AllByRecursion IsEventRead events → Lacks c (events_text events)
+events_lack : (c : ℕ) (events : List Event) → IsMark c → eqb 44 c ≡ false → AllByRecursion IsEvent events → Lacks c (events_text events)
 events_lack c [] mark no_comma each = tt
 events_lack c (e ∷ []) mark no_comma each = event_lacks c e mark each.0
 events_lack c (e ∷ f ∷ events) mark no_comma each = Lacks-append c (event_text e) (44 ∷ events_text (f ∷ events)) (event_lacks c e mark each.0) (eqb-false _ _ no_comma, events_lack c (f ∷ events) mark no_comma each.1)
@@ -157,7 +166,7 @@ phase_again p is =
     rw (cut_again 123 (decimal p.count) (events_text p.events) (decimal_lacks 123 p.count refl (omega (arith, is.1))), within_again 1 1000000000 p.count (omega (arith, is.0)) is.1 (omega arith), events_again p.events is.2) refl
 
 brace : IsMark 125
-brace = record { digit = refl; run = refl; sleep = refl }
+brace = record { digit = refl; run = refl; sleep = refl; timer = refl; wait = refl }
 
 body_lacks : (c : ℕ) (p : PhaseView) → IsMark c → eqb 44 c ≡ false → eqb 123 c ≡ false → IsPhaseRead p → Lacks c (phase_body p)
 body_lacks c p mark no_comma no_brace is =
@@ -165,10 +174,6 @@ body_lacks c p mark no_comma no_brace is =
 
 phase_some : (p : PhaseView) → 0 < length (phase_text p)
 phase_some p = omega (arith, length-append (decimal p.count) (codes "{" ++ (events_text p.events ++ codes "}")))
-
-nothing_left : (rest : List ℕ) → length rest ≡ 0 → rest ≡ []
-nothing_left [] e = refl
-nothing_left (x ∷ rest) e = absurd (omega arith)
 
 first_phase : (text rest : List ℕ) (p : PhaseView) (after : Option (List ℕ)) (b : Bool) → eqb (length rest) 0 ≡ b → IsPhaseRead p → text ≡ phase_body p ++ (125 ∷ rest) → cond b None (Some rest) ≡ after → TookItem IsPhaseRead [] phase_text text p after
 first_phase text rest p after true none is e h = subst (TookItem IsPhaseRead [] phase_text text p) h (is, e ∙ ap (λ (r : List ℕ). phase_body p ++ (125 ∷ r)) (nothing_left rest (eqb-true _ _ none)) ∙ sym (body_brace p []) ∙ append-nil (phase_text p))
@@ -213,21 +218,17 @@ abbrev AreRounds : Option ℕ → Type 0
 AreRounds rounds = IfSome rounds (λ n. (0 < n) × (n ≤ 1000000000))
 
 -- what the definitions say of a script that is read
-pub is_phase : (p : PhaseView) → IsPhaseRead p → IsPhase p × All IsReadEvent p.events
-is_phase p is =
-    let each = All-from_recursion IsEventRead p.events is.2.each in
-    (record { some = is.0; most = is.1; some_events = is.2.some; most_events = is.2.few; events = All-weaker IsEventRead IsEvent (λ e h. h.0) p.events each }, All-weaker IsEventRead IsReadEvent (λ e h. h.1) p.events each)
+pub is_phase : (p : PhaseView) → IsPhaseRead p → IsPhase p
+is_phase p is = record { some = is.0; most = is.1; some_events = is.2.some; most_events = is.2.few; events = All-from_recursion IsEvent p.events is.2.each }
 
-pub phase_is : (p : PhaseView) → IsPhase p → All IsReadEvent p.events → IsPhaseRead p
-phase_is p is read = (is.some, is.most, record { some = is.some_events; few = is.most_events; each = recursion_from_All IsEventRead p.events (λ k d lt. (is.events k d lt, read k d lt)) })
+pub phase_is : (p : PhaseView) → IsPhase p → IsPhaseRead p
+phase_is p is = (is.some, is.most, record { some = is.some_events; few = is.most_events; each = recursion_from_All IsEvent p.events is.events })
 
-pub is_script : (s : ScriptView) → AreRounds s.rounds → ArePhasesRead s.phases → IsScript s × IsReadScript s
-is_script s rounds are =
-    let each = All-from_recursion IsPhaseRead s.phases are.each in
-    (record { rounds = rounds; some_phases = are.some; most_phases = are.few; phases = All-weaker IsPhaseRead IsPhase (λ p h. (is_phase p h).0) s.phases each }, All-weaker IsPhaseRead (λ p. All IsReadEvent p.events) (λ p h. (is_phase p h).1) s.phases each)
+pub is_script : (s : ScriptView) → AreRounds s.rounds → ArePhasesRead s.phases → IsScript s
+is_script s rounds are = record { rounds = rounds; some_phases = are.some; most_phases = are.few; phases = All-weaker IsPhaseRead IsPhase is_phase s.phases (All-from_recursion IsPhaseRead s.phases are.each) }
 
-pub script_is : (s : ScriptView) → IsScript s → IsReadScript s → ArePhasesRead s.phases
-script_is s is read = record { some = is.some_phases; few = is.most_phases; each = recursion_from_All IsPhaseRead s.phases (λ k d lt. phase_is _ (is.phases k d lt) (read k d lt)) }
+pub script_is : (s : ScriptView) → IsScript s → ArePhasesRead s.phases
+script_is s is = record { some = is.some_phases; few = is.most_phases; each = recursion_from_All IsPhaseRead s.phases (λ k d lt. phase_is _ (is.phases k d lt)) }
 
 rounds_by : (text : List ℕ) (rounds : Option ℕ) (b : Bool) → bytes_eq text (codes "-1") ≡ b → cond b (Some None) (number_within_at 1 1000000000 text >>= λ n. Some (Some n)) ≡ Some rounds → AreRounds rounds × (text ≡ loops_text rounds)
 rounds_by text rounds true e h = subst (λ (r : Option ℕ). AreRounds r × (text ≡ loops_text r)) (same_Some None rounds h) (tt, (bytes_eq-Decides text (codes "-1")).0 e)
@@ -264,15 +265,15 @@ phases_lack c (p ∷ phases) mark no_comma no_brace no_end each =
     Lacks-append c (phase_text p) (flat_map phase_text phases) first (phases_lack c phases mark no_comma no_brace no_end each.1)
 
 -- a script has no line break
-pub script_lacks : (s : ScriptView) → IsScript s → IsReadScript s → Lacks 10 (script_text s)
-script_lacks s is read =
+pub script_lacks : (s : ScriptView) → IsScript s → Lacks 10 (script_text s)
+script_lacks s is =
     Lacks-append 10 (loops_text s.rounds) (58 ∷ flat_map phase_text s.phases) (loops_lack 10 s.rounds refl refl is.rounds)
-    (eqb-false 58 10 refl, phases_lack 10 s.phases (record { digit = refl; run = refl; sleep = refl }) refl refl refl (script_is s is read).each)
+    (eqb-false 58 10 refl, phases_lack 10 s.phases (record { digit = refl; run = refl; sleep = refl; timer = refl; wait = refl }) refl refl refl (script_is s is).each)
 
 abbrev made_script : Option ℕ → List PhaseView → Option ScriptView
 made_script rounds phases = Some (script_of rounds phases)
 
-pub script_takes : (text : List ℕ) (s : ScriptView) → script_at text ≡ Some s → (IsScript s × IsReadScript s) × (text ≡ script_text s)
+pub script_takes : (text : List ℕ) (s : ScriptView) → script_at text ≡ Some s → IsScript s × (text ≡ script_text s)
 unfolding script_at
 script_takes text s h =
     let a = bind_some (cut_at 58 text) (λ q. rounds_at q.0 >>= λ rounds. phases_at q.1 >>= λ phases. made_script rounds phases) s h in
@@ -281,16 +282,16 @@ script_takes text s h =
     let rounds = rounds_take a.0.0 b.0 b.1 in
     let phases = phases_take a.0.1 d.0 d.1 in
     let whole : text ≡ loops_text b.0 ++ (58 ∷ flat_map phase_text d.0) = cut_takes 58 text a.0 a.1 ∙ ap (λ (x : List ℕ). x ++ (58 ∷ a.0.1)) rounds.1 ∙ ap (λ (y : List ℕ). loops_text b.0 ++ (58 ∷ y)) phases.1 in
-    subst (λ (q : ScriptView). (IsScript q × IsReadScript q) × (text ≡ script_text q)) (same_Some (script_of b.0 d.0) s d.2) (is_script (script_of b.0 d.0) rounds.0 phases.0, whole)
+    subst (λ (q : ScriptView). IsScript q × (text ≡ script_text q)) (same_Some (script_of b.0 d.0) s d.2) (is_script (script_of b.0 d.0) rounds.0 phases.0, whole)
 
-pub script_again : (s : ScriptView) → IsScript s → IsReadScript s → script_at (script_text s) ≡ Some s
+pub script_again : (s : ScriptView) → IsScript s → script_at (script_text s) ≡ Some s
 unfolding script_at
-script_again s is read =
-    rw (cut_again 58 (loops_text s.rounds) (flat_map phase_text s.phases) (loops_lack 58 s.rounds refl refl is.rounds), rounds_again s.rounds is.rounds, phases_again s.phases (script_is s is read)) refl
+script_again s is =
+    rw (cut_again 58 (loops_text s.rounds) (flat_map phase_text s.phases) (loops_lack 58 s.rounds refl refl is.rounds), rounds_again s.rounds is.rounds, phases_again s.phases (script_is s is)) refl
 
 -- the phases that are read are within the limits of a script
 pub phases_within : (text : List ℕ) (rounds : Option ℕ) (phases : List PhaseView) → phases_at text ≡ Some phases → AreRounds rounds → IsScript (script_of rounds phases)
-phases_within text rounds phases h is = (is_script (script_of rounds phases) is (phases_take text phases h).0).0
+phases_within text rounds phases h is = is_script (script_of rounds phases) is (phases_take text phases h).0
 
 kept : (z : ℤ) → IsLoops z → to_z w64 (of_z w64 z) ≡ z
 kept (pos n) is = to_z-of_z w64 (pos n) (omega (arith, ints, is.1))

@@ -26,7 +26,8 @@ use Rattle.call_book.proofs.Lines.{call_again, line_lacks, domain_takes, domain_
 
 -- a section that is read
 pub record IsSectionRead (s : SectionView) : Type 0 where
-  pub one : s.cpus ≡ 1
+  pub some : 0 < s.cpus
+  pub most : s.cpus ≤ 64
   pub low : 10485 ≤ s.limit
   pub high : s.limit ≤ 1048576
   pub few : length s.entries ≤ 65536
@@ -44,8 +45,8 @@ are_read s is =
         some = omega arith;
         most = omega arith;
         each = only_one IsSection s (record {
-          some_cpus = omega (arith, is.one);
-          most_cpus = omega (arith, is.one);
+          some_cpus = is.some;
+          most_cpus = is.most;
           least_limit = is.low;
           most_limit = is.high;
           most_entries = is.few;
@@ -55,7 +56,7 @@ are_read s is =
       };
       unanswered = only_one (λ (t : SectionView). All (λ (e : Entry). e.reply ≡ None) t.entries) s (All-weaker IsEntryRead (λ e. e.reply ≡ None) (λ e h. h.unanswered) s.entries each);
       calls = only_one (λ (t : SectionView). All (λ (e : Entry). IsReadCall e.call) t.entries) s (All-weaker IsEntryRead (λ e. IsReadCall e.call) (λ e h. h.read) s.entries each);
-      one_cpu = is.one;
+      one = omega arith;
     }
 
 -- what is read is one section
@@ -65,7 +66,7 @@ pub record OneRead (sections : List SectionView) : Type 0 where
   pub is : IsSectionRead section
 
 pub one_read : (sections : List SectionView) → AreRead sections → OneRead sections
-one_read [] are = absurd are.one_cpu
+one_read [] are = absurd (omega (arith, are.one))
 one_read (s ∷ []) are =
     let is = All-head IsSection s [] are.within.each in
     let unanswered = All-head (λ (t : SectionView). All (λ (e : Entry). e.reply ≡ None) t.entries) s [] are.unanswered in
@@ -74,7 +75,8 @@ one_read (s ∷ []) are =
       section = s;
       one = refl;
       is = record {
-        one = are.one_cpu;
+        some = is.some_cpus;
+        most = is.most_cpus;
         low = is.least_limit;
         high = is.most_limit;
         few = is.most_entries;
@@ -82,7 +84,7 @@ one_read (s ∷ []) are =
         numbered = is.numbered;
       };
     }
-one_read (s ∷ t ∷ sections) are = absurd are.one_cpu
+one_read (s ∷ t ∷ sections) are = absurd (omega (arith, are.one))
 
 -- ---- the text of one section
 
@@ -99,14 +101,14 @@ header_cut : (rest : List ℕ) → cut_at 10 (codes "dlcalls 1" ++ (10 ∷ rest)
 header_cut rest = cut_again 10 (codes "dlcalls 1") rest (Lacks-written 10 (codes "dlcalls 1") refl)
 
 domain_cut : (s : SectionView) (rest : List ℕ) → IsSectionRead s → cut_at 10 (domain_line s ++ (10 ∷ rest)) ≡ Some (domain_line s, rest)
-domain_cut s rest is = cut_again 10 (domain_line s) rest (domain_lacks s.cpus s.limit is.one is.high)
+domain_cut s rest is = cut_again 10 (domain_line s) rest (domain_lacks s.cpus s.limit is.most is.high)
 
 -- a section that is read
 abbrev sample : SectionView
 sample = record { cpus = 1; limit = 1048576; entries = [] }
 
 sample_is : IsSectionRead sample
-sample_is = record { one = refl; low = omega arith; high = omega arith; few = omega arith; each = tt; numbered = tt }
+sample_is = record { some = omega arith; most = omega arith; low = omega arith; high = omega arith; few = omega arith; each = tt; numbered = tt }
 
 -- ---- the first bad line
 
@@ -241,10 +243,10 @@ bad_line_at text rest s n header is stop same_as =
           stop.stops (omega (arith, g.within, o.is.few)) g.entry g.after g.is g.rest_is;
     }
 
-pub bad_entry : (text line rest : List ℕ) (cpus limit n : ℕ) → text ≡ codes "dlcalls 1" ++ (10 ∷ (line ++ (10 ∷ rest))) → line ≡ domain_line (section_from cpus limit []) → cpus ≡ 1 → 10485 ≤ limit → limit ≤ 1048576 → Stops rest n → IsBadLine text n
-bad_entry text line rest cpus limit n header line_is one low high stop =
+pub bad_entry : (text line rest : List ℕ) (cpus limit n : ℕ) → text ≡ codes "dlcalls 1" ++ (10 ∷ (line ++ (10 ∷ rest))) → line ≡ domain_line (section_from cpus limit []) → 0 < cpus → cpus ≤ 64 → 10485 ≤ limit → limit ≤ 1048576 → Stops rest n → IsBadLine text n
+bad_entry text line rest cpus limit n header line_is some most low high stop =
     bad_line_at text rest (section_from cpus limit stop.entries) n (header ∙ ap (λ (l : List ℕ). codes "dlcalls 1" ++ (10 ∷ (l ++ (10 ∷ rest)))) line_is)
-    (record { one = one; low = low; high = high; few = stop.few; each = stop.so_far.each; numbered = stop.so_far.numbered }) stop refl
+    (record { some = some; most = most; low = low; high = high; few = stop.few; each = stop.so_far.each; numbered = stop.so_far.numbered }) stop refl
 
 -- ---- one spelling
 
@@ -282,7 +284,7 @@ same_entries before (x ∷ entries) (y ∷ others) each each' numbered numbered'
 same_section : (s t : SectionView) → IsSectionRead s → IsSectionRead t → spelling (s ∷ []) ≡ spelling (t ∷ []) → s ≡ t
 same_section s t is is' e =
     let parts = same_parts s t (entries_text s.entries) (entries_text t.entries) is is' (sym (spelling_one s) ∙ e ∙ spelling_one t) in
-    let again = sym (domain_again s.cpus s.limit is.one is.low is.high) ∙ ap domain_at parts.first_is ∙ domain_again t.cpus t.limit is'.one is'.low is'.high in
+    let again = sym (domain_again s.cpus s.limit is.some is.most is.low is.high) ∙ ap domain_at parts.first_is ∙ domain_again t.cpus t.limit is'.some is'.most is'.low is'.high in
     let p = some_pair_parts s.cpus t.cpus s.limit t.limit again in
     let entries = same_entries [] s.entries t.entries is.each is'.each is.numbered is'.numbered parts.rest_is in
     ap (λ (c : ℕ). section_from c s.limit s.entries) p.0 ∙ ap (λ (l : ℕ). section_from t.cpus l s.entries) p.1 ∙ ap (section_from t.cpus t.limit) entries
@@ -326,7 +328,7 @@ other_domain : (text line rest : List ℕ) → Opens text line rest → domain_a
 other_domain text line rest o none =
     bad_domain text o.body (header_first text o.header o.body o.header_is o.right) (λ s after is same.
     let line_is = (some_pair_parts line (domain_line s) rest after (sym o.line_is ∙ ap (cut_at 10) same ∙ domain_cut s after is)).0 in
-    absurd (let f = sym none ∙ ap domain_at line_is ∙ domain_again s.cpus s.limit is.one is.low is.high in cc))
+    absurd (let f = sym none ∙ ap domain_at line_is ∙ domain_again s.cpus s.limit is.some is.most is.low is.high in cc))
 
 pub domain_fault : (text line rest : List ℕ) (fault : PartFault) → Opens text line rest → Fails fault (domain_at line) → MeansFault text (fault_from 2 fault)
 domain_fault text line rest Bad o none = other_domain text line rest o none
@@ -340,7 +342,7 @@ opened text line rest d o read =
 pub entries_fault : (text line rest : List ℕ) (d : ℕ × ℕ) (fault : CallsFault) → Opens text line rest → domain_at line ≡ Some d → StopsAt rest fault → MeansFault text fault
 entries_fault text line rest d (faults.BadLine n) o read stop =
     let t = domain_takes line d read in
-    bad_entry text (domain_line (section_from d.0 d.1 [])) rest d.0 d.1 n (opened text line rest d o read) refl t.one t.low t.high stop
+    bad_entry text (domain_line (section_from d.0 d.1 [])) rest d.0 d.1 n (opened text line rest d o read) refl t.some t.few t.low t.high stop
 entries_fault text line rest d faults.Memory o read stop = tt
 
 pub section_found : (text line rest : List ℕ) (d : ℕ × ℕ) (entries : List Entry) → Opens text line rest → domain_at line ≡ Some d → SoFar rest [] entries → length entries ≤ 65536
@@ -349,6 +351,6 @@ section_found text line rest d entries o read so_far few =
     let t = domain_takes line d read in
     let s = section_from d.0 d.1 entries in
     let body : rest ≡ entries_text entries = so_far.parts ∙ append-nil (entries_text entries) in (
-      are_read s (record { one = t.one; low = t.low; high = t.high; few = few; each = so_far.each; numbered = so_far.numbered }),
+      are_read s (record { some = t.some; most = t.few; low = t.low; high = t.high; few = few; each = so_far.each; numbered = so_far.numbered }),
       opened text line rest d o read ∙ ap (λ (b : List ℕ). codes "dlcalls 1" ++ (10 ∷ (domain_line s ++ (10 ∷ b)))) body ∙ sym (spelling_one s),
     )

@@ -3,5 +3,8 @@ pub mod Spelling
 pub mod OwnCalls
 pub mod Limits
 pub mod BadLine
+pub mod RoundTrip
+pub mod FaultText
 pub mod Examples
 pub mod Reading
+pub mod Writing

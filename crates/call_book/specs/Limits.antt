@@ -1,11 +1,9 @@
 -- Which sections have a spelling, and which of them are read (own).
-use Rattle.std.specs.Prelude.{◌≡◌, ℕ, ◌≤◌, ◌<◌, ◌*◌, ◌^◌, false, List, [], ◌∷◌, length, All, None, IfSome, Ok, if◌then◌else◌}
+use Rattle.std.specs.Prelude.{◌≡◌, ℕ, ◌≤◌, ◌<◌, ◌*◌, ◌^◌, List, length, All, None, IfSome, Ok, if◌then◌else◌}
 use Rattle.attr_check.specs.declared.attr.SchedAttr.{SchedAttr}
 use Rattle.attr_check.specs.ParamsView.{ParamsView}
 use Rattle.attr_check.specs.Accepted.{accepted}
 use Rattle.domain_run.specs.NameView.{IsName}
-use Rattle.domain_run.specs.declared.script.Event.{Event}
-use Rattle.domain_run.specs.declared.script.Event.TheVariants.{Run, Sleep, Timer, Wait}
 use Rattle.domain_run.specs.script.ScriptView.{ScriptView, IsScript}
 use Rattle.domain_run.specs.declared.call.Call.{Call}
 use Rattle.domain_run.specs.declared.call.Call.TheVariants.{Admit, Regrade, Wake, Leave, Advance}
@@ -76,33 +74,17 @@ pub record AreSections (sections : List SectionView) : Type 0 where
 
 -- ---- what is read
 
--- for now run and sleep
-abbrev pub IsReadEvent : Event → Type 0
-IsReadEvent (Run n) = Unit {0}
-IsReadEvent (Sleep n) = Unit {0}
-IsReadEvent (Timer n) = ⊥
-IsReadEvent Wait = ⊥
-
-abbrev pub IsReadScript : ScriptView → Type 0
-IsReadScript s = All (λ p. All IsReadEvent p.events) s.phases
-
--- for now admissions of tasks that do not reclaim, and advances
+-- for now no regrade that the bandwidth word refused
 abbrev pub IsReadCall : Call → Type 0
-IsReadCall (Admit number name params delay script) = (params.reclaim ≡ false) × IsReadScript script
-IsReadCall (Regrade number params word) = ⊥
-IsReadCall (Wake number) = ⊥
-IsReadCall (Leave number) = ⊥
+IsReadCall (Admit number name params delay script) = Unit {0}
+IsReadCall (Regrade number params word) = word ≡ None
+IsReadCall (Wake number) = Unit {0}
+IsReadCall (Leave number) = Unit {0}
 IsReadCall (Advance ticks) = Unit {0}
 
--- for now one section, of one CPU
-abbrev pub IsOneCpu : List SectionView → Type 0
-IsOneCpu [] = ⊥
-IsOneCpu (s ∷ []) = s.cpus ≡ 1
-IsOneCpu (s ∷ t ∷ sections) = ⊥
-
--- what is read: replies are not written, so what is read has none
+-- what is read, for now one section: replies are not written, so what is read has none
 pub record AreRead (sections : List SectionView) : Type 0 where
   pub within : AreSections sections
   pub unanswered : All (λ s. All (λ e. e.reply ≡ None) s.entries) sections
   pub calls : All (λ s. All (λ e. IsReadCall e.call) s.entries) sections
-  pub one_cpu : IsOneCpu sections
+  pub one : length sections ≡ 1

@@ -1,5 +1,5 @@
 -- What the parts of the reader answer, as functions of lists. No public clause names them.
-use Rattle.std.specs.Prelude.{◌≡◌, ℕ, zero, suc, ◌≤◌, ◌<◌, ◌+◌, ◌-◌, ◌*◌, Bool, not, ◌==◌, ◌&&◌, ◌||◌, nat_lt, nat_le, if◌then◌else◌, List, [], ◌∷◌, ◌++◌, map, length, slice_index, Option, Some, None, Result, Ok, Err, codes}
+use Rattle.std.specs.Prelude.{◌≡◌, ℕ, zero, suc, ◌≤◌, ◌<◌, ◌+◌, ◌-◌, ◌*◌, Bool, true, false, not, ◌==◌, ◌&&◌, ◌||◌, nat_lt, nat_le, if◌then◌else◌, List, [], ◌∷◌, ◌++◌, map, length, slice_index, Option, Some, None, Result, Ok, Err, codes}
 use Rattle.std.specs.Option.{option_map_or}
 use Rattle.std.specs.Result.{result_ok}
 use Rattle.std.specs.Char.{is_ascii_digit}
@@ -8,10 +8,10 @@ use Rattle.std.specs.List.{before_first, after_first, position_or_len, list_all,
 use Rattle.attr_check.specs.ParamsView.{ParamsView}
 use Rattle.attr_check.specs.Accepted.{accepted}
 use Rattle.domain_run.specs.declared.script.Event.{Event}
-use Rattle.domain_run.specs.declared.script.Event.TheVariants.{Run, Sleep}
+use Rattle.domain_run.specs.declared.script.Event.TheVariants.{Run, Sleep, Timer, Wait}
 use Rattle.domain_run.specs.script.ScriptView.{PhaseView, ScriptView, script_of}
 use Rattle.domain_run.specs.declared.call.Call.{Call}
-use Rattle.domain_run.specs.declared.call.Call.TheVariants.{Admit, Advance}
+use Rattle.domain_run.specs.declared.call.Call.TheVariants.{Admit, Regrade, Wake, Leave, Advance}
 use Rattle.call_book.specs.declared.fault.PartFault.{PartFault}
 use Rattle.call_book.specs.declared.fault.PartFault.TheVariants.{Bad, Memory}
 use Rattle.call_book.specs.declared.fault.CallsFault.{CallsFault}
@@ -64,11 +64,17 @@ number_within_at least most text = do
 
 -- ---- scripts
 
+-- an event of so many microseconds
+abbrev pub lasting_at : (ℕ → Event) → List ℕ → Option Event
+lasting_at event digits = number_within_at 1 1000000000 digits >>= λ n. Some (event n)
+
 unfoldable pub event_at : List ℕ → Option Event
 event_at [] = None
 event_at (c ∷ digits) =
-    if c == 114 then (number_within_at 1 1000000000 digits >>= λ n. Some (Run n))
-    else (if c == 115 then (number_within_at 1 1000000000 digits >>= λ n. Some (Sleep n)) else None)
+    if c == 114 then lasting_at Run digits
+    else (if c == 115 then lasting_at Sleep digits
+    else (if c == 116 then lasting_at Timer digits
+    else (if c == 119 && length digits == 0 then Some Wait else None)))
 
 -- an item and what follows it, again and again, at most so many times
 unfoldable pub many_at : {X : Type 0} → (List ℕ → Option (X × Option (List ℕ))) → ℕ → List ℕ → Option (List X)
@@ -135,9 +141,13 @@ pub record AreTimes (t : Times) : Type 0 where
   pub deadline : t.deadline ≤ 4294967296
   pub period : t.period ≤ 4294967296
 
--- the parameters that these times give to a task that does not reclaim
-unfoldable pub params_at : Times → Option ParamsView
-params_at t = result_ok (accepted (record { policy = 6; flags = 0; runtime = t.runtime * 1000; deadline = t.deadline * 1000; period = t.period * 1000 }))
+-- whether the task reclaims
+unfoldable pub flag_at : List ℕ → Option Bool
+flag_at text = if bytes_eq text (codes "R") then Some true else (if bytes_eq text (codes "-") then Some false else None)
+
+-- the parameters that these times give to a task that reclaims or does not
+unfoldable pub params_at : Times → Bool → Option ParamsView
+params_at t reclaim = result_ok (accepted (record { policy = 6; flags = if reclaim then 2 else 0; runtime = t.runtime * 1000; deadline = t.deadline * 1000; period = t.period * 1000 }))
 
 -- 1 to 15 bytes of codes 0x21 to 0x7e
 abbrev pub is_name : List ℕ → Bool
@@ -146,13 +156,12 @@ is_name text = nat_lt 0 (length text) && nat_le (length text) 15 && list_all (λ
 unfoldable pub name_at : List ℕ → Option (List ℕ)
 name_at text = if is_name text then Some text else None
 
--- the flag, the delay and the script of an admission
+-- the delay and the script of an admission
 unfoldable pub plan_at : List ℕ → Option (ℕ × ScriptView)
 plan_at text = do
-  flag ← cut_at 32 text
-  delay ← field_at 0 1000000000 flag.1
+  delay ← field_at 0 1000000000 text
   script ← script_at delay.1
-  if bytes_eq flag.0 (codes "-") then Some (delay.0, script) else None
+  Some (delay.0, script)
 
 -- what follows the client in an admission
 unfoldable pub admit_at : List ℕ → Option Call
@@ -161,27 +170,49 @@ admit_at text = do
   name ← cut_at 32 number.1
   named ← name_at name.0
   times ← times_at name.1
-  params ← params_at times.0
-  plan ← plan_at times.1
+  flag ← cut_at 32 times.1
+  reclaim ← flag_at flag.0
+  params ← params_at times.0 reclaim
+  plan ← plan_at flag.1
   Some (Admit number.0 named params plan.0 plan.1)
 
-unfoldable pub advance_at : List ℕ → Option Call
-advance_at text = do
-  n ← number_within_at 1 60000000 text
-  Some (Advance n)
+-- what follows the client in a regrade
+unfoldable pub regrade_at : List ℕ → Option Call
+regrade_at text = do
+  number ← field_at 1 65535 text
+  times ← times_at number.1
+  reclaim ← flag_at times.1
+  params ← params_at times.0 reclaim
+  Some (Regrade number.0 params None)
+
+-- what follows the client in a call that has a number alone
+unfoldable pub numbered_at : ℕ → (ℕ → Call) → List ℕ → Option Call
+numbered_at most call text = do
+  n ← number_within_at 1 most text
+  Some (call n)
+
+-- what follows the client, in a call of this word
+unfoldable pub worded_at : List ℕ → List ℕ → Option Call
+worded_at word text =
+    if bytes_eq word (codes "admit") then admit_at text
+    else (if bytes_eq word (codes "regrade") then regrade_at text
+    else (if bytes_eq word (codes "wake") then numbered_at 65535 Wake text
+    else (if bytes_eq word (codes "leave") then numbered_at 65535 Leave text
+    else (if bytes_eq word (codes "advance") then numbered_at 60000000 Advance text
+    else None))))
 
 unfoldable pub call_at : List ℕ → Option (ℕ × Call)
 call_at line = do
   word ← cut_at 32 line
   client ← field_at 1 64 word.1
-  call ← (if bytes_eq word.0 (codes "admit") then admit_at client.1 else (if bytes_eq word.0 (codes "advance") then advance_at client.1 else None))
+  call ← worded_at word.0 client.1
   Some (client.0, call)
 
 -- the CPUs and the limit of a domain
 unfoldable pub domain_at : List ℕ → Option (ℕ × ℕ)
 domain_at line = do
   word ← cut_at 32 line
-  cpus ← field_at 1 1 word.1
+  cpus ← field_at 1 64 word.1
   limit ← number_within_at 10485 1048576 cpus.1
   if bytes_eq word.0 (codes "domain") then Some (cpus.0, limit) else None
 

@@ -2,7 +2,7 @@ use std::alloc::{AllocError, AllocFailed};
 use std::error::Error;
 use std::fmt;
 
-/// Why a calls text was not read.
+/// Why a calls text was not read. Prints as `bad line 3` or `out of memory`.
 #[derive(Clone, Copy, Debug, PartialEq, Eq)]
 pub enum CallsFault {
     /// 30: line `n`, from 1, is the first at which the text stops being a front of whole lines of a text that is accepted.
@@ -12,6 +12,11 @@ pub enum CallsFault {
 }
 
 impl fmt::Display for CallsFault {
+    ghost use Rattle.std.specs.Prelude.{Some};
+    ghost use Rattle.call_book.specs.FaultText.{fault_text};
+
+    ghost output = { λ f. Some (fault_text f) };
+
     fn fmt<W: fmt::Write>(&self, f: &mut fmt::Formatter<W>) -> fmt::Result {
         match self {
             CallsFault::BadLine { n } => write!(f, "bad line {n}"),

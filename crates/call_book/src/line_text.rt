@@ -1,5 +1,5 @@
 ghost use Rattle.std.specs.Prelude.{◌≡◌, ◌≤◌, IfOk};
-ghost use Rattle.call_book.specs.Reading.{Gives, field_at, name_at, times_at, AreTimes, params_at, plan_at, admit_at, advance_at, call_at, domain_at};
+ghost use Rattle.call_book.specs.Reading.{Gives, field_at, name_at, times_at, AreTimes, flag_at, params_at, plan_at, admit_at, regrade_at, numbered_at, worded_at, call_at, domain_at};
 
 use crate::cut::cut;
 use crate::fault::PartFault;
@@ -20,8 +20,8 @@ const MOST_TIME: u64 = 1 << 32;
 const MOST_DELAY: u64 = 1_000_000_000;
 /// The most ticks of one call.
 const MOST_TICKS: u64 = 60_000_000;
-/// The most CPUs of a domain. For now 1.
-const MOST_CPUS: u64 = 1;
+/// The most CPUs of a domain.
+const MOST_CPUS: u64 = 64;
 /// 1 % of a CPU, in 1/2^20.
 const LEAST_LIMIT: u64 = 10485;
 /// A whole CPU, in 1/2^20.
@@ -74,15 +74,29 @@ fn times_of(text: &[u8]) -> Result<(Times, &[u8]), PartFault>
     Ok((times, rest))
 }
 
-/// The parameters that these times give to a task that does not reclaim.
+/// Whether a task with this flag reclaims: `R` says so, and `-` that it does not.
+#[tactic(auto, unfolding(crate::specs::Reading::flag_at))]
+fn reclaim_of(flag: &[u8]) -> Result<bool, PartFault>
+    ensures { Gives (λ b. b) result (flag_at flag.now) }
+{
+    if flag == b"R".as_slice() {
+        return Ok(true);
+    }
+    if flag == b"-".as_slice() {
+        return Ok(false);
+    }
+    Err(PartFault::Bad)
+}
+
+/// The parameters that these times give to a task that reclaims or does not.
 #[tactic(auto, unfolding(crate::specs::Reading::params_at))]
-fn params_of(times: Times) -> Result<Params, PartFault>
+fn params_of(times: Times, reclaim: bool) -> Result<Params, PartFault>
     requires { AreTimes times }
-    ensures { Gives (λ p. p) result (params_at times) }
+    ensures { Gives (λ p. p) result (params_at times reclaim) }
 {
     let attr = SchedAttr {
         policy: 6,
-        flags: 0,
+        flags: if reclaim { 2 } else { 0 },
         runtime: times.runtime * 1000,
         deadline: times.deadline * 1000,
         period: times.period * 1000,
@@ -93,19 +107,13 @@ fn params_of(times: Times) -> Result<Params, PartFault>
     }
 }
 
-/// The flag, which for now is `-` alone, the delay and the script.
+/// The delay and the script of an admission.
 #[tactic(auto, unfolding(crate::specs::Reading::plan_at))]
 fn plan_of(alloc: Global, text: &[u8]) -> Result<(u64, Script), PartFault>
     ensures { Gives (λ p. p) result (plan_at text.now) }
 {
-    let Some((flag, rest)) = cut(text, b' ') else {
-        return Err(PartFault::Bad);
-    };
-    let (delay, rest) = field(rest, 0, MOST_DELAY)?;
+    let (delay, rest) = field(text, 0, MOST_DELAY)?;
     let script = script_of(alloc, rest)?;
-    if flag != b"-".as_slice() {
-        return Err(PartFault::Bad);
-    }
     Ok((delay, script))
 }
 
@@ -120,7 +128,10 @@ fn admit_of(alloc: Global, text: &[u8]) -> Result<Call, PartFault>
     };
     let name = name_of(alloc, name)?;
     let (times, rest) = times_of(rest)?;
-    let params = params_of(times)?;
+    let Some((flag, rest)) = cut(rest, b' ') else {
+        return Err(PartFault::Bad);
+    };
+    let params = params_of(times, reclaim_of(flag)?)?;
     let (delay, script) = plan_of(alloc, rest)?;
     Ok(Call::Admit {
         number: number as u32,
@@ -131,16 +142,72 @@ fn admit_of(alloc: Global, text: &[u8]) -> Result<Call, PartFault>
     })
 }
 
+/// What follows the client in a `regrade` line. For now a ` busy S` is not read.
+#[tactic(auto, unfolding(crate::specs::Reading::regrade_at))]
+fn regrade_of(text: &[u8]) -> Result<Call, PartFault>
+    ensures { Gives (λ c. c) result (regrade_at text.now) }
+{
+    let (number, rest) = field(text, 1, MOST_NUMBER)?;
+    let (times, flag) = times_of(rest)?;
+    let params = params_of(times, reclaim_of(flag)?)?;
+    Ok(Call::Regrade {
+        number: number as u32,
+        params,
+        word: None,
+    })
+}
+
+/// What follows the client in a `wake` line.
+#[tactic(auto, unfolding(crate::specs::Reading::numbered_at))]
+fn wake_of(text: &[u8]) -> Result<Call, PartFault>
+    ensures { Gives (λ c. c) result (numbered_at 65535 (λ n. Call.Wake n) text.now) }
+{
+    let number = number_within(text, 1, MOST_NUMBER)? as u32;
+    Ok(Call::Wake { number })
+}
+
+/// What follows the client in a `leave` line.
+#[tactic(auto, unfolding(crate::specs::Reading::numbered_at))]
+fn leave_of(text: &[u8]) -> Result<Call, PartFault>
+    ensures { Gives (λ c. c) result (numbered_at 65535 (λ n. Call.Leave n) text.now) }
+{
+    let number = number_within(text, 1, MOST_NUMBER)? as u32;
+    Ok(Call::Leave { number })
+}
+
 /// What follows the client in an `advance` line.
-#[tactic(auto, unfolding(crate::specs::Reading::advance_at))]
+#[tactic(auto, unfolding(crate::specs::Reading::numbered_at))]
 fn advance_of(text: &[u8]) -> Result<Call, PartFault>
-    ensures { Gives (λ c. c) result (advance_at text.now) }
+    ensures { Gives (λ c. c) result (numbered_at 60000000 (λ n. Call.Advance n) text.now) }
 {
     let ticks = number_within(text, 1, MOST_TICKS)?;
     Ok(Call::Advance { ticks })
 }
 
-/// The client and the call that a line spells. For now the calls admit and advance alone.
+/// What follows the client in a line of this word.
+#[tactic(auto, unfolding(crate::specs::Reading::worded_at))]
+fn worded(alloc: Global, word: &[u8], text: &[u8]) -> Result<Call, PartFault>
+    ensures { Gives (λ c. c) result (worded_at word.now text.now) }
+{
+    if word == b"admit".as_slice() {
+        return admit_of(alloc, text);
+    }
+    if word == b"regrade".as_slice() {
+        return regrade_of(text);
+    }
+    if word == b"wake".as_slice() {
+        return wake_of(text);
+    }
+    if word == b"leave".as_slice() {
+        return leave_of(text);
+    }
+    if word == b"advance".as_slice() {
+        return advance_of(text);
+    }
+    Err(PartFault::Bad)
+}
+
+/// The client and the call that a line spells.
 #[tactic(auto, unfolding(crate::specs::Reading::call_at))]
 pub(crate) fn call_of(alloc: Global, line: &[u8]) -> Result<(u32, Call), PartFault>
     ensures gives { Gives (λ p. p) result (call_at line.now) }
@@ -150,13 +217,7 @@ pub(crate) fn call_of(alloc: Global, line: &[u8]) -> Result<(u32, Call), PartFau
         return Err(PartFault::Bad);
     };
     let (client, rest) = field(rest, 1, MOST_CLIENT)?;
-    let call = if word == b"admit".as_slice() {
-        admit_of(alloc, rest)?
-    } else if word == b"advance".as_slice() {
-        advance_of(rest)?
-    } else {
-        return Err(PartFault::Bad);
-    };
+    let call = worded(alloc, word, rest)?;
     Ok((client as u32, call))
 }
 

@@ -14,7 +14,7 @@ const MOST: u64 = 1_000_000_000;
 /// The most events of a phase, and the most phases of a script.
 const MOST_ITEMS: u64 = 64;
 
-/// For now the events run and sleep alone.
+/// `rN`, `sN`, `tN` or `w`.
 #[tactic(auto, unfolding(crate::specs::Reading::event_at))]
 fn event_of(text: &[u8]) -> Result<Event, PartFault>
     ensures { Gives (λ e. e) result (event_at text.now) }
@@ -22,6 +22,8 @@ fn event_of(text: &[u8]) -> Result<Event, PartFault>
     match text {
         [b'r', digits @ ..] => Ok(Event::Run(number_within(digits, 1, MOST)?)),
         [b's', digits @ ..] => Ok(Event::Sleep(number_within(digits, 1, MOST)?)),
+        [b't', digits @ ..] => Ok(Event::Timer(number_within(digits, 1, MOST)?)),
+        [b'w'] => Ok(Event::Wait),
         _ => Err(PartFault::Bad),
     }
 }

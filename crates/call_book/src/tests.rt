@@ -1,3 +1,6 @@
+mod bad_lines;
+mod written;
+
 use super::*;
 use domain_run::Event;
 use std::alloc::Global;
@@ -15,6 +18,12 @@ fn bad_line(rt: &impl Abort, alloc: Global, text: &[u8]) -> u64 {
 
 const THROTTLED: &str =
     "dlcalls 1\ndomain 1 1048576\nadmit 1 1 a 2 5 5 - 0 1:1{r4}\nadvance 1 11\n";
+
+/// Every kind of call and of event, and the greatest numbers.
+const ALL_KINDS: &str = "dlcalls 1\ndomain 64 1048576\nadmit 1 1 T1 4 8 9 R 0 -1:1{r2,s6}\n\
+    admit 64 65535 ~2345678901234! 4294967296 4294967296 4294967296 - 1000000000 \
+    1000000000:1000000000{w,r1000000000}2{t1000000000,s1000000000,w}\n\
+    regrade 1 1 5 8 9 -\nregrade 64 65535 6 8 9 R\nwake 64 65535\nleave 2 65535\nadvance 1 60000000\n";
 
 #[test]
 fn throttled_inside_a_job(rt: HostRuntime) -> Result<(), Fail> {
@@ -81,16 +90,96 @@ fn clients_count_their_own_calls(rt: HostRuntime) -> Result<(), Fail> {
 }
 
 #[test]
+fn calls_of_every_kind(rt: HostRuntime) -> Result<(), Fail> {
+    let sections = read_calls(rt.alloc(), ALL_KINDS.as_bytes())?;
+    assert_eq!(rt; sections.len(), 1);
+    let section = &sections[0];
+    assert_eq!(rt; (section.cpus, section.limit), (64, 1048576));
+    let entries = &section.entries;
+    assert_eq!(rt; entries.len(), 7);
+    for (i, (client, seq)) in [(1, 0), (64, 0), (1, 1), (64, 1), (64, 2), (2, 0), (1, 2)]
+        .iter()
+        .enumerate()
+    {
+        let Some(entry) = entries.get(i) else {
+            panic!(rt; "no entry");
+        };
+        assert_eq!(rt; (entry.client, entry.seq), (*client, *seq), "entry {i}");
+    }
+    for (i, numbers) in [(2, (1, 5, 8, 9, false)), (3, (65535, 6, 8, 9, true))] {
+        let Some(
+            Entry {
+                call: Call::Regrade {
+                    number,
+                    params,
+                    word: None,
+                },
+                ..
+            },
+        ) = entries.get(i)
+        else {
+            panic!(rt; "no regrade");
+        };
+        let p = params;
+        assert_eq!(rt;
+            (*number, p.runtime, p.deadline, p.period, p.reclaim),
+            numbers
+        );
+    }
+    assert!(rt; matches!(entries[4].call, Call::Wake { number: 65535 }));
+    assert!(rt; matches!(entries[5].call, Call::Leave { number: 65535 }));
+    assert!(rt; matches!(entries[6].call, Call::Advance { ticks: 60_000_000 }));
+    Ok(())
+}
+
+#[test]
+fn admissions_of_every_kind(rt: HostRuntime) -> Result<(), Fail> {
+    let sections = read_calls(rt.alloc(), ALL_KINDS.as_bytes())?;
+    assert_eq!(rt; sections.len(), 1);
+    let section = &sections[0];
+    let entries = &section.entries;
+    assert_eq!(rt; entries.len(), 7);
+    let Call::Admit { params, .. } = &entries[0].call else {
+        panic!(rt; "no admission");
+    };
+    assert_eq!(rt; (params.reclaim, params.bw), (true, 466033));
+    let Call::Admit {
+        number,
+        name,
+        params,
+        delay,
+        script,
+    } = &entries[1].call
+    else {
+        panic!(rt; "no admission");
+    };
+    assert_eq!(rt;
+        (*number, *delay, script.loops()),
+        (65535, 1_000_000_000, 1_000_000_000)
+    );
+    assert_eq!(rt; name.as_str(), "~2345678901234!");
+    assert_eq!(rt; (params.runtime, params.bw), (4_294_967_296, 1048576));
+    let phases = script.phases();
+    assert_eq!(rt; phases.len(), 2);
+    let first = &phases[0];
+    let second = &phases[1];
+    assert_eq!(rt; (first.count, second.count), (1_000_000_000, 2));
+    let events = [Event::Wait, Event::Run(1_000_000_000)];
+    assert_eq!(rt; first.events.as_slice(), events.as_slice());
+    let events = [
+        Event::Timer(1_000_000_000),
+        Event::Sleep(1_000_000_000),
+        Event::Wait,
+    ];
+    assert_eq!(rt; second.events.as_slice(), events.as_slice());
+    Ok(())
+}
+
+#[test]
 fn zero_start(rt: HostRuntime) {
     let text = "dlcalls 1\ndomain 1 1048576\nadmit 1 1 T1 2 8 8 - 0 1:1{r2}\n\
         admit 1 2 T2 2 3 8 - 0 1:1{r2}\nadvance 1 5\n";
     assert_eq!(rt; bad_line(&rt, rt.alloc(), text.as_bytes()), 0);
-}
-
-#[test]
-fn small_runtime(rt: HostRuntime) {
-    let text = "dlcalls 1\ndomain 1 1048576\nadmit 1 1 T1 1 8 8 - 0 1:1{r1}\nadvance 1 1\n";
-    assert_eq!(rt; bad_line(&rt, rt.alloc(), text.as_bytes()), 3);
 }
 
 #[test]
@@ -103,93 +192,24 @@ fn empty_and_bare_texts(rt: HostRuntime) {
     );
 }
 
+/// Each front of a text that is read: an unfinished line is bad, and whole lines of a section are a text.
 #[test]
 fn fronts_of_a_text(rt: HostRuntime) {
-    let text = THROTTLED.as_bytes();
-    let mut lines: u64 = 0;
-    for (i, b) in text.iter().enumerate() {
-        let whole = lines >= 2 && text[..i].ends_with(b"\n");
-        let want = if whole { 0 } else { lines.saturating_add(1) };
-        assert_eq!(rt;
-            bad_line(&rt, rt.alloc(), &text[..i]),
-            want,
-            "front of {i} bytes"
-        );
-        if *b == b'\n' {
-            lines = lines.saturating_add(1);
+    for text in [THROTTLED, ALL_KINDS] {
+        let text = text.as_bytes();
+        let mut lines: u64 = 0;
+        for (i, b) in text.iter().enumerate() {
+            let whole = lines >= 2 && text[..i].ends_with(b"\n");
+            let want = if whole { 0 } else { lines.saturating_add(1) };
+            assert_eq!(rt;
+                bad_line(&rt, rt.alloc(), &text[..i]),
+                want,
+                "front of {i} bytes"
+            );
+            if *b == b'\n' {
+                lines = lines.saturating_add(1);
+            }
         }
-    }
-}
-
-#[test]
-fn bad_lines(rt: HostRuntime) {
-    let header = [
-        "dlcalls 2\n",
-        "dlcalls 1 \n",
-        "dlcalls  1\n",
-        " dlcalls 1\n",
-        "dlcalls 1\r\n",
-        "\n",
-    ];
-    for text in header {
-        assert_eq!(rt; bad_line(&rt, rt.alloc(), text.as_bytes()), 1, "{text}");
-    }
-    let section = [
-        "domain 2 1048576\n",
-        "domain 1 10484\n",
-        "domain 1 1048577\n",
-        "domain 01 1048576\n",
-        "domain 1 1048576 \n",
-        "domain 1\n",
-        "Domain 1 1048576\n",
-        "\n",
-    ];
-    for line in section {
-        let Ok(text) = format!(in rt.alloc(); "dlcalls 1\n{line}") else {
-            panic!(rt; "no memory");
-        };
-        assert_eq!(rt; bad_line(&rt, rt.alloc(), text.as_bytes()), 2, "{line}");
-    }
-    let call = [
-        "admit 65 1 a 2 5 5 - 0 1:1{r4}\n",
-        "admit 0 1 a 2 5 5 - 0 1:1{r4}\n",
-        "admit 1 65536 a 2 5 5 - 0 1:1{r4}\n",
-        "admit 1 0 a 2 5 5 - 0 1:1{r4}\n",
-        "admit 1 1 abcdefghijklmnop 2 5 5 - 0 1:1{r4}\n",
-        "admit 1 1 \u{e9} 2 5 5 - 0 1:1{r4}\n",
-        "admit 1 1  2 5 5 - 0 1:1{r4}\n",
-        "admit 1 1 a 2 5 0 - 0 1:1{r4}\n",
-        "admit 1 1 a 6 5 5 - 0 1:1{r4}\n",
-        "admit 1 1 a 02 5 5 - 0 1:1{r4}\n",
-        "admit 1 1 a 2 5 4294967297 - 0 1:1{r4}\n",
-        "admit 1 1 a 2 5 5 R 0 1:1{r4}\n",
-        "admit 1 1 a 2 5 5 - 1000000001 1:1{r4}\n",
-        "admit 1 1 a 2 5 5 - 0 0:1{r4}\n",
-        "admit 1 1 a 2 5 5 - 0 -2:1{r4}\n",
-        "admit 1 1 a 2 5 5 - 0 1:1{t4}\n",
-        "admit 1 1 a 2 5 5 - 0 1:1{w}\n",
-        "admit 1 1 a 2 5 5 - 0 1:1{}\n",
-        "admit 1 1 a 2 5 5 - 0 1:\n",
-        "admit 1 1 a 2 5 5 - 0 1:1{r4,}\n",
-        "admit 1 1 a 2 5 5 - 0 1:1{r4} \n",
-        "admit 1 1 a 2 5 5 - 0 1:1{r4}\r\n",
-        "advance 1 0\n",
-        "advance 1 60000001\n",
-        "advance 1 +1\n",
-        "advance 1 1 \n",
-        "advance 1 18446744073709551617\n",
-        "advance  1 1\n",
-        "wake 1 1\n",
-        "leave 1 1\n",
-        "regrade 1 1 2 5 5 -\n",
-        "domain 1 1048576\n",
-        "\n",
-    ];
-    for line in call {
-        let Ok(text) = format!(in rt.alloc(); "{THROTTLED}{line}advance 1 1\n") else {
-            panic!(rt; "no memory");
-        };
-        assert_eq!(rt; bad_line(&rt, rt.alloc(), text.as_bytes()), 5, "{line}");
     }
 }
 

@@ -1,6 +1,6 @@
 //! From bytes to bytes: recorded calls in, their trace out.
 
-ghost use Rattle.std.specs.Prelude.{◌≡◌, ℕ, ◌<◌, ◌≤◌, ◌+◌, ◌^◌, OnOk, OnErr, IfErr, IfOk, All, vec_len, [], ◌∷◌};
+ghost use Rattle.std.specs.Prelude.{◌≡◌, ℕ, ◌<◌, ◌≤◌, ◌+◌, ◌^◌, OnOk, OnErr, IfErr, IfOk, All, vec_len, length, [], ◌∷◌};
 ghost use Rattle.std.specs.Io.KnownBytes.{Appends};
 ghost use Rattle.std.specs.String.{string_bytes};
 ghost use Rattle.domain_run.specs.NameView.{IsName};
@@ -9,7 +9,7 @@ ghost use Rattle.domain_run.specs.Domain.{opened};
 ghost use Rattle.domain_run.specs.Calls.{after_call};
 ghost use Rattle.domain_run.specs.Tick.{ticks as ticked_by};
 ghost use Rattle.domain_run.specs.Sound.{IsAdmitted};
-ghost use Rattle.call_book.specs.Limits.{IsNumber, IsAdmission, IsCall, IsEntry, IsSection, IsOneCpu, AreRead};
+ghost use Rattle.call_book.specs.Limits.{IsNumber, IsAdmission, IsCall, IsEntry, IsSection, AreRead};
 ghost use Rattle.switch_text.specs.Names.{named, HasName};
 ghost use Rattle.dlsim.specs.Replay.{no_names, with_name, names_after};
 ghost use Rattle.dlsim.specs.Replaying.{AreNamed, IsRunOf, section_view, trace_of_run};
@@ -233,7 +233,7 @@ fn write_run<W: Write>(run: &Session, writer: &mut Counted<W>) -> Result<(), Ses
 
 /// The one section of a text that is read.
 fn only_section(mut sections: Vec<Section>) -> Section
-    requires { IsOneCpu sections.items }
+    requires { length sections.items ≡ 1 }
     ensures { sections.items ≡ result ∷ [] }
 {
     match sections.pop() {

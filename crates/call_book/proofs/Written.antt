@@ -1,0 +1,67 @@
+-- A text that grows piece by piece.
+use Rattle.std.proofs.Common.{◌≡◌, ℕ, ◌-◌, ◌≤◌, List, [], ◌∷◌, ◌++◌, length, get_or, map, take, drop, Option, Some, None, refl, sym, ap, ◌∙◌, append_assoc, arith}
+use Rattle.std.specs.Prelude.{codes}
+use Rattle.std.specs.Fmt.{digits, signed_decimal}
+use Rattle.std.specs.List.{flat_map, join_with_byte}
+use Rattle.std.proofs.lemmas.Grind.{flat_map-append}
+use Rattle.std.proofs.lemmas.List.{append-nil, take_all}
+use Rattle.call_book.specs.declared.section.Entry.{Entry}
+use Rattle.call_book.specs.SectionView.{SectionView}
+use Rattle.domain_run.specs.declared.script.Event.{Event}
+use Rattle.domain_run.specs.script.Segments.{loops_of}
+use Rattle.call_book.specs.Spelling.{event_text, events_text, loops_text, entry_line, domain_line, section_lines, lines_of, text_of, spelling}
+use Rattle.call_book.specs.Limits.{AreRead}
+use Rattle.call_book.specs.RoundTrip.{bare, unanswered, IsReadAs}
+use Rattle.call_book.proofs.Cuts.{rest_is}
+use Rattle.call_book.proofs.Sections.{same_sections}
+
+-- the first item, and each of the others with a comma before it
+pub joined_first : {X : Type 0} (spell : X → List ℕ) (x : X) (xs : List X) → join_with_byte 44 (map spell (x ∷ xs)) ≡ spell x ++ flat_map (λ y. 44 ∷ spell y) xs
+joined_first spell x [] = sym (append-nil (spell x))
+joined_first spell x (y ∷ ys) = ap (λ (r : List ℕ). spell x ++ (44 ∷ r)) (joined_first spell y ys)
+
+-- the first event and the others, as they were written behind what stood before
+pub events_put : (events : List Event) (d : Event) (before begun out : List ℕ) (i : ℕ) → 1 ≤ length events → begun ≡ before ++ event_text (get_or events 0 d) → length (take (length events - 1) (drop 1 events)) ≤ i
+    → out ≡ begun ++ flat_map (λ e. 44 ∷ event_text e) (take i (take (length events - 1) (drop 1 events))) → out ≡ before ++ events_text events
+events_put [] d before begun out i some first past e = absurd (omega arith)
+events_put (x ∷ xs) d before begun out i some first past e =
+    let others : take i (take (length (x ∷ xs) - 1) (drop 1 (x ∷ xs))) ≡ xs = take_all i (take (length (x ∷ xs) - 1) (drop 1 (x ∷ xs))) past ∙ rest_is 1 (x ∷ xs) in
+    e ∙ ap (λ (ys : List Event). begun ++ flat_map (λ e. 44 ∷ event_text e) ys) others ∙ ap (λ (b : List ℕ). b ++ flat_map (λ e. 44 ∷ event_text e) xs) first
+    ∙ append_assoc before (event_text x) (flat_map (λ e. 44 ∷ event_text e) xs) ∙ ap (λ (r : List ℕ). before ++ r) (sym (joined_first event_text x xs))
+
+abbrev line_break : List ℕ → List ℕ
+line_break line = line ++ codes "\n"
+
+-- one more section
+pub spelling_more : (sections : List SectionView) (s : SectionView) → spelling (sections ++ s ∷ []) ≡ spelling sections ++ text_of (section_lines s)
+spelling_more sections s =
+    ap (λ (ls : List (List ℕ)). text_of (codes "dlcalls 1" ∷ ls)) (flat_map-append section_lines sections (s ∷ []) ∙ ap (λ (ls : List (List ℕ)). flat_map section_lines sections ++ ls) (append-nil (section_lines s)))
+    ∙ flat_map-append line_break (lines_of sections) (section_lines s)
+
+-- the loop count, as a signed number
+pub loops_said : (rounds : Option ℕ) → signed_decimal (loops_of rounds) ≡ loops_text rounds
+unfolding digits
+loops_said None = refl
+loops_said (Some n) = refl
+
+-- ---- replies
+
+entries_bare : (entries : List Entry) → map entry_line (map bare entries) ≡ map entry_line entries
+entries_bare [] = refl
+entries_bare (e ∷ entries) = ap (λ (ls : List (List ℕ)). entry_line e ∷ ls) (entries_bare entries)
+
+lines_bare : (sections : List SectionView) → flat_map section_lines (map unanswered sections) ≡ flat_map section_lines sections
+lines_bare [] = refl
+lines_bare (s ∷ sections) =
+    ap (λ (ls : List (List ℕ)). (domain_line s ∷ ls) ++ flat_map section_lines (map unanswered sections)) (entries_bare s.entries)
+    ∙ ap (λ (ls : List (List ℕ)). section_lines s ++ ls) (lines_bare sections)
+
+-- no reply is written
+spelling_bare : (sections : List SectionView) → spelling (map unanswered sections) ≡ spelling sections
+spelling_bare sections = ap (λ (ls : List (List ℕ)). text_of (codes "dlcalls 1" ∷ ls)) (lines_bare sections)
+
+-- what is written is read as what was written
+pub read_as : (text : List ℕ) (sections : List SectionView) → text ≡ spelling sections → AreRead (map unanswered sections) → IsReadAs text (map unanswered sections)
+read_as text sections e are =
+    let spelled : text ≡ spelling (map unanswered sections) = e ∙ sym (spelling_bare sections) in
+    record { accepted = are; spelled = spelled; alone = λ others are' same. same_sections others (map unanswered sections) are' are (sym same ∙ spelled) }
