@@ -9,7 +9,7 @@ use Rattle.domain_run.specs.declared.switch.Switch.{Switch}
 use Rattle.domain_run.specs.declared.switch.PrevState.{PrevState}
 use Rattle.switch_text.specs.Line.{title_of, comm_of, task_part, prev_part, next_part, line_of}
 use Rattle.switch_text.specs.Trace.{RunView, Entry, entry_of, entries_of, is_earlier, placed_in, in_order, header, lines_of, trace_of}
-use Rattle.switch_text.specs.Runs.{is_before}
+use Rattle.domain_run.specs.Switches.{is_before}
 use Rattle.switch_text.proofs.Order.{AllByRecursion-weaker, AllByRecursion-placed_in, placed_in-first, not_later-from_earlier, not_later_twice}
 
 -- ---- the trace of one run
@@ -25,7 +25,7 @@ in_order-rising [] h = refl
 in_order-rising (e ∷ es) h =
     ap (placed_in e) (in_order-rising es h.1) ∙ placed_in-first e es (AllByRecursion-weaker (λ x. is_earlier e x ≡ true) (λ x. is_earlier x e ≡ false) es (λ x q. not_later-from_earlier e x q) h.0)
 
-is_earlier-entry : (r : RunView) (a b : Switch) → IsTrue (is_before a b) → is_earlier (entry_of r a) (entry_of r b) ≡ true
+pub is_earlier-entry : (r : RunView) (a b : Switch) → IsTrue (is_before a b) → is_earlier (entry_of r a) (entry_of r b) ≡ true
 is_earlier-entry r a b h = grind (arith, nat_tests)
 
 all_earlier : (r : RunView) (s : Switch) (ss : List Switch) → AllByRecursion (λ x. IsTrue (is_before s x)) ss → AllByRecursion (λ x. is_earlier (entry_of r s) x ≡ true) (map (entry_of r) ss)

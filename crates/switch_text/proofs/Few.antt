@@ -9,7 +9,8 @@ use Rattle.domain_run.specs.declared.switch.Switch.{Switch}
 use Rattle.domain_run.specs.declared.switch.PrevState.TheVariants.{Running}
 use Rattle.switch_text.specs.declared.run.Run.{Run}
 use Rattle.switch_text.specs.Trace.{entry_of, entries_of}
-use Rattle.switch_text.specs.Runs.{view_of, views, is_before, IsRun}
+use Rattle.domain_run.specs.Switches.{is_before}
+use Rattle.switch_text.specs.Runs.{view_of, views, IsRun}
 
 -- a number that rises with time and CPU
 abbrev key : Switch → ℕ

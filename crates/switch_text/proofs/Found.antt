@@ -10,13 +10,12 @@ use Rattle.switch_text.specs.declared.run.Run.{Run}
 use Rattle.switch_text.specs.declared.merge.Next.{Next}
 use Rattle.switch_text.specs.Names.{HasLine}
 use Rattle.switch_text.specs.Trace.{RunView, Entry, entry_of, entries_of, is_earlier, in_order}
-use Rattle.switch_text.specs.Runs.{view_of, views, is_before, IsRun}
+use Rattle.domain_run.specs.Switches.{is_before}
+use Rattle.switch_text.specs.Runs.{view_of, views, IsRun}
 use Rattle.switch_text.specs.Merging.{left_of, stepped, IsAhead, IsNextOf, IsFound, IsPrinted, next_entry, is_better}
 use Rattle.switch_text.proofs.Ahead.{left_of-done, IsAhead-new, IsAhead-kept, all_left-earlier, run_not_earlier}
+use Rattle.switch_text.proofs.CallerLemmas.{is_earlier-entry}
 use Rattle.switch_text.proofs.Order.{AllByRecursion-weaker, not_later-from_earlier, in_order-first}
-
-is_earlier-entry : (r : RunView) (a b : Switch) → IsTrue (is_before a b) → is_earlier (entry_of r a) (entry_of r b) ≡ true
-is_earlier-entry r a b h = grind (arith, nat_tests)
 
 -- the first entry from a place on, and the others
 entries_from : (r : RunView) (p : ℕ) (s : Switch) → p < length r.switches → s ≡ get_or r.switches p s → drop p (entries_of r) ≡ entry_of r s ∷ drop (p + 1) (entries_of r)

@@ -1,6 +1,6 @@
 -- The runs that are written.
-use Rattle.std.specs.Prelude.{◌==◌, ◌&&◌, ◌||◌, nat_lt, Bool, IsTrue, List, map, All, AllPairs}
-use Rattle.domain_run.specs.declared.switch.Switch.{Switch}
+use Rattle.std.specs.Prelude.{IsTrue, List, map, All, AllPairs}
+use Rattle.domain_run.specs.Switches.{is_before}
 use Rattle.switch_text.specs.declared.run.Run.{Run}
 use Rattle.switch_text.specs.Names.{named, HasLine}
 use Rattle.switch_text.specs.Trace.{RunView}
@@ -10,10 +10,6 @@ view_of r = record { base = r.base; names = named r.names.now; switches = r.swit
 
 abbrev pub views : List Run → List RunView
 views runs = map view_of runs
-
--- an earlier time, or the same time and a lower CPU of the domain
-abbrev pub is_before : Switch → Switch → Bool
-is_before a b = nat_lt a.time b.time || (a.time == b.time && nat_lt a.cpu b.cpu)
 
 -- each switch has a line, and the switches rise strictly by time and CPU
 pub record IsRun (r : Run) : Type 0 where

@@ -2,7 +2,8 @@
 
 ghost use Rattle.std.specs.Prelude.{◌≡◌, All, AllPairs, IfSome, IsTrue};
 ghost use Rattle.switch_text.specs.Names.{HasLine, HasName};
-ghost use Rattle.switch_text.specs.Runs.{IsRun, is_before};
+ghost use Rattle.domain_run.specs.Switches.{is_before};
+ghost use Rattle.switch_text.specs.Runs.{IsRun};
 
 use crate::Run;
 use domain_run::Switch;

@@ -2,7 +2,7 @@ use Rattle.std.proofs.Common.{◌≡◌, ◌∙◌, sym, subst, true, rules}
 use Rattle.std.specs.Prelude.{All, IsTrue}
 use Rattle.std.proofs.lemmas.List.{take_all}
 use Rattle.std.proofs.lemmas.List.Elements.{All-more}
-use Rattle.switch_text.specs.Runs.{is_before}
+use Rattle.domain_run.specs.Switches.{is_before}
 use Rattle.switch_text.proofs.tests.conditions.is_before_all.Goals as goal
 
 pub loop-other-preserved : goal.loop-other-preserved

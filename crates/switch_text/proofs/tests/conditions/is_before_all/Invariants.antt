@@ -1,6 +1,6 @@
 use Rattle.std.proofs.Common.{take}
 use Rattle.std.specs.Prelude.{All, IsTrue}
-use Rattle.switch_text.specs.Runs.{is_before}
+use Rattle.domain_run.specs.Switches.{is_before}
 use Rattle.switch_text.proofs.tests.conditions.is_before_all.Given as goal
 
 abbrev pub invariant-loop-other : goal.invariant-loop-other

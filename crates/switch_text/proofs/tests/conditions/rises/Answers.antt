@@ -3,7 +3,7 @@ use Rattle.std.specs.Prelude.{All, IsTrue}
 use Rattle.std.proofs.lemmas.Bool.{cases_lt}
 use Rattle.std.proofs.lemmas.List.{take_rest, get_or-drop, get_or_default, length-drop}
 use Rattle.domain_run.specs.declared.switch.Switch.{Switch}
-use Rattle.switch_text.specs.Runs.{is_before}
+use Rattle.domain_run.specs.Switches.{is_before}
 use Rattle.switch_text.proofs.tests.conditions.rises.Goals as goal
 
 before_later : (xs : List Switch) (i a b : ℕ) (d e : Switch) → All (λ x. IsTrue (is_before (get_or xs i e) x)) (take (length xs - (i + 1)) (drop (i + 1) xs)) → a ≡ i → i < b → b < length xs

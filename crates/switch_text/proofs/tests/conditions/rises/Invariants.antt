@@ -1,7 +1,7 @@
 use Rattle.std.proofs.Common.{ℕ, ◌<◌, length, get_or}
 use Rattle.std.specs.Prelude.{IsTrue}
 use Rattle.domain_run.specs.declared.switch.Switch.{Switch}
-use Rattle.switch_text.specs.Runs.{is_before}
+use Rattle.domain_run.specs.Switches.{is_before}
 use Rattle.switch_text.proofs.tests.conditions.rises.Given as goal
 
 abbrev pub invariant-loop-i : goal.invariant-loop-i
