@@ -116,13 +116,13 @@ fn bad_lines(rt: HostRuntime) -> Result<(), Fail> {
             b"dlcalls 1\ndomain 1 1048576\nadmit 1 1 a 2 5 5 - 0 1:1{r4}\nadvan",
             "calls 30 line 4",
         ),
-        (b"dlcalls 1\ndomain 2 1048576\n", "calls 30 line 2"),
+        (b"dlcalls 1\ndomain 65 1048576\n", "calls 30 line 2"),
         (
-            b"dlcalls 1\ndomain 1 1048576\nadmit 1 1 a 2 5 5 R 0 1:1{r4}\n",
+            b"dlcalls 1\ndomain 1 1048576\nregrade 1 1 2 8 8 - busy 5\n",
             "calls 30 line 3",
         ),
         (
-            b"dlcalls 1\ndomain 1 1048576\nadmit 1 1 a 2 5 5 - 0 1:1{w}\n",
+            b"dlcalls 1\ndomain 1 1048576\ndomain 1 1048576\n",
             "calls 30 line 3",
         ),
     ];
@@ -153,6 +153,125 @@ fn full_domain_and_no_bandwidth(rt: HostRuntime) -> Result<(), Fail> {
     assert_eq!(rt; trace.as_str().lines().count(), 4);
     assert!(rt; trace.contains("next_comm=a") && trace.contains("next_comm=c"));
     assert!(rt; !trace.contains("next_comm=b"));
+    Ok(())
+}
+
+/// Whether the trace of a text is the header and these lines, each told by its CPU and time, who leaves and how, and who comes.
+fn has_lines(alloc: Global, text: &[u8], lines: &[(&str, &str, &str)]) -> Result<bool, Fail> {
+    let (answer, taken) = told(alloc, text, usize::MAX)?;
+    let trace = String::from_utf8(taken)?;
+    let mut left = trace.as_str().lines();
+    let mut same = answer.is_empty() && left.next() == Some("# tracer: nop");
+    for (place, prev, next) in lines {
+        same = match left.next() {
+            Some(line) => same
+                && line.contains(*place)
+                && line.contains(*prev)
+                && line.contains(*next),
+            None => false,
+        };
+    }
+    Ok(same && left.next().is_none())
+}
+
+const IDLE: &str = "prev_comm=swapper/";
+
+const TO_IDLE: &str = "next_comm=swapper/";
+
+#[test]
+fn reclaiming_example(rt: HostRuntime) -> Result<(), Fail> {
+    let text =
+        b"dlcalls 1\ndomain 1 1048576\nadmit 1 1 T1 4 8 8 R 0 -1:1{r2,s6}\nadmit 1 2 T2 4 8 8 R 0 1:1{r100}\nadvance 1 9\n";
+    let lines = [
+        ("[000] d..2.     0.000000: ", IDLE, "next_comm=T1 "),
+        (
+            "[000] d..2.     0.000002: ",
+            "prev_comm=T1 prev_pid=1001 prev_prio=-1 prev_state=S ",
+            "next_comm=T2 ",
+        ),
+        (
+            "[000] d..2.     0.000008: ",
+            "prev_comm=T2 prev_pid=1002 prev_prio=-1 prev_state=R+ ",
+            "next_comm=T1 ",
+        ),
+    ];
+    assert!(rt; has_lines(rt.alloc(), text, &lines)?);
+    Ok(())
+}
+
+#[test]
+fn two_cpus(rt: HostRuntime) -> Result<(), Fail> {
+    let text =
+        b"dlcalls 1\ndomain 2 1048576\nadmit 1 1 T1 4 8 8 - 0 -1:1{r4,t8}\nadmit 1 2 T2 4 8 8 - 0 -1:1{r4,t8}\nadmit 1 3 T3 4 8 8 - 0 -1:1{r4,t8}\nadvance 1 5\n";
+    let lines = [
+        ("[000] d..2.     0.000000: ", IDLE, "next_comm=T2 "),
+        ("[001] d..2.     0.000000: ", IDLE, "next_comm=T1 "),
+        (
+            "[000] d..2.     0.000004: ",
+            "prev_comm=T2 prev_pid=1002 prev_prio=-1 prev_state=S ",
+            TO_IDLE,
+        ),
+        (
+            "[001] d..2.     0.000004: ",
+            "prev_comm=T1 prev_pid=1001 prev_prio=-1 prev_state=S ",
+            "next_comm=T3 ",
+        ),
+    ];
+    assert!(rt; has_lines(rt.alloc(), text, &lines)?);
+    Ok(())
+}
+
+#[test]
+fn waiting(rt: HostRuntime) -> Result<(), Fail> {
+    let text =
+        b"dlcalls 1\ndomain 1 1048576\nadmit 1 1 w 2 10 10 - 0 -1:1{w,r1}\nadvance 1 3\nwake 1 1\nwake 1 1\nadvance 1 3\n";
+    let lines = [
+        ("[000] d..2.     0.000003: ", IDLE, "next_comm=w "),
+        (
+            "[000] d..2.     0.000004: ",
+            "prev_comm=w prev_pid=1001 prev_prio=-1 prev_state=S ",
+            TO_IDLE,
+        ),
+    ];
+    assert!(rt; has_lines(rt.alloc(), text, &lines)?);
+    Ok(())
+}
+
+#[test]
+fn leaving_keeps_bandwidth_until_zero_lag(rt: HostRuntime) -> Result<(), Fail> {
+    let text =
+        b"dlcalls 1\ndomain 1 524288\nadmit 1 1 a 4 8 8 - 0 1:1{r100}\nadvance 1 2\nleave 1 1\nadvance 1 2\nadmit 1 2 b 4 8 8 - 0 1:1{r1}\nadvance 1 1\nadmit 1 3 c 4 8 8 - 0 1:1{r1}\nadvance 1 2\n";
+    let lines = [
+        ("[000] d..2.     0.000000: ", IDLE, "next_comm=a "),
+        (
+            "[000] d..2.     0.000002: ",
+            "prev_comm=a prev_pid=1001 prev_prio=-1 prev_state=X ",
+            TO_IDLE,
+        ),
+        ("[000] d..2.     0.000005: ", IDLE, "next_comm=c "),
+        (
+            "[000] d..2.     0.000006: ",
+            "prev_comm=c prev_pid=1003 prev_prio=-1 prev_state=X ",
+            TO_IDLE,
+        ),
+    ];
+    assert!(rt; has_lines(rt.alloc(), text, &lines)?);
+    Ok(())
+}
+
+#[test]
+fn a_regrade_is_made(rt: HostRuntime) -> Result<(), Fail> {
+    let text =
+        b"dlcalls 1\ndomain 1 524288\nadmit 1 1 a 2 8 8 - 0 1:1{r100}\nregrade 1 1 5 8 8 -\nregrade 1 1 4 8 8 -\nadvance 1 6\n";
+    let lines = [
+        ("[000] d..2.     0.000000: ", IDLE, "next_comm=a "),
+        (
+            "[000] d..2.     0.000004: ",
+            "prev_comm=a prev_pid=1001 prev_prio=-1 prev_state=R+ ",
+            TO_IDLE,
+        ),
+    ];
+    assert!(rt; has_lines(rt.alloc(), text, &lines)?);
     Ok(())
 }
 
