@@ -12,25 +12,13 @@ use Rattle.domain_run.specs.Domain.{Domain}
 use Rattle.domain_run.specs.Calls.{with_number, reply_to, is_refusal, after_call, granted}
 use Rattle.domain_run.specs.Tick.{ticks, ticked}
 use Rattle.domain_run.specs.Sound.{IsAdmitted}
+use Rattle.domain_run.proofs.Admitting.{with_number_contains}
 use Rattle.switch_text.specs.Names.{Names, named, HasName}
 use Rattle.dlsim.specs.Replay.{with_name}
 use Rattle.dlsim.specs.Replaying.{AreNamed}
 
 pub one_more : (k : ℕ) (d e : Domain) → e ≡ ticks k d → ticked e ≡ ticks (k + 1) d
 one_more k d e same = let more : suc k ≡ k + 1 = omega arith in ap ticked same ∙ ap (λ n. ticks n d) more
-
-swapped : (a b c : Bool) → (a || (b || c)) ≡ (b || (a || c))
-swapped true true c = refl
-swapped true false c = refl
-swapped false b c = refl
-
-with_number_contains : (m k : ℕ) (ms : List ℕ) → list_any (λ n. eqb n k) (with_number m ms) ≡ (eqb m k || list_any (λ n. eqb n k) ms)
-with_number_contains m k [] = refl
-with_number_contains m k (x ∷ ms) =
-    elim (ltb m x) as (λ b. list_any (λ n. eqb n k) (cond b (m ∷ x ∷ ms) (x ∷ with_number m ms)) ≡ (eqb m k || (eqb x k || list_any (λ n. eqb n k) ms))) [
-      | true ↦ refl
-      | false ↦ ap (λ b. eqb x k || b) (with_number_contains m k ms) ∙ swapped (eqb x k) (eqb m k) (list_any (λ n. eqb n k) ms)
-    ]
 
 eqb-swap : (a b : ℕ) → eqb a b ≡ eqb b a
 eqb-swap a b =

@@ -25,7 +25,7 @@ swapped true true c = refl
 swapped true false c = refl
 swapped false b c = refl
 
-with_number_contains : (m k : ℕ) (ms : List ℕ) → list_any (λ n. eqb n k) (with_number m ms) ≡ (eqb m k || list_any (λ n. eqb n k) ms)
+pub with_number_contains : (m k : ℕ) (ms : List ℕ) → list_any (λ n. eqb n k) (with_number m ms) ≡ (eqb m k || list_any (λ n. eqb n k) ms)
 with_number_contains m k [] = refl
 with_number_contains m k (x ∷ ms) =
     elim (ltb m x) as (λ b. list_any (λ n. eqb n k) (cond b (m ∷ x ∷ ms) (x ∷ with_number m ms)) ≡ (eqb m k || (eqb x k || list_any (λ n. eqb n k) ms))) [
