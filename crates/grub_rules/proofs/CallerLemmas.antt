@@ -29,8 +29,15 @@ running_least false active bw = omega arith
 pub running_bw-le-this_bw : (cpu : ℕ) (shares : List Share) → running_bw cpu shares ≤ this_bw cpu shares
 running_bw-le-this_bw cpu [] = omega arith
 running_bw-le-this_bw cpu (s ∷ shares) =
-    omega (arith, this_bw-append cpu (s ∷ []) shares, running_bw-append cpu (s ∷ []) shares, this_bw-one cpu s, running_bw-one cpu s,
-    running_least (eqb s.cpu cpu) s.active s.bw, running_bw-le-this_bw cpu shares)
+    omega (
+      arith,
+      this_bw-append cpu (s ∷ []) shares,
+      running_bw-append cpu (s ∷ []) shares,
+      this_bw-one cpu s,
+      running_bw-one cpu s,
+      running_least (eqb s.cpu cpu) s.active s.bw,
+      running_bw-le-this_bw cpu shares,
+    )
 
 this_least : (here : Bool) (bw : ℕ) → cond here bw 0 ≤ bw
 this_least true bw = omega arith
@@ -39,8 +46,14 @@ this_least false bw = omega arith
 pub this_bw-le-total_bw : (cpu : ℕ) (shares : List Share) → this_bw cpu shares ≤ total_bw shares
 this_bw-le-total_bw cpu [] = omega arith
 this_bw-le-total_bw cpu (s ∷ shares) =
-    omega (arith, this_bw-append cpu (s ∷ []) shares, this_bw-one cpu s, this_least (eqb s.cpu cpu) s.bw, sum_by-cons (λ (x : Share). x.bw) s shares,
-    this_bw-le-total_bw cpu shares)
+    omega (
+      arith,
+      this_bw-append cpu (s ∷ []) shares,
+      this_bw-one cpu s,
+      this_least (eqb s.cpu cpu) s.bw,
+      sum_by-cons (λ (x : Share). x.bw) s shares,
+      this_bw-le-total_bw cpu shares,
+    )
 
 pub uinact-le-total_bw : (cpu : ℕ) (shares : List Share) → uinact cpu shares ≤ total_bw shares
 uinact-le-total_bw cpu shares = omega (arith, this_bw-le-total_bw cpu shares)
@@ -79,6 +92,6 @@ pub held : (a : AccountsView) (s : Share) (xs ys : List Share) → AreAccounts a
 held a s xs ys was = record {
   home = let P : Share → Type 0 = λ x. x.cpu < length a.all in All-head P s ys (All-back P xs (s ∷ ys) was.homes);
   bw = held_bw s.active s.bw (slice_index a.all s.cpu) (slice_index a.active s.cpu) (this_bw s.cpu xs) (running_bw s.cpu xs) (this_bw s.cpu ys) (running_bw s.cpu ys) (running_bw-le-this_bw s.cpu xs) (running_bw-le-this_bw s.cpu ys)
-    (was.all s.cpu ∙ this_bw-append s.cpu xs (s ∷ ys) ∙ ap (λ n. this_bw s.cpu xs + n) (this_bw-append s.cpu (s ∷ []) ys ∙ ap (λ n. n + this_bw s.cpu ys) (at_home s)))
-    (was.active s.cpu ∙ running_bw-append s.cpu xs (s ∷ ys) ∙ ap (λ n. running_bw s.cpu xs + n) (running_bw-append s.cpu (s ∷ []) ys ∙ ap (λ n. n + running_bw s.cpu ys) (active_at_home s)));
+      (was.all s.cpu ∙ this_bw-append s.cpu xs (s ∷ ys) ∙ ap (λ n. this_bw s.cpu xs + n) (this_bw-append s.cpu (s ∷ []) ys ∙ ap (λ n. n + this_bw s.cpu ys) (at_home s)))
+      (was.active s.cpu ∙ running_bw-append s.cpu xs (s ∷ ys) ∙ ap (λ n. running_bw s.cpu xs + n) (running_bw-append s.cpu (s ∷ []) ys ∙ ap (λ n. n + running_bw s.cpu ys) (active_at_home s)));
 }

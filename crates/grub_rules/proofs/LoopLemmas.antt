@@ -18,7 +18,6 @@ at xs i d h = sym (take-append-drop i xs) ∙ ap (λ ys. take i xs ++ ys) (drop_
 set_at : {X : Type 0} (xs : List X) (i : ℕ) (y : X) → i < length xs → set xs i y ≡ take i xs ++ y ∷ drop (i + 1) xs
 set_at xs i y h = sym (take-append-drop i (set xs i y)) ∙ ap (λ ys. ys ++ drop i (set xs i y)) (take-set xs i y) ∙ ap (λ ys. take i xs ++ ys) (drop-set xs i y h)
 
-
 shares_at : {X : Type 0} (share : X → Share) (items : List X) (i : ℕ) (d : X) → i < length items → map share items ≡ map share (take i items) ++ share (get_or items i d) ∷ map share (drop (i + 1) items)
 shares_at share items i d h = ap (map share) (at items i d h) ∙ map-append share (take i items) (get_or items i d ∷ drop (i + 1) items)
 
@@ -74,7 +73,7 @@ still_counted-stayed share stays a items i d h stay was =
     let rest = map share (drop (i + 1) items) in
     let here = share (get_or items i d) in
     let e : still_counted share stays items (i + 1) ≡ kept ++ here ∷ rest =
-        still_counted_more share stays items i d h ∙ rw stay (ap (λ ys. ys ++ rest) (map-append share (filter stays (take i items)) (get_or items i d ∷ [])) ∙ append_assoc kept (here ∷ []) rest) in
+    still_counted_more share stays items i d h ∙ rw stay (ap (λ ys. ys ++ rest) (map-append share (filter stays (take i items)) (get_or items i d ∷ [])) ∙ append_assoc kept (here ∷ []) rest) in
     subst (AreAccounts a) (still_counted_at share stays items i d h ∙ sym e) was
 
 -- a task that goes
@@ -83,11 +82,11 @@ still_counted-parted share stays old new items i d h gone parts was =
     let kept = map share (filter stays (take i items)) in
     let rest = map share (drop (i + 1) items) in
     let e : still_counted share stays items (i + 1) ≡ kept ++ rest =
-        still_counted_more share stays items i d h ∙ rw gone (ap (λ ys. map share ys ++ rest) (append-nil (filter stays (take i items)))) in
+    still_counted_more share stays items i d h ∙ rw gone (ap (λ ys. map share ys ++ rest) (append-nil (filter stays (take i items)))) in
     subst (AreAccounts new) (sym e) (parts kept rest (subst (AreAccounts old) (still_counted_at share stays items i d h) was))
 
 pub still_counted-done : {X : Type 0} (share : X → Share) (stays : X → Bool) (a : AccountsView) (items : List X) (i : ℕ) → length items ≤ i → AreAccounts a (still_counted share stays items i) → AreAccounts a (map share (filter stays items))
 still_counted-done share stays a items i h was =
     let e : still_counted share stays items i ≡ map share (filter stays items) =
-        ap (λ ys. map share (filter stays ys) ++ map share (drop i items)) (take_all i items h) ∙ ap (λ ys. map share (filter stays items) ++ map share ys) (drop_of_length-le items h) ∙ append-nil (map share (filter stays items)) in
+    ap (λ ys. map share (filter stays ys) ++ map share (drop i items)) (take_all i items h) ∙ ap (λ ys. map share (filter stays items) ++ map share ys) (drop_of_length-le items h) ∙ append-nil (map share (filter stays items)) in
     subst (AreAccounts a) e was

@@ -1,6 +1,6 @@
 //! Running sums of the bandwidth of a domain's tasks (sched-deadline.rst, "Bandwidth reclaiming").
 
-ghost use Rattle.std.specs.Prelude.{◌≡◌, ◌<◌, ◌≤◌, ◌^◌, ◌+◌, ◌-◌, ◌==◌, ℕ, if◌then◌else◌, List, [], ◌∷◌, ◌++◌, length, slice_index, sum, vec_len, IfOk};
+ghost use Rattle.std.specs.Prelude.{◌≡◌, ◌<◌, ◌≤◌, ◌^◌, ◌+◌, ◌-◌, ◌==◌, ◌↔◌, IsTrue, ℕ, if◌then◌else◌, List, [], ◌∷◌, ◌++◌, length, slice_index, sum, vec_len, IfOk};
 ghost use Rattle.grub_rules.specs.Sums.{total_bw, uinact};
 ghost use Rattle.grub_rules.specs.Accounts.{AreAccounts, Holds, Exchanges, active_share, inactive_share, inactive_at};
 
@@ -60,6 +60,27 @@ impl Accounts {
             active: vec![in alloc; 0; cpus]?,
             total: 0,
         })
+    }
+
+    /// The number of CPUs.
+    pub fn cpus(&self) -> usize
+        ensures { result ≡ length self.now.all }
+    {
+        self.all.len()
+    }
+
+    /// Whether a share may go: it belongs to a CPU of the domain, which has so much bandwidth of its kind, active or not.
+    pub fn holds(&self, share: &Share) -> bool
+        ensures { IsTrue result ↔ Holds self.now share.now }
+    {
+        if share.cpu >= self.cpus() {
+            return false;
+        }
+        if share.active {
+            share.bw <= self.active[share.cpu]
+        } else {
+            share.bw <= self.uinact(share.cpu)
+        }
     }
 
     /// A task goes on the list.
@@ -164,3 +185,6 @@ impl Accounts {
         self.total
     }
 }
+
+#[cfg(test)]
+mod tests;
