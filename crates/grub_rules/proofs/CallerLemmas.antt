@@ -1,13 +1,11 @@
 -- What a caller of the running sums shows by the list of shares that they count.
-use Rattle.std.proofs.Common.{◌≡◌, ℕ, suc, ◌+◌, ◌-◌, ◌*◌, ◌^◌, ◌<◌, ◌≤◌, Bool, true, false, cond, eqb, eq-eqb, ◌&&◌, List, [], ◌∷◌, ◌++◌, length, take, drop, set, get_or, map, refl, sym, ap, subst, ◌∙◌, add-one, arith}
-use Rattle.std.specs.Prelude.{filter, sum_by, All, slice_index}
-use Rattle.std.proofs.Math.Seq.{drop-cons}
-use Rattle.std.proofs.lemmas.List.{take-append-drop, take-set, drop-set, map-append, take_all, append-nil}
-use Rattle.std.proofs.lemmas.List.Elements.{filter_more, All-head}
+use Rattle.std.proofs.Common.{◌≡◌, ℕ, ◌+◌, ◌-◌, ◌^◌, ◌<◌, ◌≤◌, Bool, true, false, cond, eqb, eq-eqb, ◌&&◌, List, [], ◌∷◌, ◌++◌, length, refl, ap, ◌∙◌, arith}
+use Rattle.std.specs.Prelude.{sum_by, All, slice_index}
+use Rattle.std.proofs.lemmas.List.Elements.{All-head}
 use Rattle.std.proofs.lemmas.List.Sums.{sum_by-cons, sum_by-le}
 use Rattle.grub_rules.specs.Sums.{Share, total_bw, this_bw, running_bw, uinact}
 use Rattle.grub_rules.specs.Accounts.{AccountsView, AreAccounts, Holds}
-use Rattle.grub_rules.proofs.Exchanging.{this_bw-append, running_bw-append, total_bw-append, All-back}
+use Rattle.grub_rules.proofs.Exchanging.{this_bw-append, running_bw-append, All-back}
 
 -- one share alone
 alone : (p : Bool) (s : Share) → sum_by (λ x. x.bw) (cond p (s ∷ []) []) ≡ cond p s.bw 0

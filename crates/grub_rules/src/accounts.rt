@@ -8,8 +8,11 @@ use crate::share::Share;
 use std::alloc::{AllocError, Global};
 use std::marker::Model;
 
-/// The running sums of a domain: for each CPU the bandwidth of the tasks that belong to it, and of those of them that are
-/// active, in 1/2^20 of a CPU.
+/// The running sums of a domain (sched-deadline.rst, "Bandwidth reclaiming"): for each CPU the bandwidth of the tasks that belong
+/// to it, this_bw, and of those of them that are active, running_bw, in 1/2^20 of a CPU.
+///
+/// Each call tells it of one change of the list of tasks, and says for every list that the sums count, in whatever order, that
+/// they count the list with that change afterwards.
 #[derive(Debug, Drop)]
 pub struct Accounts {
     all: Vec<u64>,
@@ -50,7 +53,8 @@ fn subtract(sums: &mut Vec<u64>, cpu: usize, bw: u64)
 }
 
 impl Accounts {
-    /// The sums of no tasks, for so many CPUs. The only call that takes memory; `Err` where a growth was refused.
+    /// The sums of no tasks, for so many CPUs; a domain has 1 to 64. The only call that takes memory; `Err` where a growth was
+    /// refused.
     pub fn open(alloc: Global, cpus: usize) -> Result<Accounts, AllocError>
         ensures cpus { IfOk result (λ accounts. length accounts.all ≡ cpus) }
         ensures sums { IfOk result (λ accounts. AreAccounts accounts []) }
@@ -83,7 +87,7 @@ impl Accounts {
         }
     }
 
-    /// A task goes on the list.
+    /// A task goes on the list. The bandwidth of all tasks stays below 2^64, which 256 tasks of at most 2^20 each never reach.
     pub fn join(&mut self, share: &Share)
         requires home { share.now.cpu < length self.old.all }
         requires fits { self.old.total + share.now.bw < 2 ^ 64 }
@@ -97,7 +101,7 @@ impl Accounts {
         self.total += share.bw;
     }
 
-    /// A task goes off the list.
+    /// A task goes off the list, active or not as it is.
     pub fn part(&mut self, share: &Share)
         requires { Holds self.old share.now }
         ensures change { Exchanges self.old self.new (share.now ∷ []) [] }
@@ -110,7 +114,7 @@ impl Accounts {
         self.total -= share.bw;
     }
 
-    /// An inactive task of this CPU and bandwidth becomes active.
+    /// A listed task of this CPU and bandwidth, inactive until now, becomes active: it contends.
     pub fn wake(&mut self, cpu: usize, bw: u64)
         requires { Holds self.old (inactive_share cpu bw) }
         ensures change { Exchanges self.old self.new (inactive_share cpu bw ∷ []) (active_share cpu bw ∷ []) }
@@ -119,7 +123,8 @@ impl Accounts {
         add(&mut self.active, cpu, bw);
     }
 
-    /// An active task of this CPU and bandwidth becomes inactive.
+    /// A listed task of this CPU and bandwidth, active until now, becomes inactive: it does not contend, and its zero-lag time has
+    /// come.
     pub fn idle(&mut self, cpu: usize, bw: u64)
         requires { Holds self.old (active_share cpu bw) }
         ensures change { Exchanges self.old self.new (active_share cpu bw ∷ []) (inactive_share cpu bw ∷ []) }
@@ -128,7 +133,7 @@ impl Accounts {
         subtract(&mut self.active, cpu, bw);
     }
 
-    /// A task belongs to another CPU from now on, active or not as it is.
+    /// A listed task, active or not, belongs to the CPU `to` from now on, and its bandwidth goes with it.
     pub fn shift(&mut self, share: &Share, to: usize)
         requires held { Holds self.old share.now }
         requires home { to < length self.old.all }
@@ -143,7 +148,8 @@ impl Accounts {
         }
     }
 
-    /// The share of a task was `before` and is `after` now, whatever of it has changed.
+    /// The share of a listed task was `before` and is `after` now: its CPU, its bandwidth and whether it is active may all have
+    /// changed, or nothing.
     pub fn track(&mut self, before: &Share, after: &Share)
         requires held { Holds self.old before.now }
         requires home { after.now.cpu < length self.old.all }
@@ -168,7 +174,7 @@ impl Accounts {
         }
     }
 
-    /// The bandwidth of the inactive tasks of a CPU.
+    /// The bandwidth of the inactive tasks of a CPU, Uinact: this_bw less running_bw.
     pub fn uinact(&self, cpu: usize) -> u64
         requires { cpu < length self.now.all }
         ensures value { result ≡ inactive_at cpu self.now }
@@ -177,7 +183,7 @@ impl Accounts {
         self.all[cpu] - self.active[cpu]
     }
 
-    /// The bandwidth of all tasks of the domain.
+    /// The bandwidth of all listed tasks of the domain.
     pub fn total(&self) -> u64
         ensures value { result ≡ self.now.total }
         ensures sums { (shares : List Share) → AreAccounts self.now shares → result ≡ total_bw shares }
