@@ -1,10 +1,11 @@
--- Worked rows of zero-lag times and rates.
-use Rattle.std.specs.Prelude.{ℕ, true, false, pos, neg_ℤ, ◌≡◌, Some, None, refl}
+-- Worked rows of zero-lag times, rates and sums.
+use Rattle.std.specs.Prelude.{ℕ, Bool, true, false, List, [], ◌∷◌, pos, neg_ℤ, ◌≡◌, Some, None, refl}
 use Rattle.attr_check.specs.ParamsView.{ParamsView}
 use Rattle.attr_check.specs.Ratio.{ratio}
 use Rattle.cbs_rules.specs.declared.server.Server.{Server}
 use Rattle.grub_rules.specs.Lag.{zero_lag}
 use Rattle.grub_rules.specs.Rate.{rate}
+use Rattle.grub_rules.specs.Sums.{Share, total_bw, this_bw, running_bw, uinact}
 
 -- runtime, relative deadline and period, without and with reclaiming
 abbrev plain : ℕ → ℕ → ℕ → ParamsView
@@ -50,3 +51,22 @@ rate_above_one = refl
 -- no bandwidth, with all the rest inactive: the least rate
 least_rate : rate (reclaiming 2 4000000 4000000) 1048576 1048576 1 1048576 ≡ 1
 least_rate = refl
+
+-- THREE TASKS: an active and an inactive one on the first CPU, and an inactive one on the second
+abbrev share : ℕ → ℕ → Bool → Share
+share cpu bw active = record { cpu = cpu; bw = bw; active = active }
+
+abbrev three : List Share
+three = share 0 524288 true ∷ (share 0 262144 false ∷ (share 1 131072 false ∷ []))
+
+this_of_three : this_bw 0 three ≡ 786432
+this_of_three = refl
+
+running_of_three : running_bw 0 three ≡ 524288
+running_of_three = refl
+
+inactive_of_three : (uinact 0 three ≡ 262144) × (uinact 1 three ≡ 131072)
+inactive_of_three = (refl, refl)
+
+total_of_three : total_bw three ≡ 917504
+total_of_three = refl

@@ -1,11 +1,7 @@
 -- The bandwidth of a CPU's tasks, and of those that are active (sched-deadline.rst, "Bandwidth reclaiming").
-use Rattle.std.specs.Prelude.{ℕ, Bool, ◌-◌, ◌==◌, ◌&&◌, List, filter, sum_by}
-
+use Rattle.std.specs.Prelude.{ℕ, ◌-◌, ◌==◌, ◌&&◌, List, filter, sum_by}
 -- a task as the sums see it: the CPU to which it belongs, its bandwidth, and whether it contends or has a zero-lag time ahead
-pub record Share : Type 0 where
-  pub cpu : ℕ
-  pub bw : ℕ
-  pub active : Bool
+pub use Rattle.grub_rules.specs.declared.share.Share.{Share}
 
 -- all of a domain
 abbrev pub total_bw : List Share → ℕ
