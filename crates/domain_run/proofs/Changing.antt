@@ -8,7 +8,7 @@ use Rattle.std.proofs.lemmas.List.Elements.{All-map, All-weaker, All-cons}
 use Rattle.std.proofs.lemmas.List.Sums.{sum_by-cons}
 use Rattle.attr_check.specs.ParamsView.{ParamsView}
 use Rattle.attr_check.specs.Ratio.{cap}
-use Rattle.grub_rules.specs.Sums.{Share}
+use Rattle.grub_rules.specs.declared.share.Share.{Share}
 use Rattle.domain_run.specs.declared.task.Task.{Task}
 use Rattle.domain_run.specs.declared.task.Condition.{Condition}
 use Rattle.domain_run.specs.declared.task.Condition.TheVariants.{Ready, Throttled, Blocked, Waiting, Leaving}

@@ -4,7 +4,8 @@ use Rattle.std.specs.Prelude.{filter, sum_by}
 use Rattle.std.proofs.lemmas.List.Elements.{filter-append}
 use Rattle.std.proofs.lemmas.List.Sums.{sum_by-append, sum_by-cons}
 use Rattle.std.proofs.lemmas.List.{map_more}
-use Rattle.grub_rules.specs.Sums.{Share, total_bw, this_bw, running_bw, uinact}
+use Rattle.grub_rules.specs.declared.share.Share.{Share}
+use Rattle.grub_rules.specs.Sums.{total_bw, this_bw, running_bw, uinact}
 use Rattle.domain_run.specs.declared.task.Task.{Task}
 use Rattle.domain_run.specs.Tick.{share_of, shares, sum_of}
 use Rattle.domain_run.specs.Charging.{inactive_of}

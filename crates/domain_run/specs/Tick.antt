@@ -1,6 +1,7 @@
 -- One tick of a domain, in six parts (own, over the rules that the parts cite).
 use Rattle.std.specs.Prelude.{ℕ, zero, suc, ◌+◌, ◌||◌, if◌then◌else◌, List, ◌++◌, map, filter, is_some, unwrap_or}
-use Rattle.grub_rules.specs.Sums.{Share, total_bw, uinact}
+use Rattle.grub_rules.specs.declared.share.Share.{Share}
+use Rattle.grub_rules.specs.Sums.{total_bw, uinact}
 use Rattle.grub_rules.specs.Rate as reclaiming
 use Rattle.edf_pick.specs.Places.{Places, placed, stands}
 use Rattle.edf_pick.specs.declared.candidate.Candidate.{Candidate}
