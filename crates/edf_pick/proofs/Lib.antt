@@ -1,1 +1,3 @@
+pub mod Before
 pub mod MapStep
+pub mod Rising

@@ -5,10 +5,13 @@
 #![tactic(auto)]
 
 mod candidate;
+mod order;
 mod placing;
+mod queue;
 
 pub use candidate::Candidate;
 pub use placing::{place, stands};
+pub use queue::Queue;
 
 #[cfg(test)]
 mod tests;

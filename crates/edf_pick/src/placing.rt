@@ -5,12 +5,7 @@ ghost use Rattle.edf_pick.specs.Choice as choice;
 ghost use Rattle.edf_pick.specs.Places as spec;
 
 use crate::candidate::Candidate;
-
-fn is_before(a: &Candidate, b: &Candidate) -> bool
-    ensures { result ≡ choice.is_before a.now b.now }
-{
-    a.deadline < b.deadline || (a.deadline == b.deadline && a.number < b.number)
-}
+use crate::order::is_before;
 
 fn rank(ready: &[Candidate], c: &Candidate) -> usize
     ensures { result ≡ choice.rank ready.now c.now }
