@@ -1,3 +1,4 @@
 pub mod Before
 pub mod MapStep
+pub mod Picked
 pub mod Rising

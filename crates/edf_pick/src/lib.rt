@@ -6,12 +6,17 @@
 
 mod candidate;
 mod order;
+mod picking;
+mod placement;
 mod placing;
 mod queue;
+mod seats;
 
 pub use candidate::Candidate;
-pub use placing::{place, stands};
+pub use placement::{Placement, pick};
+pub use placing::place;
 pub use queue::Queue;
+pub use seats::stands;
 
 #[cfg(test)]
 mod tests;
