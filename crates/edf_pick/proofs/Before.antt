@@ -1,7 +1,7 @@
 -- The laws of the order of the choice.
-use Rattle.std.proofs.Common.{◌≡◌, ◌<◌, true, false, ◌&&◌, eqb, ltb, sym, inl, inr, arith, eq-eqb}
+use Rattle.std.proofs.Common.{◌≡◌, ◌≢◌, ◌<◌, true, false, ◌&&◌, eqb, ltb, refl, sym, inl, inr, arith, eq-eqb}
 use Rattle.std.specs.Prelude.{◌⊎◌}
-use Rattle.std.proofs.lemmas.Bool.{or_cases, or_left, or_right, and_parts, and_from, ltb-true, eqb-true, lt-ltb, both_ways, false_from_ne_true, cases_order}
+use Rattle.std.proofs.lemmas.Bool.{or_cases, or_left, or_right, and_parts, and_from, ltb-true, eqb-true, lt-ltb, both_ways, false_from_ne_true, cases_order, cases_Bool, and_right, ne_eqb}
 use Rattle.edf_pick.specs.declared.candidate.Candidate.{Candidate}
 use Rattle.edf_pick.specs.Choice.{is_before}
 use Rattle.edf_pick.specs.Order.{is_same}
@@ -63,3 +63,18 @@ pub same_before : (a c b : Candidate) → is_same a c ≡ true → is_before a b
 same_before a c b s h =
     let e = same_tells a c s in
     elim (before_tells a b h) [ inl x ↦ before_earlier c b (omega arith) | inr x ↦ before_tie c b (omega arith) (omega arith) ]
+
+pub same_itself : (a : Candidate) → is_same a a ≡ true
+same_itself a = and_from (eqb a.deadline a.deadline) (eqb a.number a.number) (eq-eqb a.deadline a.deadline refl) (eq-eqb a.number a.number refl)
+
+-- tasks of different numbers have different places
+pub number_differs : (a b : Candidate) → a.number ≢ b.number → is_same a b ≡ false
+number_differs a b h = and_right (eqb a.deadline b.deadline) (eqb a.number b.number) (ne_eqb a.number b.number h)
+
+-- b, which a is not before, is before all that a is before
+pub before_past : (a b c : Candidate) → is_before a b ≡ false → is_before a c ≡ true → is_before b c ≡ true
+before_past a b c past h =
+    elim (cases_Bool (is_same a b)) [
+      | inl same ↦ same_before a b c same h
+      | inr other ↦ before_both b a c (before_other a b past other) h
+    ]

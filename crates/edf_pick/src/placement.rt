@@ -54,7 +54,7 @@ impl Placement {
         ensures some { 0 < length self.now }
         ensures few { length self.now ≤ 64 }
     {
-        &self.occupants
+        self.occupants.as_slice()
     }
 }
 

@@ -61,7 +61,7 @@ impl Queue {
         ensures tasks { result.now ≡ self.now }
         ensures rising { order.IsRising self.now }
     {
-        &self.tasks
+        self.tasks.as_slice()
     }
 
     /// Whether the task of this deadline and number is there. Binary search.
