@@ -46,8 +46,9 @@ fn keep(places: &mut Vec<Option<u32>>, cpus: usize, ready: &[Candidate])
     }
 }
 
-/// Moves the occupants of the CPUs on by one tick: a chosen task stays where it stands; the others, in the order of the
-/// choice, go to the CPU to which they belong where that is free, else to the lowest free one. Takes no memory.
+/// The plain program of [`pick`](crate::pick), for ready tasks in any order, no two of one deadline and number: a chosen task stays
+/// where it stands; the others, in the order of the choice, go to the CPU to which they belong where that is free, else to the
+/// lowest free one. It counts for each task how many are before it. Takes no memory.
 pub fn place(places: &mut Vec<Option<u32>>, ready: &[Candidate])
     ensures places { places.new.items ≡ spec.placed (vec_len places.old) ready.now places.old.items }
     ensures room { vec_capacity places.new ≡ vec_capacity places.old }

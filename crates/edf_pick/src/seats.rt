@@ -1,7 +1,7 @@
 //! A seat for a task: it stays where it stands, else it goes to the CPU to which it belongs where that is free, else to the lowest
 //! free one.
 
-ghost use Rattle.std.specs.Prelude.{◌≡◌, vec_len, vec_capacity, is_none, slice_get, position};
+ghost use Rattle.std.specs.Prelude.{◌≡◌, map, vec_len, vec_capacity, is_none, slice_get, position};
 ghost use Rattle.edf_pick.specs.Places as spec;
 
 use crate::candidate::Candidate;
@@ -46,5 +46,29 @@ pub(crate) fn seat(places: &mut Vec<Option<u32>>, c: &Candidate)
         && cpu < places.len()
     {
         places[cpu] = Some(c.number);
+    }
+}
+
+fn cpu_of(number: u32, places: &[Option<u32>]) -> Option<usize>
+    ensures { result ≡ position (spec.is_task number) places.now }
+{
+    places.iter().position(|occupant| *occupant == Some(number))
+}
+
+fn settle(c: &mut Candidate, places: &[Option<u32>])
+    ensures { c.new ≡ spec.at_home places.now c.old }
+{
+    if let Some(cpu) = cpu_of(c.number, places) {
+        c.home = cpu;
+    }
+}
+
+pub(crate) fn settle_all(tasks: &mut Vec<Candidate>, places: &[Option<u32>])
+    ensures tasks { tasks.new.items ≡ map (spec.at_home places.now) tasks.old.items }
+    ensures len { vec_len tasks.new ≡ vec_len tasks.old }
+    ensures room { vec_capacity tasks.new ≡ vec_capacity tasks.old }
+{
+    for c in tasks.iter_mut() {
+        settle(c, places);
     }
 }

@@ -55,9 +55,19 @@ fn the_first_two_of_three(rt: HostRuntime) -> Result<(), Fail> {
     put(&mut queue, ready(8, 1, 1));
     pick(&mut placement, &queue);
     assert_eq!(rt; placement.occupants(), [Some(2), Some(1)].as_slice());
+    queue.settle(&placement);
+    let order = [ready(8, 1, 1), ready(8, 2, 0), ready(8, 3, 1)];
+    assert_eq!(rt; queue.as_slice(), order.as_slice());
+    queue.remove(&ready(8, 2, 0));
+    pick(&mut placement, &queue);
+    assert_eq!(rt; placement.occupants(), [Some(3), Some(1)].as_slice());
+    queue.settle(&placement);
+    let order = [ready(8, 1, 1), ready(8, 3, 0)];
+    assert_eq!(rt; queue.as_slice(), order.as_slice());
+    put(&mut queue, ready(9, 2, 0));
     queue.remove(&ready(8, 1, 1));
     pick(&mut placement, &queue);
-    assert_eq!(rt; placement.occupants(), [Some(2), Some(3)].as_slice());
+    assert_eq!(rt; placement.occupants(), [Some(3), Some(2)].as_slice());
     Ok(())
 }
 
@@ -88,6 +98,16 @@ fn turn(queue: &mut Queue, plain: &mut Vec<Candidate>, c: Candidate) -> Result<(
     Ok(())
 }
 
+fn settle(plain: &mut Vec<Candidate>, places: &[Option<u32>]) {
+    for c in plain.iter_mut() {
+        for (cpu, occupant) in places.iter().enumerate() {
+            if *occupant == Some(c.number) {
+                c.home = cpu;
+            }
+        }
+    }
+}
+
 #[test]
 fn pick_is_the_plain_program(rt: HostRuntime) -> Result<(), Fail> {
     for cpus in 1..5usize {
@@ -103,6 +123,8 @@ fn pick_is_the_plain_program(rt: HostRuntime) -> Result<(), Fail> {
             pick(&mut placement, &queue);
             place(&mut places, &plain);
             assert_eq!(rt; placement.occupants(), places.as_slice());
+            queue.settle(&placement);
+            settle(&mut plain, &places);
         }
     }
     Ok(())
