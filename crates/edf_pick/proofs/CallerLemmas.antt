@@ -3,10 +3,11 @@ use Rattle.std.proofs.Common.{◌≡◌, ◌≢◌, ◌<◌, ℕ, zero, suc, Boo
 use Rattle.std.specs.Prelude.{All, AllPairs, Contains, find, not}
 use Rattle.std.specs.List.{list_any}
 use Rattle.std.specs.List.Sorted.{IsPermutation}
-use Rattle.std.proofs.lemmas.Bool.{or_parts, cases_Bool, cond-true, cond-false, eqb-true, ne_eqb}
+use Rattle.std.proofs.lemmas.Bool.{or_parts, or_left, or_right, cases_Bool, cond-true, cond-false, eqb-true, ne_eqb}
 use Rattle.std.proofs.lemmas.List.{get_or_default}
-use Rattle.std.proofs.lemmas.List.Elements.{All-cons, All-head, All-tail, All-weaker, Contains-get_or}
+use Rattle.std.proofs.lemmas.List.Elements.{All-cons, All-head, All-tail, All-weaker, All-map, Contains-get_or}
 use Rattle.std.proofs.lemmas.List.Folds.{list_any_none}
+use Rattle.std.proofs.lemmas.List.Kept.{AllPairs-cons}
 use Rattle.std.proofs.lemmas.List.Sorted.{IsPermutation-refl, IsPermutation-sym, IsPermutation-cons, IsPermutation-trans, IsPermutation-insert, length_permutation, list_any-IsPermutation, sum_by-IsPermutation, Contains-permutation}
 use mathlib.Core.Path.{fun_ext}
 use Rattle.edf_pick.specs.declared.candidate.Candidate.{Candidate}
@@ -26,6 +27,14 @@ numbered_first c xs numbered k d h = numbered 0 (suc k) d (omega arith) (omega a
 
 numbered_rest : (c : Candidate) (xs : List Candidate) → IsNumbered (c ∷ xs) → IsNumbered xs
 numbered_rest c xs numbered i j d h k = numbered (suc i) (suc j) d (omega arith) (omega arith)
+
+-- tasks seen as candidates keep their numbers
+pub numbered_map : {X : Type 0} (f : X → Candidate) (number : X → ℕ) → ((x : X) → (f x).number ≡ number x) → (xs : List X) → AllPairs (λ x y. number x ≢ number y) xs → IsNumbered (map f xs)
+numbered_map f number same [] numbered = λ i j d h k. absurd (omega arith)
+numbered_map {X} f number same (x ∷ xs) numbered =
+    let first : All (λ y. (f x).number ≢ (f y).number) xs = λ k d h e. numbered 0 (suc k) d (omega arith) (omega arith) (sym (same x) ∙ e ∙ same (get_or xs k d)) in
+    let rest = numbered_map f number same xs (λ i j d h k. numbered (suc i) (suc j) d (omega arith) (omega arith)) in
+    AllPairs-cons (λ a b. a.number ≢ b.number) (f x) (map f xs) (All-map (λ b. (f x).number ≢ b.number) f xs first) rest
 
 -- THE SAME TASKS
 -- a list in order has the tasks of the list
@@ -63,6 +72,14 @@ others_differ c (x ∷ xs) ys numbered =
 -- the condition of `insert`
 pub ordered_absent : (c : Candidate) (xs ys : List Candidate) → IsNumbered (xs ++ c ∷ ys) → has_candidate c (ordered (xs ++ ys)) ≡ false
 ordered_absent c xs ys numbered = has_ordered c (xs ++ ys) ∙ list_any_none (λ a. is_same a c) (xs ++ ys) (others_differ c xs ys numbered)
+
+there : (c : Candidate) (xs ys : List Candidate) → has_candidate c (xs ++ c ∷ ys) ≡ true
+there c [] ys = or_left (is_same c c) (has_candidate c ys) (same_itself c)
+there c (x ∷ xs) ys = or_right (is_same x c) (has_candidate c (xs ++ c ∷ ys)) (there c xs ys)
+
+-- what `remove` answers
+pub ordered_there : (c : Candidate) (xs ys : List Candidate) → has_candidate c (ordered (xs ++ c ∷ ys)) ≡ true
+ordered_there c xs ys = has_ordered c (xs ++ c ∷ ys) ∙ there c xs ys
 
 with_later : (a c : Candidate) (queue : List Candidate) → is_before a c ≡ true → with_candidate c (a ∷ queue) ≡ a ∷ with_candidate c queue
 with_later a c queue h = cond-true (is_before a c) (a ∷ with_candidate c queue) (c ∷ a ∷ queue) h

@@ -46,7 +46,7 @@ fn keep(places: &mut Vec<Option<u32>>, cpus: usize, ready: &[Candidate])
     }
 }
 
-/// The plain program of [`pick`](crate::pick), for ready tasks in any order, no two of one deadline and number: a chosen task stays
+/// The plain program of [`pick`](crate::pick), for ready tasks in any order: a chosen task stays
 /// where it stands; the others, in the order of the choice, go to the CPU to which they belong where that is free, else to the
 /// lowest free one. It counts for each task how many are before it. Takes no memory.
 pub fn place(places: &mut Vec<Option<u32>>, ready: &[Candidate])
