@@ -1,1 +1,5 @@
+pub mod Before
+pub mod CallerLemmas
 pub mod MapStep
+pub mod Picked
+pub mod Rising

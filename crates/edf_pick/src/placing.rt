@@ -1,16 +1,12 @@
-//! Which ready tasks run, and on which CPU: global EDF (sched-deadline.rst, "Main algorithm"; ties and placement are own).
+//! The plain program of the choice and the placement: it counts, for each task, how many are before it.
 
-ghost use Rattle.std.specs.Prelude.{◌≡◌, ◌<◌, ◌≤◌, map, take, drop, ◌++◌, ◌==◌, List, ◌∷◌, length, count_by, vec_len, vec_capacity, Option, Some, None, is_none, slice_get, position};
+ghost use Rattle.std.specs.Prelude.{◌≡◌, map, vec_len, vec_capacity};
 ghost use Rattle.edf_pick.specs.Choice as choice;
 ghost use Rattle.edf_pick.specs.Places as spec;
 
 use crate::candidate::Candidate;
-
-fn is_before(a: &Candidate, b: &Candidate) -> bool
-    ensures { result ≡ choice.is_before a.now b.now }
-{
-    a.deadline < b.deadline || (a.deadline == b.deadline && a.number < b.number)
-}
+use crate::order::is_before;
+use crate::seats::seat;
 
 fn rank(ready: &[Candidate], c: &Candidate) -> usize
     ensures { result ≡ choice.rank ready.now c.now }
@@ -50,50 +46,9 @@ fn keep(places: &mut Vec<Option<u32>>, cpus: usize, ready: &[Candidate])
     }
 }
 
-/// Whether a task stands on a CPU.
-pub fn stands(number: u32, places: &[Option<u32>]) -> bool
-    ensures { result ≡ spec.stands number places.now }
-{
-    places.iter().any(|occupant| *occupant == Some(number))
-}
-
-fn is_free(places: &[Option<u32>], cpu: usize) -> bool
-    ensures { result ≡ spec.is_free (slice_get places.now cpu) }
-{
-    matches!(places.get(cpu), Some(None))
-}
-
-fn lowest_free(places: &[Option<u32>]) -> Option<usize>
-    ensures { result ≡ position (λ occupant. is_none occupant) places.now }
-{
-    places.iter().position(|occupant| occupant.is_none())
-}
-
-fn seat_of(places: &[Option<u32>], c: &Candidate) -> Option<usize>
-    ensures { result ≡ spec.seat_of places.now c.now }
-{
-    if is_free(places, c.home) {
-        return Some(c.home);
-    }
-    lowest_free(places)
-}
-
-fn seat(places: &mut Vec<Option<u32>>, c: &Candidate)
-    ensures places { places.new.items ≡ spec.seated places.old.items c.now }
-    ensures room { vec_capacity places.new ≡ vec_capacity places.old }
-{
-    if stands(c.number, places) {
-        return;
-    }
-    if let Some(cpu) = seat_of(places, c)
-        && cpu < places.len()
-    {
-        places[cpu] = Some(c.number);
-    }
-}
-
-/// Moves the occupants of the CPUs on by one tick: a chosen task stays where it stands; the others, in the order of the
-/// choice, go to the CPU to which they belong where that is free, else to the lowest free one. Takes no memory.
+/// The plain program of [`pick`](crate::pick), for ready tasks in any order: a chosen task stays
+/// where it stands; the others, in the order of the choice, go to the CPU to which they belong where that is free, else to the
+/// lowest free one. It counts for each task how many are before it. Takes no memory.
 pub fn place(places: &mut Vec<Option<u32>>, ready: &[Candidate])
     ensures places { places.new.items ≡ spec.placed (vec_len places.old) ready.now places.old.items }
     ensures room { vec_capacity places.new ≡ vec_capacity places.old }

@@ -1,0 +1,14 @@
+-- The placement, where the chosen tasks stand in a list of their own, in the order of the choice.
+use Rattle.std.specs.Prelude.{ℕ, ◌==◌, if◌then◌else◌, List, fold, Option, Some, None}
+use Rattle.std.specs.List.{list_any}
+use Rattle.edf_pick.specs.declared.candidate.Candidate.{Candidate}
+use Rattle.edf_pick.specs.Places.{Places, seated}
+
+-- an occupant that is chosen stays
+abbrev pub staying : List Candidate → Option ℕ → Option ℕ
+staying chosen None = None
+staying chosen (Some n) = if list_any (λ c. c.number == n) chosen then Some n else None
+
+-- the chosen tasks, seated one after another
+abbrev pub seated_all : List Candidate → Places → Places
+seated_all chosen places = fold seated places chosen

@@ -1,0 +1,43 @@
+//! The order of the choice: an earlier deadline first, ties by number.
+
+ghost use Rattle.std.specs.Prelude.{◌≡◌, ◌<◌, ◌≤◌, length, is_some, IfSome, MatchOption};
+ghost use Rattle.std.specs.List.{prefix_len, remove};
+ghost use Rattle.edf_pick.specs.Choice as choice;
+ghost use Rattle.edf_pick.specs.Order as order;
+
+use crate::candidate::Candidate;
+
+pub(crate) fn is_before(a: &Candidate, b: &Candidate) -> bool
+    ensures { result ≡ choice.is_before a.now b.now }
+{
+    a.deadline < b.deadline || (a.deadline == b.deadline && a.number < b.number)
+}
+
+fn is_same(a: &Candidate, b: &Candidate) -> bool
+    ensures { result ≡ order.is_same a.now b.now }
+{
+    a.deadline == b.deadline && a.number == b.number
+}
+
+/// How many tasks at the front of a queue are before `c`, by binary search.
+pub(crate) fn place_of(queue: &[Candidate], c: &Candidate) -> usize
+    requires { order.IsRising queue.now }
+    ensures place { result ≡ prefix_len (λ a. choice.is_before a c.now) queue.now }
+    ensures bound { result ≤ length queue.now }
+{
+    queue.partition_point(|a| is_before(a, c))
+}
+
+/// Where a queue has the task of the deadline and the number of `c`, by binary search.
+pub(crate) fn find(queue: &[Candidate], c: &Candidate) -> Option<usize>
+    requires { order.IsRising queue.now }
+    ensures there { is_some result ≡ order.has_candidate c.now queue.now }
+    ensures inside { IfSome result (λ place. place < length queue.now) }
+    ensures at { MatchOption result (order.without_candidate c.now queue.now ≡ queue.now) (λ place. order.without_candidate c.now queue.now ≡ remove queue.now place) }
+{
+    let place = place_of(queue, c);
+    if place < queue.len() && is_same(&queue[place], c) {
+        return Some(place);
+    }
+    None
+}

@@ -1,0 +1,68 @@
+//! Who stands on each CPU, and how that moves on by one tick.
+
+ghost use Rattle.std.specs.Prelude.{◌≡◌, ◌<◌, ◌≤◌, IfOk, None, length, replicate, vec_len};
+ghost use Rattle.edf_pick.specs.Places.{placed};
+
+use crate::picking::pick_from;
+use crate::queue::Queue;
+use std::alloc::{AllocError, Global};
+use std::marker::Model;
+
+/// Who stands on each of the 1 to 64 CPUs of a root domain: the number of a task, or nobody where the CPU is idle. Contracts see
+/// it as the list of its occupants.
+#[derive(Drop)]
+pub struct Placement {
+    occupants: Vec<Option<u32>>,
+}
+
+impl Model for Placement {
+    ghost use Rattle.edf_pick.specs.Places.{Places, IsPlaces};
+
+    ghost Value = { Places };
+
+    ghost view = { λ p. p.occupants.items };
+
+    ghost invariant = { λ p. IsPlaces p.occupants.items };
+}
+
+fn nobody(alloc: Global, cpus: usize) -> Result<Vec<Option<u32>>, AllocError>
+    ensures nobody { IfOk result (λ places. places.items ≡ replicate cpus None) }
+    ensures len { IfOk result (λ places. vec_len places ≡ cpus) }
+{
+    let mut places = Vec::with_capacity(alloc, cpus)?;
+    for _ in 0..cpus {
+        places.push_reserved(None);
+    }
+    Ok(places)
+}
+
+impl Placement {
+    /// 1 to 64 idle CPUs. No other call takes memory. `Err` where their room was refused.
+    pub fn open(alloc: Global, cpus: usize) -> Result<Placement, AllocError>
+        requires some { 0 < cpus }
+        requires few { cpus ≤ 64 }
+        ensures { IfOk result (λ placement. placement ≡ replicate cpus None) }
+    {
+        Ok(Placement {
+            occupants: nobody(alloc, cpus)?,
+        })
+    }
+
+    /// Who stands on each CPU, from CPU 0 on.
+    pub fn occupants(&self) -> &[Option<u32>]
+        ensures occupants { result.now ≡ self.now }
+        ensures some { 0 < length self.now }
+        ensures few { length self.now ≤ 64 }
+    {
+        self.occupants.as_slice()
+    }
+}
+
+/// Moves the occupants of the CPUs on by one tick. As many of the first tasks of the queue are chosen as there are CPUs (global
+/// EDF: sched-deadline.rst, "Main algorithm"; ties and the placement are own). A chosen task stays where it stands; the others, in
+/// the order of the queue, go to the CPU to which they belong where that is free, else to the lowest free one. Takes no memory.
+pub fn pick(placement: &mut Placement, queue: &Queue)
+    ensures { placement.new ≡ placed (length placement.old) queue.now placement.old }
+{
+    pick_from(&mut placement.occupants, queue.as_slice());
+}

@@ -1,0 +1,105 @@
+//! The ready tasks in the order of the choice.
+
+ghost use Rattle.std.specs.Prelude.{◌≡◌, ◌<◌, ◌≤◌, ◌==◌, false, [], length, map, IfOk};
+ghost use Rattle.edf_pick.specs.Places.{at_home};
+ghost use Rattle.edf_pick.specs.Order as order;
+
+use crate::candidate::Candidate;
+use crate::order::{find, place_of};
+use crate::placement::Placement;
+use crate::seats::settle_all;
+use std::alloc::{AllocError, Global};
+use std::marker::Model;
+
+/// At most so many tasks wait in a queue.
+const MOST: usize = 256;
+
+/// The ready tasks of a root domain in the order of the choice: the earliest deadline first (sched-deadline.rst, "Main
+/// algorithm"), ties by number (own). It holds at most 256 tasks, no two of one deadline and number, and a queue in another order
+/// cannot be built. Contracts see it as the list of its tasks.
+#[derive(Drop)]
+pub struct Queue {
+    tasks: Vec<Candidate>,
+}
+
+impl Model for Queue {
+    ghost use Rattle.std.specs.Prelude.{List, vec_capacity};
+    ghost use Rattle.edf_pick.specs.declared.candidate.Candidate.{Candidate};
+    ghost use Rattle.edf_pick.specs.Order.{IsQueue};
+
+    ghost Value = { List Candidate };
+
+    ghost view = { λ q. q.tasks.items };
+
+    ghost invariant = { λ q. IsQueue q.tasks.items (vec_capacity q.tasks) };
+}
+
+impl Queue {
+    /// An empty queue with room for 256 tasks: no other call takes memory. `Err` where that room was refused.
+    pub fn open(alloc: Global) -> Result<Queue, AllocError>
+        ensures { IfOk result (λ queue. queue ≡ []) }
+    {
+        Ok(Queue {
+            tasks: Vec::with_capacity(alloc, MOST)?,
+        })
+    }
+
+    /// How many tasks there are: at most 256.
+    pub fn len(&self) -> usize
+        ensures len { result ≡ length self.now }
+        ensures few { result ≤ 256 }
+    {
+        self.tasks.len()
+    }
+
+    /// Whether there is none.
+    pub fn is_empty(&self) -> bool
+        ensures { result ≡ (length self.now == 0) }
+    {
+        self.tasks.is_empty()
+    }
+
+    /// The tasks, each before every later one.
+    pub fn as_slice(&self) -> &[Candidate]
+        ensures tasks { result.now ≡ self.now }
+        ensures rising { order.IsRising self.now }
+    {
+        self.tasks.as_slice()
+    }
+
+    /// Whether the task of this deadline and number is there. Binary search.
+    pub fn contains(&self, c: &Candidate) -> bool
+        ensures { result ≡ order.has_candidate c.now self.now }
+    {
+        find(&self.tasks, c).is_some()
+    }
+
+    /// Takes in a task whose deadline and number are not there, at its place, found by binary search.
+    pub fn insert(&mut self, c: Candidate)
+        requires few { length self.old < 256 }
+        requires absent { order.has_candidate c self.old ≡ false }
+        ensures { self.new ≡ order.with_candidate c self.old }
+    {
+        let place = place_of(&self.tasks, &c);
+        self.tasks.insert(place, c).unwrap();
+    }
+
+    /// Takes out the task of the deadline and the number of `c`, found by binary search, and answers whether it was there. Its
+    /// home does not matter. Where it is not there nothing changes.
+    pub fn remove(&mut self, c: &Candidate) -> bool
+        ensures removed { self.new ≡ order.without_candidate c.now self.old }
+        ensures there { result ≡ order.has_candidate c.now self.old }
+    {
+        let Some(place) = find(&self.tasks, c) else {
+            return false;
+        };
+        self.tasks.remove(place);
+        true
+    }
+    /// Each task that stands on a CPU belongs to that CPU from now on; the order stays. For the tick after a placement.
+    pub fn settle(&mut self, placement: &Placement)
+        ensures { self.new ≡ map (at_home placement.now) self.old }
+    {
+        settle_all(&mut self.tasks, placement.occupants());
+    }
+}

@@ -1,0 +1,74 @@
+//! A seat for a task: it stays where it stands, else it goes to the CPU to which it belongs where that is free, else to the lowest
+//! free one.
+
+ghost use Rattle.std.specs.Prelude.{◌≡◌, map, vec_len, vec_capacity, is_none, slice_get, position};
+ghost use Rattle.edf_pick.specs.Places as spec;
+
+use crate::candidate::Candidate;
+
+/// Whether a task stands on a CPU.
+pub fn stands(number: u32, places: &[Option<u32>]) -> bool
+    ensures { result ≡ spec.stands number places.now }
+{
+    places.iter().any(|occupant| *occupant == Some(number))
+}
+
+fn is_free(places: &[Option<u32>], cpu: usize) -> bool
+    ensures { result ≡ spec.is_free (slice_get places.now cpu) }
+{
+    matches!(places.get(cpu), Some(None))
+}
+
+fn lowest_free(places: &[Option<u32>]) -> Option<usize>
+    ensures { result ≡ position (λ occupant. is_none occupant) places.now }
+{
+    places.iter().position(|occupant| occupant.is_none())
+}
+
+fn seat_of(places: &[Option<u32>], c: &Candidate) -> Option<usize>
+    ensures { result ≡ spec.seat_of places.now c.now }
+{
+    if is_free(places, c.home) {
+        return Some(c.home);
+    }
+    lowest_free(places)
+}
+
+pub(crate) fn seat(places: &mut Vec<Option<u32>>, c: &Candidate)
+    ensures places { places.new.items ≡ spec.seated places.old.items c.now }
+    ensures len { vec_len places.new ≡ vec_len places.old }
+    ensures room { vec_capacity places.new ≡ vec_capacity places.old }
+{
+    if stands(c.number, places) {
+        return;
+    }
+    if let Some(cpu) = seat_of(places, c)
+        && cpu < places.len()
+    {
+        places[cpu] = Some(c.number);
+    }
+}
+
+fn cpu_of(number: u32, places: &[Option<u32>]) -> Option<usize>
+    ensures { result ≡ position (spec.is_task number) places.now }
+{
+    places.iter().position(|occupant| *occupant == Some(number))
+}
+
+fn settle(c: &mut Candidate, places: &[Option<u32>])
+    ensures { c.new ≡ spec.at_home places.now c.old }
+{
+    if let Some(cpu) = cpu_of(c.number, places) {
+        c.home = cpu;
+    }
+}
+
+pub(crate) fn settle_all(tasks: &mut Vec<Candidate>, places: &[Option<u32>])
+    ensures tasks { tasks.new.items ≡ map (spec.at_home places.now) tasks.old.items }
+    ensures len { vec_len tasks.new ≡ vec_len tasks.old }
+    ensures room { vec_capacity tasks.new ≡ vec_capacity tasks.old }
+{
+    for c in tasks.iter_mut() {
+        settle(c, places);
+    }
+}
