@@ -1,0 +1,4 @@
+mod Trees
+mod Naturals
+mod Walks
+mod Cpus
