@@ -10,7 +10,7 @@ use Rattle.std.proofs.lemmas.Bool.Decides.{nat_tests}
 use Rattle.std.proofs.lemmas.Grind.{common_steps}
 use Rattle.rtapp_scenario.specs.Values.{natural_in}
 
-own : IsNumeralModel (λ ds. list_all is_ascii_digit ds ≡ true) (digits_value 10)
+pub own : IsNumeralModel (λ ds. list_all is_ascii_digit ds ≡ true) (digits_value 10)
 own = numerals_by_fold _ (search rules) (digits_value_after 10) (search rules)
 
 pub no_natural : (E : Type 0) (bs : List ℕ) (e : E) → ParsesUnsigned 64 10 bs (Err e) → list_all is_ascii_digit bs ≡ true → bytes_eq bs (codes "-0") ≡ false → None ≡ natural_in bs

@@ -11,10 +11,17 @@ mod fault;
 mod flaw;
 mod key;
 mod numbers;
+mod parsing;
 mod phases;
 mod scenario;
+mod script;
+mod tasks;
 mod threads;
 mod value;
 
 pub use fault::ScenarioFault;
+pub use parsing::parse;
 pub use scenario::{Scenario, TaskSpec};
+
+#[cfg(test)]
+mod tests;

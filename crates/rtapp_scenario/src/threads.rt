@@ -1,11 +1,11 @@
-ghost use Rattle.std.specs.Prelude.{◌≡◌, ◌+◌, ◌≤◌, ◌&&◌, nat_le, [], map, length, Some, None, not, unwrap_or, is_some};
+ghost use Rattle.std.specs.Prelude.{◌≡◌, ◌+◌, ◌≤◌, ◌&&◌, nat_le, [], map, length, Some, None, not, unwrap_or, is_some, OnOk};
 ghost use Rattle.std.specs.List.{list_any, list_all};
 ghost use Rattle.std.specs.Option.{option_map};
 ghost use Rattle.json_order.specs.Seen.{json_of};
 ghost use Rattle.rtapp_scenario.specs.Values.{Member, member_of, members_of, object_of, members};
 ghost use Rattle.rtapp_scenario.specs.Faults.{in_order, first};
 ghost use Rattle.rtapp_scenario.specs.Keys.{is_event, is_text};
-ghost use Rattle.rtapp_scenario.specs.Threads.{timer_at, first_timer_in, timer_of, thread_ref, ref_of, has_event, event_at, phases_in};
+ghost use Rattle.rtapp_scenario.specs.Threads.{timer_at, first_timer_in, timer_of, thread_ref, ref_of, has_event, event_at, phases_in, instances};
 ghost use Rattle.rtapp_scenario.specs.Tests.{is_phases, thread_member_fault, is_idle, is_name, is_shared, beside_fault, members_fault, own_fault};
 ghost use Rattle.rtapp_scenario.specs.Told.{flaw_of, ref_seen, tree_seen};
 
@@ -259,7 +259,8 @@ fn is_among(refs: &[Option<&str>], own: &str) -> bool
 #[tactic(auto, unfolding(crate::specs::Tests::beside_fault))]
 pub(crate) fn check_beside<'a>(refs: &[Option<&str>], tasks: u64, members: &[(String, Tree)]) -> Result<(), Flaw<'a>>
     requires { tasks ≤ 256 }
-    ensures { flaw_of result ≡ beside_fault (map ref_seen refs.now) tasks (members_of members.now) }
+    ensures flaw { flaw_of result ≡ beside_fault (map ref_seen refs.now) tasks (members_of members.now) }
+    ensures most { OnOk result (tasks + instances (members_of members.now) ≤ 256) }
 {
     let instances = instances(members);
     if is_shared(refs, instances, thread_ref(members)) {
