@@ -6,3 +6,4 @@ mod Passing
 mod Counted
 mod Limits
 mod Named
+mod Numbered

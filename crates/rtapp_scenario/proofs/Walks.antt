@@ -65,7 +65,7 @@ pub order_found : (test : List Member → Member → Option Fault) (ms : List (S
     → in_order test (members_of (take i ms)) (members_of (drop i ms)) ≡ in_order test [] (members_of ms) → Some fault ≡ in_order test [] (members_of ms)
 order_found test ms i m fault h e found so_far =
     let step : in_order test (members_of (take i ms)) (members_of (drop i ms)) ≡ in_order test (members_of (take i ms)) (members_of (m ∷ drop (i + 1) ms)) =
-      here (λ xs. in_order test (members_of (take i ms)) (members_of xs)) ms i m h e in
+    here (λ xs. in_order test (members_of (take i ms)) (members_of xs)) ms i m h e in
     let now : in_order test (members_of (take i ms)) (members_of (m ∷ drop (i + 1) ms)) ≡ Some fault = rw found refl in
     sym now ∙ sym step ∙ so_far
 
@@ -87,7 +87,7 @@ pub order_passed : (test : List Member → Member → Option Fault) (ms : List (
     → in_order test (members_of (take (i + 1) ms)) (members_of (drop (i + 1) ms)) ≡ in_order test [] (members_of ms)
 order_passed test ms i m h e none so_far =
     let step : in_order test (members_of (take i ms)) (members_of (drop i ms)) ≡ in_order test (members_of (take i ms)) (members_of (m ∷ drop (i + 1) ms)) =
-      here (λ xs. in_order test (members_of (take i ms)) (members_of xs)) ms i m h e in
+    here (λ xs. in_order test (members_of (take i ms)) (members_of xs)) ms i m h e in
     let on : in_order test (members_of (take i ms)) (members_of (m ∷ drop (i + 1) ms)) ≡ in_order test (members_of (take i ms) ++ member_of m ∷ []) (members_of (drop (i + 1) ms)) =
-      rw none (first_none (in_order test (members_of (take i ms) ++ member_of m ∷ []) (members_of (drop (i + 1) ms)))) in
+    rw none (first_none (in_order test (members_of (take i ms) ++ member_of m ∷ []) (members_of (drop (i + 1) ms)))) in
     rw (before_more ms i m h e) (sym on ∙ sym step ∙ so_far)

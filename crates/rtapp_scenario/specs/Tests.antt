@@ -56,10 +56,10 @@ abbrev pub phases_fault_in : Option (List ℕ) → Member → Option (List Membe
 phases_fault_in ref m None = Some (value m.key)
 phases_fault_in ref m (Some phases) =
     first (
-      unless (nat_lt 0 (length phases)) (value m.key)
-      ∷ unless (nat_le (length phases) 64) too_many
-      ∷ first (map (phase_fault ref) phases)
-      ∷ []
+    unless (nat_lt 0 (length phases)) (value m.key)
+    ∷ unless (nat_le (length phases) 64) too_many
+    ∷ first (map (phase_fault ref) phases)
+    ∷ []
     )
 
 unfoldable pub phases_fault : Option (List ℕ) → Member → Option Fault
@@ -102,10 +102,10 @@ tasks_in threads = sum_by (λ thread. instances (members thread.value)) threads
 unfoldable pub members_fault : List Member → Option Fault
 members_fault ms =
     first (
-      in_order (thread_member_fault (thread_ref ms)) [] ms
-      ∷ missing_fault thread_keys ms
-      ∷ unless (not (is_idle ms)) idle
-      ∷ []
+    in_order (thread_member_fault (thread_ref ms)) [] ms
+    ∷ missing_fault thread_keys ms
+    ∷ unless (not (is_idle ms)) idle
+    ∷ []
     )
 
 abbrev pub members_fault_in : Option (List Member) → Member → Option Fault
@@ -120,9 +120,9 @@ own_fault thread = first (unless (is_name thread.key) name ∷ members_fault_in 
 unfoldable pub beside_fault : List (Option (List ℕ)) → ℕ → List Member → Option Fault
 beside_fault refs tasks ms =
     first (
-      unless (not (is_shared refs (instances ms) (thread_ref ms))) (unsupported (codes "ref"))
-      ∷ unless (nat_le (tasks + instances ms) 256) too_many
-      ∷ []
+    unless (not (is_shared refs (instances ms) (thread_ref ms))) (unsupported (codes "ref"))
+    ∷ unless (nat_le (tasks + instances ms) 256) too_many
+    ∷ []
     )
 
 abbrev pub thread_fault : List Member → Member → Option Fault
@@ -143,9 +143,9 @@ root_member_fault m = unless (is_at (codes "tasks") m || is_at (codes "global") 
 abbrev pub fault_of : Json → Option Fault
 fault_of root =
     first (
-      unless (nat_lt 0 (length (threads_of root))) no_tasks
-      ∷ unless (is_some (duration_of root)) duration
-      ∷ first (map root_member_fault (members root))
-      ∷ in_order thread_fault [] (threads_of root)
-      ∷ []
+    unless (nat_lt 0 (length (threads_of root))) no_tasks
+    ∷ unless (is_some (duration_of root)) duration
+    ∷ first (map root_member_fault (members root))
+    ∷ in_order thread_fault [] (threads_of root)
+    ∷ []
     )

@@ -6,7 +6,10 @@ ghost use Rattle.rtapp_scenario.specs.Tests.{other_ref, timer_member_fault, time
 ghost use Rattle.rtapp_scenario.specs.Told.{flaw_of, ref_seen};
 
 use crate::flaw::Flaw;
-use crate::key::{EventKind, MOST, check_timer_key, check_timer_missing, is_event, is_text, is_whole, kind, unless};
+use crate::key::{
+    EventKind, MOST, check_timer_key, check_timer_missing, is_event, is_text, is_whole, kind,
+    unless,
+};
 use crate::value::{is, object};
 use json_order::Tree;
 
@@ -27,14 +30,20 @@ fn check_ref<'a>(first_ref: Option<&str>, member: &'a (String, Tree)) -> Result<
     unless(is_text(&member.1, first_ref), Flaw::Unsupported("ref"))
 }
 
-fn check_timer_member<'a>(first_ref: Option<&str>, member: &'a (String, Tree)) -> Result<(), Flaw<'a>>
+fn check_timer_member<'a>(
+    first_ref: Option<&str>,
+    member: &'a (String, Tree),
+) -> Result<(), Flaw<'a>>
     ensures { flaw_of result ≡ timer_member_fault (ref_seen first_ref.entry) [] (member_of member.now) }
 {
     check_timer_key(member)?;
     check_ref(first_ref, member)
 }
 
-fn check_timer_members<'a>(first_ref: Option<&str>, members: &'a [(String, Tree)]) -> Result<(), Flaw<'a>>
+fn check_timer_members<'a>(
+    first_ref: Option<&str>,
+    members: &'a [(String, Tree)],
+) -> Result<(), Flaw<'a>>
     ensures { flaw_of result ≡ in_order (timer_member_fault (ref_seen first_ref.entry)) [] (members_of members.now) }
 {
     for member in members {
@@ -55,11 +64,18 @@ fn check_timer<'a>(first_ref: Option<&str>, member: &'a (String, Tree)) -> Resul
 
 /// The value of an event of this kind.
 #[tactic(auto, unfolding(crate::specs::Tests::event_value_fault, crate::specs::Keys::takes))]
-fn check_event_value<'a>(first_ref: Option<&str>, kind: EventKind, member: &'a (String, Tree)) -> Result<(), Flaw<'a>>
+fn check_event_value<'a>(
+    first_ref: Option<&str>,
+    kind: EventKind,
+    member: &'a (String, Tree),
+) -> Result<(), Flaw<'a>>
     ensures { flaw_of result ≡ event_value_fault (ref_seen first_ref.entry) (Some kind) (member_of member.now) }
 {
     match kind {
-        EventKind::Run | EventKind::Sleep => unless(is_whole(&member.1, 0, MOST), Flaw::Value(&member.0)),
+        EventKind::Run | EventKind::Sleep => unless(
+            is_whole(&member.1, 0, MOST),
+            Flaw::Value(&member.0),
+        ),
         EventKind::Timer => check_timer(first_ref, member),
     }
 }
@@ -72,7 +88,12 @@ fn events_in(members: &[(String, Tree)]) -> usize
 
 /// An event behind these members of its phase or thread.
 #[tactic(auto, unfolding(crate::specs::Tests::event_fault))]
-pub(crate) fn check_event<'a>(first_ref: Option<&str>, before: &[(String, Tree)], kind: EventKind, member: &'a (String, Tree)) -> Result<(), Flaw<'a>>
+pub(crate) fn check_event<'a>(
+    first_ref: Option<&str>,
+    before: &[(String, Tree)],
+    kind: EventKind,
+    member: &'a (String, Tree),
+) -> Result<(), Flaw<'a>>
     requires { kind_of (member_of member.now).key ≡ Some kind }
     ensures { flaw_of result ≡ event_fault (ref_seen first_ref.entry) (members_of before.now) (member_of member.now) }
 {

@@ -34,7 +34,11 @@ fn duration_of(root: &Tree) -> Option<u64>
     ensures value { result ≡ duration_of (json_of root.now) }
     ensures most { IfSome result (λ seconds. seconds ≤ 60) }
 {
-    natural_within(at("duration", members_at("global", members(root)))?, 0, MOST_SECONDS)
+    natural_within(
+        at("duration", members_at("global", members(root)))?,
+        0,
+        MOST_SECONDS,
+    )
 }
 
 fn check_root_member(member: &(String, Tree)) -> Result<(), Flaw<'_>>
@@ -68,6 +72,11 @@ pub fn parse(alloc: Global, tree: &Tree) -> Result<Scenario, ScenarioFault>
     ensures found { IfOk result (λ scenario. parsed (json_of tree.now) ≡ Ok scenario) }
     // and Err with its first fault, unless memory runs out.
     ensures fault { IfErr result (IsFault (parsed (json_of tree.now))) }
+    // Tasks are numbered 1, 2, .. in text order, at most 256, and each is within its limits.
+    ensures numbered { IfOk result (λ scenario. map (λ t. t.number) scenario.tasks ≡ range_with_len 1 (length scenario.tasks)) }
+    ensures few { IfOk result (λ scenario. length scenario.tasks ≤ 256) }
+    ensures limits { IfOk result (λ scenario. All IsTaskSpec scenario.tasks) }
+    ensures short { IfOk result (λ scenario. scenario.duration_us ≤ 60000000) }
 {
     let threads = members_at("tasks", members(tree));
     if threads.is_empty() {

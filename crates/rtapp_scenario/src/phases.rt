@@ -11,7 +11,11 @@ use crate::value::object;
 use json_order::Tree;
 
 #[tactic(auto, unfolding(crate::specs::Tests::phase_member_fault))]
-fn check_phase_member<'a>(first_ref: Option<&str>, before: &[(String, Tree)], member: &'a (String, Tree)) -> Result<(), Flaw<'a>>
+fn check_phase_member<'a>(
+    first_ref: Option<&str>,
+    before: &[(String, Tree)],
+    member: &'a (String, Tree),
+) -> Result<(), Flaw<'a>>
     ensures { flaw_of result ≡ phase_member_fault (ref_seen first_ref.entry) (members_of before.now) (member_of member.now) }
 {
     match kind(&member.0) {
@@ -20,7 +24,10 @@ fn check_phase_member<'a>(first_ref: Option<&str>, before: &[(String, Tree)], me
     }
 }
 
-fn check_phase_members<'a>(first_ref: Option<&str>, members: &'a [(String, Tree)]) -> Result<(), Flaw<'a>>
+fn check_phase_members<'a>(
+    first_ref: Option<&str>,
+    members: &'a [(String, Tree)],
+) -> Result<(), Flaw<'a>>
     ensures { flaw_of result ≡ in_order (phase_member_fault (ref_seen first_ref.entry)) [] (members_of members.now) }
 {
     for (i, member) in members.iter().enumerate() {
@@ -39,7 +46,10 @@ fn check_phase<'a>(first_ref: Option<&str>, phase: &'a (String, Tree)) -> Result
     }
 }
 
-fn check_each_phase<'a>(first_ref: Option<&str>, phases: &'a [(String, Tree)]) -> Result<(), Flaw<'a>>
+fn check_each_phase<'a>(
+    first_ref: Option<&str>,
+    phases: &'a [(String, Tree)],
+) -> Result<(), Flaw<'a>>
     ensures { flaw_of result ≡ first (map (phase_fault (ref_seen first_ref.entry)) (members_of phases.now)) }
 {
     for phase in phases {
@@ -50,7 +60,10 @@ fn check_each_phase<'a>(first_ref: Option<&str>, phases: &'a [(String, Tree)]) -
 
 /// The phases of a thread.
 #[tactic(auto, unfolding(crate::specs::Tests::phases_fault))]
-pub(crate) fn check_phases<'a>(first_ref: Option<&str>, member: &'a (String, Tree)) -> Result<(), Flaw<'a>>
+pub(crate) fn check_phases<'a>(
+    first_ref: Option<&str>,
+    member: &'a (String, Tree),
+) -> Result<(), Flaw<'a>>
     ensures { flaw_of result ≡ phases_fault (ref_seen first_ref.entry) (member_of member.now) }
 {
     let Some(phases) = object(&member.1) else {

@@ -71,7 +71,8 @@ fn loops(rounds: Option<u64>) -> i64
 fn made(loops: i64, phases: Vec<Phase>) -> Script
     requires loops { IsLoops loops }
     requires within { IsScript (script_from (rounds_of loops) phases.items) }
-    ensures { result ≡ script_from (rounds_of loops) phases.items }
+    ensures value { result ≡ script_from (rounds_of loops) phases.items }
+    ensures within { IsScript result }
 {
     match Script::new(loops, phases) {
         Ok(script) => script,
@@ -83,7 +84,8 @@ fn made(loops: i64, phases: Vec<Phase>) -> Script
 #[tactic(auto, unfolding(crate::specs::Scenario::script))]
 pub(crate) fn script_of(alloc: Global, members: &[(String, Tree)]) -> Result<Script, AllocError>
     requires { members_fault (members_of members.now) ≡ None }
-    ensures { IfOk result (λ s. s ≡ script (members_of members.now)) }
+    ensures value { IfOk result (λ s. s ≡ script (members_of members.now)) }
+    ensures within { IfOk result IsScript }
 {
     let phases = phases_of(alloc, members)?;
     Ok(made(loops(rounds(members)), phases))

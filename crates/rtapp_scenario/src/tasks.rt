@@ -2,13 +2,14 @@ ghost use Rattle.std.specs.Prelude.{ℕ, ◌≡◌, ◌==◌, ◌≤◌, ◌<◌
 ghost use Rattle.json_order.specs.Seen.{json_of};
 ghost use Rattle.std.specs.Option.{option_map};
 ghost use Rattle.std.specs.List.{filter_map};
-ghost use Rattle.domain_run.specs.NameView.{IsNameByte};
+ghost use Rattle.domain_run.specs.NameView.{IsName, IsNameByte};
 ghost use Rattle.rtapp_scenario.specs.Values.{natural_within, member_of, members_of, members};
 ghost use Rattle.rtapp_scenario.specs.Faults.{in_order};
 ghost use Rattle.rtapp_scenario.specs.Keys.{numbers_in};
 ghost use Rattle.rtapp_scenario.specs.Threads.{cpus, instances};
 ghost use Rattle.rtapp_scenario.specs.Tests.{is_name, own_fault, thread_fault};
 ghost use Rattle.rtapp_scenario.specs.Scenario.{task_name, attr, task_at, thread_tasks, tasks_from};
+ghost use Rattle.rtapp_scenario.specs.ScenarioView.{IsTaskSpec};
 ghost use Rattle.rtapp_scenario.specs.Told.{IsTold};
 
 use crate::fault::{ScenarioFault, fault_of};
@@ -38,7 +39,8 @@ fn long_name(alloc: Global, name: &str, instances: u64, k: u64) -> Result<String
 fn short_name(text: String) -> Name
     requires bytes { All IsNameByte (string_bytes text) }
     requires some { 0 < length (string_bytes text) }
-    ensures { result ≡ take 15 (string_bytes text) }
+    ensures value { result ≡ take 15 (string_bytes text) }
+    ensures named { IsName result }
 {
     let mut text = text;
     text.truncate(MOST_NAME);
@@ -51,7 +53,8 @@ fn short_name(text: String) -> Name
 /// The name of the k-th of so many tasks of a thread.
 fn task_name(alloc: Global, name: &str, instances: u64, k: u64) -> Result<Name, AllocError>
     requires { is_name name.now ≡ true }
-    ensures { IfOk result (λ n. n ≡ task_name name.now instances k) }
+    ensures value { IfOk result (λ n. n ≡ task_name name.now instances k) }
+    ensures named { IfOk result IsName }
 {
     Ok(short_name(long_name(alloc, name, instances, k)?))
 }
@@ -102,11 +105,17 @@ fn attr_of(members: &[(String, Tree)]) -> SchedAttr
 
 /// The k-th task of a thread that passed its tests.
 #[tactic(auto, unfolding(crate::specs::Scenario::task_at))]
-fn task_of(alloc: Global, thread: &(String, Tree), number: u64, k: u64) -> Result<TaskSpec, AllocError>
+fn task_of(
+    alloc: Global,
+    thread: &(String, Tree),
+    number: u64,
+    k: u64,
+) -> Result<TaskSpec, AllocError>
     requires passed { own_fault (member_of thread.now) ≡ None }
     requires some { 1 ≤ number }
     requires most { number ≤ 256 }
-    ensures { IfOk result (λ t. t ≡ task_at (member_of thread.now) number k) }
+    ensures value { IfOk result (λ t. t ≡ task_at (member_of thread.now) number k) }
+    ensures limits { IfOk result IsTaskSpec }
 {
     let members = members(&thread.1);
     Ok(TaskSpec {
@@ -121,10 +130,16 @@ fn task_of(alloc: Global, thread: &(String, Tree), number: u64, k: u64) -> Resul
 
 /// The tasks of a thread, behind so many others.
 #[tactic(auto, unfolding(crate::specs::Scenario::thread_tasks))]
-fn add_thread(alloc: Global, thread: &(String, Tree), others: u64, tasks: &mut Vec<TaskSpec>) -> Result<(), AllocError>
+fn add_thread(
+    alloc: Global,
+    thread: &(String, Tree),
+    others: u64,
+    tasks: &mut Vec<TaskSpec>,
+) -> Result<(), AllocError>
     requires passed { own_fault (member_of thread.now) ≡ None }
     requires most { others + instances (members (member_of thread.now).value) ≤ 256 }
-    ensures { OnOk result (tasks.new.items ≡ tasks.old.items ++ thread_tasks (others + 1) (member_of thread.now)) }
+    ensures made { OnOk result (tasks.new.items ≡ tasks.old.items ++ thread_tasks (others + 1) (member_of thread.now)) }
+    ensures limits { OnOk result (All IsTaskSpec tasks.old.items → All IsTaskSpec tasks.new.items) }
 {
     let instances = instances(members(&thread.1));
     for k in 0..instances {
@@ -134,9 +149,13 @@ fn add_thread(alloc: Global, thread: &(String, Tree), others: u64, tasks: &mut V
 }
 
 /// The tasks of threads, or the first fault.
-pub(crate) fn tasks_of(alloc: Global, threads: &[(String, Tree)]) -> Result<Vec<TaskSpec>, ScenarioFault>
+pub(crate) fn tasks_of(
+    alloc: Global,
+    threads: &[(String, Tree)],
+) -> Result<Vec<TaskSpec>, ScenarioFault>
     ensures passed { OnOk result (in_order thread_fault [] (members_of threads.now) ≡ None) }
     ensures found { IfOk result (λ v. v.items ≡ tasks_from 1 (members_of threads.now)) }
+    ensures limits { IfOk result (λ v. All IsTaskSpec v.items) }
     ensures fault { IfErr result (IsTold (in_order thread_fault [] (members_of threads.now))) }
 {
     let mut tasks = Vec::new(alloc);

@@ -37,7 +37,10 @@ fn shown(alloc: Global, scenario: &Scenario) -> Result<String, AllocError> {
         let policy = task.attr.policy;
         let flags = task.attr.flags;
         let delay = task.delay;
-        write!(text, "; {number} {name} {policy} {flags} {runtime} {deadline} {period} {delay} ")?;
+        write!(
+            text,
+            "; {number} {name} {policy} {flags} {runtime} {deadline} {period} {delay} "
+        )?;
         match &task.cpus {
             None => text.push_str("any ")?,
             Some(cpus) => {
@@ -80,7 +83,10 @@ fn member_order(rt: HostRuntime) -> Result<(), Fail> {
         rt.alloc(),
         "{\"tasks\":{\"p\":{\"policy\":\"SCHED_DEADLINE\",\"dl-runtime\":5,\"dl-period\":10,\"phases\":{\"light\":{\"loop\":2,\"run0\":3,\"sleep1\":7},\"heavy\":{\"run0\":4,\"sleep1\":2,\"run2\":1}}}},\"global\":{\"duration\":0}}",
     )?;
-    assert_eq!(rt; text.as_str(), "0; 1 p 6 0 5000 10000 10000 0 any -1:2{r3 s7 }1{r4 s2 r1 }");
+    assert_eq!(rt;
+        text.as_str(),
+        "0; 1 p 6 0 5000 10000 10000 0 any -1:2{r3 s7 }1{r4 s2 r1 }"
+    );
     Ok(())
 }
 
@@ -102,13 +108,34 @@ fn no_tasks(rt: HostRuntime) -> Result<(), Fail> {
 #[test]
 fn profile_faults(rt: HostRuntime) -> Result<(), Fail> {
     for (text, answer) in [
-        ("{\"tasks\":{\"a\":{\"run\":1}},\"global\":{\"duration\":1},\"resources\":{}}", "scenario 22 key resources"),
-        ("{\"tasks\":{\"a\":{\"run\":1}},\"global\":{\"duration\":1}}", "scenario 25"),
-        ("{\"tasks\":{\"a\":{\"policy\":\"SCHED_DEADLINE\",\"dl-runtime\":100,\"sleep\":0}},\"global\":{\"duration\":1}}", "scenario 27"),
-        ("{\"tasks\":{\"a\":{\"policy\":\"SCHED_DEADLINE\",\"dl-runtime\":100,\"runtime\":5}},\"global\":{\"duration\":1}}", "scenario 22 key runtime"),
-        ("{\"tasks\":{\"a\":{\"instance\":2,\"policy\":\"SCHED_DEADLINE\",\"dl-runtime\":100,\"run\":5,\"timer\":{\"ref\":\"tick\",\"period\":1000}}},\"global\":{\"duration\":1}}", "scenario 22 key ref"),
-        ("{\"tasks\":{\"a\":{\"instance\":2,\"policy\":\"SCHED_DEADLINE\",\"dl-runtime\":100,\"run\":5,\"timer\":{\"ref\":\"unique\",\"period\":1000}}},\"global\":{\"duration\":1}}", "1000000; 1 a-0 6 0 100000 100000 100000 0 any -1:1{r5 t1000 }; 2 a-1 6 0 100000 100000 100000 0 any -1:1{r5 t1000 }"),
-        ("{\"tasks\":{\"a\":{\"instance\":1,\"policy\":\"SCHED_DEADLINE\",\"dl-runtime\":100,\"run\":5,\"timer\":{\"ref\":\"tick\",\"period\":1000}}},\"global\":{\"duration\":1}}", "1000000; 1 a 6 0 100000 100000 100000 0 any -1:1{r5 t1000 }"),
+        (
+            "{\"tasks\":{\"a\":{\"run\":1}},\"global\":{\"duration\":1},\"resources\":{}}",
+            "scenario 22 key resources",
+        ),
+        (
+            "{\"tasks\":{\"a\":{\"run\":1}},\"global\":{\"duration\":1}}",
+            "scenario 25",
+        ),
+        (
+            "{\"tasks\":{\"a\":{\"policy\":\"SCHED_DEADLINE\",\"dl-runtime\":100,\"sleep\":0}},\"global\":{\"duration\":1}}",
+            "scenario 27",
+        ),
+        (
+            "{\"tasks\":{\"a\":{\"policy\":\"SCHED_DEADLINE\",\"dl-runtime\":100,\"runtime\":5}},\"global\":{\"duration\":1}}",
+            "scenario 22 key runtime",
+        ),
+        (
+            "{\"tasks\":{\"a\":{\"instance\":2,\"policy\":\"SCHED_DEADLINE\",\"dl-runtime\":100,\"run\":5,\"timer\":{\"ref\":\"tick\",\"period\":1000}}},\"global\":{\"duration\":1}}",
+            "scenario 22 key ref",
+        ),
+        (
+            "{\"tasks\":{\"a\":{\"instance\":2,\"policy\":\"SCHED_DEADLINE\",\"dl-runtime\":100,\"run\":5,\"timer\":{\"ref\":\"unique\",\"period\":1000}}},\"global\":{\"duration\":1}}",
+            "1000000; 1 a-0 6 0 100000 100000 100000 0 any -1:1{r5 t1000 }; 2 a-1 6 0 100000 100000 100000 0 any -1:1{r5 t1000 }",
+        ),
+        (
+            "{\"tasks\":{\"a\":{\"instance\":1,\"policy\":\"SCHED_DEADLINE\",\"dl-runtime\":100,\"run\":5,\"timer\":{\"ref\":\"tick\",\"period\":1000}}},\"global\":{\"duration\":1}}",
+            "1000000; 1 a 6 0 100000 100000 100000 0 any -1:1{r5 t1000 }",
+        ),
     ] {
         let given = given(rt.alloc(), text)?;
         assert_eq!(rt; given.as_str(), answer, "{text}");

@@ -11,7 +11,9 @@ ghost use Rattle.rtapp_scenario.specs.Told.{flaw_of, ref_seen, tree_seen};
 
 use crate::events::check_event;
 use crate::flaw::Flaw;
-use crate::key::{EventKind, MOST, MOST_TASKS, check_thread_key, check_thread_missing, is_event, kind, unless};
+use crate::key::{
+    EventKind, MOST, MOST_TASKS, check_thread_key, check_thread_missing, is_event, kind, unless,
+};
 use crate::numbers::instances;
 use crate::phases::check_phases;
 use crate::value::{at, is, members, natural_within, object, text};
@@ -158,7 +160,11 @@ fn has_phases(members: &[(String, Tree)]) -> bool
 }
 
 #[tactic(auto, unfolding(crate::specs::Tests::thread_member_fault))]
-fn check_member<'a>(first_ref: Option<&str>, before: &[(String, Tree)], member: &'a (String, Tree)) -> Result<(), Flaw<'a>>
+fn check_member<'a>(
+    first_ref: Option<&str>,
+    before: &[(String, Tree)],
+    member: &'a (String, Tree),
+) -> Result<(), Flaw<'a>>
     ensures { flaw_of result ≡ thread_member_fault (ref_seen first_ref.entry) (members_of before.now) (member_of member.now) }
 {
     if is(&member.0, "phases") {
@@ -257,7 +263,11 @@ fn is_among(refs: &[Option<&str>], own: &str) -> bool
 
 /// A thread beside those before it, of which the refs and the number of tasks are given.
 #[tactic(auto, unfolding(crate::specs::Tests::beside_fault))]
-pub(crate) fn check_beside<'a>(refs: &[Option<&str>], tasks: u64, members: &[(String, Tree)]) -> Result<(), Flaw<'a>>
+pub(crate) fn check_beside<'a>(
+    refs: &[Option<&str>],
+    tasks: u64,
+    members: &[(String, Tree)],
+) -> Result<(), Flaw<'a>>
     requires { tasks ≤ 256 }
     ensures flaw { flaw_of result ≡ beside_fault (map ref_seen refs.now) tasks (members_of members.now) }
     ensures most { OnOk result (tasks + instances (members_of members.now) ≤ 256) }
