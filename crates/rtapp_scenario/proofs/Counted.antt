@@ -1,18 +1,18 @@
 -- How many events a phase has.
-use Rattle.std.proofs.Common.{ℕ, suc, ◌≡◌, ◌<◌, ◌≤◌, ◌+◌, Bool, true, false, cond, List, [], ◌∷◌, ◌++◌, length, refl, sym, ap, ◌∙◌, Option, Some, None, IfSome, is_some, arith, append_assoc, count_by, sum_by, ltb, leb, ◌&&◌, not, All, option_and_then, unwrap_or}
+use Rattle.std.proofs.Common.{ℕ, ◌≡◌, ◌<◌, ◌≤◌, ◌+◌, Bool, true, false, cond, List, [], ◌∷◌, ◌++◌, length, refl, Option, Some, None, IfSome, is_some, arith, append_assoc, count_by, leb, ◌&&◌, option_and_then, unwrap_or}
 use Rattle.std.proofs.lemmas.Bool.{ltb-true, leb-true, and_parts}
 use Rattle.std.proofs.lemmas.List.{append-nil}
 use Rattle.std.proofs.lemmas.List.Sums.{sum_by-append, sum_by-cons}
 use Rattle.std.specs.Option.{option_map}
-use Rattle.std.specs.List.{filter_map, cons_option, list_any, AllByRecursion}
+use Rattle.std.specs.List.{filter_map, cons_option, AllByRecursion}
 use Rattle.json_order.specs.Json.{Json}
 use Rattle.domain_run.specs.declared.script.Event.{Event}
 use Rattle.domain_run.specs.declared.script.Event.TheVariants as events
 use Rattle.domain_run.specs.script.ScriptView.{IsEvent}
 use Rattle.rtapp_scenario.specs.declared.key.EventKind.{EventKind}
 use Rattle.rtapp_scenario.specs.declared.key.EventKind.TheVariants.{Run, Sleep, Timer}
-use Rattle.rtapp_scenario.specs.Values.{Member, natural_within, natural_of, at, members}
-use Rattle.rtapp_scenario.specs.Faults.{Fault, too_many, unless, first, in_order}
+use Rattle.rtapp_scenario.specs.Values.{Member, natural_within, natural_of, at}
+use Rattle.rtapp_scenario.specs.Faults.{Fault, in_order}
 use Rattle.rtapp_scenario.specs.Keys.{kind_of, is_event}
 use Rattle.rtapp_scenario.specs.Threads.{event_of, event_at, has_event, number_at}
 use Rattle.rtapp_scenario.specs.Tests.{event_fault}

@@ -1,12 +1,10 @@
 -- Marks for numbers that stand in a list.
-use Rattle.std.proofs.Common.{ℕ, ◌≡◌, ◌≢◌, ◌<◌, ◌≤◌, ◌+◌, ◌==◌, ◌||◌, Bool, true, false, not, List, [], ◌∷◌, ◌++◌, map, length, get_or, set, drop, take, refl, sym, ap, ◌∙◌, Option, Some, None, arith, get_or-set_same, get_or-set_other, length-set}
-use Rattle.std.proofs.lemmas.Bool.{ne_eqb}
+use Rattle.std.proofs.Common.{ℕ, ◌≡◌, ◌<◌, ◌+◌, ◌==◌, Bool, true, false, List, [], ◌∷◌, ◌++◌, map, length, get_or, set, drop, take, refl, sym, ap, ◌∙◌, Some, None, arith, length-set}
 use Rattle.std.proofs.lemmas.Bool.Decides.{nat_tests}
-use Rattle.std.proofs.lemmas.List.{take_more, map-append, at_drop_all}
+use Rattle.std.proofs.lemmas.List.{take_more, map-append}
 use Rattle.std.proofs.lemmas.List.Folds.{list_any-append}
 use Rattle.std.proofs.lemmas.Grind.{common_steps, get_or-set_at}
 use Rattle.std.specs.List.{list_any}
-use Rattle.json_order.specs.Json.{Json}
 use Rattle.json_order.specs.Seen.{json_of}
 use Rattle.json_order.specs.declared.tree.Tree.{Tree}
 use Rattle.rtapp_scenario.specs.Values.{natural_within}

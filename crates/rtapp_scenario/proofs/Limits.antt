@@ -1,5 +1,5 @@
 -- A thread that passes its tests has a script within the limits of scripts.
-use Rattle.std.proofs.Common.{ℕ, ◌≡◌, ◌<◌, ◌≤◌, ◌&&◌, ◌||◌, Bool, true, false, not, List, [], ◌∷◌, map, find, length, refl, sym, ap, ◌∙◌, Option, Some, None, IfSome, is_some, unwrap_or, arith, nat_lt, nat_le}
+use Rattle.std.proofs.Common.{ℕ, ◌≡◌, ◌<◌, ◌≤◌, ◌||◌, Bool, true, false, not, List, [], ◌∷◌, map, find, length, refl, Option, Some, None, IfSome, is_some, unwrap_or, arith, nat_lt, nat_le}
 use Rattle.std.proofs.lemmas.Bool.{ltb-true, leb-true}
 use Rattle.std.proofs.lemmas.Slice.Eq.{bytes_eq-Decides}
 use Rattle.std.proofs.lemmas.List.Elements.{All-from_recursion}
@@ -10,12 +10,12 @@ use Rattle.std.specs.List.{list_any, filter_map, AllByRecursion}
 use Rattle.domain_run.specs.script.ScriptView.{IsEvent, IsPhase, IsScript, script_of}
 use Rattle.json_order.specs.Json.{Json, null}
 use Rattle.std.proofs.lemmas.List.{length-map}
-use Rattle.rtapp_scenario.specs.Values.{Member, object_of, members, members_at, is_at, at, has}
+use Rattle.rtapp_scenario.specs.Values.{Member, object_of, members, members_at, at, has}
 use Rattle.rtapp_scenario.specs.Faults.{Fault, value, too_many, idle, unsupported, unless, first, in_order}
 use Rattle.rtapp_scenario.specs.Keys.{kind_of, is_event, missing_fault, thread_keys}
-use Rattle.rtapp_scenario.specs.Threads.{event_at, has_event, phases_in, rounds, count, thread_ref}
+use Rattle.rtapp_scenario.specs.Threads.{event_at, has_event, rounds, count, thread_ref}
 use Rattle.rtapp_scenario.specs.Tests.{phase_member_fault, phase_fault, phase_fault_in, phases_fault, phases_fault_in, thread_member_fault, event_fault, is_phases, is_idle, members_fault}
-use Rattle.rtapp_scenario.specs.Scenario.{phase_of, member_phase, phases, script}
+use Rattle.rtapp_scenario.specs.Scenario.{phase_of, member_phase, phases}
 use Rattle.rtapp_scenario.proofs.Passing.{first_split, unless_passes, Passes, found_passes}
 use Rattle.rtapp_scenario.proofs.Counted.{StopsAt65, number_fits, rounds_fit, events_fit, events_few, event_stops, events_left}
 

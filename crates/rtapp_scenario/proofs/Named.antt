@@ -1,7 +1,7 @@
 -- The names of tasks.
-use Rattle.std.proofs.Common.{ℕ, ◌≡◌, ◌==◌, ◌<◌, ◌≤◌, ◌^◌, ◌+◌, Bool, true, false, cond, ◌&&◌, leb, ltb, List, [], ◌∷◌, ◌++◌, length, take, All, get_or, refl, sym, ap, ◌∙◌, arith, decimal}
+use Rattle.std.proofs.Common.{ℕ, ◌≡◌, ◌==◌, ◌<◌, ◌≤◌, ◌^◌, Bool, true, false, cond, ◌&&◌, leb, ltb, List, ◌++◌, length, take, All, get_or, arith, decimal}
 use Rattle.std.proofs.lemmas.Bool.{ltb-true, leb-true, and_parts}
-use Rattle.std.proofs.lemmas.List.{length-take, length-append}
+use Rattle.std.proofs.lemmas.List.{length-take}
 use Rattle.std.proofs.lemmas.List.Sums.{AllPass-from_list_all}
 use Rattle.std.proofs.lemmas.List.Elements.{All-append, All-take, All-from_recursion}
 use Rattle.std.proofs.lemmas.Fmt.{digits_decimal}

@@ -1,5 +1,5 @@
 -- What `parse` reads of digits.
-use Rattle.std.proofs.Common.{ℕ, ◌≡◌, ◌<◌, ◌≤◌, ◌^◌, ◌+◌, Bool, true, false, List, [], ◌∷◌, refl, Result, Ok, Err, Option, Some, None, arith, rules, ◌==◌, length, get_or, drop}
+use Rattle.std.proofs.Common.{ℕ, ◌≡◌, ◌<◌, ◌≤◌, ◌^◌, true, false, List, Ok, Err, Some, None, arith, rules}
 use Rattle.std.specs.Str.{bytes_eq}
 use Rattle.std.specs.Str.Parse.{ParsesUnsigned, digits_value, digits_value_after}
 use Rattle.std.specs.List.{list_all}

@@ -1,5 +1,5 @@
 -- How many tasks a scenario has, and their numbers.
-use Rattle.std.proofs.Common.{ℕ, zero, suc, ◌≡◌, ◌<◌, ◌≤◌, ◌+◌, List, [], ◌∷◌, ◌++◌, length, map, sum_by, refl, sym, ap, ◌∙◌, Option, None, not, leb, arith, append_assoc}
+use Rattle.std.proofs.Common.{ℕ, zero, suc, ◌≡◌, ◌≤◌, ◌+◌, List, [], ◌∷◌, ◌++◌, length, map, refl, ap, ◌∙◌, Option, None, not, leb, arith, append_assoc}
 use Rattle.std.proofs.lemmas.Bool.{leb-true}
 use Rattle.std.proofs.lemmas.List.{append-nil, length-append, length-map, map-append}
 use Rattle.std.proofs.lemmas.List.Sums.{sum_by-append, sum_by-cons}
@@ -8,7 +8,7 @@ use Rattle.std.proofs.lemmas.Simd.{map-map}
 use Rattle.std.specs.Prelude.{codes}
 use Rattle.std.specs.List.{range_with_len}
 use Rattle.rtapp_scenario.specs.Values.{Member, members}
-use Rattle.rtapp_scenario.specs.Faults.{unsupported, too_many, unless, first, in_order}
+use Rattle.rtapp_scenario.specs.Faults.{unsupported, too_many, unless, in_order}
 use Rattle.rtapp_scenario.specs.Threads.{instances, thread_ref}
 use Rattle.rtapp_scenario.specs.Tests.{thread_fault, own_fault, beside_fault, is_shared, refs_in, tasks_in}
 use Rattle.rtapp_scenario.specs.Scenario.{task_at, thread_tasks, tasks_from}

@@ -1,8 +1,7 @@
 -- What it means that tests pass.
-use Rattle.std.proofs.Common.{ℕ, ◌≡◌, ◌≤◌, ◌+◌, Bool, true, false, List, [], ◌∷◌, ◌++◌, find, refl, sym, ap, ◌∙◌, Option, Some, None, IfSome, unwrap_or}
-use Rattle.std.specs.Str.{bytes_eq}
+use Rattle.std.proofs.Common.{◌≡◌, Bool, true, false, List, [], ◌∷◌, ◌++◌, find, refl, Option, Some, None, IfSome, unwrap_or}
 use Rattle.rtapp_scenario.specs.Values.{Member, object_of, members}
-use Rattle.rtapp_scenario.specs.Faults.{Fault, value, name, unless, first, in_order}
+use Rattle.rtapp_scenario.specs.Faults.{Fault, name, unless, first, in_order}
 use Rattle.rtapp_scenario.specs.Tests.{is_name, own_fault, members_fault, members_fault_in}
 
 -- the first test passes, and the others do

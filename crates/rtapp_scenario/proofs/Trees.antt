@@ -3,8 +3,8 @@ use Rattle.std.specs.Prelude.{string_bytes}
 use Rattle.std.specs.declared.string.String.{String}
 use Rattle.std.specs.declared.vec.Vec.{Vec}
 use Rattle.std.specs.declared.alloc.Global.{Global}
-use Rattle.std.proofs.Common.{ℕ, ◌≡◌, List, [], ◌∷◌, map, refl, sym, ap, ◌∙◌, Option, Some}
-use Rattle.json_order.specs.Json.{Json, array, no_items, object, no_members}
+use Rattle.std.proofs.Common.{◌≡◌, List, [], ◌∷◌, map, refl, sym, ap, ◌∙◌, Some}
+use Rattle.json_order.specs.Json.{Json, no_items, no_members}
 use Rattle.json_order.specs.Seen.{json_of, seen_step, entry_of, members_with, items_with}
 use Rattle.json_order.specs.declared.tree.Tree.{Tree}
 use Rattle.json_order.specs.declared.tree.Tree.TheVariants.{Object, List as ListTree, rolls-Object, rolls-List}

@@ -2,10 +2,9 @@
 use Rattle.std.specs.Prelude.{string_bytes}
 use Rattle.std.specs.declared.string.String.{String}
 use Rattle.std.specs.declared.alloc.Global.{Global}
-use Rattle.std.proofs.Common.{ℕ, ◌≡◌, ◌<◌, ◌≤◌, ◌+◌, Bool, true, false, List, [], ◌∷◌, ◌++◌, map, length, get_or, drop, take, find, refl, sym, ap, ◌∙◌, Option, Some, None, arith}
+use Rattle.std.proofs.Common.{ℕ, ◌≡◌, ◌<◌, ◌≤◌, ◌+◌, true, false, List, [], ◌∷◌, ◌++◌, map, length, get_or, drop, take, refl, sym, ap, ◌∙◌, Option, Some, None}
 use Rattle.std.proofs.lemmas.List.{at_drop_more, at_drop_all, take_more, map-append}
 use Rattle.std.specs.Str.{bytes_eq}
-use Rattle.json_order.specs.Json.{Json}
 use Rattle.json_order.specs.Seen.{json_of}
 use Rattle.json_order.specs.declared.tree.Tree.{Tree}
 use Rattle.rtapp_scenario.specs.Values.{Member, member_of, members_of, at}

@@ -1,9 +1,9 @@
 -- Worked rows, computed from the definitions.
-use Rattle.std.specs.Prelude.{ℕ, ◌≡◌, true, List, [], ◌∷◌, Some, None, Ok, Err, codes, decimal, refl}
-use Rattle.json_order.specs.Json.{Json, null, boolean, number, string, array, object, Items, no_items, item, Members, no_members, member}
-use Rattle.domain_run.specs.declared.script.Event.TheVariants.{Run, Sleep, Timer}
-use Rattle.rtapp_scenario.specs.Values.{Member, natural_in, natural_within, at}
-use Rattle.rtapp_scenario.specs.Faults.{Fault, no_tasks, duration, unsupported, value, name, policy, too_many, idle}
+use Rattle.std.specs.Prelude.{ℕ, ◌≡◌, List, [], ◌∷◌, Some, None, Ok, Err, codes, refl}
+use Rattle.json_order.specs.Json.{Json, number, string, object, Members, no_members, member}
+use Rattle.domain_run.specs.declared.script.Event.TheVariants.{Run, Sleep}
+use Rattle.rtapp_scenario.specs.Values.{natural_in, natural_within, at}
+use Rattle.rtapp_scenario.specs.Faults.{no_tasks, unsupported, policy, idle}
 use Rattle.rtapp_scenario.specs.Keys.{are_cpus, takes, key_fault, missing_fault, kind_of}
 use Rattle.rtapp_scenario.specs.Threads.{number_at, event_at, timer_at, timer_of, thread_ref}
 use Rattle.rtapp_scenario.specs.Tests.{event_value_fault, event_fault, phase_member_fault, phase_fault, phases_fault, thread_member_fault, is_shared, members_fault, own_fault, beside_fault, fault_of}

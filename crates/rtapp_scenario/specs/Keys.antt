@@ -1,5 +1,5 @@
 -- The keys of the profile, as tables (rt-app's JSON keys; ranges, defaults and limits are own).
-use Rattle.std.specs.Prelude.{ℕ, ◌==◌, ◌+◌, Bool, true, false, not, ◌&&◌, ◌||◌, nat_lt, nat_le, if◌then◌else◌, List, [], ◌∷◌, ◌++◌, length, map, find, take, drop, Option, Some, None, is_some, option_and_then, unwrap_or, codes}
+use Rattle.std.specs.Prelude.{ℕ, ◌==◌, Bool, true, false, not, ◌&&◌, ◌||◌, nat_lt, if◌then◌else◌, List, [], ◌∷◌, ◌++◌, length, map, find, take, drop, Option, Some, None, is_some, unwrap_or, codes}
 use Rattle.std.specs.Option.{option_map, option_map_or}
 use Rattle.std.specs.List.{list_any, list_all}
 use Rattle.std.specs.Char.{is_ascii_digit}
@@ -7,7 +7,7 @@ use Rattle.std.specs.Str.{bytes_eq}
 use Rattle.json_order.specs.Json.{Json}
 use Rattle.rtapp_scenario.specs.declared.key.EventKind.{EventKind}
 use Rattle.rtapp_scenario.specs.declared.key.EventKind.TheVariants.{Run, Sleep, Timer}
-use Rattle.rtapp_scenario.specs.Values.{Member, number_of, list_of, text_of, natural_of, natural_within, at, has}
+use Rattle.rtapp_scenario.specs.Values.{Member, number_of, list_of, text_of, natural_within, has}
 use Rattle.rtapp_scenario.specs.Faults.{Fault, unsupported, value, policy, unless, first}
 
 -- ---- what may stand at a key

@@ -1,13 +1,11 @@
 -- The tests of a scenario, in their order. The fault of a tree is the first that fails.
-use Rattle.std.specs.Prelude.{ℕ, ◌==◌, ◌+◌, Bool, true, false, not, ◌&&◌, ◌||◌, nat_lt, nat_le, if◌then◌else◌, List, [], ◌∷◌, length, map, count_by, sum_by, Option, Some, None, is_some, option_and_then, codes}
-use Rattle.std.specs.List.{list_any, list_all, filter_map}
+use Rattle.std.specs.Prelude.{ℕ, ◌+◌, Bool, false, not, ◌&&◌, ◌||◌, nat_lt, nat_le, if◌then◌else◌, List, [], ◌∷◌, length, map, count_by, sum_by, Option, Some, None, is_some, option_and_then, codes}
+use Rattle.std.specs.List.{list_any, list_all}
 use Rattle.std.specs.Str.{bytes_eq}
 use Rattle.json_order.specs.Json.{Json}
-use Rattle.domain_run.specs.declared.script.Event.{Event}
-use Rattle.domain_run.specs.declared.script.Event.TheVariants as events
 use Rattle.rtapp_scenario.specs.declared.key.EventKind.{EventKind}
 use Rattle.rtapp_scenario.specs.declared.key.EventKind.TheVariants.{Run, Sleep, Timer}
-use Rattle.rtapp_scenario.specs.Values.{Member, object_of, text_of, natural_within, at, has, members, members_at, is_at}
+use Rattle.rtapp_scenario.specs.Values.{Member, object_of, text_of, natural_within, at, members, members_at, is_at}
 use Rattle.rtapp_scenario.specs.Faults.{Fault, no_tasks, duration, unsupported, value, name, too_many, idle, unless, first, in_order}
 use Rattle.rtapp_scenario.specs.Keys.{is_text, thread_keys, phase_keys, timer_keys, key_fault, missing_fault, kind_of, is_event}
 use Rattle.rtapp_scenario.specs.Threads.{thread_ref, has_event, phases_in, instances}

@@ -1,14 +1,13 @@
 -- What a thread says: its numbers, its phases with their events, and the reference of its timers.
-use Rattle.std.specs.Prelude.{ℕ, ◌*◌, Bool, true, false, if◌then◌else◌, List, [], ◌∷◌, map, Option, Some, None, is_some, option_and_then, unwrap_or, codes}
+use Rattle.std.specs.Prelude.{ℕ, Bool, true, false, if◌then◌else◌, List, [], ◌∷◌, map, Option, Some, None, is_some, option_and_then, unwrap_or, codes}
 use Rattle.std.specs.Option.{option_map}
-use Rattle.std.specs.List.{list_any, filter_map}
+use Rattle.std.specs.List.{list_any}
 use Rattle.json_order.specs.Json.{Json}
 use Rattle.domain_run.specs.declared.script.Event.{Event}
 use Rattle.domain_run.specs.declared.script.Event.TheVariants as events
-use Rattle.domain_run.specs.script.ScriptView.{PhaseView, ScriptView, script_of}
 use Rattle.rtapp_scenario.specs.declared.key.EventKind.{EventKind}
 use Rattle.rtapp_scenario.specs.declared.key.EventKind.TheVariants.{Run, Sleep, Timer}
-use Rattle.rtapp_scenario.specs.Values.{Member, text_of, natural_within, natural_of, list_of, at, has, members, members_at, is_at}
+use Rattle.rtapp_scenario.specs.Values.{Member, text_of, natural_within, list_of, at, has, members, members_at, is_at}
 use Rattle.rtapp_scenario.specs.Faults.{first}
 use Rattle.rtapp_scenario.specs.Keys.{kind_of, numbers_in}
 

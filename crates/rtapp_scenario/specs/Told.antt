@@ -13,8 +13,6 @@ use Rattle.rtapp_scenario.specs.declared.fault.ScenarioFault.TheVariants.{NoTask
 
 -- a fault whose key lies in the tree
 abbrev pub flaw_seen : Flaw → Fault
-flaw_seen flaws.NoTasks = no_tasks
-flaw_seen flaws.Duration = duration
 flaw_seen (flaws.Unsupported key) = unsupported key.now
 flaw_seen (flaws.Value key) = value key.now
 flaw_seen flaws.Name = name

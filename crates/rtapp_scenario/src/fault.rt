@@ -93,8 +93,6 @@ pub(crate) fn fault_of(alloc: Global, flaw: Flaw<'_>) -> ScenarioFault
     ensures { IsTold (Some (flaw_seen flaw.entry)) result }
 {
     match flaw {
-        Flaw::NoTasks => ScenarioFault::NoTasks,
-        Flaw::Duration => ScenarioFault::Duration,
         Flaw::Unsupported(key) => match String::from_str(alloc, key) {
             Ok(key) => ScenarioFault::Unsupported(key),
             Err(_) => ScenarioFault::Memory,

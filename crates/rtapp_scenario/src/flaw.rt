@@ -1,8 +1,6 @@
 /// What a test refuses. The key to mend lies in the tree, so that tests take no memory.
 #[derive(Clone, Copy)]
 pub(crate) enum Flaw<'a> {
-    NoTasks,
-    Duration,
     Unsupported(&'a str),
     Value(&'a str),
     Name,

@@ -1,8 +1,7 @@
-use Rattle.std.proofs.Common.{◌≡◌, ◌<◌, ◌∙◌, Some, None, true, false, map, take, sym, arith}
-use Rattle.std.specs.List.{list_any}
+use Rattle.std.proofs.Common.{◌≡◌, ◌<◌, ◌∙◌, Some, None, map, take, sym, arith}
 use Rattle.json_order.specs.Seen.{json_of}
 use Rattle.rtapp_scenario.specs.Values.{natural_within}
-use Rattle.rtapp_scenario.specs.Keys.{cpus_after, numbers_in}
+use Rattle.rtapp_scenario.specs.Keys.{numbers_in}
 use Rattle.rtapp_scenario.proofs.Cpus.{cpus_stop, cpus_twice, cpus_on, numbers_more, marked}
 use Rattle.rtapp_scenario.proofs.key.are_new_cpus.Goals as goal
 

@@ -1,4 +1,4 @@
-use Rattle.std.proofs.Common.{ℕ, ◌≡◌, drop, take, map, []}
+use Rattle.std.proofs.Common.{◌≡◌, drop, take, map, []}
 use Rattle.json_order.specs.Seen.{json_of}
 use Rattle.rtapp_scenario.specs.Keys.{cpus_after, numbers_in}
 use Rattle.rtapp_scenario.specs.Marks.{AreMarks}

@@ -1,4 +1,4 @@
-use Rattle.std.proofs.Common.{◌≡◌, ℤ, pos, negsuc, w64, to_z, of_z, arith, ◌∙◌, sym}
+use Rattle.std.proofs.Common.{◌≡◌, ℤ, pos, negsuc, w64, to_z, of_z, arith, ◌∙◌}
 use Rattle.std.proofs.lemmas.Int.{to_z-of_z, ints}
 use Rattle.domain_run.specs.script.Segments.{IsLoops}
 use Rattle.rtapp_scenario.specs.Values.{members_of}

@@ -1,4 +1,3 @@
-use Rattle.std.proofs.Common.{◌∙◌, sym}
 use Rattle.rtapp_scenario.specs.Values.{member_of}
 use Rattle.rtapp_scenario.proofs.Passing.{name_passes, members_pass}
 use Rattle.rtapp_scenario.proofs.tasks.task_of.Goals as goal

@@ -1,5 +1,3 @@
-use Rattle.std.proofs.Common.{sym, ◌∙◌, ap}
-use Rattle.std.specs.Str.{bytes_eq}
 use Rattle.rtapp_scenario.proofs.Walks.{at_found, at_passed, at_end}
 use Rattle.rtapp_scenario.proofs.value.at.Goals as goal
 
