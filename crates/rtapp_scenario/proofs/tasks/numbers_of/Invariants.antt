@@ -1,0 +1,7 @@
+use Rattle.std.proofs.Common.{◌≡◌, ◌++◌, drop, map}
+use Rattle.json_order.specs.Seen.{json_of}
+use Rattle.rtapp_scenario.specs.Keys.{numbers_in}
+use Rattle.rtapp_scenario.proofs.tasks.numbers_of.Given as goal
+
+abbrev pub invariant-loop-item : goal.invariant-loop-item
+invariant-loop-item l = l.numbers.items ++ numbers_in (map json_of (drop l.item-index l.items)) ≡ numbers_in (map json_of l.items)

@@ -1,0 +1,8 @@
+use Rattle.std.proofs.Common.{◌≡◌, drop, map}
+use Rattle.rtapp_scenario.specs.Values.{members_of}
+use Rattle.rtapp_scenario.specs.Faults.{first}
+use Rattle.rtapp_scenario.specs.Threads.{timer_of}
+use Rattle.rtapp_scenario.proofs.threads.first_timer.Given as goal
+
+abbrev pub invariant-loop-member : goal.invariant-loop-member
+invariant-loop-member l = first (map timer_of (members_of (drop l.member-index l.members))) ≡ first (map timer_of (members_of l.members))

@@ -1,0 +1,10 @@
+pub mod Values
+pub mod Faults
+pub mod Keys
+pub mod Threads
+pub mod Tests
+pub mod ScenarioView
+pub mod Scenario
+pub mod Told
+pub mod Marks
+pub mod Examples

@@ -1,0 +1,27 @@
+-- What a contract sees of a scenario.
+use Rattle.std.specs.Prelude.{ℕ, ◌≤◌, ◌<◌, List, Option}
+use Rattle.attr_check.specs.declared.attr.SchedAttr.{SchedAttr}
+use Rattle.domain_run.specs.NameView.{IsName}
+use Rattle.domain_run.specs.script.ScriptView.{ScriptView, IsScript}
+
+-- a task: its number, name, attributes, CPUs (none where any domain will do), microseconds to its start, and script
+pub record TaskSpecView : Type 0 where
+  pub number : ℕ
+  pub name : List ℕ
+  pub attr : SchedAttr
+  pub cpus : Option (List ℕ)
+  pub delay : ℕ
+  pub script : ScriptView
+
+-- what every task specification keeps (own): a number, a name, a delay and a script within their limits
+pub record IsTaskSpec (t : TaskSpecView) : Type 0 where
+  pub some : 0 < t.number
+  pub most : t.number ≤ 65535
+  pub named : IsName t.name
+  pub soon : t.delay ≤ 1000000000
+  pub scripted : IsScript t.script
+
+-- a duration in microseconds, and the tasks
+pub record ScenarioView : Type 0 where
+  pub duration_us : ℕ
+  pub tasks : List TaskSpecView

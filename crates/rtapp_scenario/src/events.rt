@@ -1,0 +1,104 @@
+ghost use Rattle.std.specs.Prelude.{◌≡◌, [], count_by, map, length, Some};
+ghost use Rattle.rtapp_scenario.specs.Values.{member_of, members_of, object_of};
+ghost use Rattle.rtapp_scenario.specs.Faults.{in_order};
+ghost use Rattle.rtapp_scenario.specs.Keys.{kind_of, is_event};
+ghost use Rattle.rtapp_scenario.specs.Tests.{other_ref, timer_member_fault, timer_fault, event_value_fault, event_fault};
+ghost use Rattle.rtapp_scenario.specs.Told.{flaw_of, ref_seen};
+
+use crate::flaw::Flaw;
+use crate::key::{
+    EventKind, MOST, check_timer_key, check_timer_missing, is_event, is_text, is_whole, kind,
+    unless,
+};
+use crate::value::{is, object};
+use json_order::Tree;
+
+/// The most events of a phase, and the most phases of a thread.
+pub(crate) const MOST_ITEMS: usize = 64;
+
+/// A timer's `ref` is that of the thread's first timer.
+#[tactic(auto, unfolding(crate::specs::Keys::takes))]
+fn check_ref<'a>(first_ref: Option<&str>, member: &'a (String, Tree)) -> Result<(), Flaw<'a>>
+    ensures { flaw_of result ≡ other_ref (ref_seen first_ref.entry) (member_of member.now) }
+{
+    let Some(first_ref) = first_ref else {
+        return Ok(());
+    };
+    if !is(&member.0, "ref") {
+        return Ok(());
+    }
+    unless(is_text(&member.1, first_ref), Flaw::Unsupported("ref"))
+}
+
+fn check_timer_member<'a>(
+    first_ref: Option<&str>,
+    member: &'a (String, Tree),
+) -> Result<(), Flaw<'a>>
+    ensures { flaw_of result ≡ timer_member_fault (ref_seen first_ref.entry) [] (member_of member.now) }
+{
+    check_timer_key(member)?;
+    check_ref(first_ref, member)
+}
+
+fn check_timer_members<'a>(
+    first_ref: Option<&str>,
+    members: &'a [(String, Tree)],
+) -> Result<(), Flaw<'a>>
+    ensures { flaw_of result ≡ in_order (timer_member_fault (ref_seen first_ref.entry)) [] (members_of members.now) }
+{
+    for member in members {
+        check_timer_member(first_ref, member)?;
+    }
+    Ok(())
+}
+
+fn check_timer<'a>(first_ref: Option<&str>, member: &'a (String, Tree)) -> Result<(), Flaw<'a>>
+    ensures { flaw_of result ≡ timer_fault (ref_seen first_ref.entry) (object_of (member_of member.now).value) (member_of member.now) }
+{
+    let Some(members) = object(&member.1) else {
+        return Err(Flaw::Value(&member.0));
+    };
+    check_timer_members(first_ref, members)?;
+    check_timer_missing(members)
+}
+
+/// The value of an event of this kind.
+#[tactic(auto, unfolding(crate::specs::Tests::event_value_fault, crate::specs::Keys::takes))]
+fn check_event_value<'a>(
+    first_ref: Option<&str>,
+    kind: EventKind,
+    member: &'a (String, Tree),
+) -> Result<(), Flaw<'a>>
+    ensures { flaw_of result ≡ event_value_fault (ref_seen first_ref.entry) (Some kind) (member_of member.now) }
+{
+    match kind {
+        EventKind::Run | EventKind::Sleep => unless(
+            is_whole(&member.1, 0, MOST),
+            Flaw::Value(&member.0),
+        ),
+        EventKind::Timer => check_timer(first_ref, member),
+    }
+}
+
+fn events_in(members: &[(String, Tree)]) -> usize
+    ensures { result ≡ count_by is_event (members_of members.now) }
+{
+    members.iter().filter(|m| is_event(m)).count()
+}
+
+/// An event behind these members of its phase or thread.
+#[tactic(auto, unfolding(crate::specs::Tests::event_fault))]
+pub(crate) fn check_event<'a>(
+    first_ref: Option<&str>,
+    before: &[(String, Tree)],
+    kind: EventKind,
+    member: &'a (String, Tree),
+) -> Result<(), Flaw<'a>>
+    requires { kind_of (member_of member.now).key ≡ Some kind }
+    ensures { flaw_of result ≡ event_fault (ref_seen first_ref.entry) (members_of before.now) (member_of member.now) }
+{
+    if events_in(before) >= MOST_ITEMS {
+        return Err(Flaw::TooMany);
+    }
+    check_event_value(first_ref, kind, member)
+}

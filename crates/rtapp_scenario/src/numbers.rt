@@ -1,0 +1,84 @@
+ghost use Rattle.std.specs.Prelude.{◌≡◌, ◌≤◌, ◌<◌, IfOk, IfSome};
+ghost use Rattle.std.specs.Option.{option_map};
+ghost use Rattle.rtapp_scenario.specs.Values.{members_of};
+ghost use Rattle.rtapp_scenario.specs.Threads.{number_at, instances, delay, runtime, period, deadline, rounds, count};
+
+use crate::key::{MOST, MOST_TASKS, MOST_TIME};
+use crate::value::{at, natural_within};
+use json_order::Tree;
+
+/// The number at a key, from the least to the most; else the default.
+#[tactic(auto, unfolding(crate::specs::Threads::number_at))]
+fn number_at(key: &str, least: u64, most: u64, default: u64, members: &[(String, Tree)]) -> u64
+    requires least { least ≤ default }
+    requires most { default ≤ most }
+    ensures value { result ≡ number_at key.now least most default (members_of members.now) }
+    ensures least { least ≤ result }
+    ensures most { result ≤ most }
+{
+    let Some(value) = at(key, members) else {
+        return default;
+    };
+    match natural_within(value, least, most) {
+        Some(n) => n,
+        None => default,
+    }
+}
+
+/// How many tasks a thread is.
+pub(crate) fn instances(members: &[(String, Tree)]) -> u64
+    ensures value { result ≡ instances (members_of members.now) }
+    ensures some { 1 ≤ result }
+    ensures most { result ≤ 256 }
+{
+    number_at("instance", 1, MOST_TASKS, 1, members)
+}
+
+/// Microseconds from the admission to the start.
+pub(crate) fn delay(members: &[(String, Tree)]) -> u64
+    ensures value { result ≡ delay (members_of members.now) }
+    ensures most { result ≤ 1000000000 }
+{
+    number_at("delay", 0, MOST, 0, members)
+}
+
+/// Microseconds.
+pub(crate) fn runtime(members: &[(String, Tree)]) -> u64
+    ensures value { result ≡ runtime (members_of members.now) }
+    ensures most { result ≤ 9000000000000000 }
+{
+    number_at("dl-runtime", 0, MOST_TIME, 0, members)
+}
+
+/// Microseconds; by default the runtime.
+pub(crate) fn period(members: &[(String, Tree)]) -> u64
+    ensures value { result ≡ period (members_of members.now) }
+    ensures most { result ≤ 9000000000000000 }
+{
+    number_at("dl-period", 0, MOST_TIME, runtime(members), members)
+}
+
+/// Microseconds; by default the period.
+pub(crate) fn deadline(members: &[(String, Tree)]) -> u64
+    ensures value { result ≡ deadline (members_of members.now) }
+    ensures most { result ≤ 9000000000000000 }
+{
+    number_at("dl-deadline", 0, MOST_TIME, period(members), members)
+}
+
+/// Rounds over the phases; none for no end.
+pub(crate) fn rounds(members: &[(String, Tree)]) -> Option<u64>
+    ensures value { result ≡ rounds (members_of members.now) }
+    ensures within { IfSome result (λ n. (1 ≤ n) × (n ≤ 1000000000)) }
+{
+    natural_within(at("loop", members)?, 1, MOST)
+}
+
+/// Repetitions of a phase.
+pub(crate) fn count(members: &[(String, Tree)]) -> u64
+    ensures value { result ≡ count (members_of members.now) }
+    ensures some { 1 ≤ result }
+    ensures most { result ≤ 1000000000 }
+{
+    number_at("loop", 1, MOST, 1, members)
+}

@@ -1,0 +1,79 @@
+ghost use Rattle.std.specs.Prelude.{◌≡◌, [], count_by, map, length, Some};
+ghost use Rattle.rtapp_scenario.specs.Values.{member_of, members_of, object_of};
+ghost use Rattle.rtapp_scenario.specs.Faults.{in_order, first};
+ghost use Rattle.rtapp_scenario.specs.Tests.{phase_member_fault, phase_fault, phases_fault};
+ghost use Rattle.rtapp_scenario.specs.Told.{flaw_of, ref_seen};
+
+use crate::events::{MOST_ITEMS, check_event};
+use crate::flaw::Flaw;
+use crate::key::{check_phase_key, kind};
+use crate::value::object;
+use json_order::Tree;
+
+#[tactic(auto, unfolding(crate::specs::Tests::phase_member_fault))]
+fn check_phase_member<'a>(
+    first_ref: Option<&str>,
+    before: &[(String, Tree)],
+    member: &'a (String, Tree),
+) -> Result<(), Flaw<'a>>
+    ensures { flaw_of result ≡ phase_member_fault (ref_seen first_ref.entry) (members_of before.now) (member_of member.now) }
+{
+    match kind(&member.0) {
+        Some(kind) => check_event(first_ref, before, kind, member),
+        None => check_phase_key(member),
+    }
+}
+
+fn check_phase_members<'a>(
+    first_ref: Option<&str>,
+    members: &'a [(String, Tree)],
+) -> Result<(), Flaw<'a>>
+    ensures { flaw_of result ≡ in_order (phase_member_fault (ref_seen first_ref.entry)) [] (members_of members.now) }
+{
+    for (i, member) in members.iter().enumerate() {
+        check_phase_member(first_ref, &members[..i], member)?;
+    }
+    Ok(())
+}
+
+#[tactic(auto, unfolding(crate::specs::Tests::phase_fault))]
+fn check_phase<'a>(first_ref: Option<&str>, phase: &'a (String, Tree)) -> Result<(), Flaw<'a>>
+    ensures { flaw_of result ≡ phase_fault (ref_seen first_ref.entry) (member_of phase.now) }
+{
+    match object(&phase.1) {
+        Some(members) => check_phase_members(first_ref, members),
+        None => Err(Flaw::Value(&phase.0)),
+    }
+}
+
+fn check_each_phase<'a>(
+    first_ref: Option<&str>,
+    phases: &'a [(String, Tree)],
+) -> Result<(), Flaw<'a>>
+    ensures { flaw_of result ≡ first (map (phase_fault (ref_seen first_ref.entry)) (members_of phases.now)) }
+{
+    for phase in phases {
+        check_phase(first_ref, phase)?;
+    }
+    Ok(())
+}
+
+/// The phases of a thread.
+#[tactic(auto, unfolding(crate::specs::Tests::phases_fault))]
+pub(crate) fn check_phases<'a>(
+    first_ref: Option<&str>,
+    member: &'a (String, Tree),
+) -> Result<(), Flaw<'a>>
+    ensures { flaw_of result ≡ phases_fault (ref_seen first_ref.entry) (member_of member.now) }
+{
+    let Some(phases) = object(&member.1) else {
+        return Err(Flaw::Value(&member.0));
+    };
+    if phases.is_empty() {
+        return Err(Flaw::Value(&member.0));
+    }
+    if phases.len() > MOST_ITEMS {
+        return Err(Flaw::TooMany);
+    }
+    check_each_phase(first_ref, phases)
+}

@@ -1,0 +1,280 @@
+ghost use Rattle.std.specs.Prelude.{◌≡◌, ◌+◌, ◌≤◌, ◌&&◌, nat_le, [], map, length, Some, None, not, unwrap_or, is_some, OnOk};
+ghost use Rattle.std.specs.List.{list_any, list_all};
+ghost use Rattle.std.specs.Option.{option_map};
+ghost use Rattle.json_order.specs.Seen.{json_of};
+ghost use Rattle.rtapp_scenario.specs.Values.{Member, member_of, members_of, object_of, members};
+ghost use Rattle.rtapp_scenario.specs.Faults.{in_order, first};
+ghost use Rattle.rtapp_scenario.specs.Keys.{is_event, is_text};
+ghost use Rattle.rtapp_scenario.specs.Threads.{timer_at, first_timer_in, timer_of, thread_ref, ref_of, has_event, event_at, phases_in, instances};
+ghost use Rattle.rtapp_scenario.specs.Tests.{is_phases, thread_member_fault, is_idle, is_name, is_shared, beside_fault, members_fault, own_fault};
+ghost use Rattle.rtapp_scenario.specs.Told.{flaw_of, ref_seen, tree_seen};
+
+use crate::events::check_event;
+use crate::flaw::Flaw;
+use crate::key::{
+    EventKind, MOST, MOST_TASKS, check_thread_key, check_thread_missing, is_event, kind, unless,
+};
+use crate::numbers::instances;
+use crate::phases::check_phases;
+use crate::value::{at, is, members, natural_within, object, text};
+use domain_run::Event;
+use json_order::Tree;
+
+/// The value of a member that is a timer.
+#[tactic(auto, unfolding(crate::specs::Threads::timer_at))]
+fn timer_at(member: &(String, Tree)) -> Option<&Tree>
+    ensures { tree_seen result ≡ timer_at (member_of member.now) }
+{
+    match kind(&member.0) {
+        Some(EventKind::Timer) => Some(&member.1),
+        _ => None,
+    }
+}
+
+fn first_timer_in(members: &[(String, Tree)]) -> Option<&Tree>
+    ensures { tree_seen result ≡ first_timer_in (members_of members.now) }
+{
+    for member in members {
+        if let Some(timer) = timer_at(member) {
+            return Some(timer);
+        }
+    }
+    None
+}
+
+fn first_timer_of_phases(phases: &[(String, Tree)]) -> Option<&Tree>
+    ensures { tree_seen result ≡ first (map (λ phase. first_timer_in (members phase.value)) (members_of phases.now)) }
+{
+    for phase in phases {
+        if let Some(timer) = first_timer_in(members(&phase.1)) {
+            return Some(timer);
+        }
+    }
+    None
+}
+
+/// The first timer of `phases`, or of a member of the thread's own.
+#[tactic(auto, unfolding(crate::specs::Threads::timer_of))]
+fn timer_of(member: &(String, Tree)) -> Option<&Tree>
+    ensures { tree_seen result ≡ timer_of (member_of member.now) }
+{
+    if is(&member.0, "phases") {
+        return first_timer_of_phases(members(&member.1));
+    }
+    timer_at(member)
+}
+
+fn first_timer(members: &[(String, Tree)]) -> Option<&Tree>
+    ensures { tree_seen result ≡ first (map timer_of (members_of members.now)) }
+{
+    for member in members {
+        if let Some(timer) = timer_of(member) {
+            return Some(timer);
+        }
+    }
+    None
+}
+
+fn ref_of(timer: &Tree) -> Option<&str>
+    ensures { ref_seen result ≡ ref_of (json_of timer.now) }
+{
+    text(at("ref", members(timer))?)
+}
+
+/// The `ref` of a thread's first timer, in text order.
+#[tactic(auto, unfolding(crate::specs::Threads::thread_ref))]
+pub(crate) fn thread_ref(members: &[(String, Tree)]) -> Option<&str>
+    ensures { ref_seen result ≡ thread_ref (members_of members.now) }
+{
+    ref_of(first_timer(members)?)
+}
+
+/// The event of a member, none for one of 0 us.
+#[tactic(auto, unfolding(crate::specs::Threads::event_at))]
+pub(crate) fn event_at(member: &(String, Tree)) -> Option<Event>
+    ensures { result ≡ event_at (member_of member.now) }
+{
+    let value = &member.1;
+    match kind(&member.0)? {
+        EventKind::Run => Some(Event::Run(natural_within(value, 1, MOST)?)),
+        EventKind::Sleep => Some(Event::Sleep(natural_within(value, 1, MOST)?)),
+        EventKind::Timer => {
+            let period = at("period", members(value))?;
+            Some(Event::Timer(natural_within(period, 1, MOST)?))
+        }
+    }
+}
+
+fn has_event(members: &[(String, Tree)]) -> bool
+    ensures { result ≡ has_event (members_of members.now) }
+{
+    for member in members {
+        if event_at(member).is_some() {
+            return true;
+        }
+    }
+    false
+}
+
+fn is_idle_phases(phases: &[(String, Tree)]) -> bool
+    ensures { result ≡ list_any (λ phase. not (has_event phase)) (map (λ phase. members phase.value) (members_of phases.now)) }
+{
+    for phase in phases {
+        if !has_event(members(&phase.1)) {
+            return true;
+        }
+    }
+    false
+}
+
+/// A phase has no event left.
+fn is_idle(members: &[(String, Tree)]) -> bool
+    ensures { result ≡ is_idle (members_of members.now) }
+{
+    match at("phases", members) {
+        Some(phases) => is_idle_phases(crate::value::members(phases)),
+        None => !has_event(members),
+    }
+}
+
+fn has_events(members: &[(String, Tree)]) -> bool
+    ensures { result ≡ list_any is_event (members_of members.now) }
+{
+    for member in members {
+        if is_event(member) {
+            return true;
+        }
+    }
+    false
+}
+
+fn has_phases(members: &[(String, Tree)]) -> bool
+    ensures { result ≡ list_any is_phases (members_of members.now) }
+{
+    for member in members {
+        if is(&member.0, "phases") {
+            return true;
+        }
+    }
+    false
+}
+
+#[tactic(auto, unfolding(crate::specs::Tests::thread_member_fault))]
+fn check_member<'a>(
+    first_ref: Option<&str>,
+    before: &[(String, Tree)],
+    member: &'a (String, Tree),
+) -> Result<(), Flaw<'a>>
+    ensures { flaw_of result ≡ thread_member_fault (ref_seen first_ref.entry) (members_of before.now) (member_of member.now) }
+{
+    if is(&member.0, "phases") {
+        if has_events(before) {
+            return Err(Flaw::Unsupported(&member.0));
+        }
+        return check_phases(first_ref, member);
+    }
+    let Some(kind) = kind(&member.0) else {
+        return check_thread_key(member);
+    };
+    if has_phases(before) {
+        return Err(Flaw::Unsupported(&member.0));
+    }
+    check_event(first_ref, before, kind, member)
+}
+
+fn check_members<'a>(first_ref: Option<&str>, members: &'a [(String, Tree)]) -> Result<(), Flaw<'a>>
+    ensures { flaw_of result ≡ in_order (thread_member_fault (ref_seen first_ref.entry)) [] (members_of members.now) }
+{
+    for (i, member) in members.iter().enumerate() {
+        check_member(first_ref, &members[..i], member)?;
+    }
+    Ok(())
+}
+
+fn are_name_bytes(bytes: &[u8]) -> bool
+    ensures { result ≡ list_all (λ b. nat_le 33 b && nat_le b 126) bytes.now }
+{
+    bytes.iter().all(|b| *b >= 0x21 && *b <= 0x7e)
+}
+
+fn is_name(bytes: &[u8]) -> bool
+    ensures { result ≡ is_name bytes.now }
+{
+    !bytes.is_empty() && bytes.len() <= 64 && are_name_bytes(bytes)
+}
+
+/// The members of a thread, what is missing, and a phase that is idle.
+#[tactic(auto, unfolding(crate::specs::Tests::members_fault))]
+fn check_object<'a>(members: &'a [(String, Tree)]) -> Result<(), Flaw<'a>>
+    ensures { flaw_of result ≡ members_fault (members_of members.now) }
+{
+    check_members(thread_ref(members), members)?;
+    check_thread_missing(members)?;
+    unless(!is_idle(members), Flaw::Idle)
+}
+
+/// A thread by itself: its name, its members in text order, and what is missing.
+#[tactic(auto, unfolding(crate::specs::Tests::own_fault))]
+pub(crate) fn check_thread<'a>(thread: &'a (String, Tree)) -> Result<(), Flaw<'a>>
+    ensures { flaw_of result ≡ own_fault (member_of thread.now) }
+{
+    if !is_name(thread.0.as_bytes()) {
+        return Err(Flaw::Name);
+    }
+    match object(&thread.1) {
+        Some(members) => check_object(members),
+        None => Err(Flaw::Value(&thread.0)),
+    }
+}
+
+/// Several tasks would use this `ref`, which is not `unique`: those of the thread, or also those of a thread before it.
+#[tactic(auto, unfolding(crate::specs::Tests::is_shared, crate::specs::Keys::takes))]
+fn is_shared(refs: &[Option<&str>], tasks: u64, own: Option<&str>) -> bool
+    ensures { result ≡ is_shared (map ref_seen refs.now) tasks (ref_seen own.entry) }
+{
+    let Some(own) = own else {
+        return false;
+    };
+    if is(own, "unique") {
+        return false;
+    }
+    tasks > 1 || is_among(refs, own)
+}
+
+fn is_ref(other: Option<&str>, own: &str) -> bool
+    ensures { result ≡ is_text own.now (ref_seen other.entry) }
+{
+    match other {
+        Some(other) => is(other, own),
+        None => false,
+    }
+}
+
+fn is_among(refs: &[Option<&str>], own: &str) -> bool
+    ensures { result ≡ list_any (is_text own.now) (map ref_seen refs.now) }
+{
+    for other in refs {
+        if is_ref(*other, own) {
+            return true;
+        }
+    }
+    false
+}
+
+/// A thread beside those before it, of which the refs and the number of tasks are given.
+#[tactic(auto, unfolding(crate::specs::Tests::beside_fault))]
+pub(crate) fn check_beside<'a>(
+    refs: &[Option<&str>],
+    tasks: u64,
+    members: &[(String, Tree)],
+) -> Result<(), Flaw<'a>>
+    requires { tasks ≤ 256 }
+    ensures flaw { flaw_of result ≡ beside_fault (map ref_seen refs.now) tasks (members_of members.now) }
+    ensures most { OnOk result (tasks + instances (members_of members.now) ≤ 256) }
+{
+    let instances = instances(members);
+    if is_shared(refs, instances, thread_ref(members)) {
+        return Err(Flaw::Unsupported("ref"));
+    }
+    unless(tasks + instances <= MOST_TASKS, Flaw::TooMany)
+}
