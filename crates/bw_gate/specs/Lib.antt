@@ -1,0 +1,5 @@
+pub mod Terms
+pub mod Pieces
+pub mod Table
+pub mod Kinds
+pub mod Answers
