@@ -3,3 +3,4 @@ pub mod Pieces
 pub mod Table
 pub mod Kinds
 pub mod Answers
+pub mod Race

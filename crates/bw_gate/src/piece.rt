@@ -2,8 +2,8 @@ use crate::view::View;
 use atomic_table::Seat;
 use std::marker::Model;
 
-/// A piece of a gate that holds no bandwidth. A client that wants to take a ticket needs one. It may be dropped, and is then
-/// missing when the gate is closed.
+/// A piece of a gate that holds no bandwidth: what a client needs to take a ticket. It may be dropped, and is then missing
+/// at [`Gate::close`](crate::Gate::close). To a contract it is its gate and the words that its steps have found.
 #[derive(Drop)]
 pub struct Blank {
     pub(crate) seat: Seat<(), View>,
@@ -23,8 +23,9 @@ impl Model for Blank {
 }
 
 /// A piece of a gate that holds bandwidth of a domain's word: the right to a task of that bandwidth. It can be neither
-/// cloned nor dropped: it goes to [`Gate::give`](crate::Gate::give), into a domain's book, or to
-/// [`Gate::close`](crate::Gate::close).
+/// cloned nor dropped, so the compiler sees that it goes to [`Gate::give`](crate::Gate::give), into a domain's book or to
+/// [`Gate::close`](crate::Gate::close). To a contract it is its gate, its domain and bandwidth, and the words that its steps
+/// have found.
 pub struct Ticket {
     pub(crate) seat: Seat<(), View>,
     pub(crate) domain: usize,
@@ -34,6 +35,7 @@ pub struct Ticket {
 
 impl Model for Ticket {
     ghost use Rattle.std.specs.Prelude.{◌≡◌, ◌<◌, ◌≤◌, [], ◌∷◌, length};
+    ghost use Rattle.bw_world.specs.WorldStep.{unit};
     ghost use Rattle.bw_gate.specs.Pieces.{TicketView, last_of};
     ghost use Rattle.bw_gate.specs.declared.view.Piece.TheVariants.{Ticket as ticket};
 
@@ -41,7 +43,7 @@ impl Model for Ticket {
 
     ghost view = { λ t. record { gate = record { table = t.seat.table_id; terms = t.seat.me.0.terms }; domain = t.domain; bw = t.bw; found = t.seat.me.0.found } };
 
-    ghost invariant = { λ t. (t.seat.me.1 ≡ []) × (t.seat.me.0.pieces ≡ ticket t.domain t.bw ∷ []) × (t.last ≡ last_of t.seat.me.0.found) × (t.domain < length t.seat.me.0.terms.caps) × (t.bw ≤ 1048576) };
+    ghost invariant = { λ t. (t.seat.me.1 ≡ []) × (t.seat.me.0.pieces ≡ ticket t.domain t.bw ∷ []) × (t.last ≡ last_of t.seat.me.0.found) × (t.domain < length t.seat.me.0.terms.caps) × (t.bw ≤ unit) };
 }
 
 impl Blank {
@@ -58,6 +60,7 @@ impl Blank {
 
 impl Ticket {
     ghost use Rattle.std.specs.Prelude.{◌≡◌, ◌<◌, ◌≤◌, length};
+    ghost use Rattle.bw_world.specs.WorldStep.{unit};
     ghost use Rattle.bw_gate.specs.Pieces.{last_of};
 
     /// The domain of whose word it holds bandwidth, by its index from 0.
@@ -71,7 +74,7 @@ impl Ticket {
     /// The bandwidth that it holds, in 1/2^20 of a CPU; at most one CPU.
     pub fn bw(&self) -> u64
         ensures bw { result ≡ self.now.bw }
-        ensures one_cpu { result ≤ 1048576 }
+        ensures one_cpu { result ≤ unit }
     {
         self.bw
     }
