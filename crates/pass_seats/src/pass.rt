@@ -2,7 +2,8 @@ use crate::view::View;
 use atomic_table::Badge;
 use std::marker::Model;
 
-/// A client's list of the entries that it made.
+/// A client's list of the entries that it made in one spine, oldest first. To a contract it is its spine, its client and the
+/// list. It may be dropped.
 #[derive(Drop)]
 pub struct Pass<E> {
     pub(crate) badge: Badge<View<E>>,
