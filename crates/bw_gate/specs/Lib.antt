@@ -4,3 +4,4 @@ pub mod Table
 pub mod Kinds
 pub mod Answers
 pub mod Race
+pub mod Core

@@ -1,6 +1,6 @@
 -- What the tests of clients in threads say (own).
-use Rattle.std.specs.Prelude.{ℕ, ◌≡◌}
-use Rattle.bw_gate.specs.Pieces.{GateId, BlankView, TicketView}
+use Rattle.std.specs.Prelude.{◌≡◌}
+use Rattle.bw_gate.specs.Pieces.{GateId, TicketView}
 use Rattle.bw_gate.specs.declared.answer.Take.{Take}
 use Rattle.bw_gate.specs.declared.answer.Take.TheVariants.{Taken, Refused, Raced}
 

@@ -10,6 +10,7 @@
 #![tactic(auto)]
 
 mod answer;
+mod core_steps;
 mod dealing;
 mod gate;
 mod piece;
@@ -17,6 +18,7 @@ mod terms;
 mod view;
 
 pub use answer::{Regrade, Take, Words};
+pub use core_steps::steps_are_the_cores;
 pub use gate::Gate;
 pub use piece::{Blank, Ticket};
 
