@@ -1,0 +1,251 @@
+-- Each kind of step keeps the rule.
+use Rattle.std.proofs.Common.{◌≡◌, ◌≢◌, ◌≤◌, ◌<◌, ℕ, ◌+◌, ◌-◌, ◌*◌, ◌%◌, ◌^◌, ◌==◌, Bool, true, false, List, [], ◌∷◌, ◌++◌, length, set, get_or, take, drop, sym, refl, ap, ◌∙◌, subst, arith, eq-eqb, ne_eqb}
+use Rattle.std.specs.Prelude.{MatchBool, slice_index}
+use Rattle.std.specs.List.{sum_by}
+use Rattle.std.proofs.Math.Nat.{add-mul-mod_self_left}
+use Rattle.std.proofs.lemmas.List.{length-set, length-append, length-replicate, take-append-drop, get_or-set_same, get_or-set_other}
+use Rattle.std.proofs.lemmas.List.Elements.{All-set, All-push, All-cons}
+use Rattle.std.proofs.lemmas.List.Sums.{sum_by-cons, sum_by-append, sum_by_push}
+use Rattle.std.proofs.lemmas.List.Folds.{sum_by-replicate}
+use mathlib.Core.Option.{some, none}
+use mathlib.Core.Logic.{dite}
+use native.Mathlib.Decide.{ℕ_discrete}
+use prog.Atomic.{either}
+use lib.ListN.{get_elem?}
+use Rattle.atomic_table.specs.Table.{State, Me, step, Act, keeps, Valid, stepped, carried_after, Allows, Splits, Joins, Enters}
+use Rattle.bw_gate.specs.declared.view.Piece.{Piece}
+use Rattle.bw_gate.specs.declared.view.Piece.TheVariants.{Blank, Ticket}
+use Rattle.bw_gate.specs.declared.view.View.{View}
+use Rattle.bw_gate.specs.Terms.{TermsView, cap_in}
+use Rattle.bw_gate.specs.Table.{held, held_by, held_by_all, Carries, IsKept, opened}
+use Rattle.bw_gate.specs.Kinds.{told, made, IsFound, Loads, Takes, Regrades, Gives, first_piece, other_pieces, without_piece, Comes, gathered, spent}
+use Rattle.bw_gate.proofs.Views.{sum_set, sum_at, all_at, alone, held_one, held_here, held_else}
+
+-- a view goes over into one of as many pieces, and the word of a domain goes with what they hold of it
+module _ (terms : TermsView) (words : List ℕ) (views : List View) (id i n : ℕ) (v w : View) (kept : IsKept terms words views) (at : get_elem? views id ≡ some v) (inside : i < length terms.caps) (pieces : length w.pieces ≡ length v.pieces) (same : w.terms ≡ v.terms) (others : (d : ℕ) → d ≢ i → held_by d w ≡ held_by d v) (word : n + held_by i v ≡ slice_index words i + held_by i w) (capped : n ≤ cap_in terms i) where
+  word_after : (d : ℕ) → Dec (d ≡ i) → slice_index (set words i n) d ≡ held_by_all d (set views id w)
+  word_after d (yes e) =
+      let short : i < length words = omega (arith, kept.count) in
+      let a : get_or (set words i n) d 0 ≡ n = subst (λ k. get_or (set words i n) k 0 ≡ n) (sym e) (get_or-set_same words i n 0 short) in
+      let s = sum_set (held_by i) views id v w at in
+      let k = kept.exact i in
+      let b : n ≡ held_by_all i (set views id w) = omega (arith, s, k, word) in
+      a ∙ b ∙ ap (λ k. held_by_all k (set views id w)) (sym e)
+  word_after d (no ne) =
+      let a = get_or-set_other words i d n 0 ne in
+      let s = sum_set (held_by d) views id v w at in
+      let k = kept.exact d in
+      let o = others d ne in
+      let b : held_by_all d views ≡ held_by_all d (set views id w) = omega (arith, s, o) in
+      a ∙ k ∙ b
+
+  capped_after : (d : ℕ) → Dec (d ≡ i) → slice_index (set words i n) d ≤ cap_in terms d
+  capped_after d (yes e) =
+      let short : i < length words = omega (arith, kept.count) in
+      let a : get_or (set words i n) d 0 ≡ n = subst (λ k. get_or (set words i n) k 0 ≡ n) (sym e) (get_or-set_same words i n 0 short) in
+      let c : cap_in terms i ≡ cap_in terms d = ap (cap_in terms) (sym e) in
+      omega (arith, a, c, capped)
+  capped_after d (no ne) =
+      let a = get_or-set_other words i d n 0 ne in
+      let k = kept.capped d in
+      omega (arith, a, k)
+
+  pub kept_after : IsKept terms (set words i n) (set views id w)
+  kept_after = record {
+    count = length-set words i n ∙ kept.count;
+    exact = λ d. word_after d (ℕ_discrete d i);
+    capped = λ d. capped_after d (ℕ_discrete d i);
+    pieces =
+        let s = sum_set (λ (u : View). length u.pieces) views id v w at in
+        let p = kept.pieces in
+        omega (arith, s, pieces, p);
+    carried = All-set (Carries terms) views id w (λ some. same ∙ all_at (Carries terms) views id v at kept.carried (omega (arith, pieces, some))) kept.carried;
+  }
+
+-- a fact about a test, by what it says
+by_test : (n old : ℕ) (F : Bool → Type 0) → (n ≡ old → F true) → (n ≢ old → F false) → F (n == old)
+by_test n old F hit miss = dite (ℕ_discrete n old) (λ e. subst F (sym (eq-eqb n old e)) (hit e)) (λ ne. subst F (sym (ne_eqb n old ne)) (miss ne))
+
+less : (n k : ℕ) → k ≤ n → n < 2 ^ 64 → (n + (2 ^ 64 - k)) % 2 ^ 64 ≡ n - k
+less n k le lt =
+    let e : n + (2 ^ 64 - k) ≡ (n - k) + 2 ^ 64 * 1 = omega arith in
+    let m = add-mul-mod_self_left (n - k) (2 ^ 64) 1 in
+    let small : (n - k) % 2 ^ 64 ≡ n - k = omega arith in
+    ap (λ x. x % 2 ^ 64) e ∙ m ∙ small
+
+module _ {S : Type 0} where
+  -- the rule of a gate
+  abbrev pub Rule : TermsView → State S View → Type 0
+  Rule terms s = IsKept terms s.words s.views
+
+  found_at : (terms : TermsView) (s : State S View) (id d : ℕ) (v : View) → Rule terms s → get_elem? s.views id ≡ some v → v.terms ≡ terms → IsFound d v (slice_index s.words d)
+  found_at terms s id d v kept at same =
+      record {
+        room = (let k = kept.exact d in let a = sum_at (held_by d) s.views id v at in omega (arith, k, a));
+        capped = subst (λ (t : TermsView). slice_index s.words d ≤ cap_in t d) (sym same) (kept.capped d);
+      }
+
+  pub loads : (terms : TermsView) (slots id d : ℕ) (me : Me S View) → d < length terms.caps → me.0.terms ≡ terms → Allows (Rule terms) slots id me d (λ n. n) (Loads (step slots d 0 0 none) me)
+  loads terms slots id d me inside same s kept homes at bound =
+      let n = slice_index s.words d in
+      let v = me.0 in
+      let found = found_at terms s id d v kept at same in
+      (told n v, keeps, tt, kept_after terms s.words s.views id d n v (told n v) kept at inside refl refl (λ e ne. refl) refl (kept.capped d), (found, refl))
+
+  -- an exchange of one word for another, by a view of one piece that becomes another piece of this domain
+  module _ (terms : TermsView) (slots id d old new : ℕ) (me : Me S View) (p q : Piece) (inside : d < length terms.caps) (same : me.0.terms ≡ terms) (one : me.0.pieces ≡ p ∷ []) (others : (e : ℕ) → e ≢ d → held e q ≡ held e p) (word : new + held d p ≡ old + held d q) (capped : new ≤ cap_in terms d) where
+    abbrev v : View
+    v = me.0
+
+    abbrev IsMe : Me S View → Me S View → Type 0
+    IsMe a b = a ≡ b
+
+    abbrev Exchanged : State S View → Bool → Type 0
+    Exchanged s b =
+        let n = slice_index s.words d in
+        (w : View) × (a : Act S) × Valid s.homes me.1 a × Rule terms (stepped s d (either b new n) id me.1 w a)
+        × MatchBool b (IsMe (w, carried_after me.1 a) (made q n v, me.1)) (IsMe (w, carried_after me.1 a) (told n v, me.1))
+
+    hit : (s : State S View) → Rule terms s → get_elem? s.views id ≡ some v → slice_index s.words d ≡ old → Exchanged s true
+    hit s kept at e =
+        let n = slice_index s.words d in
+        let w = made q n v in
+        let piece : (k : ℕ) → held_by k w ≡ held k q = λ k. held_one k w q refl in
+        let before : (k : ℕ) → held_by k v ≡ held k p = λ k. held_one k v p one in
+        let rest : (k : ℕ) → k ≢ d → held_by k w ≡ held_by k v = λ k ne. piece k ∙ others k ne ∙ sym (before k) in
+        let a = piece d in
+        let b = before d in
+        let sums : new + held_by d v ≡ slice_index s.words d + held_by d w = omega (arith, a, b, word, e) in
+        let count : 1 ≡ length v.pieces = sym (ap length one) in
+        (w, keeps, tt, kept_after terms s.words s.views id d new v w kept at inside count refl rest sums capped, refl)
+
+    miss : (s : State S View) → Rule terms s → get_elem? s.views id ≡ some v → Exchanged s false
+    miss s kept at =
+        let n = slice_index s.words d in
+        (told n v, keeps, tt, kept_after terms s.words s.views id d n v (told n v) kept at inside refl refl (λ e ne. refl) refl (kept.capped d), refl)
+
+    pub exchanges : Allows (Rule terms) slots id me d (λ n. either (n == old) new n) (λ n after. MatchBool (n == old) (after ≡ (made q n v, me.1)) (after ≡ (told n v, me.1)))
+    exchanges s kept homes at bound = by_test (slice_index s.words d) old (Exchanged s) (λ e. hit s kept at e) (λ ne. miss s kept at)
+
+  pub takes : (terms : TermsView) (slots id d old new : ℕ) (me : Me S View) → d < length terms.caps → me.0.terms ≡ terms → me.0.pieces ≡ Blank ∷ [] → old ≤ new → new ≤ cap_in terms d → Allows (Rule terms) slots id me d (λ n. either (n == old) new n) (Takes (step slots d old new none) me)
+  takes terms slots id d old new me inside same one up capped =
+      let bw = new - old in
+      let a = held_here d bw in
+      let sums : new + 0 ≡ old + held d (Ticket d bw) = omega (arith, a, up) in
+      exchanges terms slots id d old new me Blank (Ticket d bw) inside same one (λ e ne. held_else d e bw ne) sums capped
+
+  pub regrades : (terms : TermsView) (slots id d was old new : ℕ) (me : Me S View) → d < length terms.caps → me.0.terms ≡ terms → me.0.pieces ≡ Ticket d was ∷ [] → old ≤ new + was → new ≤ cap_in terms d → Allows (Rule terms) slots id me d (λ n. either (n == old) new n) (Regrades (step slots d old new none) me)
+  regrades terms slots id d was old new me inside same one up capped =
+      let bw = new + held_by d me.0 - old in
+      let mine = held_one d me.0 (Ticket d was) one in
+      let a = held_here d bw in
+      let b = held_here d was in
+      let sums : new + held d (Ticket d was) ≡ old + held d (Ticket d bw) = omega (arith, a, b, mine, up) in
+      exchanges terms slots id d old new me (Ticket d was) (Ticket d bw) inside same one (λ e ne. held_else d e bw ne ∙ sym (held_else d e was ne)) sums capped
+
+  pub gives : (terms : TermsView) (slots id d bw : ℕ) (me : Me S View) → d < length terms.caps → me.0.terms ≡ terms → me.0.pieces ≡ Ticket d bw ∷ [] → Allows (Rule terms) slots id me d (λ n. (n + (2 ^ 64 - bw)) % 2 ^ 64) (Gives (step slots d bw 0 none) me)
+  gives terms slots id d bw me inside same one s kept homes at bound =
+      let n = slice_index s.words d in
+      let v = me.0 in
+      let w = made Blank n v in
+      let found = found_at terms s id d v kept at same in
+      let before : (k : ℕ) → held_by k v ≡ held k (Ticket d bw) = λ k. held_one k v (Ticket d bw) one in
+      let mine = before d in
+      let here = held_here d bw in
+      let room : bw ≤ n = omega (arith, found.room, mine, here) in
+      let now = less n bw room bound in
+      let rest : (k : ℕ) → k ≢ d → held_by k w ≡ held_by k v = λ k ne. sym (before k ∙ held_else d k bw ne) in
+      let sums : (n + (2 ^ 64 - bw)) % 2 ^ 64 + held_by d v ≡ n + held_by d w = omega (arith, now, mine, here, room) in
+      let capped : (n + (2 ^ 64 - bw)) % 2 ^ 64 ≤ cap_in terms d = omega (arith, now, kept.capped d) in
+      let count : 1 ≡ length v.pieces = sym (ap length one) in
+      (w, keeps, tt, kept_after terms s.words s.views id d ((n + (2 ^ 64 - bw)) % 2 ^ 64) v w kept at inside count refl rest sums capped, (found, refl))
+
+  -- a view of as many pieces is cut in two
+  pub splits : (terms : TermsView) (id : ℕ) (v : View) → Splits (Rule terms) id v (other_pieces v) (first_piece v)
+  splits terms id v s kept at =
+      let l = other_pieces v in
+      let r = first_piece v in
+      let views = set s.views id l in
+      let whole : take 1 v.pieces ++ drop 1 v.pieces ≡ v.pieces = take-append-drop 1 v.pieces in
+      let sums : (f : Piece → ℕ) → sum_by f r.pieces + sum_by f l.pieces ≡ sum_by f v.pieces = λ f. sym (sum_by-append f r.pieces l.pieces) ∙ ap (sum_by f) whole in
+      let lengths : length r.pieces + length l.pieces ≡ length v.pieces = sym (length-append r.pieces l.pieces) ∙ ap length whole in
+      let exact : (d : ℕ) → slice_index s.words d ≡ held_by_all d (views ++ r ∷ []) = λ d.
+      let a = sum_by_push (held_by d) views r in
+      let b = sum_set (held_by d) s.views id v l at in
+      let e = kept.exact d in
+      let h = sums (held d) in
+      omega (arith, a, b, e, h) in
+      let count : (f : View → ℕ) → f r + f l ≡ f v → sum_by f (views ++ r ∷ []) ≡ sum_by f s.views = λ f h.
+      let a = sum_by_push f views r in
+      let b = sum_set f s.views id v l at in
+      omega (arith, a, b, h) in
+      let mine : Carries terms v = all_at (Carries terms) s.views id v at kept.carried in
+      let left : Carries terms l = λ some. mine (omega (arith, lengths, some)) in
+      let right : Carries terms r = λ some. mine (omega (arith, lengths, some)) in
+      record {
+        count = kept.count;
+        exact = exact;
+        capped = kept.capped;
+        pieces = count (λ (u : View). length u.pieces) lengths ∙ kept.pieces;
+        carried = All-push (Carries terms) views r (All-set (Carries terms) s.views id l left kept.carried) right;
+      }
+
+  -- two views are made one, and the other is left with no piece
+  pub joins : (terms : TermsView) (id other : ℕ) (v w : View) → v.terms ≡ terms → Joins (Rule terms) id v other w (gathered v w) spent
+  joins terms id other v w same s kept at apart there =
+      let both = gathered v w in
+      let views = set s.views id both in
+      let all = set views other spent in
+      let count : (f : View → ℕ) → f both ≡ f v + f w → f spent ≡ 0 → sum_by f all ≡ sum_by f s.views = λ f h none.
+      let a = sum_set f s.views id v both at in
+      let b = sum_set f views other w spent there in
+      omega (arith, a, b, h, none) in
+      record {
+        count = kept.count;
+        exact = λ d. kept.exact d ∙ sym (count (held_by d) (sum_by-append (held d) v.pieces w.pieces) refl);
+        capped = kept.capped;
+        pieces = count (λ (u : View). length u.pieces) (length-append v.pieces w.pieces) refl ∙ kept.pieces;
+        carried = All-set (Carries terms) views other spent (λ some. absurd (omega arith)) (All-set (Carries terms) s.views id both (λ _. same) kept.carried);
+      }
+
+  -- a seat comes that has no piece
+  pub comes : (terms : TermsView) (slots d : ℕ) → Enters (Rule terms) slots d (λ n w. Comes {S = S} (step slots d 0 0 none) (opened terms, []) n (w, []))
+  comes terms slots d s kept homes bound =
+      let w = without_piece (opened terms) in
+      let count : (f : View → ℕ) → f w ≡ 0 → sum_by f (s.views ++ w ∷ []) ≡ sum_by f s.views = λ f none.
+      let a = sum_by_push f s.views w in
+      omega (arith, a, none) in (
+        w,
+        record {
+          count = kept.count;
+          exact = λ e. kept.exact e ∙ sym (count (held_by e) refl);
+          capped = kept.capped;
+          pieces = count (λ (u : View). length u.pieces) refl ∙ kept.pieces;
+          carried = All-push (Carries terms) s.views w kept.carried (λ _. refl);
+        },
+        refl,
+      )
+
+-- the rule at the start, where all words are 0 and one seat has all pieces, which are blank
+pub begins : (terms : TermsView) (words : List ℕ) → length words ≡ length terms.caps → ((d : ℕ) → slice_index words d ≡ 0) → IsKept terms words (opened terms ∷ [])
+begins terms words long zeros =
+    let held_none : (d : ℕ) → held_by_all d (opened terms ∷ []) ≡ 0 = λ d.
+    let a = sum_by-cons (held_by d) (opened terms) [] in
+    let b = sum_by-replicate (held d) terms.pieces Blank in
+    omega (arith, a, b) in
+    record {
+      count = long;
+      exact = λ d. zeros d ∙ sym (held_none d);
+      capped = λ d. let z = zeros d in omega (arith, z);
+      pieces = (let a = sum_by-cons (λ (u : View). length u.pieces) (opened terms) [] in let b = length-replicate terms.pieces Blank in omega (arith, a, b));
+      carried = All-cons (Carries terms) (opened terms) [] (λ _. refl) (λ k w h. absurd (omega arith));
+    }
+
+-- at the end, a seat's view among those of the rule: each word has room for what it holds, and is at most the cap; and where
+-- it has all pieces, each word is what it holds
+pub ends : (terms : TermsView) (words : List ℕ) (views : List View) (id : ℕ) (v : View) (d : ℕ) → IsKept terms words views → get_elem? views id ≡ some v → (held_by d v ≤ slice_index words d) × (slice_index words d ≤ cap_in terms d) × (length v.pieces ≡ terms.pieces → slice_index words d ≡ held_by d v)
+ends terms words views id v d kept at = (
+  (let a = sum_at (held_by d) views id v at in let e = kept.exact d in omega (arith, a, e)),
+  kept.capped d,
+  (λ all. kept.exact d ∙ alone d views id v at (kept.pieces ∙ sym all)),
+)

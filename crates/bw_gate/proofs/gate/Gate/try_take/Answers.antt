@@ -1,0 +1,69 @@
+use Rattle.std.proofs.Common.{◌≡◌, ◌<◌, ◌≤◌, ◌+◌, ◌-◌, ◌∷◌, [], length, refl, sym, ap, ◌∙◌, subst, arith}
+use Rattle.bw_gate.specs.declared.view.Piece.TheVariants.{Blank, Ticket}
+use Rattle.bw_gate.specs.Pieces.{GateId}
+use Rattle.bw_gate.specs.Terms.{TermsView, cap_in}
+use Rattle.bw_gate.specs.Kinds.{told, made}
+use Rattle.bw_gate.proofs.Views.{seat_after, took, missed}
+use Rattle.bw_gate.proofs.Steps.{loads, takes}
+use Rattle.bw_gate.proofs.gate.Gate.try_take.Goals as goal
+
+pub load-seen-requires : goal.load-seen-requires
+load-seen-requires c =
+    let shared = c.self.inside.table.shared in
+    let seat = c.blank.inside.seat in
+    let gate = ap (λ (b : _). b.gate) c.blank.view_is ∙ c.requires.own ∙ sym c.self.view_is in
+    let terms : seat.me.0.terms ≡ shared.key = ap (λ (g : GateId). g.terms) gate ∙ sym c.self.invariant.0 in
+    let key : c.args.self.now.terms ≡ shared.key = ap (λ (g : GateId). g.terms) (sym c.self.view_is) ∙ sym c.self.invariant.0 in
+    let inside : c.args.domain < length shared.key.caps = subst (λ (t : TermsView). c.args.domain < length t.caps) key c.requires.inside in
+    let words : shared.table_id.words ≡ length shared.key.caps = c.self.invariant.1 ∙ ap (λ (t : TermsView). length t.caps) (sym c.self.invariant.0) in (
+      ap (λ (g : GateId). g.table) gate,
+      omega (arith, inside, words),
+      loads shared.key shared.table_id.slots seat.id c.args.domain seat.me inside terms,
+    )
+
+pub invariant_of-blank : goal.invariant_of-blank
+invariant_of-blank c =
+    let seat = c.blank.inside.seat in
+    seat_after _ seat.me c.load-seen.new.seat.me (told c.load-seen.result seat.me.0) Blank seat.me.0.found c.load-seen.result c.blank.invariant.0 c.load-seen.ensures.2.1 c.blank.invariant.1 refl
+
+pub compare_exchange-found-requires : goal.compare_exchange-found-requires
+compare_exchange-found-requires c =
+    let shared = c.self.inside.table.shared in
+    let was = c.blank.inside.seat in
+    let seat = c.load-seen.new.seat in
+    let step = c.load-seen.ensures in
+    let gate = ap (λ (b : _). b.gate) c.blank.view_is ∙ c.requires.own ∙ sym c.self.view_is in
+    let terms : was.me.0.terms ≡ shared.key = ap (λ (g : GateId). g.terms) gate ∙ sym c.self.invariant.0 in
+    let now : seat.me.0.terms ≡ shared.key = ap (λ (m : _). m.0.terms) step.2.1 ∙ terms in
+    let one : seat.me.0.pieces ≡ Blank ∷ [] = ap (λ (m : _). m.0.pieces) step.2.1 ∙ c.blank.invariant.1 in
+    let key : c.args.self.now.terms ≡ shared.key = ap (λ (g : GateId). g.terms) (sym c.self.view_is) ∙ sym c.self.invariant.0 in
+    let inside : c.args.domain < length shared.key.caps = subst (λ (t : TermsView). c.args.domain < length t.caps) key c.requires.inside in
+    let words : shared.table_id.words ≡ length shared.key.caps = c.self.invariant.1 ∙ ap (λ (t : TermsView). length t.caps) (sym c.self.invariant.0) in
+    let cap : c.cap-cap.result ≡ cap_in shared.key c.args.domain = c.cap-cap.ensures ∙ ap (λ (t : TermsView). cap_in t c.args.domain) (sym c.self.invariant.0) in
+    let room : c.load-seen.result + c.args.bw ≤ cap_in shared.key c.args.domain = omega (arith, cap, c.if-seen-bw.false) in (
+      step.0 ∙ ap (λ (g : GateId). g.table) gate,
+      omega (arith, inside, words),
+      takes shared.key shared.table_id.slots seat.id c.args.domain c.load-seen.result (c.load-seen.result + c.args.bw) seat.me inside now one (omega arith) room,
+    )
+
+pub invariant_of-result : goal.invariant_of-result
+invariant_of-result c =
+    let was = c.blank.inside.seat in
+    let seat = c.load-seen.new.seat in
+    let found = c.compare_exchange-found.result in
+    let d = c.args.domain in
+    let told_me = c.load-seen.ensures.2.1 in
+    let step = took found c.load-seen.result _ _ c.if-found-seen.true c.compare_exchange-found.ensures.2 in
+    let bw : (c.load-seen.result + c.args.bw) - c.load-seen.result ≡ c.args.bw = omega arith in
+    let s = seat_after _ seat.me c.compare_exchange-found.new.seat.me (made (Ticket d ((c.load-seen.result + c.args.bw) - c.load-seen.result)) found seat.me.0) (Ticket d c.args.bw) seat.me.0.found found (ap (λ (m : _). m.1) told_me ∙ c.blank.invariant.0) step (ap (λ (n : _). Ticket d n ∷ []) bw) refl in
+    let gate = ap (λ (b : _). b.gate) c.blank.view_is ∙ c.requires.own in
+    let terms : c.compare_exchange-found.new.seat.me.0.terms ≡ c.args.self.now.terms = ap (λ (m : _). m.0.terms) step ∙ ap (λ (m : _). m.0.terms) told_me ∙ ap (λ (g : GateId). g.terms) gate in
+    (s.0, s.1, s.2, subst (λ (t : TermsView). d < length t.caps) (sym terms) c.requires.inside, c.requires.one_cpu)
+
+pub invariant_of-blank-2 : goal.invariant_of-blank-2
+invariant_of-blank-2 c =
+    let seat = c.load-seen.new.seat in
+    let found = c.compare_exchange-found.result in
+    let told_me = c.load-seen.ensures.2.1 in
+    let step = missed found c.load-seen.result _ _ c.if-found-seen.false c.compare_exchange-found.ensures.2 in
+    seat_after _ seat.me c.compare_exchange-found.new.seat.me (told found seat.me.0) Blank seat.me.0.found found (ap (λ (m : _). m.1) told_me ∙ c.blank.invariant.0) step (ap (λ (m : _). m.0.pieces) told_me ∙ c.blank.invariant.1) refl

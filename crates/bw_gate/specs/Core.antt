@@ -1,0 +1,72 @@
+-- The gate's steps are those of the pure core (own). To the core a domain of a gate is one with the gate's cap and word, all of
+-- whose tickets are in hand, each under the number of its seat as its id.
+use Rattle.std.specs.Prelude.{ℕ, ◌≡◌, ◌+◌, ◌-◌, ◌==◌, if◌then◌else◌, List, [], ◌∷◌, ◌++◌, map, slice_index}
+use Rattle.bw_world.specs.declared.step.Outcome.TheVariants.{Over, Lost}
+use Rattle.bw_world.specs.declared.ticket.Ticket.{Ticket}
+use Rattle.bw_world.specs.WorldView.{DomainView}
+use Rattle.bw_world.specs.DomainStep.{stays, done, with_bw, taken, regraded_in_hand}
+use Rattle.bw_world.specs.ExactWord.{IsExactDomain}
+use Rattle.bw_gate.specs.declared.answer.Take.{Take}
+use Rattle.bw_gate.specs.declared.answer.Take.TheVariants as takes
+use Rattle.bw_gate.specs.declared.answer.Regrade.{Regrade}
+use Rattle.bw_gate.specs.declared.answer.Regrade.TheVariants as regrades
+use Rattle.bw_gate.specs.declared.view.Piece.{Piece}
+use Rattle.bw_gate.specs.declared.view.Piece.TheVariants as pieces
+use Rattle.bw_gate.specs.declared.view.View.{View}
+use Rattle.bw_gate.specs.Terms.{TermsView, cap_in}
+use Rattle.bw_gate.specs.Pieces.{BlankView, TicketView, cap_of}
+use Rattle.bw_gate.specs.Table.{IsKept}
+use Rattle.bw_gate.specs.Answers.{IsTryOfTake, IsTryOfRegrade}
+
+-- the tickets of a domain among some pieces, with one id
+abbrev pub tickets_in : ℕ → ℕ → List Piece → List Ticket
+tickets_in d id [] = []
+tickets_in d id (pieces.Blank ∷ rest) = tickets_in d id rest
+tickets_in d id (pieces.Ticket e bw ∷ rest) =
+    if e == d then (record { id = id; bw = bw } ∷ tickets_in d id rest) else tickets_in d id rest
+
+-- the tickets of a domain among the views from one seat on
+abbrev pub tickets_from : ℕ → ℕ → List View → List Ticket
+tickets_from d id [] = []
+tickets_from d id (v ∷ views) = tickets_in d id v.pieces ++ tickets_from d (id + 1) views
+
+-- a domain of a gate's table, as the core sees it
+abbrev pub core_of : TermsView → List ℕ → List View → ℕ → DomainView
+core_of terms words views d = record {
+  cap = cap_in terms d;
+  word = slice_index words d;
+  in_hand = tickets_from d 0 views;
+  admitted = [];
+  changes = [];
+}
+
+-- the rule of the table is the law of the core, in each domain
+abbrev pub KeepsTheLaw : Type 0
+KeepsTheLaw = (terms : TermsView) (words : List ℕ) (views : List View) (d : ℕ) → IsKept terms words views → IsExactDomain (core_of terms words views d)
+
+-- what the core's Take answers and does, at whatever domain of this cap has the word that the last step of a try found
+abbrev pub IsCoreTake : BlankView → ℕ → ℕ → Take → Type 0
+IsCoreTake b d bw (takes.Taken t) =
+    (n : ℕ) × (t.found ≡ b.found ++ n ∷ n ∷ [])
+    × ((id : ℕ) (c : DomainView) → c.cap ≡ cap_of b.gate d → c.word ≡ n → taken id bw n c ≡ done (record c { word = c.word + t.bw; in_hand = c.in_hand ++ record { id = id; bw = t.bw } ∷ [] }))
+IsCoreTake b d bw (takes.Refused e seen) =
+    (id : ℕ) (c : DomainView) → c.cap ≡ cap_of b.gate d → c.word ≡ seen → taken id bw seen c ≡ stays c (Over c.word)
+IsCoreTake b d bw (takes.Raced e expected seen) =
+    (id : ℕ) (c : DomainView) → c.cap ≡ cap_of b.gate d → c.word ≡ seen → taken id bw expected c ≡ stays c (Lost c.word)
+
+-- what the core's Regrade answers and does to a ticket in hand, likewise
+abbrev pub IsCoreRegrade : TicketView → ℕ → Regrade → Type 0
+IsCoreRegrade t bw (regrades.Changed u) =
+    (n : ℕ) × (u.found ≡ t.found ++ n ∷ n ∷ [])
+    × ((id : ℕ) (c : DomainView) → c.cap ≡ cap_of t.gate t.domain → c.word ≡ n → regraded_in_hand id t.bw bw n c ≡ done (record c { word = c.word - t.bw + u.bw; in_hand = map (with_bw id u.bw) c.in_hand }))
+IsCoreRegrade t bw (regrades.Refused u seen) =
+    (id : ℕ) (c : DomainView) → c.cap ≡ cap_of t.gate t.domain → c.word ≡ seen → regraded_in_hand id t.bw bw seen c ≡ stays c (Over c.word)
+IsCoreRegrade t bw (regrades.Raced u expected seen) =
+    (id : ℕ) (c : DomainView) → c.cap ≡ cap_of t.gate t.domain → c.word ≡ seen → regraded_in_hand id t.bw bw expected c ≡ stays c (Lost c.word)
+
+-- a try of the gate answers as the core does
+abbrev pub TakesAsTheCore : Type 0
+TakesAsTheCore = (b : BlankView) (d bw : ℕ) (answer : Take) → IsTryOfTake b d bw answer → IsCoreTake b d bw answer
+
+abbrev pub RegradesAsTheCore : Type 0
+RegradesAsTheCore = (t : TicketView) (bw : ℕ) (answer : Regrade) → IsTryOfRegrade t bw answer → IsCoreRegrade t bw answer

@@ -1,0 +1,39 @@
+-- What a contract sees of a gate, a blank and a ticket (own).
+use Rattle.std.specs.Prelude.{ℕ, ◌==◌, if◌then◌else◌, List, [], ◌∷◌, sum_by}
+use Rattle.atomic_table.specs.Seated.{TableId}
+use Rattle.bw_gate.specs.Terms.{TermsView, cap_in}
+
+-- a gate: which table of words it is, and its terms
+pub record GateId : Type 0 where
+  pub table : TableId
+  pub terms : TermsView
+
+-- the cap of a domain of a gate
+abbrev pub cap_of : GateId → ℕ → ℕ
+cap_of gate d = cap_in gate.terms d
+
+-- a blank: the gate that it is used with, and the words that its steps have found, oldest first
+pub record BlankView : Type 0 where
+  pub gate : GateId
+  pub found : List ℕ
+
+-- a ticket: the same, and the bandwidth that it holds of a domain's word
+pub record TicketView : Type 0 where
+  pub gate : GateId
+  pub domain : ℕ
+  pub bw : ℕ
+  pub found : List ℕ
+
+-- the word that the last step found; 0 before any
+abbrev pub last_of : List ℕ → ℕ
+last_of [] = 0
+last_of (n ∷ []) = n
+last_of (n ∷ m ∷ found) = last_of (m ∷ found)
+
+-- what a ticket holds of a domain's word
+abbrev pub share_of : ℕ → TicketView → ℕ
+share_of d ticket = if ticket.domain == d then ticket.bw else 0
+
+-- the bandwidth of all tickets of a domain
+abbrev pub sum_of : ℕ → List TicketView → ℕ
+sum_of d tickets = sum_by (share_of d) tickets

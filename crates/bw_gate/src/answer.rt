@@ -1,0 +1,54 @@
+use crate::piece::{Blank, Ticket};
+
+/// What [`Gate::try_take`](crate::Gate::try_take) answers.
+pub enum Take {
+    /// The bandwidth is taken.
+    Taken(Ticket),
+    /// EBUSY 16: the word that was found has no room for the bandwidth. The word is as it was.
+    Refused {
+        /// The blank, as it was but for what it found.
+        blank: Blank,
+        /// The word that was found.
+        seen: u64,
+    },
+    /// Another client changed the word between the two steps. The word is as that client left it.
+    Raced {
+        /// The blank, as it was but for what it found.
+        blank: Blank,
+        /// The word that the first step found.
+        expected: u64,
+        /// The word that the second step found.
+        seen: u64,
+    },
+}
+
+/// What [`Gate::try_regrade`](crate::Gate::try_regrade) answers.
+pub enum Regrade {
+    /// The ticket has its new bandwidth.
+    Changed(Ticket),
+    /// EBUSY 16: the word that was found has no room for the new bandwidth in place of the old one. The word is as it was.
+    Refused {
+        /// The ticket, as it was but for what it found.
+        ticket: Ticket,
+        /// The word that was found.
+        seen: u64,
+    },
+    /// Another client changed the word between the two steps. The word is as that client left it.
+    Raced {
+        /// The ticket, as it was but for what it found.
+        ticket: Ticket,
+        /// The word that the first step found.
+        expected: u64,
+        /// The word that the second step found.
+        seen: u64,
+    },
+}
+
+/// The words of a closed gate.
+#[derive(Clone, Copy, Debug, PartialEq, Eq)]
+pub struct Words {
+    /// How many domains the gate had.
+    pub count: usize,
+    /// The word of each, in 1/2^20 of a CPU, and zeros behind.
+    pub word: [u64; 8],
+}

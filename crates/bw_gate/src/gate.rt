@@ -1,0 +1,244 @@
+use crate::answer::{Regrade, Take, Words};
+use crate::dealing::{deal, gather_blanks, gather_tickets, words_of};
+use crate::piece::{Blank, Ticket};
+use crate::terms::{DOMAINS, Terms};
+use crate::view;
+use crate::view::{Exact, View};
+use atomic_table::Table;
+use bw_world::NoMemory;
+use std::alloc::Global;
+use std::marker::Model;
+use std::sync::Wait;
+
+/// The bandwidth words of one to eight root domains, from which many clients take at once, without a lock and without
+/// waiting for one another. All bandwidths and words are in 1/2^20 of a CPU.
+///
+/// To a contract a gate is its identity: which table of words it is, and its terms, the caps and the number of pieces.
+/// Between any two steps of any clients each word is exactly the sum of the bandwidths of the tickets of its domain, and at
+/// most its cap. A piece is used with its own gate.
+#[derive(Drop)]
+pub struct Gate {
+    table: Table<(), View, Terms, Exact, Global>,
+    terms: Terms,
+}
+
+impl Model for Gate {
+    ghost use Rattle.std.specs.Prelude.{◌≡◌, length};
+    ghost use Rattle.bw_gate.specs.Pieces.{GateId};
+    ghost use Rattle.bw_gate.specs.Terms.{AreTerms};
+
+    ghost Value = { GateId };
+
+    ghost view = { λ g. record { table = g.table.shared.table_id; terms = g.terms } };
+
+    ghost invariant = { λ g. (g.table.shared.key ≡ g.terms) × (g.table.shared.table_id.words ≡ length g.terms.caps) × AreTerms g.terms × (g.table.shared.table_id.slots ≡ 0) };
+}
+
+impl Gate {
+    ghost use Rattle.std.specs.Prelude.{◌≡◌, ◌<◌, ◌≤◌, ◌++◌, ◌∷◌, ◌+◌, ◌^◌, [], ℕ, length, replicate, slice_index, All, IfOk};
+    ghost use Rattle.bw_world.specs.WorldStep.{unit};
+    ghost use Rattle.bw_gate.specs.Terms.{AreTerms};
+    ghost use Rattle.bw_gate.specs.Pieces.{cap_of, sum_of};
+    ghost use Rattle.bw_gate.specs.Answers.{IsTryOfTake, IsTryOfRegrade, IsTake, IsRegrade};
+
+    /// A gate of one to eight domains, by the caps of their words, each at most 2^26, with words of 0; and its 1 to 4096
+    /// pieces, all of them blanks. It is the one call of a gate that takes memory. [`NoMemory`] (ENOMEM 12) where a growth
+    /// was refused: nothing stands.
+    pub fn open(alloc: Global, caps: &[u64], n: usize) -> Result<(Gate, Vec<Blank>), NoMemory>
+        requires { AreTerms (record { caps = caps.now; pieces = n }) }
+        ensures gate { IfOk result (λ r. r.0.terms ≡ record { caps = caps.now; pieces = n }) }
+        ensures blanks { IfOk result (λ r. r.1.items ≡ replicate n (record { gate = r.0; found = [] })) }
+    {
+        let terms = Terms::new(caps, n);
+        let mut blanks = Vec::with_capacity(alloc, n)?;
+        let zeros = [0; DOMAINS];
+        let (table, seat) = Table::of_words(alloc, &zeros[..caps.len()], &terms)?;
+        deal(&table.shared, seat, &mut blanks, n);
+        Ok((Gate { table, terms }, blanks))
+    }
+
+    /// Ends a gate, and tells its words. They have room for the tickets that are handed in, and are at most their caps; and
+    /// where all pieces are handed in, each word is exactly the sum of the bandwidths of that domain's tickets.
+    pub fn close(self, blanks: Vec<Blank>, tickets: Vec<Ticket>) -> Words
+        requires blanks { All (λ b. b.gate ≡ self) blanks.items }
+        requires tickets { All (λ t. t.gate ≡ self) tickets.items }
+        ensures count { result.count ≡ length self.terms.caps }
+        ensures behind { (d : ℕ) → length self.terms.caps ≤ d → slice_index result.word d ≡ 0 }
+        ensures room { (d : ℕ) → sum_of d tickets.items ≤ slice_index result.word d }
+        ensures capped { (d : ℕ) → slice_index result.word d ≤ cap_of self d }
+        ensures exact { length blanks.items + length tickets.items ≡ self.terms.pieces → (d : ℕ) → slice_index result.word d ≡ sum_of d tickets.items }
+    {
+        let Gate { table, terms } = self;
+        let (_, mut seat) = table.shared.load_new_seat::<view::Come>(0);
+        gather_blanks(&table.shared, &mut seat, blanks);
+        gather_tickets(&table.shared, &mut seat, tickets);
+        let closed = table.close_with(seat);
+        let count = terms.count();
+        let word = words_of(&closed, count);
+        closed.free();
+        Words { count, word }
+    }
+
+    /// How many pieces the gate has, 1 to 4096: blanks and tickets together, those that were dropped too.
+    pub fn pieces(&self) -> usize
+        ensures { result ≡ self.now.terms.pieces }
+    {
+        self.terms.pieces()
+    }
+
+    /// The cap of a domain's word, in 1/2^20 of a CPU: at most 2^26, as 64 whole CPUs have.
+    pub fn cap(&self, domain: usize) -> u64
+        requires { domain < length self.now.terms.caps }
+        ensures cap { result ≡ cap_of self.now domain }
+        ensures small { result ≤ 2 ^ 26 }
+    {
+        self.terms.cap(domain)
+    }
+
+    /// One try to take a ticket of so much in a domain: one load, and then at most one compare_exchange. The rule is the
+    /// admission test of sched-deadline.rst, "Bandwidth management"; a word that then equals its cap is granted.
+    ///
+    /// [`Take::Refused`] (EBUSY 16) where the word that the load found has no room for `bw`: nothing has changed, and the
+    /// blank comes back. [`Take::Raced`] where the exchange found another word than the load, since another client came
+    /// between: the word is as that one left it, and the blank comes back. Nothing is claimed of which try wins.
+    pub fn try_take(&self, blank: Blank, domain: usize, bw: u64) -> Take
+        requires own { blank.gate ≡ self.now }
+        requires inside { domain < length self.now.terms.caps }
+        requires one_cpu { bw ≤ unit }
+        ensures { IsTryOfTake blank domain bw result }
+    {
+        let Blank { mut seat, last: _ } = blank;
+        let cap = self.terms.cap(domain);
+        let shared = &self.table.shared;
+        let seen = shared.load::<view::Load>(&mut seat, domain);
+        if seen + bw > cap {
+            let blank = Blank { seat, last: seen };
+            return Take::Refused { blank, seen };
+        }
+        let found = shared.compare_exchange::<view::Take>(&mut seat, domain, seen, seen + bw);
+        if found == seen {
+            return Take::Taken(Ticket {
+                seat,
+                domain,
+                bw,
+                last: found,
+            });
+        }
+        let blank = Blank { seat, last: found };
+        Take::Raced {
+            blank,
+            expected: seen,
+            seen: found,
+        }
+    }
+
+    /// Repeats [`Gate::try_take`] until it is not raced, and answers as its last try. It may so go on for as long as other
+    /// clients come between.
+    pub fn take<R: Wait>(&self, rt: &R, mut blank: Blank, domain: usize, bw: u64) -> Take
+        requires own { blank.gate ≡ self.now }
+        requires inside { domain < length self.now.terms.caps }
+        requires one_cpu { bw ≤ unit }
+        ensures { IsTake blank domain bw result }
+    {
+        for _ in rt.forever() {
+            match self.try_take(blank, domain, bw) {
+                Take::Taken(ticket) => return Take::Taken(ticket),
+                Take::Refused { blank, seen } => return Take::Refused { blank, seen },
+                Take::Raced {
+                    blank: back,
+                    expected: _,
+                    seen: _,
+                } => blank = back,
+            }
+        }
+        unreachable!()
+    }
+
+    /// One try to give a ticket another bandwidth, larger or smaller: one load, and then at most one compare_exchange. It
+    /// answers as [`Gate::try_take`], by the word without the ticket's old bandwidth. A ticket that is not
+    /// [`Regrade::Changed`] keeps its domain and its bandwidth.
+    pub fn try_regrade(&self, mut ticket: Ticket, bw: u64) -> Regrade
+        requires own { ticket.gate ≡ self.now }
+        requires one_cpu { bw ≤ unit }
+        ensures { IsTryOfRegrade ticket bw result }
+    {
+        let seen = self.load(&mut ticket);
+        let domain = ticket.domain;
+        let wanted = seen - ticket.bw + bw;
+        if wanted > self.terms.cap(domain) {
+            return Regrade::Refused { ticket, seen };
+        }
+        let found = self
+            .table
+            .shared
+            .compare_exchange::<view::Regrade>(&mut ticket.seat, domain, seen, wanted);
+        ticket.last = found;
+        if found == seen {
+            ticket.bw = bw;
+            return Regrade::Changed(ticket);
+        }
+        Regrade::Raced {
+            ticket,
+            expected: seen,
+            seen: found,
+        }
+    }
+
+    /// Repeats [`Gate::try_regrade`] until it is not raced, and answers as its last try. It may so go on for as long as
+    /// other clients come between.
+    pub fn regrade<R: Wait>(&self, rt: &R, mut ticket: Ticket, bw: u64) -> Regrade
+        requires own { ticket.gate ≡ self.now }
+        requires one_cpu { bw ≤ unit }
+        ensures { IsRegrade ticket bw result }
+    {
+        for _ in rt.forever() {
+            match self.try_regrade(ticket, bw) {
+                Regrade::Changed(ticket) => return Regrade::Changed(ticket),
+                Regrade::Refused { ticket, seen } => return Regrade::Refused { ticket, seen },
+                Regrade::Raced {
+                    ticket: back,
+                    expected: _,
+                    seen: _,
+                } => ticket = back,
+            }
+        }
+        unreachable!()
+    }
+
+    /// Gives a ticket's bandwidth back, by one fetch_sub, which always succeeds. The piece is then a blank, which found the
+    /// word with the bandwidth still in it.
+    pub fn give(&self, ticket: Ticket) -> Blank
+        requires { ticket.gate ≡ self.now }
+        ensures { (n : ℕ) × (ticket.bw ≤ n) × (n ≤ cap_of self.now ticket.domain) × (result ≡ record { gate = ticket.gate; found = ticket.found ++ n ∷ [] }) }
+    {
+        let Ticket {
+            mut seat,
+            domain,
+            bw,
+            last: _,
+        } = ticket;
+        let found = self
+            .table
+            .shared
+            .fetch_sub::<view::Give>(&mut seat, domain, bw);
+        Blank { seat, last: found }
+    }
+
+    /// The word of a ticket's domain, by one load: at least the ticket's bandwidth and at most the cap. Other clients may
+    /// change it at any time.
+    pub fn load(&self, ticket: &mut Ticket) -> u64
+        requires { ticket.old.gate ≡ self.now }
+        ensures ticket { ticket.new ≡ record ticket.old { found = ticket.old.found ++ result ∷ [] } }
+        ensures low { ticket.old.bw ≤ result }
+        ensures high { result ≤ cap_of self.now ticket.old.domain }
+        ensures small { result ≤ 2 ^ 26 }
+    {
+        let domain = ticket.domain;
+        let found = self
+            .table
+            .shared
+            .load::<view::Load>(&mut ticket.seat, domain);
+        ticket.last = found;
+        found
+    }
+}
