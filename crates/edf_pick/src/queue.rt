@@ -96,6 +96,7 @@ impl Queue {
         self.tasks.remove(place);
         true
     }
+
     /// Each task that stands on a CPU belongs to that CPU from now on; the order stays. For the tick after a placement.
     pub fn settle(&mut self, placement: &Placement)
         ensures { self.new ≡ map (at_home placement.now) self.old }
