@@ -1,11 +1,11 @@
 pub mod Served
-pub mod Sums
 pub mod Marks
 pub mod Opening
 pub mod Admitting
 pub mod Keeping
 pub mod Seating
 pub mod Placing
+pub mod Counting
 pub mod Changing
 pub mod Ticking
 pub mod Tracing

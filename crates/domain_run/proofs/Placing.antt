@@ -1,8 +1,8 @@
 -- What is placed is ready and has budget left.
-use Rattle.std.proofs.Common.{◌≡◌, ℕ, ◌<◌, Bool, true, false, cond, eqb, ◌||◌, ◌&&◌, Option, Some, None, List, [], ◌∷◌, length, map, get_or, refl, sym, ap, ◌∙◌, subst, arith, inl, inr, eq-eqb}
+use Rattle.std.proofs.Common.{◌≡◌, ℕ, ◌<◌, Bool, true, false, cond, eqb, ltb, ◌||◌, ◌&&◌, Option, Some, None, List, [], ◌∷◌, length, map, get_or, refl, sym, ap, ◌∙◌, subst, arith, inl, inr, eq-eqb}
 use Rattle.std.specs.Prelude.{All, Any, AllPairs, IsTrue, filter, position, pos, ◌<ℤ◌, ◌≢◌}
-use Rattle.std.specs.List.{list_any}
-use Rattle.std.proofs.lemmas.Bool.{cases_lt, eqb-true, lt-ltb}
+use Rattle.std.specs.List.{list_any, position_or_len}
+use Rattle.std.proofs.lemmas.Bool.{cases_lt, eqb-true, lt-ltb, ltb-true}
 use Rattle.std.proofs.lemmas.List.{get_or-map, get_or_past, get_or_default, length-map}
 use Rattle.std.proofs.lemmas.List.Folds.{Any-from_list_any}
 use Rattle.std.proofs.lemmas.List.Sums.{position_or_len_is}
@@ -74,6 +74,21 @@ homed_number (Some cpu) t = refl
 pub homed_params : (o : Option ℕ) (t : Task) → (homed_at o t).params ≡ t.params
 homed_params None t = refl
 homed_params (Some cpu) t = refl
+
+some_below : (b : Bool) (k cpu : ℕ) → cond b (Some k) None ≡ Some cpu → (b ≡ true) × (k ≡ cpu)
+some_below true k cpu e = (refl, cc)
+some_below false k cpu e = absurd cc
+
+-- a placed task's CPU is one of the domain's
+pub homed_cpu : (cpus : ℕ) (o : Option ℕ) (t : Task) → ((cpu : ℕ) → o ≡ Some cpu → cpu < cpus) → t.cpu < cpus → (homed_at o t).cpu < cpus
+homed_cpu cpus None t within h = h
+homed_cpu cpus (Some cpu) t within h = within cpu refl
+
+pub position_within : (n : ℕ) (places : Places) (cpu : ℕ) → position (is_task n) places ≡ Some cpu → cpu < length places
+position_within n places cpu e =
+    let k = position_or_len (is_task n) places in
+    let s = some_below (ltb k (length places)) k cpu e in
+    subst (λ x. x < length places) s.1 (ltb-true k (length places) s.0)
 
 and_both : (a b : Bool) → (a && b) ≡ true → (a ≡ true) × (b ≡ true)
 and_both true b e = (refl, e)

@@ -1,8 +1,7 @@
 -- A tick keeps what every domain keeps.
-use Rattle.std.proofs.Common.{◌≡◌, ℕ, ◌+◌, ◌*◌, ◌^◌, ◌<◌, ◌≤◌, Bool, true, false, cond, eqb, ltb, Option, Some, None, List, ◌++◌, length, map, refl, sym, ap, ◌∙◌, subst, arith}
+use Rattle.std.proofs.Common.{◌≡◌, ℕ, ◌+◌, ◌*◌, ◌^◌, ◌<◌, ◌≤◌, Bool, eqb, Option, Some, None, List, ◌++◌, length, map, refl, sym, ap, ◌∙◌, subst, arith}
 use Rattle.std.specs.Prelude.{All, Any, AllPairs, pos, ◌<ℤ◌, IsTrue, filter, position, ◌≢◌, slice_index}
-use Rattle.std.specs.List.{list_any, position_or_len}
-use Rattle.std.proofs.lemmas.Bool.{ltb-true}
+use Rattle.std.specs.List.{list_any}
 use Rattle.std.proofs.lemmas.List.{length-map, get_or_default}
 use Rattle.std.proofs.lemmas.List.Elements.{All-map, All-weaker, All-filter}
 use Rattle.std.proofs.lemmas.List.Kept.{AllPairs-filter}
@@ -21,9 +20,9 @@ use Rattle.domain_run.specs.Sound.{IsSound, IsPlacement, IsSteady, IsDomain, IsA
 use Rattle.domain_run.specs.Conditions.{is_ready}
 use Rattle.domain_run.proofs.Tracing.{AreStanding, tick_traced}
 use Rattle.domain_run.proofs.Keeping.{Same, same_itself, same_either, same_replenished, same_settled, same_unblocked, same_ran, AllPairs-map, length-filter_least, sum-map, sum-filter}
-use Rattle.domain_run.proofs.Sums.{uinact_least}
+use Rattle.grub_rules.proofs.CallerLemmas.{uinact-le-total_bw}
 use Rattle.domain_run.proofs.Seating.{placed_is}
-use Rattle.domain_run.proofs.Placing.{homed_number, homed_params, placed_tasks}
+use Rattle.domain_run.proofs.Placing.{homed_number, homed_params, homed_cpu, position_within, placed_tasks}
 
 -- what a domain keeps of its tasks, apart from each task's own soundness
 pub record AreListed (d : Domain) (tasks : List Task) : Type 0 where
@@ -59,20 +58,6 @@ listed_filter d p tasks is = record {
   numbered = AllPairs-filter (λ a b. a.number ≢ b.number) p tasks is.numbered;
   known = All-filter p (λ t. IsTrue (list_any (λ n. eqb n t.number) d.used)) tasks is.known;
 }
-
-some_below : (b : Bool) (k cpu : ℕ) → cond b (Some k) None ≡ Some cpu → (b ≡ true) × (k ≡ cpu)
-some_below true k cpu e = (refl, cc)
-some_below false k cpu e = absurd cc
-
-homed_cpu : (cpus : ℕ) (o : Option ℕ) (t : Task) → ((cpu : ℕ) → o ≡ Some cpu → cpu < cpus) → t.cpu < cpus → (homed_at o t).cpu < cpus
-homed_cpu cpus None t within h = h
-homed_cpu cpus (Some cpu) t within h = within cpu refl
-
-position_within : (n : ℕ) (places : Places) (cpu : ℕ) → position (is_task n) places ≡ Some cpu → cpu < length places
-position_within n places cpu e =
-    let k = position_or_len (is_task n) places in
-    let s = some_below (ltb k (length places)) k cpu e in
-    subst (λ x. x < length places) s.1 (ltb-true k (length places) s.0)
 
 listed_homed : (d : Domain) (places : Places) (tasks : List Task) → length places ≡ d.cpus → AreListed d tasks → AreListed d (map (homed places) tasks)
 listed_homed d places tasks wide is =
@@ -150,7 +135,7 @@ pub sums_are : (d : Domain) (idle : List ℕ) (sum : ℕ) → IsSteady d → ((c
 sums_are d idle sum is each total =
     let most : cap d.cpus d.limit ≤ 64 * 1048576 = mul-le-mul is.few is.high in
     record {
-      idle_short = λ k x within. rw (get_or_default idle k x 0 within, each k) (omega (arith, uinact_least k d.tasks, is.within, most));
+      idle_short = λ k x within. rw (get_or_default idle k x 0 within, each k) (omega (arith, uinact-le-total_bw k (shares d.tasks), is.within, most));
       sum_short = omega (arith, total, is.within, most);
       some = is.some;
       few = is.few;
@@ -165,14 +150,13 @@ pub record IsMiddle (d e : Domain) : Type 0 where
   pub steady : IsSteady e
   pub placed : IsPlacement e
 
-pub middle : (d : Domain) (tasks : List Task) (places : Places) (switches : List Switch) (cpus : ℕ) → IsDomain d → cpus ≡ length d.places → All (IsSound d.time) (awake d.time d.tasks)
-    → tasks ≡ map (homed places) (awake d.time d.tasks) → places ≡ placed cpus (candidates (awake d.time d.tasks)) d.places → switches ≡ d.switches ++ switches_from d.time (awake d.time d.tasks) 0 d.places places
+pub middle : (d : Domain) (tasks : List Task) (places : Places) (switches : List Switch) → IsDomain d → All (IsSound d.time) (awake d.time d.tasks)
+    → tasks ≡ map (homed places) (awake d.time d.tasks) → places ≡ placed (length d.places) (candidates (awake d.time d.tasks)) d.places → switches ≡ d.switches ++ switches_from d.time (awake d.time d.tasks) 0 d.places places
     → IsMiddle d (record d { tasks = tasks; places = places; switches = switches })
-middle d tasks places switches cpus is wide sound tasks-are places-are switches-are =
+middle d tasks places switches is sound tasks-are places-are switches-are =
     let made : List Task → List Switch → Domain = λ ts ss. record d { tasks = ts; places = places; switches = ss } in
     let awoken = awake d.time d.tasks in
-    let all : cpus ≡ d.cpus = wide ∙ is.steady.wide in
-    let seated : places ≡ placed d.cpus (candidates awoken) d.places = places-are ∙ ap (λ n. placed n (candidates awoken) d.places) all in
+    let seated : places ≡ placed d.cpus (candidates awoken) d.places = places-are ∙ ap (λ n. placed n (candidates awoken) d.places) is.steady.wide in
     let same : record d { tasks = tasks; places = places; switches = switches } ≡ begun d =
     ap (λ ts. made ts switches) tasks-are ∙ ap (made (map (homed places) awoken)) switches-are ∙ ap (with_places d awoken) seated in
     let keeps = begun_is d is.steady sound in

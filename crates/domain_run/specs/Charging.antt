@@ -1,14 +1,9 @@
 -- What part 6 of a tick needs of each task, for the code's own contracts.
-use Rattle.std.specs.Prelude.{ℕ, not, ◌==◌, ◌&&◌, if◌then◌else◌, List, slice_index}
+use Rattle.std.specs.Prelude.{ℕ, if◌then◌else◌, List, slice_index}
 use Rattle.grub_rules.specs.Rate as reclaiming
 use Rattle.edf_pick.specs.Places.{Places, stands}
 use Rattle.domain_run.specs.declared.task.Task.{Task}
 use Rattle.domain_run.specs.Parts.{ran}
-use Rattle.domain_run.specs.Tick.{share_of}
-
--- what one task adds to the inactive bandwidth of a CPU
-abbrev pub inactive_of : ℕ → Task → ℕ
-inactive_of cpu t = if t.cpu == cpu && not (share_of t).active then t.params.bw else 0
 
 -- the rate of a task, where `idle` is the inactive bandwidth of each CPU
 abbrev pub rate_with : List ℕ → ℕ → ℕ → ℕ → Task → ℕ

@@ -8,6 +8,7 @@ pub mod Tick
 pub mod Charging
 pub mod Numbers
 pub mod Sound
+pub mod RunQueue
 pub mod Views
 pub mod Calls
 pub mod Run

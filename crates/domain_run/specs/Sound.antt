@@ -98,11 +98,3 @@ pub record IsTraced (d : Domain) : Type 0 where
 pub record IsDomain (d : Domain) : Type 0 where
   pub steady : IsSteady d
   pub traced : IsTraced d
-
--- a domain, and the room that its lists have: 256 tasks, as many ready ones, and a place for each CPU
-pub record HasRoom (d : Domain) (tasks ready before idle : ℕ) : Type 0 where
-  pub domain : IsDomain d
-  pub tasks_room : 256 ≤ tasks
-  pub ready_room : 256 ≤ ready
-  pub before_len : before ≡ d.cpus
-  pub idle_len : idle ≡ d.cpus

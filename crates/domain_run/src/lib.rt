@@ -10,6 +10,7 @@ mod memory;
 mod name;
 mod numbers;
 mod parts;
+mod run_queue;
 mod script;
 mod state;
 mod sweep;

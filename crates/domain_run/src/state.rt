@@ -18,12 +18,13 @@ use crate::memory::NoMemory;
 use crate::name::Name;
 use crate::numbers::Numbers;
 use crate::parts;
+use crate::run_queue::{RunQueue, share_of};
 use crate::script::Script;
 use crate::sweep::{self, Sums};
 use crate::switch::Switch;
 use crate::task::{Task, TaskView};
 use attr_check::Params;
-use edf_pick::Candidate;
+use edf_pick::Placement;
 use std::alloc::Global;
 use std::marker::Model;
 
@@ -35,35 +36,25 @@ pub struct State {
     time: u64,
     tasks: Vec<Task>,
     used: Numbers,
-    places: Vec<Option<u32>>,
+    places: Placement,
     switches: Vec<Switch>,
+    // The running sums of the listed tasks, and the ready ones in order.
+    queue: RunQueue,
     // Room for a tick; between two ticks it means nothing.
     before: Vec<Option<u32>>,
-    ready: Vec<Candidate>,
     idle: Vec<u64>,
 }
 
 impl Model for State {
     ghost use Rattle.std.specs.Prelude.{vec_len, vec_capacity};
     ghost use Rattle.domain_run.specs.Domain.{Domain};
-    ghost use Rattle.domain_run.specs.Sound.{HasRoom};
+    ghost use Rattle.domain_run.specs.RunQueue.{IsState};
 
     ghost Value = { Domain };
 
-    ghost view = { λ s. record { cpus = s.cpus; limit = s.limit; time = s.time; tasks = s.tasks.items; used = s.used; places = s.places.items; switches = s.switches.items } };
+    ghost view = { λ s. record { cpus = s.cpus; limit = s.limit; time = s.time; tasks = s.tasks.items; used = s.used; places = s.places; switches = s.switches.items } };
 
-    ghost invariant = { λ s. HasRoom (record { cpus = s.cpus; limit = s.limit; time = s.time; tasks = s.tasks.items; used = s.used; places = s.places.items; switches = s.switches.items }) (vec_capacity s.tasks) (vec_capacity s.ready) (vec_len s.before) (vec_len s.idle) };
-}
-
-fn nobody(alloc: Global, cpus: usize) -> Result<Vec<Option<u32>>, NoMemory>
-    ensures nobody { IfOk result (λ places. places.items ≡ replicate cpus None) }
-    ensures len { IfOk result (λ places. vec_len places ≡ cpus) }
-{
-    let mut places = Vec::with_capacity(alloc, cpus)?;
-    for _ in 0..cpus {
-        places.push_reserved(None);
-    }
-    Ok(places)
+    ghost invariant = { λ s. IsState (record { cpus = s.cpus; limit = s.limit; time = s.time; tasks = s.tasks.items; used = s.used; places = s.places; switches = s.switches.items }) s.queue (vec_capacity s.tasks) (vec_len s.before) (vec_len s.idle) };
 }
 
 impl State {
@@ -81,10 +72,10 @@ impl State {
             time: 0,
             tasks: Vec::with_capacity(alloc, 256)?,
             used: Numbers::open(alloc)?,
-            places: nobody(alloc, cpus)?,
+            places: Placement::open(alloc, cpus)?,
             switches: Vec::new(alloc),
-            before: nobody(alloc, cpus)?,
-            ready: Vec::with_capacity(alloc, 256)?,
+            queue: RunQueue::open(alloc, cpus)?,
+            before: vec![in alloc; None; cpus]?,
             idle: vec![in alloc; 0; cpus]?,
         })
     }
@@ -112,7 +103,7 @@ impl State {
         ensures sum { result ≡ tick.sum_of self.now.tasks }
         ensures within { result ≤ cap self.now.cpus self.now.limit }
     {
-        sweep::sum_of(&self.tasks)
+        self.queue.accounts.total()
     }
 
     /// The task of a number, where it is listed.
@@ -145,19 +136,25 @@ impl State {
         sweep::begin(
             self.time,
             &mut self.tasks,
+            &mut self.queue,
             &mut self.places,
             &mut self.switches,
-            &mut self.ready,
             &mut self.before,
         );
-        sweep::inactive(&mut self.idle, &self.tasks);
+        sweep::inactive(&mut self.idle, &self.queue.accounts);
         let sums = Sums {
             idle: &self.idle,
-            sum: sweep::sum_of(&self.tasks),
+            sum: self.queue.accounts.total(),
             cpus: self.cpus as u64,
             limit: self.limit,
         };
-        sweep::run_all(&mut self.tasks, &self.places, &sums, self.time);
+        sweep::run_all(
+            &mut self.tasks,
+            &mut self.queue,
+            self.places.occupants(),
+            &sums,
+            self.time,
+        );
         self.time += 1;
         Ok(())
     }
@@ -189,6 +186,7 @@ impl State {
     {
         let task = parts::new_task(number, name, params, self.time + delay, script, self.cpus);
         self.used.insert(number);
+        self.queue.accounts.join(&share_of(&task));
         self.tasks.push_reserved(task);
     }
 

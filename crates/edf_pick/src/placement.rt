@@ -25,17 +25,6 @@ impl Model for Placement {
     ghost invariant = { λ p. IsPlaces p.occupants.items };
 }
 
-fn nobody(alloc: Global, cpus: usize) -> Result<Vec<Option<u32>>, AllocError>
-    ensures nobody { IfOk result (λ places. places.items ≡ replicate cpus None) }
-    ensures len { IfOk result (λ places. vec_len places ≡ cpus) }
-{
-    let mut places = Vec::with_capacity(alloc, cpus)?;
-    for _ in 0..cpus {
-        places.push_reserved(None);
-    }
-    Ok(places)
-}
-
 impl Placement {
     /// 1 to 64 idle CPUs. No other call takes memory. `Err` where their room was refused.
     pub fn open(alloc: Global, cpus: usize) -> Result<Placement, AllocError>
@@ -44,7 +33,7 @@ impl Placement {
         ensures { IfOk result (λ placement. placement ≡ replicate cpus None) }
     {
         Ok(Placement {
-            occupants: nobody(alloc, cpus)?,
+            occupants: vec![in alloc; None; cpus]?,
         })
     }
 

@@ -12,10 +12,10 @@ use Rattle.grub_rules.proofs.CallerLemmas.{held}
 drop_at : {X : Type 0} (xs : List X) (i : ℕ) (d : X) → i < length xs → drop i xs ≡ get_or xs i d ∷ drop (i + 1) xs
 drop_at xs i d h = rw (add-one, drop-cons xs i d h) refl
 
-at : {X : Type 0} (xs : List X) (i : ℕ) (d : X) → i < length xs → xs ≡ take i xs ++ get_or xs i d ∷ drop (i + 1) xs
+pub at : {X : Type 0} (xs : List X) (i : ℕ) (d : X) → i < length xs → xs ≡ take i xs ++ get_or xs i d ∷ drop (i + 1) xs
 at xs i d h = sym (take-append-drop i xs) ∙ ap (λ ys. take i xs ++ ys) (drop_at xs i d h)
 
-set_at : {X : Type 0} (xs : List X) (i : ℕ) (y : X) → i < length xs → set xs i y ≡ take i xs ++ y ∷ drop (i + 1) xs
+pub set_at : {X : Type 0} (xs : List X) (i : ℕ) (y : X) → i < length xs → set xs i y ≡ take i xs ++ y ∷ drop (i + 1) xs
 set_at xs i y h = sym (take-append-drop i (set xs i y)) ∙ ap (λ ys. ys ++ drop i (set xs i y)) (take-set xs i y) ∙ ap (λ ys. take i xs ++ ys) (drop-set xs i y h)
 
 shares_at : {X : Type 0} (share : X → Share) (items : List X) (i : ℕ) (d : X) → i < length items → map share items ≡ map share (take i items) ++ share (get_or items i d) ∷ map share (drop (i + 1) items)

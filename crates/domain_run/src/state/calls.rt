@@ -34,7 +34,7 @@ impl State {
         requires { calls.regrade_reply self.old params.now None (calls.task_of self.old number) ≡ Reply.Changed }
         ensures { self.new ≡ calls.changed self.old number (calls.regraded params.now) }
     {
-        sweep::regrade_one(&mut self.tasks, number, params);
+        sweep::regrade_one(&mut self.tasks, &mut self.queue, number, params);
     }
 
     /// Gives a listed task new parameters at the time now, at once; its deadline, its budget and a zero-lag time ahead stay. Tested
@@ -67,7 +67,7 @@ impl State {
         requires { calls.wake_reply (calls.task_of self.old number) ≡ Reply.Woken }
         ensures { self.new ≡ calls.changed self.old number (calls.awoken self.old.time) }
     {
-        sweep::awaken_one(&mut self.tasks, number, self.time);
+        sweep::awaken_one(&mut self.tasks, &mut self.queue, number, self.time);
     }
 
     /// Wakes a task that waits: in the next tick it asks its script. [`Reply::NotListed`] where no task of this number is listed, or
@@ -96,7 +96,7 @@ impl State {
     fn end(&mut self, number: u32)
         ensures { self.new ≡ calls.changed self.old number (calls.ended self.old.time) }
     {
-        sweep::end_one(&mut self.tasks, number, self.time);
+        sweep::end_one(&mut self.tasks, &mut self.queue, number, self.time);
     }
 
     /// Ends a task: it stays listed until its zero-lag time, which is told from now where it contends, and its bandwidth with it.

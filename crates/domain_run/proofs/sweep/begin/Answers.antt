@@ -1,10 +1,35 @@
-use Rattle.std.proofs.Common.{length, sym, ap, ◌∙◌, vec_len}
-use Rattle.edf_pick.specs.Places.{Places}
-use Rattle.domain_run.proofs.Seating.{placed_is}
+use Rattle.std.proofs.Common.{List, ℕ, length, sym, ap, subst, ◌∙◌}
+use Rattle.edf_pick.specs.Places.{Places, placed}
+use Rattle.domain_run.specs.declared.task.Task.{Task}
+use Rattle.domain_run.specs.Tick.{candidates}
+use Rattle.domain_run.specs.RunQueue.{IsCounted}
+use Rattle.domain_run.proofs.Counting.{placed_counted, placed_wide}
 use Rattle.domain_run.proofs.sweep.begin.Goals as goal
 
 pub add_switches-requires-clause-same : goal.add_switches-requires-clause-same
 add_switches-requires-clause-same c =
-    let places = c.args.places.now in
-    let wide = (placed_is (vec_len places) c.deref-3.result.now places.items (sym places.ok.0) c.requires.apart).wide in
-    ap (λ (ps : Places). length ps) (c.deref-6.ensures.value ∙ c.place.ensures.places) ∙ wide ∙ sym (c.deref-5.ensures.len ∙ c.copy_places.ensures.len ∙ c.requires.wide)
+    let before = c.args.places.now in
+    let wide = placed_wide (length c.args.queue.now.accounts.all) c.wake_all.new.queue c.wake_all.new.tasks.items before c.pick.new.placement c.wake_all.ensures.counted c.requires.apart c.pick.ensures in
+    let len : Places → ℕ = λ ps. length ps in
+    ap len c.occupants-2.ensures.occupants ∙ wide ∙ sym (ap len (c.deref-2.ensures.value ∙ c.copy_places.ensures.places ∙ c.occupants.ensures.occupants))
+
+pub home_all-requires : goal.home_all-requires
+home_all-requires c =
+    let before = c.args.places.now in
+    let wide = placed_wide (length c.args.queue.now.accounts.all) c.wake_all.new.queue c.wake_all.new.tasks.items before c.pick.new.placement c.wake_all.ensures.counted c.requires.apart c.pick.ensures in
+    let len : Places → ℕ = λ ps. length ps in
+    subst (λ n. IsCounted n c.wake_all.new.queue c.wake_all.new.tasks.items) (c.requires.counted.wide ∙ sym (ap len c.occupants-3.ensures.occupants ∙ wide)) c.wake_all.ensures.counted
+
+pub returns-clause-counted : goal.returns-clause-counted
+returns-clause-counted c =
+    let before = c.args.places.now in
+    let wide = placed_wide (length c.args.queue.now.accounts.all) c.wake_all.new.queue c.wake_all.new.tasks.items before c.pick.new.placement c.wake_all.ensures.counted c.requires.apart c.pick.ensures in
+    let len : Places → ℕ = λ ps. length ps in
+    subst (λ n. IsCounted n c.home_all.new.queue c.home_all.new.tasks.items) (ap len c.occupants-3.ensures.occupants ∙ wide) c.home_all.ensures.counted
+
+pub returns-clause-places : goal.returns-clause-places
+returns-clause-places c =
+    let before = c.args.places.now in
+    c.pick.ensures
+    ∙ placed_counted (length c.args.queue.now.accounts.all) (length before) c.wake_all.new.queue c.wake_all.new.tasks.items before c.wake_all.ensures.counted
+    ∙ ap (λ (ts : List Task). placed (length before) (candidates ts) before) c.wake_all.ensures.tasks

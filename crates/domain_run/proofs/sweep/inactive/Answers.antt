@@ -1,13 +1,16 @@
-use Rattle.std.proofs.Common.{◌∙◌, sym, ap, ◌+◌, arith}
-use Rattle.domain_run.specs.Charging.{inactive_of}
-use Rattle.domain_run.proofs.Sums.{uinact_more}
+use Rattle.std.proofs.Common.{◌≡◌, ◌≤◌, length, sym, ◌∙◌, arith, inl, inr}
+use Rattle.std.specs.Prelude.{slice_index}
+use Rattle.std.proofs.lemmas.Bool.{cases_lt}
+use Rattle.std.proofs.lemmas.List.{get_or_past}
 use Rattle.domain_run.proofs.sweep.inactive.Goals as goal
 
-pub loop-task-preserved : goal.loop-task-preserved
-loop-task-preserved c =
-    let t = c.task-item.result in
-    record {
-      summed = λ cpu. c.add_inactive.ensures.added cpu ∙ ap (λ n. n + inactive_of cpu t) (c.loop-task.invariant.summed cpu) ∙ sym (uinact_more cpu c.args.tasks.now c.loop-task.task-index t c.loop-task-test.true c.task-item.is);
-      short = λ cpu. omega (arith, c.add_inactive.ensures.short cpu, c.loop-task.invariant.short cpu);
-      len = c.add_inactive.ensures.len ∙ c.loop-task.invariant.len;
-    }
+pub returns-clause-each : goal.returns-clause-each
+returns-clause-each c cpu =
+    let a = c.args.accounts.now in
+    elim (cases_lt cpu c.loop-cpu.cpu) [
+      | inl less ↦ c.loop-cpu.invariant.copied cpu less
+      | inr past ↦
+          let wide : length a.all ≤ cpu = omega (arith, c.requires, c.len-cpu-end.ensures, c.loop-cpu-test.false) in
+          let none : slice_index a.all cpu ≡ 0 = get_or_past a.all cpu 0 wide in
+          get_or_past c.loop-cpu.idle.items cpu 0 (omega (arith, c.requires, c.len-cpu-end.ensures, c.loop-cpu-test.false)) ∙ sym (omega (arith, none))
+    ]

@@ -1,11 +1,9 @@
-use Rattle.std.proofs.Common.{◌≡◌, ℕ, ◌≤◌, ◌*◌, ◌^◌, take, get_or, vec_len}
-use Rattle.grub_rules.specs.Sums.{uinact}
-use Rattle.domain_run.specs.Tick.{shares}
+use Rattle.std.proofs.Common.{◌≡◌, ℕ, ◌<◌, get_or, vec_len}
+use Rattle.grub_rules.specs.Accounts.{inactive_at}
 use Rattle.domain_run.proofs.sweep.inactive.Given as goal
 
-abbrev pub invariant-loop-task : goal.invariant-loop-task
-invariant-loop-task l = record {
-  summed : (cpu : ℕ) → get_or l.idle.items cpu 0 ≡ uinact cpu (shares (take l.task-index l.tasks));
-  short : (cpu : ℕ) → get_or l.idle.items cpu 0 ≤ l.task-index * 2 ^ 20;
+abbrev pub invariant-loop-cpu : goal.invariant-loop-cpu
+invariant-loop-cpu l = record {
+  copied : (k : ℕ) → k < l.cpu → get_or l.idle.items k 0 ≡ inactive_at k l.accounts;
   len : vec_len l.idle ≡ vec_len l.fn.idle;
 }

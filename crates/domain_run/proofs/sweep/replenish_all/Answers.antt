@@ -1,13 +1,36 @@
+use Rattle.std.proofs.Common.{◌<◌, length, get_or, sym, subst, arith}
 use Rattle.std.proofs.lemmas.List.Elements.{All-set}
 use Rattle.domain_run.specs.Parts.{replenish_due}
+use Rattle.domain_run.proofs.Keeping.{Same, same_replenished}
+use Rattle.domain_run.specs.RunQueue.{standing_of, HasTurned}
 use Rattle.domain_run.specs.Sound.{IsSound}
 use Rattle.edf_pick.proofs.MapStep.{map_step}
+use Rattle.domain_run.proofs.Counting.{IsFit, same_fit, may_turn, turned}
 use Rattle.domain_run.proofs.sweep.replenish_all.Goals as goal
+
+pub turn-requires : goal.turn-requires
+turn-requires c =
+    let l = c.loop-task in
+    let x = c.task-item.result in
+    let y = c.replenish_due.new.task in
+    let t = get_or l.task-items l.task-index x in
+    let cpus = length c.args.queue.now.accounts.all in
+    let within : l.task-index < length l.task-items = omega arith in
+    let fit : IsFit cpus t y = same_fit cpus l.queue l.task-items l.task-index x y within (subst (Same t) (sym c.replenish_due.ensures.task) (same_replenished c.args.time t)) l.invariant.counted in
+    rw (c.standing_of-before.ensures, c.standing_of.ensures) (may_turn cpus l.queue l.task-items l.task-index x y within fit l.invariant.counted)
 
 pub loop-task-preserved : goal.loop-task-preserved
 loop-task-preserved c =
-    let f = replenish_due c.args.time in
+    let l = c.loop-task in
+    let x = c.task-item.result in
+    let y = c.replenish_due.new.task in
+    let t = get_or l.task-items l.task-index x in
+    let cpus = length c.args.queue.now.accounts.all in
+    let within : l.task-index < length l.task-items = omega arith in
+    let fit : IsFit cpus t y = same_fit cpus l.queue l.task-items l.task-index x y within (subst (Same t) (sym c.replenish_due.ensures.task) (same_replenished c.args.time t)) l.invariant.counted in
+    let has : HasTurned (standing_of t) (standing_of y) l.queue c.turn.new.self = rw (← c.standing_of-before.ensures, ← c.standing_of.ensures) c.turn.ensures in
     record {
-      written = map_step f c.deref_mut-task-items.result.now c.loop-task.task-items c.loop-task.task-index c.task-item.result c.replenish_due.new.task c.loop-task-test.true c.loop-task.invariant.written c.replenish_due.ensures.task;
-      sound = All-set (IsSound c.args.time) c.loop-task.task-items c.loop-task.task-index c.replenish_due.new.task c.replenish_due.ensures.sound c.loop-task.invariant.sound;
+      written = map_step (replenish_due c.args.time) c.deref_mut-task-items.result.now l.task-items l.task-index x y c.loop-task-test.true l.invariant.written c.replenish_due.ensures.task;
+      sound = All-set (IsSound c.args.time) l.task-items l.task-index y c.replenish_due.ensures.sound l.invariant.sound;
+      counted = turned cpus l.queue c.turn.new.self l.task-items l.task-index x y within fit has l.invariant.counted;
     }

@@ -4,9 +4,10 @@ use Rattle.domain_run.proofs.state.State.open.Goals as goal
 
 pub invariant_of-result : goal.invariant_of-result
 invariant_of-result c = record {
-  domain = rw (c.in_ok-with_capacity.ensures.items, c.in_ok-open.ensures, c.in_ok-nobody.ensures.nobody, c.new.ensures.items) (opened_is c.args.cpus c.args.limit c.requires.cpus.0 c.requires.cpus.1 c.requires.limit.0 c.requires.limit.1);
+  domain = rw (c.in_ok-with_capacity.ensures.items, c.in_ok-open.ensures, c.in_ok-open-2.ensures, c.new.ensures.items) (opened_is c.args.cpus c.args.limit c.requires.cpus.0 c.requires.cpus.1 c.requires.limit.0 c.requires.limit.1);
+  wide = c.in_ok-open-3.ensures.wide;
+  counts = rw c.in_ok-with_capacity.ensures.items c.in_ok-open-3.ensures.counts;
   tasks_room = omega (arith, c.in_ok-with_capacity.ensures.exact);
-  ready_room = omega (arith, c.in_ok-with_capacity-2.ensures.exact);
-  before_len = c.in_ok-nobody-2.ensures.len;
-  idle_len = c.in_ok-vec.ensures.len;
+  before_len = c.in_ok-vec.ensures.len;
+  idle_len = c.in_ok-vec-2.ensures.len;
 }

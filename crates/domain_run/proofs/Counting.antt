@@ -1,0 +1,290 @@
+-- A run queue that counts a list of tasks, and one task of it that turns.
+use Rattle.std.proofs.Common.{◌≡◌, ◌≢◌, ℕ, ◌+◌, ◌*◌, ◌^◌, ◌<◌, ◌≤◌, Bool, true, false, cond, eqb, Option, Some, None, List, [], ◌∷◌, ◌++◌, length, take, drop, set, get_or, map, refl, sym, ap, subst, ◌∙◌, arith, inl, inr, length-append, not}
+use Rattle.std.specs.Prelude.{AllPairs, IfSome, filter, position, is_none, ◌&&◌}
+use Rattle.std.proofs.lemmas.Bool.{cases_eq}
+use Rattle.std.proofs.lemmas.List.{append-nil, map-append, length-map, length-take, length-drop, length-set, get_or-map, get_or_default, get_or-set_same, get_or-set_other}
+use Rattle.std.proofs.lemmas.List.Elements.{All-set, All-map, All-filter, filter-append}
+use Rattle.std.proofs.lemmas.List.Sums.{sum_by-le, get_or-le-sum_by}
+use Rattle.std.proofs.lemmas.List.Kept.{AllPairs-filter}
+use Rattle.grub_rules.specs.declared.share.Share.{Share}
+use Rattle.std.proofs.Math.Nat.{mul-le-mul}
+use Rattle.attr_check.specs.Ratio.{cap}
+use Rattle.grub_rules.specs.Sums.{total_bw, uinact}
+use Rattle.grub_rules.specs.Accounts.{AccountsView, AreAccounts, inactive_at}
+use Rattle.grub_rules.proofs.LoopLemmas.{Joins, at, set_at, held_at, turned_at, joined_last}
+use Rattle.edf_pick.specs.declared.candidate.Candidate.{Candidate}
+use Rattle.edf_pick.specs.Order.{ordered, has_candidate}
+use Rattle.edf_pick.proofs.CallerLemmas.{IsNumbered, numbered_map, length_ordered, ordered_absent, ordered_insert, ordered_remove, placed_ordered}
+use Rattle.domain_run.specs.declared.task.Task.{Task}
+use Rattle.domain_run.specs.declared.run_queue.RunQueue.{RunQueue}
+use Rattle.domain_run.specs.Conditions.{is_ready, is_contending, is_leaving}
+use Rattle.domain_run.specs.Tick.{share_of, shares, sum_of, candidate_of, candidates}
+use Rattle.domain_run.specs.RunQueue.{ready_of, standing_of, Counts, IsRoster, IsCounted, with_ready, without_ready, MayTurn, HasTurned}
+use Rattle.edf_pick.specs.Places.{Places, is_task, stands, placed}
+use Rattle.domain_run.specs.declared.task.Condition.{Condition}
+use Rattle.domain_run.specs.declared.task.Condition.TheVariants.{Ready, Throttled, Blocked, Waiting, Leaving}
+use Rattle.domain_run.specs.Parts.{homed, is_listed}
+use Rattle.domain_run.specs.Calls.{of_number, regraded, awoken, ended}
+use Rattle.domain_run.specs.Charging.{rate_with, ran_with}
+use Rattle.domain_run.proofs.Placing.{homed_number, homed_params, homed_cpu, position_within}
+use Rattle.domain_run.specs.Domain.{Domain}
+use Rattle.domain_run.specs.Sound.{IsApart, IsDomain}
+use Rattle.domain_run.proofs.Seating.{placed_is}
+use Rattle.domain_run.proofs.Keeping.{Same, same_itself, same_either, same_ran, length-filter_least}
+use Rattle.attr_check.specs.ParamsView.{ParamsView}
+
+-- a ready task, or none
+abbrev one : Option Candidate → List Candidate
+one None = []
+one (Some c) = c ∷ []
+
+candidates_append : (xs ys : List Task) → candidates (xs ++ ys) ≡ candidates xs ++ candidates ys
+candidates_append xs ys = ap (map candidate_of) (filter-append (λ t. is_ready t.condition) xs ys) ∙ map-append candidate_of (filter (λ t. is_ready t.condition) xs) (filter (λ t. is_ready t.condition) ys)
+
+candidates_first : (t : Task) (ys : List Task) → candidates (t ∷ ys) ≡ one (ready_of t) ++ candidates ys
+candidates_first t ys =
+    let rest = filter (λ t. is_ready t.condition) ys in
+    elim (is_ready t.condition) as (λ b. map candidate_of (cond b (t ∷ rest) rest) ≡ one (cond b (Some (candidate_of t)) None) ++ map candidate_of rest) [ true ↦ refl | false ↦ refl ]
+
+candidates_at : (front : List Task) (t : Task) (back : List Task) → candidates (front ++ t ∷ back) ≡ candidates front ++ (one (ready_of t) ++ candidates back)
+candidates_at front t back = candidates_append front (t ∷ back) ∙ ap (λ cs. candidates front ++ cs) (candidates_first t back)
+
+pub numbered_candidates : (tasks : List Task) → AllPairs (λ a b. a.number ≢ b.number) tasks → IsNumbered (candidates tasks)
+numbered_candidates tasks numbered =
+    let ready = filter (λ (t : Task). is_ready t.condition) tasks in
+    numbered_map candidate_of (λ t. t.number) (λ t. refl) ready (AllPairs-filter (λ a b. a.number ≢ b.number) (λ t. is_ready t.condition) tasks numbered)
+
+candidates_few : (tasks : List Task) → length (candidates tasks) ≤ length tasks
+candidates_few tasks =
+    let e : length (candidates tasks) ≡ length (filter (λ (t : Task). is_ready t.condition) tasks) = simp length-map in
+    omega (arith, length-filter_least (λ (t : Task). is_ready t.condition) tasks)
+
+-- ---- a task of the same number in the place of another
+
+number_at : (tasks : List Task) (i j : ℕ) (d e y : Task) → j < length tasks → y.number ≡ (get_or tasks i d).number → (get_or (set tasks i y) j e).number ≡ (get_or tasks j e).number
+number_at tasks i j d e y h same =
+    elim (cases_eq j i) [
+      | inl here ↦ rw here (ap (λ (t : Task). t.number) (get_or-set_same tasks i y e (omega arith)) ∙ same ∙ ap (λ (t : Task). t.number) (get_or_default tasks i d e (omega arith)))
+      | inr other ↦ ap (λ (t : Task). t.number) (get_or-set_other tasks i j y e other)
+    ]
+
+pub numbered_set : (tasks : List Task) (i : ℕ) (d y : Task) → y.number ≡ (get_or tasks i d).number → AllPairs (λ a b. a.number ≢ b.number) tasks → AllPairs (λ a b. a.number ≢ b.number) (set tasks i y)
+numbered_set tasks i d y same numbered j k e less within =
+    let n : length (set tasks i y) ≡ length tasks = length-set tasks i y in
+    λ equal. numbered j k e less (omega arith) (sym (number_at tasks i j d e y (omega arith) same) ∙ equal ∙ number_at tasks i k d e y (omega arith) same)
+
+pub roster_set : (tasks : List Task) (i : ℕ) (d y : Task) → y.number ≡ (get_or tasks i d).number → y.params.bw ≤ 2 ^ 26 → IsRoster tasks → IsRoster (set tasks i y)
+roster_set tasks i d y same short is = record {
+  few = omega (arith, length-set tasks i y, is.few);
+  short = All-set (λ (t : Task). t.params.bw ≤ 2 ^ 26) tasks i y short is.short;
+  numbered = numbered_set tasks i d y same is.numbered;
+}
+
+-- ---- the queue
+
+without_one : (o : Option Candidate) (xs ys : List Candidate) → IsNumbered (xs ++ (one o ++ ys)) → without_ready o (ordered (xs ++ (one o ++ ys))) ≡ ordered (xs ++ ys)
+without_one None xs ys numbered = refl
+without_one (Some c) xs ys numbered = ordered_remove c xs ys numbered
+
+with_one : (o : Option Candidate) (xs ys : List Candidate) → IsNumbered (xs ++ (one o ++ ys)) → with_ready o (ordered (xs ++ ys)) ≡ ordered (xs ++ (one o ++ ys))
+with_one None xs ys numbered = refl
+with_one (Some c) xs ys numbered = sym (ordered_insert c xs ys numbered)
+
+absent_one : (o : Option Candidate) (xs ys : List Candidate) → IsNumbered (xs ++ (one o ++ ys)) → IfSome o (λ c. has_candidate c (ordered (xs ++ ys)) ≡ false)
+absent_one None xs ys numbered = tt
+absent_one (Some c) xs ys numbered = ordered_absent c xs ys numbered
+
+-- a task at a place, what is before it and behind it
+pub record IsSplit (tasks : List Task) (t y : Task) (front back : List Task) : Type 0 where
+  pub one_less : length front + length back < length tasks
+  pub was : candidates tasks ≡ candidates front ++ (one (ready_of t) ++ candidates back)
+  pub numbered : IsNumbered (candidates front ++ (one (ready_of t) ++ candidates back))
+  pub turned : IsNumbered (candidates front ++ (one (ready_of y) ++ candidates back))
+
+split : (tasks : List Task) (i : ℕ) (d y : Task) → i < length tasks → y.number ≡ (get_or tasks i d).number → IsRoster tasks → IsSplit tasks (get_or tasks i d) y (take i tasks) (drop (i + 1) tasks)
+split tasks i d y h same is =
+    let front = take i tasks in
+    let back = drop (i + 1) tasks in
+    let was = ap candidates (at tasks i d h) ∙ candidates_at front (get_or tasks i d) back in
+    record {
+      one_less = omega (arith, length-take i tasks, length-drop (i + 1) tasks);
+      was = was;
+      numbered = subst IsNumbered was (numbered_candidates tasks is.numbered);
+      turned = subst IsNumbered (ap candidates (set_at tasks i y h) ∙ candidates_at front y back) (numbered_candidates (set tasks i y) (numbered_set tasks i d y same is.numbered));
+    }
+
+-- ---- ONE TASK TURNS
+
+total_short : (tasks : List Task) → IsRoster tasks → total_bw (shares tasks) ≤ 2 ^ 34
+total_short tasks is =
+    let e : length (shares tasks) ≡ length tasks = simp length-map in
+    omega (arith, sum_by-le (λ (s : Share). s.bw) (2 ^ 26) (shares tasks) (All-map (λ (s : Share). s.bw ≤ 2 ^ 26) share_of tasks is.short), is.few)
+
+-- what a task may turn to: its number stays, its bandwidth is in range, and its CPU is there
+pub record IsFit (cpus : ℕ) (t y : Task) : Type 0 where
+  pub number : y.number ≡ t.number
+  pub short : y.params.bw ≤ 2 ^ 26
+  pub home : y.cpu < cpus
+
+pub home_at : (cpus : ℕ) (queue : RunQueue) (tasks : List Task) (i : ℕ) (d : Task) → i < length tasks → IsCounted cpus queue tasks → (get_or tasks i d).cpu < cpus
+home_at cpus queue tasks i d h is = subst (λ n. (get_or tasks i d).cpu < n) is.wide (held_at share_of queue.accounts tasks i d h is.counts.sums).home
+
+-- the same parameters and the same CPU
+pub same_fit : (cpus : ℕ) (queue : RunQueue) (tasks : List Task) (i : ℕ) (d y : Task) → i < length tasks → Same (get_or tasks i d) y → IsCounted cpus queue tasks → IsFit cpus (get_or tasks i d) y
+same_fit cpus queue tasks i d y h same is = record {
+  number = same.number;
+  short = subst (λ (p : ParamsView). p.bw ≤ 2 ^ 26) (sym same.params) (is.roster.short i d h);
+  home = subst (λ n. n < cpus) (sym same.cpu) (home_at cpus queue tasks i d h is);
+}
+
+-- the same, where the task is placed
+pub homed_fit : (places : Places) (queue : RunQueue) (tasks : List Task) (i : ℕ) (d : Task) → i < length tasks → IsCounted (length places) queue tasks → IsFit (length places) (get_or tasks i d) (homed places (get_or tasks i d))
+homed_fit places queue tasks i d h is =
+    let t = get_or tasks i d in
+    let at_home = position (is_task t.number) places in
+    record {
+      number = homed_number at_home t;
+      short = subst (λ (p : ParamsView). p.bw ≤ 2 ^ 26) (sym (homed_params at_home t)) (is.roster.short i d h);
+      home = homed_cpu (length places) at_home t (λ cpu e. position_within t.number places cpu e) (home_at (length places) queue tasks i d h is);
+    }
+
+-- the same, after a tick of running
+pub ran_same : (time : ℕ) (places : Places) (idle : List ℕ) (sum cpus limit : ℕ) (t : Task) → Same t (ran_with time places idle sum cpus limit t)
+ran_same time places idle sum cpus limit t = same_either (stands t.number places) t _ t (same_ran time (rate_with idle sum cpus limit t) t) (same_itself t)
+
+-- the same, after a call
+pub regraded_fit : (number : ℕ) (p : ParamsView) (queue : RunQueue) (tasks : List Task) (i : ℕ) (d : Task) → {cpus : ℕ} → i < length tasks → p.bw ≤ 2 ^ 26 → IsCounted cpus queue tasks → IsFit cpus (get_or tasks i d) (of_number number (regraded p) (get_or tasks i d))
+regraded_fit number p queue tasks i d {cpus} h short is =
+    let t = get_or tasks i d in
+    let home = home_at cpus queue tasks i d h is in
+    elim (eqb t.number number) as (λ b. IsFit cpus t (cond b (regraded p t) t)) [
+      | true ↦ record { number = refl; short = short; home = home }
+      | false ↦ record { number = refl; short = is.roster.short i d h; home = home }
+    ]
+
+pub awoken_same : (number time : ℕ) (t : Task) → Same t (of_number number (awoken time) t)
+awoken_same number time t = same_either (eqb t.number number) t _ t (record { number = refl; params = refl; cpu = refl }) (same_itself t)
+
+pub ended_same : (number time : ℕ) (t : Task) → Same t (of_number number (ended time) t)
+ended_same number time t =
+    same_either (eqb t.number number) t _ t
+    (same_either (is_contending t.condition) t _ _ (record { number = refl; params = refl; cpu = refl }) (record { number = refl; params = refl; cpu = refl })) (same_itself t)
+
+pub may_turn : (cpus : ℕ) (queue : RunQueue) (tasks : List Task) (i : ℕ) (d y : Task) → i < length tasks → IsFit cpus (get_or tasks i d) y → IsCounted cpus queue tasks → MayTurn queue (standing_of (get_or tasks i d)) (standing_of y)
+may_turn cpus queue tasks i d y h fit is =
+    let short = fit.short in
+    let s = split tasks i d y h fit.number is.roster in
+    let front = take i tasks in
+    let back = drop (i + 1) tasks in
+    let order = is.counts.order ∙ ap ordered s.was in
+    let rest : without_ready (ready_of (get_or tasks i d)) queue.ready ≡ ordered (candidates front ++ candidates back) = ap (without_ready (ready_of (get_or tasks i d))) order ∙ without_one (ready_of (get_or tasks i d)) (candidates front) (candidates back) s.numbered in
+    record {
+      held = held_at share_of queue.accounts tasks i d h is.counts.sums;
+      home = subst (λ n. y.cpu < n) (sym is.wide) fit.home;
+      fits = omega (arith, is.counts.sums.total, total_short tasks is.roster);
+      room = rw rest (omega (arith, length_ordered (candidates front ++ candidates back), length-append (candidates front) (candidates back), candidates_few front, candidates_few back, s.one_less, is.roster.few));
+      absent = rw rest (absent_one (ready_of y) (candidates front) (candidates back) s.turned);
+    }
+
+pub turned : (cpus : ℕ) (queue new : RunQueue) (tasks : List Task) (i : ℕ) (d y : Task) → i < length tasks → IsFit cpus (get_or tasks i d) y → HasTurned (standing_of (get_or tasks i d)) (standing_of y) queue new → IsCounted cpus queue tasks → IsCounted cpus new (set tasks i y)
+turned cpus queue new tasks i d y h fit has is =
+    let t = get_or tasks i d in
+    let s = split tasks i d y h fit.number is.roster in
+    let front = take i tasks in
+    let back = drop (i + 1) tasks in
+    let order = is.counts.order ∙ ap ordered s.was in
+    let now : candidates (set tasks i y) ≡ candidates front ++ (one (ready_of y) ++ candidates back) = ap candidates (set_at tasks i y h) ∙ candidates_at front y back in
+    record {
+      wide = has.wide ∙ is.wide;
+      counts = record {
+        sums = turned_at share_of queue.accounts new.accounts tasks i d y h has.sums is.counts.sums;
+        order = elim has.order [
+          | inl kept ↦ kept.1 ∙ order ∙ ap (λ o. ordered (candidates front ++ (one o ++ candidates back))) kept.0 ∙ sym (ap ordered now)
+          | inr e ↦ e ∙ ap (λ q. with_ready (ready_of y) (without_ready (ready_of t) q)) order
+              ∙ ap (with_ready (ready_of y)) (without_one (ready_of t) (candidates front) (candidates back) s.numbered)
+              ∙ with_one (ready_of y) (candidates front) (candidates back) s.turned ∙ sym (ap ordered now)
+        ];
+      };
+      roster = roster_set tasks i d y fit.number fit.short is.roster;
+    }
+
+-- ---- lists
+
+pub roster_of : (tasks : List Task) → length tasks ≤ 256 → sum_of tasks ≤ 2 ^ 26 → AllPairs (λ a b. a.number ≢ b.number) tasks → IsRoster tasks
+roster_of tasks few within numbered = record {
+  few = few;
+  short = λ k d h. omega (arith, bw_at tasks k d h);
+  numbered = numbered;
+}
+  where
+    bw_at : (tasks : List Task) (k : ℕ) (d : Task) → k < length tasks → (get_or tasks k d).params.bw ≤ sum_of tasks
+    bw_at tasks k d h =
+        let e : get_or (shares tasks) k (share_of d) ≡ share_of (get_or tasks k d) = get_or-map share_of tasks k d (share_of d) h in
+        let n : length (shares tasks) ≡ length tasks = simp length-map in
+        omega (arith, get_or-le-sum_by (λ (s : Share). s.bw) (shares tasks) k (share_of d) (omega arith), ap (λ (s : Share). s.bw) e)
+
+-- a task that has left is not ready
+ready_listed : (c : Condition) (z : Bool) → is_ready c ≡ true → not (is_leaving c && z) ≡ true
+ready_listed Ready z e = refl
+ready_listed Throttled z e = absurd cc
+ready_listed (Blocked u) z e = absurd cc
+ready_listed Waiting z e = absurd cc
+ready_listed Leaving z e = absurd cc
+
+pub candidates_listed : (tasks : List Task) → candidates (filter is_listed tasks) ≡ candidates tasks
+candidates_listed [] = refl
+candidates_listed (t ∷ tasks) =
+    let rest = filter is_listed tasks in
+    let ready = filter (λ (x : Task). is_ready x.condition) in
+    elim (is_listed t) as (λ b. is_listed t ≡ b → candidates (cond b (t ∷ rest) rest) ≡ candidates (t ∷ tasks)) [
+      | true ↦ λ e. candidates_first t rest ∙ ap (λ cs. one (ready_of t) ++ cs) (candidates_listed tasks) ∙ sym (candidates_first t tasks)
+      | false ↦ λ e.
+          let idle : is_ready t.condition ≡ false = not_ready (is_ready t.condition) (is_listed t) (ready_listed t.condition (is_none t.zero_lag)) e in
+          candidates_listed tasks ∙ sym (candidates_first t tasks ∙ rw idle refl)
+    ] refl
+  where
+    not_ready : (a b : Bool) → (a ≡ true → b ≡ true) → b ≡ false → a ≡ false
+    not_ready true b h e = let no : true ≡ false = sym (h refl) ∙ e in absurd cc
+    not_ready false b h e = refl
+
+-- tasks that have left go off the list, and their bandwidth goes back
+pub counted_listed : (cpus : ℕ) (queue new : RunQueue) (tasks : List Task) → length new.accounts.all ≡ length queue.accounts.all → new.ready ≡ queue.ready → AreAccounts new.accounts (shares (filter is_listed tasks)) → IsCounted cpus queue tasks → IsCounted cpus new (filter is_listed tasks)
+counted_listed cpus queue new tasks wide ready sums is = record {
+  wide = wide ∙ is.wide;
+  counts = record { sums = sums; order = ready ∙ is.counts.order ∙ sym (ap ordered (candidates_listed tasks)) };
+  roster = record {
+    few = omega (arith, length-filter_least is_listed tasks, is.roster.few);
+    short = All-filter is_listed (λ (t : Task). t.params.bw ≤ 2 ^ 26) tasks is.roster.short;
+    numbered = AllPairs-filter (λ a b. a.number ≢ b.number) is_listed tasks is.roster.numbered;
+  };
+}
+
+-- the placement over the queue is that of the list
+pub placed_counted : (cpus n : ℕ) (queue : RunQueue) (tasks : List Task) (before : Places) → IsCounted cpus queue tasks → placed n queue.ready before ≡ placed n (candidates tasks) before
+placed_counted cpus n queue tasks before is = ap (λ q. placed n q before) is.counts.order ∙ placed_ordered n (candidates tasks) before (numbered_candidates tasks is.roster.numbered)
+
+pub placed_wide : (cpus : ℕ) (queue : RunQueue) (tasks : List Task) (before new : Places) → IsCounted cpus queue tasks → IsApart before → new ≡ placed (length before) queue.ready before → length new ≡ length before
+placed_wide cpus queue tasks before new is apart e =
+    ap (λ (ps : Places). length ps) (e ∙ placed_counted cpus (length before) queue tasks before is) ∙ (placed_is (length before) (candidates tasks) before refl apart).wide
+
+-- what the sums say of their list
+pub inactive_is : (a : AccountsView) (xs : List Share) (cpu : ℕ) → AreAccounts a xs → inactive_at cpu a ≡ uinact cpu xs
+inactive_is a xs cpu is = omega (arith, is.all cpu, is.active cpu)
+
+-- a domain's run queue
+pub counted_in : (d : Domain) (queue : RunQueue) → IsDomain d → length queue.accounts.all ≡ d.cpus → Counts queue d.tasks → IsCounted d.cpus queue d.tasks
+counted_in d queue is wide counts =
+    let most : cap d.cpus d.limit ≤ 64 * 1048576 = mul-le-mul is.steady.few is.steady.high in
+    record { wide = wide; counts = counts; roster = roster_of d.tasks is.steady.listed (omega (arith, is.steady.within, most)) is.steady.numbered }
+
+pub counted_all : (d : Domain) (queue : RunQueue) → IsDomain d → length queue.accounts.all ≡ d.cpus → Counts queue d.tasks → IsCounted (length queue.accounts.all) queue d.tasks
+counted_all d queue is wide counts = subst (λ n. IsCounted n queue d.tasks) (sym wide) (counted_in d queue is wide counts)
+
+-- a task at the end of the list that is not ready
+pub counts_push : (queue new : RunQueue) (tasks : List Task) (t : Task) → is_ready t.condition ≡ false → new.ready ≡ queue.ready → Joins queue.accounts new.accounts (share_of t) → Counts queue tasks → Counts new (tasks ++ t ∷ [])
+counts_push queue new tasks t idle same joins is =
+    let none : candidates (t ∷ []) ≡ [] = candidates_first t [] ∙ rw idle refl in
+    record {
+      sums = joined_last share_of queue.accounts new.accounts tasks t joins is.sums;
+      order = same ∙ is.order ∙ sym (ap ordered (candidates_append tasks (t ∷ []) ∙ ap (λ cs. candidates tasks ++ cs) none ∙ append-nil (candidates tasks)));
+    }

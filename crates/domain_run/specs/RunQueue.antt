@@ -1,0 +1,69 @@
+-- What a domain keeps of its tasks beside their list, for the code's own contracts.
+use Rattle.std.specs.Prelude.{ℕ, ◌+◌, ◌-◌, ◌<◌, ◌≤◌, ◌^◌, ◌≡◌, ◌≢◌, ◌⊎◌, false, if◌then◌else◌, List, ◌∷◌, ◌++◌, length, All, AllPairs, Option, Some, None, IfSome}
+use Rattle.grub_rules.specs.declared.share.Share.{Share}
+use Rattle.grub_rules.specs.Accounts.{AreAccounts, Holds}
+use Rattle.edf_pick.specs.declared.candidate.Candidate.{Candidate}
+use Rattle.edf_pick.specs.Order.{ordered, has_candidate, with_candidate, without_candidate}
+use Rattle.domain_run.specs.declared.task.Task.{Task}
+use Rattle.domain_run.specs.declared.run_queue.Standing.{Standing}
+use Rattle.domain_run.specs.declared.run_queue.RunQueue.{RunQueue}
+use Rattle.domain_run.specs.Conditions.{is_ready}
+use Rattle.domain_run.specs.Domain.{Domain}
+use Rattle.domain_run.specs.Sound.{IsDomain}
+use Rattle.domain_run.specs.Tick.{share_of, shares, candidate_of, candidates}
+
+-- a task as the sums see it, and as the choice does where it is ready
+abbrev pub ready_of : Task → Option Candidate
+ready_of t = if is_ready t.condition then Some (candidate_of t) else None
+
+abbrev pub standing_of : Task → Standing
+standing_of t = record { share = share_of t; ready = ready_of t }
+
+-- THE INVARIANT: the sums are those of the list, and the queue has its ready tasks in order
+pub record Counts (queue : RunQueue) (tasks : List Task) : Type 0 where
+  pub sums : AreAccounts queue.accounts (shares tasks)
+  pub order : queue.ready ≡ ordered (candidates tasks)
+
+-- what a list of tasks keeps so that the sums fit, and the queue has each task once
+pub record IsRoster (tasks : List Task) : Type 0 where
+  pub few : length tasks ≤ 256
+  pub short : All (λ t. t.params.bw ≤ 2 ^ 26) tasks
+  pub numbered : AllPairs (λ a b. a.number ≢ b.number) tasks
+
+-- a run queue of so many CPUs counts this list
+pub record IsCounted (cpus : ℕ) (queue : RunQueue) (tasks : List Task) : Type 0 where
+  pub wide : length queue.accounts.all ≡ cpus
+  pub counts : Counts queue tasks
+  pub roster : IsRoster tasks
+
+-- a queue with and without a task that is ready, or is not
+abbrev pub with_ready : Option Candidate → List Candidate → List Candidate
+with_ready None queue = queue
+with_ready (Some c) queue = with_candidate c queue
+
+abbrev pub without_ready : Option Candidate → List Candidate → List Candidate
+without_ready None queue = queue
+without_ready (Some c) queue = without_candidate c queue
+
+-- one of the tasks that are counted may turn from `before` to `after`
+pub record MayTurn (queue : RunQueue) (before after : Standing) : Type 0 where
+  pub held : Holds queue.accounts before.share
+  pub home : after.share.cpu < length queue.accounts.all
+  pub fits : queue.accounts.total - before.share.bw + after.share.bw < 2 ^ 64
+  pub room : length (without_ready before.ready queue.ready) < 256
+  pub absent : IfSome after.ready (λ c. has_candidate c (without_ready before.ready queue.ready) ≡ false)
+
+-- it has
+pub record HasTurned (before after : Standing) (old new : RunQueue) : Type 0 where
+  pub wide : length new.accounts.all ≡ length old.accounts.all
+  pub sums : (front back : List Share) → AreAccounts old.accounts (front ++ before.share ∷ back) → AreAccounts new.accounts (front ++ after.share ∷ back)
+  pub order : ((before.ready ≡ after.ready) × (new.ready ≡ old.ready)) ⊎ (new.ready ≡ with_ready after.ready (without_ready before.ready old.ready))
+
+-- what a state keeps: a domain, a run queue that counts its tasks, room for 256 tasks, and a place for each CPU
+pub record IsState (d : Domain) (queue : RunQueue) (tasks before idle : ℕ) : Type 0 where
+  pub domain : IsDomain d
+  pub wide : length queue.accounts.all ≡ d.cpus
+  pub counts : Counts queue d.tasks
+  pub tasks_room : 256 ≤ tasks
+  pub before_len : before ≡ d.cpus
+  pub idle_len : idle ≡ d.cpus

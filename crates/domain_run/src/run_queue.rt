@@ -1,0 +1,85 @@
+//! What a domain keeps of its tasks beside their list: the running sums of their bandwidth, and the ready ones in the order of the
+//! choice. So a tick neither sums nor sorts.
+
+ghost use Rattle.std.specs.Prelude.{◌≡◌, ◌<◌, [], length, IfOk, IfSome, false};
+ghost use Rattle.edf_pick.specs.Order.{has_candidate};
+ghost use Rattle.domain_run.specs.RunQueue as spec;
+ghost use Rattle.domain_run.specs.Tick as tick_spec;
+
+use crate::memory::NoMemory;
+use crate::parts;
+use crate::task::Task;
+use edf_pick::{Candidate, Queue};
+use grub_rules::{Accounts, Share};
+use std::alloc::Global;
+
+/// A task as the sums see it, and as the choice does where it is ready.
+#[derive(Clone, Copy, Debug, PartialEq, Eq)]
+pub(crate) struct Standing {
+    pub(crate) share: Share,
+    pub(crate) ready: Option<Candidate>,
+}
+
+/// A task as the sums see it.
+pub(crate) fn share_of(task: &Task) -> Share
+    ensures { result ≡ tick_spec.share_of task.now }
+{
+    Share {
+        cpu: task.cpu,
+        bw: task.params.bw,
+        active: parts::is_active(task),
+    }
+}
+
+/// How a task stands now.
+pub(crate) fn standing_of(task: &Task) -> Standing
+    ensures { result ≡ spec.standing_of task.now }
+{
+    Standing {
+        share: share_of(task),
+        ready: task.condition.is_ready().then(|| parts::candidate_of(task)),
+    }
+}
+
+/// The running sums and the ordered queue of a domain.
+#[derive(Drop)]
+pub(crate) struct RunQueue {
+    pub(crate) accounts: Accounts,
+    pub(crate) ready: Queue,
+}
+
+fn replace(queue: &mut Queue, before: Option<Candidate>, after: Option<Candidate>)
+    requires room { length (spec.without_ready before queue.old) < 256 }
+    requires absent { IfSome after (λ c. has_candidate c (spec.without_ready before queue.old) ≡ false) }
+    ensures { queue.new ≡ spec.with_ready after (spec.without_ready before queue.old) }
+{
+    if let Some(c) = before {
+        queue.remove(&c);
+    }
+    if let Some(c) = after {
+        queue.insert(c);
+    }
+}
+
+impl RunQueue {
+    /// Of no tasks. No other call takes memory.
+    pub(crate) fn open(alloc: Global, cpus: usize) -> Result<RunQueue, NoMemory>
+        ensures { IfOk result (λ queue. spec.IsCounted cpus queue []) }
+    {
+        Ok(RunQueue {
+            accounts: Accounts::open(alloc, cpus)?,
+            ready: Queue::open(alloc)?,
+        })
+    }
+
+    /// A task that is counted stood as `before`, and stands as `after` now.
+    pub(crate) fn turn(&mut self, before: Standing, after: Standing)
+        requires { spec.MayTurn self.old before after }
+        ensures { spec.HasTurned before after self.old self.new }
+    {
+        self.accounts.track(&before.share, &after.share);
+        if before.ready != after.ready {
+            replace(&mut self.ready, before.ready, after.ready);
+        }
+    }
+}
