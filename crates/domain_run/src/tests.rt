@@ -80,31 +80,112 @@ fn view(rt: &impl Abort, state: &State, number: u32) -> TaskView {
     state.view(number).expect(rt, "a listed task")
 }
 
+/// What a test does with a domain, and what must come of it.
+#[derive(Clone, Copy, Debug)]
+enum Step {
+    Advance(u64),
+    Wake(u32, Reply),
+    Leave(u32, Reply),
+    Regrade(u32, Params, Option<u64>, Reply),
+    Sum(u64),
+    Is(u32, Condition),
+    ZeroLag(u32, Option<u64>),
+    Serves(u32, Server),
+    Given(u32, Params),
+    Gone(u32),
+}
+
+fn take(rt: &impl Abort, state: &mut State, step: Step) -> Result<(), Fail> {
+    match step {
+        Step::Advance(ticks) => advance(rt, state, ticks)?,
+        Step::Wake(number, reply) => assert_eq!(rt; state.wake(number), reply, "{step:?}"),
+        Step::Leave(number, reply) => assert_eq!(rt; state.leave(number), reply, "{step:?}"),
+        Step::Regrade(number, params, word, reply) => {
+            assert_eq!(rt; state.regrade(number, params, word), reply, "{step:?}");
+        }
+        Step::Sum(sum) => assert_eq!(rt; state.sum(), sum, "{step:?}"),
+        Step::Is(number, condition) => {
+            assert_eq!(rt; view(rt, state, number).condition, condition, "{step:?}");
+        }
+        Step::ZeroLag(number, time) => {
+            assert_eq!(rt; view(rt, state, number).zero_lag, time, "{step:?}");
+        }
+        Step::Serves(number, server) => {
+            assert_eq!(rt; view(rt, state, number).server, server, "{step:?}");
+        }
+        Step::Given(number, params) => {
+            assert_eq!(rt; view(rt, state, number).params, params, "{step:?}");
+        }
+        Step::Gone(number) => assert_eq!(rt; state.view(number), None, "{step:?}"),
+    }
+    Ok(())
+}
+
+/// The steps, one after another, and then these switches since the domain was opened.
+fn play(
+    rt: &impl Abort,
+    state: &mut State,
+    steps: &[Step],
+    switches: &[Switch],
+) -> Result<(), Fail> {
+    for step in steps {
+        take(rt, state, *step)?;
+    }
+    assert_eq!(rt; state.switches(), switches);
+    Ok(())
+}
+
+/// A domain of one CPU with one task, number 1.
+fn with_task(
+    rt: &impl Abort,
+    alloc: Global,
+    limit: u64,
+    params: Params,
+    loops: i64,
+    events: &[Event],
+) -> Result<State, Fail> {
+    assert!(rt; 10485 <= limit && limit <= 1048576);
+    let mut state = State::open(alloc, 1, limit)?;
+    let job = script(alloc, loops, events)?;
+    let given = admit(rt, alloc, &mut state, 1, params, job)?;
+    assert_eq!(rt; given, Reply::Admitted);
+    Ok(state)
+}
+
+fn server(deadline: u64, left: i128) -> Server {
+    Server {
+        deadline: Some(deadline),
+        left,
+    }
+}
+
 #[test]
 fn reclaiming_example(rt: HostRuntime) -> Result<(), Fail> {
     let alloc = rt.alloc();
-    let mut state = State::open(alloc, 1, UNIT)?;
-    let sleeper = script(alloc, -1, &[Event::Run(2), Event::Sleep(6)])?;
-    admit(&rt, alloc, &mut state, 1, reclaiming(4, 8, 8)?, sleeper)?;
+    let given = reclaiming(4, 8, 8)?;
+    let events = [Event::Run(2), Event::Sleep(6)];
+    let mut state = with_task(&rt, alloc, UNIT, given, -1, &events)?;
     let worker = script(alloc, 1, &[Event::Run(100)])?;
-    admit(&rt, alloc, &mut state, 2, reclaiming(4, 8, 8)?, worker)?;
-    advance(&rt, &mut state, 2)?;
-    assert_eq!(rt; view(&rt, &state, 1).zero_lag, Some(4));
-    assert_eq!(rt; view(&rt, &state, 1).condition, Condition::Blocked(8));
-    advance(&rt, &mut state, 2)?;
-    assert_eq!(rt; view(&rt, &state, 2).server.left, 2 * LEFT);
-    advance(&rt, &mut state, 4)?;
-    assert_eq!(rt; view(&rt, &state, 2).server.left, 0);
-    advance(&rt, &mut state, 1)?;
-    assert_eq!(rt; view(&rt, &state, 1).server.deadline, Some(16));
-    assert_eq!(rt; view(&rt, &state, 2).server.deadline, Some(16));
-    assert_eq!(rt; state.now(), 9);
+    admit(&rt, alloc, &mut state, 2, given, worker)?;
+    let steps = [
+        Step::Advance(2),
+        Step::ZeroLag(1, Some(4)),
+        Step::Is(1, Condition::Blocked(8)),
+        Step::Advance(2),
+        Step::Serves(2, server(8, 2 * LEFT)),
+        Step::Advance(4),
+        Step::Serves(2, server(8, 0)),
+        Step::Advance(1),
+        Step::Serves(1, server(16, 3 * LEFT)),
+        Step::Serves(2, server(16, 4 * LEFT)),
+    ];
     let switches = [
         switch(0, 0, None, PrevState::Running, Some(1)),
         switch(2, 0, Some(1), PrevState::Sleeping, Some(2)),
         switch(8, 0, Some(2), PrevState::Preempted, Some(1)),
     ];
-    assert_eq!(rt; state.switches(), switches.as_slice());
+    play(&rt, &mut state, &steps, &switches)?;
+    assert_eq!(rt; state.now(), 9);
     Ok(())
 }
 
@@ -211,46 +292,41 @@ fn events_of(phase: &Phase) -> &[Event] {
     &phase.events
 }
 
+fn is_the_last(refused: &Refused) -> bool {
+    let events = [Event::Run(3), Event::Wait];
+    let phases = refused.script.phases();
+    refused.reply == Reply::Full
+        && refused.name.as_str() == "the_last"
+        && refused.script.loops() == 7
+        && phases.len() == 1
+        && events_of(&phases[0]) == events.as_slice()
+}
+
+/// An admission to a full domain: name and script come back.
+fn no_room(rt: &impl Abort, alloc: Global, state: &mut State, number: u32) -> Result<(), Fail> {
+    assert!(rt; 0 < number && number < 65536);
+    let name = Name::new(String::from_str(alloc, "the_last")?)?;
+    let job = script(alloc, 7, &[Event::Run(3), Event::Wait])?;
+    match state.admit(number, name, plain(2, 2, 2)?, 5, job) {
+        Ok(()) => assert!(rt; false, "admitted"),
+        Err(refused) => assert!(rt; is_the_last(&refused)),
+    }
+    Ok(())
+}
+
 #[test]
 fn number_257_is_full(rt: HostRuntime) -> Result<(), Fail> {
     let alloc = rt.alloc();
     let mut state = State::open(alloc, 1, UNIT)?;
+    let given = plain(2, 2_000_000, 2_000_000)?;
     for number in 1..257 {
         let job = script(alloc, 1, &[Event::Wait])?;
-        let given = admit(
-            &rt,
-            alloc,
-            &mut state,
-            number,
-            plain(2, 2_000_000, 2_000_000)?,
-            job,
-        )?;
-        assert_eq!(rt; given, Reply::Admitted, "task {number}");
+        let reply = admit(&rt, alloc, &mut state, number, given, job)?;
+        assert_eq!(rt; reply, Reply::Admitted, "task {number}");
     }
     assert_eq!(rt; state.sum(), 256);
-    for number in [257, 1] {
-        assert!(rt; 0 < number && number < 65536);
-        let name = Name::new(String::from_str(alloc, "the_last")?)?;
-        let job = script(alloc, 7, &[Event::Run(3), Event::Wait])?;
-        match state.admit(number, name, plain(2, 2, 2)?, 5, job) {
-            Ok(()) => assert!(rt; false, "admitted"),
-            Err(
-                Refused {
-                    reply,
-                    name,
-                    script,
-                },
-            ) => {
-                assert_eq!(rt; reply, Reply::Full);
-                assert_eq!(rt; name.as_str(), "the_last");
-                assert_eq!(rt; script.loops(), 7);
-                let phases = script.phases();
-                assert_eq!(rt; phases.len(), 1);
-                let events = [Event::Run(3), Event::Wait];
-                assert_eq!(rt; events_of(&phases[0]), events.as_slice());
-            }
-        }
-    }
+    no_room(&rt, alloc, &mut state, 257)?;
+    no_room(&rt, alloc, &mut state, 1)?;
     assert_eq!(rt; state.sum(), 256);
     Ok(())
 }
@@ -258,27 +334,22 @@ fn number_257_is_full(rt: HostRuntime) -> Result<(), Fail> {
 #[test]
 fn wake_test_is_strict(rt: HostRuntime) -> Result<(), Fail> {
     let given = plain(4, 8, 8)?;
-    let half = Server {
-        deadline: Some(8),
-        left: 2 * LEFT,
-    };
-    let alloc = rt.alloc();
-    let mut state = State::open(alloc, 1, UNIT)?;
-    let job = script(alloc, -1, &[Event::Run(2), Event::Sleep(2)])?;
-    admit(&rt, alloc, &mut state, 1, given, job)?;
-    advance(&rt, &mut state, 4)?;
-    assert_eq!(rt; view(&rt, &state, 1).zero_lag, Some(4));
-    assert_eq!(rt; view(&rt, &state, 1).server, half);
-    advance(&rt, &mut state, 1)?;
-    assert_eq!(rt; view(&rt, &state, 1).zero_lag, None);
-    assert_eq!(rt;
-        view(&rt, &state, 1).server,
-        Server {
-            deadline: Some(8),
-            left: LEFT
-        }
-    );
-    Ok(())
+    let events = [Event::Run(2), Event::Sleep(2)];
+    let mut state = with_task(&rt, rt.alloc(), UNIT, given, -1, &events)?;
+    let steps = [
+        Step::Advance(4),
+        Step::ZeroLag(1, Some(4)),
+        Step::Serves(1, server(8, 2 * LEFT)),
+        Step::Advance(1),
+        Step::ZeroLag(1, None),
+        Step::Serves(1, server(8, LEFT)),
+    ];
+    let switches = [
+        switch(0, 0, None, PrevState::Running, Some(1)),
+        switch(2, 0, Some(1), PrevState::Sleeping, None),
+        switch(4, 0, None, PrevState::Running, Some(1)),
+    ];
+    play(&rt, &mut state, &steps, &switches)
 }
 
 #[test]
@@ -350,96 +421,101 @@ fn two_cpus(rt: HostRuntime) -> Result<(), Fail> {
 
 #[test]
 fn waiting(rt: HostRuntime) -> Result<(), Fail> {
-    let alloc = rt.alloc();
-    let mut state = State::open(alloc, 1, UNIT)?;
-    let waiter = script(alloc, -1, &[Event::Wait, Event::Run(1)])?;
-    admit(&rt, alloc, &mut state, 1, plain(2, 10, 10)?, waiter)?;
-    assert_eq!(rt; state.wake(1), Reply::NotWaiting);
-    advance(&rt, &mut state, 3)?;
-    assert_eq!(rt; view(&rt, &state, 1).condition, Condition::Waiting);
-    assert_eq!(rt; state.wake(2), Reply::NotListed);
-    assert_eq!(rt; state.wake(1), Reply::Woken);
-    assert_eq!(rt; view(&rt, &state, 1).condition, Condition::Blocked(3));
-    assert_eq!(rt; state.wake(1), Reply::NotWaiting);
-    advance(&rt, &mut state, 3)?;
-    assert_eq!(rt; view(&rt, &state, 1).zero_lag, Some(8));
+    let given = plain(2, 10, 10)?;
+    let events = [Event::Wait, Event::Run(1)];
+    let mut state = with_task(&rt, rt.alloc(), UNIT, given, -1, &events)?;
+    let steps = [
+        Step::Wake(1, Reply::NotWaiting),
+        Step::Advance(3),
+        Step::Is(1, Condition::Waiting),
+        Step::Wake(2, Reply::NotListed),
+        Step::Wake(1, Reply::Woken),
+        Step::Is(1, Condition::Blocked(3)),
+        Step::Wake(1, Reply::NotWaiting),
+        Step::Advance(3),
+        Step::ZeroLag(1, Some(8)),
+    ];
     let switches = [
         switch(3, 0, None, PrevState::Running, Some(1)),
         switch(4, 0, Some(1), PrevState::Sleeping, None),
     ];
-    assert_eq!(rt; state.switches(), switches.as_slice());
-    Ok(())
+    play(&rt, &mut state, &steps, &switches)
 }
 
 #[test]
 fn regrade(rt: HostRuntime) -> Result<(), Fail> {
-    let alloc = rt.alloc();
-    let mut state = State::open(alloc, 1, 524288)?;
-    let job = script(alloc, -1, &[Event::Run(2), Event::Sleep(6)])?;
-    admit(&rt, alloc, &mut state, 1, plain(2, 8, 8)?, job)?;
-    advance(&rt, &mut state, 1)?;
-    let before = view(&rt, &state, 1);
+    let (small, whole, large) = (plain(2, 8, 8)?, plain(4, 8, 8)?, plain(5, 8, 8)?);
+    let events = [Event::Run(2), Event::Sleep(6)];
+    let mut state = with_task(&rt, rt.alloc(), 524288, small, -1, &events)?;
     let busy = Reply::Busy { seen: 524288 };
-    let refused = Reply::Busy { seen: 393216 };
-    assert_eq!(rt; state.regrade(1, plain(4, 8, 8)?, Some(393216)), refused);
-    assert_eq!(rt; view(&rt, &state, 1), before);
-    assert_eq!(rt; state.regrade(1, plain(4, 8, 8)?, None), Reply::Changed);
-    let after = TaskView {
-        params: plain(4, 8, 8)?,
-        ..before
-    };
-    assert_eq!(rt; view(&rt, &state, 1), after);
-    assert_eq!(rt; state.sum(), 524288);
-    assert_eq!(rt; state.regrade(1, plain(5, 8, 8)?, Some(1)), busy);
-    assert_eq!(rt; state.regrade(1, plain(5, 8, 8)?, None), busy);
-    assert_eq!(rt; state.regrade(7, plain(4, 8, 8)?, None), Reply::NotListed);
-    assert_eq!(rt; view(&rt, &state, 1), after);
-    assert_eq!(rt; state.leave(1), Reply::Left);
-    assert_eq!(rt; state.regrade(1, plain(2, 8, 8)?, None), Reply::NotListed);
-    Ok(())
+    let steps = [
+        Step::Advance(1),
+        Step::Regrade(1, whole, Some(393216), Reply::Busy { seen: 393216 }),
+        Step::Given(1, small),
+        Step::Regrade(1, whole, None, Reply::Changed),
+        Step::Given(1, whole),
+        Step::Serves(1, server(8, LEFT)),
+        Step::ZeroLag(1, None),
+        Step::Is(1, Condition::Ready),
+        Step::Sum(524288),
+        Step::Regrade(1, large, Some(1), busy),
+        Step::Regrade(1, large, None, busy),
+        Step::Regrade(7, whole, None, Reply::NotListed),
+        Step::Given(1, whole),
+        Step::Leave(1, Reply::Left),
+        Step::Regrade(1, small, None, Reply::NotListed),
+    ];
+    let switches = [switch(0, 0, None, PrevState::Running, Some(1))];
+    play(&rt, &mut state, &steps, &switches)
 }
 
 #[test]
 fn leaving_keeps_bandwidth_until_zero_lag(rt: HostRuntime) -> Result<(), Fail> {
     let alloc = rt.alloc();
-    let mut state = State::open(alloc, 1, UNIT)?;
-    let job = script(alloc, 1, &[Event::Run(100)])?;
-    admit(&rt, alloc, &mut state, 1, plain(4, 8, 8)?, job)?;
-    advance(&rt, &mut state, 2)?;
-    assert_eq!(rt; state.leave(2), Reply::NotListed);
-    assert_eq!(rt; state.leave(1), Reply::Left);
-    assert_eq!(rt; state.leave(1), Reply::NotListed);
-    assert_eq!(rt; state.wake(1), Reply::NotListed);
-    assert_eq!(rt; view(&rt, &state, 1).zero_lag, Some(4));
-    advance(&rt, &mut state, 2)?;
-    assert_eq!(rt; state.sum(), 524288);
+    let given = plain(4, 8, 8)?;
+    let mut state = with_task(&rt, alloc, UNIT, given, 1, &[Event::Run(100)])?;
+    let steps = [
+        Step::Advance(2),
+        Step::Leave(2, Reply::NotListed),
+        Step::Leave(1, Reply::Left),
+        Step::Leave(1, Reply::NotListed),
+        Step::Wake(1, Reply::NotListed),
+        Step::ZeroLag(1, Some(4)),
+        Step::Advance(2),
+        Step::Sum(524288),
+        Step::Advance(1),
+        Step::Sum(0),
+        Step::Gone(1),
+    ];
     let switches = [
         switch(0, 0, None, PrevState::Running, Some(1)),
         switch(2, 0, Some(1), PrevState::Dead, None),
     ];
-    assert_eq!(rt; state.switches(), switches.as_slice());
-    advance(&rt, &mut state, 1)?;
-    assert_eq!(rt; state.sum(), 0);
-    assert_eq!(rt; state.view(1), None);
+    play(&rt, &mut state, &steps, &switches)?;
     let again = script(alloc, 1, &[Event::Run(1)])?;
-    let reply = admit(&rt, alloc, &mut state, 1, plain(4, 8, 8)?, again)?;
+    let reply = admit(&rt, alloc, &mut state, 1, given, again)?;
     assert_eq!(rt; reply, Reply::Twice);
     Ok(())
 }
 
 #[test]
 fn a_sleeper_that_leaves_keeps_its_zero_lag_time(rt: HostRuntime) -> Result<(), Fail> {
-    let alloc = rt.alloc();
-    let mut state = State::open(alloc, 1, UNIT)?;
-    let job = script(alloc, -1, &[Event::Run(2), Event::Timer(100)])?;
-    admit(&rt, alloc, &mut state, 1, plain(4, 8, 8)?, job)?;
-    advance(&rt, &mut state, 3)?;
-    assert_eq!(rt; view(&rt, &state, 1).zero_lag, Some(4));
-    assert_eq!(rt; state.leave(1), Reply::Left);
-    assert_eq!(rt; view(&rt, &state, 1).zero_lag, Some(4));
-    advance(&rt, &mut state, 2)?;
-    assert_eq!(rt; state.view(1), None);
-    Ok(())
+    let given = plain(4, 8, 8)?;
+    let events = [Event::Run(2), Event::Timer(100)];
+    let mut state = with_task(&rt, rt.alloc(), UNIT, given, -1, &events)?;
+    let steps = [
+        Step::Advance(3),
+        Step::ZeroLag(1, Some(4)),
+        Step::Leave(1, Reply::Left),
+        Step::ZeroLag(1, Some(4)),
+        Step::Advance(2),
+        Step::Gone(1),
+    ];
+    let switches = [
+        switch(0, 0, None, PrevState::Running, Some(1)),
+        switch(2, 0, Some(1), PrevState::Sleeping, None),
+    ];
+    play(&rt, &mut state, &steps, &switches)
 }
 
 fn earliest_after(time: u64, segment: Segment) -> u64
@@ -492,43 +568,56 @@ fn is_script(
     })
 }
 
+const MOST: u64 = 1_000_000_000;
+
 #[test]
-fn limits_of_scripts_and_names(rt: HostRuntime) -> Result<(), Fail> {
-    let alloc = rt.alloc();
-    const MOST: u64 = 1_000_000_000;
-    for (loops, phases, count, events, event, is_one) in [
-        (-2, 1, 1, 1, Event::Wait, false),
-        (-1, 1, 1, 1, Event::Wait, true),
-        (0, 1, 1, 1, Event::Wait, false),
-        (1, 1, 1, 1, Event::Wait, true),
-        (1_000_000_000, 1, 1, 1, Event::Wait, true),
-        (1_000_000_001, 1, 1, 1, Event::Wait, false),
-        (1, 0, 1, 1, Event::Wait, false),
-        (1, 64, 1, 1, Event::Wait, true),
-        (1, 65, 1, 1, Event::Wait, false),
-        (1, 1, 0, 1, Event::Wait, false),
-        (1, 1, MOST, 1, Event::Wait, true),
-        (1, 1, MOST + 1, 1, Event::Wait, false),
-        (1, 1, 1, 0, Event::Wait, false),
-        (1, 1, 1, 64, Event::Wait, true),
-        (1, 1, 1, 65, Event::Wait, false),
-        (1, 1, 1, 1, Event::Run(0), false),
-        (1, 1, 1, 1, Event::Run(MOST), true),
-        (1, 1, 1, 1, Event::Run(MOST + 1), false),
-        (1, 1, 1, 1, Event::Sleep(0), false),
-        (1, 1, 1, 1, Event::Sleep(MOST), true),
-        (1, 1, 1, 1, Event::Sleep(MOST + 1), false),
-        (1, 1, 1, 1, Event::Timer(0), false),
-        (1, 1, 1, 1, Event::Timer(MOST), true),
-        (1, 1, 1, 1, Event::Timer(MOST + 1), false),
+fn limits_of_loops(rt: HostRuntime) -> Result<(), Fail> {
+    for (loops, is_one) in [
+        (-2, false),
+        (-1, true),
+        (0, false),
+        (1, true),
+        (1_000_000_000, true),
+        (1_000_000_001, false),
     ] {
-        let given = is_script(alloc, loops, phases, count, events, event)?;
-        assert_eq!(rt;
-            given,
-            is_one,
-            "{loops} {phases} {count} {events} {event:?}"
-        );
+        let given = is_script(rt.alloc(), loops, 1, 1, 1, Event::Wait)?;
+        assert_eq!(rt; given, is_one, "{loops}");
     }
+    Ok(())
+}
+
+#[test]
+fn limits_of_phases(rt: HostRuntime) -> Result<(), Fail> {
+    for (phases, count, events, is_one) in [
+        (0, 1, 1, false),
+        (64, 1, 1, true),
+        (65, 1, 1, false),
+        (1, 0, 1, false),
+        (1, MOST, 1, true),
+        (1, MOST + 1, 1, false),
+        (1, 1, 0, false),
+        (1, 1, 64, true),
+        (1, 1, 65, false),
+    ] {
+        let given = is_script(rt.alloc(), 1, phases, count, events, Event::Wait)?;
+        assert_eq!(rt; given, is_one, "{phases} {count} {events}");
+    }
+    Ok(())
+}
+
+#[test]
+fn limits_of_events(rt: HostRuntime) -> Result<(), Fail> {
+    for (n, is_one) in [(0, false), (1, true), (MOST, true), (MOST + 1, false)] {
+        for event in [Event::Run(n), Event::Sleep(n), Event::Timer(n)] {
+            let given = is_script(rt.alloc(), 1, 1, 1, 1, event)?;
+            assert_eq!(rt; given, is_one, "{event:?}");
+        }
+    }
+    Ok(())
+}
+
+#[test]
+fn limits_of_names(rt: HostRuntime) -> Result<(), Fail> {
     for (text, is_one) in [
         ("", false),
         ("!", true),
@@ -538,7 +627,7 @@ fn limits_of_scripts_and_names(rt: HostRuntime) -> Result<(), Fail> {
         ("a\x7f", false),
         ("\u{e9}", false),
     ] {
-        match Name::new(String::from_str(alloc, text)?) {
+        match Name::new(String::from_str(rt.alloc(), text)?) {
             Ok(name) => {
                 assert!(rt; is_one && name.as_str() == text, "{text}");
                 assert_eq!(rt; name.into_string().as_str(), text);
