@@ -4,18 +4,18 @@ use Rattle.std.specs.Prelude.{if◌then◌else◌}
 use Rattle.std.specs.List.{sum_by}
 use Rattle.std.proofs.lemmas.List.Sums.{sum_by-cons, sum_by-append}
 use Rattle.bw_world.specs.declared.step.Outcome.{Outcome}
-use Rattle.bw_world.specs.declared.step.Outcome.TheVariants.{Over, Lost}
+use Rattle.bw_world.specs.declared.step.Outcome.TheVariants.{Saw, Over, Lost}
 use Rattle.bw_world.specs.declared.ticket.Ticket.{Ticket}
 use Rattle.bw_world.specs.WorldView.{DomainView}
-use Rattle.bw_world.specs.DomainStep.{done, with_bw, refusal_of, unless_refused}
+use Rattle.bw_world.specs.DomainStep.{stays, done, with_bw, refusal_of, unless_refused, given_found}
 use Rattle.bw_gate.specs.declared.answer.Take.TheVariants as takes
 use Rattle.bw_gate.specs.declared.answer.Regrade.TheVariants as regrades
 use Rattle.bw_gate.specs.declared.view.Piece.{Piece}
 use Rattle.bw_gate.specs.declared.view.Piece.TheVariants as pieces
 use Rattle.bw_gate.specs.declared.view.View.{View}
-use Rattle.bw_gate.specs.Pieces.{TicketView}
+use Rattle.bw_gate.specs.Pieces.{BlankView, TicketView}
 use Rattle.bw_gate.specs.Table.{held, held_by, held_by_all}
-use Rattle.bw_gate.specs.Core.{tickets_in, tickets_from, KeepsTheLaw, TakesAsTheCore, RegradesAsTheCore}
+use Rattle.bw_gate.specs.Core.{tickets_in, tickets_from, KeepsTheLaw, TakesAsTheCore, RegradesAsTheCore, GivesAsTheCore, LoadsAsTheCore}
 
 sum_if : (b : Bool) (t : Ticket) (ts : List Ticket) → sum_by (λ u. u.bw) (if b then (t ∷ ts) else ts) ≡ (if b then t.bw else 0) + sum_by (λ u. u.bw) ts
 sum_if true t ts = sum_by-cons (λ (u : Ticket). u.bw) t ts
@@ -97,3 +97,13 @@ regrades_as_the_core t bw (regrades.Refused u seen) h = λ id c cap word.
     answers c (with_regraded id t.bw bw c) (refusal_of seen (c.word - t.bw + bw) c) (Some (Over c.word)) (over seen (c.word - t.bw + bw) c word (omega (arith, cap, word, h.1)))
 regrades_as_the_core t bw (regrades.Raced u expected seen) h = λ id c cap word.
     answers c (with_regraded id t.bw bw c) (refusal_of expected (c.word - t.bw + bw) c) (Some (Lost c.word)) (lost expected (c.word - t.bw + bw) c (λ s. h.0 (sym word ∙ s)))
+
+pub gives_as_the_core : GivesAsTheCore
+gives_as_the_core t b h = (
+  h.0,
+  ap (λ (w : BlankView). w.found) h.3,
+  λ id c word here. ap (λ (o : Option Ticket). given_found id c o) here,
+)
+
+pub loads_as_the_core : LoadsAsTheCore
+loads_as_the_core t n u h = (ap (λ (w : TicketView). w.found) h.2, λ c word. ap (λ (k : ℕ). stays c (Saw k)) word)

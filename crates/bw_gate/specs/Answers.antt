@@ -53,3 +53,12 @@ pub record IsRegrade (t : TicketView) (bw : ℕ) (answer : Regrade) : Type 0 whe
   pub earlier : List ℕ
   pub last : IsTryOfRegrade (ticket_found t earlier) bw answer
   pub decided : IsRegradeDecided answer
+
+-- give by a ticket: its one step found a word that has room for the ticket's bandwidth and is at most the cap, and a blank
+-- comes back
+abbrev pub IsGive : TicketView → BlankView → Type 0
+IsGive t b = (n : ℕ) × (t.bw ≤ n) × (n ≤ cap_of t.gate t.domain) × (b ≡ record { gate = t.gate; found = t.found ++ n ∷ [] })
+
+-- load by a ticket: it answers the word that its one step found, and the ticket keeps its domain and its bandwidth
+abbrev pub IsLoad : TicketView → ℕ → TicketView → Type 0
+IsLoad t n u = (t.bw ≤ n) × (n ≤ cap_of t.gate t.domain) × (u ≡ ticket_found t (n ∷ []))

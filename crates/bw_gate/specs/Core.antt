@@ -1,10 +1,10 @@
 -- The gate's steps are those of the pure core (own). To the core a domain of a gate is one with the gate's cap and word, all of
 -- whose tickets are in hand, each under the number of its seat as its id.
-use Rattle.std.specs.Prelude.{ℕ, ◌≡◌, ◌+◌, ◌-◌, ◌==◌, if◌then◌else◌, List, [], ◌∷◌, ◌++◌, map, slice_index}
-use Rattle.bw_world.specs.declared.step.Outcome.TheVariants.{Over, Lost}
+use Rattle.std.specs.Prelude.{ℕ, ◌≡◌, ◌+◌, ◌-◌, ◌==◌, if◌then◌else◌, List, [], ◌∷◌, ◌++◌, Some, map, slice_index}
+use Rattle.bw_world.specs.declared.step.Outcome.TheVariants.{Saw, Over, Lost}
 use Rattle.bw_world.specs.declared.ticket.Ticket.{Ticket}
 use Rattle.bw_world.specs.WorldView.{DomainView}
-use Rattle.bw_world.specs.DomainStep.{stays, done, with_bw, taken, regraded_in_hand}
+use Rattle.bw_world.specs.DomainStep.{stays, done, in_hand_of, without, with_bw, loaded, taken, regraded_in_hand, given}
 use Rattle.bw_world.specs.ExactWord.{IsExactDomain}
 use Rattle.bw_gate.specs.declared.answer.Take.{Take}
 use Rattle.bw_gate.specs.declared.answer.Take.TheVariants as takes
@@ -16,7 +16,7 @@ use Rattle.bw_gate.specs.declared.view.View.{View}
 use Rattle.bw_gate.specs.Terms.{TermsView, cap_in}
 use Rattle.bw_gate.specs.Pieces.{BlankView, TicketView, cap_of}
 use Rattle.bw_gate.specs.Table.{IsKept}
-use Rattle.bw_gate.specs.Answers.{IsTryOfTake, IsTryOfRegrade}
+use Rattle.bw_gate.specs.Answers.{IsTryOfTake, IsTryOfRegrade, IsGive, IsLoad}
 
 -- the tickets of a domain among some pieces, with one id
 abbrev pub tickets_in : ℕ → ℕ → List Piece → List Ticket
@@ -64,9 +64,26 @@ IsCoreRegrade t bw (regrades.Refused u seen) =
 IsCoreRegrade t bw (regrades.Raced u expected seen) =
     (id : ℕ) (c : DomainView) → c.cap ≡ cap_of t.gate t.domain → c.word ≡ seen → regraded_in_hand id t.bw bw expected c ≡ stays c (Lost c.word)
 
+-- what the core's Give does, at whatever domain has the word that the step found and this ticket in hand
+abbrev pub IsCoreGive : TicketView → BlankView → Type 0
+IsCoreGive t b =
+    (n : ℕ) × (b.found ≡ t.found ++ n ∷ [])
+    × ((id : ℕ) (c : DomainView) → c.word ≡ n → in_hand_of id c ≡ Some (record { id = id; bw = t.bw }) → given id c ≡ done (record c { word = c.word - t.bw; in_hand = without id c.in_hand }))
+
+-- what the core's Load answers, at whatever domain has the word that the step found: it changes nothing
+abbrev pub IsCoreLoad : TicketView → ℕ → TicketView → Type 0
+IsCoreLoad t n u = (u.found ≡ t.found ++ n ∷ []) × ((c : DomainView) → c.word ≡ n → loaded c ≡ stays c (Saw n))
+
 -- a try of the gate answers as the core does
 abbrev pub TakesAsTheCore : Type 0
 TakesAsTheCore = (b : BlankView) (d bw : ℕ) (answer : Take) → IsTryOfTake b d bw answer → IsCoreTake b d bw answer
 
 abbrev pub RegradesAsTheCore : Type 0
 RegradesAsTheCore = (t : TicketView) (bw : ℕ) (answer : Regrade) → IsTryOfRegrade t bw answer → IsCoreRegrade t bw answer
+
+-- give and load do as the core does
+abbrev pub GivesAsTheCore : Type 0
+GivesAsTheCore = (t : TicketView) (b : BlankView) → IsGive t b → IsCoreGive t b
+
+abbrev pub LoadsAsTheCore : Type 0
+LoadsAsTheCore = (t : TicketView) (n : ℕ) (u : TicketView) → IsLoad t n u → IsCoreLoad t n u

@@ -39,7 +39,7 @@ impl Gate {
     ghost use Rattle.bw_world.specs.WorldStep.{unit};
     ghost use Rattle.bw_gate.specs.Terms.{AreTerms};
     ghost use Rattle.bw_gate.specs.Pieces.{cap_of, sum_of};
-    ghost use Rattle.bw_gate.specs.Answers.{IsTryOfTake, IsTryOfRegrade, IsTake, IsRegrade};
+    ghost use Rattle.bw_gate.specs.Answers.{IsTryOfTake, IsTryOfRegrade, IsTake, IsRegrade, IsGive, IsLoad};
 
     /// A gate of one to eight domains, by the caps of their words, each at most 2^26, with words of 0; and its 1 to 4096
     /// pieces, all of them blanks. It is the one call of a gate that takes memory. [`NoMemory`] (ENOMEM 12) where a growth
@@ -209,7 +209,7 @@ impl Gate {
     /// word with the bandwidth still in it.
     pub fn give(&self, ticket: Ticket) -> Blank
         requires { ticket.gate ≡ self.now }
-        ensures { (n : ℕ) × (ticket.bw ≤ n) × (n ≤ cap_of self.now ticket.domain) × (result ≡ record { gate = ticket.gate; found = ticket.found ++ n ∷ [] }) }
+        ensures { IsGive ticket result }
     {
         let Ticket {
             mut seat,
@@ -228,9 +228,7 @@ impl Gate {
     /// change it at any time.
     pub fn load(&self, ticket: &mut Ticket) -> u64
         requires { ticket.old.gate ≡ self.now }
-        ensures ticket { ticket.new ≡ record ticket.old { found = ticket.old.found ++ result ∷ [] } }
-        ensures low { ticket.old.bw ≤ result }
-        ensures high { result ≤ cap_of self.now ticket.old.domain }
+        ensures load { IsLoad ticket.old result ticket.new }
         ensures small { result ≤ 2 ^ 26 }
     {
         let domain = ticket.domain;

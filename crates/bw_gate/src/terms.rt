@@ -55,7 +55,7 @@ impl Terms {
         requires { domain < length self.now.caps }
         ensures { result ≡ cap_in self.now domain }
     {
-        let caps = self.caps;
+        let caps = &self.caps;
         caps[domain]
     }
 }
