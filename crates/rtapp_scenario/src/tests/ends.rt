@@ -331,6 +331,15 @@ fn other_keys(rt: HostRuntime) -> Result<(), Fail> {
             (r#""run":1,"run1a":3"#, "scenario 22 key run1a"),
             (r#""run":1,"":3"#, "scenario 22 key "),
             (r#""run":1,"RUN":3"#, "scenario 22 key RUN"),
+            // A key is printed as it was read, control characters too.
+            (
+                r#""run":1,"a\nb\u0000\u001b":3"#,
+                "scenario 22 key a\nb\0\u{1b}",
+            ),
+            (
+                r#""run":1,"\u007f\u0085":3"#,
+                "scenario 22 key \u{7f}\u{85}",
+            ),
         ],
     )
 }
