@@ -1,4 +1,5 @@
 mod ends;
+mod memory;
 
 use super::{Scenario, ScenarioFault, parse};
 use domain_run::{Event, Script};
