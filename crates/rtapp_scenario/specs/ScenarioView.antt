@@ -4,7 +4,7 @@ use Rattle.attr_check.specs.declared.attr.SchedAttr.{SchedAttr}
 use Rattle.domain_run.specs.NameView.{IsName}
 use Rattle.domain_run.specs.script.ScriptView.{ScriptView, IsScript}
 
--- a task: its number, name, attributes, CPUs (none where any domain will do), microseconds to its start, and script
+-- a task: its number, name, attributes, CPUs (none where the text names none, which means domain 0), microseconds to its start, and script
 pub record TaskSpecView : Type 0 where
   pub number : ℕ
   pub name : List ℕ

@@ -43,7 +43,7 @@ rounds ms = option_and_then (natural_within 1 1000000000) (at (codes "loop") ms)
 abbrev pub count : List Member → ℕ
 count ms = number_at (codes "loop") 1 1000000000 1 ms
 
--- none where any domain will do
+-- none where the text names none, which means domain 0
 abbrev pub cpus : List Member → Option (List ℕ)
 cpus ms = option_map (λ items. numbers_in items) (option_and_then list_of (at (codes "cpus") ms))
 

@@ -80,7 +80,8 @@ fn check_event_value<'a>(
     }
 }
 
-fn events_in(members: &[(String, Tree)]) -> usize
+/// How many events these members are, those of 0 us too.
+pub(crate) fn events_in(members: &[(String, Tree)]) -> usize
     ensures { result ≡ count_by is_event (members_of members.now) }
 {
     members.iter().filter(|m| is_event(m)).count()

@@ -11,7 +11,8 @@ pub struct TaskSpec {
     pub name: Name,
     /// Policy 6, flags 0, and runtime, deadline and period in nanoseconds. They are checked at admission.
     pub attr: SchedAttr,
-    /// The CPUs on which the task may run, each 0 to 511; none where any domain will do.
+    /// The CPUs on which the task may run, each 0 to 511; none where the text names none, which
+    /// means domain 0.
     pub cpus: Option<Vec<u32>>,
     /// Microseconds from the admission to the task's start, 0 to 10^9.
     pub delay: u64,

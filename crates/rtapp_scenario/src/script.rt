@@ -7,6 +7,7 @@ ghost use Rattle.rtapp_scenario.specs.Threads.{event_at};
 ghost use Rattle.rtapp_scenario.specs.Tests.{members_fault};
 ghost use Rattle.rtapp_scenario.specs.Scenario.{phase_of, member_phase, phases, script};
 
+use crate::events::events_in;
 use crate::numbers::{count, rounds};
 use crate::threads::event_at;
 use crate::value::{at, members};
@@ -17,7 +18,7 @@ use std::alloc::{AllocError, Global};
 fn events_of(alloc: Global, members: &[(String, Tree)]) -> Result<Vec<Event>, AllocError>
     ensures { IfOk result (λ v. v.items ≡ filter_map event_at (members_of members.now)) }
 {
-    let mut events = Vec::new(alloc);
+    let mut events = Vec::with_capacity(alloc, events_in(members))?;
     for member in members {
         if let Some(event) = event_at(member) {
             events.push(event)?;
@@ -37,7 +38,7 @@ fn phase_of(alloc: Global, count: u64, members: &[(String, Tree)]) -> Result<Pha
 fn phases_in(alloc: Global, phases: &[(String, Tree)]) -> Result<Vec<Phase>, AllocError>
     ensures { IfOk result (λ v. v.items ≡ map member_phase (members_of phases.now)) }
 {
-    let mut made = Vec::new(alloc);
+    let mut made = Vec::with_capacity(alloc, phases.len())?;
     for phase in phases {
         let members = members(&phase.1);
         made.push(phase_of(alloc, count(members), members)?)?;
@@ -51,7 +52,7 @@ fn phases_of(alloc: Global, members: &[(String, Tree)]) -> Result<Vec<Phase>, Al
     if let Some(phases) = at("phases", members) {
         return phases_in(alloc, crate::value::members(phases));
     }
-    let mut made = Vec::new(alloc);
+    let mut made = Vec::with_capacity(alloc, 1)?;
     made.push(phase_of(alloc, 1, members)?)?;
     Ok(made)
 }

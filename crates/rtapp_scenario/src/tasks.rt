@@ -62,7 +62,7 @@ fn task_name(alloc: Global, name: &str, instances: u64, k: u64) -> Result<Name, 
 fn numbers_of(alloc: Global, items: &[Tree]) -> Result<Vec<u32>, AllocError>
     ensures { IfOk result (λ v. v.items ≡ numbers_in (map json_of items.now)) }
 {
-    let mut numbers = Vec::new(alloc);
+    let mut numbers = Vec::with_capacity(alloc, items.len())?;
     for item in items {
         numbers.push(number_of(item))?;
     }

@@ -1,3 +1,6 @@
+mod ends;
+mod memory;
+
 use super::{Scenario, ScenarioFault, parse};
 use domain_run::{Event, Script};
 use json_order::read;
@@ -157,141 +160,6 @@ fn timer_cursor(rt: HostRuntime) -> Result<(), Fail> {
     Ok(())
 }
 
-/// Each key of a thread at its lowest and highest value, and one past each.
-#[test]
-fn keys_of_a_thread(rt: HostRuntime) -> Result<(), Fail> {
-    for (members, answer) in [
-        ("\"run\":1,\"instance\":0", "scenario 23 key instance"),
-        ("\"run\":1,\"instance\":257", "scenario 23 key instance"),
-        ("\"run\":1,\"instance\":1.0", "scenario 23 key instance"),
-        ("\"run\":1,\"loop\":0", "scenario 23 key loop"),
-        ("\"run\":1,\"loop\":-2", "scenario 23 key loop"),
-        ("\"run\":1,\"loop\":1000000001", "scenario 23 key loop"),
-        (
-            "\"run\":1,\"loop\":1000000000",
-            "1000000; 1 a 6 0 100000 100000 100000 0 any 1000000000:1{r1 }",
-        ),
-        (
-            "\"run\":1,\"delay\":-0",
-            "1000000; 1 a 6 0 100000 100000 100000 0 any -1:1{r1 }",
-        ),
-        (
-            "\"run\":1,\"delay\":1000000000",
-            "1000000; 1 a 6 0 100000 100000 100000 1000000000 any -1:1{r1 }",
-        ),
-        ("\"run\":1,\"delay\":-1", "scenario 23 key delay"),
-        ("\"run\":1,\"delay\":1000000001", "scenario 23 key delay"),
-        (
-            "\"run\":1,\"delay\":99999999999999999999",
-            "scenario 23 key delay",
-        ),
-        (
-            "\"run\":1,\"priority\":[{}]",
-            "1000000; 1 a 6 0 100000 100000 100000 0 any -1:1{r1 }",
-        ),
-        (
-            "\"run\":1,\"dl-period\":9000000000000000",
-            "1000000; 1 a 6 0 100000 9000000000000000000 9000000000000000000 0 any -1:1{r1 }",
-        ),
-        (
-            "\"run\":1,\"dl-period\":9000000000000001",
-            "scenario 23 key dl-period",
-        ),
-        (
-            "\"run\":1,\"dl-deadline\":7,\"dl-period\":0",
-            "1000000; 1 a 6 0 100000 7000 0 0 any -1:1{r1 }",
-        ),
-        (
-            "\"run\":1,\"dl-deadline\":-1",
-            "scenario 23 key dl-deadline",
-        ),
-        (
-            "\"run\":1,\"cpus\":[511,0]",
-            "1000000; 1 a 6 0 100000 100000 100000 0 511,0, -1:1{r1 }",
-        ),
-        ("\"run\":1,\"cpus\":[]", "scenario 23 key cpus"),
-        ("\"run\":1,\"cpus\":[512]", "scenario 23 key cpus"),
-        ("\"run\":1,\"cpus\":[1,1]", "scenario 23 key cpus"),
-        ("\"run\":1,\"cpus\":3", "scenario 23 key cpus"),
-        ("\"run\":1,\"other\":3", "scenario 22 key other"),
-        ("\"run\":1,\"policy2\":3", "scenario 22 key policy2"),
-    ] {
-        let text = one_task(rt.alloc(), members)?;
-        let given = given(rt.alloc(), &text)?;
-        assert_eq!(rt; given.as_str(), answer, "{members}");
-    }
-    Ok(())
-}
-
-#[test]
-fn events_and_phases(rt: HostRuntime) -> Result<(), Fail> {
-    for (members, answer) in [
-        (
-            "\"run\":1000000000,\"sleep\":0",
-            "1000000; 1 a 6 0 100000 100000 100000 0 any -1:1{r1000000000 }",
-        ),
-        ("\"run\":1000000001", "scenario 23 key run"),
-        ("\"run07\":-1", "scenario 23 key run07"),
-        ("\"sleep\":\"1\"", "scenario 23 key sleep"),
-        ("\"timer\":1", "scenario 23 key timer"),
-        ("\"timer\":{}", "scenario 23 key ref"),
-        ("\"timer\":{\"ref\":\"unique\"}", "scenario 23 key period"),
-        ("\"timer\":{\"ref\":1}", "scenario 23 key ref"),
-        ("\"timer\":{\"period\":0}", "scenario 23 key period"),
-        (
-            "\"timer\":{\"period\":1000000001}",
-            "scenario 23 key period",
-        ),
-        (
-            "\"timer\":{\"ref\":\"a\",\"period\":1000000000,\"mode\":\"relative\"}",
-            "1000000; 1 a 6 0 100000 100000 100000 0 any -1:1{t1000000000 }",
-        ),
-        (
-            "\"timer\":{\"ref\":\"a\",\"period\":1,\"mode\":\"absolute\"}",
-            "scenario 22 key mode",
-        ),
-        (
-            "\"timer\":{\"ref\":\"a\",\"period\":1,\"mood\":1}",
-            "scenario 22 key mood",
-        ),
-        (
-            "\"timer\":{\"ref\":\"a\",\"period\":1},\"timer1\":{\"period\":1,\"ref\":\"b\"}",
-            "scenario 22 key ref",
-        ),
-        ("\"phases\":{}", "scenario 23 key phases"),
-        ("\"phases\":[]", "scenario 23 key phases"),
-        ("\"phases\":{\"p\":1}", "scenario 23 key p"),
-        (
-            "\"phases\":{\"p\":{\"run\":1,\"loop\":0}}",
-            "scenario 23 key loop",
-        ),
-        (
-            "\"phases\":{\"p\":{\"run\":1,\"loop\":1000000001}}",
-            "scenario 23 key loop",
-        ),
-        (
-            "\"phases\":{\"p\":{\"run\":1,\"loop\":1000000000}}",
-            "1000000; 1 a 6 0 100000 100000 100000 0 any -1:1000000000{r1 }",
-        ),
-        (
-            "\"phases\":{\"p\":{\"run\":1,\"delay\":1}}",
-            "scenario 22 key delay",
-        ),
-        ("\"phases\":{\"p\":{\"run\":1},\"q\":{}}", "scenario 27"),
-        (
-            "\"phases\":{\"p\":{\"run\":1}},\"run\":\"x\"",
-            "scenario 22 key run",
-        ),
-        ("\"run\":0,\"phases\":7", "scenario 22 key phases"),
-        ("\"delay\":0", "scenario 27"),
-    ] {
-        let text = one_task(rt.alloc(), members)?;
-        let given = given(rt.alloc(), &text)?;
-        assert_eq!(rt; given.as_str(), answer, "{members}");
-    }
-    Ok(())
-}
-
 #[test]
 fn the_first_fault_wins(rt: HostRuntime) -> Result<(), Fail> {
     for (members, answer) in [
@@ -315,6 +183,11 @@ fn the_first_fault_wins(rt: HostRuntime) -> Result<(), Fail> {
         let given = given(rt.alloc(), &text)?;
         assert_eq!(rt; given.as_str(), answer, "{members}");
     }
+    Ok(())
+}
+
+#[test]
+fn faults_before_the_members(rt: HostRuntime) -> Result<(), Fail> {
     for (text, answer) in [
         (
             "{\"tasks\":{\"\":1},\"global\":{\"duration\":60}}",
@@ -378,7 +251,12 @@ fn too_many(rt: HostRuntime) -> Result<(), Fail> {
         let given = given(rt.alloc(), &text)?;
         assert_eq!(rt; given.as_str(), answer);
     }
-    // 256 tasks, and one more.
+    Ok(())
+}
+
+/// 256 tasks, and two more.
+#[test]
+fn tasks_of_many_threads(rt: HostRuntime) -> Result<(), Fail> {
     for (count, answer) in [(128, None), (129, Some("scenario 26"))] {
         let threads = many(
             rt.alloc(),
