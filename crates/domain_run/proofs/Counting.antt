@@ -26,10 +26,10 @@ use Rattle.domain_run.specs.declared.task.Condition.TheVariants.{Ready, Throttle
 use Rattle.domain_run.specs.Parts.{homed, is_listed}
 use Rattle.domain_run.specs.Calls.{of_number, regraded, awoken, ended}
 use Rattle.domain_run.specs.Charging.{rate_with, ran_with}
-use Rattle.domain_run.proofs.Placing.{homed_number, homed_params, homed_cpu, position_within}
+use Rattle.domain_run.proofs.Placing.{not_true, homed_number, homed_params, homed_cpu, position_within}
 use Rattle.domain_run.specs.Domain.{Domain}
 use Rattle.domain_run.specs.Sound.{IsApart, IsDomain}
-use Rattle.domain_run.proofs.Seating.{placed_is}
+use Rattle.domain_run.proofs.Seating.{IsSeating, placed_is}
 use Rattle.domain_run.proofs.Keeping.{Same, same_itself, same_either, same_ran, length-filter_least}
 use Rattle.attr_check.specs.ParamsView.{ParamsView}
 
@@ -239,13 +239,9 @@ candidates_listed (t ∷ tasks) =
     elim (is_listed t) as (λ b. is_listed t ≡ b → candidates (cond b (t ∷ rest) rest) ≡ candidates (t ∷ tasks)) [
       | true ↦ λ e. candidates_first t rest ∙ ap (λ cs. one (ready_of t) ++ cs) (candidates_listed tasks) ∙ sym (candidates_first t tasks)
       | false ↦ λ e.
-          let idle : is_ready t.condition ≡ false = not_ready (is_ready t.condition) (is_listed t) (ready_listed t.condition (is_none t.zero_lag)) e in
+          let idle : is_ready t.condition ≡ false = not_true (is_ready t.condition) (is_listed t) (ready_listed t.condition (is_none t.zero_lag)) e in
           candidates_listed tasks ∙ sym (candidates_first t tasks ∙ rw idle refl)
     ] refl
-  where
-    not_ready : (a b : Bool) → (a ≡ true → b ≡ true) → b ≡ false → a ≡ false
-    not_ready true b h e = let no : true ≡ false = sym (h refl) ∙ e in absurd cc
-    not_ready false b h e = refl
 
 -- tasks that have left go off the list, and their bandwidth goes back
 pub counted_listed : (cpus : ℕ) (queue new : RunQueue) (tasks : List Task) → length new.accounts.all ≡ length queue.accounts.all → new.ready ≡ queue.ready → AreAccounts new.accounts (shares (filter is_listed tasks)) → IsCounted cpus queue tasks → IsCounted cpus new (filter is_listed tasks)
@@ -263,9 +259,12 @@ counted_listed cpus queue new tasks wide ready sums is = record {
 pub placed_counted : (cpus n : ℕ) (queue : RunQueue) (tasks : List Task) (before : Places) → IsCounted cpus queue tasks → placed n queue.ready before ≡ placed n (candidates tasks) before
 placed_counted cpus n queue tasks before is = ap (λ q. placed n q before) is.counts.order ∙ placed_ordered n (candidates tasks) before (numbered_candidates tasks is.roster.numbered)
 
+pub placed_seating : (cpus : ℕ) (queue : RunQueue) (tasks : List Task) (before new : Places) → IsCounted cpus queue tasks → IsApart before → new ≡ placed (length before) queue.ready before → IsSeating (candidates tasks) (length before) new
+placed_seating cpus queue tasks before new is apart e =
+    subst (IsSeating (candidates tasks) (length before)) (sym (e ∙ placed_counted cpus (length before) queue tasks before is)) (placed_is (length before) (candidates tasks) before refl apart)
+
 pub placed_wide : (cpus : ℕ) (queue : RunQueue) (tasks : List Task) (before new : Places) → IsCounted cpus queue tasks → IsApart before → new ≡ placed (length before) queue.ready before → length new ≡ length before
-placed_wide cpus queue tasks before new is apart e =
-    ap (λ (ps : Places). length ps) (e ∙ placed_counted cpus (length before) queue tasks before is) ∙ (placed_is (length before) (candidates tasks) before refl apart).wide
+placed_wide cpus queue tasks before new is apart e = (placed_seating cpus queue tasks before new is apart e).wide
 
 -- what the sums say of their list
 pub inactive_is : (a : AccountsView) (xs : List Share) (cpu : ℕ) → AreAccounts a xs → inactive_at cpu a ≡ uinact cpu xs

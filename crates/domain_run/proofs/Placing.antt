@@ -2,7 +2,7 @@
 use Rattle.std.proofs.Common.{◌≡◌, ℕ, ◌<◌, Bool, true, false, cond, eqb, ltb, ◌||◌, ◌&&◌, Option, Some, None, List, [], ◌∷◌, length, map, get_or, refl, sym, ap, ◌∙◌, subst, arith, inl, inr, eq-eqb}
 use Rattle.std.specs.Prelude.{All, Any, AllPairs, IsTrue, filter, position, pos, ◌<ℤ◌, ◌≢◌}
 use Rattle.std.specs.List.{list_any, position_or_len}
-use Rattle.std.proofs.lemmas.Bool.{cases_lt, eqb-true, lt-ltb, ltb-true}
+use Rattle.std.proofs.lemmas.Bool.{or_parts, cases_lt, eqb-true, lt-ltb, ltb-true}
 use Rattle.std.proofs.lemmas.List.{get_or-map, get_or_past, get_or_default, length-map}
 use Rattle.std.proofs.lemmas.List.Folds.{Any-from_list_any}
 use Rattle.std.proofs.lemmas.List.Sums.{position_or_len_is}
@@ -90,6 +90,28 @@ position_within n places cpu e =
     let s = some_below (ltb k (length places)) k cpu e in
     subst (λ x. x < length places) s.1 (ltb-true k (length places) s.0)
 
+-- what comes with nothing true is not true
+pub not_true : (a b : Bool) → (a ≡ true → b ≡ true) → b ≡ false → a ≡ false
+not_true true b h e = let no : true ≡ false = sym (h refl) ∙ e in absurd cc
+not_true false b h e = refl
+
+-- a task that stands nowhere has no place
+past_all : (n : ℕ) (places : Places) → stands n places ≡ false → position_or_len (is_task n) places ≡ length places
+past_all n [] e = refl
+past_all n (o ∷ places) e =
+    let none = or_parts (is_task n o) (stands n places) e in
+    rw none.0 (omega (arith, past_all n places none.1))
+
+pub homed_nowhere : (places : Places) (t : Task) → stands t.number places ≡ false → homed places t ≡ t
+homed_nowhere places t e =
+    let at = position (is_task t.number) places in
+    elim at as (λ o. at ≡ o → homed_at o t ≡ t) [
+      | None ↦ λ h. refl
+      | Some cpu ↦ λ h.
+          let k = position_or_len (is_task t.number) places in
+          absurd (omega (arith, (some_below (ltb k (length places)) k cpu h).1, position_within t.number places cpu h, past_all t.number places e))
+    ] refl
+
 and_both : (a b : Bool) → (a && b) ≡ true → (a ≡ true) × (b ≡ true)
 and_both true b e = (refl, e)
 and_both false b e = absurd cc
@@ -132,16 +154,31 @@ one_index tasks i j t u numbered h k e =
       ]
     ]
 
-ready_one : (tasks : List Task) (i cpu n : ℕ) (t : Task) → AllPairs (λ a b. a.number ≢ b.number) tasks → i < length tasks → (get_or tasks i t).number ≡ n
-    → Any (λ t. (t.number ≡ n) × (t.cpu ≡ cpu) × IsTrue (is_ready t.condition) × (pos 0 <ℤ t.server.left)) tasks → IsTrue (is_ready (get_or tasks i t).condition)
-ready_one tasks i cpu n t numbered h e (j, u, within, same, facts) =
+ready_one : (tasks : List Task) (i n : ℕ) (t : Task) → AllPairs (λ a b. a.number ≢ b.number) tasks → i < length tasks → (get_or tasks i t).number ≡ n
+    → Any (λ t. (t.number ≡ n) × IsTrue (is_ready t.condition)) tasks → IsTrue (is_ready (get_or tasks i t).condition)
+ready_one tasks i n t numbered h e (j, u, within, same, facts) =
     let there_is : get_or tasks j t ≡ u = get_or_default tasks j t u within ∙ same in
     let i_is : i ≡ j = one_index tasks i j t u numbered h within (e ∙ sym (ap (λ x. x.number) there_is ∙ facts.0)) in
-    ap (λ (x : Task). is_ready x.condition) (ap (λ k. get_or tasks k t) i_is ∙ there_is) ∙ facts.2
+    ap (λ (x : Task). is_ready x.condition) (ap (λ k. get_or tasks k t) i_is ∙ there_is) ∙ facts.1
 
 -- who stands on a CPU is ready
 pub running_ready : (d : Domain) → AllPairs (λ a b. a.number ≢ b.number) d.tasks → IsPlacement d → All (λ t. IsTrue (stands t.number d.places) → IsTrue (is_ready t.condition)) d.tasks
 running_ready d numbered is i x within h =
     let n = (get_or d.tasks i x).number in
     let at = stands_at n d.places (Any-from_list_any (is_task n) d.places h) in
-    ready_one d.tasks i at.0 n x numbered within refl (is.running at.0 n at.1)
+    ready_one d.tasks i n x numbered within refl (ready_there (is.running at.0 n at.1))
+  where
+    ready_there : {n cpu : ℕ} → Any (λ t. (t.number ≡ n) × (t.cpu ≡ cpu) × IsTrue (is_ready t.condition) × (pos 0 <ℤ t.server.left)) d.tasks → Any (λ t. (t.number ≡ n) × IsTrue (is_ready t.condition)) d.tasks
+    ready_there (j, u, inside, same, facts) = (j, u, inside, same, (facts.0, facts.2))
+
+-- the same of a placement of their candidates
+pub seated_ready : (cpus : ℕ) (tasks : List Task) (places : Places) → AllPairs (λ a b. a.number ≢ b.number) tasks → IsSeating (candidates tasks) cpus places → All (λ t. IsTrue (stands t.number places) → IsTrue (is_ready t.condition)) tasks
+seated_ready cpus tasks places numbered is i x within h =
+    let n = (get_or tasks i x).number in
+    let at = stands_at n places (Any-from_list_any (is_task n) places h) in
+    ready_one tasks i n x numbered within refl (ready_there (Any-from_list_any (is_ready_number n) tasks (ready_in n tasks (is.candidates.each at.0 n at.1))))
+  where
+    ready_there : {n : ℕ} → Any (λ t. is_ready_number n t ≡ true) tasks → Any (λ t. (t.number ≡ n) × IsTrue (is_ready t.condition)) tasks
+    ready_there {n} (j, u, inside, same, test) =
+        let both = and_both (eqb u.number n) (is_ready u.condition) test in
+        (j, u, inside, same, (eqb-true u.number n both.0, both.1))

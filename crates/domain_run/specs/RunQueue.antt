@@ -12,10 +12,11 @@ use Rattle.domain_run.specs.Domain.{Domain}
 use Rattle.domain_run.specs.Sound.{IsDomain}
 use Rattle.domain_run.specs.Tick.{share_of, shares, candidate_of, candidates}
 
--- a task as the sums see it, and as the choice does where it is ready
+-- a ready task as the choice sees it
 abbrev pub ready_of : Task → Option Candidate
 ready_of t = if is_ready t.condition then Some (candidate_of t) else None
 
+-- a task as the sums see it, and as the choice does
 abbrev pub standing_of : Task → Standing
 standing_of t = record { share = share_of t; ready = ready_of t }
 

@@ -270,10 +270,14 @@ fn place_of(number: u32, places: &[Option<u32>]) -> Option<usize>
     places.iter().position(|occupant| *occupant == Some(number))
 }
 
-/// Part 4: a placed task belongs to its CPU.
+/// Part 4: a placed task, which is ready, belongs to its CPU.
 pub(crate) fn home(task: &mut Task, places: &[Option<u32>])
+    requires { IsTrue (places_spec.stands task.old.number places.now) → IsTrue (conditions.is_ready task.old.condition) }
     ensures { task.new ≡ parts.homed places.now task.old }
 {
+    if !task.condition.is_ready() {
+        return;
+    }
     if let Some(cpu) = place_of(task.number, places) {
         task.cpu = cpu;
     }

@@ -117,7 +117,8 @@ fn wake_all(tasks: &mut Vec<Task>, queue: &mut RunQueue, time: u64)
 
 /// Part 4: a placed task belongs to its CPU.
 fn home_all(tasks: &mut Vec<Task>, queue: &mut RunQueue, places: &[Option<u32>])
-    requires { IsCounted (length places.now) queue.old tasks.old.items }
+    requires running { All (λ t. IsTrue (places_spec.stands t.number places.now) → IsTrue (conditions.is_ready t.condition)) tasks.old.items }
+    requires counted { IsCounted (length places.now) queue.old tasks.old.items }
     ensures tasks { tasks.new.items ≡ map (parts_spec.homed places.now) tasks.old.items }
     ensures counted { IsCounted (length places.now) queue.new tasks.new.items }
     ensures room { vec_capacity tasks.new ≡ vec_capacity tasks.old }
@@ -236,7 +237,7 @@ fn run_if(task: &mut Task, places: &[Option<u32>], sums: &Sums<'_>, time: u64)
     ensures task { task.new ≡ ran_with time places.now sums.now.idle.now.items sums.now.sum sums.now.cpus sums.now.limit task.old }
     ensures sound { IsSound (time + 1) task.new }
 {
-    if edf_pick::stands(task.number, places) {
+    if task.condition.is_ready() && edf_pick::stands(task.number, places) {
         let rate = rate_at(task, sums);
         parts::run(task, rate, time);
     }

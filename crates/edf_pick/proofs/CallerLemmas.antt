@@ -13,7 +13,7 @@ use mathlib.Core.Path.{fun_ext}
 use Rattle.edf_pick.specs.declared.candidate.Candidate.{Candidate}
 use Rattle.edf_pick.specs.Choice.{is_before, rank, ranked}
 use Rattle.edf_pick.specs.Order.{IsRising, is_same, has_candidate, with_candidate, without_candidate, ordered}
-use Rattle.edf_pick.specs.Places.{Places, is_chosen_number, kept, seated_if, seated_upto, placed, at_home}
+use Rattle.edf_pick.specs.Places.{Places, is_chosen_number, kept, seated_if, seated_upto, placed}
 use Rattle.edf_pick.proofs.Before.{before_reverse, before_other, before_past, same_itself, number_differs}
 use Rattle.edf_pick.proofs.Rising.{place, insert_place, rising_with, without_absent}
 use Rattle.edf_pick.proofs.Picked.{map_same, rank_place, place_at}
@@ -219,18 +219,3 @@ pub placed_ordered : (cpus : ℕ) (xs : List Candidate) (before : Places) → Is
 placed_ordered cpus xs before numbered =
     seated_same xs (map (kept cpus (ordered xs)) before) cpus numbered
     ∙ ap (λ (ps : Places). seated_upto xs ps cpus) (map_same (kept cpus (ordered xs)) (kept cpus xs) (λ o. kept_same cpus xs o) before)
-
--- SETTLED
-with_home : (places : Places) (c : Candidate) (queue : List Candidate) → with_candidate (at_home places c) (map (at_home places) queue) ≡ map (at_home places) (with_candidate c queue)
-with_home places c [] = refl
-with_home places c (a ∷ queue) =
-    let home = at_home places in
-    elim (is_before a c) as (λ b. cond b (home a ∷ with_candidate (home c) (map home queue)) (home c ∷ home a ∷ map home queue) ≡ map home (cond b (a ∷ with_candidate c queue) (c ∷ a ∷ queue))) [
-      | true ↦ behind (home a) _ _ (with_home places c queue)
-      | false ↦ refl
-    ]
-
--- what `settle` leaves is the order of the tasks with their new homes
-pub ordered_home : (places : Places) (xs : List Candidate) → ordered (map (at_home places) xs) ≡ map (at_home places) (ordered xs)
-ordered_home places [] = refl
-ordered_home places (c ∷ xs) = taken_in (at_home places c) _ _ (ordered_home places xs) ∙ with_home places c (ordered xs)

@@ -1,18 +1,16 @@
 -- Lists that rise in the order of the choice, and a task's place in them.
-use Rattle.std.proofs.Common.{◌≡◌, ◌<◌, ◌≤◌, ℕ, subst, suc, ◌+◌, Bool, true, false, cond, List, [], ◌∷◌, length, get_or, map, refl, sym, ap, ◌∙◌, arith, inl, inr}
+use Rattle.std.proofs.Common.{◌≡◌, ◌<◌, ◌≤◌, ℕ, subst, suc, ◌+◌, Bool, true, false, cond, List, [], ◌∷◌, length, get_or, refl, sym, ap, ◌∙◌, arith, inl, inr}
 use Rattle.std.specs.Prelude.{All, not}
 use Rattle.std.specs.List.{insert, remove, prefix_len}
 use Rattle.std.specs.List.Sorted.{IsPartitionedBy}
 use Rattle.std.proofs.lemmas.Bool.{cond_both, or_parts, or_from, cases_lt}
-use Rattle.std.proofs.lemmas.List.{length-map}
-use Rattle.std.proofs.lemmas.List.Elements.{All-nil, All-cons, All-head, All-tail, All-weaker, All-map}
+use Rattle.std.proofs.lemmas.List.Elements.{All-nil, All-cons, All-head, All-tail, All-weaker}
 use Rattle.std.proofs.lemmas.List.Kept.{AllPairs-cons}
 use Rattle.std.proofs.lemmas.List.Edits.{length-insert}
 use Rattle.std.proofs.lemmas.List.Sums.{prefix_len-le-length}
 use Rattle.edf_pick.specs.declared.candidate.Candidate.{Candidate}
 use Rattle.edf_pick.specs.Choice.{is_before}
 use Rattle.edf_pick.specs.Order.{IsRising, IsQueue, is_same, has_candidate, with_candidate, without_candidate}
-use Rattle.edf_pick.specs.Places.{Places, at_home}
 use Rattle.edf_pick.proofs.Before.{before_both, before_other, before_differs, differs_reverse, same_before}
 
 -- how many at the front are before c
@@ -128,21 +126,3 @@ absent_place c (a ∷ queue) d rising other =
           let differs : is_same a c ≡ false = f (omega arith) in
           or_from (is_same a c) (has_candidate c queue) differs (none_later c queue (before_all c a queue (before_other a c e differs) first))
     ] refl other
-
--- SETTLED
--- a home does not count in the order
-rising_home : (places : Places) (queue : List Candidate) → IsRising queue → IsRising (map (at_home places) queue)
-rising_home places [] rising = λ i j d h k. absurd (omega arith)
-rising_home places (a ∷ queue) rising =
-    rising_cons (at_home places a) (map (at_home places) queue)
-    (All-map (λ b. is_before (at_home places a) b ≡ true) (at_home places) queue (rising_first a queue rising))
-    (rising_home places queue (rising_rest a queue rising))
-
--- a queue whose tasks have settled
-pub queue_home : (places : Places) (queue items : List Candidate) (before after : ℕ) → IsQueue queue before → after ≡ before → items ≡ map (at_home places) queue → IsQueue items after
-queue_home places queue items before after is same e =
-    let n = length-map queue (at_home places) in
-    let len : length items ≡ length queue = ap (λ (xs : List Candidate). length xs) e ∙ n in
-    let room : 256 ≤ before = is.room in
-    let few : length queue ≤ 256 = is.few in
-    record { rising = subst (λ xs. IsRising xs) (sym e) (rising_home places queue is.rising); few = omega arith; room = omega arith }

@@ -1,8 +1,8 @@
 -- Worked rows of the choice and the placement.
-use Rattle.std.specs.Prelude.{ℕ, ◌≡◌, [], ◌∷◌, map, Some, None, refl}
+use Rattle.std.specs.Prelude.{ℕ, ◌≡◌, [], ◌∷◌, Some, None, refl}
 use Rattle.edf_pick.specs.declared.candidate.Candidate.{Candidate}
 use Rattle.edf_pick.specs.Order.{without_candidate, ordered}
-use Rattle.edf_pick.specs.Places.{placed, at_home}
+use Rattle.edf_pick.specs.Places.{placed}
 
 abbrev ready : ℕ → ℕ → ℕ → Candidate
 ready deadline number home = record { deadline = deadline; number = number; home = home }
@@ -34,7 +34,3 @@ in_order = refl
 -- who is taken out is known by deadline and number, wherever it belongs
 taken_out : without_candidate (ready 8 1 3) (ready 5 7 1 ∷ ready 8 1 0 ∷ ready 8 2 0 ∷ []) ≡ ready 5 7 1 ∷ ready 8 2 0 ∷ []
 taken_out = refl
-
--- who stands on a CPU belongs to it; the other keeps its home
-settled : map (at_home (None ∷ Some 7 ∷ [])) (ready 5 7 0 ∷ ready 8 1 0 ∷ []) ≡ ready 5 7 1 ∷ ready 8 1 0 ∷ []
-settled = refl

@@ -1,5 +1,5 @@
 -- On which CPU each chosen task runs (own).
-use Rattle.std.specs.Prelude.{ℕ, zero, suc, ◌<◌, ◌≤◌, length, position, Bool, false, ◌&&◌, ◌==◌, if◌then◌else◌, List, map, slice_get, slice_set, Option, Some, None, is_none, unwrap_or}
+use Rattle.std.specs.Prelude.{ℕ, zero, suc, ◌<◌, ◌≤◌, length, position, Bool, false, ◌&&◌, ◌==◌, if◌then◌else◌, List, map, slice_get, slice_set, Option, Some, None, is_none}
 use Rattle.std.specs.List.{list_any}
 use Rattle.edf_pick.specs.declared.candidate.Candidate.{Candidate}
 use Rattle.edf_pick.specs.Choice.{is_chosen, ranked}
@@ -56,7 +56,3 @@ seated_upto ready places (suc r) = seated_if (seated_upto ready places r) (ranke
 -- those that stay, and then the other chosen ones in the order of the choice
 abbrev pub placed : ℕ → List Candidate → Places → Places
 placed cpus ready before = seated_upto ready (map (kept cpus ready) before) cpus
-
--- a task that stands on a CPU belongs to it
-abbrev pub at_home : Places → Candidate → Candidate
-at_home places c = record c { home = unwrap_or (position (is_task c.number) places) c.home }

@@ -1,13 +1,10 @@
 //! The ready tasks in the order of the choice.
 
-ghost use Rattle.std.specs.Prelude.{◌≡◌, ◌<◌, ◌≤◌, ◌==◌, false, [], length, map, IfOk};
-ghost use Rattle.edf_pick.specs.Places.{at_home};
+ghost use Rattle.std.specs.Prelude.{◌≡◌, ◌<◌, ◌≤◌, ◌==◌, false, [], length, IfOk};
 ghost use Rattle.edf_pick.specs.Order as order;
 
 use crate::candidate::Candidate;
 use crate::order::{find, place_of};
-use crate::placement::Placement;
-use crate::seats::settle_all;
 use std::alloc::{AllocError, Global};
 use std::marker::Model;
 
@@ -95,12 +92,5 @@ impl Queue {
         };
         self.tasks.remove(place);
         true
-    }
-
-    /// Each task that stands on a CPU belongs to that CPU from now on; the order stays. For the tick after a placement.
-    pub fn settle(&mut self, placement: &Placement)
-        ensures { self.new ≡ map (at_home placement.now) self.old }
-    {
-        settle_all(&mut self.tasks, placement.occupants());
     }
 }

@@ -48,27 +48,3 @@ pub(crate) fn seat(places: &mut Vec<Option<u32>>, c: &Candidate)
         places[cpu] = Some(c.number);
     }
 }
-
-fn cpu_of(number: u32, places: &[Option<u32>]) -> Option<usize>
-    ensures { result ≡ position (spec.is_task number) places.now }
-{
-    places.iter().position(|occupant| *occupant == Some(number))
-}
-
-fn settle(c: &mut Candidate, places: &[Option<u32>])
-    ensures { c.new ≡ spec.at_home places.now c.old }
-{
-    if let Some(cpu) = cpu_of(c.number, places) {
-        c.home = cpu;
-    }
-}
-
-pub(crate) fn settle_all(tasks: &mut Vec<Candidate>, places: &[Option<u32>])
-    ensures tasks { tasks.new.items ≡ map (spec.at_home places.now) tasks.old.items }
-    ensures len { vec_len tasks.new ≡ vec_len tasks.old }
-    ensures room { vec_capacity tasks.new ≡ vec_capacity tasks.old }
-{
-    for c in tasks.iter_mut() {
-        settle(c, places);
-    }
-}

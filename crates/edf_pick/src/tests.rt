@@ -55,13 +55,13 @@ fn the_first_two_of_three(rt: HostRuntime) -> Result<(), Fail> {
     put(&mut queue, ready(8, 1, 1));
     pick(&mut placement, &queue);
     assert_eq!(rt; placement.occupants(), [Some(2), Some(1)].as_slice());
-    queue.settle(&placement);
     let order = [ready(8, 1, 1), ready(8, 2, 0), ready(8, 3, 1)];
     assert_eq!(rt; queue.as_slice(), order.as_slice());
     queue.remove(&ready(8, 2, 0));
     pick(&mut placement, &queue);
     assert_eq!(rt; placement.occupants(), [Some(3), Some(1)].as_slice());
-    queue.settle(&placement);
+    queue.remove(&ready(8, 3, 1));
+    put(&mut queue, ready(8, 3, 0));
     let order = [ready(8, 1, 1), ready(8, 3, 0)];
     assert_eq!(rt; queue.as_slice(), order.as_slice());
     put(&mut queue, ready(9, 2, 0));
@@ -98,12 +98,18 @@ fn turn(queue: &mut Queue, plain: &mut Vec<Candidate>, c: Candidate) -> Result<(
     Ok(())
 }
 
-fn settle(plain: &mut Vec<Candidate>, places: &[Option<u32>]) {
+/// Each task that stands on a CPU belongs to it from now on.
+fn settle(queue: &mut Queue, plain: &mut Vec<Candidate>, places: &[Option<u32>]) {
     for c in plain.iter_mut() {
+        let was = *c;
         for (cpu, occupant) in places.iter().enumerate() {
             if *occupant == Some(c.number) {
                 c.home = cpu;
             }
+        }
+        if *c != was {
+            queue.remove(&was);
+            put(queue, *c);
         }
     }
 }
@@ -123,8 +129,7 @@ fn pick_is_the_plain_program(rt: HostRuntime) -> Result<(), Fail> {
             pick(&mut placement, &queue);
             place(&mut places, &plain);
             assert_eq!(rt; placement.occupants(), places.as_slice());
-            queue.settle(&placement);
-            settle(&mut plain, &places);
+            settle(&mut queue, &mut plain, &places);
         }
     }
     Ok(())

@@ -2,8 +2,11 @@ use Rattle.std.proofs.Common.{◌<◌, length, get_or, sym, subst, arith}
 use Rattle.domain_run.specs.Parts.{homed}
 use Rattle.domain_run.proofs.Counting.{homed_fit}
 use Rattle.domain_run.specs.RunQueue.{standing_of, HasTurned}
-use Rattle.edf_pick.proofs.MapStep.{map_step}
+use Rattle.edf_pick.proofs.MapStep.{map_step, rest_all}
 use Rattle.domain_run.proofs.Counting.{IsFit, may_turn, turned}
+use Rattle.std.specs.Prelude.{IsTrue, All}
+use Rattle.edf_pick.specs.Places.{stands}
+use Rattle.domain_run.specs.Conditions.{is_ready}
 use Rattle.domain_run.proofs.sweep.home_all.Goals as goal
 
 pub turn-requires : goal.turn-requires
@@ -31,3 +34,9 @@ loop-task-preserved c =
       written = map_step (homed c.args.places.now) c.deref_mut-task-items.result.now l.task-items l.task-index x y c.loop-task-test.true l.invariant.written c.home.ensures;
       counted = turned cpus l.queue c.turn.new.self l.task-items l.task-index x y within fit has l.invariant.counted;
     }
+
+pub home-requires : goal.home-requires
+home-requires c =
+    let l = c.loop-task in
+    rest_all (λ t. IsTrue (stands t.number c.args.places.now) → IsTrue (is_ready t.condition)) (homed c.args.places.now) c.deref_mut-task-items.result.now l.task-items l.task-index c.task-item.result c.loop-task-test.true l.invariant.written
+    (subst (All (λ t. IsTrue (stands t.number c.args.places.now) → IsTrue (is_ready t.condition))) (sym c.deref_mut-task-items.ensures.value) c.requires.running)
