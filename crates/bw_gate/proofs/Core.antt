@@ -100,10 +100,10 @@ regrades_as_the_core t bw (regrades.Raced u expected seen) h = λ id c cap word.
 
 pub gives_as_the_core : GivesAsTheCore
 gives_as_the_core t b h = (
-  h.0,
-  ap (λ (w : BlankView). w.found) h.3,
+  h.seen,
+  ap (λ (w : BlankView). w.found) h.blank,
   λ id c word here. ap (λ (o : Option Ticket). given_found id c o) here,
 )
 
 pub loads_as_the_core : LoadsAsTheCore
-loads_as_the_core t n u h = (ap (λ (w : TicketView). w.found) h.2, λ c word. ap (λ (k : ℕ). stays c (Saw k)) word)
+loads_as_the_core t n u h = (ap (λ (w : TicketView). w.found) h.ticket, λ c word. ap (λ (k : ℕ). stays c (Saw k)) word)

@@ -56,9 +56,14 @@ pub record IsRegrade (t : TicketView) (bw : ℕ) (answer : Regrade) : Type 0 whe
 
 -- give by a ticket: its one step found a word that has room for the ticket's bandwidth and is at most the cap, and a blank
 -- comes back
-abbrev pub IsGive : TicketView → BlankView → Type 0
-IsGive t b = (n : ℕ) × (t.bw ≤ n) × (n ≤ cap_of t.gate t.domain) × (b ≡ record { gate = t.gate; found = t.found ++ n ∷ [] })
+pub record IsGive (t : TicketView) (b : BlankView) : Type 0 where
+  pub seen : ℕ
+  pub room : t.bw ≤ seen
+  pub within : seen ≤ cap_of t.gate t.domain
+  pub blank : b ≡ record { gate = t.gate; found = t.found ++ seen ∷ [] }
 
 -- load by a ticket: it answers the word that its one step found, and the ticket keeps its domain and its bandwidth
-abbrev pub IsLoad : TicketView → ℕ → TicketView → Type 0
-IsLoad t n u = (t.bw ≤ n) × (n ≤ cap_of t.gate t.domain) × (u ≡ ticket_found t (n ∷ []))
+pub record IsLoad (t : TicketView) (seen : ℕ) (u : TicketView) : Type 0 where
+  pub room : t.bw ≤ seen
+  pub within : seen ≤ cap_of t.gate t.domain
+  pub ticket : u ≡ ticket_found t (seen ∷ [])

@@ -15,14 +15,14 @@ compare_exchange-found-requires c =
     let d = c.ticket.inside.domain in
     let was = c.ticket.inside.bw in
     let seen = c.load-seen.result in
-    let same = c.ticket.view_is ∙ c.load-seen.ensures.load.2 in
+    let same = c.ticket.view_is ∙ c.load-seen.ensures.load.ticket in
     let gate = ap (λ (t : TicketView). t.gate) same ∙ c.requires.own ∙ sym c.self.view_is in
     let terms : seat.me.0.terms ≡ shared.key = ap (λ (g : GateId). g.terms) gate ∙ sym c.self.invariant.0 in
     let inside : d < length shared.key.caps = subst (λ (t : TermsView). d < length t.caps) terms c.ticket.invariant.3 in
     let words : shared.table_id.words ≡ length shared.key.caps = c.self.invariant.1 ∙ ap (λ (t : TermsView). length t.caps) (sym c.self.invariant.0) in
     let cap : c.cap.result ≡ cap_in shared.key d = c.cap.ensures ∙ ap (λ (t : TermsView). cap_in t d) (sym c.self.invariant.0) in
     let room : seen - was + c.args.bw ≤ cap_in shared.key d = omega (arith, cap, c.if-wanted-cap.false) in
-    let low : was ≤ seen = omega (arith, ap (λ (t : TicketView). t.bw) same, c.load-seen.ensures.load.0) in (
+    let low : was ≤ seen = omega (arith, ap (λ (t : TicketView). t.bw) same, c.load-seen.ensures.load.room) in (
       ap (λ (g : GateId). g.table) gate,
       omega (arith, inside, words),
       regrades shared.key shared.table_id.slots seat.id d was seen (seen - was + c.args.bw) seat.me inside terms c.ticket.invariant.1 (omega (arith, low)) room,
@@ -35,8 +35,8 @@ invariant_of-ticket c =
     let was = c.ticket.inside.bw in
     let seen = c.load-seen.result in
     let found = c.compare_exchange-found.result in
-    let same = c.ticket.view_is ∙ c.load-seen.ensures.load.2 in
-    let low : was ≤ seen = omega (arith, ap (λ (t : TicketView). t.bw) same, c.load-seen.ensures.load.0) in
+    let same = c.ticket.view_is ∙ c.load-seen.ensures.load.ticket in
+    let low : was ≤ seen = omega (arith, ap (λ (t : TicketView). t.bw) same, c.load-seen.ensures.load.room) in
     let step = took found seen _ _ c.if-found-seen.true c.compare_exchange-found.ensures.2 in
     let mine : held_by d seat.me.0 ≡ was = held_one d seat.me.0 (Ticket d was) c.ticket.invariant.1 ∙ held_here d was in
     let bw : (seen - was + c.args.bw) + held_by d seat.me.0 - seen ≡ c.args.bw = omega (arith, mine, low) in
