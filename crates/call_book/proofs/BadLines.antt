@@ -21,7 +21,7 @@ AreLines lines = AllByRecursion (Lacks 10) lines
 
 entry_lines : (entries : List Entry) → AllByRecursion IsEntryRead entries → AreLines (map entry_line entries)
 entry_lines [] each = tt
-entry_lines (e ∷ entries) each = (line_lacks e.client e.call each.0.within.client (each.0.within.call, each.0.read), entry_lines entries each.1)
+entry_lines (e ∷ entries) each = (line_lacks e.client e.call each.0.within.client each.0.within.call, entry_lines entries each.1)
 
 front_lines : (front more : List (List ℕ)) → AreLines (front ++ more) → AreLines front
 front_lines [] more all = tt

@@ -21,7 +21,7 @@ use Rattle.call_book.proofs.Lines.{call_takes, call_again, line_lacks}
 pub entry_takes : (line made : List ℕ) (e : Entry) → IsNext line made e → IsEntryRead e × (line ≡ entry_line e)
 entry_takes line made e next =
     let t = call_takes line (e.client, e.call) next.call in
-    (record { within = record { client = t.client_is; call = t.is_read.0 }; read = t.is_read.1; unanswered = next.unanswered }, t.line_is)
+    (record { within = record { client = t.client_is; call = t.is_read }; unanswered = next.unanswered }, t.line_is)
 
 text_more : (entries : List Entry) (e : Entry) → entries_text (entries ++ e ∷ []) ≡ entries_text entries ++ (entry_line e ++ (10 ∷ []))
 text_more entries e =
@@ -80,7 +80,7 @@ counts_few made entries counts len few k =
 
 -- the line of an entry is cut off at its end
 line_cut : (e : Entry) (after : List ℕ) → IsEntryRead e → cut_at 10 (entry_line e ++ 10 ∷ after) ≡ Some (entry_line e, after)
-line_cut e after is = cut_again 10 (entry_line e) after (line_lacks e.client e.call is.within.client (is.within.call, is.read))
+line_cut e after is = cut_again 10 (entry_line e) after (line_lacks e.client e.call is.within.client is.within.call)
 
 pub stops_unfinished : (text rest : List ℕ) (entries : List Entry) (n : ℕ) → SoFar text rest entries → length entries < 65536 → n ≡ length entries + 3 → 0 < length rest → cut_at 10 rest ≡ None → Stops text n
 stops_unfinished text rest entries n so_far few place more cut = record {
@@ -104,7 +104,7 @@ stops_bad text rest line after entries n so_far few place more cut bad = record 
   stops = λ h e rest_of is same.
       let again : Some (line, after) ≡ Some (entry_line e, rest_of) = sym cut ∙ ap (cut_at 10) same ∙ line_cut e rest_of is in
       let line_is : line ≡ entry_line e = (some_pair_parts line (entry_line e) after rest_of again).0 in
-      absurd (let read = ap call_at line_is ∙ call_again e.client e.call is.within.client (is.within.call, is.read) in cc);
+      absurd (let read = ap call_at line_is ∙ call_again e.client e.call is.within.client is.within.call in cc);
 }
 
 pub stops_full : (text rest : List ℕ) (entries : List Entry) (n : ℕ) → SoFar text rest entries → length entries ≡ 65536 → n ≡ length entries + 3 → 0 < length rest → Stops text n

@@ -1,6 +1,7 @@
 -- A line that is read is spelled so, and a line that is spelled is read.
-use Rattle.std.proofs.Common.{◌≡◌, ℕ, suc, ◌≤◌, ◌<◌, Bool, true, false, cond, leb, List, [], ◌∷◌, ◌++◌, All, Option, Some, None, refl, sym, ap, subst, ◌∙◌, arith}
-use Rattle.std.specs.Prelude.{decimal, codes}
+use Rattle.std.proofs.Common.{◌≡◌, ℕ, suc, ◌≤◌, ◌<◌, ◌^◌, Bool, true, false, cond, leb, List, [], ◌∷◌, ◌++◌, All, Option, Some, None, refl, sym, ap, subst, ◌∙◌, arith}
+use Rattle.std.specs.Prelude.{decimal, codes, IfSome}
+use Rattle.std.specs.Option.{option_map_or}
 use Rattle.std.specs.List.{list_all}
 use Rattle.std.specs.Str.{bytes_eq}
 use Rattle.std.proofs.lemmas.Bool.{and_parts, leb-true, eqb-false}
@@ -13,9 +14,9 @@ use Rattle.domain_run.specs.declared.call.Call.{Call}
 use Rattle.domain_run.specs.declared.call.Call.TheVariants.{Admit, Regrade, Wake, Leave, Advance}
 use Rattle.call_book.specs.declared.times.Times.{Times}
 use Rattle.call_book.specs.Spelling.{line_of, call_fields, flag_text, script_text}
-use Rattle.call_book.specs.Limits.{IsClient, IsNumber, IsChecked, IsAdmission, IsCall, IsReadCall}
-use Rattle.call_book.specs.Reading.{◌>>=◌, cut_at, number_within_at, field_at, times_at, flag_at, params_at, name_at, script_at, plan_at, admit_at, regrade_at, numbered_at, worded_at, call_at, domain_at}
-use Rattle.call_book.proofs.Cuts.{Lacks, Lacks-append, Lacks-written, cut_takes, cut_again}
+use Rattle.call_book.specs.Limits.{IsClient, IsNumber, IsChecked, IsAdmission, IsCall}
+use Rattle.call_book.specs.Reading.{◌>>=◌, cut_at, number_within_at, field_at, times_at, flag_at, params_at, name_at, script_at, plan_at, admit_at, seen_at, answer, answer_at, regrade_at, numbered_at, worded_at, call_at, domain_at}
+use Rattle.call_book.proofs.Cuts.{Lacks, Lacks-append, Lacks-written, cut_takes, cut_none, cut_again}
 use Rattle.call_book.proofs.Numbers.{bind_some, within_takes, within_again, decimal_lacks}
 use Rattle.call_book.proofs.Names.{name_yes, name_takes}
 use Rattle.call_book.proofs.Attributes.{times_of, params_take, AreSmall, params_again, flag_word, flag_takes, flag_again, flag_lacks}
@@ -114,12 +115,19 @@ plan_again delay script soon is = rw (field_again 0 1000000000 delay (script_tex
 abbrev admit_text : ℕ → List ℕ → ParamsView → ℕ → ScriptView → List ℕ
 admit_text number name params delay script = decimal number ++ (32 ∷ (name ++ (32 ∷ times_text (times_of params) (flag_text params ++ (32 ∷ plan_text delay script)))))
 
-abbrev regrade_text : ℕ → ParamsView → List ℕ
-regrade_text number params = decimal number ++ (32 ∷ times_text (times_of params) (flag_text params))
+abbrev seen_text : ℕ → List ℕ
+seen_text seen = codes "busy" ++ (32 ∷ decimal seen)
+
+abbrev answer_text : ParamsView → Option ℕ → List ℕ
+answer_text params None = flag_text params
+answer_text params (Some seen) = flag_text params ++ (32 ∷ seen_text seen)
+
+abbrev regrade_text : ℕ → ParamsView → Option ℕ → List ℕ
+regrade_text number params word = decimal number ++ (32 ∷ times_text (times_of params) (answer_text params word))
 
 abbrev call_text : Call → List ℕ
 call_text (Admit number name params delay script) = admit_text number name params delay script
-call_text (Regrade number params word) = regrade_text number params
+call_text (Regrade number params word) = regrade_text number params word
 call_text (Wake number) = decimal number
 call_text (Leave number) = decimal number
 call_text (Advance ticks) = decimal ticks
@@ -131,13 +139,9 @@ word_text (Wake number) = codes "wake"
 word_text (Leave number) = codes "leave"
 word_text (Advance ticks) = codes "advance"
 
--- a call that is read
-abbrev pub IsCallRead : Call → Type 0
-IsCallRead call = IsCall call × IsReadCall call
-
 -- what was read of a call
 pub record TookCall (word text : List ℕ) (call : Call) : Type 0 where
-  is_read : IsCallRead call
+  is_read : IsCall call
   text_is : text ≡ call_text call
   word_is : word ≡ word_text call
 
@@ -205,7 +209,7 @@ took_admit text call p =
     let timed_text = timed_is p.name.1 p.times.0 (times_of p.params) p.times.1 (flag_text p.params ++ (32 ∷ plan_text p.plan.0 p.plan.1)) times.0 params.times flagged in
     let whole = three_more text (decimal p.number.0) p.number.1 p.name.0 p.named p.name.1 (times_text (times_of p.params) (flag_text p.params ++ (32 ∷ plan_text p.plan.0 p.plan.1))) number.text_is (cut_takes 32 p.number.1 p.name p.name_is) name.0 timed_text in
     subst (TookCall (codes "admit") text) (same_Some (Admit p.number.0 p.named p.params p.plan.0 p.plan.1) call p.call_is)
-    (record { is_read = (record { numbered = (omega (arith, number.low), number.high); named = subst IsName name.0 name.1; checked = params.checked; soon = plan.soon; scripted = plan.scripted }, tt); text_is = whole; word_is = refl })
+    (record { is_read = record { numbered = (omega (arith, number.low), number.high); named = subst IsName name.0 name.1; checked = params.checked; soon = plan.soon; scripted = plan.scripted }; text_is = whole; word_is = refl })
 
 admit_takes : (text : List ℕ) (call : Call) → admit_at text ≡ Some call → TookCall (codes "admit") text call
 admit_takes text call h = took_admit text call (admit_parts text call h)
@@ -235,31 +239,74 @@ admit_again number name params delay script is =
 
 -- ---- regrades
 
-abbrev made_regrade : ℕ → ParamsView → Option Call
-made_regrade number params = Some (Regrade number params None)
+-- what was read behind the flag of a regrade that the bandwidth word refused
+seen_takes : (text : List ℕ) (seen : ℕ) → seen_at text ≡ Some seen → (text ≡ seen_text seen) × (seen ≤ 67108864)
+unfolding seen_at
+seen_takes text seen h =
+    let a = bind_some (cut_at 32 text) (λ p. number_within_at 0 67108864 p.1 >>= λ n. cond (bytes_eq p.0 (codes "busy")) (Some n) None) seen h in
+    let b = bind_some (number_within_at 0 67108864 a.0.1) (λ n. cond (bytes_eq a.0.0 (codes "busy")) (Some n) None) seen a.2 in
+    let w = within_takes 0 67108864 a.0.1 b.0 b.1 in
+    let last = cond_some (bytes_eq a.0.0 (codes "busy")) b.0 seen b.2 in
+    let word : a.0.0 ≡ codes "busy" = (bytes_eq-Decides a.0.0 (codes "busy")).0 last.0 in
+    (cut_takes 32 text a.0 a.1 ∙ ap (λ (x : List ℕ). x ++ 32 ∷ a.0.1) word ∙ after (codes "busy") (w.0 ∙ ap decimal last.1), omega (arith, w.2, last.1))
+
+seen_again : (seen : ℕ) → seen ≤ 67108864 → seen_at (seen_text seen) ≡ Some seen
+unfolding seen_at
+seen_again seen high = rw (cut_again 32 (codes "busy") (decimal seen) (Lacks-written 32 (codes "busy") refl), within_again 0 67108864 seen (omega arith) high (omega arith)) refl
+
+-- what was read behind the times of a regrade
+record TookAnswer (text : List ℕ) (reclaim : Bool) (word : Option ℕ) : Type 0 where
+  text_is : (p : ParamsView) → p.reclaim ≡ reclaim → text ≡ answer_text p word
+  high : IfSome word (λ seen. seen ≤ 2 ^ 26)
+
+answer_by : (text : List ℕ) (a : Bool × Option ℕ) (o : Option (List ℕ × List ℕ)) → cut_at 32 text ≡ o
+    → option_map_or (λ p. flag_at p.0 >>= λ reclaim. seen_at p.1 >>= λ seen. answer reclaim (Some seen)) o (flag_at text >>= λ reclaim. answer reclaim None) ≡ Some a
+    → TookAnswer text a.0 a.1
+answer_by text a None cut h =
+    let b = bind_some (flag_at text) (λ reclaim. answer reclaim None) a h in
+    subst (λ (q : Bool × Option ℕ). TookAnswer text q.0 q.1) (same_Some (b.0, None) a b.2) (record { text_is = λ p e. flag_of text b.0 p b.1 e; high = tt })
+answer_by text a (Some p) cut h =
+    let b = bind_some (flag_at p.0) (λ reclaim. seen_at p.1 >>= λ seen. answer reclaim (Some seen)) a h in
+    let c = bind_some (seen_at p.1) (λ seen. answer b.0 (Some seen)) a b.2 in
+    let t = seen_takes p.1 c.0 c.1 in
+    subst (λ (q : Bool × Option ℕ). TookAnswer text q.0 q.1) (same_Some (b.0, Some c.0) a c.2)
+    (record { text_is = λ q e. cut_takes 32 text p cut ∙ ap (λ (x : List ℕ). x ++ 32 ∷ p.1) (flag_of p.0 b.0 q b.1 e) ∙ after (flag_text q) t.0; high = t.1 })
+
+answer_takes : (text : List ℕ) (a : Bool × Option ℕ) → answer_at text ≡ Some a → TookAnswer text a.0 a.1
+unfolding answer_at
+answer_takes text a h = answer_by text a (cut_at 32 text) refl h
+
+answer_again : (params : ParamsView) (word : Option ℕ) → IfSome word (λ seen. seen ≤ 2 ^ 26) → answer_at (answer_text params word) ≡ answer params.reclaim word
+unfolding answer_at
+answer_again params None high = rw (cut_none 32 (flag_text params) (flag_lacks 32 params.reclaim refl refl), flag_again params.reclaim) refl
+answer_again params (Some seen) high = rw (cut_again 32 (flag_text params) (seen_text seen) (flag_lacks 32 params.reclaim refl refl), flag_again params.reclaim, seen_again seen high) refl
+
+abbrev made_regrade : ℕ → ParamsView → Option ℕ → Option Call
+made_regrade number params word = Some (Regrade number params word)
 
 regrade_takes : (text : List ℕ) (call : Call) → regrade_at text ≡ Some call → TookCall (codes "regrade") text call
 unfolding regrade_at
 regrade_takes text call h =
-    let a = bind_some (field_at 1 65535 text) (λ number. times_at number.1 >>= λ times. flag_at times.1 >>= λ reclaim. params_at times.0 reclaim >>= λ params. made_regrade number.0 params) call h in
-    let b = bind_some (times_at a.0.1) (λ times. flag_at times.1 >>= λ reclaim. params_at times.0 reclaim >>= λ params. made_regrade a.0.0 params) call a.2 in
-    let c = bind_some (flag_at b.0.1) (λ reclaim. params_at b.0.0 reclaim >>= λ params. made_regrade a.0.0 params) call b.2 in
-    let d = bind_some (params_at b.0.0 c.0) (λ params. made_regrade a.0.0 params) call c.2 in
+    let a = bind_some (field_at 1 65535 text) (λ number. times_at number.1 >>= λ times. answer_at times.1 >>= λ last. params_at times.0 last.0 >>= λ params. made_regrade number.0 params last.1) call h in
+    let b = bind_some (times_at a.0.1) (λ times. answer_at times.1 >>= λ last. params_at times.0 last.0 >>= λ params. made_regrade a.0.0 params last.1) call a.2 in
+    let c = bind_some (answer_at b.0.1) (λ last. params_at b.0.0 last.0 >>= λ params. made_regrade a.0.0 params last.1) call b.2 in
+    let d = bind_some (params_at b.0.0 c.0.0) (λ params. made_regrade a.0.0 params c.0.1) call c.2 in
     let number = field_takes 1 65535 text a.0 a.1 in
     let times = times_take a.0.1 b.0 b.1 in
-    let params = params_take b.0.0 c.0 d.0 (omega (arith, times.1.period.0)) d.1 in
-    let timed_text = timed_is a.0.1 b.0.0 (times_of d.0) b.0.1 (flag_text d.0) times.0 params.times (flag_of b.0.1 c.0 d.0 c.1 params.flag) in
-    subst (TookCall (codes "regrade") text) (same_Some (Regrade a.0.0 d.0 None) call d.2)
-    (record { is_read = (((omega (arith, number.low), number.high), params.checked, tt), refl); text_is = number.text_is ∙ after (decimal a.0.0) timed_text; word_is = refl })
+    let params = params_take b.0.0 c.0.0 d.0 (omega (arith, times.1.period.0)) d.1 in
+    let last = answer_takes b.0.1 c.0 c.1 in
+    let timed_text = timed_is a.0.1 b.0.0 (times_of d.0) b.0.1 (answer_text d.0 c.0.1) times.0 params.times (last.text_is d.0 params.flag) in
+    subst (TookCall (codes "regrade") text) (same_Some (Regrade a.0.0 d.0 c.0.1) call d.2)
+    (record { is_read = ((omega (arith, number.low), number.high), params.checked, last.high); text_is = number.text_is ∙ after (decimal a.0.0) timed_text; word_is = refl })
 
-regrade_again : (number : ℕ) (params : ParamsView) → IsNumber number → IsChecked params → regrade_at (regrade_text number params) ≡ made_regrade number params
+regrade_again : (number : ℕ) (params : ParamsView) (word : Option ℕ) → IsCall (Regrade number params word) → regrade_at (regrade_text number params word) ≡ made_regrade number params word
 unfolding regrade_at
-regrade_again number params is checked =
-    let again = params_again params checked in
+regrade_again number params word is =
+    let again = params_again params is.1 in
     rw (
-      field_again 1 65535 number (times_text (times_of params) (flag_text params)) (omega (arith, is.0)) is.1 (omega arith),
-      times_again (times_of params) (flag_text params) again.1,
-      flag_again params.reclaim,
+      field_again 1 65535 number (times_text (times_of params) (answer_text params word)) (omega (arith, is.0.0)) is.0.1 (omega arith),
+      times_again (times_of params) (answer_text params word) again.1,
+      answer_again params word is.2,
       again.0,
     ) refl
 
@@ -286,17 +333,17 @@ numbered_again most call n low high small = rw (within_again 1 most n (omega ari
 wake_takes : (text : List ℕ) (call : Call) → numbered_at 65535 Wake text ≡ Some call → TookCall (codes "wake") text call
 wake_takes text call h =
     let t = numbered_takes 65535 Wake text call h in
-    subst (TookCall (codes "wake") text) t.read_is (record { is_read = ((t.some, t.high), tt); text_is = t.text_is; word_is = refl })
+    subst (TookCall (codes "wake") text) t.read_is (record { is_read = (t.some, t.high); text_is = t.text_is; word_is = refl })
 
 leave_takes : (text : List ℕ) (call : Call) → numbered_at 65535 Leave text ≡ Some call → TookCall (codes "leave") text call
 leave_takes text call h =
     let t = numbered_takes 65535 Leave text call h in
-    subst (TookCall (codes "leave") text) t.read_is (record { is_read = ((t.some, t.high), tt); text_is = t.text_is; word_is = refl })
+    subst (TookCall (codes "leave") text) t.read_is (record { is_read = (t.some, t.high); text_is = t.text_is; word_is = refl })
 
 advance_takes : (text : List ℕ) (call : Call) → numbered_at 60000000 Advance text ≡ Some call → TookCall (codes "advance") text call
 advance_takes text call h =
     let t = numbered_takes 60000000 Advance text call h in
-    subst (TookCall (codes "advance") text) t.read_is (record { is_read = ((t.some, t.high), tt); text_is = t.text_is; word_is = refl })
+    subst (TookCall (codes "advance") text) t.read_is (record { is_read = (t.some, t.high); text_is = t.text_is; word_is = refl })
 
 -- ---- words
 
@@ -318,31 +365,30 @@ unfolding worded_at
 worded_takes word text call h =
     by_word word text call (bytes_eq word (codes "admit")) (bytes_eq word (codes "regrade")) (bytes_eq word (codes "wake")) (bytes_eq word (codes "leave")) (bytes_eq word (codes "advance")) refl refl refl refl refl h
 
-worded_again : (call : Call) → IsCallRead call → worded_at (word_text call) (call_text call) ≡ Some call
+worded_again : (call : Call) → IsCall call → worded_at (word_text call) (call_text call) ≡ Some call
 unfolding worded_at
-worded_again (Admit number name params delay script) read = admit_again number name params delay script read.0
-worded_again (Regrade number params None) read = regrade_again number params read.0.0 read.0.1
-worded_again (Regrade number params (Some seen)) read = absurd (let e = read.1 in cc)
-worded_again (Wake number) read = numbered_again 65535 Wake number read.0.0 read.0.1 (omega arith)
-worded_again (Leave number) read = numbered_again 65535 Leave number read.0.0 read.0.1 (omega arith)
-worded_again (Advance ticks) read = numbered_again 60000000 Advance ticks read.0.0 read.0.1 (omega arith)
+worded_again (Admit number name params delay script) is = admit_again number name params delay script is
+worded_again (Regrade number params word) is = regrade_again number params word is
+worded_again (Wake number) is = numbered_again 65535 Wake number is.0 is.1 (omega arith)
+worded_again (Leave number) is = numbered_again 65535 Leave number is.0 is.1 (omega arith)
+worded_again (Advance ticks) is = numbered_again 60000000 Advance ticks is.0 is.1 (omega arith)
 
 -- ---- the lines of calls
 
-line_is : (client : ℕ) (call : Call) → IsReadCall call → line_of (call_fields client call) ≡ word_text call ++ (32 ∷ (decimal client ++ (32 ∷ call_text call)))
-line_is client (Admit number name params delay script) read = refl
-line_is client (Regrade number params None) read = refl
-line_is client (Regrade number params (Some seen)) read = absurd cc
-line_is client (Wake number) read = refl
-line_is client (Leave number) read = refl
-line_is client (Advance ticks) read = refl
+line_is : (client : ℕ) (call : Call) → line_of (call_fields client call) ≡ word_text call ++ (32 ∷ (decimal client ++ (32 ∷ call_text call)))
+line_is client (Admit number name params delay script) = refl
+line_is client (Regrade number params None) = refl
+line_is client (Regrade number params (Some seen)) = refl
+line_is client (Wake number) = refl
+line_is client (Leave number) = refl
+line_is client (Advance ticks) = refl
 
 abbrev made_call : ℕ → Call → Option (ℕ × Call)
 made_call client call = Some (client, call)
 
 pub record TookLine (line : List ℕ) (client : ℕ) (call : Call) : Type 0 where
   pub client_is : IsClient client
-  pub is_read : IsCallRead call
+  pub is_read : IsCall call
   pub line_is : line ≡ line_of (call_fields client call)
 
 framed : (line word after_word numbered after_client texted worded : List ℕ) → line ≡ word ++ 32 ∷ after_word → after_word ≡ numbered ++ 32 ∷ after_client → after_client ≡ texted → word ≡ worded
@@ -359,7 +405,7 @@ call_takes line p h =
     let call = worded_takes a.0.0 b.0.1 c.0 c.1 in
     let whole = framed line a.0.0 a.0.1 (decimal b.0.0) b.0.1 (call_text c.0) (word_text c.0) (cut_takes 32 line a.0 a.1) client.text_is call.text_is call.word_is in
     let made : ℕ × Call = (b.0.0, c.0) in
-    subst (λ (q : ℕ × Call). TookLine line q.0 q.1) (same_Some made p c.2) (record { client_is = (omega (arith, client.low), client.high); is_read = call.is_read; line_is = whole ∙ sym (line_is b.0.0 c.0 call.is_read.1) })
+    subst (λ (q : ℕ × Call). TookLine line q.0 q.1) (same_Some made p c.2) (record { client_is = (omega (arith, client.low), client.high); is_read = call.is_read; line_is = whole ∙ sym (line_is b.0.0 c.0) })
 
 letters_lack : (c : ℕ) (word : List ℕ) → c < 97 → list_all (λ b. leb 97 b) word ≡ true → Lacks c word
 letters_lack c [] low h = tt
@@ -375,11 +421,11 @@ word_lacks c (Wake number) low = letters_lack c (codes "wake") low refl
 word_lacks c (Leave number) low = letters_lack c (codes "leave") low refl
 word_lacks c (Advance ticks) low = letters_lack c (codes "advance") low refl
 
-pub call_again : (client : ℕ) (call : Call) → IsClient client → IsCallRead call → call_at (line_of (call_fields client call)) ≡ made_call client call
+pub call_again : (client : ℕ) (call : Call) → IsClient client → IsCall call → call_at (line_of (call_fields client call)) ≡ made_call client call
 unfolding call_at
 call_again client call is read =
     rw (
-      line_is client call read.1,
+      line_is client call,
       cut_again 32 (word_text call) (decimal client ++ (32 ∷ call_text call)) (word_lacks 32 call (omega arith)),
       field_again 1 64 client (call_text call) (omega (arith, is.0)) is.1 (omega arith),
       worded_again call read,
@@ -399,24 +445,29 @@ times_lack t rest small h =
 number_lacks : (number : ℕ) (rest : List ℕ) → IsNumber number → Lacks 10 rest → Lacks 10 (decimal number ++ (32 ∷ rest))
 number_lacks number rest is h = between_lacks (decimal number) rest (decimal_lacks 10 number refl (omega (arith, is.1))) h
 
-call_lacks : (call : Call) → IsCallRead call → Lacks 10 (call_text call)
+answer_lacks : (params : ParamsView) (word : Option ℕ) → IfSome word (λ seen. seen ≤ 2 ^ 26) → Lacks 10 (answer_text params word)
+answer_lacks params None high = flag_lacks 10 params.reclaim refl refl
+answer_lacks params (Some seen) high =
+    between_lacks (flag_text params) (seen_text seen) (flag_lacks 10 params.reclaim refl refl) (between_lacks (codes "busy") (decimal seen) (Lacks-written 10 (codes "busy") refl) (decimal_lacks 10 seen refl (omega (arith, high))))
+
+call_lacks : (call : Call) → IsCall call → Lacks 10 (call_text call)
 call_lacks (Admit number name params delay script) read =
-    let scripted = between_lacks (decimal delay) (script_text script) (decimal_lacks 10 delay refl (omega (arith, read.0.soon))) (script_lacks script read.0.scripted) in
+    let scripted = between_lacks (decimal delay) (script_text script) (decimal_lacks 10 delay refl (omega (arith, read.soon))) (script_lacks script read.scripted) in
     let flagged = between_lacks (flag_text params) (plan_text delay script) (flag_lacks 10 params.reclaim refl refl) scripted in
     let planned = flag_text params ++ (32 ∷ plan_text delay script) in
-    let timed_text = times_lack (times_of params) planned (params_again params read.0.checked).1 flagged in
-    let named = between_lacks name (times_text (times_of params) planned) (name_lacks 10 name (omega arith) read.0.named.bytes) timed_text in
-    number_lacks number (name ++ (32 ∷ times_text (times_of params) planned)) read.0.numbered named
+    let timed_text = times_lack (times_of params) planned (params_again params read.checked).1 flagged in
+    let named = between_lacks name (times_text (times_of params) planned) (name_lacks 10 name (omega arith) read.named.bytes) timed_text in
+    number_lacks number (name ++ (32 ∷ times_text (times_of params) planned)) read.numbered named
 call_lacks (Regrade number params word) read =
-    number_lacks number (times_text (times_of params) (flag_text params)) read.0.0 (times_lack (times_of params) (flag_text params) (params_again params read.0.1).1 (flag_lacks 10 params.reclaim refl refl))
-call_lacks (Wake number) read = decimal_lacks 10 number refl (omega (arith, read.0.1))
-call_lacks (Leave number) read = decimal_lacks 10 number refl (omega (arith, read.0.1))
-call_lacks (Advance ticks) read = decimal_lacks 10 ticks refl (omega (arith, read.0.1))
+    number_lacks number (times_text (times_of params) (answer_text params word)) read.0 (times_lack (times_of params) (answer_text params word) (params_again params read.1).1 (answer_lacks params word read.2))
+call_lacks (Wake number) read = decimal_lacks 10 number refl (omega (arith, read.1))
+call_lacks (Leave number) read = decimal_lacks 10 number refl (omega (arith, read.1))
+call_lacks (Advance ticks) read = decimal_lacks 10 ticks refl (omega (arith, read.1))
 
-pub line_lacks : (client : ℕ) (call : Call) → IsClient client → IsCallRead call → Lacks 10 (line_of (call_fields client call))
+pub line_lacks : (client : ℕ) (call : Call) → IsClient client → IsCall call → Lacks 10 (line_of (call_fields client call))
 line_lacks client call is read =
     let texted = between_lacks (decimal client) (call_text call) (decimal_lacks 10 client refl (omega (arith, is.1))) (call_lacks call read) in
-    subst (Lacks 10) (sym (line_is client call read.1)) (between_lacks (word_text call) (decimal client ++ (32 ∷ call_text call)) (word_lacks 10 call (omega arith)) texted)
+    subst (Lacks 10) (sym (line_is client call)) (between_lacks (word_text call) (decimal client ++ (32 ∷ call_text call)) (word_lacks 10 call (omega arith)) texted)
 
 -- ---- the line of a section
 

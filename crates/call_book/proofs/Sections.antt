@@ -18,7 +18,7 @@ use Rattle.call_book.specs.declared.fault.PartFault.TheVariants.{Bad, Memory}
 use Rattle.call_book.specs.SectionView.{SectionView}
 use Rattle.call_book.specs.Spelling.{entry_line, domain_line, section_lines, lines_of, text_of, spelling}
 use Rattle.call_book.specs.OwnCalls.{IsNumbered, IsNumberedAfter, made_by}
-use Rattle.call_book.specs.Limits.{IsEntry, IsReadCall, IsSection, AreRead}
+use Rattle.call_book.specs.Limits.{IsEntry, IsSection, AreRead}
 use Rattle.call_book.specs.BadLine.{IsBadLine, MeansFault}
 use Rattle.call_book.specs.Reading.{cut_at, call_at, domain_at, IsEntryRead, entries_text, SoFar, Stops, StopsAt, Fails, fault_from}
 use Rattle.call_book.proofs.Cuts.{Lacks-written, cut_takes, cut_again}
@@ -55,7 +55,6 @@ are_read s is =
         });
       };
       unanswered = only_one (λ (t : SectionView). All (λ (e : Entry). e.reply ≡ None) t.entries) s (All-weaker IsEntryRead (λ e. e.reply ≡ None) (λ e h. h.unanswered) s.entries each);
-      calls = only_one (λ (t : SectionView). All (λ (e : Entry). IsReadCall e.call) t.entries) s (All-weaker IsEntryRead (λ e. IsReadCall e.call) (λ e h. h.read) s.entries each);
       one = omega arith;
     }
 
@@ -70,7 +69,6 @@ one_read [] are = absurd (omega (arith, are.one))
 one_read (s ∷ []) are =
     let is = All-head IsSection s [] are.within.each in
     let unanswered = All-head (λ (t : SectionView). All (λ (e : Entry). e.reply ≡ None) t.entries) s [] are.unanswered in
-    let calls = All-head (λ (t : SectionView). All (λ (e : Entry). IsReadCall e.call) t.entries) s [] are.calls in
     record {
       section = s;
       one = refl;
@@ -80,7 +78,7 @@ one_read (s ∷ []) are =
         low = is.least_limit;
         high = is.most_limit;
         few = is.most_entries;
-        each = recursion_from_All IsEntryRead s.entries (λ k d lt. record { within = is.entries k d lt; read = calls k d lt; unanswered = unanswered k d lt });
+        each = recursion_from_All IsEntryRead s.entries (λ k d lt. record { within = is.entries k d lt; unanswered = unanswered k d lt });
         numbered = is.numbered;
       };
     }
@@ -177,7 +175,7 @@ pub record GoesOn (entries others : List Entry) (rest : List ℕ) : Type 0 where
   pub within : length entries < length others
 
 entry_cut : (e : Entry) (rest : List ℕ) → IsEntryRead e → cut_at 10 (entry_line e ++ (10 ∷ rest)) ≡ Some (entry_line e, rest)
-entry_cut e rest is = cut_again 10 (entry_line e) rest (line_lacks e.client e.call is.within.client (is.within.call, is.read))
+entry_cut e rest is = cut_again 10 (entry_line e) rest (line_lacks e.client e.call is.within.client is.within.call)
 
 entries_first : (e : Entry) (entries : List Entry) (rest : List ℕ) → entries_text (e ∷ entries) ++ rest ≡ entry_line e ++ (10 ∷ (entries_text entries ++ rest))
 entries_first e entries rest = simp append_assoc
@@ -260,7 +258,7 @@ same_entry e f a b c d =
 
 same_line : (e f : Entry) (before : List Entry) → IsEntryRead e → IsEntryRead f → e.seq ≡ made_by e.client before → f.seq ≡ made_by f.client before → entry_line e ≡ entry_line f → e ≡ f
 same_line e f before is is' seq seq' same =
-    let again = sym (call_again e.client e.call is.within.client (is.within.call, is.read)) ∙ ap call_at same ∙ call_again f.client f.call is'.within.client (is'.within.call, is'.read) in
+    let again = sym (call_again e.client e.call is.within.client is.within.call) ∙ ap call_at same ∙ call_again f.client f.call is'.within.client is'.within.call in
     let p = some_pair_parts e.client f.client e.call f.call again in
     same_entry e f p.0 (seq ∙ ap (λ (c : ℕ). made_by c before) p.0 ∙ sym seq') p.1 (is.unanswered ∙ sym is'.unanswered)
 

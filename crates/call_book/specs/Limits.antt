@@ -74,17 +74,8 @@ pub record AreSections (sections : List SectionView) : Type 0 where
 
 -- ---- what is read
 
--- for now no regrade that the bandwidth word refused
-abbrev pub IsReadCall : Call → Type 0
-IsReadCall (Admit number name params delay script) = Unit {0}
-IsReadCall (Regrade number params word) = word ≡ None
-IsReadCall (Wake number) = Unit {0}
-IsReadCall (Leave number) = Unit {0}
-IsReadCall (Advance ticks) = Unit {0}
-
 -- what is read, for now one section: replies are not written, so what is read has none
 pub record AreRead (sections : List SectionView) : Type 0 where
   pub within : AreSections sections
   pub unanswered : All (λ s. All (λ e. e.reply ≡ None) s.entries) sections
-  pub calls : All (λ s. All (λ e. IsReadCall e.call) s.entries) sections
   pub one : length sections ≡ 1

@@ -20,7 +20,7 @@ use Rattle.call_book.specs.declared.times.Times.{Times}
 use Rattle.call_book.specs.declared.section.Entry.{Entry}
 use Rattle.call_book.specs.Spelling.{entry_line, text_of}
 use Rattle.call_book.specs.OwnCalls.{IsNumbered, made_by}
-use Rattle.call_book.specs.Limits.{IsClient, IsEntry, IsReadCall}
+use Rattle.call_book.specs.Limits.{IsClient, IsEntry}
 
 -- ---- what a part of the reader answers, seen by view, unless memory ran out
 
@@ -176,14 +176,29 @@ admit_at text = do
   plan ← plan_at flag.1
   Some (Admit number.0 named params plan.0 plan.1)
 
+-- behind the flag of a regrade that the bandwidth word refused: the number with which it did
+unfoldable pub seen_at : List ℕ → Option ℕ
+seen_at text = do
+  p ← cut_at 32 text
+  seen ← number_within_at 0 67108864 p.1
+  if bytes_eq p.0 (codes "busy") then Some seen else None
+
+abbrev pub answer : Bool → Option ℕ → Option (Bool × Option ℕ)
+answer reclaim word = Some (reclaim, word)
+
+-- what follows the times in a regrade: whether the task reclaims, and with what the bandwidth word refused, where it did
+unfoldable pub answer_at : List ℕ → Option (Bool × Option ℕ)
+answer_at text =
+    option_map_or (λ p. flag_at p.0 >>= λ reclaim. seen_at p.1 >>= λ seen. answer reclaim (Some seen)) (cut_at 32 text) (flag_at text >>= λ reclaim. answer reclaim None)
+
 -- what follows the client in a regrade
 unfoldable pub regrade_at : List ℕ → Option Call
 regrade_at text = do
   number ← field_at 1 65535 text
   times ← times_at number.1
-  reclaim ← flag_at times.1
-  params ← params_at times.0 reclaim
-  Some (Regrade number.0 params None)
+  last ← answer_at times.1
+  params ← params_at times.0 last.0
+  Some (Regrade number.0 params last.1)
 
 -- what follows the client in a call that has a number alone
 unfoldable pub numbered_at : ℕ → (ℕ → Call) → List ℕ → Option Call
@@ -225,7 +240,6 @@ fault_from n Memory = faults.Memory
 
 pub record IsEntryRead (e : Entry) : Type 0 where
   pub within : IsEntry e
-  pub read : IsReadCall e.call
   pub unanswered : e.reply ≡ None
 
 abbrev pub entries_text : List Entry → List ℕ

@@ -1,5 +1,5 @@
 ghost use Rattle.std.specs.Prelude.{◌≡◌, ◌≤◌, IfOk};
-ghost use Rattle.call_book.specs.Reading.{Gives, field_at, name_at, times_at, AreTimes, flag_at, params_at, plan_at, admit_at, regrade_at, numbered_at, worded_at, call_at, domain_at};
+ghost use Rattle.call_book.specs.Reading.{Gives, field_at, name_at, times_at, AreTimes, flag_at, params_at, plan_at, admit_at, seen_at, answer_at, regrade_at, numbered_at, worded_at, call_at, domain_at};
 
 use crate::cut::cut;
 use crate::fault::PartFault;
@@ -20,6 +20,8 @@ const MOST_TIME: u64 = 1 << 32;
 const MOST_DELAY: u64 = 1_000_000_000;
 /// The most ticks of one call.
 const MOST_TICKS: u64 = 60_000_000;
+/// The most that a bandwidth word holds: 64 whole CPUs, in 1/2^20.
+const MOST_WORD: u64 = 1 << 26;
 /// The most CPUs of a domain.
 const MOST_CPUS: u64 = 64;
 /// 1 % of a CPU, in 1/2^20.
@@ -142,18 +144,48 @@ fn admit_of(alloc: Global, text: &[u8]) -> Result<Call, PartFault>
     })
 }
 
-/// What follows the client in a `regrade` line. For now a ` busy S` is not read.
+/// The number with which the bandwidth word refused, from what stands behind the flag of a `regrade` line.
+#[tactic(auto, unfolding(crate::specs::Reading::seen_at))]
+fn seen_of(text: &[u8]) -> Result<u64, PartFault>
+    ensures { Gives (λ n. n) result (seen_at text.now) }
+{
+    let Some((word, rest)) = cut(text, b' ') else {
+        return Err(PartFault::Bad);
+    };
+    let seen = number_within(rest, 0, MOST_WORD)?;
+    if word != b"busy".as_slice() {
+        return Err(PartFault::Bad);
+    }
+    Ok(seen)
+}
+
+/// Whether the task of a `regrade` line reclaims, and with what the bandwidth word refused, where it did.
+#[tactic(auto, unfolding(crate::specs::Reading::answer_at))]
+fn answer_of(text: &[u8]) -> Result<(bool, Option<u64>), PartFault>
+    ensures { Gives (λ p. p) result (answer_at text.now) }
+{
+    let Some((flag, rest)) = cut(text, b' ') else {
+        let reclaim = reclaim_of(text)?;
+        return Ok((reclaim, None));
+    };
+    let reclaim = reclaim_of(flag)?;
+    let seen = seen_of(rest)?;
+    Ok((reclaim, Some(seen)))
+}
+
+/// What follows the client in a `regrade` line.
 #[tactic(auto, unfolding(crate::specs::Reading::regrade_at))]
 fn regrade_of(text: &[u8]) -> Result<Call, PartFault>
     ensures { Gives (λ c. c) result (regrade_at text.now) }
 {
     let (number, rest) = field(text, 1, MOST_NUMBER)?;
-    let (times, flag) = times_of(rest)?;
-    let params = params_of(times, reclaim_of(flag)?)?;
+    let (times, rest) = times_of(rest)?;
+    let (reclaim, word) = answer_of(rest)?;
+    let params = params_of(times, reclaim)?;
     Ok(Call::Regrade {
         number: number as u32,
         params,
-        word: None,
+        word,
     })
 }
 

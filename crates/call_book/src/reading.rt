@@ -111,7 +111,7 @@ fn section_of(alloc: Global, text: &[u8]) -> Result<Section, CallsFault>
 }
 
 /// The sections that a calls text spells, in one pass over the text. Entries have no reply, and each client's are numbered
-/// 0, 1, 2, .. in their order. For now a text is read where it has one section, and in it no ` busy S` behind a regrade.
+/// 0, 1, 2, .. in their order. For now a text is read where it has one section.
 ///
 /// # Errors
 /// 30 [`CallsFault::BadLine`]: the first line, from 1, at which the text stops being a front of whole lines of a text that is

@@ -118,7 +118,7 @@ fn bad_lines(rt: HostRuntime) -> Result<(), Fail> {
         ),
         (b"dlcalls 1\ndomain 65 1048576\n", "calls 30 line 2"),
         (
-            b"dlcalls 1\ndomain 1 1048576\nregrade 1 1 2 8 8 - busy 5\n",
+            b"dlcalls 1\ndomain 1 1048576\nregrade 1 1 2 8 8 - busy 67108865\n",
             "calls 30 line 3",
         ),
         (
