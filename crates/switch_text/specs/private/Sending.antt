@@ -1,5 +1,5 @@
 -- A text that goes out piece by piece.
-use Rattle.std.specs.Prelude.{ℕ, ◌≡◌, ◌<◌, List, ◌++◌, length, take, Option}
+use Rattle.std.specs.Prelude.{ℕ, ◌≡◌, List, ◌++◌, length, Option}
 use Rattle.std.specs.Io.KnownBytes.{Appends}
 
 -- of the text so many bytes went out, and these are left
@@ -8,8 +8,3 @@ pub record Sends (before after : Option (List ℕ)) (text : List ℕ) (sent : �
   pub taken : Appends before after gone
   pub count : sent ≡ length gone
   pub whole : text ≡ gone ++ left
-
--- so many bytes went out, which are the front of the text, and not all of it
-pub record Stops (before after : Option (List ℕ)) (text : List ℕ) (sent : ℕ) : Type 0 where
-  pub taken : Appends before after (take sent text)
-  pub some_left : sent < length text
