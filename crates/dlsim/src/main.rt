@@ -1,13 +1,11 @@
 //! dlsim: a model of SCHED_DEADLINE that writes the switches of recorded calls as a trace.
 //!
-//! The program reads its words with clap, and calls [`session::replay`] with standard input and standard output.
+//! The program reads its words with clap, and calls [`dl_session::replay`] with standard input and standard output.
 #![tactic(auto)]
-
-mod session;
 
 use clap::error::ErrorKind;
 use clap::{Command, Error};
-use session::{SessionFault, replay};
+use dl_session::{SessionFault, replay};
 use std::alloc::{AllocError, Global};
 use std::env::{self, Env};
 use std::io;

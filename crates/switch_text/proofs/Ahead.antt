@@ -3,7 +3,7 @@ use Rattle.std.proofs.Common.{◌≡◌, ℕ, ◌+◌, ◌<◌, ◌≢◌, true,
 use Rattle.std.specs.List.{AllByRecursion}
 use Rattle.std.proofs.lemmas.List.{length-set, length-append, get_or-set_same, get_or-set_other}
 use Rattle.switch_text.specs.Trace.{RunView, Entry, entries_of, is_earlier}
-use Rattle.switch_text.specs.Merging.{left_of, IsAhead}
+use Rattle.switch_text.specs.private.Merging.{left_of, IsAhead}
 use Rattle.switch_text.proofs.Order.{AllByRecursion-weaker, AllByRecursion-append, earlier_trans, not_later_trans, earlier_then}
 
 left_of-more : (runs : List RunView) (r : RunView) (places : List ℕ) → length runs < length places

@@ -12,7 +12,7 @@ use Rattle.switch_text.specs.Names.{HasLine}
 use Rattle.switch_text.specs.Trace.{RunView, Entry, entry_of, entries_of, is_earlier, in_order}
 use Rattle.domain_run.specs.Switches.{is_before}
 use Rattle.switch_text.specs.Runs.{view_of, views, IsRun}
-use Rattle.switch_text.specs.Merging.{left_of, stepped, IsAhead, IsNextOf, IsFound, IsPrinted, next_entry, is_better}
+use Rattle.switch_text.specs.private.Merging.{left_of, stepped, IsAhead, IsNextOf, IsFound, IsPrinted, next_entry, is_better}
 use Rattle.switch_text.proofs.Ahead.{left_of-done, IsAhead-new, IsAhead-kept, all_left-earlier, run_not_earlier}
 use Rattle.switch_text.proofs.CallerLemmas.{is_earlier-entry}
 use Rattle.switch_text.proofs.Order.{AllByRecursion-weaker, not_later-from_earlier, in_order-first}

@@ -6,8 +6,9 @@ use Rattle.std.proofs.KnownBytes.{Appends-nil, Appends-trans}
 use Rattle.std.proofs.lemmas.List.{length-append, take-append-le}
 use Rattle.std.proofs.Math.Seq.{take-append-add}
 use Rattle.switch_text.specs.Trace.{RunView, Entry, entries_of, in_order, header, lines_of, trace_of}
-use Rattle.switch_text.specs.Merging.{left_of}
-use Rattle.switch_text.specs.Sending.{Sends, Stops}
+use Rattle.switch_text.specs.private.Merging.{left_of}
+use Rattle.switch_text.specs.Faults.{TakesFront}
+use Rattle.switch_text.specs.private.Sending.{Sends}
 use Rattle.switch_text.proofs.Order.{length-in_order}
 
 -- the lines that are left
@@ -49,8 +50,8 @@ IsUnderWay-next before mid after runs places places' sent n waiting left e u nex
       bound = omega (arith, length-sent mid after (waiting ++ e.line) left n s, length-append waiting e.line, count, bound);
     }
 
-pub IsUnderWay-stops : (before mid after : Option (List ℕ)) (runs : List RunView) (places : List ℕ) (sent n : ℕ) (waiting : List ℕ) → IsUnderWay before mid runs places sent waiting → Stops mid after waiting n
-    → Stops before after (trace_of runs) (sent + n)
+pub IsUnderWay-stops : (before mid after : Option (List ℕ)) (runs : List RunView) (places : List ℕ) (sent n : ℕ) (waiting : List ℕ) → IsUnderWay before mid runs places sent waiting → TakesFront mid after waiting n
+    → TakesFront before after (trace_of runs) (sent + n)
 IsUnderWay-stops before mid after runs places sent n waiting u s =
     let text = trace_of runs in
     let gone = u.sends.gone in

@@ -1,7 +1,9 @@
 //! A buffer of a fixed size that goes out in one write when it is full.
 
-ghost use Rattle.std.specs.Prelude.{ℕ, ◌≡◌, ◌+◌, ◌<◌, ◌≤◌, ◌^◌, List, [], ◌++◌, length, is_ok, if◌then◌else◌, IfOk, IfErr, OnOk, IsTrue, ◌↔◌};
-ghost use Rattle.switch_text.specs.Sending.{Sends, Stops};
+ghost use Rattle.std.specs.Prelude.{◌≡◌, ◌+◌, ◌<◌, ◌≤◌, ◌^◌, [], ◌++◌, length, is_ok, IfOk, IfErr, OnOk, IsTrue, ◌↔◌};
+ghost use Rattle.switch_text.specs.Sides.{inner_of, faults_of};
+ghost use Rattle.switch_text.specs.Faults.{one_more_unless, TakesFront};
+ghost use Rattle.switch_text.specs.private.Sending.{Sends};
 
 use crate::counted::Counted;
 use std::io::Write;
@@ -56,11 +58,13 @@ impl Batch {
 
     /// Writes all that waits: how many bytes went out, also where the writer failed before the last.
     pub(crate) fn flush<W: Write>(&mut self, writer: &mut Counted<W>) -> Result<usize, usize>
-        requires { writer.old.faults < 2 ^ 63 }
-        ensures ok { IfOk result (λ n. Sends (W.contents writer.old.inner) (W.contents writer.new.inner) self.old n self.new) }
+        requires { faults_of writer.old < 2 ^ 63 }
+        ensures ok { IfOk result (λ n.
+            Sends (W.contents (inner_of writer.old)) (W.contents (inner_of writer.new)) self.old n self.new) }
         ensures emptied { OnOk result (self.new ≡ []) }
-        ensures err { IfErr result (λ n. Stops (W.contents writer.old.inner) (W.contents writer.new.inner) self.old n) }
-        ensures faults { writer.new.faults ≡ (if is_ok result then writer.old.faults else writer.old.faults + 1) }
+        ensures err { IfErr result
+            (TakesFront (W.contents (inner_of writer.old)) (W.contents (inner_of writer.new)) self.old) }
+        ensures faults { faults_of writer.new ≡ one_more_unless (is_ok result) (faults_of writer.old) }
     {
         let waiting = self.len;
         match writer.write_all(&self.bytes[..waiting]) {
@@ -79,10 +83,12 @@ impl Batch {
         writer: &mut Counted<W>,
     ) -> Result<usize, usize>
         requires short { length text.now ≤ 256 }
-        requires faults { writer.old.faults < 2 ^ 63 }
-        ensures ok { IfOk result (λ n. Sends (W.contents writer.old.inner) (W.contents writer.new.inner) (self.old ++ text.now) n self.new) }
-        ensures err { IfErr result (λ n. Stops (W.contents writer.old.inner) (W.contents writer.new.inner) self.old n) }
-        ensures faults { writer.new.faults ≡ (if is_ok result then writer.old.faults else writer.old.faults + 1) }
+        requires faults { faults_of writer.old < 2 ^ 63 }
+        ensures ok { IfOk result (λ n.
+            Sends (W.contents (inner_of writer.old)) (W.contents (inner_of writer.new)) (self.old ++ text.now) n self.new) }
+        ensures err { IfErr result
+            (TakesFront (W.contents (inner_of writer.old)) (W.contents (inner_of writer.new)) self.old) }
+        ensures faults { faults_of writer.new ≡ one_more_unless (is_ok result) (faults_of writer.old) }
     {
         if self.has_room(text.len()) {
             self.append(text);

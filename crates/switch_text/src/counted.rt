@@ -1,8 +1,9 @@
 //! Readers and writers whose faults are counted.
 
-ghost use Rattle.std.specs.Prelude.{ℕ, ◌≡◌, ◌+◌, ◌<◌, ◌≤◌, ◌^◌, List, length, take, is_some, is_ok, if◌then◌else◌, IfSome, IfNone, IfOk, IfErr, OnOk, OnErr};
+ghost use Rattle.std.specs.Prelude.{◌≡◌, ◌<◌, ◌≤◌, ◌^◌, length, take, is_some, is_ok, IfSome, IfNone, IfOk, IfErr, OnOk, OnErr};
 ghost use Rattle.std.specs.Io.KnownBytes.{Appends, Consumes, IsAtEnd, Keeps};
-ghost use Rattle.switch_text.specs.Faults.{faults_after, ConsumesSome};
+ghost use Rattle.switch_text.specs.Sides.{inner_of, faults_of};
+ghost use Rattle.switch_text.specs.Faults.{one_more_unless, faults_after, ConsumesSome, TakesFront};
 
 use crate::fault::ReadFault;
 use std::alloc::Global;
@@ -14,21 +15,20 @@ const READS: u64 = 1 << 32;
 /// A reader or a writer, and how many of its calls failed (own).
 ///
 /// Every call goes to the reader or writer once and takes its answer as it is: no error is tried again, also not
-/// `Interrupted`. What the contracts say of bytes holds where the reader or writer tells its bytes (a slice, a `Cursor`, a
-/// queue, a `Vec`); of a file, a pipe or a terminal they claim nothing.
+/// `Interrupted`. Nobody else reaches the reader or writer meanwhile, and nothing but a call that failed is counted. What the
+/// contracts say of bytes holds where the reader or writer tells its bytes (a slice, a `Cursor`, a queue, a `Vec`); of a file,
+/// a pipe or a terminal they claim nothing.
 #[derive(Drop)]
 pub struct Counted<T> {
-    /// The reader or writer.
-    pub inner: T,
-    /// How many of its calls failed.
-    pub faults: u64,
+    inner: T,
+    faults: u64,
 }
 
 impl<T> Counted<T> {
     /// A reader or writer of which no call has failed yet. Takes no memory.
     pub fn new(inner: T) -> Counted<T>
-        ensures inner { result.inner ≡ inner }
-        ensures faults { result.faults ≡ 0 }
+        ensures inner { inner_of result ≡ inner }
+        ensures faults { faults_of result ≡ 0 }
     {
         Counted { inner, faults: 0 }
     }
@@ -36,9 +36,16 @@ impl<T> Counted<T> {
     /// How many calls failed so far: reads and writes that answered an error, writes that took 0 bytes, and each
     /// [`Counted::read_all`] that met no end.
     pub fn faults(&self) -> u64
-        ensures { result ≡ self.now.faults }
+        ensures { result ≡ faults_of self.now }
     {
         self.faults
+    }
+
+    /// The reader or writer itself, as the calls left it; the count is gone.
+    pub fn into_inner(self) -> T
+        ensures { result ≡ inner_of self }
+    {
+        self.inner
     }
 }
 
@@ -46,12 +53,14 @@ impl<R: Read> Counted<R> {
     /// Reads once, into the front of the buffer: how many bytes came, 0 at the end and where the buffer has no room.
     /// `None` is a fault: the reader answered an error, of any kind, and gave nothing. Takes no memory.
     pub fn read(&mut self, buf: &mut [u8]) -> Option<usize>
-        requires { self.old.faults < 2 ^ 63 }
+        requires { faults_of self.old < 2 ^ 63 }
         ensures count { IfSome result (λ n. n ≤ length buf.new) }
-        ensures given { IfSome result (λ n. Consumes (R.remaining self.old.inner) (R.remaining self.new.inner) (take n buf.new)) }
-        ensures end { IfSome result (λ n. n ≡ 0 → 0 < length buf.new → IsAtEnd (R.remaining self.new.inner)) }
-        ensures kept { IfNone result (Keeps (R.remaining self.old.inner) (R.remaining self.new.inner)) }
-        ensures faults { self.new.faults ≡ (if is_some result then self.old.faults else self.old.faults + 1) }
+        ensures given { IfSome result (λ n.
+            Consumes (R.remaining (inner_of self.old)) (R.remaining (inner_of self.new)) (take n buf.new)) }
+        ensures end { IfSome result (λ n.
+            n ≡ 0 → 0 < length buf.new → IsAtEnd (R.remaining (inner_of self.new))) }
+        ensures kept { IfNone result (Keeps (R.remaining (inner_of self.old)) (R.remaining (inner_of self.new))) }
+        ensures faults { faults_of self.new ≡ one_more_unless (is_some result) (faults_of self.old) }
     {
         match self.inner.read(buf) {
             Ok(n) => Some(n),
@@ -69,11 +78,12 @@ impl<R: Read> Counted<R> {
     /// [`ReadFault::Memory`] where a growth was refused, which is no fault of the reader. After an error the bytes read so far
     /// are gone.
     pub fn read_all(&mut self, alloc: Global) -> Result<Vec<u8>, ReadFault>
-        requires { self.old.faults < 2 ^ 63 }
-        ensures all { IfOk result (λ v. IfSome (R.remaining self.old.inner) (λ bytes. v.items ≡ bytes)) }
-        ensures end { OnOk result (IsAtEnd (R.remaining self.new.inner)) }
-        ensures err { OnErr result (ConsumesSome (R.remaining self.old.inner) (R.remaining self.new.inner)) }
-        ensures faults { self.new.faults ≡ faults_after self.old.faults result }
+        requires { faults_of self.old < 2 ^ 63 }
+        ensures all { IfOk result (λ v. IfSome (R.remaining (inner_of self.old)) (λ bytes. v.items ≡ bytes)) }
+        ensures end { OnOk result (IsAtEnd (R.remaining (inner_of self.new))) }
+        ensures err { OnErr result
+            (ConsumesSome (R.remaining (inner_of self.old)) (R.remaining (inner_of self.new))) }
+        ensures faults { faults_of self.new ≡ faults_after (faults_of self.old) result }
     {
         let mut bytes = Vec::new(alloc);
         let mut piece = [0u8; 16384];
@@ -94,14 +104,16 @@ impl<R: Read> Counted<R> {
 }
 
 impl<W: Write> Counted<W> {
-    /// Writes once: how many of the bytes the writer took, from their front; at least one. `None` is a fault: the writer
-    /// answered an error, of any kind, or took 0 bytes, and took nothing. Takes no memory.
+    /// Writes once, at least one byte: how many of the bytes the writer took, from their front; at least one. `None` is a fault:
+    /// the writer answered an error, of any kind, or took 0 bytes, and took nothing. Takes no memory.
     pub fn write(&mut self, bytes: &[u8]) -> Option<usize>
-        requires { self.old.faults < 2 ^ 63 }
+        requires some { 0 < length bytes.now }
+        requires faults { faults_of self.old < 2 ^ 63 }
         ensures count { IfSome result (λ n. (0 < n) × (n ≤ length bytes.now)) }
-        ensures taken { IfSome result (λ n. Appends (W.contents self.old.inner) (W.contents self.new.inner) (take n bytes.now)) }
-        ensures kept { IfNone result (Keeps (W.contents self.old.inner) (W.contents self.new.inner)) }
-        ensures faults { self.new.faults ≡ (if is_some result then self.old.faults else self.old.faults + 1) }
+        ensures taken { IfSome result (λ n.
+            Appends (W.contents (inner_of self.old)) (W.contents (inner_of self.new)) (take n bytes.now)) }
+        ensures kept { IfNone result (Keeps (W.contents (inner_of self.old)) (W.contents (inner_of self.new))) }
+        ensures faults { faults_of self.new ≡ one_more_unless (is_some result) (faults_of self.old) }
     {
         match self.inner.write(bytes) {
             Ok(0) | Err(_) => {
@@ -114,11 +126,12 @@ impl<W: Write> Counted<W> {
 
     /// Writes until all bytes are taken, or the first fault: then how many were taken before it, from the front.
     pub(crate) fn write_all(&mut self, bytes: &[u8]) -> Result<(), usize>
-        requires { self.old.faults < 2 ^ 63 }
-        ensures ok { OnOk result (Appends (W.contents self.old.inner) (W.contents self.new.inner) bytes.now) }
-        ensures err { IfErr result (λ n. Appends (W.contents self.old.inner) (W.contents self.new.inner) (take n bytes.now)) }
-        ensures some_left { IfErr result (λ n. n < length bytes.now) }
-        ensures faults { self.new.faults ≡ (if is_ok result then self.old.faults else self.old.faults + 1) }
+        requires { faults_of self.old < 2 ^ 63 }
+        ensures ok { OnOk result
+            (Appends (W.contents (inner_of self.old)) (W.contents (inner_of self.new)) bytes.now) }
+        ensures err { IfErr result
+            (TakesFront (W.contents (inner_of self.old)) (W.contents (inner_of self.new)) bytes.now) }
+        ensures faults { faults_of self.new ≡ one_more_unless (is_ok result) (faults_of self.old) }
     {
         let mut at = 0;
         while at < bytes.len() {

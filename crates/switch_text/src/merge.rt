@@ -2,7 +2,7 @@
 
 ghost use Rattle.std.specs.Prelude.{ℕ, ◌≡◌, ◌+◌, ◌<◌, ◌≤◌, ◌^◌, length, slice_index_or, All, IfSome, IsTrue, ◌↔◌};
 ghost use Rattle.switch_text.specs.Runs.{IsRun};
-ghost use Rattle.switch_text.specs.Merging.{IsFound, IsPrinted, is_better};
+ghost use Rattle.switch_text.specs.private.Merging.{IsFound, IsPrinted, is_better};
 
 use crate::run::Run;
 use domain_run::Switch;

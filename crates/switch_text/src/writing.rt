@@ -1,10 +1,11 @@
 //! The trace text of runs.
 
-ghost use Rattle.std.specs.Prelude.{ℕ, ◌≡◌, ◌+◌, ◌<◌, ◌≤◌, ◌^◌, ◌++◌, length, is_ok, if◌then◌else◌, All, IfOk, IfErr, OnOk};
+ghost use Rattle.std.specs.Prelude.{◌≡◌, ◌+◌, ◌<◌, ◌≤◌, ◌^◌, length, is_ok, All, IfErr, OnOk};
 ghost use Rattle.std.specs.Io.KnownBytes.{Appends};
 ghost use Rattle.switch_text.specs.Trace.{header, trace_of};
 ghost use Rattle.switch_text.specs.Runs.{views, IsRun};
-ghost use Rattle.switch_text.specs.Sending.{Sends, Stops};
+ghost use Rattle.switch_text.specs.Sides.{inner_of, faults_of};
+ghost use Rattle.switch_text.specs.Faults.{one_more_unless, TakesFront};
 
 use crate::batch::Batch;
 use crate::counted::Counted;
@@ -41,10 +42,12 @@ fn stopped_after(written: usize, more: usize) -> WriteFault
 pub fn write_trace<W: Write>(runs: &[Run<'_>], writer: &mut Counted<W>) -> Result<(), WriteFault>
     requires few { length runs.now ≤ 8 }
     requires runs { All IsRun runs.now }
-    requires faults { writer.old.faults < 2 ^ 63 }
-    ensures ok { OnOk result (Appends (W.contents writer.old.inner) (W.contents writer.new.inner) (trace_of (views runs.now))) }
-    ensures err { IfErr result (λ f. Stops (W.contents writer.old.inner) (W.contents writer.new.inner) (trace_of (views runs.now)) f.written) }
-    ensures faults { writer.new.faults ≡ (if is_ok result then writer.old.faults else writer.old.faults + 1) }
+    requires faults { faults_of writer.old < 2 ^ 63 }
+    ensures ok { OnOk result
+        (Appends (W.contents (inner_of writer.old)) (W.contents (inner_of writer.new)) (trace_of (views runs.now))) }
+    ensures err { IfErr result (λ f.
+        TakesFront (W.contents (inner_of writer.old)) (W.contents (inner_of writer.new)) (trace_of (views runs.now)) f.written) }
+    ensures faults { faults_of writer.new ≡ one_more_unless (is_ok result) (faults_of writer.old) }
 {
     let mut batch = Batch::new();
     batch.append(header_text());

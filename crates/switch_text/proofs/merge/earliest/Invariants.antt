@@ -1,5 +1,5 @@
 use Rattle.std.proofs.Common.{take}
-use Rattle.switch_text.specs.Merging.{IsFound}
+use Rattle.switch_text.specs.private.Merging.{IsFound}
 use Rattle.switch_text.proofs.merge.earliest.Given as goal
 
 abbrev pub invariant-loop-i : goal.invariant-loop-i

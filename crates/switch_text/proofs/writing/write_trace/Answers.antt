@@ -2,8 +2,9 @@ use Rattle.std.proofs.Common.{◌≡◌, ◌∙◌, ◌≤◌, ◌++◌, length,
 use Rattle.std.proofs.lemmas.List.{length-map, length-take}
 use Rattle.switch_text.specs.Trace.{header, trace_of}
 use Rattle.switch_text.specs.Runs.{view_of, views}
-use Rattle.switch_text.specs.Sending.{Sends, Stops}
-use Rattle.switch_text.specs.Merging.{next_entry, stepped}
+use Rattle.switch_text.specs.Faults.{TakesFront}
+use Rattle.switch_text.specs.private.Sending.{Sends}
+use Rattle.switch_text.specs.private.Merging.{next_entry, stepped}
 use Rattle.switch_text.proofs.Few.{few}
 use Rattle.switch_text.proofs.Found.{in_order-next}
 use Rattle.switch_text.proofs.UnderWay.{IsUnderWay, IsUnderWay-start, IsUnderWay-next, IsUnderWay-stops, IsUnderWay-ends, count_fits, sent_within}
@@ -45,7 +46,7 @@ stopped_after-requires g c =
 
 pub returns-in-Err-clause-err : goal.returns-in-Err-clause-err
 returns-in-Err-clause-err g c =
-    subst (λ n. Stops (g.W.Write.contents c.args.writer.now.inner) (g.W.Write.contents c.put.new.writer.inner) (trace_of (views c.args.runs.now)) n) (sym c.stopped_after.ensures)
+    subst (λ n. TakesFront (g.W.Write.contents c.args.writer.now.inner) (g.W.Write.contents c.put.new.writer.inner) (trace_of (views c.args.runs.now)) n) (sym c.stopped_after.ensures)
     (IsUnderWay-stops _ _ _ (views c.args.runs.now) c.loop-next.places c.loop-next.written c.in-Err.n c.loop-next.batch c.loop-next.invariant.under_way c.in-Err.ensures.err)
 
 pub stopped_after-requires-in-Err-flush : goal.stopped_after-requires-in-Err-flush
@@ -59,5 +60,5 @@ returns-in-Ok-flush-clause-ok g c =
 
 pub returns-in-Err-flush-clause-err : goal.returns-in-Err-flush-clause-err
 returns-in-Err-flush-clause-err g c =
-    subst (λ n. Stops (g.W.Write.contents c.args.writer.now.inner) (g.W.Write.contents c.flush.new.writer.inner) (trace_of (views c.args.runs.now)) n) (sym c.stopped_after-in-Err-flush.ensures)
+    subst (λ n. TakesFront (g.W.Write.contents c.args.writer.now.inner) (g.W.Write.contents c.flush.new.writer.inner) (trace_of (views c.args.runs.now)) n) (sym c.stopped_after-in-Err-flush.ensures)
     (IsUnderWay-stops _ _ _ (views c.args.runs.now) c.loop-next.places c.loop-next.written c.in-Err-flush.n c.loop-next.batch c.loop-next.invariant.under_way c.in-Err-flush.ensures.err)

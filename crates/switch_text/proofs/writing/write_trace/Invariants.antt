@@ -1,6 +1,6 @@
 use Rattle.std.proofs.Common.{length, ◌≡◌}
 use Rattle.switch_text.specs.Runs.{views}
-use Rattle.switch_text.specs.Merging.{left_of}
+use Rattle.switch_text.specs.private.Merging.{left_of}
 use Rattle.switch_text.proofs.UnderWay.{IsUnderWay}
 use Rattle.switch_text.proofs.writing.write_trace.Given as goal
 

@@ -1,0 +1,53 @@
+-- Each admitted number keeps its name.
+use Rattle.std.proofs.Common.{◌≡◌, ℕ, suc, ◌+◌, ◌<◌, ◌≤◌, Bool, true, false, cond, eqb, ltb, ◌||◌, List, [], ◌∷◌, length, refl, sym, ap, ◌∙◌, subst, arith, eq-eqb, Result, Ok, Err}
+use Rattle.std.specs.Prelude.{OnOk}
+use Rattle.std.specs.List.{list_any}
+use Rattle.std.proofs.lemmas.Bool.{eqb-true, eqb-false, ne_eqb}
+use Rattle.attr_check.specs.ParamsView.{ParamsView}
+use Rattle.domain_run.specs.NameView.{IsName}
+use Rattle.domain_run.specs.script.ScriptView.{ScriptView}
+use Rattle.domain_run.specs.declared.call.Call.TheVariants.{Admit}
+use Rattle.domain_run.specs.declared.call.Reply.TheVariants.{Admitted}
+use Rattle.domain_run.specs.Domain.{Domain}
+use Rattle.domain_run.specs.Calls.{with_number, reply_to, is_refusal, after_call, granted}
+use Rattle.domain_run.specs.Tick.{ticks, ticked}
+use Rattle.domain_run.specs.Sound.{IsAdmitted}
+use Rattle.domain_run.proofs.Admitting.{with_number_contains}
+use Rattle.switch_text.specs.Names.{Names, named, HasName}
+use Rattle.dl_session.specs.Replay.{with_name}
+use Rattle.dl_session.specs.Replaying.{AreNamed}
+
+pub one_more : (k : ℕ) (d e : Domain) → e ≡ ticks k d → ticked e ≡ ticks (k + 1) d
+one_more k d e same = let more : suc k ≡ k + 1 = omega arith in ap ticked same ∙ ap (λ n. ticks n d) more
+
+eqb-swap : (a b : ℕ) → eqb a b ≡ eqb b a
+eqb-swap a b =
+    elim (eqb a b) as (λ x. eqb a b ≡ x → x ≡ eqb b a) [
+      | true ↦ λ e. sym (eq-eqb b a (sym (eqb-true a b e)))
+      | false ↦ λ e. sym (ne_eqb b a (λ q. eqb-false a b e (sym q)))
+    ] refl
+
+-- what an Ok says, said otherwise
+pub on_ok : {T E : Type 0} (r : Result T E) (P Q : Type 0) → (P → Q) → OnOk r P → OnOk r Q
+on_ok (Ok x) P Q f h = f h
+on_ok (Err e) P Q f h = tt
+
+has_name : (names : Names) (n : ℕ) (name : List ℕ) → named names n ≡ name → 0 < length name → length name ≤ 15 → HasName names n
+has_name names n name e some most = record { some = rw e some; most = rw e most }
+
+pub named_step : (d : Domain) (was is : Names) (number : ℕ) (name : List ℕ) (params : ParamsView) (delay : ℕ) (script : ScriptView) → reply_to d (Admit number name params delay script) ≡ Admitted → AreNamed d was → IsName name
+    → ((n : ℕ) → named is n ≡ with_name (named was) number name n) → AreNamed (after_call d (Admit number name params delay script)) is
+named_step d was is number name params delay script reply old good each n h =
+    let one : after_call d (Admit number name params delay script) ≡ granted d (Admit number name params delay script) = rw reply refl in
+    let h2 : (eqb number n || list_any (λ m. eqb m n) d.used) ≡ true = sym (with_number_contains number n d.used) ∙ subst (λ (x : Domain). IsAdmitted x.used n) one h in
+    elim (eqb n number) as (λ b. eqb n number ≡ b → HasName is n) [
+      | true ↦ λ e. has_name is n name (each n ∙ rw e refl) good.some good.most
+      | false ↦ λ e.
+          let there : IsAdmitted d.used n = sym (ap (λ b. b || list_any (λ m. eqb m n) d.used) (eqb-swap number n ∙ e)) ∙ h2 in
+          let was_named = old n there in
+          has_name is n (named was n) (each n ∙ rw e refl) was_named.some was_named.most
+    ] refl
+
+pub admit_time : (d : Domain) (number : ℕ) (name : List ℕ) (params : ParamsView) (delay : ℕ) (script : ScriptView) → (after_call d (Admit number name params delay script)).time ≡ d.time
+admit_time d number name params delay script =
+    elim (is_refusal (reply_to d (Admit number name params delay script))) as (λ b. (cond b d (granted d (Admit number name params delay script))).time ≡ d.time) [ true ↦ refl | false ↦ refl ]

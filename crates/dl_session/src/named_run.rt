@@ -1,0 +1,189 @@
+//! The run of the calls of a section.
+
+ghost use Rattle.std.specs.Prelude.{◌≡◌, ℕ, ◌<◌, ◌≤◌, ◌+◌, ◌^◌, OnOk, IfErr, IfOk, All, vec_len};
+ghost use Rattle.std.specs.String.{string_bytes};
+ghost use Rattle.domain_run.specs.NameView.{IsName};
+ghost use Rattle.domain_run.specs.declared.call.Call.TheVariants as Call;
+ghost use Rattle.domain_run.specs.Domain.{opened};
+ghost use Rattle.domain_run.specs.Calls.{after_call};
+ghost use Rattle.domain_run.specs.Tick.{ticks as ticked_by};
+ghost use Rattle.call_book.specs.Limits.{IsNumber, IsCall, IsEntry, IsSection};
+ghost use Rattle.switch_text.specs.Names.{named};
+ghost use Rattle.dl_session.specs.Replay.{no_names, with_name, names_after};
+ghost use Rattle.dl_session.specs.Replaying.{AreNamed, IsRunOf, section_view};
+
+use crate::fault::SessionFault;
+use attr_check::Params;
+use call_book::{Entry, Section};
+use domain_run::{Call, Name, NoMemory, Script, State};
+use indexmap::IndexMap;
+use std::alloc::Global;
+
+/// A domain whose calls are made one by one, and the names of its tasks by number.
+#[derive(Drop)]
+pub(crate) struct NamedRun {
+    pub(crate) state: State,
+    pub(crate) names: IndexMap<u32, String>,
+}
+
+fn text_of(alloc: Global, name: &Name) -> Result<String, SessionFault>
+    ensures text { IfOk result (λ text. string_bytes text ≡ name.now) }
+    ensures name { IsName name.now }
+    ensures err { IfErr result (λ e. e ≡ SessionFault.Memory) }
+{
+    match String::from_str(alloc, name.as_str()) {
+        Ok(text) => Ok(text),
+        Err(_) => Err(SessionFault::Memory),
+    }
+}
+
+fn put_name(
+    names: &mut IndexMap<u32, String>,
+    number: u32,
+    text: String,
+) -> Result<(), SessionFault>
+    ensures ok { OnOk result ((n : ℕ) → named names.new n ≡ with_name (named names.old) number (string_bytes text) n) }
+    ensures err { IfErr result (λ e. e ≡ SessionFault.Memory) }
+{
+    match names.insert(number, text) {
+        Ok(_) => Ok(()),
+        Err(_) => Err(SessionFault::Memory),
+    }
+}
+
+impl NamedRun {
+    fn open(alloc: Global, cpus: u32, limit: u64) -> Result<NamedRun, SessionFault>
+        requires cpus { (0 < cpus) × (cpus ≤ 64) }
+        requires limit { (10485 ≤ limit) × (limit ≤ 1048576) }
+        ensures state { IfOk result (λ r. r.state ≡ opened cpus limit) }
+        ensures names { IfOk result (λ r. (n : ℕ) → named r.names n ≡ no_names n) }
+        ensures err { IfErr result (λ e. e ≡ SessionFault.Memory) }
+    {
+        match State::open(alloc, cpus, limit) {
+            Ok(state) => Ok(NamedRun {
+                state,
+                names: IndexMap::new(alloc),
+            }),
+            Err(NoMemory) => Err(SessionFault::Memory),
+        }
+    }
+
+    /// Admits a task; the name of a task that is admitted is kept.
+    fn admit(
+        &mut self,
+        alloc: Global,
+        number: u32,
+        name: Name,
+        params: Params,
+        delay: u64,
+        script: Script,
+    ) -> Result<(), SessionFault>
+        requires number { IsNumber number }
+        requires delay { delay ≤ 1000000000 }
+        requires named { AreNamed self.old.state self.old.names }
+        ensures state { OnOk result (self.new.state ≡ after_call self.old.state (Call.Admit number name params delay script)) }
+        ensures names { OnOk result ((n : ℕ) → named self.new.names n ≡ names_after self.old.state (Call.Admit number name params delay script) (named self.old.names) n) }
+        ensures named { OnOk result (AreNamed self.new.state self.new.names) }
+        ensures time { OnOk result (self.new.state.time ≡ self.old.state.time) }
+        ensures err { IfErr result (λ e. e ≡ SessionFault.Memory) }
+    {
+        let text = text_of(alloc, &name)?;
+        match self.state.admit(number, name, params, delay, script) {
+            Ok(()) => put_name(&mut self.names, number, text),
+            Err(_) => Ok(()),
+        }
+    }
+
+    /// Makes a call.
+    fn make(&mut self, alloc: Global, call: Call) -> Result<(), SessionFault>
+        requires call { IsCall call }
+        requires early { self.old.state.time + 60000000 ≤ 2 ^ 42 }
+        requires named { AreNamed self.old.state self.old.names }
+        ensures state { OnOk result (self.new.state ≡ after_call self.old.state call) }
+        ensures names { OnOk result ((n : ℕ) → named self.new.names n ≡ names_after self.old.state call (named self.old.names) n) }
+        ensures named { OnOk result (AreNamed self.new.state self.new.names) }
+        ensures time { OnOk result (self.new.state.time ≤ self.old.state.time + 60000000) }
+        ensures err { IfErr result (λ e. e ≡ SessionFault.Memory) }
+    {
+        match call {
+            Call::Admit {
+                number,
+                name,
+                params,
+                delay,
+                script,
+            } => self.admit(alloc, number, name, params, delay, script),
+            Call::Advance { ticks } => self.advance(ticks),
+            Call::Regrade {
+                number,
+                params,
+                word,
+            } => {
+                self.state.regrade(number, params, word);
+                Ok(())
+            }
+            Call::Wake { number } => {
+                self.state.wake(number);
+                Ok(())
+            }
+            Call::Leave { number } => {
+                self.state.leave(number);
+                Ok(())
+            }
+        }
+    }
+
+    /// Makes so many ticks.
+    fn advance(&mut self, ticks: u64) -> Result<(), SessionFault>
+        requires early { self.old.state.time + ticks ≤ 2 ^ 42 }
+        ensures state { OnOk result (self.new.state ≡ ticked_by ticks self.old.state) }
+        ensures time { OnOk result (self.new.state.time ≡ self.old.state.time + ticks) }
+        ensures used { OnOk result (self.new.state.used ≡ self.old.state.used) }
+        ensures names { self.new.names ≡ self.old.names }
+        ensures err { IfErr result (λ e. e ≡ SessionFault.Memory) }
+    {
+        for _ in 0..ticks {
+            match self.state.tick() {
+                Ok(()) => {}
+                Err(NoMemory) => return Err(SessionFault::Memory),
+            }
+        }
+        Ok(())
+    }
+}
+
+/// The run of the calls of a section.
+fn run_entries(
+    alloc: Global,
+    cpus: u32,
+    limit: u64,
+    mut entries: Vec<Entry>,
+) -> Result<NamedRun, SessionFault>
+    requires cpus { (0 < cpus) × (cpus ≤ 64) }
+    requires limit { (10485 ≤ limit) × (limit ≤ 1048576) }
+    requires few { vec_len entries ≤ 65536 }
+    requires entries { All IsEntry entries.items }
+    ensures run { IfOk result (λ r. IsRunOf (section_view cpus limit entries.items) r.state r.names) }
+    ensures err { IfErr result (λ e. e ≡ SessionFault.Memory) }
+{
+    let mut run = NamedRun::open(alloc, cpus, limit)?;
+    entries.reverse();
+    while let Some(entry) = entries.pop() {
+        run.make(alloc, entry.call)?;
+    }
+    Ok(run)
+}
+
+/// The run of a section.
+pub(crate) fn run_section(alloc: Global, section: Section) -> Result<NamedRun, SessionFault>
+    requires section { IsSection section }
+    ensures run { IfOk result (λ r. IsRunOf section r.state r.names) }
+    ensures err { IfErr result (λ e. e ≡ SessionFault.Memory) }
+{
+    let Section {
+        cpus,
+        limit,
+        entries,
+    } = section;
+    run_entries(alloc, cpus, limit, entries)
+}

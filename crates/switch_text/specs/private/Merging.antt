@@ -1,0 +1,50 @@
+-- Several runs at once: what is left of each, and which entry comes next. The trace text knows nothing of these words.
+use Rattle.std.specs.Prelude.{ℕ, ◌≡◌, ◌+◌, ◌<◌, ◌^◌, Bool, true, false, List, [], ◌∷◌, ◌++◌, length, drop, slice_index, slice_set, Option, Some, None}
+use Rattle.std.specs.List.{AllByRecursion}
+use Rattle.switch_text.specs.declared.run.Run.{Run}
+use Rattle.switch_text.specs.declared.merge.Next.{Next}
+use Rattle.switch_text.specs.Names.{HasLine}
+use Rattle.switch_text.specs.Trace.{RunView, Entry, entry_of, entries_of, is_earlier}
+use Rattle.switch_text.specs.Runs.{view_of, views}
+
+-- the entries of each run from its place on, one run after the other
+abbrev pub left_of : List RunView → List ℕ → List Entry
+left_of [] places = []
+left_of (r ∷ runs) [] = []
+left_of (r ∷ runs) (p ∷ places) = drop p (entries_of r) ++ left_of runs places
+
+-- the places when this run has gone one entry on
+abbrev pub stepped : List ℕ → ℕ → List ℕ
+stepped places i = slice_set places i (slice_index places i + 1)
+
+-- an entry of this run that is left, earlier than those left before it, and not later than those left behind it
+pub record IsAhead (runs : List RunView) (places : List ℕ) (i : ℕ) (e : Entry) : Type 0 where
+  pub before : List Entry
+  pub after : List Entry
+  pub inside : i < length runs
+  pub split : left_of runs places ≡ before ++ e ∷ after
+  pub moved : left_of runs (stepped places i) ≡ before ++ after
+  pub earlier : AllByRecursion (λ x. is_earlier e x ≡ true) before
+  pub not_later : AllByRecursion (λ x. is_earlier x e ≡ false) after
+
+abbrev pub next_entry : Next → Entry
+next_entry n = entry_of (view_of n.run.now) n.switch.now
+
+abbrev pub IsPrinted : Next → Type 0
+IsPrinted n = HasLine n.run.now.names.now n.run.now.base n.switch.now
+
+-- the next of all, which has a line
+pub record IsNextOf (runs : List Run) (places : List ℕ) (n : Next) : Type 0 where
+  pub ahead : IsAhead (views runs) places n.index (next_entry n)
+  pub printed : IsPrinted n
+  pub place : slice_index places n.index + 1 < 2 ^ 64
+
+-- nothing is left, or the next of all is found
+abbrev pub IsFound : List Run → List ℕ → Option Next → Type 0
+IsFound runs places None = left_of (views runs) places ≡ []
+IsFound runs places (Some n) = IsNextOf runs places n
+
+-- a next entry that is earlier than the best so far
+abbrev pub is_better : Next → Option Next → Bool
+is_better n None = true
+is_better n (Some best) = is_earlier (next_entry n) (next_entry best)
