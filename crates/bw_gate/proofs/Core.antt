@@ -1,5 +1,5 @@
 -- The gate's steps are those of the pure core.
-use Rattle.std.proofs.Common.{◌≡◌, ◌≢◌, ◌≤◌, ◌<◌, ℕ, ◌+◌, ◌-◌, ◌==◌, Bool, true, false, List, [], ◌∷◌, ◌++◌, Option, Some, None, map, refl, sym, ap, ◌∙◌, arith, eq-eqb, ne_eqb, lt-ltb, le-ltb}
+use Rattle.std.proofs.Common.{◌≡◌, ◌≢◌, ◌≤◌, ◌<◌, ℕ, ◌+◌, ◌-◌, ◌==◌, Bool, true, false, List, [], ◌∷◌, Option, Some, None, refl, sym, ap, ◌∙◌, arith, eq-eqb, ne_eqb, lt-ltb, le-ltb}
 use Rattle.std.specs.Prelude.{if◌then◌else◌}
 use Rattle.std.specs.List.{sum_by}
 use Rattle.std.proofs.lemmas.List.Sums.{sum_by-cons, sum_by-append}
@@ -7,7 +7,7 @@ use Rattle.bw_world.specs.declared.step.Outcome.{Outcome}
 use Rattle.bw_world.specs.declared.step.Outcome.TheVariants.{Saw, Over, Lost}
 use Rattle.bw_world.specs.declared.ticket.Ticket.{Ticket}
 use Rattle.bw_world.specs.WorldView.{DomainView}
-use Rattle.bw_world.specs.DomainStep.{stays, done, with_bw, refusal_of, unless_refused, given_found}
+use Rattle.bw_world.specs.DomainStep.{stays, done, refusal_of, unless_refused, given_found}
 use Rattle.bw_gate.specs.declared.answer.Take.TheVariants as takes
 use Rattle.bw_gate.specs.declared.answer.Regrade.TheVariants as regrades
 use Rattle.bw_gate.specs.declared.view.Piece.{Piece}
@@ -15,7 +15,7 @@ use Rattle.bw_gate.specs.declared.view.Piece.TheVariants as pieces
 use Rattle.bw_gate.specs.declared.view.View.{View}
 use Rattle.bw_gate.specs.Pieces.{BlankView, TicketView}
 use Rattle.bw_gate.specs.Table.{held, held_by, held_by_all}
-use Rattle.bw_gate.specs.Core.{tickets_in, tickets_from, KeepsTheLaw, TakesAsTheCore, RegradesAsTheCore, GivesAsTheCore, LoadsAsTheCore}
+use Rattle.bw_gate.specs.Core.{tickets_in, tickets_from, with_taken, with_regraded, KeepsTheLaw, TakesAsTheCore, RegradesAsTheCore, GivesAsTheCore, LoadsAsTheCore}
 
 sum_if : (b : Bool) (t : Ticket) (ts : List Ticket) → sum_by (λ u. u.bw) (if b then (t ∷ ts) else ts) ≡ (if b then t.bw else 0) + sum_by (λ u. u.bw) ts
 sum_if true t ts = sum_by-cons (λ (u : Ticket). u.bw) t ts
@@ -66,44 +66,41 @@ granted expected wanted c e le = rw (eq-eqb c.word expected e, le-ltb c.cap want
 answers : (c : DomainView) (changed : DomainView) (a b : Option Outcome) → a ≡ b → unless_refused c a changed ≡ unless_refused c b changed
 answers c changed a b e = ap (λ (o : Option Outcome). unless_refused c o changed) e
 
-abbrev with_taken : ℕ → ℕ → DomainView → DomainView
-with_taken id bw c = record c { word = c.word + bw; in_hand = c.in_hand ++ record { id = id; bw = bw } ∷ [] }
-
-abbrev with_regraded : ℕ → ℕ → ℕ → DomainView → DomainView
-with_regraded id was bw c = record c { word = c.word - was + bw; in_hand = map (with_bw id bw) c.in_hand }
-
 pub takes_as_the_core : TakesAsTheCore
-takes_as_the_core b d bw (takes.Taken t) h = (
-  h.0,
-  ap (λ (u : TicketView). u.found) h.2,
-  λ id c cap word.
-      answers c (with_taken id bw c) (refusal_of h.0 (c.word + bw) c) None (granted h.0 (c.word + bw) c word (omega (arith, cap, word, h.1)))
-      ∙ ap (λ (k : ℕ). done (with_taken id k c)) (sym (ap (λ (u : TicketView). u.bw) h.2)),
-)
+takes_as_the_core b d bw (takes.Taken t) h = record {
+  seen = h.seen;
+  found = ap (λ (u : TicketView). u.found) h.ticket;
+  core = λ id c cap word.
+      answers c (with_taken id bw c) (refusal_of h.seen (c.word + bw) c) None (granted h.seen (c.word + bw) c word (omega (arith, cap, word, h.room)))
+      ∙ ap (λ (k : ℕ). done (with_taken id k c)) (sym (ap (λ (u : TicketView). u.bw) h.ticket));
+}
 takes_as_the_core b d bw (takes.Refused e seen) h = λ id c cap word.
-    answers c (with_taken id bw c) (refusal_of seen (c.word + bw) c) (Some (Over c.word)) (over seen (c.word + bw) c word (omega (arith, cap, word, h.0)))
+    answers c (with_taken id bw c) (refusal_of seen (c.word + bw) c) (Some (Over c.word)) (over seen (c.word + bw) c word (omega (arith, cap, word, h.over)))
 takes_as_the_core b d bw (takes.Raced e expected seen) h = λ id c cap word.
-    answers c (with_taken id bw c) (refusal_of expected (c.word + bw) c) (Some (Lost c.word)) (lost expected (c.word + bw) c (λ s. h.0 (sym word ∙ s)))
+    answers c (with_taken id bw c) (refusal_of expected (c.word + bw) c) (Some (Lost c.word)) (lost expected (c.word + bw) c (λ s. h.raced.other (sym word ∙ s)))
 
 pub regrades_as_the_core : RegradesAsTheCore
-regrades_as_the_core t bw (regrades.Changed u) h = (
-  h.0,
-  ap (λ (w : TicketView). w.found) h.3,
-  λ id c cap word.
-      answers c (with_regraded id t.bw bw c) (refusal_of h.0 (c.word - t.bw + bw) c) None (granted h.0 (c.word - t.bw + bw) c word (omega (arith, cap, word, h.2)))
-      ∙ ap (λ (k : ℕ). done (with_regraded id t.bw k c)) (sym (ap (λ (w : TicketView). w.bw) h.3)),
-)
+regrades_as_the_core t bw (regrades.Changed u) h = record {
+  seen = h.seen;
+  found = ap (λ (w : TicketView). w.found) h.ticket;
+  core = λ id c cap word.
+      answers c (with_regraded id t.bw bw c) (refusal_of h.seen (c.word - t.bw + bw) c) None (granted h.seen (c.word - t.bw + bw) c word (omega (arith, cap, word, h.room)))
+      ∙ ap (λ (k : ℕ). done (with_regraded id t.bw k c)) (sym (ap (λ (w : TicketView). w.bw) h.ticket));
+}
 regrades_as_the_core t bw (regrades.Refused u seen) h = λ id c cap word.
-    answers c (with_regraded id t.bw bw c) (refusal_of seen (c.word - t.bw + bw) c) (Some (Over c.word)) (over seen (c.word - t.bw + bw) c word (omega (arith, cap, word, h.1)))
+    answers c (with_regraded id t.bw bw c) (refusal_of seen (c.word - t.bw + bw) c) (Some (Over c.word)) (over seen (c.word - t.bw + bw) c word (omega (arith, cap, word, h.over)))
 regrades_as_the_core t bw (regrades.Raced u expected seen) h = λ id c cap word.
-    answers c (with_regraded id t.bw bw c) (refusal_of expected (c.word - t.bw + bw) c) (Some (Lost c.word)) (lost expected (c.word - t.bw + bw) c (λ s. h.0 (sym word ∙ s)))
+    answers c (with_regraded id t.bw bw c) (refusal_of expected (c.word - t.bw + bw) c) (Some (Lost c.word)) (lost expected (c.word - t.bw + bw) c (λ s. h.raced.other (sym word ∙ s)))
 
 pub gives_as_the_core : GivesAsTheCore
-gives_as_the_core t b h = (
-  h.seen,
-  ap (λ (w : BlankView). w.found) h.blank,
-  λ id c word here. ap (λ (o : Option Ticket). given_found id c o) here,
-)
+gives_as_the_core t b h = record {
+  seen = h.seen;
+  found = ap (λ (w : BlankView). w.found) h.blank;
+  core = λ id c word here. ap (λ (o : Option Ticket). given_found id c o) here;
+}
 
 pub loads_as_the_core : LoadsAsTheCore
-loads_as_the_core t n u h = (ap (λ (w : TicketView). w.found) h.ticket, λ c word. ap (λ (k : ℕ). stays c (Saw k)) word)
+loads_as_the_core t n u h = record {
+  found = ap (λ (w : TicketView). w.found) h.ticket;
+  core = λ c word. ap (λ (k : ℕ). stays c (Saw k)) word;
+}

@@ -42,44 +42,76 @@ core_of terms words views d = record {
 
 -- the rule of the table is the law of the core, in each domain
 abbrev pub KeepsTheLaw : Type 0
-KeepsTheLaw = (terms : TermsView) (words : List ℕ) (views : List View) (d : ℕ) → IsKept terms words views → IsExactDomain (core_of terms words views d)
+KeepsTheLaw =
+    (terms : TermsView) (words : List ℕ) (views : List View) (d : ℕ)
+    → IsKept terms words views → IsExactDomain (core_of terms words views d)
 
--- what the core's Take answers and does, at whatever domain of this cap has the word that the last step of a try found
+-- a domain, in which a ticket was taken; in which a ticket in hand has another bandwidth in the place of `was`; to which a
+-- ticket was given back
+abbrev pub with_taken : ℕ → ℕ → DomainView → DomainView
+with_taken id bw c =
+    record c { word = c.word + bw; in_hand = c.in_hand ++ record { id = id; bw = bw } ∷ [] }
+
+abbrev pub with_regraded : ℕ → ℕ → ℕ → DomainView → DomainView
+with_regraded id was bw c =
+    record c { word = c.word - was + bw; in_hand = map (with_bw id bw) c.in_hand }
+
+abbrev pub with_given : ℕ → ℕ → DomainView → DomainView
+with_given id bw c = record c { word = c.word - bw; in_hand = without id c.in_hand }
+
+-- a fact of whatever domain of this cap has this word, and of whatever id
+abbrev pub Everywhere : ℕ → ℕ → (ℕ → DomainView → Type 0) → Type 0
+Everywhere cap word Fact = (id : ℕ) (c : DomainView) → c.cap ≡ cap → c.word ≡ word → Fact id c
+
+-- what the core's Take answers and does where the domain has the word that the last step of a try found
+pub record IsCoreTaken (b : BlankView) (d bw : ℕ) (t : TicketView) : Type 0 where
+  pub seen : ℕ
+  pub found : t.found ≡ b.found ++ seen ∷ seen ∷ []
+  pub core : Everywhere (cap_of b.gate d) seen (λ id c. taken id bw seen c ≡ done (with_taken id t.bw c))
+
 abbrev pub IsCoreTake : BlankView → ℕ → ℕ → Take → Type 0
-IsCoreTake b d bw (takes.Taken t) =
-    (n : ℕ) × (t.found ≡ b.found ++ n ∷ n ∷ [])
-    × ((id : ℕ) (c : DomainView) → c.cap ≡ cap_of b.gate d → c.word ≡ n → taken id bw n c ≡ done (record c { word = c.word + t.bw; in_hand = c.in_hand ++ record { id = id; bw = t.bw } ∷ [] }))
+IsCoreTake b d bw (takes.Taken t) = IsCoreTaken b d bw t
 IsCoreTake b d bw (takes.Refused e seen) =
-    (id : ℕ) (c : DomainView) → c.cap ≡ cap_of b.gate d → c.word ≡ seen → taken id bw seen c ≡ stays c (Over c.word)
+    Everywhere (cap_of b.gate d) seen (λ id c. taken id bw seen c ≡ stays c (Over c.word))
 IsCoreTake b d bw (takes.Raced e expected seen) =
-    (id : ℕ) (c : DomainView) → c.cap ≡ cap_of b.gate d → c.word ≡ seen → taken id bw expected c ≡ stays c (Lost c.word)
+    Everywhere (cap_of b.gate d) seen (λ id c. taken id bw expected c ≡ stays c (Lost c.word))
 
 -- what the core's Regrade answers and does to a ticket in hand, likewise
+pub record IsCoreChanged (t : TicketView) (bw : ℕ) (u : TicketView) : Type 0 where
+  pub seen : ℕ
+  pub found : u.found ≡ t.found ++ seen ∷ seen ∷ []
+  pub core : Everywhere (cap_of t.gate t.domain) seen
+      (λ id c. regraded_in_hand id t.bw bw seen c ≡ done (with_regraded id t.bw u.bw c))
+
 abbrev pub IsCoreRegrade : TicketView → ℕ → Regrade → Type 0
-IsCoreRegrade t bw (regrades.Changed u) =
-    (n : ℕ) × (u.found ≡ t.found ++ n ∷ n ∷ [])
-    × ((id : ℕ) (c : DomainView) → c.cap ≡ cap_of t.gate t.domain → c.word ≡ n → regraded_in_hand id t.bw bw n c ≡ done (record c { word = c.word - t.bw + u.bw; in_hand = map (with_bw id u.bw) c.in_hand }))
+IsCoreRegrade t bw (regrades.Changed u) = IsCoreChanged t bw u
 IsCoreRegrade t bw (regrades.Refused u seen) =
-    (id : ℕ) (c : DomainView) → c.cap ≡ cap_of t.gate t.domain → c.word ≡ seen → regraded_in_hand id t.bw bw seen c ≡ stays c (Over c.word)
+    Everywhere (cap_of t.gate t.domain) seen
+    (λ id c. regraded_in_hand id t.bw bw seen c ≡ stays c (Over c.word))
 IsCoreRegrade t bw (regrades.Raced u expected seen) =
-    (id : ℕ) (c : DomainView) → c.cap ≡ cap_of t.gate t.domain → c.word ≡ seen → regraded_in_hand id t.bw bw expected c ≡ stays c (Lost c.word)
+    Everywhere (cap_of t.gate t.domain) seen
+    (λ id c. regraded_in_hand id t.bw bw expected c ≡ stays c (Lost c.word))
 
 -- what the core's Give does, at whatever domain has the word that the step found and this ticket in hand
-abbrev pub IsCoreGive : TicketView → BlankView → Type 0
-IsCoreGive t b =
-    (n : ℕ) × (b.found ≡ t.found ++ n ∷ [])
-    × ((id : ℕ) (c : DomainView) → c.word ≡ n → in_hand_of id c ≡ Some (record { id = id; bw = t.bw }) → given id c ≡ done (record c { word = c.word - t.bw; in_hand = without id c.in_hand }))
+pub record IsCoreGive (t : TicketView) (b : BlankView) : Type 0 where
+  pub seen : ℕ
+  pub found : b.found ≡ t.found ++ seen ∷ []
+  pub core : (id : ℕ) (c : DomainView) → c.word ≡ seen → in_hand_of id c ≡ Some (record { id = id; bw = t.bw })
+      → given id c ≡ done (with_given id t.bw c)
 
 -- what the core's Load answers, at whatever domain has the word that the step found: it changes nothing
-abbrev pub IsCoreLoad : TicketView → ℕ → TicketView → Type 0
-IsCoreLoad t n u = (u.found ≡ t.found ++ n ∷ []) × ((c : DomainView) → c.word ≡ n → loaded c ≡ stays c (Saw n))
+pub record IsCoreLoad (t : TicketView) (n : ℕ) (u : TicketView) : Type 0 where
+  pub found : u.found ≡ t.found ++ n ∷ []
+  pub core : (c : DomainView) → c.word ≡ n → loaded c ≡ stays c (Saw n)
 
 -- a try of the gate answers as the core does
 abbrev pub TakesAsTheCore : Type 0
-TakesAsTheCore = (b : BlankView) (d bw : ℕ) (answer : Take) → IsTryOfTake b d bw answer → IsCoreTake b d bw answer
+TakesAsTheCore =
+    (b : BlankView) (d bw : ℕ) (answer : Take) → IsTryOfTake b d bw answer → IsCoreTake b d bw answer
 
 abbrev pub RegradesAsTheCore : Type 0
-RegradesAsTheCore = (t : TicketView) (bw : ℕ) (answer : Regrade) → IsTryOfRegrade t bw answer → IsCoreRegrade t bw answer
+RegradesAsTheCore =
+    (t : TicketView) (bw : ℕ) (answer : Regrade) → IsTryOfRegrade t bw answer → IsCoreRegrade t bw answer
 
 -- give and load do as the core does
 abbrev pub GivesAsTheCore : Type 0

@@ -1,9 +1,8 @@
-use Rattle.std.proofs.Common.{◌≡◌, ℕ, List}
-use Rattle.bw_gate.specs.Answers.{blank_found}
+use Rattle.bw_gate.proofs.Races.{HasRaced}
 use Rattle.bw_gate.proofs.gate.Gate.take.Given as goal
 
--- the earlier tries have found some words
+-- the earlier tries were raced
 abbrev pub invariant-loop : goal.invariant-loop
 invariant-loop g l =
     (goal.iterator-loop g).can_next l.iterator' × (goal.iterator-loop g).is_finite l.iterator'
-    × ((earlier : List ℕ) × (l.blank ≡ blank_found l.fn.blank earlier))
+    × HasRaced l.fn.blank l.domain l.bw l.blank

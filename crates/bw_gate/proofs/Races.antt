@@ -1,0 +1,78 @@
+-- What take and regrade have found by their raced tries.
+use Rattle.std.proofs.Common.{◌≡◌, ℕ, List, [], ◌∷◌, ◌++◌, All, refl, sym, ap, ◌∙◌, subst}
+use Rattle.std.proofs.lemmas.List.{append-nil, append_assoc}
+use Rattle.std.proofs.lemmas.List.Elements.{All-nil, All-push}
+use Rattle.bw_gate.specs.declared.answer.Take.{Take}
+use Rattle.bw_gate.specs.declared.answer.Regrade.{Regrade}
+use Rattle.bw_gate.specs.Pieces.{GateId, BlankView, TicketView}
+use Rattle.bw_gate.specs.Answers.{blank_found, ticket_found, Race, words_of, IsRaceOfTake, IsRaceOfRegrade, IsTakeRaced, IsRegradeRaced, IsTryOfTake, IsTryOfRegrade, IsTakeDecided, IsRegradeDecided, IsTake, IsRegrade}
+
+words_push : (races : List Race) (race : Race) → words_of (races ++ race ∷ []) ≡ words_of races ++ race.expected ∷ race.seen ∷ []
+words_push [] race = refl
+words_push (r ∷ races) race = ap (λ ws. r.expected ∷ r.seen ∷ ws) (words_push races race)
+
+found_more : (found : List ℕ) (races : List Race) (race : Race) → (found ++ words_of races) ++ race.expected ∷ race.seen ∷ [] ≡ found ++ words_of (races ++ race ∷ [])
+found_more found races race = append_assoc found (words_of races) (race.expected ∷ race.seen ∷ []) ∙ ap (λ ws. found ++ ws) (sym (words_push races race))
+
+-- a blank, after some raced tries to take
+pub record HasRaced (b : BlankView) (d bw : ℕ) (c : BlankView) : Type 0 where
+  pub races : List Race
+  pub raced : All (IsRaceOfTake b.gate d bw) races
+  pub blank : c ≡ blank_found b (words_of races)
+
+pub not_yet_raced : (b : BlankView) (d bw : ℕ) → HasRaced b d bw b
+not_yet_raced b d bw = record {
+  races = [];
+  raced = All-nil (IsRaceOfTake b.gate d bw);
+  blank = ap (λ ws. record { gate = b.gate; found = ws }) (sym (append-nil b.found));
+}
+
+pub raced_again : (b : BlankView) (d bw : ℕ) (c e : BlankView) (race : Race) → HasRaced b d bw c → IsTakeRaced c d bw e race → HasRaced b d bw e
+raced_again b d bw c e race before h = record {
+  races = before.races ++ race ∷ [];
+  raced = All-push (IsRaceOfTake b.gate d bw) before.races race before.raced (subst (λ (g : GateId). IsRaceOfTake g d bw race) (ap (λ (x : BlankView). x.gate) before.blank) h.raced);
+  blank =
+      h.blank ∙ ap (λ (x : BlankView). blank_found x (race.expected ∷ race.seen ∷ [])) before.blank
+      ∙ ap (λ ws. record { gate = b.gate; found = ws }) (found_more b.found before.races race);
+}
+
+pub take_decided : (b : BlankView) (d bw : ℕ) (c : BlankView) (answer : Take) → HasRaced b d bw c → IsTryOfTake c d bw answer → IsTakeDecided answer → IsTake b d bw answer
+take_decided b d bw c answer before last decided = record {
+  races = before.races;
+  raced = before.raced;
+  last = subst (λ (x : BlankView). IsTryOfTake x d bw answer) before.blank last;
+  decided = decided;
+}
+
+-- a ticket, after some raced tries to regrade it
+pub record HasRacedToChange (t : TicketView) (bw : ℕ) (u : TicketView) : Type 0 where
+  pub races : List Race
+  pub raced : All (IsRaceOfRegrade t bw) races
+  pub ticket : u ≡ ticket_found t (words_of races)
+
+abbrev with_words : TicketView → List ℕ → TicketView
+with_words t ws = record { gate = t.gate; domain = t.domain; bw = t.bw; found = ws }
+
+pub not_yet_changed : (t : TicketView) (bw : ℕ) → HasRacedToChange t bw t
+not_yet_changed t bw = record {
+  races = [];
+  raced = All-nil (IsRaceOfRegrade t bw);
+  ticket = ap (with_words t) (sym (append-nil t.found));
+}
+
+pub changes_again : (t : TicketView) (bw : ℕ) (u w : TicketView) (race : Race) → HasRacedToChange t bw u → IsRegradeRaced u bw w race → HasRacedToChange t bw w
+changes_again t bw u w race before h = record {
+  races = before.races ++ race ∷ [];
+  raced = All-push (IsRaceOfRegrade t bw) before.races race before.raced (let r = subst (λ (x : TicketView). IsRaceOfRegrade x bw race) before.ticket h.raced in record { held = r.held; room = r.room; other = r.other });
+  ticket =
+      h.ticket ∙ ap (λ (x : TicketView). ticket_found x (race.expected ∷ race.seen ∷ [])) before.ticket
+      ∙ ap (with_words t) (found_more t.found before.races race);
+}
+
+pub regrade_decided : (t : TicketView) (bw : ℕ) (u : TicketView) (answer : Regrade) → HasRacedToChange t bw u → IsTryOfRegrade u bw answer → IsRegradeDecided answer → IsRegrade t bw answer
+regrade_decided t bw u answer before last decided = record {
+  races = before.races;
+  raced = before.raced;
+  last = subst (λ (x : TicketView). IsTryOfRegrade x bw answer) before.ticket last;
+  decided = decided;
+}
