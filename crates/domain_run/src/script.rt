@@ -137,8 +137,10 @@ impl Script {
     /// limit is not met: of this, of the counts (1 to 10^9) and events (1 to 64) of a phase, or of an event's microseconds
     /// (1 to 10^9). Takes no memory.
     pub fn new(loops: i64, phases: Vec<Phase>) -> Result<Script, Vec<Phase>>
-        ensures within { IsOk result ↔ (IsLoops loops × IsScript (script_of (rounds_of loops) phases.items)) }
-        ensures value { MatchResult result (λ s. s ≡ script_of (rounds_of loops) phases.items) (λ back. back.items ≡ phases.items) }
+        ensures within { IsOk result ↔
+            (IsLoops loops × IsScript (script_of (rounds_of loops) phases.items)) }
+        ensures value { MatchResult result (λ s. s ≡ script_of (rounds_of loops) phases.items)
+            (λ back. back.items ≡ phases.items) }
     {
         match rounds_within(loops) {
             Some(rounds) if !phases.is_empty() && phases.len() <= 64 && are_phases(&phases) => {
@@ -302,7 +304,8 @@ impl Cursor {
         ensures segment { result ≡ (given_at self.old time).segment }
         ensures cursor { self.new ≡ kept (given_at self.old time).cursor }
         ensures within { IsSegment result }
-        ensures in_order { self.old.reference ≤ time → self.new.reference ≤ next_ask time result }
+        ensures in_order { self.old.reference ≤ time →
+            self.new.reference ≤ next_ask time result }
     {
         let reference = self.reference;
         match self.event() {
@@ -335,7 +338,8 @@ impl Cursor {
         ensures segment { result ≡ (asked self.old time).segment }
         ensures cursor { self.new ≡ (asked self.old time).cursor }
         ensures within { IsSegment result }
-        ensures in_order { self.old.reference ≤ time → self.new.reference ≤ next_ask time result }
+        ensures in_order { self.old.reference ≤ time →
+            self.new.reference ≤ next_ask time result }
     {
         if is_late_at(self.event(), self.reference, time) {
             self.step(time);
