@@ -1,3 +1,4 @@
+pub mod Unrolling
 pub mod Served
 pub mod Marks
 pub mod Opening

@@ -1,2 +1,3 @@
 pub mod ScriptView
+pub mod Unrolled
 pub mod Segments

@@ -1,8 +1,9 @@
 //! Scripts: what a task does, as phases of events, and the cursor that goes through them (own; rt-app's phases and loops).
 
-ghost use Rattle.std.specs.Prelude.{◌≡◌, ◌<◌, ◌≤◌, ◌^◌, ◌↔◌, ◌%◌, ◌*◌, IsTrue, IsOk, MatchResult, sum_by, IsSome, IfSome, All, length, slice_get};
-ghost use Rattle.domain_run.specs.script.ScriptView.{IsEvent, IsPhase, IsScript, script_of, phase_len, round_len};
-ghost use Rattle.domain_run.specs.script.Segments.{IsLoops, rounds_of, loops_of, begun_at, event_in, event_at, place_after, moved, given_by, given_at, is_late, asked, IsSegment, next_ask};
+ghost use Rattle.std.specs.Prelude.{◌≡◌, ◌<◌, ◌≤◌, ◌+◌, ◌^◌, ◌↔◌, ◌%◌, ◌*◌, IsTrue, IsOk, MatchResult, sum_by, IsSome, IfSome, All, length, slice_get};
+ghost use Rattle.domain_run.specs.script.ScriptView.{IsEvent, IsPhase, IsScript, IsPlace, script_of, phase_len, round_len};
+ghost use Rattle.domain_run.specs.script.Unrolled.{round_of, event_at};
+ghost use Rattle.domain_run.specs.script.Segments.{IsLoops, rounds_of, loops_of, begun_at, first_place, moved, kept, given_at, is_late, asked, GivesAsWritten, IsSegment, next_ask};
 
 use std::marker::Model;
 
@@ -55,7 +56,8 @@ impl Model for Script {
     ghost invariant = { λ s. IsScript (record { rounds = s.rounds; phases = s.phases.items }) };
 }
 
-/// A script, the place of its next event, and its timer reference.
+/// A script, the place of its next event, and its timer reference. In a script without end that place is kept within the first
+/// round, as each is like the first.
 #[derive(Debug, Drop)]
 pub struct Cursor {
     script: Script,
@@ -135,8 +137,10 @@ impl Script {
     /// limit is not met: of this, of the counts (1 to 10^9) and events (1 to 64) of a phase, or of an event's microseconds
     /// (1 to 10^9). Takes no memory.
     pub fn new(loops: i64, phases: Vec<Phase>) -> Result<Script, Vec<Phase>>
-        ensures within { IsOk result ↔ (IsLoops loops × IsScript (script_of (rounds_of loops) phases.items)) }
-        ensures value { MatchResult result (λ s. s ≡ script_of (rounds_of loops) phases.items) (λ back. back.items ≡ phases.items) }
+        ensures within { IsOk result ↔
+            (IsLoops loops × IsScript (script_of (rounds_of loops) phases.items)) }
+        ensures value { MatchResult result (λ s. s ≡ script_of (rounds_of loops) phases.items)
+            (λ back. back.items ≡ phases.items) }
     {
         match rounds_within(loops) {
             Some(rounds) if !phases.is_empty() && phases.len() <= 64 && are_phases(&phases) => {
@@ -164,9 +168,12 @@ impl Script {
         &self.phases
     }
 
-    /// A cursor at the script's beginning, for a task that starts at this time, in microseconds.
+    /// A cursor at the script's beginning, for a task that starts at this time, in microseconds. Asked at any times, it gives
+    /// what the script gives written out, event by event.
+    #[tactic(auto, using(crate::proofs::Unrolling::begun_written, crate::proofs::Unrolling::place_at_first))]
     pub fn cursor(self, start: u64) -> Cursor
-        ensures { result ≡ begun_at self start }
+        ensures begun { result ≡ begun_at self start }
+        ensures written { GivesAsWritten result }
     {
         Cursor {
             script: self,
@@ -196,7 +203,7 @@ fn event_in_phase(phase: &Phase, place: u128) -> Option<Event>
 
 fn event_in_round(phases: &[Phase], place: u128) -> Option<Event>
     requires { All IsPhase phases.now }
-    ensures value { result ≡ event_in phases.now place }
+    ensures value { result ≡ slice_get (round_of phases.now) place }
     ensures event { IfSome result IsEvent }
 {
     let mut rest = place;
@@ -232,8 +239,10 @@ fn rounds_len(rounds: u64, round: u128) -> u128
     u128::from(rounds) * round
 }
 
+#[tactic(auto, using(crate::proofs::Unrolling::event_by_is))]
 fn event_of(script: &Script, place: u128) -> Option<Event>
     ensures value { result ≡ event_at script.now place }
+    ensures within { IsScript script.now }
     ensures event { IfSome result IsEvent }
 {
     let round = round_len_of(&script.phases);
@@ -245,11 +254,12 @@ fn event_of(script: &Script, place: u128) -> Option<Event>
     event_in_round(&script.phases, place % round)
 }
 
+#[tactic(auto, using(crate::proofs::Unrolling::behind_within, crate::proofs::Unrolling::behind_place))]
 fn place_behind(script: &Script, place: u128) -> u128
     requires short { place ≤ 2 ^ 80 }
     requires more { IsSome (event_at script.now place) }
-    ensures value { result ≡ place_after script.now.rounds (round_len script.now) place }
-    ensures within { IfSome script.now.rounds (λ n. result ≤ n * round_len script.now) }
+    ensures value { result ≡ first_place script.now.rounds (round_len script.now) (place + 1) }
+    ensures within { IsPlace script.now result }
     ensures short { result ≤ 2 ^ 80 }
 {
     let round = round_len_of(&script.phases);
@@ -273,6 +283,7 @@ fn is_late_at(event: Option<Event>, reference: u64, time: u64) -> bool
 impl Cursor {
     fn event(&self) -> Option<Event>
         ensures value { result ≡ event_at self.now.script self.now.place }
+        ensures within { IsScript self.now.script }
         ensures event { IfSome result IsEvent }
     {
         event_of(&self.script, self.place)
@@ -280,19 +291,21 @@ impl Cursor {
 
     fn step(&mut self, reference: u64)
         requires more { IsSome (event_at self.old.script self.old.place) }
-        ensures { self.new ≡ moved self.old reference }
+        ensures { self.new ≡ kept (moved self.old reference) }
     {
         self.place = place_behind(&self.script, self.place);
         self.reference = reference;
     }
 
+    #[tactic(auto, using(crate::proofs::Unrolling::kept_itself))]
     fn give(&mut self, time: u64) -> Segment
         requires early { time < 2 ^ 48 }
         requires reference { self.old.reference < 2 ^ 48 }
         ensures segment { result ≡ (given_at self.old time).segment }
-        ensures cursor { self.new ≡ (given_at self.old time).cursor }
+        ensures cursor { self.new ≡ kept (given_at self.old time).cursor }
         ensures within { IsSegment result }
-        ensures in_order { self.old.reference ≤ time → self.new.reference ≤ next_ask time result }
+        ensures in_order { self.old.reference ≤ time →
+            self.new.reference ≤ next_ask time result }
     {
         let reference = self.reference;
         match self.event() {
@@ -325,7 +338,8 @@ impl Cursor {
         ensures segment { result ≡ (asked self.old time).segment }
         ensures cursor { self.new ≡ (asked self.old time).cursor }
         ensures within { IsSegment result }
-        ensures in_order { self.old.reference ≤ time → self.new.reference ≤ next_ask time result }
+        ensures in_order { self.old.reference ≤ time →
+            self.new.reference ≤ next_ask time result }
     {
         if is_late_at(self.event(), self.reference, time) {
             self.step(time);

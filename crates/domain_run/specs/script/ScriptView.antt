@@ -1,5 +1,5 @@
 -- What a contract sees of a script.
-use Rattle.std.specs.Prelude.{ℕ, ◌≤◌, ◌<◌, ◌^◌, ◌*◌, List, length, All, sum_by, Option, IfSome}
+use Rattle.std.specs.Prelude.{ℕ, ◌≤◌, ◌<◌, ◌^◌, ◌*◌, List, length, All, sum_by, Option, IfSome, MatchOption}
 use Rattle.domain_run.specs.declared.script.Event.{Event}
 use Rattle.domain_run.specs.declared.script.Event.TheVariants.{Run, Sleep, Timer, Wait}
 
@@ -49,7 +49,11 @@ phase_len p = p.count * length p.events
 abbrev pub round_len : ScriptView → ℕ
 round_len s = sum_by phase_len s.phases
 
--- what every cursor keeps: a place within the rounds
+-- a place within the rounds; without end within the first
+abbrev pub IsPlace : ScriptView → ℕ → Type 0
+IsPlace s place = MatchOption s.rounds (place < round_len s) (λ n. place ≤ n * round_len s)
+
+-- what every cursor keeps
 pub record IsCursor (c : CursorView) : Type 0 where
-  pub within : IfSome c.script.rounds (λ n. c.place ≤ n * round_len c.script)
+  pub within : IsPlace c.script c.place
   pub short : c.place ≤ 2 ^ 80

@@ -1,10 +1,11 @@
--- A script as the list of its events by place, and what a task does next (own; rt-app's phases and loops).
-use Rattle.std.specs.Prelude.{ℕ, ℤ, pos, negsuc, ◌<◌, ◌≤◌, ◌^◌, ◌≡◌, ◌+◌, ◌-◌, ◌*◌, ◌%◌, Bool, true, false, nat_lt, nat_le, if◌then◌else◌, List, [], ◌∷◌, length, slice_get, Option, Some, None}
+-- What a task does next, by the events of its script (own; rt-app's phases and loops).
+use Rattle.std.specs.Prelude.{ℕ, ℤ, pos, negsuc, ◌<◌, ◌≤◌, ◌^◌, ◌≡◌, ◌+◌, ◌%◌, Bool, false, nat_le, if◌then◌else◌, List, [], ◌∷◌, Option, Some, None}
 use Rattle.domain_run.specs.declared.script.Event.{Event}
 use Rattle.domain_run.specs.declared.script.Event.TheVariants.{Run, Sleep, Timer, Wait}
 use Rattle.domain_run.specs.declared.script.Segment.{Segment}
 use Rattle.domain_run.specs.declared.script.Segment.TheVariants.{Run as RunFor, Until, Wait as WaitFor, End}
-use Rattle.domain_run.specs.script.ScriptView.{PhaseView, ScriptView, CursorView, phase_len, round_len}
+use Rattle.domain_run.specs.script.ScriptView.{ScriptView, CursorView, round_len}
+use Rattle.domain_run.specs.script.Unrolled.{event_at}
 
 -- a number of loops as it is written: -1 for ever, or 1 to 10^9
 abbrev pub rounds_of : ℤ → Option ℕ
@@ -23,29 +24,11 @@ IsLoops (negsuc n) = n ≡ 0
 abbrev pub begun_at : ScriptView → ℕ → CursorView
 begun_at s start = record { script = s; place = 0; reference = start }
 
--- the event at a place of one round: each phase has its events over and over
-abbrev pub event_in : List PhaseView → ℕ → Option Event
-event_in [] place = None
-event_in (p ∷ ps) place = if nat_lt place (phase_len p) then slice_get p.events (place % length p.events) else event_in ps (place - phase_len p)
-
--- the place lies within so many rounds
-abbrev pub is_played : Option ℕ → ℕ → ℕ → Bool
-is_played None round place = true
-is_played (Some n) round place = nat_lt place (n * round)
-
--- the event at a place, none past the last round
-abbrev pub event_at : ScriptView → ℕ → Option Event
-event_at s place = if is_played s.rounds (round_len s) place then event_in s.phases (place % round_len s) else None
-
--- the place after one; a script without end begins its round anew
-abbrev pub place_after : Option ℕ → ℕ → ℕ → ℕ
-place_after None round place = (place + 1) % round
-place_after (Some n) round place = place + 1
-
+-- behind an event the place goes up by one, for ever
 abbrev pub moved : CursorView → ℕ → CursorView
-moved c reference = record { script = c.script; place = place_after c.script.rounds (round_len c.script) c.place; reference = reference }
+moved c reference = record { script = c.script; place = c.place + 1; reference = reference }
 
--- what a task does next, and its cursor behind that event
+-- a segment, and the cursor behind its event
 pub record Asked : Type 0 where
   pub segment : Segment
   pub cursor : CursorView
@@ -69,10 +52,32 @@ is_late (Some (Sleep n)) reference time = false
 is_late (Some Wait) reference time = false
 is_late None reference time = false
 
--- at a late timer the reference becomes the time, and the next place is asked: no timer from there is late, since its period
--- is at least 1
+-- what a task does next. At a late timer the reference becomes the time, and the next place is asked: no timer from there is
+-- late, since its period is at least 1
+abbrev pub answered : CursorView → ℕ → Asked
+answered c time = if is_late (event_at c.script c.place) c.reference time then given_at (moved c time) time else given_at c time
+
+-- without end each round is like the first, so from any place the same events follow as from one place of the first round; there
+-- a cursor is kept
+abbrev pub first_place : Option ℕ → ℕ → ℕ → ℕ
+first_place None round place = place % round
+first_place (Some n) round place = place
+
+abbrev pub kept : CursorView → CursorView
+kept c = record { script = c.script; place = first_place c.script.rounds (round_len c.script) c.place; reference = c.reference }
+
+-- what a task does next, and its cursor as it is kept
 abbrev pub asked : CursorView → ℕ → Asked
-asked c time = if is_late (event_at c.script c.place) c.reference time then given_at (moved c time) time else given_at c time
+asked c time = record { segment = (answered c time).segment; cursor = kept (answered c time).cursor }
+
+-- what a cursor gives, asked at one time after another
+abbrev pub segments : (CursorView → ℕ → Asked) → CursorView → List ℕ → List Segment
+segments ask c [] = []
+segments ask c (t ∷ ts) = (ask c t).segment ∷ segments ask (ask c t).cursor ts
+
+-- that cursors are kept is never seen: at any times they give what a place that goes up by one for ever gives
+abbrev pub GivesAsWritten : CursorView → Type 0
+GivesAsWritten c = (times : List ℕ) → segments asked c times ≡ segments answered c times
 
 -- what every segment keeps
 abbrev pub IsSegment : Segment → Type 0
