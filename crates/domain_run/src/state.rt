@@ -12,6 +12,7 @@ ghost use Rattle.domain_run.specs.Sound.{IsDomain, IsPlacement};
 ghost use Rattle.attr_check.specs.Ratio.{cap};
 
 mod calls;
+mod lending;
 
 use crate::call::{Refused, Reply};
 use crate::memory::NoMemory;
