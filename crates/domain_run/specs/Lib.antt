@@ -11,5 +11,6 @@ pub mod Sound
 pub mod RunQueue
 pub mod Views
 pub mod Calls
+pub mod Busy
 pub mod Run
 pub mod examples

@@ -8,6 +8,7 @@ ghost use Rattle.domain_run.specs.Domain.{opened};
 ghost use Rattle.domain_run.specs.Views.{view_in};
 ghost use Rattle.domain_run.specs.Tick as tick;
 ghost use Rattle.domain_run.specs.Calls as calls;
+ghost use Rattle.domain_run.specs.Busy.{IfBusy, LacksRoomFor};
 ghost use Rattle.domain_run.specs.Sound.{IsDomain, IsPlacement};
 ghost use Rattle.attr_check.specs.Ratio.{cap};
 
@@ -165,7 +166,8 @@ impl State {
     /// The reply to an admission, by the tests in their order.
     fn admit_reply(&self, number: u32, params: &Params) -> Reply
         requires { number < 65536 }
-        ensures { result ≡ calls.admit_reply self.now number params.now }
+        ensures reply { result ≡ calls.admit_reply self.now number params.now }
+        ensures busy { IfBusy result (LacksRoomFor self.now params.now.bw) }
     {
         let sum = self.sum();
         if self.tasks.len() >= 256 {
@@ -209,6 +211,7 @@ impl State {
         ensures admitted { OnOk result (calls.reply_to self.old (Call.Admit number name params delay script) ≡ Reply.Admitted) }
         ensures reply { IfErr result (λ r. r.reply ≡ calls.reply_to self.old (Call.Admit number name params delay script)) }
         ensures refused { IfErr result (λ r. IsTrue (calls.is_refusal r.reply)) }
+        ensures busy { IfErr result (λ r. IfBusy r.reply (LacksRoomFor self.old params.bw)) }
         ensures back { IfErr result (λ r. (r.name ≡ name) × (r.script ≡ script)) }
     {
         match self.admit_reply(number, &params) {
