@@ -12,5 +12,6 @@ pub mod RunQueue
 pub mod Views
 pub mod Calls
 pub mod Busy
+pub mod Keys
 pub mod Run
 pub mod examples
