@@ -1,70 +1,56 @@
--- The least number of postponements that lifts a budget above zero is a quotient.
-use Rattle.std.proofs.Common.{◌≡◌, ℕ, zero, suc, ◌+◌, ◌*◌, ◌/◌, ◌^◌, ◌<◌, ◌≤◌, Bool, true, false, Option, Some, None, refl, sym, ap, ◌∙◌, arith, inl, inr}
-use Rattle.std.specs.Prelude.{ℤ, pos, negsuc, ◌+ℤ◌, ◌<ℤ◌, ◌≤ℤ◌, int_lt, IsSome, IsSomeAnd, IfSome}
-use Rattle.std.proofs.lemmas.Bool.{cases_lt}
+-- How often a server is postponed until something is left of its budget is a quotient.
+use Rattle.std.proofs.Common.{◌≡◌, ℕ, zero, suc, ◌+◌, ◌*◌, ◌/◌, ◌^◌, ◌<◌, ◌≤◌, true, false, Option, Some, None, sym, ap, ◌∙◌, arith}
+use Rattle.std.specs.Prelude.{ℤ, pos, negsuc, ◌+ℤ◌, ◌<ℤ◌, ◌≤ℤ◌, int_le, IsSome, IsSomeAnd, IfSome}
+use Rattle.std.specs.Option.{option_map}
 use Rattle.std.proofs.lemmas.Int.{ints}
 use Rattle.std.proofs.Math.Nat.{mul-le-mul, mul-le-mul_right, div-mul-le_self}
 use Rattle.attr_check.specs.ParamsView.{ParamsView}
 use Rattle.cbs_rules.specs.declared.server.Server.{Server}
 use Rattle.cbs_rules.specs.Budget.{budget, below_zero}
-use Rattle.cbs_rules.specs.Serving.{later, postponed_by, first_passing, least, lifts, replenished}
-
-first_is : (test : ℕ → Bool) (start more k : ℕ) → start ≤ k → k ≤ start + more → test k ≡ true → ((j : ℕ) → j < k → test j ≡ false) → first_passing test (test start) start more ≡ k
-first_is test start zero k low high at_k before =
-    let e : start ≡ k = omega arith in
-    rw (e, at_k) refl
-first_is test start (suc more) k low high at_k before =
-    elim (test start) as (λ b. test start ≡ b → first_passing test b start (suc more) ≡ k) [
-      | true ↦ λ e. elim (cases_lt start k) [
-        | inl less ↦ let no : true ≡ false = sym e ∙ before start less in absurd cc
-        | inr at_least ↦ omega arith
-      ]
-      | false ↦ λ e. elim (cases_lt start k) [
-        | inl less ↦ first_is test (suc start) more k (omega arith) (omega arith) at_k before
-        | inr at_least ↦ let same : start ≡ k = omega arith in let no : true ≡ false = sym at_k ∙ rw (← same) e in absurd cc
-      ]
-    ] refl
-
--- a number that passes, where no smaller one does
-pub least_is : (test : ℕ → Bool) (bound k : ℕ) → k ≤ bound → test k ≡ true → ((j : ℕ) → j < k → test j ≡ false) → least test bound ≡ k
-least_is test bound k within at_k before = first_is test zero bound k (omega arith) (omega arith) at_k before
-
-pub left_after : (p : ParamsView) (s : Server) (k : ℕ) → (postponed_by p s k).left ≡ s.left +ℤ pos (k * budget p)
-left_after p s zero = omega (arith, ints)
-left_after p s (suc k) = omega (arith, ints, left_after p s k)
-
-later-zero : (d : Option ℕ) → d ≡ later 0 d
-later-zero None = refl
-later-zero (Some d) = ap (λ n. Some n) (omega arith)
-
-later-later : (a b c : ℕ) (d : Option ℕ) → a + b ≡ c → later a (later b d) ≡ later c d
-later-later a b c None e = refl
-later-later a b c (Some d) e = ap (λ n. Some n) (omega arith)
-
-pub deadline_after : (p : ParamsView) (s : Server) (k : ℕ) → (postponed_by p s k).deadline ≡ later (k * p.period) s.deadline
-deadline_after p s zero = later-zero s.deadline ∙ ap (λ n. later n s.deadline) (omega arith)
-deadline_after p s (suc k) = ap (later p.period) (deadline_after p s k) ∙ later-later p.period (k * p.period) (suc k * p.period) s.deadline (omega arith)
+use Rattle.cbs_rules.specs.Serving.{is_spent, postponed, replenished_while, replenished}
 
 missing : (z : ℤ) → z ≤ℤ pos 0 → z +ℤ pos (below_zero z) ≡ pos 0
 missing (pos n) h = omega (arith, ints)
 missing (negsuc n) h = omega (arith, ints)
 
-is_above : (z : ℤ) → pos 0 <ℤ z → int_lt (pos 0) z ≡ true
-is_above z h = grind (arith, ints)
+nothing_left : (z : ℤ) → z ≤ℤ pos 0 → int_le z (pos 0) ≡ true
+nothing_left z h = grind (arith, ints)
 
-is_not_above : (z : ℤ) → z ≤ℤ pos 0 → int_lt (pos 0) z ≡ false
-is_not_above z h = grind (arith, ints)
+something_left : (z : ℤ) → pos 0 <ℤ z → int_le z (pos 0) ≡ false
+something_left z h = grind (arith, ints)
 
--- lifted exactly where the budgets are more than what is missing
-lifted : (p : ParamsView) (s : Server) (k : ℕ) → s.left ≤ℤ pos 0 → below_zero s.left < k * budget p → lifts p s k ≡ true
-lifted p s k spent more =
-    let m = missing s.left spent in
-    is_above (postponed_by p s k).left (omega (arith, ints, left_after p s k, m, more))
+-- the deadline after so many postponements of so much
+abbrev later : ℕ → Option ℕ → Option ℕ
+later by d = option_map (λ x. x + by) d
 
-not_lifted : (p : ParamsView) (s : Server) (k : ℕ) → s.left ≤ℤ pos 0 → k * budget p ≤ below_zero s.left → lifts p s k ≡ false
-not_lifted p s k spent less =
-    let m = missing s.left spent in
-    is_not_above (postponed_by p s k).left (omega (arith, ints, left_after p s k, m, less))
+later-zero : (by : ℕ) (d e : Option ℕ) → by ≡ 0 → e ≡ later by d → e ≡ d
+later-zero by None e none same = same
+later-zero by (Some d) e none same = same ∙ ap (λ n. Some n) (omega arith)
+
+later-later : (a b c : ℕ) (d e : Option ℕ) → a + b ≡ c → e ≡ later c d → e ≡ later a (later b d)
+later-later a b c None e sum same = same
+later-later a b c (Some d) e sum same = same ∙ ap (λ n. Some n) (omega arith)
+
+same_server : (a b : Server) → a.deadline ≡ b.deadline → a.left ≡ b.left → a ≡ b
+same_server a b d l =
+    let made : Option ℕ → ℤ → Server = λ x y. record { deadline = x; left = y } in
+    ap (λ x. made x a.left) d ∙ ap (made b.deadline) l
+
+-- where something is left after so many postponements, and not before, these are made
+pub postponed_until : (turns k : ℕ) (p : ParamsView) (s r : Server) → k ≤ turns → ((j : ℕ) → j < k → (s.left +ℤ pos (j * budget p)) ≤ℤ pos 0) → pos 0 <ℤ r.left → r.deadline ≡ later (k * p.period) s.deadline → r.left ≡ s.left +ℤ pos (k * budget p)
+    → replenished_while (is_spent s) turns p s ≡ r
+postponed_until turns zero p s r enough before after d l =
+    let left : r.left ≡ s.left = omega (arith, ints, l) in
+    let same : r ≡ s = same_server r s (later-zero (0 * p.period) s.deadline r.deadline (omega arith) d) left in
+    ap (λ b. replenished_while b turns p s) (something_left s.left (omega (arith, ints, left, after))) ∙ sym same
+postponed_until zero (suc k) p s r enough before after d l = absurd (omega (arith, enough))
+postponed_until (suc turns) (suc k) p s r enough before after d l =
+    let spent : s.left ≤ℤ pos 0 = omega (arith, ints, before 0 (omega arith)) in
+    let next = postponed p s in
+    let still : (j : ℕ) → j < k → (next.left +ℤ pos (j * budget p)) ≤ℤ pos 0 = λ j h. omega (arith, ints, before (suc j) (omega arith)) in
+    let deadline : r.deadline ≡ later (k * p.period) next.deadline = later-later (k * p.period) p.period (suc k * p.period) s.deadline r.deadline (omega arith) d in
+    let left : r.left ≡ next.left +ℤ pos (k * budget p) = omega (arith, ints, l) in
+    ap (λ b. replenished_while b (suc turns) p s) (nothing_left s.left spent) ∙ postponed_until turns k p next r (omega arith) still after deadline left
 
 -- one more than the whole budgets that are missing
 abbrev pub steps_of : ParamsView → Server → ℕ
@@ -79,22 +65,8 @@ too_few m b j some h = let a : j ≤ m / b = omega arith in omega (arith, mul-le
 few : (m b : ℕ) → 0 < b → m / b + 1 ≤ m + 1
 few m b some = omega (arith, some)
 
-pub replenished_is : (p : ParamsView) (s : Server) → 0 < budget p → s.left ≤ℤ pos 0 → replenished p s ≡ postponed_by p s (steps_of p s)
-replenished_is p s some spent =
-    let m = below_zero s.left in
-    let b = budget p in
-    ap (postponed_by p s) (least_is (lifts p s) (m + 1) (steps_of p s) (few m b some) (lifted p s (steps_of p s) spent (enough m b some)) (λ j h. not_lifted p s j spent (too_few m b j some h)))
-
-same_server : (a b : Server) → a.deadline ≡ b.deadline → a.left ≡ b.left → a ≡ b
-same_server a b d l =
-    let made : Option ℕ → ℤ → Server = λ x y. record { deadline = x; left = y } in
-    ap (λ x. made x a.left) d ∙ ap (made b.deadline) l
-
--- what the code computes is the definition's
-pub is_replenished : (p : ParamsView) (s r : Server) (k : ℕ) → 0 < budget p → s.left ≤ℤ pos 0 → k ≡ steps_of p s → r.deadline ≡ later (k * p.period) s.deadline → r.left ≡ s.left +ℤ pos (k * budget p) → r ≡ replenished p s
-is_replenished p s r k some spent steps d l =
-    let e : replenished p s ≡ postponed_by p s k = replenished_is p s some spent ∙ ap (postponed_by p s) (sym steps) in
-    same_server r (postponed_by p s k) (d ∙ sym (deadline_after p s k)) (l ∙ sym (left_after p s k)) ∙ sym e
+not_lifted : (z : ℤ) (m more : ℕ) → z +ℤ pos m ≡ pos 0 → more ≤ m → (z +ℤ pos more) ≤ℤ pos 0
+not_lifted z m more e h = omega (arith, ints, e, h)
 
 -- the new budget is above zero, and at most a whole one
 pub lifted_left : (b k : ℕ) (left : ℤ) → 0 < b → left ≤ℤ pos 0 → k ≡ below_zero left / b + 1 → (pos 0 <ℤ (left +ℤ pos (k * b))) × ((left +ℤ pos (k * b)) ≤ℤ pos b)
@@ -103,6 +75,15 @@ lifted_left b k left some spent e =
     let above : below_zero left < k * b = rw e (enough (below_zero left) b some) in
     let below : k * b ≤ below_zero left + b = rw e (omega (arith, some, div-mul-le_self (below_zero left) b)) in
     (omega (arith, ints, m, above), omega (arith, ints, m, below))
+
+-- what the code computes is the definition's
+pub is_replenished : (p : ParamsView) (s r : Server) (k : ℕ) → 0 < budget p → s.left ≤ℤ pos 0 → k ≡ steps_of p s → r.deadline ≡ later (k * p.period) s.deadline → r.left ≡ s.left +ℤ pos (k * budget p) → r ≡ replenished p s
+is_replenished p s r k some spent steps d l =
+    let m = below_zero s.left in
+    let b = budget p in
+    let within : k ≤ m + 1 = omega (arith, steps, few m b some) in
+    let before : (j : ℕ) → j < k → (s.left +ℤ pos (j * b)) ≤ℤ pos 0 = λ j h. not_lifted s.left m (j * b) (missing s.left spent) (too_few m b j some (omega (arith, steps))) in
+    sym (postponed_until (m + 1) k p s r within before (rw l (lifted_left b k s.left some spent steps).0) d l)
 
 pub near_deadline : (d : Option ℕ) (k period : ℕ) → IsSome d → k ≤ 2 ^ 13 → period ≤ 2 ^ 32 → IsSomeAnd (later (k * period) d) (λ e. IfSome d (λ c. e ≤ c + 2 ^ 45))
 near_deadline None k period some small short = absurd cc

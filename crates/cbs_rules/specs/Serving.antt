@@ -1,5 +1,6 @@
 -- The rules of a constant bandwidth server (sched-deadline.rst, "Main algorithm").
 use Rattle.std.specs.Prelude.{ℕ, zero, suc, ℤ, pos, ◌+ℤ◌, ◌-ℤ◌, ◌*ℤ◌, int_lt, int_le, ◌+◌, ◌-◌, ◌*◌, Bool, true, false, ◌||◌, nat_lt, if◌then◌else◌, Option, Some, None}
+use Rattle.std.specs.Option.{option_map}
 use Rattle.attr_check.specs.ParamsView.{ParamsView}
 use Rattle.cbs_rules.specs.declared.server.Server.{Server}
 use Rattle.cbs_rules.specs.Budget.{budget, below_zero}
@@ -31,33 +32,16 @@ abbrev pub is_spent : Server → Bool
 is_spent s = int_le s.left (pos 0)
 
 -- REPLENISH. One postponement: the deadline a period later, and a whole budget more
-abbrev pub later : ℕ → Option ℕ → Option ℕ
-later by None = None
-later by (Some d) = Some (d + by)
-
 abbrev pub postponed : ParamsView → Server → Server
-postponed p s = record { deadline = later p.period s.deadline; left = s.left +ℤ pos (budget p) }
+postponed p s = record { deadline = option_map (λ d. d + p.period) s.deadline; left = s.left +ℤ pos (budget p) }
 
--- so many postponements, one after another
-abbrev pub postponed_by : ParamsView → Server → ℕ → Server
-postponed_by p s zero = s
-postponed_by p s (suc k) = postponed p (postponed_by p s k)
+-- postponed again and again while nothing is left, which `spent` says of the server, in so many turns at most
+abbrev pub replenished_while : Bool → ℕ → ParamsView → Server → Server
+replenished_while false turns p s = s
+replenished_while true zero p s = s
+replenished_while true (suc turns) p s = replenished_while (is_spent (postponed p s)) turns p (postponed p s)
 
--- the first of the numbers start, start + 1, .. that passes a test, or the one `more` behind start where none before it does
-abbrev pub first_passing : (ℕ → Bool) → Bool → ℕ → ℕ → ℕ
-first_passing test true start more = start
-first_passing test false start zero = start
-first_passing test false start (suc more) = first_passing test (test (suc start)) (suc start) more
-
--- the least number that passes a test, where one up to the bound does
-abbrev pub least : (ℕ → Bool) → ℕ → ℕ
-least test bound = first_passing test (test zero) zero bound
-
--- so many postponements lift the budget above zero
-abbrev pub lifts : ParamsView → Server → ℕ → Bool
-lifts p s k = int_lt (pos 0) (postponed_by p s k).left
-
--- postponed the least number of times that lifts the budget above zero (the repetition is own). A budget is at least one, so
--- that number is at most what is missing and one
+-- postponed again and again while nothing is left (that it is repeated is own). A budget is at least one, so that one turn more
+-- than what is missing is always enough
 abbrev pub replenished : ParamsView → Server → Server
-replenished p s = postponed_by p s (least (lifts p s) (below_zero s.left + 1))
+replenished p s = replenished_while (is_spent s) (below_zero s.left + 1) p s

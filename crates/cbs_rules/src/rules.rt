@@ -1,20 +1,31 @@
 //! The rules of a constant bandwidth server (sched-deadline.rst, "Main algorithm").
 
 ghost use Rattle.std.specs.Prelude.{◌≡◌, ◌<◌, ◌≤◌, ◌^◌, ◌+◌, ◌*◌, pos, neg_ℤ, ◌≤ℤ◌, ◌<ℤ◌, ◌-ℤ◌, ◌+ℤ◌, ◌/◌, IsSome, IsSomeAnd, IfSome, ◌↔◌, IsTrue};
-ghost use Rattle.cbs_rules.specs.Serving.{renewed, is_outlived, woken, charged, is_spent, replenished, later};
+ghost use Rattle.std.specs.Option.{option_map};
+ghost use Rattle.cbs_rules.specs.Serving.{renewed, is_outlived, woken, charged, is_spent, replenished};
 ghost use Rattle.attr_check.specs.ParamsView.{IsOrdered};
 ghost use Rattle.cbs_rules.specs.Budget.{budget, below_zero};
 
 use crate::server::Server;
 use attr_check::{Params, UNIT};
 
+fn budget_of(params: &Params) -> u64
+    ensures value { result ≡ budget params.now }
+    ensures some { 2 ^ 20 ≤ result }
+    ensures most { result ≤ 2 ^ 52 }
+    ensures ordered { IsOrdered params.now }
+{
+    params.runtime * UNIT
+}
+
 fn renew(params: &Params, time: u64) -> Server
     requires { time < 2 ^ 48 }
-    ensures { result ≡ renewed params.now time }
+    ensures value { result ≡ renewed params.now time }
+    ensures ordered { IsOrdered params.now }
 {
     Server {
         deadline: Some(time + params.deadline),
-        left: i128::from(params.runtime) * i128::from(UNIT),
+        left: i128::from(budget_of(params)),
     }
 }
 
@@ -22,13 +33,14 @@ fn is_outlived_at(params: &Params, time: u64, deadline: u64, left: i128) -> bool
     requires early { (time < 2 ^ 48) × (deadline < 2 ^ 48) }
     requires high { left ≤ℤ pos (2 ^ 63) }
     requires low { neg_ℤ (pos (2 ^ 63)) ≤ℤ left }
-    ensures { result ≡ is_outlived params.now time deadline left }
+    ensures value { result ≡ is_outlived params.now time deadline left }
+    ensures ordered { IsOrdered params.now }
 {
+    let budget = i128::from(budget_of(params));
     if deadline < time {
         return true;
     }
-    let ahead = i128::from(deadline - time);
-    let share = i128::from(params.runtime) * i128::from(UNIT) * ahead;
+    let share = budget * i128::from(deadline - time);
     share < left * i128::from(params.period)
 }
 
@@ -43,7 +55,6 @@ pub fn on_wake(server: Server, params: &Params, time: u64) -> Server
     ensures dated { IsSome result.deadline }
     ensures ordered { IsOrdered params.now }
 {
-    let _ = &params.runtime;
     match server.deadline {
         None => renew(params, time),
         Some(deadline) => {
@@ -70,20 +81,11 @@ pub fn charge(server: Server, rate: u64, ticks: u64) -> Server
     }
 }
 
-/// Whether nothing is left of the budget.
+/// Whether nothing is left of the budget, which the definitions call spent (`is_spent`): a task that contends is throttled then.
 pub fn is_throttled(server: &Server) -> bool
     ensures { result ≡ is_spent server.now }
 {
     server.left <= 0
-}
-
-fn budget_of(params: &Params) -> u64
-    ensures value { result ≡ budget params.now }
-    ensures some { 2 ^ 20 ≤ result }
-    ensures most { result ≤ 2 ^ 52 }
-    ensures ordered { IsOrdered params.now }
-{
-    params.runtime * UNIT
 }
 
 fn postponements(budget: u64, server: &Server) -> u64
@@ -102,7 +104,7 @@ fn postpone(server: Server, params: &Params, times: u64) -> Server
     requires near { IfSome server.deadline (λ d. d < 2 ^ 48) }
     requires spent { server.left ≤ℤ pos 0 }
     requires low { neg_ℤ (pos (2 ^ 32)) ≤ℤ server.left }
-    ensures deadline { result.deadline ≡ later (times * params.now.period) server.deadline }
+    ensures deadline { result.deadline ≡ option_map (λ d. d + times * params.now.period) server.deadline }
     ensures left { result.left ≡ server.left +ℤ pos (times * budget params.now) }
 {
     let deadline = match server.deadline {
@@ -116,8 +118,8 @@ fn postpone(server: Server, params: &Params, times: u64) -> Server
     }
 }
 
-/// Replenishes a spent server: its deadline is put off by a period and it gets a whole budget, the least number of times that
-/// lifts its budget above zero. Takes no memory.
+/// Replenishes a spent server: its deadline is put off by a period and it gets a whole budget, again and again while nothing is
+/// left, by one division. Takes no memory.
 pub fn replenish(server: Server, params: &Params) -> Server
     requires dated { IsSome server.deadline }
     requires near { IfSome server.deadline (λ d. d < 2 ^ 48) }

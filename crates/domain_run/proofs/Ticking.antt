@@ -137,6 +137,7 @@ sums_are d idle sum is each total =
     record {
       idle_short = λ k x within. rw (get_or_default idle k x 0 within, each k) (omega (arith, uinact-le-total_bw k (shares d.tasks), is.within, most));
       sum_short = omega (arith, total, is.within, most);
+      within = rw total is.within;
       some = is.some;
       few = is.few;
       low = is.low;

@@ -40,6 +40,7 @@ pub record IsSound (time : ℕ) (t : Task) : Type 0 where
 pub record AreSums (idle : List ℕ) (sum cpus limit : ℕ) : Type 0 where
   pub idle_short : All (λ n. n ≤ 2 ^ 26) idle
   pub sum_short : sum ≤ 2 ^ 26
+  pub within : sum ≤ cap cpus limit
   pub some : 0 < cpus
   pub few : cpus ≤ 64
   pub low : 10485 ≤ limit

@@ -13,7 +13,7 @@ use Rattle.edf_pick.specs.declared.candidate.Candidate.{Candidate}
 use Rattle.edf_pick.specs.Choice.{is_before, rank, is_chosen, ranked}
 use Rattle.edf_pick.specs.Order.{IsRising}
 use Rattle.edf_pick.specs.Places.{Places, is_chosen_number, kept, seated, seated_if, seated_upto, placed}
-use Rattle.edf_pick.specs.First.{staying, seated_all}
+use Rattle.edf_pick.specs.private.First.{staying, seated_all}
 use Rattle.edf_pick.proofs.Before.{before_itself}
 use Rattle.edf_pick.proofs.Rising.{place, rising_parted}
 

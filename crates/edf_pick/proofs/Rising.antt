@@ -1,5 +1,5 @@
 -- Lists that rise in the order of the choice, and a task's place in them.
-use Rattle.std.proofs.Common.{◌≡◌, ◌<◌, ◌≤◌, ℕ, subst, suc, ◌+◌, Bool, true, false, cond, List, [], ◌∷◌, length, get_or, refl, sym, ap, ◌∙◌, arith, inl, inr}
+use Rattle.std.proofs.Common.{◌≡◌, ◌<◌, ℕ, subst, suc, ◌+◌, Bool, true, false, cond, List, [], ◌∷◌, length, get_or, refl, sym, ap, ◌∙◌, arith, inl, inr}
 use Rattle.std.specs.Prelude.{All, not}
 use Rattle.std.specs.List.{insert, remove, prefix_len}
 use Rattle.std.specs.List.Sorted.{IsPartitionedBy}
@@ -71,12 +71,11 @@ pub length-with : (c : Candidate) (queue : List Candidate) → length (with_cand
 length-with c queue = ap (λ (xs : List Candidate). length xs) (insert_place c queue) ∙ length-insert queue (place c queue) c (prefix_len-le-length (λ a. is_before a c) queue)
 
 -- a queue that has taken in one more
-pub queue_with : (c : Candidate) (queue items : List Candidate) (before after : ℕ) → IsQueue queue before → length queue < 256 → has_candidate c queue ≡ false → before ≤ after → items ≡ with_candidate c queue → IsQueue items after
-queue_with c queue items before after is few absent more e =
+pub queue_with : (c : Candidate) (queue items : List Candidate) (before after : ℕ) → IsQueue queue before → length queue < 256 → has_candidate c queue ≡ false → after ≡ before → items ≡ with_candidate c queue → IsQueue items after
+queue_with c queue items before after is few absent same e =
     let n = length-with c queue in
     let len : length items ≡ length queue + 1 = ap (λ (xs : List Candidate). length xs) e ∙ n in
-    let room : 256 ≤ before = is.room in
-    record { rising = subst (λ xs. IsRising xs) (sym e) (rising_with c queue is.rising absent); few = omega arith; room = omega arith }
+    record { rising = subst (λ xs. IsRising xs) (sym e) (rising_with c queue is.rising absent); few = omega arith; room = same ∙ is.room }
 
 -- WITHOUT
 pub without_absent : (c : Candidate) (queue : List Candidate) → has_candidate c queue ≡ false → without_candidate c queue ≡ queue

@@ -1,5 +1,5 @@
 pub mod Choice
-pub mod Order
 pub mod Places
-pub mod First
+pub mod Order
+pub mod private
 pub mod Examples

@@ -3,20 +3,18 @@
 //! [`Queue`] keeps the ready tasks in the order of the choice, and [`pick`] moves the occupants of the CPUs, a [`Placement`], on
 //! by one tick. Both meet the definition "Choice and placement" (`specs/Choice.antt` and `specs/Places.antt` by counting,
 //! `specs/Order.antt` for the queue). To the crate above it promises that the occupants of the CPUs are exactly those, for a list
-//! in any order too (`proofs/CallerLemmas.antt`). [`place`] is the plain program that counts, to compare with.
+//! in any order too (`proofs/CallerLemmas.antt`), and that a queue never grows: its type keeps the room that it was opened with.
 #![tactic(auto)]
 
 mod candidate;
 mod order;
 mod picking;
 mod placement;
-mod placing;
 mod queue;
 mod seats;
 
 pub use candidate::Candidate;
 pub use placement::{Placement, pick};
-pub use placing::place;
 pub use queue::Queue;
 pub use seats::stands;
 

@@ -2,7 +2,7 @@
 
 ghost use Rattle.std.specs.Prelude.{◌≡◌, ◌==◌, map, take, vec_len};
 ghost use Rattle.std.specs.List.{list_any};
-ghost use Rattle.edf_pick.specs.First as spec;
+ghost use Rattle.edf_pick.specs.private.First as spec;
 ghost use Rattle.edf_pick.specs.Order.{IsRising};
 ghost use Rattle.edf_pick.specs.Places.{placed};
 

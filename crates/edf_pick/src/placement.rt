@@ -55,3 +55,6 @@ pub fn pick(placement: &mut Placement, queue: &Queue)
 {
     pick_from(&mut placement.occupants, queue.as_slice());
 }
+
+#[cfg(test)]
+mod tests;

@@ -12,8 +12,8 @@ use std::marker::Model;
 const MOST: usize = 256;
 
 /// The ready tasks of a root domain in the order of the choice: the earliest deadline first (sched-deadline.rst, "Main
-/// algorithm"), ties by number (own). It holds at most 256 tasks, no two of one deadline and number, and a queue in another order
-/// cannot be built. Contracts see it as the list of its tasks.
+/// algorithm"), ties by number (own). It holds at most 256 tasks, no two of one deadline and number, and a queue in another order, or
+/// with other room than for 256, cannot be built. Contracts see it as the list of its tasks.
 #[derive(Drop)]
 pub struct Queue {
     tasks: Vec<Candidate>,

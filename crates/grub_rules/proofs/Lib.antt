@@ -1,3 +1,4 @@
 pub mod Exchanging
 pub mod CallerLemmas
 pub mod LoopLemmas
+pub mod Rating

@@ -4,7 +4,7 @@ use Rattle.attr_check.specs.ParamsView.{ParamsView}
 use Rattle.attr_check.specs.Ratio.{ratio}
 use Rattle.cbs_rules.specs.declared.server.Server.{Server}
 use Rattle.grub_rules.specs.Lag.{zero_lag}
-use Rattle.grub_rules.specs.Rate.{rate}
+use Rattle.grub_rules.specs.Rate.{extra, rate}
 use Rattle.grub_rules.specs.Sums.{Share, total_bw, this_bw, running_bw, uinact}
 
 -- runtime, relative deadline and period, without and with reclaiming
@@ -47,6 +47,16 @@ rate_of_a_fraction = refl
 
 rate_above_one : rate (reclaiming 8 8 8) 0 1048576 2 524288 ≡ 2097152
 rate_above_one = refl
+
+-- UEXTRA BELOW ZERO: an eighth of a CPU has 0.75 of one beside it, and the limit is a half. The rate is that of all 0.875
+extra_below_zero : extra 917504 1 524288 ≡ neg_ℤ (pos 393216)
+extra_below_zero = refl
+
+rate_below_zero : rate (reclaiming 1 8 8) 0 917504 1 524288 ≡ 1835008
+rate_below_zero = refl
+
+rate_below_zero_beside_an_inactive : rate (reclaiming 1 8 8) 262144 917504 1 524288 ≡ 1310720
+rate_below_zero_beside_an_inactive = refl
 
 -- no bandwidth, with all the rest inactive: the least rate
 least_rate : rate (reclaiming 2 4000000 4000000) 1048576 1048576 1 1048576 ≡ 1

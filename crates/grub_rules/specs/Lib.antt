@@ -1,5 +1,5 @@
 pub mod Lag
 pub mod Sums
-pub mod Accounts
 pub mod Rate
+pub mod Accounts
 pub mod Examples

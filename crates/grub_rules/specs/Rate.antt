@@ -1,5 +1,6 @@
 -- The rate at which a running task uses its budget up, in 1/2^20 (sched-deadline.rst, "Bandwidth reclaiming").
-use Rattle.std.specs.Prelude.{ℕ, ◌+◌, ◌-◌, ◌*◌, ◌/◌, max, if◌then◌else◌}
+use Rattle.std.specs.Prelude.{ℕ, ℤ, pos, ◌-ℤ◌, ◌+◌, ◌-◌, ◌*◌, ◌/◌, max, unsigned_abs, if◌then◌else◌}
+use Rattle.std.specs.Int.{int_max}
 use Rattle.attr_check.specs.Ratio.{unit}
 use Rattle.attr_check.specs.ParamsView.{ParamsView}
 
@@ -7,14 +8,14 @@ use Rattle.attr_check.specs.ParamsView.{ParamsView}
 abbrev pub div_up : ℕ → ℕ → ℕ
 div_up a b = (a + b - 1) / b
 
--- Uextra: what the domain could still give to each CPU. Umax is the domain's limit
-abbrev pub extra : ℕ → ℕ → ℕ → ℕ
-extra sum cpus limit = limit - sum / cpus
+-- Uextra: what the domain could still give to each CPU, below zero where its tasks have more than that. Umax is the limit
+abbrev pub extra : ℕ → ℕ → ℕ → ℤ
+extra sum cpus limit = pos limit -ℤ pos (sum / cpus)
 
--- max (u, Umax - Uinact - Uextra), where a difference below zero counts as zero
-abbrev pub taken : ParamsView → ℕ → ℕ → ℕ → ℕ → ℕ
-taken p inactive sum cpus limit = max p.bw (limit - inactive - extra sum cpus limit)
+-- max (u, Umax - Uinact - Uextra), which is never below zero, since u is not
+abbrev pub taken : ParamsView → ℕ → ℕ → ℕ → ℕ → ℤ
+taken p inactive sum cpus limit = int_max (pos p.bw) (pos limit -ℤ pos inactive -ℤ extra sum cpus limit)
 
 -- dq = -(max (u, Umax - Uinact - Uextra) / Umax) dt, rounded up and at least 1 (own); one where the task does not reclaim
 abbrev pub rate : ParamsView → ℕ → ℕ → ℕ → ℕ → ℕ
-rate p inactive sum cpus limit = if p.reclaim then max 1 (div_up (taken p inactive sum cpus limit * unit) limit) else unit
+rate p inactive sum cpus limit = if p.reclaim then max 1 (div_up (unsigned_abs (taken p inactive sum cpus limit) * unit) limit) else unit

@@ -2,6 +2,7 @@
 
 ghost use Rattle.std.specs.Prelude.{◌≡◌, ◌<◌, ◌≤◌, ◌^◌, ◌+◌, ◌*◌, ◌/◌, ◌-◌, max, pos, neg_ℤ, ◌≤ℤ◌, IfSome};
 ghost use Rattle.attr_check.specs.ParamsView.{IsOrdered};
+ghost use Rattle.attr_check.specs.Ratio.{cap};
 ghost use Rattle.cbs_rules.specs.Budget.{above_zero, budget};
 ghost use Rattle.grub_rules.specs.Lag as lag;
 ghost use Rattle.grub_rules.specs.Rate as rates;
@@ -44,14 +45,14 @@ pub fn rate(params: &Params, uinact: u64, sum: u64, cpus: u64, limit: u64) -> u6
     requires limit { (10485 ≤ limit) × (limit ≤ 1048576) }
     ensures value { result ≡ rates.rate params.now uinact sum cpus limit }
     ensures some { 0 < result }
-    ensures slow { result ≤ 2 ^ 32 }
+    ensures slow { sum ≤ cap cpus limit → result ≤ 2 ^ 27 }
+    ensures most { result ≤ 2 ^ 33 }
 {
     if !params.reclaim {
         return UNIT;
     }
-    let extra = limit.saturating_sub(sum / cpus);
-    let taken = params
-        .bw
-        .max(limit.saturating_sub(uinact).saturating_sub(extra));
+    // Umax - Uextra: what the tasks of the domain have of each CPU
+    let used = sum / cpus;
+    let taken = params.bw.max(used.saturating_sub(uinact));
     ((taken * UNIT + limit - 1) / limit).max(1)
 }

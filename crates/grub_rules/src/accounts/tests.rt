@@ -8,35 +8,9 @@ fn share(cpu: usize, bw: u64, active: bool) -> Share {
     Share { cpu, bw, active }
 }
 
-// The sums from scratch.
-fn inactive_of(shares: &[Share], cpu: usize) -> u64 {
-    let mut sum = 0u64;
-    for s in shares {
-        if s.cpu == cpu && !s.active {
-            sum = sum.wrapping_add(s.bw);
-        }
-    }
-    sum
-}
-
-fn total_of(shares: &[Share]) -> u64 {
-    let mut sum = 0u64;
-    for s in shares {
-        sum = sum.wrapping_add(s.bw);
-    }
-    sum
-}
-
-fn assert_sums(rt: &impl Abort, accounts: &Accounts, shares: &[Share], after: &str) {
-    assert_eq!(rt; accounts.cpus(), CPUS);
-    for cpu in 0..CPUS {
-        assert_eq!(rt;
-            accounts.uinact(cpu),
-            inactive_of(shares, cpu),
-            "CPU {cpu} after {after}"
-        );
-    }
-    assert_eq!(rt; accounts.total(), total_of(shares), "after {after}");
+fn uinact(rt: &impl Abort, accounts: &Accounts, cpu: usize) -> u64 {
+    assert!(rt; cpu < accounts.cpus());
+    accounts.uinact(cpu)
 }
 
 fn join(rt: &impl Abort, accounts: &mut Accounts, share: &Share) {
@@ -84,77 +58,47 @@ fn track(rt: &impl Abort, accounts: &mut Accounts, before: &Share, after: &Share
 }
 
 #[test]
-fn each_call_keeps_the_sums(rt: HostRuntime) -> Result<(), Fail> {
-    let mut accounts = Accounts::open(rt.alloc(), CPUS)?;
-    assert_sums(&rt, &accounts, &[], "open");
-    let (half, quarter) = (share(0, 524288, true), share(0, 262144, false));
-    let eighth = share(2, 131072, false);
-    join(&rt, &mut accounts, &half);
-    join(&rt, &mut accounts, &quarter);
-    join(&rt, &mut accounts, &eighth);
-    assert_sums(&rt, &accounts, &[half, quarter, eighth], "join");
-    idle(&rt, &mut accounts, 0, 524288);
-    let half = share(0, 524288, false);
-    assert_sums(&rt, &accounts, &[half, quarter, eighth], "idle");
-    wake(&rt, &mut accounts, 2, 131072);
-    let eighth = share(2, 131072, true);
-    assert_sums(&rt, &accounts, &[half, quarter, eighth], "wake");
-    shift(&rt, &mut accounts, &eighth, 1);
-    shift(&rt, &mut accounts, &quarter, 1);
-    let (quarter, eighth) = (share(1, 262144, false), share(1, 131072, true));
-    assert_sums(&rt, &accounts, &[half, quarter, eighth], "shift");
-    part(&rt, &mut accounts, &eighth);
-    part(&rt, &mut accounts, &quarter);
-    assert_sums(&rt, &accounts, &[half], "part");
-    Ok(())
-}
-
-#[test]
-fn a_share_is_held_up_to_its_bandwidth(rt: HostRuntime) -> Result<(), Fail> {
+fn each_call_once(rt: HostRuntime) -> Result<(), Fail> {
     let mut accounts = Accounts::open(rt.alloc(), CPUS)?;
     join(&rt, &mut accounts, &share(0, 524288, true));
     join(&rt, &mut accounts, &share(0, 262144, false));
-    for (cpu, bw, active, held) in [
-        (0, 524288, true, true),
-        (0, 524289, true, false),
-        (0, 262144, false, true),
-        (0, 262145, false, false),
-        (2, 0, false, true),
-        (3, 0, false, false),
-    ] {
-        assert_eq!(rt;
-            accounts.holds(&share(cpu, bw, active)),
-            held,
-            "{bw} on {cpu}"
-        );
-    }
+    idle(&rt, &mut accounts, 0, 524288);
+    assert_eq!(rt; uinact(&rt, &accounts, 0), 786432);
+    wake(&rt, &mut accounts, 0, 262144);
+    shift(&rt, &mut accounts, &share(0, 262144, true), 1);
+    let (before, after) = (share(0, 524288, false), share(2, 131072, false));
+    track(&rt, &mut accounts, &before, &after);
+    part(&rt, &mut accounts, &share(1, 262144, true));
+    assert_eq!(rt; uinact(&rt, &accounts, 2), 131072);
+    assert_eq!(rt; accounts.total(), 131072);
     Ok(())
 }
 
-// A share for each step, on changing CPUs, of changing bandwidth, and active or not.
-fn scripted(step: usize) -> Share {
-    let n = step as u64;
-    share(step / 2 % CPUS, n / 8 % 5 * 1000, step % 3 != 0)
+fn come_and_go(rt: &impl Abort, accounts: &mut Accounts, cpu: usize) {
+    join(rt, accounts, &share(cpu, 1000, false));
+    wake(rt, accounts, cpu, 1000);
+    idle(rt, accounts, cpu, 1000);
+    shift(rt, accounts, &share(cpu, 1000, false), 0);
+    let last = share(cpu, 2000, true);
+    track(rt, accounts, &share(0, 1000, false), &last);
+    part(rt, accounts, &last);
+}
+
+// The room of the two sums of each CPU: a growth would change it.
+fn room(accounts: &Accounts) -> (usize, usize) {
+    (accounts.all.capacity(), accounts.active.capacity())
 }
 
 #[test]
-fn tracked_shares_have_the_sums_of_their_list(rt: HostRuntime) -> Result<(), Fail> {
+fn no_call_but_open_takes_memory(rt: HostRuntime) -> Result<(), Fail> {
     let mut accounts = Accounts::open(rt.alloc(), CPUS)?;
-    let mut shares = [share(0, 0, false); 7];
-    for s in &shares {
-        join(&rt, &mut accounts, s);
+    let before = room(&accounts);
+    for _ in 0..100 {
+        for cpu in 0..CPUS {
+            come_and_go(&rt, &mut accounts, cpu);
+        }
     }
-    for step in 0..400usize {
-        let at = step % 7;
-        let after = scripted(step);
-        track(&rt, &mut accounts, &shares[at], &after);
-        shares[at] = after;
-        assert_sums(&rt, &accounts, &shares, "a scripted step");
-    }
-    for s in &shares {
-        part(&rt, &mut accounts, s);
-    }
-    assert_sums(&rt, &accounts, &[], "all have parted");
+    assert_eq!(rt; room(&accounts), before);
     Ok(())
 }
 
@@ -165,6 +109,6 @@ fn refused_growth_of_open(rt: HostRuntime) -> Result<(), Fail> {
         Ok(accounts) => accounts,
         Err(AllocError) => Accounts::open(rt.alloc(), CPUS)?,
     };
-    assert_sums(&rt, &accounts, &[], "open");
+    assert_eq!(rt; accounts.cpus(), CPUS);
     Ok(())
 }

@@ -34,5 +34,5 @@ absent c =
 pub returns-clause-there : goal.returns-clause-there
 returns-clause-there c = sym (absent c)
 
-pub returns-clause-at : goal.returns-clause-at
-returns-clause-at c = without_absent c.args.c.now c.args.queue.now (absent c)
+pub returns-clause-nowhere : goal.returns-clause-nowhere
+returns-clause-nowhere c = without_absent c.args.c.now c.args.queue.now (absent c)

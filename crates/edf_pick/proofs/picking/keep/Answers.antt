@@ -1,5 +1,5 @@
 use Rattle.std.proofs.Common.{None}
-use Rattle.edf_pick.specs.First.{staying}
+use Rattle.edf_pick.specs.private.First.{staying}
 use Rattle.edf_pick.proofs.MapStep.{map_step}
 use Rattle.edf_pick.proofs.picking.keep.Goals as goal
 

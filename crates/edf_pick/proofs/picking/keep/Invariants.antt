@@ -1,5 +1,5 @@
 use Rattle.std.proofs.Common.{◌≡◌, map, take, drop, ◌++◌}
-use Rattle.edf_pick.specs.First.{staying}
+use Rattle.edf_pick.specs.private.First.{staying}
 use Rattle.edf_pick.proofs.picking.keep.Given as goal
 
 abbrev pub invariant-loop-occupant : goal.invariant-loop-occupant

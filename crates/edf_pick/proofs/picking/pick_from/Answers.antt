@@ -1,6 +1,6 @@
 use Rattle.std.proofs.Common.{◌≡◌, ℕ, List, map, take, vec_len, ap, ◌∙◌}
 use Rattle.edf_pick.specs.declared.candidate.Candidate.{Candidate}
-use Rattle.edf_pick.specs.First.{staying, seated_all}
+use Rattle.edf_pick.specs.private.First.{staying, seated_all}
 use Rattle.edf_pick.specs.Places.{Places}
 use Rattle.edf_pick.proofs.Picked.{picked}
 use Rattle.edf_pick.proofs.picking.pick_from.Goals as goal

@@ -1,5 +1,5 @@
 use Rattle.std.proofs.Common.{◌≡◌, take, vec_len}
-use Rattle.edf_pick.specs.First.{seated_all}
+use Rattle.edf_pick.specs.private.First.{seated_all}
 use Rattle.edf_pick.proofs.picking.seat_all.Given as goal
 
 abbrev pub invariant-loop-c : goal.invariant-loop-c

@@ -1,4 +1,4 @@
-use Rattle.std.proofs.Common.{◌≡◌, ◌<◌, ℕ, false, List, length, sym, ap, ◌∙◌}
+use Rattle.std.proofs.Common.{◌≡◌, ◌<◌, ℕ, false, List, length, vec_len, sym, ap, ◌∙◌, arith}
 use Rattle.std.specs.Prelude.{vec_capacity}
 use Rattle.std.specs.List.{insert}
 use Rattle.edf_pick.specs.declared.candidate.Candidate.{Candidate}
@@ -20,8 +20,9 @@ invariant_of-self c =
     let old = c.self.inside.tasks.items in
     let same = c.self.view_is in
     let few : length old < 256 = rw same c.requires.few in
+    let spare : vec_len c.self.inside.tasks < vec_capacity c.self.inside.tasks = omega (arith, few, c.self.invariant.room) in
     let absent : has_candidate c.args.c old ≡ false = rw same c.requires.absent in
-    queue_with c.args.c old c.insert.new.self.items (vec_capacity c.self.inside.tasks) (vec_capacity c.insert.new.self) c.self.invariant few absent c.insert.ensures.capacity (inserted (goal.at.invariant_of-self c).After-unwrap)
+    queue_with c.args.c old c.insert.new.self.items (vec_capacity c.self.inside.tasks) (vec_capacity c.insert.new.self) c.self.invariant few absent (c.insert.ensures.in_place spare).1.0 (inserted (goal.at.invariant_of-self c).After-unwrap)
 
 pub returns : goal.returns
 returns c = inserted (goal.at.returns c).After-unwrap ∙ ap (λ (xs : List Candidate). with_candidate c.args.c xs) c.self.view_is
