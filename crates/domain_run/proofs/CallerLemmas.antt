@@ -1,9 +1,11 @@
 -- What a caller of a domain shows of its keys, its time and its refusals, call by call.
-use Rattle.std.proofs.Common.{◌≡◌, ℕ, zero, suc, ◌+◌, ◌-◌, ◌<◌, ◌≤◌, Bool, true, false, cond, eqb, ltb, leb, ◌&&◌, ◌||◌, Option, Some, None, List, [], ◌∷◌, ◌++◌, length, map, refl, ap, ◌∙◌, arith}
-use Rattle.std.specs.Prelude.{IsTrue, Contains, find, not, is_some, option_map}
+use Rattle.std.proofs.Common.{◌≡◌, ℕ, zero, suc, ◌+◌, ◌-◌, ◌<◌, ◌≤◌, Bool, true, false, cond, eqb, ltb, leb, ◌&&◌, ◌||◌, Option, Some, None, List, [], ◌∷◌, ◌++◌, length, map, get_or, set, eq-eqb, refl, sym, ap, ◌∙◌, arith}
+use Rattle.std.specs.Prelude.{All, AllPairs, ◌≢◌, IsTrue, Contains, find, not, is_some, option_map}
 use Rattle.std.specs.List.{list_any}
-use Rattle.std.proofs.lemmas.Bool.{ltb-true, eqb-true}
+use Rattle.std.proofs.lemmas.Bool.{ltb-true, eqb-true, ne_eqb}
 use Rattle.std.proofs.lemmas.List.{map-append}
+use Rattle.std.proofs.lemmas.List.Elements.{All-map}
+use Rattle.std.proofs.lemmas.List.Kept.{AllPairs-cons}
 use Rattle.attr_check.specs.ParamsView.{ParamsView}
 use Rattle.attr_check.specs.Ratio.{cap}
 use Rattle.domain_run.specs.script.ScriptView.{ScriptView}
@@ -15,7 +17,7 @@ use Rattle.domain_run.specs.declared.call.Reply.TheVariants.{Admitted, Changed, 
 use Rattle.domain_run.specs.Conditions.{is_contending, is_leaving}
 use Rattle.domain_run.specs.Parts.{stopped}
 use Rattle.domain_run.specs.Domain.{Domain}
-use Rattle.domain_run.specs.Tick.{sum_of, ticks}
+use Rattle.domain_run.specs.Tick.{sum_of, ticked, ticks}
 use Rattle.domain_run.specs.Calls.{admit_reply, new_task, listed, task_of, of_number, changed, regraded, regrade_reply, wake_reply, awoken, leave_reply, ended, reply_to, is_refusal, granted, after_call}
 use Rattle.domain_run.specs.Views.{view_of, view_in, name_in}
 use Rattle.domain_run.specs.Busy.{LacksRoomFor, LacksRoomToChange}
@@ -41,6 +43,10 @@ kept_listed before after number is e = kept.kept_listed before after number is e
 -- any number of ticks, where numbers are apart as in every domain (`IsDomain`, `steady.numbered`)
 pub ticks_kept : (k : ℕ) (d : Domain) → kept.AreNumbered d.tasks → AreKept d.tasks (ticks k d).tasks
 ticks_kept k d numbered = kept.ticks_kept k d numbered
+
+-- the step of a loop of ticks
+pub ticks_more : (k : ℕ) (d : Domain) → ticked (ticks k d) ≡ ticks (k + 1) d
+ticks_more k d = let e : suc k ≡ k + 1 = omega arith in ap (λ n. ticks n d) e
 
 pub ticks_time : (k : ℕ) (d : Domain) → (ticks k d).time ≡ d.time + k
 ticks_time zero d = omega arith
@@ -111,6 +117,34 @@ pub regraded_keys : (d : Domain) (number : ℕ) (p : ParamsView) (word : Option 
     → keys (after_call d (Regrade number p word)).tasks ≡ map (with_bw number p.bw) (keys d.tasks)
 regraded_keys d number p word e =
     ap (λ r. keys (cond (is_refusal r) d (changed d number (regraded p))).tasks) e ∙ keys_regraded number p d.tasks
+
+-- a key in the place of one, where numbers are apart: what a list kept beside the tasks does
+keys_absent : (number bw : ℕ) (ks : List (ℕ × ℕ)) → All (λ k. number ≢ k.0) ks → map (with_bw number bw) ks ≡ ks
+keys_absent number bw [] all = refl
+keys_absent number bw (k ∷ ks) all =
+    let other : eqb k.0 number ≡ false = ne_eqb k.0 number (λ e. all zero k (omega arith) (sym e)) in
+    let rest : All (λ l. number ≢ l.0) ks = λ i d h. all (suc i) d (omega arith) in
+    ap (λ b. cond b (k.0, bw) k ∷ map (with_bw number bw) ks) other ∙ ap (λ ls. k ∷ ls) (keys_absent number bw ks rest)
+
+pub with_bw_at : (number bw : ℕ) (ks : List (ℕ × ℕ)) (i : ℕ) (d : ℕ × ℕ) → AllPairs (λ k l. k.0 ≢ l.0) ks → i < length ks → (get_or ks i d).0 ≡ number → map (with_bw number bw) ks ≡ set ks i (number, bw)
+with_bw_at number bw [] i d apart within at = absurd (omega (arith, within))
+with_bw_at number bw (k ∷ ks) zero d apart within at =
+    let others : All (λ l. number ≢ l.0) ks = λ j e h same. apart zero (suc j) e (omega arith) (omega arith) (at ∙ same) in
+    let here : with_bw number bw k ≡ (number, bw) = ap (λ b. cond b (k.0, bw) k) (eq-eqb k.0 number at) ∙ ap (λ n. (n, bw)) at in
+    ap (λ l. l ∷ map (with_bw number bw) ks) here ∙ ap (λ ls. (number, bw) ∷ ls) (keys_absent number bw ks others)
+with_bw_at number bw (k ∷ ks) (suc i) d apart within at =
+    let rest : AllPairs (λ l m. l.0 ≢ m.0) ks = λ j n e less inside. apart (suc j) (suc n) e (omega arith) (omega arith) in
+    let there : i < length ks = omega arith in
+    let other : eqb k.0 number ≡ false = ne_eqb k.0 number (λ e. apart zero (suc i) d (omega arith) (omega arith) (e ∙ sym at)) in
+    ap (λ b. cond b (k.0, bw) k ∷ map (with_bw number bw) ks) other ∙ ap (λ ls. k ∷ ls) (with_bw_at number bw ks i d rest there at)
+
+-- the keys of a domain have numbers apart
+pub keys_apart : (tasks : List Task) → kept.AreNumbered tasks → AllPairs (λ k l. k.0 ≢ l.0) (keys tasks)
+keys_apart [] numbered = λ i j d less within. absurd (omega (arith, within))
+keys_apart (t ∷ tasks) numbered =
+    AllPairs-cons (λ k l. k.0 ≢ l.0) (key_of t) (keys tasks)
+    (All-map (λ (k : ℕ × ℕ). t.number ≢ k.0) key_of tasks (kept.others_first t tasks numbered))
+    (keys_apart tasks (kept.others_rest t tasks numbered))
 
 either_keys : (b : Bool) (d e : Domain) → keys e.tasks ≡ keys d.tasks → keys (cond b d e).tasks ≡ keys d.tasks
 either_keys true d e same = refl

@@ -102,10 +102,10 @@ kept_by_keys before after before' after' b a kept =
 abbrev pub AreNumbered : List Task → Type 0
 AreNumbered tasks = AllPairs (λ a b. a.number ≢ b.number) tasks
 
-others_first : (t : Task) (tasks : List Task) → AreNumbered (t ∷ tasks) → All (λ u. t.number ≢ u.number) tasks
+pub others_first : (t : Task) (tasks : List Task) → AreNumbered (t ∷ tasks) → All (λ u. t.number ≢ u.number) tasks
 others_first t tasks all k d h = all zero (suc k) d (omega arith) (omega arith)
 
-others_rest : (t : Task) (tasks : List Task) → AreNumbered (t ∷ tasks) → AreNumbered tasks
+pub others_rest : (t : Task) (tasks : List Task) → AreNumbered (t ∷ tasks) → AreNumbered tasks
 others_rest t tasks all i j d less within = all (suc i) (suc j) d (omega arith) (omega arith)
 
 -- a test by the numbers of those that pass it is that test

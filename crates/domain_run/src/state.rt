@@ -15,6 +15,7 @@ ghost use Rattle.attr_check.specs.Ratio.{cap};
 
 mod calls;
 mod lending;
+mod machine;
 
 use crate::call::{Refused, Reply};
 use crate::memory::NoMemory;

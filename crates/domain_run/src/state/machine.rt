@@ -1,0 +1,23 @@
+//! What a state keeps from its opening on: the number of its CPUs, and the limit of its bandwidth.
+
+ghost use Rattle.std.specs.Prelude.{◌≡◌, ◌<◌, ◌≤◌};
+
+use super::State;
+
+impl State {
+    /// The number of CPUs with which the domain was opened, 1 to 64.
+    pub fn cpus(&self) -> u32
+        ensures cpus { result ≡ self.now.cpus }
+        ensures within { (0 < result) × (result ≤ 64) }
+    {
+        self.cpus as u32
+    }
+
+    /// The limit with which the domain was opened: the bandwidth of each CPU that it may give away, 10485 to 1048576 in 1/2^20.
+    pub fn limit(&self) -> u64
+        ensures limit { result ≡ self.now.limit }
+        ensures within { (10485 ≤ result) × (result ≤ 1048576) }
+    {
+        self.limit
+    }
+}
