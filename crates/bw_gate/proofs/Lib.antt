@@ -1,5 +1,5 @@
 pub mod Views
 pub mod Steps
 pub mod Races
-pub mod Race
+pub mod Quarters
 pub mod Core

@@ -1,7 +1,7 @@
 pub mod Terms
 pub mod Pieces
+pub mod Answers
 pub mod Table
 pub mod Kinds
-pub mod Answers
-pub mod Race
 pub mod Core
+pub mod private

@@ -14,7 +14,7 @@ use Rattle.pass_seats.specs.declared.view.Mine.{Mine}
 use Rattle.pass_seats.specs.declared.view.View.{View}
 use Rattle.pass_seats.specs.Lists.{own}
 use Rattle.pass_seats.specs.Listed.{spine_in, pass_in, passes_in, Knows, IsListed, fresh, opened}
-use Rattle.pass_seats.specs.Pass.{pass_view}
+use Rattle.pass_seats.specs.private.Pass.{pass_view}
 use Rattle.pass_seats.specs.Kinds.{joined, spent, first_pass, other_passes, listed, grown, with_entries, Appends, Agrees}
 use Rattle.pass_seats.proofs.Views.{sum_set, sum_two, sum_at, all_at, all_from_at, all_set}
 

@@ -27,7 +27,10 @@ module _ {E : Type 0} where
   -- both lists grow by what is said: that of the spine, and that of the first pass
   abbrev pub grown : List E → View E → List (Mine E) → View E
   grown said v [] = v
-  grown said v (p ∷ rest) = record v { log = v.log ++ listed p.client said; passes = record p { entries = p.entries ++ said } ∷ rest }
+  grown said v (p ∷ rest) = record v {
+    log = v.log ++ listed p.client said;
+    passes = record p { entries = p.entries ++ said } ∷ rest;
+  }
 
   abbrev pub with_entries : List E → View E → View E
   with_entries said v = grown said v v.passes
@@ -38,4 +41,6 @@ module _ {E : Type 0} where
 
   -- agree: nothing changes, and each pass in the spine's view has exactly the spine's entries of its client
   abbrev pub Agrees : {S : Type 0} → Step S → Me S (View E) → ℕ → Me S (View E) → Type 0
-  Agrees s me n after = (after ≡ me) × (me.0.is_spine ≡ true → All (λ p. p.entries ≡ own p.client me.0.log) me.0.passes)
+  Agrees s me n after =
+      (after ≡ me)
+      × (me.0.is_spine ≡ true → All (λ p. p.entries ≡ own p.client me.0.log) me.0.passes)

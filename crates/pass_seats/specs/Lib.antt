@@ -1,4 +1,4 @@
 pub mod Lists
 pub mod Listed
 pub mod Kinds
-pub mod Pass
+pub mod private

@@ -14,7 +14,7 @@ pub struct Pass<E> {
 impl<E> Model for Pass<E> {
     ghost use Rattle.std.specs.Prelude.{◌≡◌, [], ◌∷◌, length};
     ghost use Rattle.pass_seats.specs.Lists.{PassView};
-    ghost use Rattle.pass_seats.specs.Pass.{entries_of, pass_view};
+    ghost use Rattle.pass_seats.specs.private.Pass.{entries_of, pass_view};
 
     ghost Value = { PassView E };
 

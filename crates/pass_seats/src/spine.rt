@@ -36,7 +36,8 @@ impl<E> Spine<E> {
     pub fn open(alloc: Global, clients: u32) -> Result<(Spine<E>, Vec<Pass<E>>), NoMemory>
         ensures spine { IfOk result (λ r. r.0.log ≡ []) }
         ensures count { IfOk result (λ r. length r.1.items ≡ clients) }
-        ensures passes { IfOk result (λ r. (k : ℕ) → k < clients → slice_get r.1.items k ≡ Some (record { spine = r.0.spine; client = k + 1; entries = [] })) }
+        ensures passes { IfOk result (λ r. (k : ℕ) → k < clients →
+            slice_get r.1.items k ≡ Some (record { spine = r.0.spine; client = k + 1; entries = [] })) }
     {
         let mut passes = Vec::with_capacity(alloc, clients as usize)?;
         let (table, mut seat) = Table::of_words(alloc, &[0], &clients)?;
@@ -49,8 +50,12 @@ impl<E> Spine<E> {
     pub fn append(&mut self, pass: &mut Pass<E>, entry: &E)
         requires own { pass.old.spine ≡ self.old.spine }
         requires room { length pass.old.entries < 2 ^ 32 }
-        ensures spine { self.new ≡ record self.old { log = self.old.log ++ (pass.old.client, entry.now) ∷ [] } }
-        ensures pass { pass.new ≡ record pass.old { entries = pass.old.entries ++ entry.now ∷ [] } }
+        ensures spine { self.new ≡ record self.old {
+          log = self.old.log ++ (pass.old.client, entry.now) ∷ [];
+        } }
+        ensures pass { pass.new ≡ record pass.old {
+          entries = pass.old.entries ++ entry.now ∷ [];
+        } }
     {
         self.append_as::<Brand>(pass, entry);
     }
@@ -60,8 +65,12 @@ impl<E> Spine<E> {
         requires said { J.said ≡ entry.now ∷ [] }
         requires own { pass.old.spine ≡ self.old.spine }
         requires room { length pass.old.entries < 2 ^ 32 }
-        ensures spine { self.new ≡ record self.old { log = self.old.log ++ (pass.old.client, entry.now) ∷ [] } }
-        ensures pass { pass.new ≡ record pass.old { entries = pass.old.entries ++ entry.now ∷ [] } }
+        ensures spine { self.new ≡ record self.old {
+          log = self.old.log ++ (pass.old.client, entry.now) ∷ [];
+        } }
+        ensures pass { pass.new ≡ record pass.old {
+          entries = pass.old.entries ++ entry.now ∷ [];
+        } }
     {
         let _ = entry;
         let table = &self.table;
@@ -99,9 +108,11 @@ fn deal<E>(
     requires words { 0 < shared.now.table_id.words }
     requires seat { (seat.old.table_id ≡ shared.now.table_id) × (seat.old.me ≡ (opened clients, [])) }
     requires room { (passes.old.items ≡ []) × (clients ≤ vec_capacity passes.old) }
-    ensures seat { (seat.new.table_id ≡ seat.old.table_id) × (seat.new.me ≡ (record { is_spine = true; log = []; passes = [] }, [])) }
+    ensures seat { (seat.new.table_id ≡ seat.old.table_id)
+        × (seat.new.me ≡ (record { is_spine = true; log = []; passes = [] }, [])) }
     ensures count { length passes.new.items ≡ clients }
-    ensures passes { (k : ℕ) → k < clients → slice_get passes.new.items k ≡ Some (record { spine = shared.now.table_id; client = k + 1; entries = [] }) }
+    ensures passes { (k : ℕ) → k < clients → slice_get passes.new.items k
+        ≡ Some (record { spine = shared.now.table_id; client = k + 1; entries = [] }) }
 {
     for k in 0..clients {
         let badge = shared.split_seat::<Deal>(seat).into_badge();

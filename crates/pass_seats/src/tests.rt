@@ -1,33 +1,47 @@
-ghost use Rattle.std.specs.Prelude.{◌≡◌, ◌≤◌, ◌<◌, ◌^◌, [], length, slice_get, Some, IfOk};
+ghost use Rattle.std.specs.Prelude.{All, IfOk};
+ghost use Rattle.pass_seats.specs.private.Fresh.{IsNewOf};
 
 use crate::{NoMemory, Pass, Spine};
 use std::alloc::Global;
 use std::process::Abort;
 use std::test::Fail;
 
-// A spine and its one pass.
-fn opened(rt: &impl Abort, alloc: Global) -> Result<(Spine<u8>, Pass<u8>), NoMemory>
-    ensures { IfOk result (λ r. (r.1.spine ≡ r.0.spine) × (r.1.entries ≡ [])) }
+// The last pass of a spine, which has made nothing.
+fn last(rt: &impl Abort, spine: &Spine<u8>, passes: &mut Vec<Pass<u8>>) -> Pass<u8>
+    requires { All (IsNewOf spine.now) passes.old.items }
+    ensures pass { IsNewOf spine.now result }
+    ensures others { All (IsNewOf spine.now) passes.new.items }
 {
-    let (spine, mut passes) = Spine::open(alloc, 1)?;
     let Some(pass) = passes.pop() else {
         panic!(rt; "no pass")
     };
-    Ok((spine, pass))
+    pass
 }
 
-// Run with each allocation refused in turn: a spine that was refused leaves nothing, and can be opened then.
+// A spine and the passes of two clients.
+fn opened(alloc: Global) -> Result<(Spine<u8>, Vec<Pass<u8>>), NoMemory>
+    ensures { IfOk result (λ r. All (IsNewOf r.0) r.1.items) }
+{
+    Spine::open(alloc, 2)
+}
+
+// Two clients append in turn, and both passes agree with the spine. Run with each allocation refused in turn: a spine that
+// was refused leaves nothing, and can be opened then.
 #[test]
-fn appends_and_agrees(rt: HostRuntime) -> Result<(), Fail> {
-    let (mut spine, mut pass) = match opened(&rt, rt.alloc()) {
+fn two_clients_append_in_turn(rt: HostRuntime) -> Result<(), Fail> {
+    let (mut spine, mut passes) = match opened(rt.alloc()) {
         Ok(opened) => opened,
-        Err(NoMemory) => opened(&rt, rt.alloc())?,
+        Err(NoMemory) => opened(rt.alloc())?,
     };
-    let before = (pass.client(), pass.made());
-    spine.append(&mut pass, &7);
-    spine.append(&mut pass, &9);
-    spine.agree(&mut pass);
-    assert_eq!(rt; (before, pass.client(), pass.made()), ((1, 0), 1, 2));
+    let mut second = last(&rt, &spine, &mut passes);
+    let mut first = last(&rt, &spine, &mut passes);
+    spine.append(&mut first, &7);
+    spine.append(&mut second, &9);
+    spine.append(&mut first, &8);
+    spine.agree(&mut first);
+    spine.agree(&mut second);
+    assert_eq!(rt; (first.client(), first.made()), (1, 2));
+    assert_eq!(rt; (second.client(), second.made()), (2, 1));
     Ok(())
 }
 

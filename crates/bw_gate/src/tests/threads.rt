@@ -1,22 +1,36 @@
 // Clients in threads of their own.
 ghost use Rattle.std.specs.Prelude.{◌≡◌, ◌<◌, ◌≤◌, ◌+◌, [], length, vec_capacity, vec_len, All};
 ghost use Rattle.bw_gate.specs.Pieces.{cap_of};
-ghost use Rattle.bw_gate.specs.Race.{IsQuarter, IsQuarterTaken};
+ghost use Rattle.bw_gate.specs.private.Quarters.{IsQuarter, IsQuarterTaken};
 
-use super::{next, opened};
+use super::{next, opened, regraded};
 use crate::{Blank, Gate, Take, Ticket, Words};
 use std::process::Abort;
 use std::sync::Wait;
+use std::sync::atomic::{AtomicUsize, Ordering};
 use std::test::Fail;
-use std::thread::{Threads, join, map_vec};
+use std::thread::{Threads, join, map_vec, yield_now};
 
 const QUARTER: u64 = 262144;
 
-// A client, which takes a quarter of a CPU.
-fn one<R: Wait>(rt: &R, gate: &Gate, blank: Blank) -> Take
+// Waits until all of so many clients are here, so that they run at once. It gives up after many turns: where a thread could
+// not be started, the clients come one after another.
+fn arrive(here: &AtomicUsize, all: usize) {
+    here.fetch_add(1, Ordering::SeqCst);
+    for _ in 0..1000000 {
+        if here.load(Ordering::SeqCst) >= all {
+            return;
+        }
+        yield_now();
+    }
+}
+
+// One of eight clients, which takes a quarter of a CPU.
+fn one<R: Wait>(rt: &R, gate: &Gate, here: &AtomicUsize, blank: Blank) -> Take
     requires { (blank.gate ≡ gate.now) × (0 < length gate.now.terms.caps) }
     ensures { IsQuarterTaken gate.now result }
 {
+    arrive(here, 8);
     match gate.take(rt, blank, 0, QUARTER) {
         Take::Taken(ticket) => Take::Taken(ticket),
         Take::Refused { blank, seen } => Take::Refused { blank, seen },
@@ -29,7 +43,13 @@ fn one<R: Wait>(rt: &R, gate: &Gate, blank: Blank) -> Take
 }
 
 // Two clients, each in a thread of its own.
-fn two<R: Threads + Wait + Sync>(rt: &R, gate: &Gate, a: Blank, b: Blank) -> (Take, Take)
+fn two<R: Threads + Wait + Sync>(
+    rt: &R,
+    gate: &Gate,
+    here: &AtomicUsize,
+    a: Blank,
+    b: Blank,
+) -> (Take, Take)
     requires { (a.gate ≡ gate.now) × (b.gate ≡ gate.now) × (0 < length gate.now.terms.caps) }
     ensures { IsQuarterTaken gate.now result.0 × IsQuarterTaken gate.now result.1 }
 {
@@ -38,11 +58,11 @@ fn two<R: Threads + Wait + Sync>(rt: &R, gate: &Gate, a: Blank, b: Blank) -> (Ta
         move || -> Take
             requires { (a.gate ≡ gate.now) × (0 < length gate.now.terms.caps) }
             ensures { IsQuarterTaken gate.entry.now result }
-        { one(rt, gate, a) },
+        { one(rt, gate, here, a) },
         move || -> Take
             requires { (b.gate ≡ gate.now) × (0 < length gate.now.terms.caps) }
             ensures { IsQuarterTaken gate.entry.now result }
-        { one(rt, gate, b) },
+        { one(rt, gate, here, b) },
     )
 }
 
@@ -50,6 +70,7 @@ fn two<R: Threads + Wait + Sync>(rt: &R, gate: &Gate, a: Blank, b: Blank) -> (Ta
 fn four<R: Threads + Wait + Sync>(
     rt: &R,
     gate: &Gate,
+    here: &AtomicUsize,
     a: Blank,
     b: Blank,
     c: Blank,
@@ -65,11 +86,11 @@ fn four<R: Threads + Wait + Sync>(
         move || -> (Take, Take)
             requires { (a.gate ≡ gate.now) × (b.gate ≡ gate.now) × (0 < length gate.now.terms.caps) }
             ensures { IsQuarterTaken gate.entry.now result.0 × IsQuarterTaken gate.entry.now result.1 }
-        { two(rt, gate, a, b) },
+        { two(rt, gate, here, a, b) },
         move || -> (Take, Take)
             requires { (c.gate ≡ gate.now) × (d.gate ≡ gate.now) × (0 < length gate.now.terms.caps) }
             ensures { IsQuarterTaken gate.entry.now result.0 × IsQuarterTaken gate.entry.now result.1 }
-        { two(rt, gate, c, d) },
+        { two(rt, gate, here, c, d) },
     )
 }
 
@@ -88,6 +109,8 @@ fn eight<R: Threads + Wait + Sync + Abort>(
     ensures blanks { All (λ b. b.gate ≡ gate.now) blanks.new.items }
     ensures tickets { All (IsQuarter gate.now) tickets.new.items }
 {
+    let arrived = AtomicUsize::new(0);
+    let here = &arrived;
     let a = next(rt, gate, &mut from);
     let b = next(rt, gate, &mut from);
     let c = next(rt, gate, &mut from);
@@ -102,12 +125,12 @@ fn eight<R: Threads + Wait + Sync + Abort>(
             requires { (a.gate ≡ gate.now) × (b.gate ≡ gate.now) × (c.gate ≡ gate.now) × (d.gate ≡ gate.now) × (0 < length gate.now.terms.caps) }
             ensures first { IsQuarterTaken gate.entry.now result.0.0 × IsQuarterTaken gate.entry.now result.0.1 }
             ensures second { IsQuarterTaken gate.entry.now result.1.0 × IsQuarterTaken gate.entry.now result.1.1 }
-        { four(rt, gate, a, b, c, d) },
+        { four(rt, gate, here, a, b, c, d) },
         move || -> ((Take, Take), (Take, Take))
             requires { (e.gate ≡ gate.now) × (f.gate ≡ gate.now) × (g.gate ≡ gate.now) × (h.gate ≡ gate.now) × (0 < length gate.now.terms.caps) }
             ensures first { IsQuarterTaken gate.entry.now result.0.0 × IsQuarterTaken gate.entry.now result.0.1 }
             ensures second { IsQuarterTaken gate.entry.now result.1.0 × IsQuarterTaken gate.entry.now result.1.1 }
-        { four(rt, gate, e, f, g, h) },
+        { four(rt, gate, here, e, f, g, h) },
     );
     let ((a, b), (c, d)) = west;
     let ((e, f), (g, h)) = east;
@@ -155,27 +178,33 @@ fn closed(gate: Gate, blanks: Vec<Blank>, tickets: Vec<Ticket>) -> (usize, Words
     (count, gate.close(blanks, tickets))
 }
 
-// Takes, loads and gives for so many rounds, and gives the blank back.
-fn rounds<R: Wait>(rt: &R, gate: &Gate, mut blank: Blank, count: u64) -> Blank
+// A round of a client: it takes 1 / 64 of a CPU, loads, regrades to twice as much, and gives back.
+fn round(rt: &impl Wait, gate: &Gate, blank: Blank) -> Blank
     requires { (blank.gate ≡ gate.now) × (0 < length gate.now.terms.caps) }
     ensures { result.gate ≡ gate.now }
 {
-    for _ in 0..count {
-        match gate.take(rt, blank, 0, 16384) {
-            Take::Taken(mut ticket) => {
-                gate.load(&mut ticket);
-                blank = gate.give(ticket);
-            }
-            Take::Refused {
-                blank: back,
-                seen: _,
-            } => blank = back,
-            Take::Raced {
-                blank: _,
-                expected: _,
-                seen: _,
-            } => unreachable!(),
+    match gate.take(rt, blank, 0, 16384) {
+        Take::Taken(mut ticket) => {
+            gate.load(&mut ticket);
+            gate.give(regraded(rt, gate, ticket, 32768))
         }
+        Take::Refused { blank, seen: _ } => blank,
+        Take::Raced {
+            blank,
+            expected: _,
+            seen: _,
+        } => blank,
+    }
+}
+
+// One of 64 clients, with a thousand rounds.
+fn rounds(rt: &impl Wait, gate: &Gate, here: &AtomicUsize, mut blank: Blank) -> Blank
+    requires { (blank.gate ≡ gate.now) × (0 < length gate.now.terms.caps) }
+    ensures { result.gate ≡ gate.now }
+{
+    arrive(here, 64);
+    for _ in 0..1000 {
+        blank = round(rt, gate, blank);
     }
     blank
 }
@@ -195,19 +224,19 @@ fn eight_threads_four_taken(rt: HostRuntime) -> Result<(), Fail> {
     Ok(())
 }
 
-// 64 clients take, load and give on one word, and leave 0.
+// 64 clients at once take, load, regrade and give on one word, and leave 0.
 #[test]
 fn sixty_four_threads_leave_nothing(rt: HostRuntime) -> Result<(), Fail> {
     let (gate, blanks) = opened(rt.alloc(), 1048576, 64)?;
-    let shared = &gate;
-    let handle = &rt;
+    let arrived = AtomicUsize::new(0);
+    let (shared, here, handle) = (&gate, &arrived, &rt);
     let back = map_vec(
         &rt,
         blanks,
         &|blank: Blank| -> Blank
             requires { (blank.gate ≡ shared.now) × (0 < length shared.now.terms.caps) }
             ensures { result.gate ≡ shared.entry.now }
-        { rounds(handle, shared, blank, 100) },
+        { rounds(handle, shared, here, blank) },
     )?;
     let words = gate.close(back, Vec::new(rt.alloc()));
     assert_eq!(rt; words.word[0], 0);

@@ -8,7 +8,7 @@ use Rattle.pass_seats.specs.declared.view.Mine.{Mine}
 use Rattle.pass_seats.specs.declared.view.View.{View}
 use Rattle.pass_seats.specs.Lists.{PassView}
 use Rattle.pass_seats.specs.Listed.{fresh}
-use Rattle.pass_seats.specs.Pass.{entries_of, pass_view}
+use Rattle.pass_seats.specs.private.Pass.{entries_of, pass_view}
 use Rattle.pass_seats.specs.Kinds.{first_pass, other_passes}
 use Rattle.pass_seats.proofs.Views.{get_front, get_last}
 use Rattle.pass_seats.proofs.Steps.{splits, dealt_pass, others_fresh}

@@ -1,5 +1,5 @@
 use Rattle.std.proofs.Common.{arith}
-use Rattle.bw_gate.proofs.Race.{quarters}
+use Rattle.bw_gate.proofs.Quarters.{quarters}
 use Rattle.bw_gate.proofs.tests.threads.closed.Goals as goal
 
 pub returns-clause-four : goal.returns-clause-four

@@ -2,7 +2,7 @@ use Rattle.std.proofs.Common.{◌≡◌, All, List, [], ◌∷◌, ◌++◌, tak
 use Rattle.std.proofs.lemmas.List.Elements.{All-head}
 use Rattle.pass_seats.specs.declared.view.Mine.{Mine}
 use Rattle.pass_seats.specs.Lists.{own}
-use Rattle.pass_seats.specs.Pass.{first_entries, entries_of}
+use Rattle.pass_seats.specs.private.Pass.{first_entries, entries_of}
 use Rattle.pass_seats.proofs.Steps.{joins, splits, agrees, passes_back}
 use Rattle.pass_seats.proofs.spine.Spine.agree.Goals as goal
 

@@ -1,6 +1,6 @@
 use Rattle.std.proofs.Common.{◌≡◌, [], ◌∷◌, ◌++◌, true, sym, ap, ◌∙◌, arith}
 use Rattle.pass_seats.specs.declared.view.Mine.{Mine}
-use Rattle.pass_seats.specs.Pass.{entries_of}
+use Rattle.pass_seats.specs.private.Pass.{entries_of}
 use Rattle.pass_seats.proofs.Steps.{joins, splits, appends, passes_back}
 use Rattle.pass_seats.proofs.spine.Spine.append_as.Goals as goal
 

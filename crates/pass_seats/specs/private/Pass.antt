@@ -15,4 +15,8 @@ module _ {E : Type 0} where
 
   -- the view of a pass
   abbrev pub pass_view : ℕ → List E → View E
-  pass_view client entries = record { is_spine = false; log = []; passes = record { client = client; entries = entries } ∷ [] }
+  pass_view client entries = record {
+    is_spine = false;
+    log = [];
+    passes = record { client = client; entries = entries } ∷ [];
+  }
