@@ -43,6 +43,7 @@ impl SessionFault {
 }
 
 /// The line by which the program tells a fault: `dlsim: ` and its text, without an LF.
+#[derive(Clone, Copy)]
 pub struct Report<'a> {
     fault: &'a SessionFault,
 }
