@@ -15,7 +15,7 @@ use Rattle.domain_run.specs.Sound.{IsAdmitted}
 use Rattle.domain_run.proofs.Admitting.{with_number_contains}
 use Rattle.switch_text.specs.Names.{Names, named, HasName}
 use Rattle.dl_session.specs.Replay.{with_name}
-use Rattle.dl_session.specs.Replaying.{AreNamed}
+use Rattle.dl_session.specs.private.Replaying.{AreNamed}
 
 pub one_more : (k : ℕ) (d e : Domain) → e ≡ ticks k d → ticked e ≡ ticks (k + 1) d
 one_more k d e same = let more : suc k ≡ k + 1 = omega arith in ap ticked same ∙ ap (λ n. ticks n d) more

@@ -10,7 +10,7 @@ use Rattle.call_book.specs.SectionView.{SectionView}
 use Rattle.switch_text.specs.Names.{Names, named, HasName, HasLine}
 use Rattle.switch_text.specs.Trace.{RunView, trace_of}
 use Rattle.dl_session.specs.Replay.{names_of, no_names, calls_of, run_view, trace_of_sections}
-use Rattle.dl_session.specs.Replaying.{AreNamed, IsRunOf, trace_of_run}
+use Rattle.dl_session.specs.private.Replaying.{AreNamed, IsRunOf, trace_of_run}
 
 some_named : (d : Domain) (names : Names) → AreNamed d names → (o : Option ℕ) → IfSome o (IsAdmitted d.used) → IfSome o (HasName names)
 some_named d names named None h = tt

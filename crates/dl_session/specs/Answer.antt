@@ -1,56 +1,45 @@
 -- What a replay answers, and what it leaves.
-use Rattle.std.specs.Prelude.{ℕ, ◌≡◌, ◌+◌, List, Option, IfSome}
+use Rattle.std.specs.Prelude.{ℕ, ◌≡◌, List, IfSome}
 use Rattle.std.specs.Io.KnownBytes.{Appends, Keeps}
 use Rattle.call_book.specs.SectionView.{SectionView}
 use Rattle.call_book.specs.Spelling.{spelling}
 use Rattle.call_book.specs.Limits.{AreRead}
 use Rattle.call_book.specs.BadLine.{IsBadLine}
-use Rattle.switch_text.specs.Sending.{Stops}
+use Rattle.switch_text.specs.Sides.{Side, HasNoFault, HasOneFault}
+use Rattle.switch_text.specs.Faults.{TakesFront}
 use Rattle.dl_session.specs.declared.fault.SessionFault.{SessionFault}
 use Rattle.dl_session.specs.declared.fault.SessionFault.TheVariants.{Calls, Read, Write, Memory}
 use Rattle.dl_session.specs.Replay.{trace_of_sections}
 
--- what a call of replay met: the bytes that the reader had left, those that the writer held before and after, and how often
--- each failed before and after. Bytes are known where the reader or writer tells them
+-- what a call of replay met: its reader and its writer, each before the call and after it
 pub record Seen : Type 0 where
-  pub input : Option (List ℕ)
-  pub held : Option (List ℕ)
-  pub holds : Option (List ℕ)
-  pub reads_failed : ℕ
-  pub reads_fail : ℕ
-  pub writes_failed : ℕ
-  pub writes_fail : ℕ
+  pub reader : Side
+  pub writer : Side
 
-abbrev pub seen : Option (List ℕ) → Option (List ℕ) → Option (List ℕ) → ℕ → ℕ → ℕ → ℕ → Seen
-seen input held holds reads_failed reads_fail writes_failed writes_fail = record {
-  input = input;
-  held = held;
-  holds = holds;
-  reads_failed = reads_failed;
-  reads_fail = reads_fail;
-  writes_failed = writes_failed;
-  writes_fail = writes_fail;
-}
+abbrev pub seen : Side → Side → Seen
+seen reader writer = record { reader = reader; writer = writer }
 
 abbrev pub NothingWritten : Seen → Type 0
-NothingWritten s = Keeps s.held s.holds
-
-abbrev pub NoFault : Seen → Type 0
-NoFault s = (s.reads_fail ≡ s.reads_failed) × (s.writes_fail ≡ s.writes_failed)
+NothingWritten s = Keeps s.writer.before.bytes s.writer.after.bytes
 
 -- the text that was read, which is all that the reader had left
 pub record IsInput (s : Seen) (text : List ℕ) : Type 0 where
-  pub all : IfSome s.input (λ bytes. text ≡ bytes)
+  pub all : IfSome s.reader.before.bytes (λ bytes. text ≡ bytes)
 
--- the input spells sections, and their trace was written, and nothing else
-pub record IsAnswered (s : Seen) : Type 0 where
+-- the sections that the input spells
+pub record AreSpelled (s : Seen) (sections : List SectionView) : Type 0 where
   pub text : List ℕ
-  pub sections : List SectionView
   pub input : IsInput s text
   pub read : AreRead sections
   pub spelled : text ≡ spelling sections
-  pub written : Appends s.held s.holds (trace_of_sections sections)
-  pub no_fault : NoFault s
+
+-- the input spells sections, and their trace was written, and nothing else
+pub record IsAnswered (s : Seen) : Type 0 where
+  pub sections : List SectionView
+  pub input : AreSpelled s sections
+  pub written : Appends s.writer.before.bytes s.writer.after.bytes (trace_of_sections sections)
+  pub reads : HasNoFault s.reader
+  pub writes : HasNoFault s.writer
 
 -- the input has this first bad line, and nothing was written
 pub record IsRefused (s : Seen) (n : ℕ) : Type 0 where
@@ -58,39 +47,32 @@ pub record IsRefused (s : Seen) (n : ℕ) : Type 0 where
   pub input : IsInput s text
   pub bad : IsBadLine text n
   pub unwritten : NothingWritten s
-  pub no_fault : NoFault s
+  pub reads : HasNoFault s.reader
+  pub writes : HasNoFault s.writer
 
 -- the reader failed, and nothing was written
 pub record IsUnread (s : Seen) : Type 0 where
-  pub reads : s.reads_fail ≡ s.reads_failed + 1
-  pub writes : s.writes_fail ≡ s.writes_failed
   pub unwritten : NothingWritten s
+  pub reads : HasOneFault s.reader
+  pub writes : HasNoFault s.writer
 
--- the writer failed: exactly so many bytes of the trace were taken, and not all
+-- the writer failed: exactly so many bytes of the trace of the sections were taken, and not all
 pub record IsCutOff (s : Seen) (written : ℕ) : Type 0 where
-  pub text : List ℕ
   pub sections : List SectionView
-  pub input : IsInput s text
-  pub read : AreRead sections
-  pub spelled : text ≡ spelling sections
-  pub taken : Stops s.held s.holds (trace_of_sections sections) written
-  pub reads : s.reads_fail ≡ s.reads_failed
-  pub writes : s.writes_fail ≡ s.writes_failed + 1
+  pub input : AreSpelled s sections
+  pub taken : TakesFront s.writer.before.bytes s.writer.after.bytes (trace_of_sections sections) written
+  pub reads : HasNoFault s.reader
+  pub writes : HasOneFault s.writer
 
 -- memory was refused, and nothing was written
 pub record IsOutOfMemory (s : Seen) : Type 0 where
   pub unwritten : NothingWritten s
-  pub no_fault : NoFault s
+  pub reads : HasNoFault s.reader
+  pub writes : HasNoFault s.writer
 
--- the writer took exactly so many bytes of a text, and not all
-abbrev pub IsCut : Option (List ℕ) → Option (List ℕ) → List ℕ → SessionFault → Type 0
-IsCut held holds text (Calls n) = ⊥
-IsCut held holds text Read = ⊥
-IsCut held holds text (Write n) = Stops held holds text n
-IsCut held holds text Memory = ⊥
-
-abbrev pub MeansFault : Seen → SessionFault → Type 0
-MeansFault s (Calls n) = IsRefused s n
-MeansFault s Read = IsUnread s
-MeansFault s (Write n) = IsCutOff s n
-MeansFault s Memory = IsOutOfMemory s
+-- a fault is what was met
+abbrev pub IsFaultOf : Seen → SessionFault → Type 0
+IsFaultOf s (Calls n) = IsRefused s n
+IsFaultOf s Read = IsUnread s
+IsFaultOf s (Write written) = IsCutOff s written
+IsFaultOf s Memory = IsOutOfMemory s

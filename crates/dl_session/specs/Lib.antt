@@ -1,3 +1,4 @@
 pub mod Replay
 pub mod Answer
-pub mod Replaying
+pub mod Status
+pub mod private

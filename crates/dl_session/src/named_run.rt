@@ -1,6 +1,6 @@
 //! The run of the calls of a section.
 
-ghost use Rattle.std.specs.Prelude.{◌≡◌, ℕ, ◌<◌, ◌≤◌, ◌+◌, ◌^◌, OnOk, IfErr, IfOk, All, vec_len};
+ghost use Rattle.std.specs.Prelude.{◌≡◌, ◌<◌, ◌≤◌, ◌+◌, ◌^◌, OnOk, IfErr, IfOk, All, vec_len};
 ghost use Rattle.std.specs.String.{string_bytes};
 ghost use Rattle.domain_run.specs.NameView.{IsName};
 ghost use Rattle.domain_run.specs.declared.call.Call.TheVariants as Call;
@@ -10,7 +10,7 @@ ghost use Rattle.domain_run.specs.Tick.{ticks as ticked_by};
 ghost use Rattle.call_book.specs.Limits.{IsNumber, IsCall, IsEntry, IsSection};
 ghost use Rattle.switch_text.specs.Names.{named};
 ghost use Rattle.dl_session.specs.Replay.{no_names, with_name, names_after};
-ghost use Rattle.dl_session.specs.Replaying.{AreNamed, IsRunOf, section_view};
+ghost use Rattle.dl_session.specs.private.Replaying.{AreNamed, Gives, IsRunOf, section_view};
 
 use crate::fault::SessionFault;
 use attr_check::Params;
@@ -42,7 +42,7 @@ fn put_name(
     number: u32,
     text: String,
 ) -> Result<(), SessionFault>
-    ensures ok { OnOk result ((n : ℕ) → named names.new n ≡ with_name (named names.old) number (string_bytes text) n) }
+    ensures ok { OnOk result (Gives names.new (with_name (named names.old) number (string_bytes text))) }
     ensures err { IfErr result (λ e. e ≡ SessionFault.Memory) }
 {
     match names.insert(number, text) {
@@ -56,7 +56,7 @@ impl NamedRun {
         requires cpus { (0 < cpus) × (cpus ≤ 64) }
         requires limit { (10485 ≤ limit) × (limit ≤ 1048576) }
         ensures state { IfOk result (λ r. r.state ≡ opened cpus limit) }
-        ensures names { IfOk result (λ r. (n : ℕ) → named r.names n ≡ no_names n) }
+        ensures names { IfOk result (λ r. Gives r.names no_names) }
         ensures err { IfErr result (λ e. e ≡ SessionFault.Memory) }
     {
         match State::open(alloc, cpus, limit) {
@@ -81,8 +81,10 @@ impl NamedRun {
         requires number { IsNumber number }
         requires delay { delay ≤ 1000000000 }
         requires named { AreNamed self.old.state self.old.names }
-        ensures state { OnOk result (self.new.state ≡ after_call self.old.state (Call.Admit number name params delay script)) }
-        ensures names { OnOk result ((n : ℕ) → named self.new.names n ≡ names_after self.old.state (Call.Admit number name params delay script) (named self.old.names) n) }
+        ensures state { let call = Call.Admit number name params delay script in
+            OnOk result (self.new.state ≡ after_call self.old.state call) }
+        ensures names { let call = Call.Admit number name params delay script in
+            OnOk result (Gives self.new.names (names_after self.old.state call (named self.old.names))) }
         ensures named { OnOk result (AreNamed self.new.state self.new.names) }
         ensures time { OnOk result (self.new.state.time ≡ self.old.state.time) }
         ensures err { IfErr result (λ e. e ≡ SessionFault.Memory) }
@@ -100,7 +102,7 @@ impl NamedRun {
         requires early { self.old.state.time + 60000000 ≤ 2 ^ 42 }
         requires named { AreNamed self.old.state self.old.names }
         ensures state { OnOk result (self.new.state ≡ after_call self.old.state call) }
-        ensures names { OnOk result ((n : ℕ) → named self.new.names n ≡ names_after self.old.state call (named self.old.names) n) }
+        ensures names { OnOk result (Gives self.new.names (names_after self.old.state call (named self.old.names))) }
         ensures named { OnOk result (AreNamed self.new.state self.new.names) }
         ensures time { OnOk result (self.new.state.time ≤ self.old.state.time + 60000000) }
         ensures err { IfErr result (λ e. e ≡ SessionFault.Memory) }
@@ -163,7 +165,8 @@ fn run_entries(
     requires limit { (10485 ≤ limit) × (limit ≤ 1048576) }
     requires few { vec_len entries ≤ 65536 }
     requires entries { All IsEntry entries.items }
-    ensures run { IfOk result (λ r. IsRunOf (section_view cpus limit entries.items) r.state r.names) }
+    ensures run { IfOk result (λ r.
+        IsRunOf (section_view cpus limit entries.items) r.state r.names) }
     ensures err { IfErr result (λ e. e ≡ SessionFault.Memory) }
 {
     let mut run = NamedRun::open(alloc, cpus, limit)?;

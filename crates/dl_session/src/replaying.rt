@@ -1,9 +1,10 @@
 //! From bytes to bytes: recorded calls in, their trace out.
 
-ghost use Rattle.std.specs.Prelude.{◌≡◌, ◌<◌, ◌+◌, ◌^◌, OnOk, OnErr, IfErr, length, [], ◌∷◌};
+ghost use Rattle.std.specs.Prelude.{◌≡◌, ◌<◌, ◌^◌, OnOk, OnErr, IfErr, length, [], ◌∷◌};
 ghost use Rattle.std.specs.Io.KnownBytes.{Appends};
-ghost use Rattle.dl_session.specs.Replaying.{AreNamed, trace_of_run};
-ghost use Rattle.dl_session.specs.Answer.{seen, IsAnswered, IsCut, MeansFault};
+ghost use Rattle.switch_text.specs.Sides.{inner_of, faults_of, side, HasNoFault, HasOneFault};
+ghost use Rattle.dl_session.specs.Answer.{seen, IsAnswered, IsFaultOf};
+ghost use Rattle.dl_session.specs.private.Replaying.{AreNamed, IsCut, trace_of_run};
 
 use crate::fault::SessionFault;
 use crate::named_run::{NamedRun, run_section};
@@ -13,14 +14,16 @@ use std::io::{Read, Write};
 use switch_text::{Counted, ReadFault, Run, write_trace};
 
 /// Writes the trace of a run, whose domain has the first CPUs of the machine.
-#[tactic(auto, unfolding(crate::specs::Replaying::trace_of_run))]
+#[tactic(auto, unfolding(crate::specs::private::Replaying::trace_of_run))]
 fn write_run<W: Write>(run: &NamedRun, writer: &mut Counted<W>) -> Result<(), SessionFault>
     requires named { AreNamed run.now.state run.now.names }
-    requires faults { writer.old.faults < 2 ^ 63 }
-    ensures ok { OnOk result (Appends (W.contents writer.old.inner) (W.contents writer.new.inner) (trace_of_run run.now.state run.now.names)) }
-    ensures whole { OnOk result (writer.new.faults ≡ writer.old.faults) }
-    ensures err { IfErr result (IsCut (W.contents writer.old.inner) (W.contents writer.new.inner) (trace_of_run run.now.state run.now.names)) }
-    ensures cut { OnErr result (writer.new.faults ≡ writer.old.faults + 1) }
+    requires faults { faults_of writer.old < 2 ^ 63 }
+    ensures ok { OnOk result (Appends (W.contents (inner_of writer.old)) (W.contents (inner_of writer.new))
+        (trace_of_run run.now.state run.now.names)) }
+    ensures whole { OnOk result (HasNoFault (side W.contents writer.old writer.new)) }
+    ensures err { IfErr result (IsCut (side W.contents writer.old writer.new)
+        (trace_of_run run.now.state run.now.names)) }
+    ensures cut { OnErr result (HasOneFault (side W.contents writer.old writer.new)) }
 {
     let runs = [Run {
         base: 0,
@@ -29,7 +32,9 @@ fn write_run<W: Write>(run: &NamedRun, writer: &mut Counted<W>) -> Result<(), Se
     }];
     match write_trace(&runs, writer) {
         Ok(()) => Ok(()),
-        Err(fault) => Err(SessionFault::Write(fault.written)),
+        Err(fault) => Err(SessionFault::Write {
+            written: fault.written,
+        }),
     }
 }
 
@@ -57,10 +62,12 @@ pub fn replay<R: Read, W: Write>(
     reader: &mut Counted<R>,
     writer: &mut Counted<W>,
 ) -> Result<(), SessionFault>
-    requires reader { reader.old.faults < 2 ^ 63 }
-    requires writer { writer.old.faults < 2 ^ 63 }
-    ensures ok { OnOk result (IsAnswered (seen (R.remaining reader.old.inner) (W.contents writer.old.inner) (W.contents writer.new.inner) reader.old.faults reader.new.faults writer.old.faults writer.new.faults)) }
-    ensures err { IfErr result (MeansFault (seen (R.remaining reader.old.inner) (W.contents writer.old.inner) (W.contents writer.new.inner) reader.old.faults reader.new.faults writer.old.faults writer.new.faults)) }
+    requires reader { faults_of reader.old < 2 ^ 63 }
+    requires writer { faults_of writer.old < 2 ^ 63 }
+    ensures ok { OnOk result
+        (IsAnswered (seen (side R.remaining reader.old reader.new) (side W.contents writer.old writer.new))) }
+    ensures err { IfErr result
+        (IsFaultOf (seen (side R.remaining reader.old reader.new) (side W.contents writer.old writer.new))) }
 {
     let text = match reader.read_all(alloc) {
         Ok(text) => text,

@@ -1,6 +1,7 @@
 //! dlsim: a model of SCHED_DEADLINE that writes the switches of recorded calls as a trace.
 //!
-//! The program reads its words with clap, and calls [`dl_session::replay`] with standard input and standard output.
+//! The program reads its words with clap, and calls [`dl_session::replay`] with standard input and standard output. What it
+//! prints of a fault, and its exit status, are the fault's own ([`SessionFault::report`], [`SessionFault::status`]).
 #![tactic(auto)]
 
 use clap::error::ErrorKind;
@@ -11,13 +12,6 @@ use std::env::{self, Env};
 use std::io;
 use std::process::ExitCode;
 use switch_text::Counted;
-
-/// Bad input.
-const BAD_INPUT: u8 = 1;
-/// Reading or writing failed.
-const NO_INPUT_OR_OUTPUT: u8 = 3;
-/// A growth was refused.
-const NO_MEMORY: u8 = 4;
 
 fn command<'a>(alloc: Global) -> Result<Command<'a>, Error> {
     let replay = Command::new(alloc, "replay").about(
@@ -49,17 +43,10 @@ fn read_words(rt: &(impl Env + Alloc<A = Global>)) -> Result<(), Error> {
     Ok(())
 }
 
-fn status_of(fault: &SessionFault) -> u8 {
-    match fault {
-        SessionFault::Calls(_) => BAD_INPUT,
-        SessionFault::Read | SessionFault::Write(_) => NO_INPUT_OR_OUTPUT,
-        SessionFault::Memory => NO_MEMORY,
-    }
-}
-
+/// Tells a fault on standard error, and by the exit status.
 fn end_with(rt: &impl Eprint, fault: &SessionFault) -> ExitCode {
-    let _ = eprintln!(rt; "dlsim: {fault}");
-    ExitCode::from(status_of(fault))
+    let _ = eprintln!(rt; "{}", fault.report());
+    ExitCode::from(fault.status())
 }
 
 fn main(rt: HostRuntime) -> ExitCode {

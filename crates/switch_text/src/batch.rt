@@ -84,8 +84,8 @@ impl Batch {
     ) -> Result<usize, usize>
         requires short { length text.now ≤ 256 }
         requires faults { faults_of writer.old < 2 ^ 63 }
-        ensures ok { IfOk result (λ n.
-            Sends (W.contents (inner_of writer.old)) (W.contents (inner_of writer.new)) (self.old ++ text.now) n self.new) }
+        ensures ok { IfOk result (λ n. Sends
+            (W.contents (inner_of writer.old)) (W.contents (inner_of writer.new)) (self.old ++ text.now) n self.new) }
         ensures err { IfErr result
             (TakesFront (W.contents (inner_of writer.old)) (W.contents (inner_of writer.new)) self.old) }
         ensures faults { faults_of writer.new ≡ one_more_unless (is_ok result) (faults_of writer.old) }

@@ -43,10 +43,10 @@ pub fn write_trace<W: Write>(runs: &[Run<'_>], writer: &mut Counted<W>) -> Resul
     requires few { length runs.now ≤ 8 }
     requires runs { All IsRun runs.now }
     requires faults { faults_of writer.old < 2 ^ 63 }
-    ensures ok { OnOk result
-        (Appends (W.contents (inner_of writer.old)) (W.contents (inner_of writer.new)) (trace_of (views runs.now))) }
-    ensures err { IfErr result (λ f.
-        TakesFront (W.contents (inner_of writer.old)) (W.contents (inner_of writer.new)) (trace_of (views runs.now)) f.written) }
+    ensures ok { OnOk result (Appends
+        (W.contents (inner_of writer.old)) (W.contents (inner_of writer.new)) (trace_of (views runs.now))) }
+    ensures err { IfErr result (λ f. TakesFront
+        (W.contents (inner_of writer.old)) (W.contents (inner_of writer.new)) (trace_of (views runs.now)) f.written) }
     ensures faults { faults_of writer.new ≡ one_more_unless (is_ok result) (faults_of writer.old) }
 {
     let mut batch = Batch::new();

@@ -1,10 +1,10 @@
-//! Readers and writers that work in small pieces, and fail.
+//! A writer that takes a few bytes a call, and a reader that gives one. Each fails once, and then goes on.
 
 use std::alloc::Global;
 use std::io;
 use std::io::{ErrorKind, Read, Write};
 
-/// Takes at most `step` bytes a call and `room` in all; then it fails.
+/// Takes at most `step` bytes a call. The first call that finds `room` bytes taken fails; those behind it take more.
 #[derive(Drop)]
 pub(crate) struct Taker {
     pub(crate) taken: Vec<u8>,
@@ -15,7 +15,7 @@ pub(crate) struct Taker {
 }
 
 impl Taker {
-    /// Where there is no room left, it answers an error of this kind, or takes 0 bytes where there is none.
+    /// It fails by an error of this kind, or by taking 0 bytes where there is none.
     pub(crate) fn new(alloc: Global, step: usize, room: usize, kind: Option<ErrorKind>) -> Taker {
         Taker {
             taken: Vec::new(alloc),
@@ -32,6 +32,7 @@ impl Write for Taker {
         self.calls = self.calls.saturating_add(1);
         let n = buf.len().min(self.step).min(self.room);
         if n == 0 {
+            self.room = usize::MAX;
             return match self.kind {
                 Some(kind) => Err(io::Error::from(kind)),
                 None => Ok(0),
@@ -47,7 +48,7 @@ impl Write for Taker {
     }
 }
 
-/// Gives one byte a call, and fails in call `bad`, counted from 0.
+/// Gives one byte a call; only call `bad`, counted from 0, fails, by an error that others try again.
 #[derive(Drop)]
 pub(crate) struct Giver<'a> {
     rest: &'a [u8],
@@ -67,15 +68,18 @@ impl<'a> Giver<'a> {
 
 impl Read for Giver<'_> {
     fn read(&mut self, buf: &mut [u8]) -> io::Result<usize> {
-        if self.calls == self.bad {
+        let call = self.calls;
+        self.calls = call.saturating_add(1);
+        if call == self.bad {
             return Err(io::Error::from(ErrorKind::Interrupted));
         }
-        self.calls = self.calls.saturating_add(1);
-        if self.rest.is_empty() || buf.is_empty() {
-            return Ok(0);
+        match self.rest.split_first() {
+            Some((first, rest)) if !buf.is_empty() => {
+                buf[0] = *first;
+                self.rest = rest;
+                Ok(1)
+            }
+            _ => Ok(0),
         }
-        buf[0] = self.rest[0];
-        self.rest = &self.rest[1..];
-        Ok(1)
     }
 }

@@ -9,7 +9,7 @@ use Rattle.domain_run.specs.Run.{after_calls, run_of}
 use Rattle.domain_run.specs.Sound.{IsAdmitted}
 use Rattle.switch_text.specs.Names.{named}
 use Rattle.dl_session.specs.Replay.{names_of, no_names, calls_of}
-use Rattle.dl_session.specs.Replaying.{section_view}
+use Rattle.dl_session.specs.private.Replaying.{section_view}
 use Rattle.dl_session.proofs.Sections.{left_calls, reverse_more, left_more, left_state, left_names}
 use Rattle.dl_session.proofs.named_run.run_entries.Goals as goal
 

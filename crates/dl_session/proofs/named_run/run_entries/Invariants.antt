@@ -5,7 +5,7 @@ use Rattle.domain_run.specs.Run.{after_calls, run_of}
 use Rattle.call_book.specs.Limits.{IsEntry}
 use Rattle.switch_text.specs.Names.{named}
 use Rattle.dl_session.specs.Replay.{names_of, no_names, calls_of}
-use Rattle.dl_session.specs.Replaying.{AreNamed, section_view}
+use Rattle.dl_session.specs.private.Replaying.{AreNamed, section_view}
 use Rattle.dl_session.proofs.Sections.{left_calls}
 use Rattle.dl_session.proofs.named_run.run_entries.Given as goal
 

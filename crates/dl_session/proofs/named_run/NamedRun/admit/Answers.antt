@@ -3,7 +3,7 @@ use Rattle.std.specs.String.{string_bytes}
 use Rattle.switch_text.specs.Names.{named}
 use Rattle.domain_run.specs.Domain.{Domain}
 use Rattle.dl_session.specs.Replay.{with_name}
-use Rattle.dl_session.specs.Replaying.{AreNamed}
+use Rattle.dl_session.specs.private.Replaying.{AreNamed}
 use Rattle.dl_session.proofs.Naming.{named_step, on_ok}
 use Rattle.dl_session.proofs.named_run.NamedRun.admit.Goals as goal
 
