@@ -103,6 +103,19 @@ fn a_call_of_each_kind(rt: HostRuntime) -> Result<(), Fail> {
     Ok(())
 }
 
+// A regrade that the domain's bandwidth word refused leaves the task with 2 us of each 8.
+#[test]
+fn refused_by_the_word(rt: HostRuntime) -> Result<(), Fail> {
+    let text =
+        b"dlcalls 1\ndomain 1 524288\nadmit 1 1 a 2 8 8 - 0 1:1{r100}\nregrade 1 1 4 8 8 - busy 393216\nadvance 1 5\n";
+    let lines = [
+        ("0.000000: ", "prev_comm=swapper/0 ", "next_comm=a "),
+        ("0.000002: ", "-1 prev_state=R+ ", "next_comm=swapper/0 "),
+    ];
+    assert!(rt; has_lines(rt.alloc(), text, &lines)?);
+    Ok(())
+}
+
 // 1000 us of each 1000 do not fit beside 2 of 100.
 #[test]
 fn a_refused_task_never_runs(rt: HostRuntime) -> Result<(), Fail> {
