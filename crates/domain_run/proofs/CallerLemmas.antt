@@ -1,11 +1,14 @@
 -- What a caller of a domain shows of its keys, its time and its refusals, call by call.
-use Rattle.std.proofs.Common.{◌≡◌, ℕ, zero, suc, ◌+◌, ◌-◌, ◌<◌, ◌≤◌, Bool, true, false, cond, eqb, ltb, leb, ◌&&◌, ◌||◌, Option, Some, None, List, [], ◌∷◌, ◌++◌, length, map, get_or, set, eq-eqb, refl, sym, ap, ◌∙◌, arith}
-use Rattle.std.specs.Prelude.{All, AllPairs, ◌≢◌, IsTrue, Contains, find, not, is_some, option_map}
+use Rattle.std.proofs.Common.{◌≡◌, ℕ, zero, suc, ◌+◌, ◌-◌, ◌<◌, ◌≤◌, Bool, true, false, cond, eqb, ltb, leb, ◌&&◌, ◌||◌, Option, Some, None, List, [], ◌∷◌, ◌++◌, length, map, get_or, set, eq-eqb, refl, sym, ap, inl, inr, ◌∙◌, arith}
+use Rattle.std.specs.Prelude.{All, AllPairs, ◌≢◌, IsTrue, Contains, find, filter, not, is_some, option_map, sum_by}
 use Rattle.std.specs.List.{list_any}
-use Rattle.std.proofs.lemmas.Bool.{ltb-true, eqb-true, ne_eqb}
-use Rattle.std.proofs.lemmas.List.{map-append}
+use Rattle.std.proofs.lemmas.Bool.{cases_lt, ltb-true, eqb-true, ne_eqb}
+use Rattle.std.proofs.lemmas.List.{map-append, get_or_default}
+use Rattle.std.proofs.lemmas.List.Folds.{list_any_at}
 use Rattle.std.proofs.lemmas.List.Elements.{All-map}
 use Rattle.std.proofs.lemmas.List.Kept.{AllPairs-cons}
+use Rattle.std.proofs.lemmas.List.Sums.{sum_by-cons}
+use Rattle.grub_rules.specs.declared.share.Share.{Share}
 use Rattle.attr_check.specs.ParamsView.{ParamsView}
 use Rattle.attr_check.specs.Ratio.{cap}
 use Rattle.domain_run.specs.script.ScriptView.{ScriptView}
@@ -17,11 +20,11 @@ use Rattle.domain_run.specs.declared.call.Reply.TheVariants.{Admitted, Changed, 
 use Rattle.domain_run.specs.Conditions.{is_contending, is_leaving}
 use Rattle.domain_run.specs.Parts.{stopped}
 use Rattle.domain_run.specs.Domain.{Domain}
-use Rattle.domain_run.specs.Tick.{sum_of, ticked, ticks}
+use Rattle.domain_run.specs.Tick.{share_of, shares, sum_of, ticked, ticks}
 use Rattle.domain_run.specs.Calls.{admit_reply, new_task, listed, task_of, of_number, changed, regraded, regrade_reply, wake_reply, awoken, leave_reply, ended, reply_to, is_refusal, granted, after_call}
 use Rattle.domain_run.specs.Views.{view_of, view_in, name_in}
 use Rattle.domain_run.specs.Busy.{LacksRoomFor, LacksRoomToChange}
-use Rattle.domain_run.specs.Keys.{key_of, keys, has_task, AreKept, with_bw}
+use Rattle.domain_run.specs.Keys.{key_of, keys, has_task, left_of, AreKept, with_bw}
 use Rattle.domain_run.proofs.KeptKeys as kept
 
 and_left : (a b : Bool) → (a && b) ≡ true → a ≡ true
@@ -92,6 +95,23 @@ live_in number (u ∷ tasks) t e =
 
 pub live_key : (d : Domain) (number : ℕ) (t : Task) → task_of d number ≡ Some t → Contains (keys d.tasks) (number, t.params.bw)
 live_key d number t e = live_in number d.tasks t e
+
+pub live_listed : (d : Domain) (number : ℕ) (t : Task) → task_of d number ≡ Some t → has_task d.tasks number ≡ true
+live_listed d number t e =
+    let at = live_key d number t e in
+    kept.has_key d.tasks number ∙ list_any_at (λ k. eqb k.0 number) (keys d.tasks) at.0 (number, t.params.bw) at.1 (eq-eqb _ number (ap (λ (k : ℕ × ℕ). k.0) at.2))
+
+-- where numbers are apart, a number has one bandwidth
+pub one_bw : (ks : List (ℕ × ℕ)) (number a b : ℕ) → AllPairs (λ k l. k.0 ≢ l.0) ks → Contains ks (number, a) → Contains ks (number, b) → a ≡ b
+one_bw ks number a b apart one two =
+    let there : get_or ks two.0 (number, a) ≡ (number, b) = get_or_default ks two.0 (number, a) (number, b) two.1 ∙ two.2 in
+    elim (cases_lt one.0 two.0) [
+      | inl less ↦ absurd (apart one.0 two.0 (number, a) less two.1 (ap (λ (k : ℕ × ℕ). k.0) one.2 ∙ sym (ap (λ (k : ℕ × ℕ). k.0) there)))
+      | inr most ↦ elim (cases_lt two.0 one.0) [
+        | inl less ↦ absurd (apart two.0 one.0 (number, a) less one.1 (ap (λ (k : ℕ × ℕ). k.0) there ∙ sym (ap (λ (k : ℕ × ℕ). k.0) one.2)))
+        | inr least ↦ let same : one.0 ≡ two.0 = omega (arith, most, least) in ap (λ (k : ℕ × ℕ). k.1) (sym one.2 ∙ ap (λ n. get_or ks n (number, a)) same ∙ there)
+      ]
+    ]
 
 -- ---- what each call does to the keys
 
@@ -231,3 +251,47 @@ regrade_busy d number p seen within e = busy_by (task_of d number) refl e
     busy_by : (o : Option Task) → task_of d number ≡ o → regrade_reply d p None o ≡ Busy seen → LacksRoomToChange d number p.bw seen
     busy_by None is k = absurd cc
     busy_by (Some t) is k = busy_if t (ltb (cap d.cpus d.limit) (sum_of d.tasks - t.params.bw + p.bw)) is refl k
+
+-- ---- what is kept beside the tasks, one item for each in their order
+
+-- a number has an item where its task is listed
+pub beside_listed : {X : Type 0} (key : X → ℕ × ℕ) (xs : List X) (tasks : List Task) (number : ℕ) → map key xs ≡ keys tasks → list_any (λ x. eqb (key x).0 number) xs ≡ has_task tasks number
+beside_listed {X = X} key xs tasks number same = any_by xs ∙ ap (λ ks. list_any (λ (k : ℕ × ℕ). eqb k.0 number) ks) same ∙ sym (kept.has_key tasks number)
+  where
+    any_by : (ys : List X) → list_any (λ x. eqb (key x).0 number) ys ≡ list_any (λ (k : ℕ × ℕ). eqb k.0 number) (map key ys)
+    any_by [] = refl
+    any_by (y ∷ ys) = ap (λ b. eqb (key y).0 number || b) (any_by ys)
+
+-- after ticks: the items of the tasks that have a view still
+pub beside_kept : {X : Type 0} (key : X → ℕ × ℕ) (xs : List X) (before : List Task) (d : Domain) → map key xs ≡ keys before → AreKept before d.tasks → map key (filter (λ x. is_some (view_in d (key x).0)) xs) ≡ keys d.tasks
+beside_kept {X = X} key xs before d same is = left xs ∙ ap (λ ks. left_of ks d.tasks) same ∙ sym is
+  where
+    left : (ys : List X) → map key (filter (λ x. is_some (view_in d (key x).0)) ys) ≡ left_of (map key ys) d.tasks
+    left [] = refl
+    left (y ∷ ys) =
+        let there = filter (λ x. is_some (view_in d (key x).0)) ys in
+        ap (λ b. map key (cond b (y ∷ there) there)) (view_where_listed d (key y).0)
+        ∙ elim (has_task d.tasks (key y).0) as (λ b. map key (cond b (y ∷ there) there) ≡ cond b (key y ∷ left_of (map key ys) d.tasks) (left_of (map key ys) d.tasks)) [ true ↦ ap (λ ks. key y ∷ ks) (left ys) | false ↦ left ys ]
+
+-- the first of some keys is not that of another
+first_apart : (k : ℕ × ℕ) (front back : List (ℕ × ℕ)) (number bw : ℕ) → AllPairs (λ l m. l.0 ≢ m.0) (k ∷ (front ++ (number, bw) ∷ back)) → k.0 ≢ number
+first_apart k front back number bw apart =
+    let others : All (λ m. k.0 ≢ m.0) (front ++ (number, bw) ∷ back) = λ j e h. apart zero (suc j) e (omega arith) (omega arith) in
+    all_between (λ m. k.0 ≢ m.0) front (number, bw) back others
+  where
+    all_between : (P : ℕ × ℕ → Type 0) (xs : List (ℕ × ℕ)) (x : ℕ × ℕ) (ys : List (ℕ × ℕ)) → All P (xs ++ x ∷ ys) → P x
+    all_between P [] x ys all = all zero x (omega arith)
+    all_between P (y ∷ xs) x ys all = all_between P xs x ys (λ j e h. all (suc j) e (omega arith))
+
+-- after a regrade: the one item of the number
+pub with_bw_between : (number old bw : ℕ) (front back : List (ℕ × ℕ)) → AllPairs (λ k l. k.0 ≢ l.0) (front ++ (number, old) ∷ back) → map (with_bw number bw) (front ++ (number, old) ∷ back) ≡ front ++ (number, bw) ∷ back
+with_bw_between number old bw [] back apart = with_bw_at number bw ((number, old) ∷ back) 0 (number, old) apart (omega arith) refl
+with_bw_between number old bw (k ∷ front) back apart =
+    let rest : AllPairs (λ l m. l.0 ≢ m.0) (front ++ (number, old) ∷ back) = λ j n e less inside. apart (suc j) (suc n) e (omega arith) (omega arith) in
+    let other : eqb k.0 number ≡ false = ne_eqb k.0 number (first_apart k front back number old apart) in
+    ap (λ b. cond b (k.0, bw) k ∷ map (with_bw number bw) (front ++ (number, old) ∷ back)) other ∙ ap (λ ls. k ∷ ls) (with_bw_between number old bw front back rest)
+
+-- the sum of the domain is that of the keys
+pub sum_of_keys : (tasks : List Task) → sum_of tasks ≡ sum_by (λ k. k.1) (keys tasks)
+sum_of_keys [] = refl
+sum_of_keys (t ∷ tasks) = omega (arith, sum_by-cons (λ (s : Share). s.bw) (share_of t) (shares tasks), sum_by-cons (λ (k : ℕ × ℕ). k.1) (key_of t) (keys tasks), sum_of_keys tasks)

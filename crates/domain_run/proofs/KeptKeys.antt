@@ -52,7 +52,7 @@ filter_map_keys p (t ∷ tasks) =
     ]
 
 -- a number is listed where its key is
-has_key : (tasks : List Task) (number : ℕ) → has_task tasks number ≡ list_any (λ k. eqb k.0 number) (keys tasks)
+pub has_key : (tasks : List Task) (number : ℕ) → has_task tasks number ≡ list_any (λ k. eqb k.0 number) (keys tasks)
 has_key [] number = refl
 has_key (t ∷ tasks) number = ap (λ b. eqb t.number number || b) (has_key tasks number)
 
