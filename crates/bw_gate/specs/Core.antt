@@ -67,7 +67,8 @@ Everywhere cap word Fact = (id : ℕ) (c : DomainView) → c.cap ≡ cap → c.w
 pub record IsCoreTaken (b : BlankView) (d bw : ℕ) (t : TicketView) : Type 0 where
   pub seen : ℕ
   pub found : t.found ≡ b.found ++ seen ∷ seen ∷ []
-  pub core : Everywhere (cap_of b.gate d) seen (λ id c. taken id bw seen c ≡ done (with_taken id t.bw c))
+  pub core : Everywhere (cap_of b.gate d) seen
+      (λ id c. taken id bw seen c ≡ done (with_taken id t.bw c))
 
 abbrev pub IsCoreTake : BlankView → ℕ → ℕ → Take → Type 0
 IsCoreTake b d bw (takes.Taken t) = IsCoreTaken b d bw t
@@ -96,7 +97,8 @@ IsCoreRegrade t bw (regrades.Raced u expected seen) =
 pub record IsCoreGive (t : TicketView) (b : BlankView) : Type 0 where
   pub seen : ℕ
   pub found : b.found ≡ t.found ++ seen ∷ []
-  pub core : (id : ℕ) (c : DomainView) → c.word ≡ seen → in_hand_of id c ≡ Some (record { id = id; bw = t.bw })
+  pub core : (id : ℕ) (c : DomainView) → c.word ≡ seen
+      → in_hand_of id c ≡ Some (record { id = id; bw = t.bw })
       → given id c ≡ done (with_given id t.bw c)
 
 -- what the core's Load answers, at whatever domain has the word that the step found: it changes nothing
@@ -107,11 +109,13 @@ pub record IsCoreLoad (t : TicketView) (n : ℕ) (u : TicketView) : Type 0 where
 -- a try of the gate answers as the core does
 abbrev pub TakesAsTheCore : Type 0
 TakesAsTheCore =
-    (b : BlankView) (d bw : ℕ) (answer : Take) → IsTryOfTake b d bw answer → IsCoreTake b d bw answer
+    (b : BlankView) (d bw : ℕ) (answer : Take)
+    → IsTryOfTake b d bw answer → IsCoreTake b d bw answer
 
 abbrev pub RegradesAsTheCore : Type 0
 RegradesAsTheCore =
-    (t : TicketView) (bw : ℕ) (answer : Regrade) → IsTryOfRegrade t bw answer → IsCoreRegrade t bw answer
+    (t : TicketView) (bw : ℕ) (answer : Regrade)
+    → IsTryOfRegrade t bw answer → IsCoreRegrade t bw answer
 
 -- give and load do as the core does
 abbrev pub GivesAsTheCore : Type 0

@@ -30,12 +30,16 @@ module _ {S : Type 0} where
   -- and of the bandwidth that the word gained
   abbrev pub Takes : Step S → Me S View → ℕ → Me S View → Type 0
   Takes s me n after =
-      MatchBool (n == s.first) (after ≡ (made (Ticket s.word (s.second - s.first)) n me.0, me.1)) (after ≡ (told n me.0, me.1))
+      MatchBool (n == s.first)
+      (after ≡ (made (Ticket s.word (s.second - s.first)) n me.0, me.1))
+      (after ≡ (told n me.0, me.1))
 
   -- regrade: likewise; the ticket keeps its domain, and has the bandwidth that it had and what the word gained or lost
   abbrev pub Regrades : Step S → Me S View → ℕ → Me S View → Type 0
   Regrades s me n after =
-      MatchBool (n == s.first) (after ≡ (made (Ticket s.word (s.second + held_by s.word me.0 - s.first)) n me.0, me.1)) (after ≡ (told n me.0, me.1))
+      MatchBool (n == s.first)
+      (after ≡ (made (Ticket s.word (s.second + held_by s.word me.0 - s.first)) n me.0, me.1))
+      (after ≡ (told n me.0, me.1))
 
   -- give: fetch_sub of the ticket's bandwidth; it has become a blank
   abbrev pub Gives : Step S → Me S View → ℕ → Me S View → Type 0

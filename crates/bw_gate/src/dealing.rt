@@ -20,7 +20,10 @@ pub(crate) fn deal(
     requires pieces { n ≡ shared.now.key.pieces }
     requires seat { (seat.table_id ≡ shared.now.table_id) × (seat.me ≡ (opened shared.now.key, [])) }
     requires room { (blanks.old.items ≡ []) × (n ≤ vec_capacity blanks.old) }
-    ensures { blanks.new.items ≡ replicate n (record { gate = record { table = shared.now.table_id; terms = shared.now.key }; found = [] }) }
+    ensures { blanks.new.items ≡ replicate n (record {
+      gate = record { table = shared.now.table_id; terms = shared.now.key };
+      found = [];
+    }) }
 {
     while blanks.len() < n {
         let seat = shared.split_seat::<Deal>(&mut seat);
@@ -35,9 +38,12 @@ pub(crate) fn gather_blanks(
     mut blanks: Vec<Blank>,
 )
     requires words { 0 < shared.now.table_id.words }
-    requires seat { (seat.old.table_id ≡ shared.now.table_id) × (seat.old.me.1 ≡ []) × (seat.old.me.0.terms ≡ shared.now.key) }
-    requires own { All (λ b. b.gate ≡ record { table = shared.now.table_id; terms = shared.now.key }) blanks.items }
-    ensures seat { (seat.new.table_id ≡ seat.old.table_id) × (seat.new.id ≡ seat.old.id) × (seat.new.me.1 ≡ []) × (seat.new.me.0.terms ≡ shared.now.key) }
+    requires seat { (seat.old.table_id ≡ shared.now.table_id)
+        × (seat.old.me.1 ≡ []) × (seat.old.me.0.terms ≡ shared.now.key) }
+    requires own { All (λ b.
+        b.gate ≡ record { table = shared.now.table_id; terms = shared.now.key }) blanks.items }
+    ensures seat { (seat.new.table_id ≡ seat.old.table_id) × (seat.new.id ≡ seat.old.id)
+        × (seat.new.me.1 ≡ []) × (seat.new.me.0.terms ≡ shared.now.key) }
     ensures held { (d : ℕ) → held_by d seat.new.me.0 ≡ held_by d seat.old.me.0 }
     ensures count { length seat.new.me.0.pieces ≡ length seat.old.me.0.pieces + length blanks.items }
 {
@@ -57,9 +63,12 @@ pub(crate) fn gather_tickets(
     mut tickets: Vec<Ticket>,
 )
     requires words { 0 < shared.now.table_id.words }
-    requires seat { (seat.old.table_id ≡ shared.now.table_id) × (seat.old.me.1 ≡ []) × (seat.old.me.0.terms ≡ shared.now.key) }
-    requires own { All (λ t. t.gate ≡ record { table = shared.now.table_id; terms = shared.now.key }) tickets.items }
-    ensures seat { (seat.new.table_id ≡ seat.old.table_id) × (seat.new.id ≡ seat.old.id) × (seat.new.me.1 ≡ []) × (seat.new.me.0.terms ≡ shared.now.key) }
+    requires seat { (seat.old.table_id ≡ shared.now.table_id)
+        × (seat.old.me.1 ≡ []) × (seat.old.me.0.terms ≡ shared.now.key) }
+    requires own { All (λ t.
+        t.gate ≡ record { table = shared.now.table_id; terms = shared.now.key }) tickets.items }
+    ensures seat { (seat.new.table_id ≡ seat.old.table_id) × (seat.new.id ≡ seat.old.id)
+        × (seat.new.me.1 ≡ []) × (seat.new.me.0.terms ≡ shared.now.key) }
     ensures held { (d : ℕ) → held_by d seat.new.me.0 ≡ held_by d seat.old.me.0 + sum_of d tickets.items }
     ensures count { length seat.new.me.0.pieces ≡ length seat.old.me.0.pieces + length tickets.items }
 {
@@ -78,7 +87,8 @@ pub(crate) fn gather_tickets(
 /// The words of a closed table, and zeros behind.
 pub(crate) fn words_of(closed: &Closed<(), Global>, count: usize) -> [u64; DOMAINS]
     requires full { IsFull closed.now.words }
-    requires count { (count ≡ slots_len closed.now.words) × (count ≡ length (slots_items closed.now.words)) × (count ≤ 8) }
+    requires count { (count ≡ slots_len closed.now.words)
+        × (count ≡ length (slots_items closed.now.words)) × (count ≤ 8) }
     ensures { (d : ℕ) → slice_index result d ≡ slice_index (slots_items closed.now.words) d }
 {
     let mut word = [0; DOMAINS];

@@ -31,7 +31,10 @@ impl Model for Gate {
 
     ghost view = { λ g. record { table = g.table.shared.table_id; terms = g.terms } };
 
-    ghost invariant = { λ g. (g.table.shared.key ≡ g.terms) × (g.table.shared.table_id.words ≡ length g.terms.caps) × AreTerms g.terms × (g.table.shared.table_id.slots ≡ 0) };
+    ghost invariant = { λ g. (g.table.shared.key ≡ g.terms)
+        × (g.table.shared.table_id.words ≡ length g.terms.caps)
+        × AreTerms g.terms
+        × (g.table.shared.table_id.slots ≡ 0) };
 }
 
 impl Gate {
@@ -47,7 +50,8 @@ impl Gate {
     pub fn open(alloc: Global, caps: &[u64], n: usize) -> Result<(Gate, Vec<Blank>), NoMemory>
         requires { AreTerms (record { caps = caps.now; pieces = n }) }
         ensures gate { IfOk result (λ r. r.0.terms ≡ record { caps = caps.now; pieces = n }) }
-        ensures blanks { IfOk result (λ r. r.1.items ≡ replicate n (record { gate = r.0; found = [] })) }
+        ensures blanks { IfOk result (λ r.
+            r.1.items ≡ replicate n (record { gate = r.0; found = [] })) }
     {
         let terms = Terms::new(caps, n);
         let mut blanks = Vec::with_capacity(alloc, n)?;
@@ -66,7 +70,8 @@ impl Gate {
         ensures behind { (d : ℕ) → length self.terms.caps ≤ d → slice_index result.word d ≡ 0 }
         ensures room { (d : ℕ) → sum_of d tickets.items ≤ slice_index result.word d }
         ensures capped { (d : ℕ) → slice_index result.word d ≤ cap_of self d }
-        ensures exact { length blanks.items + length tickets.items ≡ self.terms.pieces → (d : ℕ) → slice_index result.word d ≡ sum_of d tickets.items }
+        ensures exact { length blanks.items + length tickets.items ≡ self.terms.pieces →
+            (d : ℕ) → slice_index result.word d ≡ sum_of d tickets.items }
     {
         let Gate { table, terms } = self;
         let (_, mut seat) = table.shared.load_new_seat::<view::Come>(0);

@@ -17,9 +17,14 @@ impl Model for Blank {
 
     ghost Value = { BlankView };
 
-    ghost view = { λ b. record { gate = record { table = b.seat.table_id; terms = b.seat.me.0.terms }; found = b.seat.me.0.found } };
+    ghost view = { λ b. record {
+      gate = record { table = b.seat.table_id; terms = b.seat.me.0.terms };
+      found = b.seat.me.0.found;
+    } };
 
-    ghost invariant = { λ b. (b.seat.me.1 ≡ []) × (b.seat.me.0.pieces ≡ blank ∷ []) × (b.last ≡ last_of b.seat.me.0.found) };
+    ghost invariant = { λ b. (b.seat.me.1 ≡ [])
+        × (b.seat.me.0.pieces ≡ blank ∷ [])
+        × (b.last ≡ last_of b.seat.me.0.found) };
 }
 
 /// A piece of a gate that holds bandwidth of a domain's word: the right to a task of that bandwidth. It can be neither
@@ -41,9 +46,18 @@ impl Model for Ticket {
 
     ghost Value = { TicketView };
 
-    ghost view = { λ t. record { gate = record { table = t.seat.table_id; terms = t.seat.me.0.terms }; domain = t.domain; bw = t.bw; found = t.seat.me.0.found } };
+    ghost view = { λ t. record {
+      gate = record { table = t.seat.table_id; terms = t.seat.me.0.terms };
+      domain = t.domain;
+      bw = t.bw;
+      found = t.seat.me.0.found;
+    } };
 
-    ghost invariant = { λ t. (t.seat.me.1 ≡ []) × (t.seat.me.0.pieces ≡ ticket t.domain t.bw ∷ []) × (t.last ≡ last_of t.seat.me.0.found) × (t.domain < length t.seat.me.0.terms.caps) × (t.bw ≤ unit) };
+    ghost invariant = { λ t. (t.seat.me.1 ≡ [])
+        × (t.seat.me.0.pieces ≡ ticket t.domain t.bw ∷ [])
+        × (t.last ≡ last_of t.seat.me.0.found)
+        × (t.domain < length t.seat.me.0.terms.caps)
+        × (t.bw ≤ unit) };
 }
 
 impl Blank {

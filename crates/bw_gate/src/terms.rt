@@ -19,7 +19,8 @@ impl Model for Terms {
 
     ghost view = { λ t. record { caps = take t.count t.caps; pieces = t.pieces } };
 
-    ghost invariant = { λ t. (t.count ≤ 8) × AreTerms (record { caps = take t.count t.caps; pieces = t.pieces }) };
+    ghost invariant = { λ t. (t.count ≤ 8)
+        × AreTerms (record { caps = take t.count t.caps; pieces = t.pieces }) };
 }
 
 impl Terms {

@@ -18,7 +18,8 @@ numbered_with_bw number bw t = if t.number == number then record t { bw = bw } e
 
 -- what one change of the book makes of the admitted tasks, by their numbers alone
 abbrev pub after_change : List Task → Change → List Task
-after_change tasks (Entered number ticket bw) = tasks ++ record { number = number; ticket = ticket; bw = bw } ∷ []
+after_change tasks (Entered number ticket bw) =
+    tasks ++ record { number = number; ticket = ticket; bw = bw } ∷ []
 after_change tasks (Regraded number bw) = map (numbered_with_bw number bw) tasks
 after_change tasks (Released number) = filter (λ t. not (t.number == number)) tasks
 

@@ -19,14 +19,16 @@ one = opened 524288 ∷ []
 
 abbrev steps : List Step
 steps =
-    Load 0 ∷ Take 1 0 262144 0 ∷ Take 2 0 262144 0 ∷ Take 2 0 262144 262144 ∷ Take 3 0 1 524288 ∷ Enter 1 7
-    ∷ Give 1 ∷ Regrade 1 131072 524288 ∷ Release 1 ∷ Give 1 ∷ []
+    Load 0 ∷ Take 1 0 262144 0 ∷ Take 2 0 262144 0 ∷ Take 2 0 262144 262144 ∷ Take 3 0 1 524288
+    ∷ Enter 1 7 ∷ Give 1 ∷ Regrade 1 131072 524288 ∷ Release 1 ∷ Give 1 ∷ []
 
-world_steps_outcomes : outcomes_of steps one ≡ Saw 0 ∷ Done ∷ Lost 262144 ∷ Done ∷ Over 524288 ∷ Done ∷ Not ∷ Done ∷ Done ∷ Done ∷ []
+world_steps_outcomes : outcomes_of steps one
+    ≡ Saw 0 ∷ Done ∷ Lost 262144 ∷ Done ∷ Over 524288 ∷ Done ∷ Not ∷ Done ∷ Done ∷ Done ∷ []
 world_steps_outcomes = refl
 
 world_steps_words : map (words_after steps one) (1 ∷ 2 ∷ 3 ∷ 4 ∷ 5 ∷ 6 ∷ 7 ∷ 8 ∷ 9 ∷ 10 ∷ [])
-    ≡ (0 ∷ []) ∷ (262144 ∷ []) ∷ (262144 ∷ []) ∷ (524288 ∷ []) ∷ (524288 ∷ []) ∷ (524288 ∷ []) ∷ (524288 ∷ []) ∷ (393216 ∷ []) ∷ (393216 ∷ []) ∷ (262144 ∷ []) ∷ []
+    ≡ (0 ∷ []) ∷ (262144 ∷ []) ∷ (262144 ∷ []) ∷ (524288 ∷ []) ∷ (524288 ∷ []) ∷ (524288 ∷ [])
+    ∷ (524288 ∷ []) ∷ (393216 ∷ []) ∷ (393216 ∷ []) ∷ (262144 ∷ []) ∷ []
 world_steps_words = refl
 
 world_steps_end : after steps one ≡ record {
@@ -43,18 +45,31 @@ world_steps_end = refl
 abbrev two : List DomainView
 two = opened 2097152 ∷ opened 1048576 ∷ []
 
-misfits : outcomes_of (Load 2 ∷ Take 1 2 0 0 ∷ Take 1 0 1048577 0 ∷ Take 1 0 1048576 0 ∷ Take 1 1 0 0 ∷ Enter 1 5 ∷ Enter 1 6 ∷ Take 2 0 0 1048576 ∷ Enter 2 5 ∷ Release 2 ∷ Release 1 ∷ Give 1 ∷ Give 1 ∷ Regrade 1 0 0 ∷ []) two
+abbrev misfitting : List Step
+misfitting =
+    Load 2 ∷ Take 1 2 0 0 ∷ Take 1 0 1048577 0 ∷ Take 1 0 1048576 0 ∷ Take 1 1 0 0 ∷ Enter 1 5
+    ∷ Enter 1 6 ∷ Take 2 0 0 1048576 ∷ Enter 2 5 ∷ Release 2 ∷ Release 1 ∷ Give 1 ∷ Give 1
+    ∷ Regrade 1 0 0 ∷ []
+
+misfits : outcomes_of misfitting two
     ≡ Not ∷ Not ∷ Not ∷ Done ∷ Not ∷ Done ∷ Not ∷ Done ∷ Not ∷ Not ∷ Done ∷ Done ∷ Not ∷ Not ∷ []
 misfits = refl
 
 -- Lost before Over, in a Take and in a Regrade; a word equal to the cap is granted; a Regrade may go above one CPU
-refused : outcomes_of (Take 1 0 1048576 0 ∷ Take 2 0 1048577 7 ∷ Take 2 0 1048576 7 ∷ Regrade 1 3000000 7 ∷ Regrade 1 3000000 1048576 ∷ Regrade 1 2097152 1048576 ∷ Regrade 1 2097153 2097152 ∷ Take 2 0 0 2097152 ∷ []) two
+abbrev exchanges : List Step
+exchanges =
+    Take 1 0 1048576 0 ∷ Take 2 0 1048577 7 ∷ Take 2 0 1048576 7 ∷ Regrade 1 3000000 7
+    ∷ Regrade 1 3000000 1048576 ∷ Regrade 1 2097152 1048576 ∷ Regrade 1 2097153 2097152
+    ∷ Take 2 0 0 2097152 ∷ []
+
+refused : outcomes_of exchanges two
     ≡ Done ∷ Not ∷ Lost 1048576 ∷ Lost 1048576 ∷ Over 1048576 ∷ Done ∷ Over 2097152 ∷ Done ∷ []
 refused = refl
 
 -- two tasks of one domain, of which one is given another bandwidth and the other is released
 abbrev book : List Step
-book = Take 8 1 100 0 ∷ Take 9 1 200 100 ∷ Enter 9 4 ∷ Enter 8 3 ∷ Regrade 8 150 300 ∷ Release 9 ∷ []
+book =
+    Take 8 1 100 0 ∷ Take 9 1 200 100 ∷ Enter 9 4 ∷ Enter 8 3 ∷ Regrade 8 150 300 ∷ Release 9 ∷ []
 
 book_end : after book two ≡ opened 2097152 ∷ record {
   cap = 1048576;
@@ -65,5 +80,6 @@ book_end : after book two ≡ opened 2097152 ∷ record {
 } ∷ []
 book_end = refl
 
-book_told : told (Entered 4 9 200 ∷ Entered 3 8 100 ∷ Regraded 3 150 ∷ Released 4 ∷ []) ≡ record { number = 3; ticket = 8; bw = 150 } ∷ []
+book_told : told (Entered 4 9 200 ∷ Entered 3 8 100 ∷ Regraded 3 150 ∷ Released 4 ∷ [])
+    ≡ record { number = 3; ticket = 8; bw = 150 } ∷ []
 book_told = refl

@@ -11,7 +11,8 @@ use Rattle.bw_world.specs.WorldStep.{stepped, after}
 abbrev pub lengthens : Step → List DomainView → Bool
 lengthens (Load k) domains = false
 lengthens (Take id k bw expected) domains = true
-lengthens (Regrade id bw expected) domains = list_any (λ d. list_any (λ t. t.ticket == id) d.admitted) domains
+lengthens (Regrade id bw expected) domains =
+    list_any (λ d. list_any (λ t. t.ticket == id) d.admitted) domains
 lengthens (Give id) domains = false
 lengthens (Enter id number) domains = true
 lengthens (Release id) domains = true

@@ -1,6 +1,6 @@
 pub mod WorldView
 pub mod DomainStep
 pub mod WorldStep
-pub mod Growing
 pub mod ExactWord
+pub mod Growing
 pub mod Examples

@@ -31,7 +31,8 @@ misfit domains = record { domains = domains; outcome = Not }
 
 abbrev pub at_found : List DomainView → ℕ → (DomainView → DomainStep) → Option DomainView → WorldStep
 at_found domains k rule None = misfit domains
-at_found domains k rule (Some d) = record { domains = slice_set domains k (rule d).domain; outcome = (rule d).outcome }
+at_found domains k rule (Some d) =
+    record { domains = slice_set domains k (rule d).domain; outcome = (rule d).outcome }
 
 -- a step within the domain of this index, which fits where there is one
 abbrev pub at_domain : List DomainView → ℕ → (DomainView → DomainStep) → WorldStep
@@ -67,4 +68,5 @@ after (s ∷ steps) domains = after steps (stepped s domains).domains
 -- the answer to each step
 abbrev pub outcomes_of : List Step → List DomainView → List Outcome
 outcomes_of [] domains = []
-outcomes_of (s ∷ steps) domains = (stepped s domains).outcome ∷ outcomes_of steps (stepped s domains).domains
+outcomes_of (s ∷ steps) domains =
+    (stepped s domains).outcome ∷ outcomes_of steps (stepped s domains).domains

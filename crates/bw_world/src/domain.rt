@@ -23,7 +23,13 @@ impl Model for Domain {
 
     ghost Value = { DomainView };
 
-    ghost view = { λ d. record { cap = d.cap; word = d.word; in_hand = d.in_hand.items; admitted = d.admitted.items; changes = d.changes.items } };
+    ghost view = { λ d. record {
+      cap = d.cap;
+      word = d.word;
+      in_hand = d.in_hand.items;
+      admitted = d.admitted.items;
+      changes = d.changes.items;
+    } };
 }
 
 impl Domain {
@@ -99,7 +105,8 @@ impl Domain {
     /// Takes a new ticket.
     pub fn take(&mut self, id: u64, bw: u64, expected: u64) -> Result<Outcome, NoMemory>
         requires { self.old.word ≤ self.old.cap }
-        ensures outcome { IfOk result (λ outcome. outcome ≡ (taken id bw expected self.old).outcome) }
+        ensures outcome { IfOk result (λ outcome.
+            outcome ≡ (taken id bw expected self.old).outcome) }
         ensures domain { OnOk result (self.new ≡ (taken id bw expected self.old).domain) }
         ensures err { OnErr result (self.new ≡ self.old) }
         ensures err_only { OnErr result ((taken id bw expected self.old).outcome ≡ Done) }
@@ -139,10 +146,13 @@ impl Domain {
     ) -> Result<Outcome, NoMemory>
         requires held { task.bw ≤ self.old.word }
         requires capped { self.old.word ≤ self.old.cap }
-        ensures outcome { IfOk result (λ outcome. outcome ≡ (regraded_admitted id task bw expected self.old).outcome) }
-        ensures domain { OnOk result (self.new ≡ (regraded_admitted id task bw expected self.old).domain) }
+        ensures outcome { IfOk result (λ outcome.
+            outcome ≡ (regraded_admitted id task bw expected self.old).outcome) }
+        ensures domain { OnOk result (
+            self.new ≡ (regraded_admitted id task bw expected self.old).domain) }
         ensures err { OnErr result (self.new ≡ self.old) }
-        ensures err_only { OnErr result ((regraded_admitted id task bw expected self.old).outcome ≡ Done) }
+        ensures err_only { OnErr result (
+            (regraded_admitted id task bw expected self.old).outcome ≡ Done) }
     {
         let rest = self.word - task.bw;
         if let Some(refusal) = self.refusal(expected, rest, bw) {
@@ -163,11 +173,13 @@ impl Domain {
     #[tactic(auto, using(crate::proofs::Counted::found_any))]
     pub fn regrade(&mut self, id: u64, bw: u64, expected: u64) -> Result<Outcome, NoMemory>
         requires { IsExactDomain self.old }
-        ensures outcome { IfOk result (λ outcome. outcome ≡ (regraded id bw expected self.old).outcome) }
+        ensures outcome { IfOk result (λ outcome.
+            outcome ≡ (regraded id bw expected self.old).outcome) }
         ensures domain { OnOk result (self.new ≡ (regraded id bw expected self.old).domain) }
         ensures err { OnErr result (self.new ≡ self.old) }
         ensures err_only { OnErr result ((regraded id bw expected self.old).outcome ≡ Done) }
-        ensures err_admitted { OnErr result (IsTrue (list_any (λ t. t.ticket == id) self.old.admitted)) }
+        ensures err_admitted { OnErr result (
+            IsTrue (list_any (λ t. t.ticket == id) self.old.admitted)) }
     {
         if let Some(ticket) = self.in_hand_of(id) {
             return Ok(self.regrade_in_hand(id, ticket.bw, bw, expected));
@@ -209,7 +221,8 @@ impl Domain {
 
     // Puts a ticket in hand, of the bandwidth `bw`, into a task.
     fn enter_with(&mut self, id: u64, number: u32, bw: u64) -> Result<Outcome, NoMemory>
-        ensures outcome { IfOk result (λ outcome. outcome ≡ (entered_with id number bw self.old).outcome) }
+        ensures outcome { IfOk result (λ outcome.
+            outcome ≡ (entered_with id number bw self.old).outcome) }
         ensures domain { OnOk result (self.new ≡ (entered_with id number bw self.old).domain) }
         ensures err { OnErr result (self.new ≡ self.old) }
         ensures err_only { OnErr result ((entered_with id number bw self.old).outcome ≡ Done) }

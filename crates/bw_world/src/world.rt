@@ -52,8 +52,10 @@ impl World {
     /// Applies one step. After an `Err` the world is as it was; it comes only where a step that would be done wants room
     /// for a ticket, a task or a change of the book.
     pub fn apply(&mut self, step: Step) -> Result<Outcome, NoMemory>
-        ensures outcome { IfOk result (λ outcome. outcome ≡ (stepped step self.old.domains).outcome) }
-        ensures world { OnOk result (self.new ≡ record self.old { domains = (stepped step self.old.domains).domains }) }
+        ensures outcome { IfOk result (λ outcome.
+            outcome ≡ (stepped step self.old.domains).outcome) }
+        ensures world { OnOk result (
+            self.new ≡ record self.old { domains = (stepped step self.old.domains).domains }) }
         ensures err { OnErr result (self.new ≡ self.old) }
         ensures err_only { OnErr result (IsGrowing step self.old.domains) }
         ensures exact { IsExact self.new.domains }
@@ -65,7 +67,8 @@ impl World {
     /// step. After an `Err` a beginning of the steps is applied, of [`World::applied`] steps: none where there was no room
     /// for the answers, else those before the step whose growth was refused.
     pub fn run_all(&mut self, steps: &[Step]) -> Result<Vec<Outcome>, NoMemory>
-        ensures outcomes { IfOk result (λ outcomes. outcomes.items ≡ outcomes_of steps.now self.old.domains) }
+        ensures outcomes { IfOk result (λ outcomes.
+            outcomes.items ≡ outcomes_of steps.now self.old.domains) }
         ensures all { OnOk result (self.new.applied ≡ length steps.now) }
         ensures beginning { self.new.applied ≤ length steps.now }
         ensures world { self.new.domains ≡ after (take self.new.applied steps.now) self.old.domains }
@@ -86,7 +89,8 @@ impl World {
 
     /// The changes of a domain's book, oldest first; none where there is no such domain.
     pub fn changes(&self, domain: usize) -> Option<&[Change]>
-        ensures { MatchOption result (length self.now.domains ≤ domain) (λ changes. IsSomeAnd (slice_get self.now.domains domain) (λ d. changes.now ≡ d.changes)) }
+        ensures { MatchOption result (length self.now.domains ≤ domain) (λ changes.
+            IsSomeAnd (slice_get self.now.domains domain) (λ d. changes.now ≡ d.changes)) }
     {
         match self.domains.get(domain) {
             Some(d) => Some(d.changes()),

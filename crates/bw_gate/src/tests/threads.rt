@@ -77,19 +77,24 @@ fn four<R: Threads + Wait + Sync>(
     d: Blank,
 ) -> ((Take, Take), (Take, Take))
     requires some { 0 < length gate.now.terms.caps }
-    requires own { (a.gate ≡ gate.now) × (b.gate ≡ gate.now) × (c.gate ≡ gate.now) × (d.gate ≡ gate.now) }
+    requires own { (a.gate ≡ gate.now) × (b.gate ≡ gate.now) × (c.gate ≡ gate.now)
+        × (d.gate ≡ gate.now) }
     ensures first { IsQuarterTaken gate.now result.0.0 × IsQuarterTaken gate.now result.0.1 }
     ensures second { IsQuarterTaken gate.now result.1.0 × IsQuarterTaken gate.now result.1.1 }
 {
     join(
         rt,
         move || -> (Take, Take)
-            requires { (a.gate ≡ gate.now) × (b.gate ≡ gate.now) × (0 < length gate.now.terms.caps) }
-            ensures { IsQuarterTaken gate.entry.now result.0 × IsQuarterTaken gate.entry.now result.1 }
+            requires { (a.gate ≡ gate.now) × (b.gate ≡ gate.now)
+                × (0 < length gate.now.terms.caps) }
+            ensures { IsQuarterTaken gate.entry.now result.0
+                × IsQuarterTaken gate.entry.now result.1 }
         { two(rt, gate, here, a, b) },
         move || -> (Take, Take)
-            requires { (c.gate ≡ gate.now) × (d.gate ≡ gate.now) × (0 < length gate.now.terms.caps) }
-            ensures { IsQuarterTaken gate.entry.now result.0 × IsQuarterTaken gate.entry.now result.1 }
+            requires { (c.gate ≡ gate.now) × (d.gate ≡ gate.now)
+                × (0 < length gate.now.terms.caps) }
+            ensures { IsQuarterTaken gate.entry.now result.0
+                × IsQuarterTaken gate.entry.now result.1 }
         { two(rt, gate, here, c, d) },
     )
 }
@@ -104,8 +109,10 @@ fn eight<R: Threads + Wait + Sync + Abort>(
 )
     requires some { 0 < length gate.now.terms.caps }
     requires from { All (λ b. b.gate ≡ gate.now) from.items }
-    requires blanks { (blanks.old.items ≡ []) × (vec_len blanks.old ≡ 0) × (8 ≤ vec_capacity blanks.old) }
-    requires tickets { (tickets.old.items ≡ []) × (vec_len tickets.old ≡ 0) × (8 ≤ vec_capacity tickets.old) }
+    requires blanks { (blanks.old.items ≡ []) × (vec_len blanks.old ≡ 0)
+        × (8 ≤ vec_capacity blanks.old) }
+    requires tickets { (tickets.old.items ≡ []) × (vec_len tickets.old ≡ 0)
+        × (8 ≤ vec_capacity tickets.old) }
     ensures blanks { All (λ b. b.gate ≡ gate.now) blanks.new.items }
     ensures tickets { All (IsQuarter gate.now) tickets.new.items }
 {
@@ -122,14 +129,20 @@ fn eight<R: Threads + Wait + Sync + Abort>(
     let (west, east) = join(
         rt,
         move || -> ((Take, Take), (Take, Take))
-            requires { (a.gate ≡ gate.now) × (b.gate ≡ gate.now) × (c.gate ≡ gate.now) × (d.gate ≡ gate.now) × (0 < length gate.now.terms.caps) }
-            ensures first { IsQuarterTaken gate.entry.now result.0.0 × IsQuarterTaken gate.entry.now result.0.1 }
-            ensures second { IsQuarterTaken gate.entry.now result.1.0 × IsQuarterTaken gate.entry.now result.1.1 }
+            requires { (a.gate ≡ gate.now) × (b.gate ≡ gate.now) × (c.gate ≡ gate.now)
+                × (d.gate ≡ gate.now) × (0 < length gate.now.terms.caps) }
+            ensures first { IsQuarterTaken gate.entry.now result.0.0
+                × IsQuarterTaken gate.entry.now result.0.1 }
+            ensures second { IsQuarterTaken gate.entry.now result.1.0
+                × IsQuarterTaken gate.entry.now result.1.1 }
         { four(rt, gate, here, a, b, c, d) },
         move || -> ((Take, Take), (Take, Take))
-            requires { (e.gate ≡ gate.now) × (f.gate ≡ gate.now) × (g.gate ≡ gate.now) × (h.gate ≡ gate.now) × (0 < length gate.now.terms.caps) }
-            ensures first { IsQuarterTaken gate.entry.now result.0.0 × IsQuarterTaken gate.entry.now result.0.1 }
-            ensures second { IsQuarterTaken gate.entry.now result.1.0 × IsQuarterTaken gate.entry.now result.1.1 }
+            requires { (e.gate ≡ gate.now) × (f.gate ≡ gate.now) × (g.gate ≡ gate.now)
+                × (h.gate ≡ gate.now) × (0 < length gate.now.terms.caps) }
+            ensures first { IsQuarterTaken gate.entry.now result.0.0
+                × IsQuarterTaken gate.entry.now result.0.1 }
+            ensures second { IsQuarterTaken gate.entry.now result.1.0
+                × IsQuarterTaken gate.entry.now result.1.1 }
         { four(rt, gate, here, e, f, g, h) },
     );
     let ((a, b), (c, d)) = west;
@@ -147,11 +160,14 @@ fn eight<R: Threads + Wait + Sync + Abort>(
 // Puts what a client has at its end into one of two lists that have room.
 fn sort(gate: &Gate, answer: Take, blanks: &mut Vec<Blank>, tickets: &mut Vec<Ticket>)
     requires answer { IsQuarterTaken gate.now answer }
-    requires room { (vec_len blanks.old < vec_capacity blanks.old) × (vec_len tickets.old < vec_capacity tickets.old) }
+    requires room { (vec_len blanks.old < vec_capacity blanks.old)
+        × (vec_len tickets.old < vec_capacity tickets.old) }
     requires blanks { All (λ b. b.gate ≡ gate.now) blanks.old.items }
     requires tickets { All (IsQuarter gate.now) tickets.old.items }
-    ensures room { (vec_capacity blanks.new ≡ vec_capacity blanks.old) × (vec_capacity tickets.new ≡ vec_capacity tickets.old) }
-    ensures len { (vec_len blanks.new ≤ vec_len blanks.old + 1) × (vec_len tickets.new ≤ vec_len tickets.old + 1) }
+    ensures room { (vec_capacity blanks.new ≡ vec_capacity blanks.old)
+        × (vec_capacity tickets.new ≡ vec_capacity tickets.old) }
+    ensures len { (vec_len blanks.new ≤ vec_len blanks.old + 1)
+        × (vec_len tickets.new ≤ vec_len tickets.old + 1) }
     ensures blanks { All (λ b. b.gate ≡ gate.now) blanks.new.items }
     ensures tickets { All (IsQuarter gate.now) tickets.new.items }
 {
