@@ -47,18 +47,6 @@ fn first_wrong<'a>(
     Ok(None)
 }
 
-/// So many members of a key and its number, each of this value.
-fn many(alloc: Global, key: &str, value: &str, count: u64) -> Result<String, AllocError> {
-    let mut text = String::new(alloc);
-    for i in 0..count {
-        if i > 0 {
-            text.push_str(",")?;
-        }
-        write!(text, "\"{key}{i}\":{value}")?;
-    }
-    Ok(text)
-}
-
 #[test]
 fn member_order(rt: HostRuntime) -> Result<(), Fail> {
     let text = given(

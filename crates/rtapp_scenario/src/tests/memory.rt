@@ -13,18 +13,15 @@ fn is_told(alloc: Global, text: &str, answer: &str) -> bool {
 }
 
 /// Every part of a scenario that takes memory.
-#[test]
-fn the_scenario_or_memory(rt: HostRuntime) {
-    let text =
-        r#"{"tasks":{"p":{"policy":"SCHED_DEADLINE","dl-runtime":5,"instance":2,"cpus":[1,0],"phases":{"a":{"loop":2,"run":3,"sleep":7},"b":{"timer":{"ref":"unique","period":9}}}},"q":{"policy":"SCHED_DEADLINE","dl-runtime":6,"run":1}},"global":{"duration":1}}"#;
-    let answer = "[Run(1)] }] } }] }";
-    assert!(rt; is_told(rt.alloc(), text, answer));
-}
+const MADE: &str =
+    r#"{"tasks":{"p":{"policy":"SCHED_DEADLINE","dl-runtime":5,"instance":2,"cpus":[1,0],"phases":{"a":{"loop":2,"run":3,"sleep":7},"b":{"timer":{"ref":"unique","period":9}}}},"q":{"policy":"SCHED_DEADLINE","dl-runtime":6,"run":1}},"global":{"duration":1}}"#;
 
 /// A fault behind tasks that are made.
+const REFUSED: &str =
+    r#"{"tasks":{"p":{"policy":"SCHED_DEADLINE","dl-runtime":5,"instance":2,"cpus":[1,0],"run":3},"q":{"policy":"SCHED_DEADLINE","run":1,"dl-runtime":-1}},"global":{"duration":1}}"#;
+
 #[test]
-fn the_fault_or_memory(rt: HostRuntime) {
-    let text =
-        r#"{"tasks":{"p":{"policy":"SCHED_DEADLINE","dl-runtime":5,"instance":2,"cpus":[1,0],"run":3},"q":{"policy":"SCHED_DEADLINE","run":1,"dl-runtime":-1}},"global":{"duration":1}}"#;
-    assert!(rt; is_told(rt.alloc(), text, "scenario 23 key dl-runtime"));
+fn the_answer_or_memory(rt: HostRuntime) {
+    assert!(rt; is_told(rt.alloc(), MADE, "[Run(1)] }] } }] }"));
+    assert!(rt; is_told(rt.alloc(), REFUSED, "scenario 23 key dl-runtime"));
 }

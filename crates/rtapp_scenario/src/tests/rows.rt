@@ -73,13 +73,6 @@ const OF_TIMES: &str = r#""priority":1 => scenario 23 key dl-runtime
 "dl-deadline":7,"dl-period":0,"dl-runtime":5 => runtime: 5000, deadline: 7000, period: 0 }
 "dl-runtime":5,"dl-deadline":9000000000000001 => scenario 23 key dl-deadline"#;
 
-#[test]
-fn policy_and_times(rt: HostRuntime) -> Result<(), Fail> {
-    assert_eq!(rt; first_wrong(rt.alloc(), THREAD, MISSING, END)?, None);
-    assert_eq!(rt; first_wrong(rt.alloc(), TIMES, OF_TIMES, END)?, None);
-    Ok(())
-}
-
 const KEYS: &str = r#""run":1,"instance":0 => scenario 23 key instance
 "run":1,"instance":256 => number: 256, name: Name { text: "a-255" }
 "run":1,"instance":257 => scenario 23 key instance
@@ -135,14 +128,6 @@ const PHASES: &str = r#""phases":[] => scenario 23 key phases
 "run":0,"phases":7 => scenario 22 key phases
 "delay":0 => scenario 27"#;
 
-#[test]
-fn keys_of_a_thread(rt: HostRuntime) -> Result<(), Fail> {
-    assert_eq!(rt; first_wrong(rt.alloc(), TASK, KEYS, END)?, None);
-    assert_eq!(rt; first_wrong(rt.alloc(), TASK, EVENTS, END)?, None);
-    assert_eq!(rt; first_wrong(rt.alloc(), TASK, PHASES, END)?, None);
-    Ok(())
-}
-
 /// A root of these threads.
 const THREADS: &str = r#"{"global":{"duration":1},"tasks":{"#;
 
@@ -156,16 +141,45 @@ const NAMED: &str =
 "a":{"policy":"SCHED_DEADLINE","dl-runtime":5,"timer":{"ref":"","period":1}},"b":{"policy":"SCHED_DEADLINE","dl-runtime":5,"timer":{"ref":"t","period":1}} => number: 2, name: Name { text: "b" },
 "a":{"policy":"SCHED_DEADLINE","dl-runtime":5,"run":1,"instance":256},"b":{"policy":"SCHED_DEADLINE","dl-runtime":5,"run":1} => scenario 26"#;
 
+/// The first wrong row of all these tables.
+fn first_wrong_of_all(alloc: Global) -> Result<Option<&'static str>, AllocError> {
+    for (front, rows, end) in [
+        (THREAD, MISSING, END),
+        (TIMES, OF_TIMES, END),
+        (TASK, KEYS, END),
+        (TASK, EVENTS, END),
+        (TASK, PHASES, END),
+        (THREADS, NAMED, "}}"),
+    ] {
+        if let Some(row) = first_wrong(alloc, front, rows, end)? {
+            return Ok(Some(row));
+        }
+    }
+    Ok(None)
+}
+
 #[test]
-fn names_and_refs(rt: HostRuntime) -> Result<(), Fail> {
-    assert_eq!(rt; first_wrong(rt.alloc(), THREADS, NAMED, "}}")?, None);
+fn every_key(rt: HostRuntime) -> Result<(), Fail> {
+    assert_eq!(rt; first_wrong_of_all(rt.alloc())?, None);
     Ok(())
 }
 
-/// So many events of one thread give this answer.
+/// So many members of a key and its number, each of this value.
+fn many(alloc: Global, key: &str, value: &str, count: u64) -> Result<String, AllocError> {
+    let mut text = String::new(alloc);
+    for i in 0..count {
+        if i > 0 {
+            text.push_str(",")?;
+        }
+        write!(text, "\"{key}{i}\":{value}")?;
+    }
+    Ok(text)
+}
+
+/// So many events of one phase give this answer.
 fn are_events(alloc: Global, value: &str, count: u64, answer: &str) -> Result<bool, AllocError> {
     let events = many(alloc, "run", value, count)?;
-    let row = format!(in alloc; "{events} => {answer}")?;
+    let row = format!(in alloc; "\"phases\":{{\"p\":{{{events}}}}} => {answer}")?;
     is_right(alloc, TASK, &row, END)
 }
 
@@ -177,14 +191,19 @@ fn are_phases(alloc: Global, value: &str, count: u64, answer: &str) -> Result<bo
 }
 
 /// 64 are read. Events of 0 us count, and neither the value of the 65th event is read nor any of 65 phases.
+fn are_counted(alloc: Global) -> Result<bool, AllocError> {
+    Ok(
+        are_events(alloc, "1", 64, "Run(1), Run(1)] }")?
+            && are_events(alloc, "0", 64, "scenario 27")?
+            && are_events(alloc, "0", 65, "scenario 26")?
+            && are_phases(alloc, "{\"run\":1}", 64, "events: [Run(1)] }] }")?
+            && are_phases(alloc, "1", 64, "scenario 23 key p0")?
+            && are_phases(alloc, "1", 65, "scenario 26")?,
+    )
+}
+
 #[test]
 fn too_many(rt: HostRuntime) -> Result<(), Fail> {
-    let alloc = rt.alloc();
-    assert!(rt; are_events(alloc, "1", 64, "Run(1), Run(1)] }")?);
-    assert!(rt; are_events(alloc, "0", 64, "scenario 27")?);
-    assert!(rt; are_events(alloc, "0", 65, "scenario 26")?);
-    assert!(rt; are_phases(alloc, "{\"run\":1}", 64, "events: [Run(1)] }] }")?);
-    assert!(rt; are_phases(alloc, "1", 64, "scenario 23 key p0")?);
-    assert!(rt; are_phases(alloc, "1", 65, "scenario 26")?);
+    assert!(rt; are_counted(rt.alloc())?);
     Ok(())
 }
