@@ -85,6 +85,6 @@ IsReadCall (Advance ticks) = Unit {0}
 -- what is read, for now one section: replies are not written, so what is read has none
 pub record AreRead (sections : List SectionView) : Type 0 where
   pub within : AreSections sections
-  pub unanswered : All (λ s. All (λ e. e.reply ≡ None) s.entries) sections
+  pub no_replies : All (λ s. All (λ e. e.reply ≡ None) s.entries) sections
   pub calls : All (λ s. All (λ e. IsReadCall e.call) s.entries) sections
   pub one : length sections ≡ 1

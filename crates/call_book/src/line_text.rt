@@ -1,5 +1,5 @@
 ghost use Rattle.std.specs.Prelude.{◌≡◌, ◌≤◌, IfOk};
-ghost use Rattle.call_book.specs.Reading.{Gives, field_at, name_at, times_at, AreTimes, flag_at, params_at, plan_at, admit_at, regrade_at, numbered_at, worded_at, call_at, domain_at};
+ghost use Rattle.call_book.specs.private.Reading.{Gives, field_at, name_at, times_at, AreTimes, flag_at, params_at, plan_at, admit_at, regrade_at, numbered_at, worded_at, call_at, domain_at};
 
 use crate::cut::cut;
 use crate::fault::PartFault;
@@ -28,7 +28,7 @@ const LEAST_LIMIT: u64 = 10485;
 const MOST_LIMIT: u64 = 1_048_576;
 
 /// A number up to the next space, from `least` to `most`, and what follows.
-#[tactic(auto, unfolding(crate::specs::Reading::field_at))]
+#[tactic(auto, unfolding(crate::specs::private::Reading::field_at))]
 fn field(text: &[u8], least: u64, most: u64) -> Result<(u64, &[u8]), PartFault>
     ensures gives { Gives (λ p. (p.0, p.1.now)) result (field_at least most text.now) }
     ensures within { IfOk result (λ p. (least ≤ p.0) × (p.0 ≤ most)) }
@@ -41,7 +41,7 @@ fn field(text: &[u8], least: u64, most: u64) -> Result<(u64, &[u8]), PartFault>
 }
 
 /// The name that a text is.
-#[tactic(auto, unfolding(crate::specs::Reading::name_at))]
+#[tactic(auto, unfolding(crate::specs::private::Reading::name_at))]
 fn name_of(alloc: Global, text: &[u8]) -> Result<Name, PartFault>
     ensures { Gives (λ n. n) result (name_at text.now) }
 {
@@ -58,7 +58,7 @@ fn name_of(alloc: Global, text: &[u8]) -> Result<Name, PartFault>
 }
 
 /// Q, D and P, each up to the next space, and what follows.
-#[tactic(auto, unfolding(crate::specs::Reading::times_at))]
+#[tactic(auto, unfolding(crate::specs::private::Reading::times_at))]
 fn times_of(text: &[u8]) -> Result<(Times, &[u8]), PartFault>
     ensures gives { Gives (λ p. (p.0, p.1.now)) result (times_at text.now) }
     ensures within { IfOk result (λ p. AreTimes p.0) }
@@ -75,7 +75,7 @@ fn times_of(text: &[u8]) -> Result<(Times, &[u8]), PartFault>
 }
 
 /// Whether a task with this flag reclaims: `R` says so, and `-` that it does not.
-#[tactic(auto, unfolding(crate::specs::Reading::flag_at))]
+#[tactic(auto, unfolding(crate::specs::private::Reading::flag_at))]
 fn reclaim_of(flag: &[u8]) -> Result<bool, PartFault>
     ensures { Gives (λ b. b) result (flag_at flag.now) }
 {
@@ -89,7 +89,7 @@ fn reclaim_of(flag: &[u8]) -> Result<bool, PartFault>
 }
 
 /// The parameters that these times give to a task that reclaims or does not.
-#[tactic(auto, unfolding(crate::specs::Reading::params_at))]
+#[tactic(auto, unfolding(crate::specs::private::Reading::params_at))]
 fn params_of(times: Times, reclaim: bool) -> Result<Params, PartFault>
     requires { AreTimes times }
     ensures { Gives (λ p. p) result (params_at times reclaim) }
@@ -108,7 +108,7 @@ fn params_of(times: Times, reclaim: bool) -> Result<Params, PartFault>
 }
 
 /// The delay and the script of an admission.
-#[tactic(auto, unfolding(crate::specs::Reading::plan_at))]
+#[tactic(auto, unfolding(crate::specs::private::Reading::plan_at))]
 fn plan_of(alloc: Global, text: &[u8]) -> Result<(u64, Script), PartFault>
     ensures { Gives (λ p. p) result (plan_at text.now) }
 {
@@ -118,7 +118,7 @@ fn plan_of(alloc: Global, text: &[u8]) -> Result<(u64, Script), PartFault>
 }
 
 /// What follows the client in an `admit` line.
-#[tactic(auto, unfolding(crate::specs::Reading::admit_at))]
+#[tactic(auto, unfolding(crate::specs::private::Reading::admit_at))]
 fn admit_of(alloc: Global, text: &[u8]) -> Result<Call, PartFault>
     ensures { Gives (λ c. c) result (admit_at text.now) }
 {
@@ -143,7 +143,7 @@ fn admit_of(alloc: Global, text: &[u8]) -> Result<Call, PartFault>
 }
 
 /// What follows the client in a `regrade` line. For now a ` busy S` is not read.
-#[tactic(auto, unfolding(crate::specs::Reading::regrade_at))]
+#[tactic(auto, unfolding(crate::specs::private::Reading::regrade_at))]
 fn regrade_of(text: &[u8]) -> Result<Call, PartFault>
     ensures { Gives (λ c. c) result (regrade_at text.now) }
 {
@@ -158,7 +158,7 @@ fn regrade_of(text: &[u8]) -> Result<Call, PartFault>
 }
 
 /// What follows the client in a `wake` line.
-#[tactic(auto, unfolding(crate::specs::Reading::numbered_at))]
+#[tactic(auto, unfolding(crate::specs::private::Reading::numbered_at))]
 fn wake_of(text: &[u8]) -> Result<Call, PartFault>
     ensures { Gives (λ c. c) result (numbered_at 65535 (λ n. Call.Wake n) text.now) }
 {
@@ -167,7 +167,7 @@ fn wake_of(text: &[u8]) -> Result<Call, PartFault>
 }
 
 /// What follows the client in a `leave` line.
-#[tactic(auto, unfolding(crate::specs::Reading::numbered_at))]
+#[tactic(auto, unfolding(crate::specs::private::Reading::numbered_at))]
 fn leave_of(text: &[u8]) -> Result<Call, PartFault>
     ensures { Gives (λ c. c) result (numbered_at 65535 (λ n. Call.Leave n) text.now) }
 {
@@ -176,7 +176,7 @@ fn leave_of(text: &[u8]) -> Result<Call, PartFault>
 }
 
 /// What follows the client in an `advance` line.
-#[tactic(auto, unfolding(crate::specs::Reading::numbered_at))]
+#[tactic(auto, unfolding(crate::specs::private::Reading::numbered_at))]
 fn advance_of(text: &[u8]) -> Result<Call, PartFault>
     ensures { Gives (λ c. c) result (numbered_at 60000000 (λ n. Call.Advance n) text.now) }
 {
@@ -185,7 +185,7 @@ fn advance_of(text: &[u8]) -> Result<Call, PartFault>
 }
 
 /// What follows the client in a line of this word.
-#[tactic(auto, unfolding(crate::specs::Reading::worded_at))]
+#[tactic(auto, unfolding(crate::specs::private::Reading::worded_at))]
 fn worded(alloc: Global, word: &[u8], text: &[u8]) -> Result<Call, PartFault>
     ensures { Gives (λ c. c) result (worded_at word.now text.now) }
 {
@@ -208,7 +208,7 @@ fn worded(alloc: Global, word: &[u8], text: &[u8]) -> Result<Call, PartFault>
 }
 
 /// The client and the call that a line spells.
-#[tactic(auto, unfolding(crate::specs::Reading::call_at))]
+#[tactic(auto, unfolding(crate::specs::private::Reading::call_at))]
 pub(crate) fn call_of(alloc: Global, line: &[u8]) -> Result<(u32, Call), PartFault>
     ensures gives { Gives (λ p. p) result (call_at line.now) }
     ensures within { IfOk result (λ p. (1 ≤ p.0) × (p.0 ≤ 64)) }
@@ -222,7 +222,7 @@ pub(crate) fn call_of(alloc: Global, line: &[u8]) -> Result<(u32, Call), PartFau
 }
 
 /// The CPUs and the limit of the domain that a section's line spells.
-#[tactic(auto, unfolding(crate::specs::Reading::domain_at))]
+#[tactic(auto, unfolding(crate::specs::private::Reading::domain_at))]
 pub(crate) fn domain_of(line: &[u8]) -> Result<(u64, u64), PartFault>
     ensures gives { Gives (λ p. p) result (domain_at line.now) }
     ensures within { IfOk result (λ p. p.0 ≤ 64) }
