@@ -14,7 +14,7 @@ use Rattle.attr_check.specs.ParamsView.{ParamsView}
 use Rattle.attr_check.specs.Accepted.{accepted, unless_refused, first_refusal, passes, params_of, period_of}
 use Rattle.call_book.specs.declared.times.Times.{Times}
 use Rattle.call_book.specs.Limits.{IsChecked}
-use Rattle.call_book.specs.Reading.{params_at, flag_at}
+use Rattle.call_book.specs.private.Reading.{params_at, flag_at}
 use Rattle.call_book.proofs.Cuts.{Lacks}
 
 unless_is : (a : SchedAttr) (r : Option AttrRefusal) (p : ParamsView) → unless_refused a r ≡ Ok p → (r ≡ None) × (params_of a ≡ p)

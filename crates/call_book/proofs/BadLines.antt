@@ -9,8 +9,8 @@ use Rattle.call_book.specs.declared.fault.CallsFault.{CallsFault}
 use Rattle.call_book.specs.declared.fault.CallsFault.TheVariants as faults
 use Rattle.call_book.specs.SectionView.{SectionView}
 use Rattle.call_book.specs.Spelling.{entry_line, domain_line, lines_of, text_of}
-use Rattle.call_book.specs.BadLine.{Begins, IsBadLine, MeansFault}
-use Rattle.call_book.specs.Reading.{cut_at, IsEntryRead}
+use Rattle.call_book.specs.BadLine.{Begins, IsBadLine, IsReadFault}
+use Rattle.call_book.specs.private.Reading.{cut_at, IsEntryRead}
 use Rattle.call_book.proofs.Cuts.{Lacks, Lacks-written, cut_again}
 use Rattle.call_book.proofs.Lines.{line_lacks, domain_lacks}
 use Rattle.call_book.proofs.Sections.{one_read, lines_one}
@@ -78,6 +78,6 @@ one_bad_line text m n p q =
     ]
 
 -- what a reader whose fault is right answers to a text with a bad line
-pub told_line : (text : List ℕ) (told fault : CallsFault) (n : ℕ) (r : Result (Vec SectionView) CallsFault) → r ≡ Err told → told ≡ fault → MeansFault text fault → IsBadLine text n → IsErrOf r (faults.BadLine n) ⊎ IsErrOf r faults.Memory
+pub told_line : (text : List ℕ) (told fault : CallsFault) (n : ℕ) (r : Result (Vec SectionView) CallsFault) → r ≡ Err told → told ≡ fault → IsReadFault text fault → IsBadLine text n → IsErrOf r (faults.BadLine n) ⊎ IsErrOf r faults.Memory
 told_line text told (faults.BadLine m) n r e same means bad = inl (e ∙ ap (λ (f : CallsFault). Err f) (same ∙ ap (λ (k : ℕ). faults.BadLine k) (one_bad_line text m n means bad)))
 told_line text told faults.Memory n r e same means bad = inr (e ∙ ap (λ (f : CallsFault). Err f) same)

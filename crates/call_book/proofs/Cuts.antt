@@ -6,7 +6,7 @@ use Rattle.std.proofs.lemmas.List.Sums.{position_or_len_is, split_at_first, pass
 use Rattle.std.proofs.lemmas.Option.{cond_some}
 use Rattle.std.proofs.lemmas.List.{take_at, length-append, length-drop, get_or_append_left, get_or-append_right}
 use Rattle.std.proofs.Math.Seq.{drop-append-add, take-length}
-use Rattle.call_book.specs.Reading.{cut_at}
+use Rattle.call_book.specs.private.Reading.{cut_at}
 
 -- the text has no such byte
 abbrev pub Lacks : ℕ → List ℕ → Type 0

@@ -13,7 +13,7 @@ use Rattle.call_book.specs.declared.fault.PartFault.TheVariants.{Bad, Memory}
 use Rattle.call_book.specs.Spelling.{entry_line, text_of}
 use Rattle.call_book.specs.OwnCalls.{IsNumberedAfter, made_by}
 use Rattle.call_book.specs.Limits.{IsClient}
-use Rattle.call_book.specs.Reading.{cut_at, call_at, IsEntryRead, entries_text, SoFar, Counts, IsNext, Stops, StopsAt, Fails, fault_from}
+use Rattle.call_book.specs.private.Reading.{cut_at, call_at, IsEntryRead, entries_text, SoFar, Counts, IsNext, IsBadEntryLine, IsEntriesFault, Fails, fault_from}
 use Rattle.call_book.proofs.Cuts.{cut_takes, cut_again}
 use Rattle.call_book.proofs.Lines.{call_takes, call_again, line_lacks}
 
@@ -21,7 +21,7 @@ use Rattle.call_book.proofs.Lines.{call_takes, call_again, line_lacks}
 pub entry_takes : (line made : List ℕ) (e : Entry) → IsNext line made e → IsEntryRead e × (line ≡ entry_line e)
 entry_takes line made e next =
     let t = call_takes line (e.client, e.call) next.call in
-    (record { within = record { client = t.client_is; call = t.is_read }; unanswered = next.unanswered }, t.line_is)
+    (record { within = record { client = t.client_is; call = t.is_read }; no_reply = next.no_reply }, t.line_is)
 
 text_more : (entries : List Entry) (e : Entry) → entries_text (entries ++ e ∷ []) ≡ entries_text entries ++ (entry_line e ++ (10 ∷ []))
 text_more entries e =
@@ -82,7 +82,7 @@ counts_few made entries counts len few k =
 line_cut : (e : Entry) (after : List ℕ) → IsEntryRead e → cut_at 10 (entry_line e ++ 10 ∷ after) ≡ Some (entry_line e, after)
 line_cut e after is = cut_again 10 (entry_line e) after (line_lacks e.client e.call is.within.client is.within.call)
 
-pub stops_unfinished : (text rest : List ℕ) (entries : List Entry) (n : ℕ) → SoFar text rest entries → length entries < 65536 → n ≡ length entries + 3 → 0 < length rest → cut_at 10 rest ≡ None → Stops text n
+pub stops_unfinished : (text rest : List ℕ) (entries : List Entry) (n : ℕ) → SoFar text rest entries → length entries < 65536 → n ≡ length entries + 3 → 0 < length rest → cut_at 10 rest ≡ None → IsBadEntryLine text n
 stops_unfinished text rest entries n so_far few place more cut = record {
   entries = entries;
   rest = rest;
@@ -93,7 +93,7 @@ stops_unfinished text rest entries n so_far few place more cut = record {
   stops = λ h e after is same. absurd (let again = ap (cut_at 10) same ∙ line_cut e after is in cc);
 }
 
-pub stops_bad : (text rest line after : List ℕ) (entries : List Entry) (n : ℕ) → SoFar text rest entries → length entries < 65536 → n ≡ length entries + 3 → 0 < length rest → cut_at 10 rest ≡ Some (line, after) → call_at line ≡ None → Stops text n
+pub stops_bad : (text rest line after : List ℕ) (entries : List Entry) (n : ℕ) → SoFar text rest entries → length entries < 65536 → n ≡ length entries + 3 → 0 < length rest → cut_at 10 rest ≡ Some (line, after) → call_at line ≡ None → IsBadEntryLine text n
 stops_bad text rest line after entries n so_far few place more cut bad = record {
   entries = entries;
   rest = rest;
@@ -107,7 +107,7 @@ stops_bad text rest line after entries n so_far few place more cut bad = record 
       absurd (let read = ap call_at line_is ∙ call_again e.client e.call is.within.client is.within.call in cc);
 }
 
-pub stops_full : (text rest : List ℕ) (entries : List Entry) (n : ℕ) → SoFar text rest entries → length entries ≡ 65536 → n ≡ length entries + 3 → 0 < length rest → Stops text n
+pub stops_full : (text rest : List ℕ) (entries : List Entry) (n : ℕ) → SoFar text rest entries → length entries ≡ 65536 → n ≡ length entries + 3 → 0 < length rest → IsBadEntryLine text n
 stops_full text rest entries n so_far full place more = record { entries = entries; rest = rest; so_far = so_far; few = omega arith; place = place; more = more; stops = λ few e after is same. omega arith }
 
 -- before the first entry
@@ -115,6 +115,6 @@ pub starts : (text : List ℕ) → SoFar text text []
 starts text = record { parts = refl; each = tt; numbered = tt }
 
 pub stops_fault : (text rest line after : List ℕ) (entries : List Entry) (n : ℕ) (fault : PartFault) → SoFar text rest entries → length entries < 65536 → n ≡ length entries + 3 → 0 < length rest
-    → cut_at 10 rest ≡ Some (line, after) → Fails fault (call_at line) → StopsAt text (fault_from n fault)
+    → cut_at 10 rest ≡ Some (line, after) → Fails fault (call_at line) → IsEntriesFault text (fault_from n fault)
 stops_fault text rest line after entries n Bad so_far few place more cut bad = stops_bad text rest line after entries n so_far few place more cut bad
 stops_fault text rest line after entries n Memory so_far few place more cut bad = tt

@@ -4,7 +4,7 @@ use Rattle.std.specs.Option.{option_map_or}
 use Rattle.std.specs.List.{flat_map, join_with_byte, AllByRecursion}
 use Rattle.std.proofs.lemmas.List.{append-nil, length-append}
 use Rattle.std.proofs.lemmas.Option.{same_Some}
-use Rattle.call_book.specs.Reading.{◌>>=◌, many_at}
+use Rattle.call_book.specs.private.Reading.{◌>>=◌, many_at}
 use Rattle.call_book.proofs.Numbers.{bind_some}
 
 -- the spellings of items, with a text between each two

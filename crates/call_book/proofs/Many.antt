@@ -2,7 +2,7 @@
 use Rattle.std.proofs.Common.{◌≡◌, ℕ, suc, ◌-◌, ◌+◌, ◌≤◌, ◌<◌, List, [], ◌∷◌, ◌++◌, Option, Some, None, refl, sym, ap, ◌∙◌, append_assoc, arith}
 use Rattle.call_book.specs.declared.fault.PartFault.{PartFault}
 use Rattle.call_book.specs.declared.fault.PartFault.TheVariants.{Bad, Memory}
-use Rattle.call_book.specs.Reading.{◌>>=◌, Fails, many_at}
+use Rattle.call_book.specs.private.Reading.{◌>>=◌, Fails, many_at}
 
 -- what was read before, and what is still read
 abbrev pub with_front : {X : Type 0} → List X → Option (List X) → Option (List X)

@@ -8,7 +8,7 @@ use Rattle.std.proofs.lemmas.List.Sums.{AllPass-from_list_all, list_all-from_All
 use Rattle.std.proofs.lemmas.Option.{cond_some}
 use Rattle.std.proofs.lemmas.Str.{IsUtf8-from_ascii}
 use Rattle.domain_run.specs.NameView.{IsName}
-use Rattle.call_book.specs.Reading.{is_name, name_at}
+use Rattle.call_book.specs.private.Reading.{is_name, name_at}
 
 abbrev in_range : ℕ → Bool
 in_range b = leb 33 b && leb b 126

@@ -8,7 +8,7 @@ use Rattle.std.proofs.Math.Bool.{or-true}
 use Rattle.std.proofs.lemmas.Option.{cond_some, same_Some}
 use Rattle.std.proofs.lemmas.Str.Parse.{IsNumeralModel, numerals_by_fold, tells_all_ascii_digits, digits_value_short}
 use Rattle.std.proofs.lemmas.Fmt.{decimal-digits_value, digits_decimal, digits_value-decimal, length-decimal-le, decimal_nonempty, first_decimal, decimal_digit}
-use Rattle.call_book.specs.Reading.{◌>>=◌, digits_on, is_short, number_at, number_within_at}
+use Rattle.call_book.specs.private.Reading.{◌>>=◌, digits_on, is_short, number_at, number_within_at}
 use Rattle.call_book.proofs.Cuts.{Lacks}
 
 -- the value of digits, after the number so far

@@ -16,7 +16,7 @@ use Rattle.domain_run.specs.declared.script.Event.TheVariants.{Run, Sleep, Timer
 use Rattle.domain_run.specs.script.Segments.{rounds_of, IsLoops}
 use Rattle.domain_run.specs.script.ScriptView.{PhaseView, ScriptView, script_of, IsEvent, IsPhase, IsScript}
 use Rattle.call_book.specs.Spelling.{event_text, events_text, phase_text, loops_text, script_text}
-use Rattle.call_book.specs.Reading.{◌>>=◌, cut_at, number_within_at, lasting_at, event_at, event_first_at, events_at, phase_at, phase_first_at, phases_at, rounds_at, script_at}
+use Rattle.call_book.specs.private.Reading.{◌>>=◌, cut_at, number_within_at, lasting_at, event_at, event_first_at, events_at, phase_at, phase_first_at, phases_at, rounds_at, script_at}
 use Rattle.call_book.proofs.Cuts.{Lacks, Lacks-append, cut_takes, cut_none, cut_again}
 use Rattle.call_book.proofs.Numbers.{bind_some, within_takes, within_again, decimal_lacks}
 use Rattle.call_book.proofs.Lists.{ReadsItems, TookItem, many_takes, many_again, joined-comma, joined-flat}

@@ -19,8 +19,8 @@ use Rattle.call_book.specs.SectionView.{SectionView}
 use Rattle.call_book.specs.Spelling.{entry_line, domain_line, section_lines, lines_of, text_of, spelling}
 use Rattle.call_book.specs.OwnCalls.{IsNumbered, IsNumberedAfter, made_by}
 use Rattle.call_book.specs.Limits.{IsEntry, IsSection, AreRead}
-use Rattle.call_book.specs.BadLine.{IsBadLine, MeansFault}
-use Rattle.call_book.specs.Reading.{cut_at, call_at, domain_at, IsEntryRead, entries_text, SoFar, Stops, StopsAt, Fails, fault_from}
+use Rattle.call_book.specs.BadLine.{IsBadLine, IsReadFault}
+use Rattle.call_book.specs.private.Reading.{cut_at, call_at, domain_at, IsEntryRead, entries_text, SoFar, IsBadEntryLine, IsEntriesFault, Fails, fault_from}
 use Rattle.call_book.proofs.Cuts.{Lacks-written, cut_takes, cut_again}
 use Rattle.call_book.proofs.Lines.{call_again, line_lacks, domain_takes, domain_again, domain_lacks}
 
@@ -54,7 +54,7 @@ are_read s is =
           numbered = is.numbered;
         });
       };
-      unanswered = only_one (λ (t : SectionView). All (λ (e : Entry). e.reply ≡ None) t.entries) s (All-weaker IsEntryRead (λ e. e.reply ≡ None) (λ e h. h.unanswered) s.entries each);
+      no_replies = only_one (λ (t : SectionView). All (λ (e : Entry). e.reply ≡ None) t.entries) s (All-weaker IsEntryRead (λ e. e.reply ≡ None) (λ e h. h.no_reply) s.entries each);
       one = omega arith;
     }
 
@@ -68,7 +68,7 @@ pub one_read : (sections : List SectionView) → AreRead sections → OneRead se
 one_read [] are = absurd (omega (arith, are.one))
 one_read (s ∷ []) are =
     let is = All-head IsSection s [] are.within.each in
-    let unanswered = All-head (λ (t : SectionView). All (λ (e : Entry). e.reply ≡ None) t.entries) s [] are.unanswered in
+    let replies = All-head (λ (t : SectionView). All (λ (e : Entry). e.reply ≡ None) t.entries) s [] are.no_replies in
     record {
       section = s;
       one = refl;
@@ -78,7 +78,7 @@ one_read (s ∷ []) are =
         low = is.least_limit;
         high = is.most_limit;
         few = is.most_entries;
-        each = recursion_from_All IsEntryRead s.entries (λ k d lt. record { within = is.entries k d lt; unanswered = unanswered k d lt });
+        each = recursion_from_All IsEntryRead s.entries (λ k d lt. record { within = is.entries k d lt; no_reply = replies k d lt });
         numbered = is.numbered;
       };
     }
@@ -217,7 +217,7 @@ same_parts s t rest rest' is is' e =
     let p = some_pair_parts (domain_line s) (domain_line t) rest rest' again in
     record { first_is = p.0; rest_is = p.1 }
 
-bad_line_at : (text rest : List ℕ) (s : SectionView) (n : ℕ) → text ≡ codes "dlcalls 1" ++ (10 ∷ (domain_line s ++ (10 ∷ rest))) → IsSectionRead s → (stop : Stops rest n) → s.entries ≡ stop.entries → IsBadLine text n
+bad_line_at : (text rest : List ℕ) (s : SectionView) (n : ℕ) → text ≡ codes "dlcalls 1" ++ (10 ∷ (domain_line s ++ (10 ∷ rest))) → IsSectionRead s → (stop : IsBadEntryLine rest n) → s.entries ≡ stop.entries → IsBadLine text n
 bad_line_at text rest s n header is stop same_as =
     let lines = map entry_line s.entries in
     let front = codes "dlcalls 1" ∷ domain_line s ∷ lines in
@@ -241,7 +241,7 @@ bad_line_at text rest s n header is stop same_as =
           stop.stops (omega (arith, g.within, o.is.few)) g.entry g.after g.is g.rest_is;
     }
 
-pub bad_entry : (text line rest : List ℕ) (cpus limit n : ℕ) → text ≡ codes "dlcalls 1" ++ (10 ∷ (line ++ (10 ∷ rest))) → line ≡ domain_line (section_from cpus limit []) → 0 < cpus → cpus ≤ 64 → 10485 ≤ limit → limit ≤ 1048576 → Stops rest n → IsBadLine text n
+pub bad_entry : (text line rest : List ℕ) (cpus limit n : ℕ) → text ≡ codes "dlcalls 1" ++ (10 ∷ (line ++ (10 ∷ rest))) → line ≡ domain_line (section_from cpus limit []) → 0 < cpus → cpus ≤ 64 → 10485 ≤ limit → limit ≤ 1048576 → IsBadEntryLine rest n → IsBadLine text n
 bad_entry text line rest cpus limit n header line_is some most low high stop =
     bad_line_at text rest (section_from cpus limit stop.entries) n (header ∙ ap (λ (l : List ℕ). codes "dlcalls 1" ++ (10 ∷ (l ++ (10 ∷ rest)))) line_is)
     (record { some = some; most = most; low = low; high = high; few = stop.few; each = stop.so_far.each; numbered = stop.so_far.numbered }) stop refl
@@ -260,7 +260,7 @@ same_line : (e f : Entry) (before : List Entry) → IsEntryRead e → IsEntryRea
 same_line e f before is is' seq seq' same =
     let again = sym (call_again e.client e.call is.within.client is.within.call) ∙ ap call_at same ∙ call_again f.client f.call is'.within.client is'.within.call in
     let p = some_pair_parts e.client f.client e.call f.call again in
-    same_entry e f p.0 (seq ∙ ap (λ (c : ℕ). made_by c before) p.0 ∙ sym seq') p.1 (is.unanswered ∙ sym is'.unanswered)
+    same_entry e f p.0 (seq ∙ ap (λ (c : ℕ). made_by c before) p.0 ∙ sym seq') p.1 (is.no_reply ∙ sym is'.no_reply)
 
 no_text : (e : Entry) (entries : List Entry) → entries_text (e ∷ entries) ≡ [] → ⊥
 no_text e entries h =
@@ -328,7 +328,7 @@ other_domain text line rest o none =
     let line_is = (some_pair_parts line (domain_line s) rest after (sym o.line_is ∙ ap (cut_at 10) same ∙ domain_cut s after is)).0 in
     absurd (let f = sym none ∙ ap domain_at line_is ∙ domain_again s.cpus s.limit is.some is.most is.low is.high in cc))
 
-pub domain_fault : (text line rest : List ℕ) (fault : PartFault) → Opens text line rest → Fails fault (domain_at line) → MeansFault text (fault_from 2 fault)
+pub domain_fault : (text line rest : List ℕ) (fault : PartFault) → Opens text line rest → Fails fault (domain_at line) → IsReadFault text (fault_from 2 fault)
 domain_fault text line rest Bad o none = other_domain text line rest o none
 domain_fault text line rest Memory o none = tt
 
@@ -337,7 +337,7 @@ opened text line rest d o read =
     header_first text o.header o.body o.header_is o.right
     ∙ ap (λ (b : List ℕ). codes "dlcalls 1" ++ (10 ∷ b)) (cut_takes 10 o.body (line, rest) o.line_is ∙ ap (λ (l : List ℕ). l ++ (10 ∷ rest)) (domain_takes line d read).line_is)
 
-pub entries_fault : (text line rest : List ℕ) (d : ℕ × ℕ) (fault : CallsFault) → Opens text line rest → domain_at line ≡ Some d → StopsAt rest fault → MeansFault text fault
+pub entries_fault : (text line rest : List ℕ) (d : ℕ × ℕ) (fault : CallsFault) → Opens text line rest → domain_at line ≡ Some d → IsEntriesFault rest fault → IsReadFault text fault
 entries_fault text line rest d (faults.BadLine n) o read stop =
     let t = domain_takes line d read in
     bad_entry text (domain_line (section_from d.0 d.1 [])) rest d.0 d.1 n (opened text line rest d o read) refl t.some t.few t.low t.high stop

@@ -28,6 +28,6 @@ pub record IsBadLine (text : List ℕ) (n : ℕ) : Type 0 where
   pub refused : IsAccepted text → ⊥
 
 -- what a fault says of a text; memory may run out at any
-abbrev pub MeansFault : List ℕ → CallsFault → Type 0
-MeansFault text (BadLine n) = IsBadLine text n
-MeansFault text Memory = Unit {0}
+abbrev pub IsReadFault : List ℕ → CallsFault → Type 0
+IsReadFault text (BadLine n) = IsBadLine text n
+IsReadFault text Memory = Unit {0}

@@ -6,5 +6,4 @@ pub mod BadLine
 pub mod RoundTrip
 pub mod FaultText
 pub mod Examples
-pub mod Reading
-pub mod Writing
+pub mod private

@@ -77,5 +77,5 @@ pub record AreSections (sections : List SectionView) : Type 0 where
 -- what is read, for now one section: replies are not written, so what is read has none
 pub record AreRead (sections : List SectionView) : Type 0 where
   pub within : AreSections sections
-  pub unanswered : All (λ s. All (λ e. e.reply ≡ None) s.entries) sections
+  pub no_replies : All (λ s. All (λ e. e.reply ≡ None) s.entries) sections
   pub one : length sections ≡ 1

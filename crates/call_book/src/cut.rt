@@ -1,6 +1,6 @@
 ghost use Rattle.std.specs.Prelude.{◌≡◌};
 ghost use Rattle.std.specs.Option.{option_map};
-ghost use Rattle.call_book.specs.Reading.{cut_at};
+ghost use Rattle.call_book.specs.private.Reading.{cut_at};
 
 /// What stands before and after the first byte of this code, or nothing where there is none.
 pub(crate) fn cut(text: &[u8], at: u8) -> Option<(&[u8], &[u8])>

@@ -1,5 +1,5 @@
 ghost use Rattle.std.specs.Prelude.{◌≡◌, ◌≤◌, IfOk};
-ghost use Rattle.call_book.specs.Reading.{Gives, field_at, name_at, times_at, AreTimes, flag_at, params_at, plan_at, admit_at, seen_at, answer_at, regrade_at, numbered_at, worded_at, call_at, domain_at};
+ghost use Rattle.call_book.specs.private.Reading.{Gives, field_at, name_at, times_at, AreTimes, flag_at, params_at, plan_at, admit_at, seen_at, answer_at, regrade_at, numbered_at, worded_at, call_at, domain_at};
 
 use crate::cut::cut;
 use crate::fault::PartFault;
@@ -30,7 +30,7 @@ const LEAST_LIMIT: u64 = 10485;
 const MOST_LIMIT: u64 = 1_048_576;
 
 /// A number up to the next space, from `least` to `most`, and what follows.
-#[tactic(auto, unfolding(crate::specs::Reading::field_at))]
+#[tactic(auto, unfolding(crate::specs::private::Reading::field_at))]
 fn field(text: &[u8], least: u64, most: u64) -> Result<(u64, &[u8]), PartFault>
     ensures gives { Gives (λ p. (p.0, p.1.now)) result (field_at least most text.now) }
     ensures within { IfOk result (λ p. (least ≤ p.0) × (p.0 ≤ most)) }
@@ -43,7 +43,7 @@ fn field(text: &[u8], least: u64, most: u64) -> Result<(u64, &[u8]), PartFault>
 }
 
 /// The name that a text is.
-#[tactic(auto, unfolding(crate::specs::Reading::name_at))]
+#[tactic(auto, unfolding(crate::specs::private::Reading::name_at))]
 fn name_of(alloc: Global, text: &[u8]) -> Result<Name, PartFault>
     ensures { Gives (λ n. n) result (name_at text.now) }
 {
@@ -60,7 +60,7 @@ fn name_of(alloc: Global, text: &[u8]) -> Result<Name, PartFault>
 }
 
 /// Q, D and P, each up to the next space, and what follows.
-#[tactic(auto, unfolding(crate::specs::Reading::times_at))]
+#[tactic(auto, unfolding(crate::specs::private::Reading::times_at))]
 fn times_of(text: &[u8]) -> Result<(Times, &[u8]), PartFault>
     ensures gives { Gives (λ p. (p.0, p.1.now)) result (times_at text.now) }
     ensures within { IfOk result (λ p. AreTimes p.0) }
@@ -77,7 +77,7 @@ fn times_of(text: &[u8]) -> Result<(Times, &[u8]), PartFault>
 }
 
 /// Whether a task with this flag reclaims: `R` says so, and `-` that it does not.
-#[tactic(auto, unfolding(crate::specs::Reading::flag_at))]
+#[tactic(auto, unfolding(crate::specs::private::Reading::flag_at))]
 fn reclaim_of(flag: &[u8]) -> Result<bool, PartFault>
     ensures { Gives (λ b. b) result (flag_at flag.now) }
 {
@@ -91,7 +91,7 @@ fn reclaim_of(flag: &[u8]) -> Result<bool, PartFault>
 }
 
 /// The parameters that these times give to a task that reclaims or does not.
-#[tactic(auto, unfolding(crate::specs::Reading::params_at))]
+#[tactic(auto, unfolding(crate::specs::private::Reading::params_at))]
 fn params_of(times: Times, reclaim: bool) -> Result<Params, PartFault>
     requires { AreTimes times }
     ensures { Gives (λ p. p) result (params_at times reclaim) }
@@ -110,7 +110,7 @@ fn params_of(times: Times, reclaim: bool) -> Result<Params, PartFault>
 }
 
 /// The delay and the script of an admission.
-#[tactic(auto, unfolding(crate::specs::Reading::plan_at))]
+#[tactic(auto, unfolding(crate::specs::private::Reading::plan_at))]
 fn plan_of(alloc: Global, text: &[u8]) -> Result<(u64, Script), PartFault>
     ensures { Gives (λ p. p) result (plan_at text.now) }
 {
@@ -120,7 +120,7 @@ fn plan_of(alloc: Global, text: &[u8]) -> Result<(u64, Script), PartFault>
 }
 
 /// What follows the client in an `admit` line.
-#[tactic(auto, unfolding(crate::specs::Reading::admit_at))]
+#[tactic(auto, unfolding(crate::specs::private::Reading::admit_at))]
 fn admit_of(alloc: Global, text: &[u8]) -> Result<Call, PartFault>
     ensures { Gives (λ c. c) result (admit_at text.now) }
 {
@@ -145,7 +145,7 @@ fn admit_of(alloc: Global, text: &[u8]) -> Result<Call, PartFault>
 }
 
 /// The number with which the bandwidth word refused, from what stands behind the flag of a `regrade` line.
-#[tactic(auto, unfolding(crate::specs::Reading::seen_at))]
+#[tactic(auto, unfolding(crate::specs::private::Reading::seen_at))]
 fn seen_of(text: &[u8]) -> Result<u64, PartFault>
     ensures { Gives (λ n. n) result (seen_at text.now) }
 {
@@ -160,7 +160,7 @@ fn seen_of(text: &[u8]) -> Result<u64, PartFault>
 }
 
 /// Whether the task of a `regrade` line reclaims, and with what the bandwidth word refused, where it did.
-#[tactic(auto, unfolding(crate::specs::Reading::answer_at))]
+#[tactic(auto, unfolding(crate::specs::private::Reading::answer_at))]
 fn answer_of(text: &[u8]) -> Result<(bool, Option<u64>), PartFault>
     ensures { Gives (λ p. p) result (answer_at text.now) }
 {
@@ -174,7 +174,7 @@ fn answer_of(text: &[u8]) -> Result<(bool, Option<u64>), PartFault>
 }
 
 /// What follows the client in a `regrade` line.
-#[tactic(auto, unfolding(crate::specs::Reading::regrade_at))]
+#[tactic(auto, unfolding(crate::specs::private::Reading::regrade_at))]
 fn regrade_of(text: &[u8]) -> Result<Call, PartFault>
     ensures { Gives (λ c. c) result (regrade_at text.now) }
 {
@@ -190,7 +190,7 @@ fn regrade_of(text: &[u8]) -> Result<Call, PartFault>
 }
 
 /// What follows the client in a `wake` line.
-#[tactic(auto, unfolding(crate::specs::Reading::numbered_at))]
+#[tactic(auto, unfolding(crate::specs::private::Reading::numbered_at))]
 fn wake_of(text: &[u8]) -> Result<Call, PartFault>
     ensures { Gives (λ c. c) result (numbered_at 65535 (λ n. Call.Wake n) text.now) }
 {
@@ -199,7 +199,7 @@ fn wake_of(text: &[u8]) -> Result<Call, PartFault>
 }
 
 /// What follows the client in a `leave` line.
-#[tactic(auto, unfolding(crate::specs::Reading::numbered_at))]
+#[tactic(auto, unfolding(crate::specs::private::Reading::numbered_at))]
 fn leave_of(text: &[u8]) -> Result<Call, PartFault>
     ensures { Gives (λ c. c) result (numbered_at 65535 (λ n. Call.Leave n) text.now) }
 {
@@ -208,7 +208,7 @@ fn leave_of(text: &[u8]) -> Result<Call, PartFault>
 }
 
 /// What follows the client in an `advance` line.
-#[tactic(auto, unfolding(crate::specs::Reading::numbered_at))]
+#[tactic(auto, unfolding(crate::specs::private::Reading::numbered_at))]
 fn advance_of(text: &[u8]) -> Result<Call, PartFault>
     ensures { Gives (λ c. c) result (numbered_at 60000000 (λ n. Call.Advance n) text.now) }
 {
@@ -217,7 +217,7 @@ fn advance_of(text: &[u8]) -> Result<Call, PartFault>
 }
 
 /// What follows the client in a line of this word.
-#[tactic(auto, unfolding(crate::specs::Reading::worded_at))]
+#[tactic(auto, unfolding(crate::specs::private::Reading::worded_at))]
 fn worded(alloc: Global, word: &[u8], text: &[u8]) -> Result<Call, PartFault>
     ensures { Gives (λ c. c) result (worded_at word.now text.now) }
 {
@@ -240,7 +240,7 @@ fn worded(alloc: Global, word: &[u8], text: &[u8]) -> Result<Call, PartFault>
 }
 
 /// The client and the call that a line spells.
-#[tactic(auto, unfolding(crate::specs::Reading::call_at))]
+#[tactic(auto, unfolding(crate::specs::private::Reading::call_at))]
 pub(crate) fn call_of(alloc: Global, line: &[u8]) -> Result<(u32, Call), PartFault>
     ensures gives { Gives (λ p. p) result (call_at line.now) }
     ensures within { IfOk result (λ p. (1 ≤ p.0) × (p.0 ≤ 64)) }
@@ -254,7 +254,7 @@ pub(crate) fn call_of(alloc: Global, line: &[u8]) -> Result<(u32, Call), PartFau
 }
 
 /// The CPUs and the limit of the domain that a section's line spells.
-#[tactic(auto, unfolding(crate::specs::Reading::domain_at))]
+#[tactic(auto, unfolding(crate::specs::private::Reading::domain_at))]
 pub(crate) fn domain_of(line: &[u8]) -> Result<(u64, u64), PartFault>
     ensures gives { Gives (λ p. p) result (domain_at line.now) }
     ensures within { IfOk result (λ p. p.0 ≤ 64) }

@@ -1,10 +1,10 @@
 ghost use Rattle.std.specs.Prelude.{◌≡◌, ◌≤◌, IfOk};
-ghost use Rattle.call_book.specs.Reading.{Gives, number_at, number_within_at};
+ghost use Rattle.call_book.specs.private.Reading.{Gives, number_at, number_within_at};
 
 use crate::fault::PartFault;
 
 /// The number that a text of at most 19 digits spells, with no zero in front of another digit.
-#[tactic(auto, unfolding(crate::specs::Reading::number_at))]
+#[tactic(auto, unfolding(crate::specs::private::Reading::number_at))]
 fn number(text: &[u8]) -> Result<u64, PartFault>
     ensures { Gives (λ n. n) result (number_at text.now) }
 {
@@ -22,7 +22,7 @@ fn number(text: &[u8]) -> Result<u64, PartFault>
 }
 
 /// The number that a text spells, from `least` to `most`.
-#[tactic(auto, unfolding(crate::specs::Reading::number_within_at))]
+#[tactic(auto, unfolding(crate::specs::private::Reading::number_within_at))]
 pub(crate) fn number_within(text: &[u8], least: u64, most: u64) -> Result<u64, PartFault>
     ensures gives { Gives (λ n. n) result (number_within_at least most text.now) }
     ensures within { IfOk result (λ n. (least ≤ n) × (n ≤ most)) }

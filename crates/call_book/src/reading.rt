@@ -2,8 +2,8 @@ ghost use Rattle.std.specs.Prelude.{◌≡◌, ◌+◌, ◌-◌, ◌≤◌, ℕ,
 ghost use Rattle.call_book.specs.SectionView.{SectionView};
 ghost use Rattle.call_book.specs.Spelling.{spelling};
 ghost use Rattle.call_book.specs.Limits.{IsClient, AreRead};
-ghost use Rattle.call_book.specs.BadLine.{IsBadLine, MeansFault};
-ghost use Rattle.call_book.specs.Reading.{Fails, fault_from, call_at, IsNext, SoFar, StopsAt};
+ghost use Rattle.call_book.specs.BadLine.{IsBadLine, IsReadFault};
+ghost use Rattle.call_book.specs.private.Reading.{Fails, fault_from, call_at, IsNext, SoFar, IsEntriesFault};
 
 use crate::cut::cut;
 use crate::fault::{CallsFault, PartFault};
@@ -57,7 +57,7 @@ fn entry_of(alloc: Global, line: &[u8], made: &mut [u64; 64]) -> Result<Entry, P
 fn entries_of(alloc: Global, text: &[u8]) -> Result<Vec<Entry>, CallsFault>
     ensures found { IfOk result (λ v. SoFar text.now [] v.items) }
     ensures few { IfOk result (λ v. length v.items ≤ 65536) }
-    ensures fault { IfErr result (StopsAt text.now) }
+    ensures fault { IfErr result (IsEntriesFault text.now) }
 {
     let mut entries = Vec::new(alloc);
     let mut made = [0u64; 64];
@@ -87,7 +87,7 @@ fn entries_of(alloc: Global, text: &[u8]) -> Result<Vec<Entry>, CallsFault>
 /// The one section that a calls text spells.
 fn section_of(alloc: Global, text: &[u8]) -> Result<Section, CallsFault>
     ensures found { IfOk result (λ s. AreRead (s ∷ []) × (text.now ≡ spelling (s ∷ []))) }
-    ensures fault { IfErr result (MeansFault text.now) }
+    ensures fault { IfErr result (IsReadFault text.now) }
 {
     let Some((header, rest)) = cut(text, b'\n') else {
         return Err(CallsFault::BadLine { n: 1 });
@@ -123,9 +123,10 @@ pub fn read_calls(alloc: Global, text: &[u8]) -> Result<Vec<Section>, CallsFault
     ensures only { (sections : List SectionView) → AreRead sections → text.now ≡ spelling sections
         → MatchResult result (λ v. v.items ≡ sections) (λ e. e ≡ CallsFault.Memory) }
     // The line of a fault is the bad one.
-    ensures fault { IfErr result (MeansFault text.now) }
+    ensures fault { IfErr result (IsReadFault text.now) }
     // A text with a bad line is refused with this line, unless memory runs out.
-    ensures bad { (n : ℕ) → IsBadLine text.now n → IsErrOf result (CallsFault.BadLine n) ⊎ IsErrOf result CallsFault.Memory }
+    ensures bad { (n : ℕ) → IsBadLine text.now n
+        → IsErrOf result (CallsFault.BadLine n) ⊎ IsErrOf result CallsFault.Memory }
 {
     let section = section_of(alloc, text)?;
     let mut sections = Vec::new(alloc);

@@ -1,7 +1,7 @@
 ghost use Rattle.std.specs.Prelude.{◌≡◌, IfOk};
 ghost use Rattle.std.specs.Option.{option_map};
 ghost use Rattle.domain_run.specs.script.Segments.{rounds_of, IsLoops};
-ghost use Rattle.call_book.specs.Reading.{Gives, event_at, event_first_at, events_at, phase_at, phase_first_at, phases_at, rounds_at, script_at};
+ghost use Rattle.call_book.specs.private.Reading.{Gives, event_at, event_first_at, events_at, phase_at, phase_first_at, phases_at, rounds_at, script_at};
 
 use crate::cut::cut;
 use crate::fault::PartFault;
@@ -15,7 +15,7 @@ const MOST: u64 = 1_000_000_000;
 const MOST_ITEMS: u64 = 64;
 
 /// `rN`, `sN`, `tN` or `w`.
-#[tactic(auto, unfolding(crate::specs::Reading::event_at))]
+#[tactic(auto, unfolding(crate::specs::private::Reading::event_at))]
 fn event_of(text: &[u8]) -> Result<Event, PartFault>
     ensures { Gives (λ e. e) result (event_at text.now) }
 {
@@ -29,7 +29,7 @@ fn event_of(text: &[u8]) -> Result<Event, PartFault>
 }
 
 /// An event, and what follows the comma after it.
-#[tactic(auto, unfolding(crate::specs::Reading::event_first_at))]
+#[tactic(auto, unfolding(crate::specs::private::Reading::event_first_at))]
 fn event_first(text: &[u8]) -> Result<(Event, Option<&[u8]>), PartFault>
     ensures { Gives (λ p. (p.0, option_map (λ r. r.now) p.1)) result (event_first_at text.now) }
 {
@@ -57,7 +57,7 @@ fn events_of(alloc: Global, text: &[u8]) -> Result<Vec<Event>, PartFault>
 }
 
 /// A count and its events, without the brace at the end.
-#[tactic(auto, unfolding(crate::specs::Reading::phase_at))]
+#[tactic(auto, unfolding(crate::specs::private::Reading::phase_at))]
 fn phase_of(alloc: Global, text: &[u8]) -> Result<Phase, PartFault>
     ensures { Gives (λ p. p) result (phase_at text.now) }
 {
@@ -70,7 +70,7 @@ fn phase_of(alloc: Global, text: &[u8]) -> Result<Phase, PartFault>
 }
 
 /// A phase, and what follows the brace after it.
-#[tactic(auto, unfolding(crate::specs::Reading::phase_first_at))]
+#[tactic(auto, unfolding(crate::specs::private::Reading::phase_first_at))]
 fn phase_first(alloc: Global, text: &[u8]) -> Result<(Phase, Option<&[u8]>), PartFault>
     ensures { Gives (λ p. (p.0, option_map (λ r. r.now) p.1)) result (phase_first_at text.now) }
 {
@@ -103,7 +103,7 @@ fn phases_of(alloc: Global, text: &[u8]) -> Result<Vec<Phase>, PartFault>
 }
 
 /// The loop count of a script: -1, or 1 to 10^9.
-#[tactic(auto, unfolding(crate::specs::Reading::rounds_at))]
+#[tactic(auto, unfolding(crate::specs::private::Reading::rounds_at))]
 fn loops_of(text: &[u8]) -> Result<i64, PartFault>
     ensures gives { Gives rounds_of result (rounds_at text.now) }
     ensures within { IfOk result IsLoops }
@@ -115,7 +115,7 @@ fn loops_of(text: &[u8]) -> Result<i64, PartFault>
 }
 
 /// The script that a text spells.
-#[tactic(auto, unfolding(crate::specs::Reading::script_at))]
+#[tactic(auto, unfolding(crate::specs::private::Reading::script_at))]
 pub(crate) fn script_of(alloc: Global, text: &[u8]) -> Result<Script, PartFault>
     ensures { Gives (λ s. s) result (script_at text.now) }
 {

@@ -4,8 +4,8 @@ ghost use Rattle.std.specs.Prelude.{ℕ, ◌≡◌, ◌∷◌, ◌++◌, List, m
 ghost use Rattle.std.specs.List.{flat_map};
 ghost use Rattle.call_book.specs.Spelling.{event_text, events_text, phase_text, loops_text, script_text, line_of, call_fields, entry_line, section_lines, text_of, spelling};
 ghost use Rattle.call_book.specs.Limits.{AreRead};
-ghost use Rattle.call_book.specs.Reading.{entries_text};
-ghost use Rattle.call_book.specs.Writing.{params_text, head_text, busy_text};
+ghost use Rattle.call_book.specs.private.Reading.{entries_text};
+ghost use Rattle.call_book.specs.private.Writing.{params_text, head_text, busy_text};
 ghost use Rattle.call_book.specs.RoundTrip.{unanswered, IsReadAs};
 
 use crate::section::{Entry, Section};
@@ -139,7 +139,8 @@ fn put_busy(out: &mut Vec<u8>, word: Option<u64>) -> Result<(), NoMemory>
 
 /// What follows the parameters of an admission.
 fn put_plan(out: &mut Vec<u8>, delay: u64, script: &Script) -> Result<(), NoMemory>
-    ensures { OnOk result (out.new.items ≡ out.old.items ++ (32 ∷ (decimal delay ++ 32 ∷ script_text script.now))) }
+    ensures { OnOk result (out.new.items
+        ≡ out.old.items ++ (32 ∷ (decimal delay ++ 32 ∷ script_text script.now))) }
 {
     put_field(out, delay)?;
     put(out, b" ")?;
@@ -217,7 +218,8 @@ pub fn write_calls(alloc: Global, sections: &[Section]) -> Result<Vec<u8>, NoMem
     // What is written is the spelling.
     ensures found { IfOk result (λ v. v.items ≡ spelling sections.now) }
     // Where `read_calls` reads such sections, it reads the text as these, without their replies, and as no others.
-    ensures back { IfOk result (λ v. AreRead (map unanswered sections.now) → IsReadAs v.items (map unanswered sections.now)) }
+    ensures back { IfOk result (λ v. AreRead (map unanswered sections.now)
+        → IsReadAs v.items (map unanswered sections.now)) }
 {
     let mut out = Vec::new(alloc);
     put(&mut out, b"dlcalls 1\n")?;

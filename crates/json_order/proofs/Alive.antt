@@ -10,7 +10,7 @@ use Rattle.std.proofs.lemmas.Str.{encode_ascii}
 use Rattle.json_order.specs.Json.{Json, null, number, string, array, object, no_items, item, no_members, member}
 use Rattle.json_order.specs.Seen.{items_with, members_with}
 use Rattle.json_order.specs.Grammar.{Rules, plain, AreCharacters, has_key, may_follow}
-use Rattle.json_order.specs.Machine.{Entries, keys, Place, at_value, at_first_item, behind, at_first_key, at_next_key, in_key, behind_key, in_string, in_number, in_word, Frame, in_list, in_object, State, state, IsFine, IsFinePlace}
+use Rattle.json_order.specs.private.Machine.{Entries, keys, Place, at_value, at_first_item, behind, at_first_key, at_next_key, in_key, behind_key, in_string, in_number, in_word, Frame, in_list, in_object, State, state, IsFine, IsFinePlace}
 use Rattle.json_order.specs.declared.place.Escape.{Escape}
 use Rattle.json_order.specs.declared.place.Escape.TheVariants.{Outside, Slash, Unit0, Unit1, Unit2, Unit3, High, HighSlash, Low0, Low1, Low2, Low3}
 use Rattle.json_order.specs.declared.place.Part.{Part}

@@ -8,7 +8,7 @@ use Rattle.std.proofs.Math.Utf8.{low_scalar}
 use Rattle.json_order.specs.Json.{Json}
 use Rattle.json_order.specs.Grammar.{Rules, IsText}
 use Rattle.json_order.specs.Fault.{strict, deeper, repeating, Spells, Begins, IsLongestFront, IsFault}
-use Rattle.json_order.specs.Machine.{State, move, judged, step, start, run, ended, IsFinePlace}
+use Rattle.json_order.specs.private.Machine.{State, move, judged, step, start, run, ended, IsFinePlace}
 use Rattle.json_order.specs.declared.fault.JsonKind.{JsonKind}
 use Rattle.json_order.specs.declared.fault.JsonKind.TheVariants.{Syntax, End, Depth, Duplicate, Utf8, Memory}
 use Rattle.json_order.proofs.Strings.{lt_from, lt_not}

@@ -8,7 +8,7 @@ use Rattle.std.proofs.Common.{ℕ, suc, ◌+◌, ◌*◌, ◌<◌, ◌≤◌, �
 use Rattle.json_order.specs.Json.{Json, null, boolean, number, array, object, no_items, no_members}
 use Rattle.json_order.specs.Seen.{items_with, members_with}
 use Rattle.json_order.specs.Grammar.{is_space, short_escape, is_high_surrogate}
-use Rattle.json_order.specs.Machine.{Entries, Place, at_value, at_first_item, behind, at_first_key, at_next_key, in_key, behind_key, in_string, in_number, in_word, Frame, in_list, in_object, State, state, Move, goes, opens, names, stops, value_move, next_move, behind_move, key_move, string_move, number_move, word_move, move, IsFinePlace, Quote, going, closed, quote_step, spelled, first_unit, part_step, is_done}
+use Rattle.json_order.specs.private.Machine.{Entries, Place, at_value, at_first_item, behind, at_first_key, at_next_key, in_key, behind_key, in_string, in_number, in_word, Frame, in_list, in_object, State, state, Move, goes, opens, names, stops, value_move, next_move, behind_move, key_move, string_move, number_move, word_move, move, IsFinePlace, Quote, going, closed, quote_step, spelled, first_unit, part_step, is_done}
 use Rattle.json_order.specs.declared.place.Escape.{Escape}
 use Rattle.json_order.specs.declared.place.Escape.TheVariants.{Outside, Slash, Unit0, Unit1, Unit2, Unit3, High, HighSlash, Low0, Low1, Low2, Low3}
 use Rattle.json_order.specs.declared.place.Part.{Part}

@@ -6,7 +6,7 @@ use Rattle.std.proofs.Common.{ℕ, ◌<◌, ◌≤◌, ◌≡◌, ◌⊎◌, inl
 use Rattle.std.proofs.lemmas.Bool.Decides.{nat_tests}
 use Rattle.json_order.specs.Json.{Json, number}
 use Rattle.json_order.specs.Grammar.{is_space, is_sign, is_mark, short_escape}
-use Rattle.json_order.specs.Machine.{Entries, Place, at_value, at_first_item, behind, at_first_key, at_next_key, in_key, behind_key, in_string, in_number, in_word, Frame, in_list, in_object, State, state, goes, stops, value_move, next_move, behind_move, key_move, string_move, number_move, word_move, move, going, quote_step, part_step, is_done, IsFinePlace}
+use Rattle.json_order.specs.private.Machine.{Entries, Place, at_value, at_first_item, behind, at_first_key, at_next_key, in_key, behind_key, in_string, in_number, in_word, Frame, in_list, in_object, State, state, goes, stops, value_move, next_move, behind_move, key_move, string_move, number_move, word_move, move, going, quote_step, part_step, is_done, IsFinePlace}
 use Rattle.std.specs.List.{AllByRecursion}
 use Rattle.json_order.specs.declared.place.Escape.{Escape}
 use Rattle.json_order.specs.declared.place.Escape.TheVariants.{Outside, Slash, Unit0, Unit1, Unit2, Unit3, High, HighSlash, Low0, Low1, Low2, Low3}

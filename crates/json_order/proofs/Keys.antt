@@ -5,7 +5,7 @@ use Rattle.std.specs.declared.string.String.{String}
 use Rattle.std.specs.declared.alloc.Global.{Global}
 use Rattle.std.proofs.Common.{ℕ, ◌≡◌, Bool, true, false, cond, ◌||◌, List, [], ◌∷◌, ◌++◌, refl, ap, ◌∙◌}
 use Rattle.json_order.specs.Grammar.{has_key}
-use Rattle.json_order.specs.Entries.{keys_of}
+use Rattle.json_order.specs.private.Entries.{keys_of}
 use Rattle.json_order.specs.declared.tree.Tree.{Tree}
 
 pub has_push : (ms : List (String Global × Tree)) (k : String Global) (v : Tree) (key : List ℕ) → has_key (keys_of (ms ++ (k, v) ∷ [])) key ≡ cond (bytes_eq (string_bytes k) key) true (has_key (keys_of ms) key)

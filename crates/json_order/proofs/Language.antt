@@ -7,7 +7,7 @@ use Rattle.std.specs.Char.Utf16.{surrogate_pair_char}
 use Rattle.json_order.specs.Json.{Json, number, string, array, object, Items, item, Members, member}
 use Rattle.json_order.specs.Seen.{items_with, members_with}
 use Rattle.json_order.specs.Grammar.{Rules, IsSpaced, AreDigits, SomeDigits, IsFraction, IsExponent, IsPower, IsUnsigned, short_escape, IsHex, IsUnit, is_high_surrogate, is_low_surrogate, AreCharacters, IsKey, may_follow, IsValue, AreItems, AreMoreItems, AreMembers, AreMoreMembers}
-use Rattle.json_order.specs.Machine.{keys, Place, at_value, at_first_item, behind, at_first_key, at_next_key, in_key, behind_key, in_string, in_number, in_word, Frame, in_list, in_object, State}
+use Rattle.json_order.specs.private.Machine.{keys, Place, at_value, at_first_item, behind, at_first_key, at_next_key, in_key, behind_key, in_string, in_number, in_word, Frame, in_list, in_object, State}
 use Rattle.json_order.specs.declared.place.Escape.{Escape}
 use Rattle.json_order.specs.declared.place.Escape.TheVariants.{Outside, Slash, Unit0, Unit1, Unit2, Unit3, High, HighSlash, Low0, Low1, Low2, Low3}
 use Rattle.json_order.specs.declared.place.Part.{Part}

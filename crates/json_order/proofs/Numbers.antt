@@ -5,7 +5,7 @@ use Rattle.std.proofs.lemmas.Bool.Decides.{nat_tests}
 use Rattle.std.specs.Char.{is_ascii_digit}
 use Rattle.std.specs.Int.{is_in_range}
 use Rattle.json_order.specs.Grammar.{AreDigits, SomeDigits, IsInteger, IsFraction, IsExponent, IsPower, IsNumber, is_sign, is_mark}
-use Rattle.json_order.specs.Machine.{part_step, is_done}
+use Rattle.json_order.specs.private.Machine.{part_step, is_done}
 use Rattle.json_order.specs.declared.place.Part.{Part}
 use Rattle.json_order.specs.declared.place.Part.TheVariants.{Minus, Zero, Whole, Dot, Fraction, Mark, Sign, Exponent}
 use Rattle.json_order.proofs.Language.{NumberRest}

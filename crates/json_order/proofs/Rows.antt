@@ -2,7 +2,7 @@
 use Rattle.std.specs.Char.{encode_utf8}
 use Rattle.std.proofs.Common.{ℕ, List, [], ◌∷◌, ◌++◌, refl}
 use Rattle.json_order.specs.Fault.{IsFault}
-use Rattle.json_order.specs.Machine.{state, at_value, in_number, in_key, at_first_item, Frame, in_list, in_object}
+use Rattle.json_order.specs.private.Machine.{state, at_value, in_number, in_key, at_first_item, Frame, in_list, in_object}
 use Rattle.json_order.specs.Json.{number}
 use Rattle.json_order.specs.declared.fault.JsonKind.TheVariants.{Syntax, End, Depth, Duplicate}
 use Rattle.json_order.specs.declared.place.Escape.TheVariants.{Outside}

@@ -5,7 +5,7 @@ use Rattle.std.proofs.Common.{ℕ, suc, ◌≤◌, ◌≡◌, ◌⊎◌, inl, in
 use Rattle.json_order.specs.Json.{Json, null, boolean, number, string, array, object, no_items, item, no_members, member}
 use Rattle.json_order.specs.Grammar.{Rules, IsSpaced, IsCharacter, plain, short, one_unit, two_units, IsKey, has_key, may_follow, IsValue, IsText}
 use Rattle.json_order.specs.Fault.{strict, deeper, repeating}
-use Rattle.json_order.specs.Machine.{Place, at_value, at_first_item, behind, at_first_key, at_next_key, in_key, behind_key, in_string, in_number, in_word, Frame, in_list, in_object, State, Move, goes, opens, names, stops, move, judged, step, start, run_on, run, ended, is_done}
+use Rattle.json_order.specs.private.Machine.{Place, at_value, at_first_item, behind, at_first_key, at_next_key, in_key, behind_key, in_string, in_number, in_word, Frame, in_list, in_object, State, Move, goes, opens, names, stops, move, judged, step, start, run_on, run, ended, is_done}
 use Rattle.json_order.specs.declared.fault.JsonKind.{JsonKind}
 use Rattle.json_order.specs.declared.fault.JsonKind.TheVariants.{Syntax, End, Depth, Duplicate, Utf8, Memory}
 use Rattle.json_order.specs.declared.place.Escape.{Escape}

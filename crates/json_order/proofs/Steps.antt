@@ -4,7 +4,7 @@ use Rattle.std.proofs.Common.{ℕ, suc, ◌≤◌, ◌≡◌, ◌≢◌, ◌⊎�
 use Rattle.json_order.specs.Json.{Json, number, string, array, object, Items, no_items, item, Members, no_members, member}
 use Rattle.json_order.specs.Seen.{items_with, members_with}
 use Rattle.json_order.specs.Grammar.{Rules, is_space, IsSpaced, AreCharacters, IsString, IsKey, may_follow, AreMoreItems, AreMoreMembers}
-use Rattle.json_order.specs.Machine.{Entries, keys, Place, at_value, at_first_item, behind, at_first_key, at_next_key, in_key, behind_key, in_string, in_number, in_word, Frame, in_list, in_object, State, state, Move, goes, stops, value_move, next_move, behind_move, key_move, string_move, number_move, move, IsFine, IsFinePlace, Quote, going, closed, quote_step, part_step, is_done}
+use Rattle.json_order.specs.private.Machine.{Entries, keys, Place, at_value, at_first_item, behind, at_first_key, at_next_key, in_key, behind_key, in_string, in_number, in_word, Frame, in_list, in_object, State, state, Move, goes, stops, value_move, next_move, behind_move, key_move, string_move, number_move, move, IsFine, IsFinePlace, Quote, going, closed, quote_step, part_step, is_done}
 use Rattle.json_order.specs.declared.place.Escape.{Escape}
 use Rattle.json_order.specs.declared.place.Escape.TheVariants.{Outside}
 use Rattle.json_order.specs.declared.place.Part.{Part}

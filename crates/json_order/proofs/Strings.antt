@@ -6,7 +6,7 @@ use Rattle.std.specs.Char.{IsScalar, digit_value}
 use Rattle.std.specs.Char.Utf16.{surrogate_pair_char}
 use Rattle.std.specs.Int.{is_in_range}
 use Rattle.json_order.specs.Grammar.{is_plain, short_escape, IsHex, is_high_surrogate, is_low_surrogate, IsCharacter, plain, short, one_unit, two_units, AreCharacters}
-use Rattle.json_order.specs.Machine.{IsFine, Quote, going, closed, quote_step, spelled, first_unit}
+use Rattle.json_order.specs.private.Machine.{IsFine, Quote, going, closed, quote_step, spelled, first_unit}
 use Rattle.json_order.specs.declared.place.Escape.{Escape}
 use Rattle.json_order.specs.declared.place.Escape.TheVariants.{Outside, Slash, Unit0, Unit1, Unit2, Unit3, High, HighSlash, Low0, Low1, Low2, Low3}
 use Rattle.json_order.proofs.Language.{UnitRest, LowRest, FirstRest, EscapeRest, FirstCharacter, StringRest}

@@ -8,9 +8,9 @@ use Rattle.json_order.specs.Json.{Json, object, no_members}
 use Rattle.json_order.specs.Seen.{json_of, seen_step, entry_of, members_with}
 use Rattle.json_order.specs.Grammar.{has_key}
 use Rattle.json_order.specs.Fault.{strict}
-use Rattle.json_order.specs.Entries.{keys_of}
-use Rattle.json_order.specs.Places.{entries_of}
-use Rattle.json_order.specs.Machine.{keys, Frame, state, behind_key, Quote, closed, key_move, judged}
+use Rattle.json_order.specs.private.Entries.{keys_of}
+use Rattle.json_order.specs.private.Places.{entries_of}
+use Rattle.json_order.specs.private.Machine.{keys, Frame, state, behind_key, Quote, closed, key_move, judged}
 use Rattle.json_order.specs.declared.fault.JsonKind.TheVariants.{Duplicate}
 use Rattle.json_order.specs.declared.tree.Tree.{Tree}
 use Rattle.json_order.specs.declared.tree.Tree.TheVariants.{Object, rolls-Object}

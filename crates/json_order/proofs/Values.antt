@@ -5,7 +5,7 @@ use Rattle.std.proofs.lemmas.Bool.Decides.{nat_tests}
 use Rattle.std.specs.Int.{is_in_range}
 use Rattle.json_order.specs.Json.{Json, null, boolean, number, string, array, object}
 use Rattle.json_order.specs.Grammar.{Rules, is_space, IsNumber, AreCharacters, may_follow, IsValue, AreItems, AreMembers}
-use Rattle.json_order.specs.Machine.{at_first_item, at_first_key, in_string, in_number, in_word, Frame, state, Move, goes, opens, names, stops, value_move}
+use Rattle.json_order.specs.private.Machine.{at_first_item, at_first_key, in_string, in_number, in_word, Frame, state, Move, goes, opens, names, stops, value_move}
 use Rattle.json_order.specs.declared.place.Escape.TheVariants.{Outside}
 use Rattle.json_order.specs.declared.place.Part.{Part}
 use Rattle.json_order.specs.declared.place.Part.TheVariants.{Minus, Zero, Whole}

@@ -2,7 +2,7 @@ ghost use Rattle.std.specs.Prelude.{ℕ, List, ◌≡◌, ◌++◌, [], ◌∷�
 ghost use Rattle.std.specs.BTreeSet.{contains_text};
 ghost use Rattle.json_order.specs.declared.fault.JsonKind.TheVariants.{Memory};
 ghost use Rattle.json_order.specs.Grammar.{has_key};
-ghost use Rattle.json_order.specs.Entries.{keys_of};
+ghost use Rattle.json_order.specs.private.Entries.{keys_of};
 
 use crate::fault::JsonKind;
 use crate::tree::Tree;

@@ -1,5 +1,5 @@
 ghost use Rattle.std.specs.Prelude.{◌≡◌};
-ghost use Rattle.json_order.specs.Machine as machine;
+ghost use Rattle.json_order.specs.private.Machine as machine;
 
 use crate::place::Part;
 

@@ -3,9 +3,9 @@ ghost use Rattle.std.specs.Char.Utf16.{surrogate_pair_char};
 ghost use Rattle.json_order.specs.declared.fault.JsonKind.TheVariants.{Memory};
 ghost use Rattle.json_order.specs.declared.place.Escape.TheVariants.{Outside};
 ghost use Rattle.json_order.specs.Grammar as grammar;
-ghost use Rattle.json_order.specs.Machine as machine;
-ghost use Rattle.json_order.specs.Machine.{IsFine, going, digit_quote, hex_step};
-ghost use Rattle.json_order.specs.Places.{quote_of, Misses};
+ghost use Rattle.json_order.specs.private.Machine as machine;
+ghost use Rattle.json_order.specs.private.Machine.{IsFine, going, digit_quote, hex_step};
+ghost use Rattle.json_order.specs.private.Places.{quote_of, Misses};
 
 use crate::fault::JsonKind;
 use crate::place::Escape;
@@ -20,7 +20,8 @@ pub(crate) enum Quote {
 /// One more character of a string.
 #[inline(always)]
 fn spelled(mut text: String, c: char) -> Result<Quote, JsonKind>
-    ensures ok { IfOk result (λ q. quote_of q ≡ going (string_bytes text ++ encode_utf8 c) Outside) }
+    ensures ok { IfOk result (λ q. quote_of q
+        ≡ going (string_bytes text ++ encode_utf8 c) Outside) }
     ensures err { IfErr result (λ k. k ≡ Memory) }
 {
     text.push(c)?;
@@ -47,7 +48,8 @@ fn short_escape(c: char) -> Option<char>
 /// The string with one digit more, or the character that a whole first unit is.
 fn first_unit(text: String, unit: u32) -> Result<Quote, JsonKind>
     requires unit { (unit < 0xDC00) ⊎ ((0xDFFF < unit) × (unit < 0x1_0000)) }
-    ensures ok { IfOk result (λ q. machine.first_unit (string_bytes text) unit ≡ Some (quote_of q)) }
+    ensures ok { IfOk result (λ q. machine.first_unit (string_bytes text) unit
+        ≡ Some (quote_of q)) }
     ensures err { IfErr result (λ k. k ≡ Memory) }
 {
     if unit >= 0xD800 && unit <= 0xDBFF {
@@ -63,7 +65,9 @@ fn first_unit(text: String, unit: u32) -> Result<Quote, JsonKind>
 fn second_unit(text: String, high: u32, low: u32) -> Result<Quote, JsonKind>
     requires high { (0xD800 ≤ high) × (high ≤ 0xDBFF) }
     requires low { (0xDC00 ≤ low) × (low ≤ 0xDFFF) }
-    ensures ok { IfOk result (λ q. machine.spelled (string_bytes text) (Some (surrogate_pair_char high low)) ≡ Some (quote_of q)) }
+    ensures ok { IfOk result
+        (λ q. machine.spelled (string_bytes text) (Some (surrogate_pair_char high low))
+        ≡ Some (quote_of q)) }
     ensures err { IfErr result (λ k. k ≡ Memory) }
 {
     match char::from_u32(0x10000 + (high - 0xD800) * 0x400 + (low - 0xDC00)) {
@@ -76,7 +80,8 @@ fn second_unit(text: String, high: u32, low: u32) -> Result<Quote, JsonKind>
 fn digit_step(text: String, escape: Escape, digit: u32) -> Result<Quote, JsonKind>
     requires digit { digit < 16 }
     requires fine { IsFine escape }
-    ensures ok { IfOk result (λ q. digit_quote (string_bytes text) escape digit ≡ Some (quote_of q)) }
+    ensures ok { IfOk result (λ q. digit_quote (string_bytes text) escape digit
+        ≡ Some (quote_of q)) }
     ensures err { IfErr result (Misses (digit_quote (string_bytes text) escape digit)) }
 {
     match escape {
@@ -126,7 +131,8 @@ fn hexed(text: String, escape: Escape, c: char) -> Result<Quote, JsonKind>
 #[inline(always)]
 pub(crate) fn quote_step(text: String, escape: Escape, c: char) -> Result<Quote, JsonKind>
     requires fine { IsFine escape }
-    ensures ok { IfOk result (λ q. machine.quote_step (string_bytes text) escape c ≡ Some (quote_of q)) }
+    ensures ok { IfOk result (λ q. machine.quote_step (string_bytes text) escape c
+        ≡ Some (quote_of q)) }
     ensures err { IfErr result (Misses (machine.quote_step (string_bytes text) escape c)) }
 {
     match escape {

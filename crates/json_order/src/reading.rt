@@ -2,8 +2,8 @@ ghost use Rattle.std.specs.Prelude.{List, ◌≡◌, ◌≢◌, Some, None, IsUt
 ghost use Rattle.json_order.specs.declared.fault.JsonKind.TheVariants.{End, Memory};
 ghost use Rattle.json_order.specs.Fault.{strict, Spells, IsFault};
 ghost use Rattle.json_order.specs.Json.{Json};
-ghost use Rattle.json_order.specs.Machine.{ended};
-ghost use Rattle.json_order.specs.Places.{place_of, frames_of};
+ghost use Rattle.json_order.specs.private.Machine.{ended};
+ghost use Rattle.json_order.specs.private.Places.{place_of, frames_of};
 ghost use Rattle.json_order.specs.Seen.{json_of};
 
 use crate::fault::{JsonFault, JsonKind};
@@ -26,9 +26,11 @@ pub fn read(alloc: Global, bytes: &[u8]) -> Result<Tree, JsonFault>
     // What is read is what the input spells,
     ensures found { IfOk result (λ tree. Spells strict bytes.now (json_of tree)) }
     // and it spells nothing else.
-    ensures only { IfOk result (λ tree. (value : Json) → Spells strict bytes.now value → value ≡ json_of tree) }
+    ensures only { IfOk result (λ tree. (value : Json) → Spells strict bytes.now value → value
+        ≡ json_of tree) }
     // What the input spells is read, unless memory runs out.
-    ensures accepted { (value : Json) → Spells strict bytes.now value → IfErr result (λ fault. fault.kind ≡ Memory) }
+    ensures accepted { (value : Json) → Spells strict bytes.now value
+        → IfErr result (λ fault. fault.kind ≡ Memory) }
     // Which fault it is, and where.
     ensures fault { IfErr result (λ fault. IsFault bytes.now fault.kind fault.at) }
 {
@@ -56,7 +58,8 @@ fn fault_at(kind: JsonKind, at: usize) -> JsonFault
 /// The value of a text that ends here, none where it may not.
 fn value_at_end(place: Place, stack: &Vec<Frame>) -> Option<Tree>
     ensures none { IfNone result (ended (place_of place) (frames_of stack.now.items) ≡ None) }
-    ensures some { IfSome result (λ tree. ended (place_of place) (frames_of stack.now.items) ≡ Some (json_of tree)) }
+    ensures some { IfSome result (λ tree. ended (place_of place) (frames_of stack.now.items)
+        ≡ Some (json_of tree)) }
 {
     if !stack.is_empty() {
         return None;
@@ -80,7 +83,8 @@ fn value_at_end(place: Place, stack: &Vec<Frame>) -> Option<Tree>
 /// Reads a text in UTF-8.
 fn read_text(alloc: Global, text: &str) -> Result<Tree, JsonFault>
     ensures found { IfOk result (λ tree. Spells strict text.now (json_of tree)) }
-    ensures only { IfOk result (λ tree. (value : Json) → Spells strict text.now value → value ≡ json_of tree) }
+    ensures only { IfOk result (λ tree. (value : Json) → Spells strict text.now value → value
+        ≡ json_of tree) }
     ensures fault { IfErr result (λ fault. IsFault text.now fault.kind fault.at) }
 {
     let mut stack = match Vec::with_capacity(alloc, DEPTH + 1) {

@@ -4,8 +4,8 @@ ghost use Rattle.json_order.specs.declared.fault.JsonKind.TheVariants.{Memory};
 ghost use Rattle.json_order.specs.Fault.{strict};
 ghost use Rattle.json_order.specs.Grammar as grammar;
 ghost use Rattle.json_order.specs.Json.{array, no_items, object, no_members};
-ghost use Rattle.json_order.specs.Machine.{Frame as StackFrame, IsFine, IsFinePlace, in_list, in_object, state, judged, step as machine_step, move, at_first_item, at_first_key, at_next_key, in_key, behind_key, in_string, in_number, in_word, value_move, next_move, behind_move};
-ghost use Rattle.json_order.specs.Places.{place_of, frames_of, state_of, entries_of, letters_from, value_of, Says};
+ghost use Rattle.json_order.specs.private.Machine.{Frame as StackFrame, IsFine, IsFinePlace, in_list, in_object, state, judged, step as machine_step, move, at_first_item, at_first_key, at_next_key, in_key, behind_key, in_string, in_number, in_word, value_move, next_move, behind_move};
+ghost use Rattle.json_order.specs.private.Places.{place_of, frames_of, state_of, entries_of, letters_from, value_of, Says};
 ghost use Rattle.json_order.specs.Seen.{json_of, members_with};
 
 use crate::fault::JsonKind;
@@ -41,7 +41,8 @@ fn one(alloc: Global, c: char) -> Result<String, JsonKind>
 
 /// A value's first character.
 fn value_step(alloc: Global, stack: &Vec<Frame>, c: char) -> Result<Place, JsonKind>
-    ensures ok { IfOk result (λ p. judged strict (value_move (frames_of stack.now.items) c) ≡ Ok (state_of p stack.now.items)) }
+    ensures ok { IfOk result (λ p. judged strict (value_move (frames_of stack.now.items) c)
+        ≡ Ok (state_of p stack.now.items)) }
     ensures err { IfErr result (Says (judged strict (value_move (frames_of stack.now.items) c))) }
 {
     match c {
@@ -66,8 +67,11 @@ fn item_step(
     value: Tree,
     c: char,
 ) -> Result<Place, JsonKind>
-    ensures ok { IfOk result (λ p. judged strict (next_move (json_of value) (in_list (map json_of items.items) ∷ frames_of stack.old.items) c) ≡ Ok (state_of p stack.new.items)) }
-    ensures err { IfErr result (Says (judged strict (next_move (json_of value) (in_list (map json_of items.items) ∷ frames_of stack.old.items) c))) }
+    ensures ok { IfOk result
+        (λ p. judged strict (next_move (json_of value) (in_list (map json_of items.items)
+        ∷ frames_of stack.old.items) c) ≡ Ok (state_of p stack.new.items)) }
+    ensures err { IfErr result (Says (judged strict (next_move (json_of value)
+        (in_list (map json_of items.items) ∷ frames_of stack.old.items) c))) }
 {
     match c {
         ',' => {
@@ -93,8 +97,11 @@ fn object_of(members: Members) -> Tree
 
 /// Behind the value of a member of an object.
 fn member_step(members: Members, key: String, value: Tree, c: char) -> Result<Place, JsonKind>
-    ensures ok { IfOk result (λ p. (fs : List StackFrame) → judged strict (next_move (json_of value) (in_object (entries_of members.list.items) (string_bytes key) ∷ fs) c) ≡ Ok (state (place_of p) fs)) }
-    ensures err { IfErr result (λ k. (fs : List StackFrame) → Says (judged strict (next_move (json_of value) (in_object (entries_of members.list.items) (string_bytes key) ∷ fs) c)) k) }
+    ensures ok { IfOk result (λ p. (fs : List StackFrame) → judged strict
+        (next_move (json_of value) (in_object (entries_of members.list.items)
+        (string_bytes key) ∷ fs) c) ≡ Ok (state (place_of p) fs)) }
+    ensures err { IfErr result (λ k. (fs : List StackFrame) → Says (judged strict (next_move
+        (json_of value) (in_object (entries_of members.list.items) (string_bytes key) ∷ fs) c)) k) }
 {
     match c {
         ',' => Ok(Place::NextKey(with_member(members, key, value)?)),
@@ -105,8 +112,11 @@ fn member_step(members: Members, key: String, value: Tree, c: char) -> Result<Pl
 
 /// Behind a value and its white space.
 fn next_step(stack: &mut Vec<Frame>, value: Tree, c: char) -> Result<Place, JsonKind>
-    ensures ok { IfOk result (λ p. judged strict (next_move (json_of value) (frames_of stack.old.items) c) ≡ Ok (state_of p stack.new.items)) }
-    ensures err { IfErr result (Says (judged strict (next_move (json_of value) (frames_of stack.old.items) c))) }
+    ensures ok { IfOk result
+        (λ p. judged strict (next_move (json_of value) (frames_of stack.old.items) c)
+        ≡ Ok (state_of p stack.new.items)) }
+    ensures err { IfErr result
+        (Says (judged strict (next_move (json_of value) (frames_of stack.old.items) c))) }
 {
     match stack.pop() {
         None => Err(JsonKind::Syntax),
@@ -117,8 +127,11 @@ fn next_step(stack: &mut Vec<Frame>, value: Tree, c: char) -> Result<Place, Json
 
 /// Behind a value.
 fn behind_step(stack: &mut Vec<Frame>, value: Tree, c: char) -> Result<Place, JsonKind>
-    ensures ok { IfOk result (λ p. judged strict (behind_move (json_of value) (frames_of stack.old.items) c) ≡ Ok (state_of p stack.new.items)) }
-    ensures err { IfErr result (Says (judged strict (behind_move (json_of value) (frames_of stack.old.items) c))) }
+    ensures ok { IfOk result
+        (λ p. judged strict (behind_move (json_of value) (frames_of stack.old.items) c)
+        ≡ Ok (state_of p stack.new.items)) }
+    ensures err { IfErr result
+        (Says (judged strict (behind_move (json_of value) (frames_of stack.old.items) c))) }
 {
     if is_space(c) {
         return Ok(Place::Behind(value));
@@ -135,8 +148,10 @@ fn empty_list(alloc: Global) -> Tree
 
 /// Behind a `[`.
 fn first_item_step(alloc: Global, stack: &mut Vec<Frame>, c: char) -> Result<Place, JsonKind>
-    ensures ok { IfOk result (λ p. judged strict (move at_first_item (frames_of stack.old.items) c) ≡ Ok (state_of p stack.new.items)) }
-    ensures err { IfErr result (Says (judged strict (move at_first_item (frames_of stack.old.items) c))) }
+    ensures ok { IfOk result (λ p. judged strict (move at_first_item (frames_of stack.old.items) c)
+        ≡ Ok (state_of p stack.new.items)) }
+    ensures err { IfErr result
+        (Says (judged strict (move at_first_item (frames_of stack.old.items) c))) }
 {
     if is_space(c) {
         return Ok(Place::FirstItem);
@@ -150,8 +165,10 @@ fn first_item_step(alloc: Global, stack: &mut Vec<Frame>, c: char) -> Result<Pla
 
 /// Behind a `{`.
 fn first_key_step(alloc: Global, c: char) -> Result<Place, JsonKind>
-    ensures ok { IfOk result (λ p. (fs : List StackFrame) → judged strict (move at_first_key fs c) ≡ Ok (state (place_of p) fs)) }
-    ensures err { IfErr result (λ k. (fs : List StackFrame) → Says (judged strict (move at_first_key fs c)) k) }
+    ensures ok { IfOk result (λ p. (fs : List StackFrame) → judged strict (move at_first_key fs c)
+        ≡ Ok (state (place_of p) fs)) }
+    ensures err { IfErr result (λ k. (fs : List StackFrame)
+        → Says (judged strict (move at_first_key fs c)) k) }
 {
     match c {
         ' ' | '\t' | '\n' | '\r' => Ok(Place::FirstKey),
@@ -163,8 +180,11 @@ fn first_key_step(alloc: Global, c: char) -> Result<Place, JsonKind>
 
 /// Behind a comma in an object.
 fn next_key_step(alloc: Global, members: Members, c: char) -> Result<Place, JsonKind>
-    ensures ok { IfOk result (λ p. (fs : List StackFrame) → judged strict (move (at_next_key (entries_of members.list.items)) fs c) ≡ Ok (state (place_of p) fs)) }
-    ensures err { IfErr result (λ k. (fs : List StackFrame) → Says (judged strict (move (at_next_key (entries_of members.list.items)) fs c)) k) }
+    ensures ok { IfOk result (λ p. (fs : List StackFrame)
+        → judged strict (move (at_next_key (entries_of members.list.items)) fs c)
+        ≡ Ok (state (place_of p) fs)) }
+    ensures err { IfErr result (λ k. (fs : List StackFrame)
+        → Says (judged strict (move (at_next_key (entries_of members.list.items)) fs c)) k) }
 {
     match c {
         ' ' | '\t' | '\n' | '\r' => Ok(Place::NextKey(members)),
@@ -177,8 +197,11 @@ fn next_key_step(alloc: Global, members: Members, c: char) -> Result<Place, Json
 #[inline(always)]
 fn key_step(members: Members, text: String, escape: Escape, c: char) -> Result<Place, JsonKind>
     requires fine { IsFine escape }
-    ensures ok { IfOk result (λ p. (fs : List StackFrame) → judged strict (move (in_key (entries_of members.list.items) (string_bytes text) escape) fs c) ≡ Ok (state (place_of p) fs)) }
-    ensures err { IfErr result (λ k. (fs : List StackFrame) → Says (judged strict (move (in_key (entries_of members.list.items) (string_bytes text) escape) fs c)) k) }
+    ensures ok { IfOk result (λ p. (fs : List StackFrame)
+        → judged strict (move (in_key (entries_of members.list.items)
+        (string_bytes text) escape) fs c) ≡ Ok (state (place_of p) fs)) }
+    ensures err { IfErr result (λ k. (fs : List StackFrame) → Says (judged strict
+        (move (in_key (entries_of members.list.items) (string_bytes text) escape) fs c)) k) }
 {
     match quote_step(text, escape, c)? {
         Quote::Going(text, escape) => Ok(Place::Key(members, text, escape)),
@@ -198,8 +221,10 @@ fn colon_step(
     key: String,
     c: char,
 ) -> Result<Place, JsonKind>
-    ensures ok { IfOk result (λ p. judged strict (move (behind_key (entries_of members.list.items) (string_bytes key)) (frames_of stack.old.items) c) ≡ Ok (state_of p stack.new.items)) }
-    ensures err { IfErr result (Says (judged strict (move (behind_key (entries_of members.list.items) (string_bytes key)) (frames_of stack.old.items) c))) }
+    ensures ok { IfOk result (λ p. judged strict (move (behind_key (entries_of members.list.items)
+        (string_bytes key)) (frames_of stack.old.items) c) ≡ Ok (state_of p stack.new.items)) }
+    ensures err { IfErr result (Says (judged strict (move (behind_key
+        (entries_of members.list.items) (string_bytes key)) (frames_of stack.old.items) c))) }
 {
     match c {
         ' ' | '\t' | '\n' | '\r' => Ok(Place::Colon(members, key)),
@@ -215,8 +240,11 @@ fn colon_step(
 #[inline(always)]
 fn text_step(text: String, escape: Escape, c: char) -> Result<Place, JsonKind>
     requires fine { IsFine escape }
-    ensures ok { IfOk result (λ p. (fs : List StackFrame) → judged strict (move (in_string (string_bytes text) escape) fs c) ≡ Ok (state (place_of p) fs)) }
-    ensures err { IfErr result (λ k. (fs : List StackFrame) → Says (judged strict (move (in_string (string_bytes text) escape) fs c)) k) }
+    ensures ok { IfOk result (λ p. (fs : List StackFrame)
+        → judged strict (move (in_string (string_bytes text) escape) fs c)
+        ≡ Ok (state (place_of p) fs)) }
+    ensures err { IfErr result (λ k. (fs : List StackFrame)
+        → Says (judged strict (move (in_string (string_bytes text) escape) fs c)) k) }
 {
     match quote_step(text, escape, c)? {
         Quote::Going(text, escape) => Ok(Place::Text(text, escape)),
@@ -232,8 +260,10 @@ fn number_step(
     part: Part,
     c: char,
 ) -> Result<Place, JsonKind>
-    ensures ok { IfOk result (λ p. judged strict (move (in_number (string_bytes text) part) (frames_of stack.old.items) c) ≡ Ok (state_of p stack.new.items)) }
-    ensures err { IfErr result (Says (judged strict (move (in_number (string_bytes text) part) (frames_of stack.old.items) c))) }
+    ensures ok { IfOk result (λ p. judged strict (move (in_number (string_bytes text) part)
+        (frames_of stack.old.items) c) ≡ Ok (state_of p stack.new.items)) }
+    ensures err { IfErr result (Says
+        (judged strict (move (in_number (string_bytes text) part) (frames_of stack.old.items) c))) }
 {
     match part_step(part, c) {
         Some(next) => {
@@ -251,8 +281,10 @@ fn number_step(
 
 /// In a word.
 fn word_step(stack: &mut Vec<Frame>, word: Word, read: usize, c: char) -> Result<Place, JsonKind>
-    ensures ok { IfOk result (λ p. judged strict (move (in_word (letters_from word read) (value_of word)) (frames_of stack.old.items) c) ≡ Ok (state_of p stack.new.items)) }
-    ensures err { IfErr result (Says (judged strict (move (in_word (letters_from word read) (value_of word)) (frames_of stack.old.items) c))) }
+    ensures ok { IfOk result (λ p. judged strict (move (in_word (letters_from word read)
+        (value_of word)) (frames_of stack.old.items) c) ≡ Ok (state_of p stack.new.items)) }
+    ensures err { IfErr result (Says (judged strict
+        (move (in_word (letters_from word read) (value_of word)) (frames_of stack.old.items) c))) }
 {
     match word.letter(read) {
         Some(letter) => {
@@ -269,7 +301,8 @@ fn word_step(stack: &mut Vec<Frame>, word: Word, read: usize, c: char) -> Result
 #[inline(always)]
 fn step(alloc: Global, place: Place, stack: &mut Vec<Frame>, c: char) -> Result<Place, JsonKind>
     requires fine { IsFinePlace (place_of place) }
-    ensures ok { IfOk result (λ p. machine_step strict (state_of place stack.old.items) c ≡ Ok (state_of p stack.new.items)) }
+    ensures ok { IfOk result (λ p. machine_step strict (state_of place stack.old.items) c
+        ≡ Ok (state_of p stack.new.items)) }
     ensures err { IfErr result (Says (machine_step strict (state_of place stack.old.items) c)) }
 {
     match place {
@@ -294,7 +327,9 @@ fn step(alloc: Global, place: Place, stack: &mut Vec<Frame>, c: char) -> Result<
 /// In a string and in no escape, where c stands for itself: takes it in place and says so. Elsewhere nothing changes.
 #[inline(always)]
 fn take_plain(place: &mut Place, c: char) -> Result<bool, JsonKind>
-    ensures taken { IfOk result (λ b. OnTrue b ((fs : List StackFrame) → machine_step strict (state (place_of place.old) fs) c ≡ Ok (state (place_of place.new) fs))) }
+    ensures taken { IfOk result (λ b. OnTrue b ((fs : List StackFrame)
+        → machine_step strict (state (place_of place.old) fs) c
+        ≡ Ok (state (place_of place.new) fs))) }
     ensures not_taken { IfOk result (λ b. OnFalse b (place.new ≡ place.old)) }
     ensures err { IfErr result (λ k. k ≡ Memory) }
 {
@@ -322,7 +357,8 @@ pub(crate) fn turn(
     c: char,
 ) -> Result<(), JsonKind>
     requires fine { IsFinePlace (place_of place.old) }
-    ensures ok { OnOk result (machine_step strict (state_of place.old stack.old.items) c ≡ Ok (state_of place.new stack.new.items)) }
+    ensures ok { OnOk result (machine_step strict (state_of place.old stack.old.items) c
+        ≡ Ok (state_of place.new stack.new.items)) }
     ensures err { IfErr result (Says (machine_step strict (state_of place.old stack.old.items) c)) }
 {
     if take_plain(place, c)? {

@@ -1,6 +1,6 @@
 ghost use Rattle.std.specs.Prelude.{◌≡◌, ◌+◌, ◌<◌, [], ◌∷◌, MatchOption, IfSome};
 ghost use Rattle.json_order.specs.Seen.{json_of};
-ghost use Rattle.json_order.specs.Places.{letters_from, value_of};
+ghost use Rattle.json_order.specs.private.Places.{letters_from, value_of};
 
 use crate::tree::Tree;
 
@@ -15,7 +15,8 @@ pub(crate) enum Word {
 impl Word {
     /// The letter behind the first few, none behind the last.
     pub(crate) fn letter(self, read: usize) -> Option<char>
-        ensures letter { MatchOption result (letters_from self read ≡ []) (λ c. letters_from self read ≡ c ∷ letters_from self (read + 1)) }
+        ensures letter { MatchOption result (letters_from self read
+            ≡ []) (λ c. letters_from self read ≡ c ∷ letters_from self (read + 1)) }
         ensures short { IfSome result (λ _. read < 5) }
     {
         match (self, read) {

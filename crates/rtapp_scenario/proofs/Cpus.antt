@@ -9,7 +9,7 @@ use Rattle.json_order.specs.Seen.{json_of}
 use Rattle.json_order.specs.declared.tree.Tree.{Tree}
 use Rattle.rtapp_scenario.specs.Values.{natural_within}
 use Rattle.rtapp_scenario.specs.Keys.{cpus_after, numbers_in}
-use Rattle.rtapp_scenario.specs.Marks.{AreMarks}
+use Rattle.rtapp_scenario.specs.private.Marks.{AreMarks}
 use Rattle.rtapp_scenario.proofs.Walks.{here}
 
 mark_more : (seen : List Bool) (ns : List ℕ) (n k : ℕ) → n < 512 → length seen ≡ 512 → get_or seen k false ≡ list_any (λ m. m == k) ns → get_or (set seen n true) k false ≡ list_any (λ m. m == k) (ns ++ n ∷ [])

@@ -6,5 +6,5 @@ pub mod Tests
 pub mod ScenarioView
 pub mod Scenario
 pub mod Told
-pub mod Marks
 pub mod Examples
+pub mod private

@@ -1,5 +1,5 @@
 -- What a contract sees of a scenario.
-use Rattle.std.specs.Prelude.{ℕ, ◌≤◌, ◌<◌, List, Option}
+use Rattle.std.specs.Prelude.{ℕ, ◌≤◌, ◌<◌, List, Option, IfSome, All}
 use Rattle.attr_check.specs.declared.attr.SchedAttr.{SchedAttr}
 use Rattle.domain_run.specs.NameView.{IsName}
 use Rattle.domain_run.specs.script.ScriptView.{ScriptView, IsScript}
@@ -13,11 +13,16 @@ pub record TaskSpecView : Type 0 where
   pub delay : ℕ
   pub script : ScriptView
 
--- what every task specification keeps (own): a number, a name, a delay and a script within their limits
+-- each CPU has a number of 0 to 511, where any are named
+abbrev pub AreCpus : Option (List ℕ) → Type 0
+AreCpus cpus = IfSome cpus (All (λ cpu. cpu ≤ 511))
+
+-- what every task specification keeps (own): a number, a name, CPUs, a delay and a script within their limits
 pub record IsTaskSpec (t : TaskSpecView) : Type 0 where
   pub some : 0 < t.number
   pub most : t.number ≤ 65535
   pub named : IsName t.name
+  pub placed : AreCpus t.cpus
   pub soon : t.delay ≤ 1000000000
   pub scripted : IsScript t.script
 

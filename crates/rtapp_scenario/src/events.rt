@@ -34,7 +34,8 @@ fn check_timer_member<'a>(
     first_ref: Option<&str>,
     member: &'a (String, Tree),
 ) -> Result<(), Flaw<'a>>
-    ensures { flaw_of result ≡ timer_member_fault (ref_seen first_ref.entry) [] (member_of member.now) }
+    ensures { flaw_of result
+        ≡ timer_member_fault (ref_seen first_ref.entry) [] (member_of member.now) }
 {
     check_timer_key(member)?;
     check_ref(first_ref, member)
@@ -44,7 +45,8 @@ fn check_timer_members<'a>(
     first_ref: Option<&str>,
     members: &'a [(String, Tree)],
 ) -> Result<(), Flaw<'a>>
-    ensures { flaw_of result ≡ in_order (timer_member_fault (ref_seen first_ref.entry)) [] (members_of members.now) }
+    ensures { flaw_of result
+        ≡ in_order (timer_member_fault (ref_seen first_ref.entry)) [] (members_of members.now) }
 {
     for member in members {
         check_timer_member(first_ref, member)?;
@@ -53,7 +55,8 @@ fn check_timer_members<'a>(
 }
 
 fn check_timer<'a>(first_ref: Option<&str>, member: &'a (String, Tree)) -> Result<(), Flaw<'a>>
-    ensures { flaw_of result ≡ timer_fault (ref_seen first_ref.entry) (object_of (member_of member.now).value) (member_of member.now) }
+    ensures { flaw_of result ≡ timer_fault (ref_seen first_ref.entry)
+        (object_of (member_of member.now).value) (member_of member.now) }
 {
     let Some(members) = object(&member.1) else {
         return Err(Flaw::Value(&member.0));
@@ -69,7 +72,8 @@ fn check_event_value<'a>(
     kind: EventKind,
     member: &'a (String, Tree),
 ) -> Result<(), Flaw<'a>>
-    ensures { flaw_of result ≡ event_value_fault (ref_seen first_ref.entry) (Some kind) (member_of member.now) }
+    ensures { flaw_of result
+        ≡ event_value_fault (ref_seen first_ref.entry) (Some kind) (member_of member.now) }
 {
     match kind {
         EventKind::Run | EventKind::Sleep => unless(
@@ -96,7 +100,8 @@ pub(crate) fn check_event<'a>(
     member: &'a (String, Tree),
 ) -> Result<(), Flaw<'a>>
     requires { kind_of (member_of member.now).key ≡ Some kind }
-    ensures { flaw_of result ≡ event_fault (ref_seen first_ref.entry) (members_of before.now) (member_of member.now) }
+    ensures { flaw_of result
+        ≡ event_fault (ref_seen first_ref.entry) (members_of before.now) (member_of member.now) }
 {
     if events_in(before) >= MOST_ITEMS {
         return Err(Flaw::TooMany);

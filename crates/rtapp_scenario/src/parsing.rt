@@ -73,7 +73,8 @@ pub fn parse(alloc: Global, tree: &Tree) -> Result<Scenario, ScenarioFault>
     // and Err with its first fault, unless memory runs out.
     ensures fault { IfErr result (IsFault (parsed (json_of tree.now))) }
     // Tasks are numbered 1, 2, .. in text order, at most 256, and each is within its limits.
-    ensures numbered { IfOk result (λ scenario. map (λ t. t.number) scenario.tasks ≡ range_with_len 1 (length scenario.tasks)) }
+    ensures numbered { IfOk result (λ scenario.
+        map (λ t. t.number) scenario.tasks ≡ range_with_len 1 (length scenario.tasks)) }
     ensures few { IfOk result (λ scenario. length scenario.tasks ≤ 256) }
     ensures limits { IfOk result (λ scenario. All IsTaskSpec scenario.tasks) }
     ensures short { IfOk result (λ scenario. scenario.duration_us ≤ 60000000) }

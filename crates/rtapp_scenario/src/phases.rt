@@ -16,7 +16,8 @@ fn check_phase_member<'a>(
     before: &[(String, Tree)],
     member: &'a (String, Tree),
 ) -> Result<(), Flaw<'a>>
-    ensures { flaw_of result ≡ phase_member_fault (ref_seen first_ref.entry) (members_of before.now) (member_of member.now) }
+    ensures { flaw_of result ≡ phase_member_fault (ref_seen first_ref.entry)
+        (members_of before.now) (member_of member.now) }
 {
     match kind(&member.0) {
         Some(kind) => check_event(first_ref, before, kind, member),
@@ -28,7 +29,8 @@ fn check_phase_members<'a>(
     first_ref: Option<&str>,
     members: &'a [(String, Tree)],
 ) -> Result<(), Flaw<'a>>
-    ensures { flaw_of result ≡ in_order (phase_member_fault (ref_seen first_ref.entry)) [] (members_of members.now) }
+    ensures { flaw_of result
+        ≡ in_order (phase_member_fault (ref_seen first_ref.entry)) [] (members_of members.now) }
 {
     for (i, member) in members.iter().enumerate() {
         check_phase_member(first_ref, &members[..i], member)?;
@@ -50,7 +52,8 @@ fn check_each_phase<'a>(
     first_ref: Option<&str>,
     phases: &'a [(String, Tree)],
 ) -> Result<(), Flaw<'a>>
-    ensures { flaw_of result ≡ first (map (phase_fault (ref_seen first_ref.entry)) (members_of phases.now)) }
+    ensures { flaw_of result
+        ≡ first (map (phase_fault (ref_seen first_ref.entry)) (members_of phases.now)) }
 {
     for phase in phases {
         check_phase(first_ref, phase)?;

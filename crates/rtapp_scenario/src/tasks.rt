@@ -9,7 +9,7 @@ ghost use Rattle.rtapp_scenario.specs.Keys.{numbers_in};
 ghost use Rattle.rtapp_scenario.specs.Threads.{cpus, instances};
 ghost use Rattle.rtapp_scenario.specs.Tests.{is_name, own_fault, thread_fault};
 ghost use Rattle.rtapp_scenario.specs.Scenario.{task_name, attr, task_at, thread_tasks, tasks_from};
-ghost use Rattle.rtapp_scenario.specs.ScenarioView.{IsTaskSpec};
+ghost use Rattle.rtapp_scenario.specs.ScenarioView.{IsTaskSpec, AreCpus};
 ghost use Rattle.rtapp_scenario.specs.Told.{IsTold};
 
 use crate::fault::{ScenarioFault, fault_of};
@@ -28,7 +28,8 @@ use std::fmt::Write;
 const MOST_NAME: usize = 15;
 
 fn long_name(alloc: Global, name: &str, instances: u64, k: u64) -> Result<String, AllocError>
-    ensures { IfOk result (λ s. string_bytes s ≡ (if instances == 1 then name.now else name.now ++ (codes "-" ++ decimal k))) }
+    ensures { IfOk result (λ s. string_bytes s
+        ≡ (if instances == 1 then name.now else name.now ++ (codes "-" ++ decimal k))) }
 {
     if instances == 1 {
         return String::from_str(alloc, name);
@@ -60,7 +61,8 @@ fn task_name(alloc: Global, name: &str, instances: u64, k: u64) -> Result<Name, 
 }
 
 fn numbers_of(alloc: Global, items: &[Tree]) -> Result<Vec<u32>, AllocError>
-    ensures { IfOk result (λ v. v.items ≡ numbers_in (map json_of items.now)) }
+    ensures value { IfOk result (λ v. v.items ≡ numbers_in (map json_of items.now)) }
+    ensures placed { IfOk result (λ v. All (λ cpu. cpu ≤ 511) v.items) }
 {
     let mut numbers = Vec::with_capacity(alloc, items.len())?;
     for item in items {
@@ -71,7 +73,8 @@ fn numbers_of(alloc: Global, items: &[Tree]) -> Result<Vec<u32>, AllocError>
 
 /// The number of a CPU.
 fn number_of(item: &Tree) -> u32
-    ensures { result ≡ unwrap_or (natural_within 0 511 (json_of item.now)) 0 }
+    ensures value { result ≡ unwrap_or (natural_within 0 511 (json_of item.now)) 0 }
+    ensures placed { result ≤ 511 }
 {
     match natural_within(item, 0, 511) {
         Some(n) => n as u32,
@@ -80,7 +83,8 @@ fn number_of(item: &Tree) -> u32
 }
 
 fn cpus_of(alloc: Global, members: &[(String, Tree)]) -> Result<Option<Vec<u32>>, AllocError>
-    ensures { IfOk result (λ o. option_map (λ v. v.items) o ≡ cpus (members_of members.now)) }
+    ensures value { IfOk result (λ o. option_map (λ v. v.items) o ≡ cpus (members_of members.now)) }
+    ensures placed { IfOk result (λ o. AreCpus (option_map (λ v. v.items) o)) }
 {
     let Some(value) = at("cpus", members) else {
         return Ok(None);
@@ -138,7 +142,8 @@ fn add_thread(
 ) -> Result<(), AllocError>
     requires passed { own_fault (member_of thread.now) ≡ None }
     requires most { others + instances (members (member_of thread.now).value) ≤ 256 }
-    ensures made { OnOk result (tasks.new.items ≡ tasks.old.items ++ thread_tasks (others + 1) (member_of thread.now)) }
+    ensures made { OnOk result (tasks.new.items
+        ≡ tasks.old.items ++ thread_tasks (others + 1) (member_of thread.now)) }
     ensures limits { OnOk result (All IsTaskSpec tasks.old.items → All IsTaskSpec tasks.new.items) }
 {
     let instances = instances(members(&thread.1));

@@ -43,7 +43,8 @@ fn first_timer_in(members: &[(String, Tree)]) -> Option<&Tree>
 }
 
 fn first_timer_of_phases(phases: &[(String, Tree)]) -> Option<&Tree>
-    ensures { tree_seen result ≡ first (map (λ phase. first_timer_in (members phase.value)) (members_of phases.now)) }
+    ensures { tree_seen result
+        ≡ first (map (λ phase. first_timer_in (members phase.value)) (members_of phases.now)) }
 {
     for phase in phases {
         if let Some(timer) = first_timer_in(members(&phase.1)) {
@@ -108,23 +109,15 @@ pub(crate) fn event_at(member: &(String, Tree)) -> Option<Event>
 fn has_event(members: &[(String, Tree)]) -> bool
     ensures { result ≡ has_event (members_of members.now) }
 {
-    for member in members {
-        if event_at(member).is_some() {
-            return true;
-        }
-    }
-    false
+    members.iter().any(|m| event_at(m).is_some())
 }
 
 fn is_idle_phases(phases: &[(String, Tree)]) -> bool
-    ensures { result ≡ list_any (λ phase. not (has_event phase)) (map (λ phase. members phase.value) (members_of phases.now)) }
+    ensures { result
+        ≡ list_any (λ phase. not (has_event phase))
+        (map (λ phase. members phase.value) (members_of phases.now)) }
 {
-    for phase in phases {
-        if !has_event(members(&phase.1)) {
-            return true;
-        }
-    }
-    false
+    phases.iter().any(|p| !has_event(members(&p.1)))
 }
 
 /// A phase has no event left.
@@ -140,23 +133,13 @@ fn is_idle(members: &[(String, Tree)]) -> bool
 fn has_events(members: &[(String, Tree)]) -> bool
     ensures { result ≡ list_any is_event (members_of members.now) }
 {
-    for member in members {
-        if is_event(member) {
-            return true;
-        }
-    }
-    false
+    members.iter().any(|m| is_event(m))
 }
 
 fn has_phases(members: &[(String, Tree)]) -> bool
     ensures { result ≡ list_any is_phases (members_of members.now) }
 {
-    for member in members {
-        if is(&member.0, "phases") {
-            return true;
-        }
-    }
-    false
+    members.iter().any(|m| is(&m.0, "phases"))
 }
 
 #[tactic(auto, unfolding(crate::specs::Tests::thread_member_fault))]
@@ -165,7 +148,8 @@ fn check_member<'a>(
     before: &[(String, Tree)],
     member: &'a (String, Tree),
 ) -> Result<(), Flaw<'a>>
-    ensures { flaw_of result ≡ thread_member_fault (ref_seen first_ref.entry) (members_of before.now) (member_of member.now) }
+    ensures { flaw_of result ≡ thread_member_fault (ref_seen first_ref.entry)
+        (members_of before.now) (member_of member.now) }
 {
     if is(&member.0, "phases") {
         if has_events(before) {
@@ -183,7 +167,8 @@ fn check_member<'a>(
 }
 
 fn check_members<'a>(first_ref: Option<&str>, members: &'a [(String, Tree)]) -> Result<(), Flaw<'a>>
-    ensures { flaw_of result ≡ in_order (thread_member_fault (ref_seen first_ref.entry)) [] (members_of members.now) }
+    ensures { flaw_of result
+        ≡ in_order (thread_member_fault (ref_seen first_ref.entry)) [] (members_of members.now) }
 {
     for (i, member) in members.iter().enumerate() {
         check_member(first_ref, &members[..i], member)?;
@@ -253,12 +238,7 @@ fn is_ref(other: Option<&str>, own: &str) -> bool
 fn is_among(refs: &[Option<&str>], own: &str) -> bool
     ensures { result ≡ list_any (is_text own.now) (map ref_seen refs.now) }
 {
-    for other in refs {
-        if is_ref(*other, own) {
-            return true;
-        }
-    }
-    false
+    refs.iter().any(|other| is_ref(*other, own))
 }
 
 /// A thread beside those before it, of which the refs and the number of tasks are given.
@@ -269,7 +249,8 @@ pub(crate) fn check_beside<'a>(
     members: &[(String, Tree)],
 ) -> Result<(), Flaw<'a>>
     requires { tasks ≤ 256 }
-    ensures flaw { flaw_of result ≡ beside_fault (map ref_seen refs.now) tasks (members_of members.now) }
+    ensures flaw { flaw_of result
+        ≡ beside_fault (map ref_seen refs.now) tasks (members_of members.now) }
     ensures most { OnOk result (tasks + instances (members_of members.now) ≤ 256) }
 {
     let instances = instances(members);

@@ -1,5 +1,5 @@
 use Rattle.std.proofs.Common.{◌≡◌, ◌<◌, ◌^◌, drop}
-use Rattle.call_book.specs.Reading.{digits_on}
+use Rattle.call_book.specs.private.Reading.{digits_on}
 use Rattle.call_book.proofs.number.number.Given as goal
 
 abbrev pub invariant-loop-b : goal.invariant-loop-b

@@ -1,5 +1,5 @@
 use Rattle.std.proofs.Common.{◌≡◌, length}
-use Rattle.call_book.specs.Reading.{SoFar, Counts}
+use Rattle.call_book.specs.private.Reading.{SoFar, Counts}
 use Rattle.call_book.proofs.reading.entries_of.Given as goal
 
 abbrev pub invariant-loop-i : goal.invariant-loop-i

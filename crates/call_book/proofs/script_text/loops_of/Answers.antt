@@ -1,7 +1,7 @@
 use Rattle.std.proofs.Common.{◌≡◌, ◌<◌, ◌^◌, w64, to_z, pos, arith}
 use Rattle.std.proofs.lemmas.Int.{to_z_pos}
 use Rattle.std.proofs.lemmas.Grind.{common_steps}
-use Rattle.call_book.specs.Reading.{rounds_at}
+use Rattle.call_book.specs.private.Reading.{rounds_at}
 use Rattle.call_book.proofs.script_text.loops_of.Goals as goal
 
 pub returns : goal.returns

@@ -1,5 +1,5 @@
 use Rattle.std.proofs.lemmas.Result.{err_from_is_err_and}
-use Rattle.call_book.specs.Reading.{many_at, phase_first_at}
+use Rattle.call_book.specs.private.Reading.{many_at, phase_first_at}
 use Rattle.call_book.proofs.Many.{goes_on, ends, stops, is_full}
 use Rattle.call_book.proofs.script_text.phases_of.Goals as goal
 

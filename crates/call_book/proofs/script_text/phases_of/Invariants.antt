@@ -1,5 +1,5 @@
 use Rattle.std.proofs.Common.{◌≡◌, ◌-◌}
-use Rattle.call_book.specs.Reading.{many_at, phase_first_at}
+use Rattle.call_book.specs.private.Reading.{many_at, phase_first_at}
 use Rattle.call_book.proofs.Many.{with_front}
 use Rattle.call_book.proofs.script_text.phases_of.Given as goal
 

@@ -3,7 +3,7 @@ use Rattle.std.specs.BTreeSet.{contains_text}
 use Rattle.std.specs.Str.{bytes_eq}
 use Rattle.std.proofs.lemmas.Map.Text.{btree_set_updates_text}
 use Rattle.json_order.specs.Grammar.{has_key}
-use Rattle.json_order.specs.Entries.{keys_of}
+use Rattle.json_order.specs.private.Entries.{keys_of}
 use Rattle.json_order.proofs.Keys.{has_push}
 use Rattle.json_order.proofs.members.with_member.Goals as goal
 

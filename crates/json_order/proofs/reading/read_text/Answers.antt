@@ -1,7 +1,7 @@
 use Rattle.std.specs.Str.Iter.{chars_rest}
 use Rattle.std.proofs.Common.{◌≡◌, [], ◌∷◌, ◌++◌, length, sym, ap, ◌∙◌, subst}
 use Rattle.json_order.specs.Fault.{IsFault}
-use Rattle.json_order.specs.Places.{state_of}
+use Rattle.json_order.specs.private.Places.{state_of}
 use Rattle.json_order.specs.Seen.{json_of}
 use Rattle.json_order.specs.declared.fault.JsonKind.TheVariants.{End}
 use Rattle.json_order.proofs.Bytes.{end_value, end_fault}

@@ -2,8 +2,8 @@ use Rattle.std.specs.Prelude.{encode_utf8_all}
 use Rattle.std.specs.Str.Iter.{chars_rest}
 use Rattle.std.proofs.Common.{◌≡◌, ◌++◌, length, Ok}
 use Rattle.json_order.specs.Fault.{strict}
-use Rattle.json_order.specs.Machine.{IsFinePlace, run, start}
-use Rattle.json_order.specs.Places.{place_of, state_of}
+use Rattle.json_order.specs.private.Machine.{IsFinePlace, run, start}
+use Rattle.json_order.specs.private.Places.{place_of, state_of}
 use Rattle.json_order.proofs.reading.read_text.Given as goal
 
 abbrev pub invariant-loop-c : goal.invariant-loop-c

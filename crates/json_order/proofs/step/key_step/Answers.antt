@@ -1,7 +1,7 @@
 use Rattle.std.proofs.Common.{rules, ◌≡◌, Some, string_bytes, true, false}
 use Rattle.json_order.specs.Grammar.{has_key}
-use Rattle.json_order.specs.Entries.{keys_of}
-use Rattle.json_order.specs.Machine.{quote_step, closed}
+use Rattle.json_order.specs.private.Entries.{keys_of}
+use Rattle.json_order.specs.private.Machine.{quote_step, closed}
 use Rattle.json_order.proofs.Trees.{key_repeats, key_follows}
 use Rattle.json_order.proofs.step.key_step.Goals as goal
 

@@ -1,7 +1,7 @@
 use Rattle.std.proofs.Common.{◌≡◌, drop, take, map, []}
 use Rattle.json_order.specs.Seen.{json_of}
 use Rattle.rtapp_scenario.specs.Keys.{cpus_after, numbers_in}
-use Rattle.rtapp_scenario.specs.Marks.{AreMarks}
+use Rattle.rtapp_scenario.specs.private.Marks.{AreMarks}
 use Rattle.rtapp_scenario.proofs.key.are_new_cpus.Given as goal
 
 abbrev pub invariant-loop-item : goal.invariant-loop-item

@@ -240,7 +240,7 @@ fault_from n Memory = faults.Memory
 
 pub record IsEntryRead (e : Entry) : Type 0 where
   pub within : IsEntry e
-  pub unanswered : e.reply ≡ None
+  pub no_reply : e.reply ≡ None
 
 abbrev pub entries_text : List Entry → List ℕ
 entries_text entries = text_of (map entry_line entries)
@@ -259,11 +259,11 @@ Counts made entries = (client : ℕ) → IsClient client → slice_index made (c
 pub record IsNext (line : List ℕ) (made : List ℕ) (e : Entry) : Type 0 where
   pub call : call_at line ≡ Some (e.client, e.call)
   pub client : IsClient e.client
-  pub unanswered : e.reply ≡ None
+  pub no_reply : e.reply ≡ None
   pub seq : e.seq ≡ slice_index made (e.client - 1)
 
 -- after these entries more stands there, and it does not begin with the line of a further entry
-pub record Stops (text : List ℕ) (n : ℕ) : Type 0 where
+pub record IsBadEntryLine (text : List ℕ) (n : ℕ) : Type 0 where
   pub entries : List Entry
   pub rest : List ℕ
   pub so_far : SoFar text rest entries
@@ -272,6 +272,6 @@ pub record Stops (text : List ℕ) (n : ℕ) : Type 0 where
   pub more : 0 < length rest
   pub stops : length entries < 65536 → (e : Entry) (after : List ℕ) → IsEntryRead e → rest ≡ entry_line e ++ 10 ∷ after → ⊥
 
-abbrev pub StopsAt : List ℕ → CallsFault → Type 0
-StopsAt text (faults.BadLine n) = Stops text n
-StopsAt text faults.Memory = Unit {0}
+abbrev pub IsEntriesFault : List ℕ → CallsFault → Type 0
+IsEntriesFault text (faults.BadLine n) = IsBadEntryLine text n
+IsEntriesFault text faults.Memory = Unit {0}

@@ -4,7 +4,7 @@ use Rattle.std.specs.declared.string.String.{String}
 use Rattle.std.specs.declared.alloc.Global.{Global}
 use Rattle.json_order.specs.Json.{Json, null, boolean}
 use Rattle.json_order.specs.Seen.{json_of}
-use Rattle.json_order.specs.Machine.{Entries, Quote, going, closed, Place, at_value, at_first_item, behind, at_first_key, at_next_key, in_key, behind_key, in_string, in_number, in_word, Frame, in_list, in_object, State, state}
+use Rattle.json_order.specs.private.Machine.{Entries, Quote, going, closed, Place, at_value, at_first_item, behind, at_first_key, at_next_key, in_key, behind_key, in_string, in_number, in_word, Frame, in_list, in_object, State, state}
 use Rattle.json_order.specs.declared.tree.Tree.{Tree}
 use Rattle.json_order.specs.declared.fault.JsonKind.{JsonKind}
 use Rattle.json_order.specs.declared.fault.JsonKind.TheVariants.{Syntax, End, Depth, Duplicate, Utf8, Memory}

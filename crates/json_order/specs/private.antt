@@ -1,0 +1,3 @@
+pub mod Machine
+pub mod Places
+pub mod Entries

@@ -1,0 +1,12 @@
+use Rattle.std.proofs.Common.{◌∙◌, rules, tests}
+use Rattle.std.proofs.lemmas.Iterator.{YieldsList-from_slice}
+use Rattle.std.proofs.lemmas.Iterator.Search.{any_from_yields_List}
+use Rattle.rtapp_scenario.specs.Values.{member_of}
+use Rattle.rtapp_scenario.specs.Keys.{is_event}
+use Rattle.rtapp_scenario.proofs.Walks.{any_of_map}
+use Rattle.rtapp_scenario.proofs.threads.has_events.Goals as goal
+
+pub returns : goal.returns
+returns c =
+    let members = c.args.members.now in
+    any_from_yields_List (λ x. is_event (member_of x)) _ _ _ c.any.ensures.ran (YieldsList-from_slice members cc) (λ x b q k. search (rules, tests)) ∙ any_of_map (is_event) member_of members
