@@ -12,6 +12,8 @@ ghost use Rattle.domain_run.specs.Sound.{IsDomain, IsPlacement};
 ghost use Rattle.attr_check.specs.Ratio.{cap};
 
 mod calls;
+#[cfg(test)]
+mod tests;
 
 use crate::call::{Refused, Reply};
 use crate::memory::NoMemory;
