@@ -192,6 +192,55 @@ fn throttled_inside_a_job(rt: HostRuntime) -> Result<(), Fail> {
 }
 
 #[test]
+fn zero_start(rt: HostRuntime) -> Result<(), Fail> {
+    let steps = [
+        Step::Admit(1, once((2, 8, 8), &[Event::Run(2)])),
+        Step::Admit(2, once((2, 3, 8), &[Event::Run(2)])),
+        Step::Advance(5),
+    ];
+    let switches = [
+        switch(0, 0, None, PrevState::Running, Some(2)),
+        switch(2, 0, Some(2), PrevState::Dead, Some(1)),
+        switch(4, 0, Some(1), PrevState::Dead, None),
+    ];
+    shows(&rt, rt.alloc(), 1, UNIT, &steps, &switches)
+}
+
+#[test]
+fn spent_while_blocking(rt: HostRuntime) -> Result<(), Fail> {
+    let worker = forever((4, 8, 8), &[Event::Run(4), Event::Sleep(2)]);
+    let steps = [Step::Admit(1, worker), Step::Advance(9)];
+    let switches = [
+        switch(0, 0, None, PrevState::Running, Some(1)),
+        switch(4, 0, Some(1), PrevState::Sleeping, None),
+        switch(8, 0, None, PrevState::Running, Some(1)),
+    ];
+    shows(&rt, rt.alloc(), 1, UNIT, &steps, &switches)
+}
+
+#[test]
+fn rounding_down_admits(rt: HostRuntime) -> Result<(), Fail> {
+    let events = [Event::Run(1)];
+    let (third, least) = ((10000, 30000, 30000), (2, 2_000_000, 2_000_000));
+    let steps = [
+        Step::Admit(1, once(third, &events)),
+        Step::Admit(2, once(third, &events)),
+        Step::Admit(3, once(third, &events)),
+        Step::Admit(4, once(least, &events)),
+        Step::Admit(5, once(least, &events)),
+    ];
+    let granted = Reply::Admitted;
+    let replies = [
+        granted,
+        granted,
+        granted,
+        granted,
+        Reply::Busy { seen: 1048576 },
+    ];
+    answers(&rt, rt.alloc(), UNIT, &steps, &replies)
+}
+
+#[test]
 fn fraction_and_carry(rt: HostRuntime) -> Result<(), Fail> {
     let steps = [
         Step::Admit(1, reclaiming(once((4, 8, 8), &[Event::Run(1000)]))),
