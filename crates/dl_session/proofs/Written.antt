@@ -19,7 +19,7 @@ some_named d names named (Some n) h = named n h
 -- each switch of a domain has a line
 pub have_lines : (d : Domain) (names : Names) → IsDomain d → AreNamed d names → All (HasLine names 0) d.switches
 have_lines d names is named =
-    All-weaker (IsSwitch d.cpus d.time d.used) (HasLine names 0) (λ s h. record { time = omega (arith, h.past, is.steady.early); cpu = omega (arith, h.inside, is.steady.few); prev = some_named d names named s.prev h.prev; next = some_named d names named s.next h.next }) d.switches is.traced.switches
+    All-weaker (IsSwitch d.cpus d.time d.used) (HasLine names 0) (λ s h. record { time = omega (arith, h.past, is.steady.early); cpu = omega (arith, h.inside, is.steady.cpus.1); prev = some_named d names named s.prev h.prev; next = some_named d names named s.next h.next }) d.switches is.traced.switches
 
 pub trace_is : (s : SectionView) (d : Domain) (names : Names) → IsRunOf s d names → trace_of_run d names ≡ trace_of_sections (s ∷ [])
 unfolding trace_of_run

@@ -58,14 +58,12 @@ listed_is d number name params delay script is short room fresh fits =
     let t = new_task d number name params delay script in
     record {
       early = is.early;
-      some = is.some;
-      few = is.few;
-      low = is.low;
-      high = is.high;
+      cpus = is.cpus;
+      limit = is.limit;
       within = rw (sum_push d.tasks t) fits;
       listed = omega (arith, length-append d.tasks (t ∷ []));
       sound = All-push (IsSound d.time) d.tasks t is.sound (new_sound d number name params delay script is.early short);
-      homes = All-push (λ t. t.cpu < d.cpus) d.tasks t is.homes (omega (arith, is.some));
+      homes = All-push (λ t. t.cpu < d.cpus) d.tasks t is.homes (omega (arith, is.cpus.0));
       numbered = all_pairs_push (λ a b. a.number ≢ b.number) d.tasks t is.numbered (λ k x h e. let no : true ≡ false = sym (is.known k x h) ∙ ap (λ m. list_any (λ n. eqb n m) d.used) e ∙ fresh in absurd cc);
       known = All-push (λ t. IsTrue (list_any (λ n. eqb n t.number) (with_number number d.used))) d.tasks t
           (All-weaker (λ t. IsTrue (list_any (λ n. eqb n t.number) d.used)) (λ t. IsTrue (list_any (λ n. eqb n t.number) (with_number number d.used))) (λ x h. with_number_contains number x.number d.used ∙ or_right (eqb number x.number) (list_any (λ n. eqb n x.number) d.used) h) d.tasks is.known)

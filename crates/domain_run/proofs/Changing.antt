@@ -16,7 +16,7 @@ use Rattle.domain_run.specs.declared.call.Reply.TheVariants.{Changed, Woken, Bus
 use Rattle.domain_run.specs.Conditions.{is_leaving, is_waiting, is_contending}
 use Rattle.domain_run.specs.Domain.{Domain}
 use Rattle.domain_run.specs.Tick.{share_of, shares, sum_of}
-use Rattle.domain_run.specs.Calls.{task_of, of_number, changed, regrade_reply, regraded, wake_reply, awoken, ended}
+use Rattle.domain_run.specs.Calls.{task_of, of_number, changed, regrade_reply, regraded, wake_reply, released, ended}
 use Rattle.domain_run.specs.Sound.{IsSound, IsTimed, IsSteady, IsDomain}
 use Rattle.domain_run.specs.Parts.{stopped}
 use Rattle.domain_run.proofs.Keeping.{AllPairs-map, sum-map}
@@ -113,8 +113,8 @@ waiting_timed time reference (Blocked u) e h = absurd cc
 waiting_timed time reference Waiting e h = h
 waiting_timed time reference Leaving e h = absurd cc
 
-awoken_sound : (time : ℕ) (t : Task) → time ≤ 2 ^ 42 → is_waiting t.condition ≡ true → IsSound time t → IsSound time (awoken time t)
-awoken_sound time t early e h =
+released_sound : (time : ℕ) (t : Task) → time ≤ 2 ^ 42 → is_waiting t.condition ≡ true → IsSound time t → IsSound time (released time t)
+released_sound time t early e h =
     let behind = waiting_timed time t.cursor.reference t.condition e h.timed in
     record { served = h.served; spent = λ x. absurd cc; lifted = λ x. absurd cc; dated = λ x. absurd cc; busy = λ x. absurd cc; timed = (omega arith, omega arith) }
 
@@ -136,10 +136,8 @@ changed_steady d f change is within sound =
     let e : length (map f d.tasks) ≡ length d.tasks = simp length-map in
     record {
       early = is.early;
-      some = is.some;
-      few = is.few;
-      low = is.low;
-      high = is.high;
+      cpus = is.cpus;
+      limit = is.limit;
       within = within;
       listed = omega (arith, is.listed);
       sound = sound;
@@ -177,12 +175,12 @@ woken_waits : (o : Option Task) → wake_reply o ≡ Woken → (t : Task) × (o 
 woken_waits None e = absurd cc
 woken_waits (Some t) e = (t, refl, elim (is_waiting t.condition) as (λ b. cond b Woken NotWaiting ≡ Woken → b ≡ true) [ true ↦ λ h. refl | false ↦ λ h. absurd cc ] e)
 
-pub wake_keeps : (d : Domain) (number : ℕ) → IsDomain d → wake_reply (task_of d number) ≡ Woken → IsDomain (changed d number (awoken d.time))
+pub wake_keeps : (d : Domain) (number : ℕ) → IsDomain d → wake_reply (task_of d number) ≡ Woken → IsDomain (changed d number (released d.time))
 wake_keeps d number is reply =
     let g = woken_waits (task_of d number) reply in
-    let sound : All (IsSound d.time) (map (of_number number (awoken d.time)) d.tasks) =
-    changed_one (IsSound d.time) (awoken d.time) number d.tasks g.0 is.steady.numbered g.1 (awoken_sound d.time g.0 is.steady.early g.2) is.steady.sound in
-    changed_is d number (awoken d.time) (record { number = λ t. refl; cpu = λ t. refl }) is (rw (sum_kept (awoken d.time) (λ t. refl) number d.tasks) is.steady.within) sound
+    let sound : All (IsSound d.time) (map (of_number number (released d.time)) d.tasks) =
+    changed_one (IsSound d.time) (released d.time) number d.tasks g.0 is.steady.numbered g.1 (released_sound d.time g.0 is.steady.early g.2) is.steady.sound in
+    changed_is d number (released d.time) (record { number = λ t. refl; cpu = λ t. refl }) is (rw (sum_kept (released d.time) (λ t. refl) number d.tasks) is.steady.within) sound
 
 pub leave_keeps : (d : Domain) (number : ℕ) → IsDomain d → All (IsSound d.time) (map (of_number number (ended d.time)) d.tasks) → IsDomain (changed d number (ended d.time))
 leave_keeps d number is sound =

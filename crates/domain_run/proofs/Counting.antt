@@ -19,13 +19,13 @@ use Rattle.domain_run.specs.declared.task.Task.{Task}
 use Rattle.domain_run.specs.declared.run_queue.RunQueue.{RunQueue}
 use Rattle.domain_run.specs.Conditions.{is_ready, is_contending, is_leaving}
 use Rattle.domain_run.specs.Tick.{share_of, shares, sum_of, candidate_of, candidates}
-use Rattle.domain_run.specs.RunQueue.{ready_of, standing_of, Counts, IsRoster, IsCounted, with_ready, without_ready, MayTurn, HasTurned}
+use Rattle.domain_run.specs.private.RunQueue.{ready_of, standing_of, Counts, IsRoster, IsCounted, with_ready, without_ready, MayTurn, HasTurned}
 use Rattle.edf_pick.specs.Places.{Places, is_task, stands, placed}
 use Rattle.domain_run.specs.declared.task.Condition.{Condition}
 use Rattle.domain_run.specs.declared.task.Condition.TheVariants.{Ready, Throttled, Blocked, Waiting, Leaving}
 use Rattle.domain_run.specs.Parts.{homed, is_listed}
-use Rattle.domain_run.specs.Calls.{of_number, regraded, awoken, ended}
-use Rattle.domain_run.specs.Charging.{rate_with, ran_with}
+use Rattle.domain_run.specs.Calls.{of_number, regraded, released, ended}
+use Rattle.domain_run.specs.private.Charging.{rate_with, ran_with}
 use Rattle.domain_run.proofs.Placing.{not_true, homed_number, homed_params, homed_cpu, position_within}
 use Rattle.domain_run.specs.Domain.{Domain}
 use Rattle.domain_run.specs.Sound.{IsApart, IsDomain}
@@ -162,8 +162,8 @@ regraded_fit number p queue tasks i d {cpus} h short is =
       | false ↦ record { number = refl; short = is.roster.short i d h; home = home }
     ]
 
-pub awoken_same : (number time : ℕ) (t : Task) → Same t (of_number number (awoken time) t)
-awoken_same number time t = same_either (eqb t.number number) t _ t (record { number = refl; params = refl; cpu = refl }) (same_itself t)
+pub released_same : (number time : ℕ) (t : Task) → Same t (of_number number (released time) t)
+released_same number time t = same_either (eqb t.number number) t _ t (record { number = refl; params = refl; cpu = refl }) (same_itself t)
 
 pub ended_same : (number time : ℕ) (t : Task) → Same t (of_number number (ended time) t)
 ended_same number time t =
@@ -273,7 +273,7 @@ inactive_is a xs cpu is = omega (arith, is.all cpu, is.active cpu)
 -- a domain's run queue
 pub counted_in : (d : Domain) (queue : RunQueue) → IsDomain d → length queue.accounts.all ≡ d.cpus → Counts queue d.tasks → IsCounted d.cpus queue d.tasks
 counted_in d queue is wide counts =
-    let most : cap d.cpus d.limit ≤ 64 * 1048576 = mul-le-mul is.steady.few is.steady.high in
+    let most : cap d.cpus d.limit ≤ 64 * 1048576 = mul-le-mul is.steady.cpus.1 is.steady.limit.1 in
     record { wide = wide; counts = counts; roster = roster_of d.tasks is.steady.listed (omega (arith, is.steady.within, most)) is.steady.numbered }
 
 pub counted_all : (d : Domain) (queue : RunQueue) → IsDomain d → length queue.accounts.all ≡ d.cpus → Counts queue d.tasks → IsCounted (length queue.accounts.all) queue d.tasks

@@ -2,7 +2,7 @@
 use Rattle.std.proofs.Common.{◌≡◌, ℕ, zero, suc, ◌+◌, ◌<◌, Bool, true, false, eqb, List, [], ◌∷◌, length, get_or, set, replicate, refl, sym, ap, arith, eq-eqb}
 use Rattle.std.specs.List.{list_any}
 use Rattle.std.proofs.lemmas.Bool.{lt-ltb, le-ltb, ne_eqb}
-use Rattle.domain_run.specs.Numbers.{marked}
+use Rattle.domain_run.specs.private.Numbers.{marked}
 use Rattle.domain_run.specs.Calls.{with_number}
 
 pub marked_none : (from n : ℕ) → marked from (replicate n false) ≡ []

@@ -21,10 +21,8 @@ nobody_twice n = record { once = λ i j k a b. let no : None ≡ Some k = sym (n
 opened_steady : (cpus limit : ℕ) → 0 < cpus → cpus ≤ 64 → 10485 ≤ limit → limit ≤ 1048576 → IsSteady (opened cpus limit)
 opened_steady cpus limit some few low high = record {
   early = omega arith;
-  some = some;
-  few = few;
-  low = low;
-  high = high;
+  cpus = (some, few);
+  limit = (low, high);
   within = omega arith;
   listed = omega arith;
   sound = All-nil _;

@@ -5,7 +5,7 @@ use Rattle.std.proofs.lemmas.Int.{ints}
 use Rattle.attr_check.specs.ParamsView.{ParamsView, IsOrdered}
 use Rattle.cbs_rules.specs.declared.server.Server.{Server}
 use Rattle.cbs_rules.specs.Serving.{renewed, is_outlived, woken_at, woken}
-use Rattle.domain_run.specs.Sound.{IsServed}
+use Rattle.domain_run.specs.Bounds.{IsServed}
 
 renewed_served : (p : ParamsView) (time : ℕ) → IsOrdered p → IsServed time (renewed p time)
 renewed_served p time o =

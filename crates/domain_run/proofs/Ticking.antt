@@ -13,10 +13,11 @@ use Rattle.edf_pick.specs.Places.{Places, is_task, stands, placed}
 use Rattle.domain_run.specs.Parts.{replenish_due, settled, is_listed, unblocked, homed, homed_at}
 use Rattle.domain_run.specs.declared.switch.Switch.{Switch}
 use Rattle.domain_run.specs.Switches.{switches_from}
-use Rattle.domain_run.specs.Charging.{ran_with}
+use Rattle.domain_run.specs.private.Charging.{ran_with}
 use Rattle.domain_run.specs.Domain.{Domain}
-use Rattle.domain_run.specs.Tick.{shares, sum_of, candidates, awake, with_places, begun, ran_if, finished, ticked}
-use Rattle.domain_run.specs.Sound.{IsSound, IsPlacement, IsSteady, IsDomain, IsAdmitted, AreSums}
+use Rattle.domain_run.specs.Tick.{shares, sum_of, candidates, prepared, with_places, begun, ran_if, finished, ticked}
+use Rattle.domain_run.specs.Sound.{IsSound, IsPlacement, IsSteady, IsDomain, IsAdmitted}
+use Rattle.domain_run.specs.private.Charging.{AreSums}
 use Rattle.domain_run.specs.Conditions.{is_ready}
 use Rattle.domain_run.proofs.Tracing.{AreStanding, tick_traced}
 use Rattle.domain_run.proofs.Keeping.{Same, same_itself, same_either, same_replenished, same_settled, same_unblocked, same_ran, AllPairs-map, length-filter_least, sum-map, sum-filter}
@@ -68,8 +69,8 @@ listed_homed d places tasks wide is =
 pub listed_of : (d : Domain) → IsSteady d → AreListed d d.tasks
 listed_of d is = record { within = is.within; listed = is.listed; homes = is.homes; numbered = is.numbered; known = is.known }
 
-pub listed_awake : (d : Domain) → IsSteady d → AreListed d (awake d.time d.tasks)
-listed_awake d is =
+pub listed_prepared : (d : Domain) → IsSteady d → AreListed d (prepared d.time d.tasks)
+listed_prepared d is =
     let a = listed_map d (replenish_due d.time) d.tasks (same_replenished d.time) (listed_of d is) in
     let b = listed_map d (settled d.time) (map (replenish_due d.time) d.tasks) (same_settled d.time) a in
     let c = listed_filter d is_listed (map (settled d.time) (map (replenish_due d.time) d.tasks)) b in
@@ -79,18 +80,16 @@ homed_sound : (time : ℕ) (o : Option ℕ) (t : Task) → IsSound time t → Is
 homed_sound time None t h = h
 homed_sound time (Some cpu) t h = record { served = h.served; spent = h.spent; lifted = h.lifted; dated = h.dated; busy = h.busy; timed = h.timed }
 
-pub begun_is : (d : Domain) → IsSteady d → All (IsSound d.time) (awake d.time d.tasks) → IsSteady (begun d) × IsPlacement (begun d)
+pub begun_is : (d : Domain) → IsSteady d → All (IsSound d.time) (prepared d.time d.tasks) → IsSteady (begun d) × IsPlacement (begun d)
 begun_is d is sound =
-    let tasks = awake d.time d.tasks in
+    let tasks = prepared d.time d.tasks in
     let seating = placed_is d.cpus (candidates tasks) d.places is.wide is.apart in
     let places = placed d.cpus (candidates tasks) d.places in
-    let l = listed_homed d places tasks seating.wide (listed_awake d is) in (
+    let l = listed_homed d places tasks seating.wide (listed_prepared d is) in (
       record {
         early = is.early;
-        some = is.some;
-        few = is.few;
-        low = is.low;
-        high = is.high;
+        cpus = is.cpus;
+        limit = is.limit;
         within = l.within;
         listed = l.listed;
         sound = All-map (IsSound d.time) (homed places) tasks (All-weaker (IsSound d.time) (λ t. IsSound d.time (homed places t)) (λ t h. homed_sound d.time (position (is_task t.number) places) t h) tasks sound);
@@ -111,10 +110,8 @@ finished_is d is early sound =
     let l = listed_map d (ran_if d) d.tasks (same_ran_if d) (listed_of d is) in
     record {
       early = omega (arith, early);
-      some = is.some;
-      few = is.few;
-      low = is.low;
-      high = is.high;
+      cpus = is.cpus;
+      limit = is.limit;
       within = l.within;
       listed = l.listed;
       sound = sound;
@@ -133,15 +130,13 @@ ran_as d idle sum each total =
 
 pub sums_are : (d : Domain) (idle : List ℕ) (sum : ℕ) → IsSteady d → ((cpu : ℕ) → slice_index idle cpu ≡ uinact cpu (shares d.tasks)) → sum ≡ sum_of d.tasks → AreSums idle sum d.cpus d.limit
 sums_are d idle sum is each total =
-    let most : cap d.cpus d.limit ≤ 64 * 1048576 = mul-le-mul is.few is.high in
+    let most : cap d.cpus d.limit ≤ 64 * 1048576 = mul-le-mul is.cpus.1 is.limit.1 in
     record {
       idle_short = λ k x within. rw (get_or_default idle k x 0 within, each k) (omega (arith, uinact-le-total_bw k (shares d.tasks), is.within, most));
       sum_short = omega (arith, total, is.within, most);
       within = rw total is.within;
-      some = is.some;
-      few = is.few;
-      low = is.low;
-      high = is.high;
+      are_cpus = is.cpus;
+      is_limit = is.limit;
     }
 
 -- ---- the middle of a tick, as the code has it
@@ -151,15 +146,15 @@ pub record IsMiddle (d e : Domain) : Type 0 where
   pub steady : IsSteady e
   pub placed : IsPlacement e
 
-pub middle : (d : Domain) (tasks : List Task) (places : Places) (switches : List Switch) → IsDomain d → All (IsSound d.time) (awake d.time d.tasks)
-    → tasks ≡ map (homed places) (awake d.time d.tasks) → places ≡ placed (length d.places) (candidates (awake d.time d.tasks)) d.places → switches ≡ d.switches ++ switches_from d.time (awake d.time d.tasks) 0 d.places places
+pub middle : (d : Domain) (tasks : List Task) (places : Places) (switches : List Switch) → IsDomain d → All (IsSound d.time) (prepared d.time d.tasks)
+    → tasks ≡ map (homed places) (prepared d.time d.tasks) → places ≡ placed (length d.places) (candidates (prepared d.time d.tasks)) d.places → switches ≡ d.switches ++ switches_from d.time (prepared d.time d.tasks) 0 d.places places
     → IsMiddle d (record d { tasks = tasks; places = places; switches = switches })
 middle d tasks places switches is sound tasks-are places-are switches-are =
     let made : List Task → List Switch → Domain = λ ts ss. record d { tasks = ts; places = places; switches = ss } in
-    let awoken = awake d.time d.tasks in
-    let seated : places ≡ placed d.cpus (candidates awoken) d.places = places-are ∙ ap (λ n. placed n (candidates awoken) d.places) is.steady.wide in
+    let list = prepared d.time d.tasks in
+    let seated : places ≡ placed d.cpus (candidates list) d.places = places-are ∙ ap (λ n. placed n (candidates list) d.places) is.steady.wide in
     let same : record d { tasks = tasks; places = places; switches = switches } ≡ begun d =
-    ap (λ ts. made ts switches) tasks-are ∙ ap (made (map (homed places) awoken)) switches-are ∙ ap (with_places d awoken) seated in
+    ap (λ ts. made ts switches) tasks-are ∙ ap (made (map (homed places) list)) switches-are ∙ ap (with_places d list) seated in
     let keeps = begun_is d is.steady sound in
     record { begun_is = same; steady = subst IsSteady (sym same) keeps.0; placed = subst IsPlacement (sym same) keeps.1 }
 
@@ -169,12 +164,12 @@ standing_from e is at cpu n h = stand_by (at.running cpu n h)
     stand_by : Any (λ t. (t.number ≡ n) × (t.cpu ≡ cpu) × IsTrue (is_ready t.condition) × (pos 0 <ℤ t.server.left)) e.tasks → IsAdmitted e.used n
     stand_by (k, t, within, same, facts) = subst (IsAdmitted e.used) (ap (λ x. x.number) same ∙ facts.0) (is.known k t within)
 
-pub ticked_is : (d : Domain) → IsDomain d → d.time < 2 ^ 42 → All (IsSound d.time) (awake d.time d.tasks) → All (IsSound (d.time + 1)) (ticked d).tasks → IsDomain (ticked d)
-ticked_is d is early awoken sound =
-    let keeps = begun_is d is.steady awoken in
+pub ticked_is : (d : Domain) → IsDomain d → d.time < 2 ^ 42 → All (IsSound d.time) (prepared d.time d.tasks) → All (IsSound (d.time + 1)) (ticked d).tasks → IsDomain (ticked d)
+ticked_is d is early ready sound =
+    let keeps = begun_is d is.steady ready in
     record {
       steady = finished_is (begun d) keeps.0 early sound;
-      traced = tick_traced d (awake d.time d.tasks) (ticked d).tasks (begun d).places is.steady.wide is.traced (standing_from (begun d) keeps.0 keeps.1);
+      traced = tick_traced d (prepared d.time d.tasks) (ticked d).tasks (begun d).places is.steady.wide is.traced (standing_from (begun d) keeps.0 keeps.1);
     }
 
 -- what the code leaves is the tick

@@ -71,13 +71,14 @@ regrade_reply d params word (Some t) =
 abbrev pub regraded : ParamsView → Task → Task
 regraded params t = record t { params = params }
 
--- WAKE. A task that waits asks its script in the next tick
+-- WAKE. A task that waits is released: its time of blocking is over, so it asks its script in the next tick. It wakes there,
+-- where the script has it run
 abbrev pub wake_reply : Option Task → Reply
 wake_reply None = NotListed
 wake_reply (Some t) = if is_waiting t.condition then Woken else NotWaiting
 
-abbrev pub awoken : ℕ → Task → Task
-awoken time t = record t { condition = Blocked time }
+abbrev pub released : ℕ → Task → Task
+released time t = record t { condition = Blocked time }
 
 -- LEAVE. A task that contends stops; any other keeps its zero-lag time
 abbrev pub leave_reply : Option Task → Reply
@@ -101,17 +102,13 @@ is_refusal Changed = false
 is_refusal Woken = false
 is_refusal Left = false
 is_refusal (Done n) = false
-is_refusal Full = true
-is_refusal Twice = true
-is_refusal (Busy s) = true
-is_refusal NotListed = true
-is_refusal NotWaiting = true
+is_refusal _ = true
 
 -- what a call does where it is not refused
 abbrev pub granted : Domain → Call → Domain
 granted d (Admit number name params delay script) = listed d (new_task d number name params delay script)
 granted d (Regrade number params word) = changed d number (regraded params)
-granted d (Wake number) = changed d number (awoken d.time)
+granted d (Wake number) = changed d number (released d.time)
 granted d (Leave number) = changed d number (ended d.time)
 granted d (Advance n) = ticks n d
 

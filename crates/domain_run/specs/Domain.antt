@@ -1,8 +1,16 @@
 -- A root domain between two ticks.
-use Rattle.std.specs.Prelude.{ℕ, List, [], replicate, None}
+use Rattle.std.specs.Prelude.{ℕ, ◌<◌, ◌≤◌, List, [], replicate, None}
 use Rattle.edf_pick.specs.Places.{Places}
 use Rattle.domain_run.specs.declared.task.Task.{Task}
 use Rattle.domain_run.specs.declared.switch.Switch.{Switch}
+
+-- 1 to 64 (own)
+abbrev pub IsCpus : ℕ → Type 0
+IsCpus cpus = (0 < cpus) × (cpus ≤ 64)
+
+-- what may be given away of one CPU, in 1/2^20: a hundredth, rounded down, to the whole (own)
+abbrev pub IsLimit : ℕ → Type 0
+IsLimit limit = (10485 ≤ limit) × (limit ≤ 1048576)
 
 pub record Domain : Type 0 where
   -- how many CPUs it has, and the bandwidth that it may give away for each, in 1/2^20

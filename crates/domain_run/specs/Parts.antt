@@ -30,7 +30,7 @@ contending time s t =
     if is_spent s then (if has_come time s.deadline then record t { server = replenished t.params s; condition = Ready } else record t { server = s; condition = Throttled })
     else record t { server = s; condition = Ready }
 
--- a wake with so much work
+-- a wake with so much work: the one rule by which a server is woken
 abbrev pub woken_task : ℕ → ℕ → Task → Task
 woken_task time n t = contending time (woken t.params time t.server) (record t { zero_lag = None; work = n })
 
@@ -43,7 +43,7 @@ started time End t = record t { condition = Leaving }
 abbrev pub starts : ℕ → Task → Asked → Task
 starts time t a = started time a.segment (record t { cursor = a.cursor })
 
--- a task whose time of blocking is over asks its script
+-- a task whose time of blocking is over is unblocked: it asks its script, and wakes where that has it run
 abbrev pub unblocked : ℕ → Task → Task
 unblocked time t = if is_over time t.condition then starts time t (asked t.cursor time) else t
 

@@ -1,29 +1,23 @@
 -- What every domain keeps between two ticks.
-use Rattle.std.specs.Prelude.{ℕ, ◌≤◌, ◌<◌, ◌^◌, ◌+◌, ◌≡◌, ◌≢◌, ◌==◌, max, ◌≤ℤ◌, ◌<ℤ◌, pos, neg_ℤ, List, length, All, Any, AllPairs, Option, Some, None, slice_index_or, IfSome, IsSome, IsTrue}
+use Rattle.std.specs.Prelude.{ℕ, ◌≤◌, ◌<◌, ◌≡◌, ◌≢◌, ◌==◌, max, ◌≤ℤ◌, ◌<ℤ◌, pos, List, length, All, Any, AllPairs, Option, Some, None, slice_index_or, IfSome, IsSome, IsTrue}
 use Rattle.std.specs.List.{list_any}
 use Rattle.attr_check.specs.Ratio.{cap}
 use Rattle.edf_pick.specs.Places.{Places}
-use Rattle.cbs_rules.specs.declared.server.Server.{Server}
 use Rattle.domain_run.specs.declared.task.Task.{Task}
 use Rattle.domain_run.specs.declared.task.Condition.{Condition}
 use Rattle.domain_run.specs.declared.task.Condition.TheVariants.{Ready, Throttled, Blocked, Waiting, Leaving}
 use Rattle.domain_run.specs.Conditions.{is_ready, is_throttled, is_contending}
 use Rattle.domain_run.specs.declared.switch.Switch.{Switch}
 use Rattle.domain_run.specs.Switches.{is_before}
-use Rattle.domain_run.specs.Domain.{Domain}
+use Rattle.domain_run.specs.Domain.{Domain, IsCpus, IsLimit}
+use Rattle.domain_run.specs.Bounds.{IsEarly, IsSoon, IsServed}
 use Rattle.domain_run.specs.Tick.{sum_of}
-
--- a deadline not far ahead, and a budget in range
-pub record IsServed (time : ℕ) (s : Server) : Type 0 where
-  pub near : IfSome s.deadline (λ d. d ≤ time + 2 ^ 45)
-  pub low : neg_ℤ (pos (2 ^ 32)) ≤ℤ s.left
-  pub high : s.left ≤ℤ pos (2 ^ 52)
 
 -- the timer's reference is not behind the next time at which the script may be asked; a task that has ended asks no more
 abbrev pub IsTimed : ℕ → Condition → ℕ → Type 0
 IsTimed time Ready reference = reference ≤ time
 IsTimed time Throttled reference = reference ≤ time
-IsTimed time (Blocked u) reference = (reference ≤ max time u) × (u < 2 ^ 49)
+IsTimed time (Blocked u) reference = (reference ≤ max time u) × IsSoon u
 IsTimed time Waiting reference = reference ≤ time
 IsTimed time Leaving reference = Unit {0}
 
@@ -36,16 +30,6 @@ pub record IsSound (time : ℕ) (t : Task) : Type 0 where
   pub busy : IsTrue (is_contending t.condition) → 0 < t.work
   pub timed : IsTimed time t.condition t.cursor.reference
 
--- sums, CPUs and limit in range, so that rates are
-pub record AreSums (idle : List ℕ) (sum cpus limit : ℕ) : Type 0 where
-  pub idle_short : All (λ n. n ≤ 2 ^ 26) idle
-  pub sum_short : sum ≤ 2 ^ 26
-  pub within : sum ≤ cap cpus limit
-  pub some : 0 < cpus
-  pub few : cpus ≤ 64
-  pub low : 10485 ≤ limit
-  pub high : limit ≤ 1048576
-
 -- who stands on a CPU
 abbrev pub occupant : Places → ℕ → Option ℕ
 occupant places cpu = slice_index_or places cpu None
@@ -54,19 +38,24 @@ occupant places cpu = slice_index_or places cpu None
 pub record IsApart (places : Places) : Type 0 where
   pub once : (i j n : ℕ) → occupant places i ≡ Some n → occupant places j ≡ Some n → i ≡ j
 
--- what is placed: on each CPU stands nobody, or a listed task that is ready, has budget left and belongs to that CPU; and no task
--- stands on two
+-- a task of this number that may stand on a CPU: it is ready, has budget left and belongs to that CPU
+abbrev pub MayStand : ℕ → ℕ → Task → Type 0
+MayStand cpu n t = (t.number ≡ n) × (t.cpu ≡ cpu) × IsTrue (is_ready t.condition) × (pos 0 <ℤ t.server.left)
+
+-- what is placed: on each CPU stands nobody, or a listed task that may; and no task stands on two
 pub record IsPlacement (d : Domain) : Type 0 where
-  pub running : (cpu n : ℕ) → occupant d.places cpu ≡ Some n → Any (λ t. (t.number ≡ n) × (t.cpu ≡ cpu) × IsTrue (is_ready t.condition) × (pos 0 <ℤ t.server.left)) d.tasks
+  pub running : (cpu n : ℕ) → occupant d.places cpu ≡ Some n → Any (MayStand cpu n) d.tasks
   pub apart : IsApart d.places
+
+-- the number was admitted
+abbrev pub IsAdmitted : List ℕ → ℕ → Type 0
+IsAdmitted used n = IsTrue (list_any (λ m. m == n) used)
 
 -- what a domain keeps, also in the middle of a tick
 pub record IsSteady (d : Domain) : Type 0 where
-  pub early : d.time ≤ 2 ^ 42
-  pub some : 0 < d.cpus
-  pub few : d.cpus ≤ 64
-  pub low : 10485 ≤ d.limit
-  pub high : d.limit ≤ 1048576
+  pub early : IsEarly d.time
+  pub cpus : IsCpus d.cpus
+  pub limit : IsLimit d.limit
   -- the sum of bandwidths is at most the cap
   pub within : sum_of d.tasks ≤ cap d.cpus d.limit
   pub listed : length d.tasks ≤ 256
@@ -74,13 +63,9 @@ pub record IsSteady (d : Domain) : Type 0 where
   pub homes : All (λ t. t.cpu < d.cpus) d.tasks
   -- no two tasks have one number, and each number was admitted
   pub numbered : AllPairs (λ a b. a.number ≢ b.number) d.tasks
-  pub known : All (λ t. IsTrue (list_any (λ n. n == t.number) d.used)) d.tasks
+  pub known : All (λ t. IsAdmitted d.used t.number) d.tasks
   pub wide : length d.places ≡ d.cpus
   pub apart : IsApart d.places
-
--- the number was admitted
-abbrev pub IsAdmitted : List ℕ → ℕ → Type 0
-IsAdmitted used n = IsTrue (list_any (λ m. m == n) used)
 
 -- a switch of an earlier tick, on a CPU of the domain, between tasks that were admitted
 pub record IsSwitch (cpus time : ℕ) (used : List ℕ) (s : Switch) : Type 0 where

@@ -29,9 +29,9 @@ candidate_of t = record { deadline = unwrap_or t.server.deadline 0; number = t.n
 abbrev pub candidates : List Task → List Candidate
 candidates tasks = map candidate_of (filter (λ t. is_ready t.condition) tasks)
 
--- parts 1 to 3: replenished, settled, off the list where they have left, and woken
-abbrev pub awake : ℕ → List Task → List Task
-awake time tasks = map (unblocked time) (filter is_listed (map (settled time) (map (replenish_due time) tasks)))
+-- parts 1 to 3: replenished, settled, off the list where they have left, and unblocked; so the choice finds them
+abbrev pub prepared : ℕ → List Task → List Task
+prepared time tasks = map (unblocked time) (filter is_listed (map (settled time) (map (replenish_due time) tasks)))
 
 -- parts 4 and 5: the new occupants, to whom their CPUs become home, and the switches
 abbrev pub with_places : Domain → List Task → Places → Domain
@@ -41,12 +41,12 @@ with_places d tasks places = record d {
   switches = d.switches ++ switches_from d.time tasks 0 d.places places;
 }
 
-abbrev pub with_awake : Domain → List Task → Domain
-with_awake d tasks = with_places d tasks (placed d.cpus (candidates tasks) d.places)
+abbrev pub with_prepared : Domain → List Task → Domain
+with_prepared d tasks = with_places d tasks (placed d.cpus (candidates tasks) d.places)
 
 -- what begins in a tick: parts 1 to 5
 abbrev pub begun : Domain → Domain
-begun d = with_awake d (awake d.time d.tasks)
+begun d = with_prepared d (prepared d.time d.tasks)
 
 -- the rate of a running task, from the sums as they are after part 4
 abbrev pub rate_of : Domain → Task → ℕ

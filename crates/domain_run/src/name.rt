@@ -38,7 +38,8 @@ impl Name {
     /// The text as a name, or the text back where it is not 1 to 15 bytes of codes 0x21 to 0x7e. Takes no memory.
     pub fn new(text: String) -> Result<Name, String>
         ensures named { IsOk result ↔ IsName (string_bytes text) }
-        ensures value { MatchResult result (λ name. name ≡ string_bytes text) (λ back. back ≡ text) }
+        ensures value { MatchResult result
+            (λ name. name ≡ string_bytes text) (λ back. back ≡ text) }
     {
         if is_name(text.as_bytes()) {
             Ok(Name { text })

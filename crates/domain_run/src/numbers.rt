@@ -18,7 +18,7 @@ pub(crate) struct Numbers {
 
 impl Model for Numbers {
     ghost use Rattle.std.specs.Prelude.{◌≡◌, ℕ, List, vec_len};
-    ghost use Rattle.domain_run.specs.Numbers.{marked};
+    ghost use Rattle.domain_run.specs.private.Numbers.{marked};
 
     ghost Value = { List ℕ };
 

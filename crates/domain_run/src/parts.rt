@@ -10,8 +10,10 @@ ghost use Rattle.domain_run.specs.Views as views;
 ghost use Rattle.domain_run.specs.Calls as calls;
 ghost use Rattle.domain_run.specs.Domain.{Domain};
 ghost use Rattle.domain_run.specs.Parts as parts;
+ghost use Rattle.domain_run.specs.private.Charging.{IsReadyToStand};
 ghost use Rattle.domain_run.specs.script.Segments.{IsSegment, next_ask};
-ghost use Rattle.domain_run.specs.Sound.{IsServed, IsTimed, IsSound};
+ghost use Rattle.domain_run.specs.Bounds.{IsServed};
+ghost use Rattle.domain_run.specs.Sound.{IsTimed, IsSound};
 
 use crate::name::Name;
 use crate::script::{Script, Segment};
@@ -272,7 +274,7 @@ fn place_of(number: u32, places: &[Option<u32>]) -> Option<usize>
 
 /// Part 4: a placed task, which is ready, belongs to its CPU.
 pub(crate) fn home(task: &mut Task, places: &[Option<u32>])
-    requires { IsTrue (places_spec.stands task.old.number places.now) → IsTrue (conditions.is_ready task.old.condition) }
+    requires { IsReadyToStand places.now task.old }
     ensures { task.new ≡ parts.homed places.now task.old }
 {
     if !task.condition.is_ready() {
@@ -292,14 +294,6 @@ pub(crate) fn candidate_of(task: &Task) -> Candidate
         number: task.number,
         home: task.cpu,
     }
-}
-
-/// The bandwidth of a task, at most one CPU.
-pub(crate) fn bw_of(task: &Task) -> u64
-    ensures value { result ≡ task.now.params.bw }
-    ensures most { result ≤ 2 ^ 20 }
-{
-    task.params.bw
 }
 
 /// Whether a task's bandwidth is active: it contends, or has a zero-lag time ahead.
@@ -364,7 +358,8 @@ pub(crate) fn new_task(
     cpus: usize,
 ) -> Task
     requires some { 0 < cpus }
-    ensures { (d : Domain) (delay : ℕ) → d.cpus ≡ cpus → d.time + delay ≡ start → result ≡ calls.new_task d number name params delay script }
+    ensures { (d : Domain) (delay : ℕ) → d.cpus ≡ cpus → d.time + delay ≡ start
+        → result ≡ calls.new_task d number name params delay script }
 {
     Task {
         number,
@@ -384,7 +379,8 @@ pub(crate) fn new_task(
 
 /// The task of a number, where it is listed and has not ended.
 pub(crate) fn live(tasks: &[Task], number: u32) -> Option<&Task>
-    ensures { option_copied result ≡ find (λ t. t.number == number && not (conditions.is_leaving t.condition)) tasks.now }
+    ensures { option_copied result
+        ≡ find (λ t. t.number == number && not (conditions.is_leaving t.condition)) tasks.now }
 {
     tasks.iter().find(|task| task.number == number && !task.condition.is_leaving())
 }
@@ -399,8 +395,8 @@ pub(crate) fn regrade(task: &mut Task, number: u32, params: &Params)
 }
 
 /// A wake of the task of a number: it asks its script in the next tick.
-pub(crate) fn awaken(task: &mut Task, number: u32, time: u64)
-    ensures { task.new ≡ calls.of_number number (calls.awoken time) task.old }
+pub(crate) fn release(task: &mut Task, number: u32, time: u64)
+    ensures { task.new ≡ calls.of_number number (calls.released time) task.old }
 {
     if task.number == number {
         task.condition = Condition::Blocked(time);

@@ -3,7 +3,7 @@
 
 ghost use Rattle.std.specs.Prelude.{◌≡◌, ◌<◌, [], length, IfOk, IfSome, false};
 ghost use Rattle.edf_pick.specs.Order.{has_candidate};
-ghost use Rattle.domain_run.specs.RunQueue as spec;
+ghost use Rattle.domain_run.specs.private.RunQueue as spec;
 ghost use Rattle.domain_run.specs.Tick as tick_spec;
 
 use crate::memory::NoMemory;
@@ -50,7 +50,8 @@ pub(crate) struct RunQueue {
 
 fn replace(queue: &mut Queue, before: Option<Candidate>, after: Option<Candidate>)
     requires room { length (spec.without_ready before queue.old) < 256 }
-    requires absent { IfSome after (λ c. has_candidate c (spec.without_ready before queue.old) ≡ false) }
+    requires absent { IfSome after
+        (λ c. has_candidate c (spec.without_ready before queue.old) ≡ false) }
     ensures { queue.new ≡ spec.with_ready after (spec.without_ready before queue.old) }
 {
     if let Some(c) = before {

@@ -4,7 +4,7 @@ ghost use Rattle.std.specs.Prelude.{◌≡◌, ◌<◌, ◌≤◌, ◌^◌, OnOk
 ghost use Rattle.std.specs.List.{list_any};
 ghost use Rattle.domain_run.specs.declared.call.Call.TheVariants as Call;
 ghost use Rattle.domain_run.specs.declared.call.Reply.TheVariants as Reply;
-ghost use Rattle.domain_run.specs.Domain.{opened};
+ghost use Rattle.domain_run.specs.Domain.{IsCpus, IsLimit, opened};
 ghost use Rattle.domain_run.specs.Views.{view_in};
 ghost use Rattle.domain_run.specs.Tick as tick;
 ghost use Rattle.domain_run.specs.Calls as calls;
@@ -16,6 +16,8 @@ ghost use Rattle.attr_check.specs.Ratio.{cap};
 mod calls;
 mod lending;
 mod machine;
+#[cfg(test)]
+mod tests;
 
 use crate::call::{Refused, Reply};
 use crate::memory::NoMemory;
@@ -52,7 +54,7 @@ pub struct State {
 impl Model for State {
     ghost use Rattle.std.specs.Prelude.{vec_len, vec_capacity};
     ghost use Rattle.domain_run.specs.Domain.{Domain};
-    ghost use Rattle.domain_run.specs.RunQueue.{IsState};
+    ghost use Rattle.domain_run.specs.private.RunQueue.{IsState};
 
     ghost Value = { Domain };
 
@@ -65,8 +67,8 @@ impl State {
     /// An empty domain of 1 to 64 CPUs that may give away `limit` of each, 10485 to 1048576 in 1/2^20. Room for 256 tasks and for
     /// the numbers ever admitted is made here; after it only [`State::tick`] takes memory. `Err` where a growth was refused.
     pub fn open(alloc: Global, cpus: u32, limit: u64) -> Result<State, NoMemory>
-        requires cpus { (0 < cpus) × (cpus ≤ 64) }
-        requires limit { (10485 ≤ limit) × (limit ≤ 1048576) }
+        requires cpus { IsCpus cpus }
+        requires limit { IsLimit limit }
         ensures { IfOk result (λ s. s ≡ opened cpus limit) }
     {
         let cpus = cpus as usize;
@@ -118,6 +120,7 @@ impl State {
     }
 }
 
+// The bandwidth, with the bound that its type keeps, for the sums in which it stands.
 fn bw_within(params: &Params) -> u64
     ensures value { result ≡ params.now.bw }
     ensures most { result ≤ 2 ^ 20 }
@@ -188,7 +191,8 @@ impl State {
         requires granted { calls.admit_reply self.old number params ≡ Reply.Admitted }
         requires small { number < 65536 }
         requires delay { delay ≤ 1000000000 }
-        ensures { self.new ≡ calls.listed self.old (calls.new_task self.old number name params delay script) }
+        ensures { self.new ≡ calls.listed self.old
+            (calls.new_task self.old number name params delay script) }
     {
         let task = parts::new_task(number, name, params, self.time + delay, script, self.cpus);
         self.used.insert(number);
@@ -210,9 +214,12 @@ impl State {
     ) -> Result<(), Refused>
         requires number { (0 < number) × (number < 65536) }
         requires delay { delay ≤ 1000000000 }
-        ensures domain { self.new ≡ calls.after_call self.old (Call.Admit number name params delay script) }
-        ensures admitted { OnOk result (calls.reply_to self.old (Call.Admit number name params delay script) ≡ Reply.Admitted) }
-        ensures reply { IfErr result (λ r. r.reply ≡ calls.reply_to self.old (Call.Admit number name params delay script)) }
+        ensures domain { self.new
+            ≡ calls.after_call self.old (Call.Admit number name params delay script) }
+        ensures admitted { OnOk result
+            (calls.reply_to self.old (Call.Admit number name params delay script) ≡ Reply.Admitted) }
+        ensures reply { IfErr result (λ r. r.reply
+            ≡ calls.reply_to self.old (Call.Admit number name params delay script)) }
         ensures refused { IfErr result (λ r. IsTrue (calls.is_refusal r.reply)) }
         ensures busy { IfErr result (λ r. IfBusy r.reply (LacksRoomFor self.old params.bw)) }
         ensures back { IfErr result (λ r. (r.name ≡ name) × (r.script ≡ script)) }

@@ -1,16 +1,15 @@
 //! The parts of a tick, on all tasks of a domain.
 
-ghost use Rattle.std.specs.Prelude.{◌≡◌, ◌<◌, ◌≤◌, ◌^◌, ◌+◌, map, filter, ℕ, All, ◌++◌, length, slice_index, IsTrue, vec_len, vec_capacity};
+ghost use Rattle.std.specs.Prelude.{◌≡◌, ◌<◌, ◌≤◌, ◌^◌, ◌+◌, map, filter, ℕ, All, ◌++◌, length, slice_index, vec_len, vec_capacity};
 ghost use Rattle.domain_run.specs.Parts as parts_spec;
 ghost use Rattle.edf_pick.specs.Places as places_spec;
-ghost use Rattle.domain_run.specs.Sound.{IsSound, IsApart, AreSums};
+ghost use Rattle.domain_run.specs.Sound.{IsSound, IsApart};
 ghost use Rattle.domain_run.specs.Switches as switches_spec;
 ghost use Rattle.grub_rules.specs.Accounts.{AreAccounts, inactive_at};
 ghost use Rattle.domain_run.specs.Tick as tick_spec;
-ghost use Rattle.domain_run.specs.Charging.{rate_with, ran_with};
-ghost use Rattle.domain_run.specs.Conditions as conditions;
+ghost use Rattle.domain_run.specs.private.Charging.{AreSums, IsReadyToStand, rate_with, ran_with};
 ghost use Rattle.domain_run.specs.Calls as calls;
-ghost use Rattle.domain_run.specs.RunQueue.{IsCounted};
+ghost use Rattle.domain_run.specs.private.RunQueue.{IsCounted};
 
 use crate::parts;
 use crate::run_queue::{RunQueue, share_of, standing_of};
@@ -58,7 +57,8 @@ fn settle_all(tasks: &mut Vec<Task>, queue: &mut RunQueue, time: u64)
 // The bandwidth of tasks that have left goes back.
 fn part_left(accounts: &mut Accounts, tasks: &[Task])
     requires { AreAccounts accounts.old (tick_spec.shares tasks.now) }
-    ensures sums { AreAccounts accounts.new (tick_spec.shares (filter parts_spec.is_listed tasks.now)) }
+    ensures sums { AreAccounts accounts.new
+        (tick_spec.shares (filter parts_spec.is_listed tasks.now)) }
     ensures wide { length accounts.new.all ≡ length accounts.old.all }
 {
     for task in tasks {
@@ -103,7 +103,7 @@ fn wake_all(tasks: &mut Vec<Task>, queue: &mut RunQueue, time: u64)
     requires early { time < 2 ^ 42 }
     requires sound { All (IsSound time) tasks.old.items }
     requires counted { IsCounted (length queue.old.accounts.all) queue.old tasks.old.items }
-    ensures tasks { tasks.new.items ≡ tick_spec.awake time tasks.old.items }
+    ensures tasks { tasks.new.items ≡ tick_spec.prepared time tasks.old.items }
     ensures sound { All (IsSound time) tasks.new.items }
     ensures counted { IsCounted (length queue.old.accounts.all) queue.new tasks.new.items }
     ensures few { vec_len tasks.new ≤ vec_len tasks.old }
@@ -117,7 +117,7 @@ fn wake_all(tasks: &mut Vec<Task>, queue: &mut RunQueue, time: u64)
 
 /// Part 4: a placed task belongs to its CPU.
 fn home_all(tasks: &mut Vec<Task>, queue: &mut RunQueue, places: &[Option<u32>])
-    requires running { All (λ t. IsTrue (places_spec.stands t.number places.now) → IsTrue (conditions.is_ready t.condition)) tasks.old.items }
+    requires running { All (IsReadyToStand places.now) tasks.old.items }
     requires counted { IsCounted (length places.now) queue.old tasks.old.items }
     ensures tasks { tasks.new.items ≡ map (parts_spec.homed places.now) tasks.old.items }
     ensures counted { IsCounted (length places.now) queue.new tasks.new.items }
@@ -141,7 +141,8 @@ fn add_switches(
     requires few { length before.now ≤ 64 }
     requires same { length after.now ≡ length before.now }
     requires room { vec_len switches.old + length before.now ≤ vec_capacity switches.old }
-    ensures switches { switches.new.items ≡ switches.old.items ++ switches_spec.switches_from time tasks.now 0 before.now after.now }
+    ensures switches { switches.new.items
+        ≡ switches.old.items ++ switches_spec.switches_from time tasks.now 0 before.now after.now }
     ensures room { vec_capacity switches.new ≡ vec_capacity switches.old }
 {
     for cpu in 0..before.len() {
@@ -182,11 +183,14 @@ pub(crate) fn begin(
     requires wide { vec_len before.old ≡ length places.old }
     requires apart { IsApart places.old }
     requires room { vec_len switches.old + length places.old ≤ vec_capacity switches.old }
-    ensures tasks { tasks.new.items ≡ map (parts_spec.homed places.new) (tick_spec.awake time tasks.old.items) }
-    ensures awoken { All (IsSound time) (tick_spec.awake time tasks.old.items) }
+    ensures tasks { tasks.new.items
+        ≡ map (parts_spec.homed places.new) (tick_spec.prepared time tasks.old.items) }
+    ensures prepared { All (IsSound time) (tick_spec.prepared time tasks.old.items) }
     ensures counted { IsCounted (length places.old) queue.new tasks.new.items }
-    ensures places { places.new ≡ places_spec.placed (length places.old) (tick_spec.candidates (tick_spec.awake time tasks.old.items)) places.old }
-    ensures switches { switches.new.items ≡ switches.old.items ++ switches_spec.switches_from time (tick_spec.awake time tasks.old.items) 0 places.old places.new }
+    ensures places { places.new ≡ places_spec.placed (length places.old)
+        (tick_spec.candidates (tick_spec.prepared time tasks.old.items)) places.old }
+    ensures switches { switches.new.items ≡ switches.old.items
+        ++ switches_spec.switches_from time (tick_spec.prepared time tasks.old.items) 0 places.old places.new }
     ensures tasks_room { vec_capacity tasks.new ≡ vec_capacity tasks.old }
     ensures before_len { vec_len before.new ≡ vec_len before.old }
 {
@@ -221,7 +225,8 @@ pub(crate) struct Sums<'a> {
 fn rate_at(task: &Task, sums: &Sums<'_>) -> u64
     requires sums { AreSums sums.now.idle.now.items sums.now.sum sums.now.cpus sums.now.limit }
     requires home { task.now.cpu < vec_len sums.now.idle.now }
-    ensures value { result ≡ rate_with sums.now.idle.now.items sums.now.sum sums.now.cpus sums.now.limit task.now }
+    ensures value { result
+        ≡ rate_with sums.now.idle.now.items sums.now.sum sums.now.cpus sums.now.limit task.now }
     ensures slow { result ≤ 2 ^ 32 }
 {
     let uinact = sums.idle[task.cpu];
@@ -233,8 +238,9 @@ fn run_if(task: &mut Task, places: &[Option<u32>], sums: &Sums<'_>, time: u64)
     requires sums { AreSums sums.now.idle.now.items sums.now.sum sums.now.cpus sums.now.limit }
     requires home { task.old.cpu < vec_len sums.now.idle.now }
     requires sound { IsSound time task.old }
-    requires running { IsTrue (places_spec.stands task.old.number places.now) → IsTrue (conditions.is_ready task.old.condition) }
-    ensures task { task.new ≡ ran_with time places.now sums.now.idle.now.items sums.now.sum sums.now.cpus sums.now.limit task.old }
+    requires running { IsReadyToStand places.now task.old }
+    ensures task { task.new ≡ ran_with time places.now
+        sums.now.idle.now.items sums.now.sum sums.now.cpus sums.now.limit task.old }
     ensures sound { IsSound (time + 1) task.new }
 {
     if task.condition.is_ready() && edf_pick::stands(task.number, places) {
@@ -254,9 +260,10 @@ pub(crate) fn run_all(
     requires early { time < 2 ^ 42 }
     requires sums { AreSums sums.now.idle.now.items sums.now.sum sums.now.cpus sums.now.limit }
     requires sound { All (IsSound time) tasks.old.items }
-    requires running { All (λ t. IsTrue (places_spec.stands t.number places.now) → IsTrue (conditions.is_ready t.condition)) tasks.old.items }
+    requires running { All (IsReadyToStand places.now) tasks.old.items }
     requires counted { IsCounted (vec_len sums.now.idle.now) queue.old tasks.old.items }
-    ensures tasks { tasks.new.items ≡ map (ran_with time places.now sums.now.idle.now.items sums.now.sum sums.now.cpus sums.now.limit) tasks.old.items }
+    ensures tasks { tasks.new.items ≡ map (ran_with time places.now
+        sums.now.idle.now.items sums.now.sum sums.now.cpus sums.now.limit) tasks.old.items }
     ensures sound { All (IsSound (time + 1)) tasks.new.items }
     ensures counted { IsCounted (vec_len sums.now.idle.now) queue.new tasks.new.items }
     ensures room { vec_capacity tasks.new ≡ vec_capacity tasks.old }
@@ -272,7 +279,8 @@ pub(crate) fn run_all(
 pub(crate) fn regrade_one(tasks: &mut Vec<Task>, queue: &mut RunQueue, number: u32, params: &Params)
     requires short { params.now.bw ≤ 2 ^ 26 }
     requires counted { IsCounted (length queue.old.accounts.all) queue.old tasks.old.items }
-    ensures tasks { tasks.new.items ≡ map (calls.of_number number (calls.regraded params.now)) tasks.old.items }
+    ensures tasks { tasks.new.items
+        ≡ map (calls.of_number number (calls.regraded params.now)) tasks.old.items }
     ensures counted { IsCounted (length queue.old.accounts.all) queue.new tasks.new.items }
     ensures room { vec_capacity tasks.new ≡ vec_capacity tasks.old }
 {
@@ -284,15 +292,16 @@ pub(crate) fn regrade_one(tasks: &mut Vec<Task>, queue: &mut RunQueue, number: u
 }
 
 /// A wake of the task of a number.
-pub(crate) fn awaken_one(tasks: &mut Vec<Task>, queue: &mut RunQueue, number: u32, time: u64)
+pub(crate) fn release_one(tasks: &mut Vec<Task>, queue: &mut RunQueue, number: u32, time: u64)
     requires { IsCounted (length queue.old.accounts.all) queue.old tasks.old.items }
-    ensures tasks { tasks.new.items ≡ map (calls.of_number number (calls.awoken time)) tasks.old.items }
+    ensures tasks { tasks.new.items
+        ≡ map (calls.of_number number (calls.released time)) tasks.old.items }
     ensures counted { IsCounted (length queue.old.accounts.all) queue.new tasks.new.items }
     ensures room { vec_capacity tasks.new ≡ vec_capacity tasks.old }
 {
     for task in tasks.iter_mut() {
         let before = standing_of(task);
-        parts::awaken(task, number, time);
+        parts::release(task, number, time);
         queue.turn(before, standing_of(task));
     }
 }
@@ -301,7 +310,8 @@ pub(crate) fn awaken_one(tasks: &mut Vec<Task>, queue: &mut RunQueue, number: u3
 pub(crate) fn end_one(tasks: &mut Vec<Task>, queue: &mut RunQueue, number: u32, time: u64)
     requires sound { All (IsSound time) tasks.old.items }
     requires counted { IsCounted (length queue.old.accounts.all) queue.old tasks.old.items }
-    ensures tasks { tasks.new.items ≡ map (calls.of_number number (calls.ended time)) tasks.old.items }
+    ensures tasks { tasks.new.items
+        ≡ map (calls.of_number number (calls.ended time)) tasks.old.items }
     ensures sound { All (IsSound time) tasks.new.items }
     ensures counted { IsCounted (length queue.old.accounts.all) queue.new tasks.new.items }
     ensures room { vec_capacity tasks.new ≡ vec_capacity tasks.old }

@@ -87,3 +87,13 @@ leaving_sum_at_4 = refl
 
 leaving_sum_at_5 : sum_after (run_of 1 1048576 (leaving 3)) ≡ 0
 leaving_sum_at_5 = refl
+
+-- a sleeper that leaves keeps the zero-lag time that it has, which is 4 too, and is off the list after it
+abbrev sleeper : ℕ → List Call
+sleeper n = admit 1 (plain 4 8 8) (forever (event.Run 2 ∷ event.Timer 100 ∷ [])) ∷ Advance 3 ∷ Leave 1 ∷ Advance n ∷ []
+
+sleeper_zero_lag : zero_lag_in (run_of 1 1048576 (sleeper 1)) 1 ≡ Some (Some 4)
+sleeper_zero_lag = refl
+
+sleeper_gone : zero_lag_in (run_of 1 1048576 (sleeper 2)) 1 ≡ None
+sleeper_gone = refl

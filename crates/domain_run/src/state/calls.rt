@@ -14,16 +14,16 @@ use attr_check::Params;
 impl State {
     /// The reply to a regrade, by the tests in their order.
     fn regrade_reply(&self, number: u32, params: &Params, word: Option<u64>) -> Reply
-        ensures reply { result ≡ calls.regrade_reply self.now params.now word (calls.task_of self.now number) }
-        ensures busy { IfNone word (IfBusy result (LacksRoomToChange self.now number params.now.bw)) }
+        ensures reply { result
+            ≡ calls.regrade_reply self.now params.now word (calls.task_of self.now number) }
+        ensures busy { IfNone word
+            (IfBusy result (LacksRoomToChange self.now number params.now.bw)) }
     {
         let Some(task) = parts::live(&self.tasks, number) else {
             return Reply::NotListed;
         };
         let sum = self.sum();
-        if sum.saturating_sub(parts::bw_of(task)) + bw_within(params)
-            > self.cpus as u64 * self.limit
-        {
+        if sum.saturating_sub(task.params.bw) + bw_within(params) > self.cpus as u64 * self.limit {
             return Reply::Busy { seen: sum };
         }
         match word {
@@ -33,7 +33,8 @@ impl State {
     }
 
     fn change(&mut self, number: u32, params: &Params)
-        requires { calls.regrade_reply self.old params.now None (calls.task_of self.old number) ≡ Reply.Changed }
+        requires { calls.regrade_reply self.old params.now None (calls.task_of self.old number)
+            ≡ Reply.Changed }
         ensures { self.new ≡ calls.changed self.old number (calls.regraded params.now) }
     {
         sweep::regrade_one(&mut self.tasks, &mut self.queue, number, params);
@@ -66,11 +67,11 @@ impl State {
         }
     }
 
-    fn awaken(&mut self, number: u32)
+    fn release(&mut self, number: u32)
         requires { calls.wake_reply (calls.task_of self.old number) ≡ Reply.Woken }
-        ensures { self.new ≡ calls.changed self.old number (calls.awoken self.old.time) }
+        ensures { self.new ≡ calls.changed self.old number (calls.released self.old.time) }
     {
-        sweep::awaken_one(&mut self.tasks, &mut self.queue, number, self.time);
+        sweep::release_one(&mut self.tasks, &mut self.queue, number, self.time);
     }
 
     /// Wakes a task that waits: in the next tick it asks its script. [`Reply::NotListed`] where no task of this number is listed, or
@@ -82,7 +83,7 @@ impl State {
     {
         let reply = self.wake_reply(number);
         if reply == Reply::Woken {
-            self.awaken(number);
+            self.release(number);
         }
         reply
     }

@@ -2,7 +2,7 @@ use Rattle.std.proofs.Common.{List, ℕ, length, sym, ap, subst, ◌∙◌}
 use Rattle.edf_pick.specs.Places.{Places, placed}
 use Rattle.domain_run.specs.declared.task.Task.{Task}
 use Rattle.domain_run.specs.Tick.{candidates}
-use Rattle.domain_run.specs.RunQueue.{IsCounted}
+use Rattle.domain_run.specs.private.RunQueue.{IsCounted}
 use Rattle.domain_run.proofs.Counting.{placed_counted, placed_seating, placed_wide}
 use Rattle.domain_run.proofs.Placing.{seated_ready}
 use Rattle.domain_run.proofs.sweep.begin.Goals as goal

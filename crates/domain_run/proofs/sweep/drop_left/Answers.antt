@@ -6,7 +6,7 @@ use Rattle.domain_run.specs.declared.run_queue.RunQueue.{RunQueue}
 use Rattle.domain_run.specs.Tick.{shares}
 use Rattle.std.proofs.lemmas.Fn.{filter_same}
 use Rattle.domain_run.specs.Parts.{is_listed}
-use Rattle.domain_run.specs.RunQueue.{IsCounted}
+use Rattle.domain_run.specs.private.RunQueue.{IsCounted}
 use Rattle.domain_run.proofs.Counting.{counted_listed}
 use Rattle.domain_run.proofs.sweep.drop_left.Goals as goal
 

@@ -3,7 +3,7 @@ use Rattle.domain_run.specs.Calls.{of_number, ended}
 use Rattle.domain_run.proofs.Keeping.{Same}
 use Rattle.domain_run.proofs.Counting.{ended_same}
 use Rattle.std.proofs.lemmas.List.Elements.{All-set}
-use Rattle.domain_run.specs.RunQueue.{standing_of, HasTurned}
+use Rattle.domain_run.specs.private.RunQueue.{standing_of, HasTurned}
 use Rattle.domain_run.specs.Sound.{IsSound}
 use Rattle.edf_pick.proofs.MapStep.{map_step}
 use Rattle.domain_run.proofs.Counting.{IsFit, same_fit, may_turn, turned}

@@ -1,6 +1,6 @@
 use Rattle.std.proofs.Common.{◌≡◌, map, take, drop, ◌++◌, length}
 use Rattle.domain_run.specs.Parts.{homed}
-use Rattle.domain_run.specs.RunQueue.{IsCounted}
+use Rattle.domain_run.specs.private.RunQueue.{IsCounted}
 use Rattle.domain_run.proofs.sweep.home_all.Given as goal
 
 abbrev pub invariant-loop-task : goal.invariant-loop-task

@@ -1,7 +1,7 @@
 use Rattle.std.proofs.Common.{◌<◌, length, get_or, sym, subst, arith}
 use Rattle.domain_run.specs.Calls.{of_number, regraded}
 use Rattle.domain_run.proofs.Counting.{regraded_fit}
-use Rattle.domain_run.specs.RunQueue.{standing_of, HasTurned}
+use Rattle.domain_run.specs.private.RunQueue.{standing_of, HasTurned}
 use Rattle.edf_pick.proofs.MapStep.{map_step}
 use Rattle.domain_run.proofs.Counting.{IsFit, may_turn, turned}
 use Rattle.domain_run.proofs.sweep.regrade_one.Goals as goal

@@ -1,6 +1,6 @@
 use Rattle.std.proofs.Common.{◌≡◌, map, take, drop, ◌++◌, length}
 use Rattle.domain_run.specs.Calls.{of_number, regraded}
-use Rattle.domain_run.specs.RunQueue.{IsCounted}
+use Rattle.domain_run.specs.private.RunQueue.{IsCounted}
 use Rattle.domain_run.proofs.sweep.regrade_one.Given as goal
 
 abbrev pub invariant-loop-task : goal.invariant-loop-task

@@ -2,7 +2,7 @@ use Rattle.std.proofs.Common.{◌<◌, length, get_or, sym, subst, arith}
 use Rattle.std.proofs.lemmas.List.Elements.{All-set}
 use Rattle.domain_run.specs.Parts.{replenish_due}
 use Rattle.domain_run.proofs.Keeping.{Same, same_replenished}
-use Rattle.domain_run.specs.RunQueue.{standing_of, HasTurned}
+use Rattle.domain_run.specs.private.RunQueue.{standing_of, HasTurned}
 use Rattle.domain_run.specs.Sound.{IsSound}
 use Rattle.edf_pick.proofs.MapStep.{map_step}
 use Rattle.domain_run.proofs.Counting.{IsFit, same_fit, may_turn, turned}

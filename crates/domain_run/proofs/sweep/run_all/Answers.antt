@@ -1,9 +1,9 @@
 use Rattle.std.proofs.Common.{◌+◌, ◌<◌, length, vec_len, get_or, sym, subst, arith}
 use Rattle.std.proofs.lemmas.List.Elements.{AllWithin-more_set}
-use Rattle.domain_run.specs.Charging.{ran_with}
+use Rattle.domain_run.specs.private.Charging.{ran_with}
 use Rattle.domain_run.proofs.Counting.{ran_same}
 use Rattle.domain_run.proofs.Keeping.{Same}
-use Rattle.domain_run.specs.RunQueue.{standing_of, HasTurned}
+use Rattle.domain_run.specs.private.RunQueue.{standing_of, HasTurned}
 use Rattle.domain_run.specs.Sound.{IsSound}
 use Rattle.edf_pick.proofs.MapStep.{map_step, rest_all}
 use Rattle.edf_pick.specs.Places.{stands}

@@ -1,8 +1,8 @@
 use Rattle.std.proofs.Common.{◌≡◌, ◌+◌, map, take, drop, ◌++◌, vec_len}
 use Rattle.std.specs.List.{AllWithin}
-use Rattle.domain_run.specs.Charging.{ran_with}
+use Rattle.domain_run.specs.private.Charging.{ran_with}
 use Rattle.domain_run.specs.Sound.{IsSound}
-use Rattle.domain_run.specs.RunQueue.{IsCounted}
+use Rattle.domain_run.specs.private.RunQueue.{IsCounted}
 use Rattle.domain_run.proofs.sweep.run_all.Given as goal
 
 abbrev pub invariant-loop-task : goal.invariant-loop-task

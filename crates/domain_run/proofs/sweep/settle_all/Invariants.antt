@@ -1,7 +1,7 @@
 use Rattle.std.proofs.Common.{◌≡◌, map, take, drop, ◌++◌, length, All}
 use Rattle.domain_run.specs.Parts.{settled}
 use Rattle.domain_run.specs.Sound.{IsSound}
-use Rattle.domain_run.specs.RunQueue.{IsCounted}
+use Rattle.domain_run.specs.private.RunQueue.{IsCounted}
 use Rattle.domain_run.proofs.sweep.settle_all.Given as goal
 
 abbrev pub invariant-loop-task : goal.invariant-loop-task

@@ -7,7 +7,7 @@ use Rattle.grub_rules.proofs.LoopLemmas.{Joins}
 use Rattle.domain_run.specs.declared.task.Task.{Task}
 use Rattle.domain_run.specs.declared.run_queue.RunQueue.{RunQueue}
 use Rattle.domain_run.specs.Conditions.{is_ready}
-use Rattle.domain_run.specs.RunQueue.{Counts}
+use Rattle.domain_run.specs.private.RunQueue.{Counts}
 use Rattle.domain_run.proofs.Counting.{counts_push}
 use Rattle.domain_run.proofs.Admitting.{listed_as, list_keeps}
 use Rattle.domain_run.proofs.state.State.list.Goals as goal
@@ -29,7 +29,7 @@ join-requires-clause-home c =
     let s = c.self.inside in
     let d : Domain = record { cpus = s.cpus; limit = s.limit; time = s.time; tasks = s.tasks.items; used = s.used; places = s.places; switches = s.switches.items } in
     let is : c.new_task-task.result ≡ new_task d c.args.number c.args.name c.args.params c.args.delay c.args.script = c.new_task-task.ensures d c.args.delay refl refl in
-    let home : c.args.number % s.cpus < s.cpus = omega (arith, c.self.invariant.domain.steady.some) in
+    let home : c.args.number % s.cpus < s.cpus = omega (arith, c.self.invariant.domain.steady.cpus.0) in
     let same : c.share_of.result.cpu ≡ c.args.number % s.cpus = ap (λ (x : Share). x.cpu) c.share_of.ensures ∙ ap (λ (x : Task). x.cpu) is in
     rw (same, c.self.invariant.wide) home
 

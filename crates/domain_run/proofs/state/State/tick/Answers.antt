@@ -2,11 +2,11 @@ use Rattle.std.proofs.Common.{◌≡◌, ℕ, ◌<◌, ◌^◌, map, vec_len, re
 use Rattle.std.specs.Prelude.{slice_index}
 use Rattle.grub_rules.specs.Sums.{uinact}
 use Rattle.edf_pick.specs.Places.{Places}
-use Rattle.domain_run.specs.Charging.{ran_with}
+use Rattle.domain_run.specs.private.Charging.{ran_with}
 use Rattle.domain_run.specs.Domain.{Domain}
 use Rattle.domain_run.specs.Tick.{shares, sum_of, ran_if, begun, ticked}
 use Rattle.domain_run.specs.Sound.{IsDomain, IsPlacement}
-use Rattle.domain_run.specs.RunQueue.{IsCounted}
+use Rattle.domain_run.specs.private.RunQueue.{IsCounted}
 use Rattle.domain_run.proofs.Placing.{running_ready}
 use Rattle.domain_run.proofs.Counting.{counted_in, inactive_is}
 use Rattle.domain_run.proofs.Ticking.{middle, sums_are, ran_as, ticked_is, done, done_sound}
@@ -26,7 +26,7 @@ inactive-requires c =
     let d : Domain = record { cpus = s.cpus; limit = s.limit; time = s.time; tasks = s.tasks.items; used = s.used; places = s.places; switches = s.switches.items } in
     let b = c.begin.new in
     let e : Domain = record d { tasks = b.tasks.items; places = b.places; switches = b.switches.items } in
-    let m = middle d b.tasks.items b.places b.switches.items c.self.invariant.domain c.begin.ensures.awoken c.begin.ensures.tasks c.begin.ensures.places (c.begin.ensures.switches ∙ rw c.try_reserve.ensures.items refl) in
+    let m = middle d b.tasks.items b.places b.switches.items c.self.invariant.domain c.begin.ensures.prepared c.begin.ensures.tasks c.begin.ensures.places (c.begin.ensures.switches ∙ rw c.try_reserve.ensures.items refl) in
     let counted : IsCounted d.cpus b.queue e.tasks = subst (λ n. IsCounted n b.queue e.tasks) c.self.invariant.domain.steady.wide c.begin.ensures.counted in
     c.self.invariant.idle_len ∙ sym counted.wide
 
@@ -36,7 +36,7 @@ run_all-requires-clause-sums c =
     let d : Domain = record { cpus = s.cpus; limit = s.limit; time = s.time; tasks = s.tasks.items; used = s.used; places = s.places; switches = s.switches.items } in
     let b = c.begin.new in
     let e : Domain = record d { tasks = b.tasks.items; places = b.places; switches = b.switches.items } in
-    let m = middle d b.tasks.items b.places b.switches.items c.self.invariant.domain c.begin.ensures.awoken c.begin.ensures.tasks c.begin.ensures.places (c.begin.ensures.switches ∙ rw c.try_reserve.ensures.items refl) in
+    let m = middle d b.tasks.items b.places b.switches.items c.self.invariant.domain c.begin.ensures.prepared c.begin.ensures.tasks c.begin.ensures.places (c.begin.ensures.switches ∙ rw c.try_reserve.ensures.items refl) in
     let counted : IsCounted d.cpus b.queue e.tasks = subst (λ n. IsCounted n b.queue e.tasks) c.self.invariant.domain.steady.wide c.begin.ensures.counted in
     let each : (cpu : ℕ) → slice_index c.inactive.new.idle.items cpu ≡ uinact cpu (shares e.tasks) = λ cpu. c.inactive.ensures.each cpu ∙ inactive_is b.queue.accounts (shares e.tasks) cpu counted.counts.sums in
     let total : c.total.result ≡ sum_of e.tasks = c.total.ensures.value ∙ counted.counts.sums.total in
@@ -48,7 +48,7 @@ run_all-requires-clause-sound c =
     let d : Domain = record { cpus = s.cpus; limit = s.limit; time = s.time; tasks = s.tasks.items; used = s.used; places = s.places; switches = s.switches.items } in
     let b = c.begin.new in
     let e : Domain = record d { tasks = b.tasks.items; places = b.places; switches = b.switches.items } in
-    let m = middle d b.tasks.items b.places b.switches.items c.self.invariant.domain c.begin.ensures.awoken c.begin.ensures.tasks c.begin.ensures.places (c.begin.ensures.switches ∙ rw c.try_reserve.ensures.items refl) in
+    let m = middle d b.tasks.items b.places b.switches.items c.self.invariant.domain c.begin.ensures.prepared c.begin.ensures.tasks c.begin.ensures.places (c.begin.ensures.switches ∙ rw c.try_reserve.ensures.items refl) in
     let counted : IsCounted d.cpus b.queue e.tasks = subst (λ n. IsCounted n b.queue e.tasks) c.self.invariant.domain.steady.wide c.begin.ensures.counted in
     m.steady.sound
 
@@ -58,7 +58,7 @@ run_all-requires-clause-running c =
     let d : Domain = record { cpus = s.cpus; limit = s.limit; time = s.time; tasks = s.tasks.items; used = s.used; places = s.places; switches = s.switches.items } in
     let b = c.begin.new in
     let e : Domain = record d { tasks = b.tasks.items; places = b.places; switches = b.switches.items } in
-    let m = middle d b.tasks.items b.places b.switches.items c.self.invariant.domain c.begin.ensures.awoken c.begin.ensures.tasks c.begin.ensures.places (c.begin.ensures.switches ∙ rw c.try_reserve.ensures.items refl) in
+    let m = middle d b.tasks.items b.places b.switches.items c.self.invariant.domain c.begin.ensures.prepared c.begin.ensures.tasks c.begin.ensures.places (c.begin.ensures.switches ∙ rw c.try_reserve.ensures.items refl) in
     let counted : IsCounted d.cpus b.queue e.tasks = subst (λ n. IsCounted n b.queue e.tasks) c.self.invariant.domain.steady.wide c.begin.ensures.counted in
     rw c.occupants.ensures.occupants (running_ready e m.steady.numbered m.placed)
 
@@ -68,7 +68,7 @@ run_all-requires-clause-counted c =
     let d : Domain = record { cpus = s.cpus; limit = s.limit; time = s.time; tasks = s.tasks.items; used = s.used; places = s.places; switches = s.switches.items } in
     let b = c.begin.new in
     let e : Domain = record d { tasks = b.tasks.items; places = b.places; switches = b.switches.items } in
-    let m = middle d b.tasks.items b.places b.switches.items c.self.invariant.domain c.begin.ensures.awoken c.begin.ensures.tasks c.begin.ensures.places (c.begin.ensures.switches ∙ rw c.try_reserve.ensures.items refl) in
+    let m = middle d b.tasks.items b.places b.switches.items c.self.invariant.domain c.begin.ensures.prepared c.begin.ensures.tasks c.begin.ensures.places (c.begin.ensures.switches ∙ rw c.try_reserve.ensures.items refl) in
     let counted : IsCounted d.cpus b.queue e.tasks = subst (λ n. IsCounted n b.queue e.tasks) c.self.invariant.domain.steady.wide c.begin.ensures.counted in
     let wide : vec_len c.inactive.new.idle ≡ s.cpus = c.inactive.ensures.len ∙ c.self.invariant.idle_len in
     subst (λ n. IsCounted n b.queue e.tasks) (sym wide) counted
@@ -79,7 +79,7 @@ invariant_of-self-2 c =
     let d : Domain = record { cpus = s.cpus; limit = s.limit; time = s.time; tasks = s.tasks.items; used = s.used; places = s.places; switches = s.switches.items } in
     let b = c.begin.new in
     let e : Domain = record d { tasks = b.tasks.items; places = b.places; switches = b.switches.items } in
-    let m = middle d b.tasks.items b.places b.switches.items c.self.invariant.domain c.begin.ensures.awoken c.begin.ensures.tasks c.begin.ensures.places (c.begin.ensures.switches ∙ rw c.try_reserve.ensures.items refl) in
+    let m = middle d b.tasks.items b.places b.switches.items c.self.invariant.domain c.begin.ensures.prepared c.begin.ensures.tasks c.begin.ensures.places (c.begin.ensures.switches ∙ rw c.try_reserve.ensures.items refl) in
     let counted : IsCounted d.cpus b.queue e.tasks = subst (λ n. IsCounted n b.queue e.tasks) c.self.invariant.domain.steady.wide c.begin.ensures.counted in
     let each : (cpu : ℕ) → slice_index c.inactive.new.idle.items cpu ≡ uinact cpu (shares e.tasks) = λ cpu. c.inactive.ensures.each cpu ∙ inactive_is b.queue.accounts (shares e.tasks) cpu counted.counts.sums in
     let total : c.total.result ≡ sum_of e.tasks = c.total.ensures.value ∙ counted.counts.sums.total in
@@ -91,7 +91,7 @@ invariant_of-self-2 c =
     let sound = done_sound d e c.run_all.new.tasks.items m ran c.run_all.ensures.sound in
     let wide : vec_len c.inactive.new.idle ≡ s.cpus = c.inactive.ensures.len ∙ c.self.invariant.idle_len in
     record {
-      domain = subst IsDomain (sym (done d e c.run_all.new.tasks.items m ran)) (ticked_is d c.self.invariant.domain early c.begin.ensures.awoken sound);
+      domain = subst IsDomain (sym (done d e c.run_all.new.tasks.items m ran)) (ticked_is d c.self.invariant.domain early c.begin.ensures.prepared sound);
       wide = c.run_all.ensures.counted.wide ∙ wide;
       counts = c.run_all.ensures.counted.counts;
       tasks_room = omega (arith, c.run_all.ensures.room, c.begin.ensures.tasks_room, c.self.invariant.tasks_room);
@@ -105,7 +105,7 @@ returns-clause-ok c =
     let d : Domain = record { cpus = s.cpus; limit = s.limit; time = s.time; tasks = s.tasks.items; used = s.used; places = s.places; switches = s.switches.items } in
     let b = c.begin.new in
     let e : Domain = record d { tasks = b.tasks.items; places = b.places; switches = b.switches.items } in
-    let m = middle d b.tasks.items b.places b.switches.items c.self.invariant.domain c.begin.ensures.awoken c.begin.ensures.tasks c.begin.ensures.places (c.begin.ensures.switches ∙ rw c.try_reserve.ensures.items refl) in
+    let m = middle d b.tasks.items b.places b.switches.items c.self.invariant.domain c.begin.ensures.prepared c.begin.ensures.tasks c.begin.ensures.places (c.begin.ensures.switches ∙ rw c.try_reserve.ensures.items refl) in
     let counted : IsCounted d.cpus b.queue e.tasks = subst (λ n. IsCounted n b.queue e.tasks) c.self.invariant.domain.steady.wide c.begin.ensures.counted in
     let each : (cpu : ℕ) → slice_index c.inactive.new.idle.items cpu ≡ uinact cpu (shares e.tasks) = λ cpu. c.inactive.ensures.each cpu ∙ inactive_is b.queue.accounts (shares e.tasks) cpu counted.counts.sums in
     let total : c.total.result ≡ sum_of e.tasks = c.total.ensures.value ∙ counted.counts.sums.total in
@@ -126,6 +126,6 @@ returns-clause-placed c =
     let d : Domain = record { cpus = s.cpus; limit = s.limit; time = s.time; tasks = s.tasks.items; used = s.used; places = s.places; switches = s.switches.items } in
     let b = c.begin.new in
     let e : Domain = record d { tasks = b.tasks.items; places = b.places; switches = b.switches.items } in
-    let m = middle d b.tasks.items b.places b.switches.items c.self.invariant.domain c.begin.ensures.awoken c.begin.ensures.tasks c.begin.ensures.places (c.begin.ensures.switches ∙ rw c.try_reserve.ensures.items refl) in
+    let m = middle d b.tasks.items b.places b.switches.items c.self.invariant.domain c.begin.ensures.prepared c.begin.ensures.tasks c.begin.ensures.places (c.begin.ensures.switches ∙ rw c.try_reserve.ensures.items refl) in
     let counted : IsCounted d.cpus b.queue e.tasks = subst (λ n. IsCounted n b.queue e.tasks) c.self.invariant.domain.steady.wide c.begin.ensures.counted in
     subst IsPlacement (m.begun_is ∙ ap begun c.self.view_is) m.placed

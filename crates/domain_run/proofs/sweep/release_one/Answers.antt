@@ -1,34 +1,34 @@
 use Rattle.std.proofs.Common.{◌<◌, length, get_or, sym, subst, arith}
-use Rattle.domain_run.specs.Calls.{of_number, awoken}
+use Rattle.domain_run.specs.Calls.{of_number, released}
 use Rattle.domain_run.proofs.Keeping.{Same}
-use Rattle.domain_run.proofs.Counting.{awoken_same}
-use Rattle.domain_run.specs.RunQueue.{standing_of, HasTurned}
+use Rattle.domain_run.proofs.Counting.{released_same}
+use Rattle.domain_run.specs.private.RunQueue.{standing_of, HasTurned}
 use Rattle.edf_pick.proofs.MapStep.{map_step}
 use Rattle.domain_run.proofs.Counting.{IsFit, same_fit, may_turn, turned}
-use Rattle.domain_run.proofs.sweep.awaken_one.Goals as goal
+use Rattle.domain_run.proofs.sweep.release_one.Goals as goal
 
 pub turn-requires : goal.turn-requires
 turn-requires c =
     let l = c.loop-task in
     let x = c.task-item.result in
-    let y = c.awaken.new.task in
+    let y = c.release.new.task in
     let t = get_or l.task-items l.task-index x in
     let cpus = length c.args.queue.now.accounts.all in
     let within : l.task-index < length l.task-items = omega arith in
-    let fit : IsFit cpus t y = same_fit cpus l.queue l.task-items l.task-index x y within (subst (Same t) (sym c.awaken.ensures) (awoken_same c.args.number c.args.time t)) l.invariant.counted in
+    let fit : IsFit cpus t y = same_fit cpus l.queue l.task-items l.task-index x y within (subst (Same t) (sym c.release.ensures) (released_same c.args.number c.args.time t)) l.invariant.counted in
     rw (c.standing_of-before.ensures, c.standing_of.ensures) (may_turn cpus l.queue l.task-items l.task-index x y within fit l.invariant.counted)
 
 pub loop-task-preserved : goal.loop-task-preserved
 loop-task-preserved c =
     let l = c.loop-task in
     let x = c.task-item.result in
-    let y = c.awaken.new.task in
+    let y = c.release.new.task in
     let t = get_or l.task-items l.task-index x in
     let cpus = length c.args.queue.now.accounts.all in
     let within : l.task-index < length l.task-items = omega arith in
-    let fit : IsFit cpus t y = same_fit cpus l.queue l.task-items l.task-index x y within (subst (Same t) (sym c.awaken.ensures) (awoken_same c.args.number c.args.time t)) l.invariant.counted in
+    let fit : IsFit cpus t y = same_fit cpus l.queue l.task-items l.task-index x y within (subst (Same t) (sym c.release.ensures) (released_same c.args.number c.args.time t)) l.invariant.counted in
     let has : HasTurned (standing_of t) (standing_of y) l.queue c.turn.new.self = rw (← c.standing_of-before.ensures, ← c.standing_of.ensures) c.turn.ensures in
     record {
-      written = map_step (of_number c.args.number (awoken c.args.time)) c.deref_mut-task-items.result.now l.task-items l.task-index x y c.loop-task-test.true l.invariant.written c.awaken.ensures;
+      written = map_step (of_number c.args.number (released c.args.time)) c.deref_mut-task-items.result.now l.task-items l.task-index x y c.loop-task-test.true l.invariant.written c.release.ensures;
       counted = turned cpus l.queue c.turn.new.self l.task-items l.task-index x y within fit has l.invariant.counted;
     }

@@ -1,0 +1,3 @@
+pub mod Charging
+pub mod Numbers
+pub mod RunQueue

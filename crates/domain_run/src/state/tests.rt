@@ -1,0 +1,81 @@
+//! The calls on a domain take no memory: no room grows, and nothing else is asked for.
+
+use super::State;
+use crate::call::Reply;
+use crate::name::Name;
+use crate::script::{Event, Phase, Script};
+use attr_check::{Params, SchedAttr, check};
+use std::alloc::{AllocError, Global};
+use std::test::Fail;
+
+fn script(alloc: Global) -> Result<Script, Fail> {
+    let mut phases = Vec::new(alloc);
+    phases.push(Phase {
+        count: 1,
+        events: vec![in alloc; Event::Wait; 1]?,
+    })?;
+    Ok(Script::new(1, phases)?)
+}
+
+/// 2 us in each 8 us.
+fn params() -> Result<Params, Fail> {
+    Ok(check(&SchedAttr {
+        policy: 6,
+        flags: 0,
+        runtime: 2000,
+        deadline: 8000,
+        period: 8000,
+    })?)
+}
+
+/// The room of each vector of a state.
+fn rooms(state: &State) -> [usize; 4] {
+    [
+        state.tasks.capacity(),
+        state.switches.capacity(),
+        state.before.capacity(),
+        state.idle.capacity(),
+    ]
+}
+
+fn name(alloc: Global) -> Result<Name, Fail> {
+    Ok(Name::new(String::from_str(alloc, "T")?)?)
+}
+
+/// A domain whose task 1 waits.
+fn with_waiting(alloc: Global, params: Params) -> Result<State, Fail> {
+    let mut state = State::open(alloc, 1, 1048576)?;
+    let (name, script) = (name(alloc)?, script(alloc)?);
+    if matches!(state.admit(1, name, params, 0, script), Ok(())) && state.now() == 0 {
+        state.tick()?;
+    }
+    Ok(state)
+}
+
+/// Each call once, and granted, and the state's room is what it was.
+fn keeps_its_room(state: &mut State, name: Name, params: Params, script: Script) -> bool {
+    let before = rooms(state);
+    matches!(state.admit(2, name, params, 0, script), Ok(()))
+        && state.regrade(1, params, None) == Reply::Changed
+        && state.wake(1) == Reply::Woken
+        && state.leave(1) == Reply::Left
+        && rooms(state) == before
+}
+
+/// All that takes memory is made before the calls, in 15 requests, and one request is made behind them. So with the 16th refused
+/// (`rt try --test --fail-alloc 16`) this is false, since that is the one behind: the calls asked for none.
+fn asks_for_nothing(alloc: Global) -> Result<bool, Fail> {
+    let params = params()?;
+    let mut state = with_waiting(alloc, params)?;
+    let (name, script) = (name(alloc)?, script(alloc)?);
+    let keeps = keeps_its_room(&mut state, name, params, script);
+    let behind: Result<Vec<u8>, AllocError> = Vec::with_capacity(alloc, 1);
+    Ok(keeps && behind.is_ok())
+}
+
+#[test]
+fn calls_take_no_memory(rt: HostRuntime) -> Result<(), Fail> {
+    let kept = asks_for_nothing(rt.alloc())?;
+    assert!(rt; kept);
+    Ok(())
+}
