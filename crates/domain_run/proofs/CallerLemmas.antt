@@ -21,7 +21,7 @@ use Rattle.domain_run.specs.Conditions.{is_contending, is_leaving}
 use Rattle.domain_run.specs.Parts.{stopped}
 use Rattle.domain_run.specs.Domain.{Domain}
 use Rattle.domain_run.specs.Tick.{share_of, shares, sum_of, ticked, ticks}
-use Rattle.domain_run.specs.Calls.{admit_reply, new_task, listed, task_of, of_number, changed, regraded, regrade_reply, wake_reply, awoken, leave_reply, ended, reply_to, is_refusal, granted, after_call}
+use Rattle.domain_run.specs.Calls.{admit_reply, new_task, listed, task_of, of_number, changed, regraded, regrade_reply, wake_reply, released, leave_reply, ended, reply_to, is_refusal, granted, after_call}
 use Rattle.domain_run.specs.Views.{view_of, view_in, name_in}
 use Rattle.domain_run.specs.Busy.{LacksRoomFor, LacksRoomToChange}
 use Rattle.domain_run.specs.Keys.{key_of, keys, has_task, left_of, AreKept, with_bw}
@@ -179,7 +179,7 @@ keys_changed d number f same kept_params =
 
 -- a wake keeps the keys, whatever the reply
 pub wake_keys : (d : Domain) (number : ℕ) → keys (after_call d (Wake number)).tasks ≡ keys d.tasks
-wake_keys d number = either_keys (is_refusal (wake_reply (task_of d number))) d (changed d number (awoken d.time)) (keys_changed d number (awoken d.time) (λ t. refl) (λ t. refl))
+wake_keys d number = either_keys (is_refusal (wake_reply (task_of d number))) d (changed d number (released d.time)) (keys_changed d number (released d.time) (λ t. refl) (λ t. refl))
 
 -- so does a leave: the task stays listed until a tick takes it off
 pub leave_keys : (d : Domain) (number : ℕ) → keys (after_call d (Leave number)).tasks ≡ keys d.tasks
