@@ -37,18 +37,18 @@ impl SessionFault {
     }
 
     /// What the program prints of it on standard error.
-    pub fn report(&self) -> Report<'_> {
-        Report { fault: self }
+    pub fn line(&self) -> FaultLine<'_> {
+        FaultLine { fault: self }
     }
 }
 
 /// The line by which the program tells a fault: `dlsim: ` and its text, without an LF.
 #[derive(Clone, Copy)]
-pub struct Report<'a> {
+pub struct FaultLine<'a> {
     fault: &'a SessionFault,
 }
 
-impl fmt::Display for Report<'_> {
+impl fmt::Display for FaultLine<'_> {
     fn fmt<W: fmt::Write>(&self, f: &mut fmt::Formatter<W>) -> fmt::Result {
         let fault = self.fault;
         write!(f, "dlsim: {fault}")

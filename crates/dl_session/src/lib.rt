@@ -11,7 +11,7 @@ mod fault;
 mod named_run;
 mod replaying;
 
-pub use fault::{Report, SessionFault};
+pub use fault::{FaultLine, SessionFault};
 pub use replaying::replay;
 
 #[cfg(test)]

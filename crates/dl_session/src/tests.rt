@@ -21,7 +21,7 @@ const THROTTLED_TRACE: &[u8] = b"# tracer: nop
 fn told(alloc: Global, answer: Result<(), SessionFault>) -> Result<String, Fail> {
     Ok(match answer {
         Ok(()) => String::new(alloc),
-        Err(fault) => fault.report().to_string(alloc)?,
+        Err(fault) => fault.line().to_string(alloc)?,
     })
 }
 

@@ -1,7 +1,7 @@
 //! dlsim: a model of SCHED_DEADLINE that writes the switches of recorded calls as a trace.
 //!
 //! The program reads its words with clap, and calls [`dl_session::replay`] with standard input and standard output. What it
-//! prints of a fault, and its exit status, are the fault's own ([`SessionFault::report`], [`SessionFault::status`]).
+//! prints of a fault, and its exit status, are the fault's own ([`SessionFault::line`], [`SessionFault::status`]).
 #![tactic(auto)]
 
 use clap::error::ErrorKind;
@@ -45,7 +45,7 @@ fn read_words(rt: &(impl Env + Alloc<A = Global>)) -> Result<(), Error> {
 
 /// Tells a fault on standard error, and by the exit status.
 fn end_with(rt: &impl Eprint, fault: &SessionFault) -> ExitCode {
-    let _ = eprintln!(rt; "{}", fault.report());
+    let _ = eprintln!(rt; "{}", fault.line());
     ExitCode::from(fault.status())
 }
 
