@@ -81,7 +81,8 @@ pub fn charge(server: Server, rate: u64, ticks: u64) -> Server
     }
 }
 
-/// Whether nothing is left of the budget, which the definitions call spent (`is_spent`): a task that contends is throttled then.
+/// Whether nothing is left of the budget, which the definitions call spent (`is_spent`): a task that contends is then
+/// throttled.
 pub fn is_throttled(server: &Server) -> bool
     ensures { result ≡ is_spent server.now }
 {

@@ -10,8 +10,8 @@ use Rattle.grub_rules.specs.declared.share.Share.{Share}
 use Rattle.std.proofs.Math.Nat.{mul-le-mul}
 use Rattle.attr_check.specs.Ratio.{cap}
 use Rattle.grub_rules.specs.Sums.{total_bw, uinact}
-use Rattle.grub_rules.specs.Accounts.{AccountsView, AreAccounts, inactive_at}
-use Rattle.grub_rules.proofs.LoopLemmas.{Joins, at, set_at, held_at, turned_at, joined_last}
+use Rattle.grub_rules.specs.Accounts.{AccountsView, AreAccounts, Exchanges, inactive_at}
+use Rattle.grub_rules.proofs.LoopLemmas.{at, set_at, held_at, turned_at, joined_last}
 use Rattle.edf_pick.specs.declared.candidate.Candidate.{Candidate}
 use Rattle.edf_pick.specs.Order.{ordered, has_candidate}
 use Rattle.edf_pick.proofs.CallerLemmas.{IsNumbered, numbered_map, length_ordered, ordered_absent, ordered_insert, ordered_remove, placed_ordered}
@@ -195,9 +195,9 @@ turned cpus queue new tasks i d y h fit has is =
     let order = is.counts.order ∙ ap ordered s.was in
     let now : candidates (set tasks i y) ≡ candidates front ++ (one (ready_of y) ++ candidates back) = ap candidates (set_at tasks i y h) ∙ candidates_at front y back in
     record {
-      wide = has.wide ∙ is.wide;
+      wide = has.sums.cpus ∙ is.wide;
       counts = record {
-        sums = turned_at share_of queue.accounts new.accounts tasks i d y h has.sums is.counts.sums;
+        sums = turned_at share_of queue.accounts new.accounts tasks i d y h (subst (λ n. y.cpu < n) (sym is.wide) fit.home) has.sums is.counts.sums;
         order = elim has.order [
           | inl kept ↦ kept.1 ∙ order ∙ ap (λ o. ordered (candidates front ++ (one o ++ candidates back))) kept.0 ∙ sym (ap ordered now)
           | inr e ↦ e ∙ ap (λ q. with_ready (ready_of y) (without_ready (ready_of t) q)) order
@@ -280,10 +280,10 @@ pub counted_all : (d : Domain) (queue : RunQueue) → IsDomain d → length queu
 counted_all d queue is wide counts = subst (λ n. IsCounted n queue d.tasks) (sym wide) (counted_in d queue is wide counts)
 
 -- a task at the end of the list that is not ready
-pub counts_push : (queue new : RunQueue) (tasks : List Task) (t : Task) → is_ready t.condition ≡ false → new.ready ≡ queue.ready → Joins queue.accounts new.accounts (share_of t) → Counts queue tasks → Counts new (tasks ++ t ∷ [])
-counts_push queue new tasks t idle same joins is =
+pub counts_push : (queue new : RunQueue) (tasks : List Task) (t : Task) → is_ready t.condition ≡ false → new.ready ≡ queue.ready → t.cpu < length queue.accounts.all → Exchanges queue.accounts new.accounts [] (share_of t ∷ []) → Counts queue tasks → Counts new (tasks ++ t ∷ [])
+counts_push queue new tasks t idle same home joins is =
     let none : candidates (t ∷ []) ≡ [] = candidates_first t [] ∙ rw idle refl in
     record {
-      sums = joined_last share_of queue.accounts new.accounts tasks t joins is.sums;
+      sums = joined_last share_of queue.accounts new.accounts tasks t home joins is.sums;
       order = same ∙ is.order ∙ sym (ap ordered (candidates_append tasks (t ∷ []) ∙ ap (λ cs. candidates tasks ++ cs) none ∙ append-nil (candidates tasks)));
     }

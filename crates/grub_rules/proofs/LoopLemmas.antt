@@ -6,7 +6,8 @@ use Rattle.std.proofs.Math.ListN.{drop_of_length-le}
 use Rattle.std.proofs.lemmas.List.{take-append-drop, take-set, drop-set, map-append, take_all, append-nil, append_assoc}
 use Rattle.std.proofs.lemmas.List.Elements.{filter_more}
 use Rattle.grub_rules.specs.Sums.{Share}
-use Rattle.grub_rules.specs.Accounts.{AccountsView, AreAccounts, Holds}
+use Rattle.grub_rules.specs.Accounts.{AccountsView, AreAccounts, Holds, Exchanges}
+use Rattle.grub_rules.proofs.Exchanging.{joined, parted, turned}
 use Rattle.grub_rules.proofs.CallerLemmas.{held}
 
 drop_at : {X : Type 0} (xs : List X) (i : ℕ) (d : X) → i < length xs → drop i xs ≡ get_or xs i d ∷ drop (i + 1) xs
@@ -24,30 +25,18 @@ shares_at share items i d h = ap (map share) (at items i d h) ∙ map-append sha
 shares-set : {X : Type 0} (share : X → Share) (items : List X) (i : ℕ) (y : X) → i < length items → map share (set items i y) ≡ map share (take i items) ++ share y ∷ map share (drop (i + 1) items)
 shares-set share items i y h = ap (map share) (set_at items i y h) ∙ map-append share (take i items) (y ∷ drop (i + 1) items)
 
--- what a call says of every list, as `track`: the sums count one share in the place of another
-abbrev pub Turns : AccountsView → AccountsView → Share → Share → Type 0
-Turns old new s t = (front back : List Share) → AreAccounts old (front ++ s ∷ back) → AreAccounts new (front ++ t ∷ back)
-
--- as `part`: the sums count one share less
-abbrev pub Parts : AccountsView → AccountsView → Share → Type 0
-Parts old new s = (front back : List Share) → AreAccounts old (front ++ s ∷ back) → AreAccounts new (front ++ back)
-
--- as `join`: the sums count one share more
-abbrev pub Joins : AccountsView → AccountsView → Share → Type 0
-Joins old new s = (front back : List Share) → AreAccounts old (front ++ back) → AreAccounts new (front ++ s ∷ back)
-
 -- A LOOP THAT CHANGES TASKS: the task at a place is held, and the sums follow its change
 pub held_at : {X : Type 0} (share : X → Share) (a : AccountsView) (items : List X) (i : ℕ) (d : X) → i < length items → AreAccounts a (map share items) → Holds a (share (get_or items i d))
 held_at share a items i d h was = held a (share (get_or items i d)) (map share (take i items)) (map share (drop (i + 1) items)) (subst (AreAccounts a) (shares_at share items i d h) was)
 
-pub turned_at : {X : Type 0} (share : X → Share) (old new : AccountsView) (items : List X) (i : ℕ) (d y : X) → i < length items → Turns old new (share (get_or items i d)) (share y) → AreAccounts old (map share items) → AreAccounts new (map share (set items i y))
-turned_at share old new items i d y h turns was =
-    subst (AreAccounts new) (sym (shares-set share items i y h)) (turns (map share (take i items)) (map share (drop (i + 1) items)) (subst (AreAccounts old) (shares_at share items i d h) was))
+pub turned_at : {X : Type 0} (share : X → Share) (old new : AccountsView) (items : List X) (i : ℕ) (d y : X) → i < length items → (share y).cpu < length old.all → Exchanges old new (share (get_or items i d) ∷ []) (share y ∷ []) → AreAccounts old (map share items) → AreAccounts new (map share (set items i y))
+turned_at share old new items i d y h home change was =
+    subst (AreAccounts new) (sym (shares-set share items i y h)) (turned old new (share (get_or items i d)) (share y) (map share (take i items)) (map share (drop (i + 1) items)) change home (subst (AreAccounts old) (shares_at share items i d h) was))
 
 -- A TASK AT THE END of the list
-pub joined_last : {X : Type 0} (share : X → Share) (old new : AccountsView) (items : List X) (y : X) → Joins old new (share y) → AreAccounts old (map share items) → AreAccounts new (map share (items ++ y ∷ []))
-joined_last share old new items y joins was =
-    subst (AreAccounts new) (sym (map-append share items (y ∷ []))) (joins (map share items) [] (subst (AreAccounts old) (sym (append-nil (map share items))) was))
+pub joined_last : {X : Type 0} (share : X → Share) (old new : AccountsView) (items : List X) (y : X) → (share y).cpu < length old.all → Exchanges old new [] (share y ∷ []) → AreAccounts old (map share items) → AreAccounts new (map share (items ++ y ∷ []))
+joined_last share old new items y home change was =
+    subst (AreAccounts new) (sym (map-append share items (y ∷ []))) (joined old new (share y) (map share items) [] change home (subst (AreAccounts old) (sym (append-nil (map share items))) was))
 
 -- A LOOP THAT PARTS WITH TASKS, before `retain` takes them off the list: of those that it has passed the sums count the ones
 -- that stay, and of the others all
@@ -77,13 +66,13 @@ still_counted-stayed share stays a items i d h stay was =
     subst (AreAccounts a) (still_counted_at share stays items i d h ∙ sym e) was
 
 -- a task that goes
-pub still_counted-parted : {X : Type 0} (share : X → Share) (stays : X → Bool) (old new : AccountsView) (items : List X) (i : ℕ) (d : X) → i < length items → stays (get_or items i d) ≡ false → Parts old new (share (get_or items i d)) → AreAccounts old (still_counted share stays items i) → AreAccounts new (still_counted share stays items (i + 1))
-still_counted-parted share stays old new items i d h gone parts was =
+pub still_counted-parted : {X : Type 0} (share : X → Share) (stays : X → Bool) (old new : AccountsView) (items : List X) (i : ℕ) (d : X) → i < length items → stays (get_or items i d) ≡ false → Exchanges old new (share (get_or items i d) ∷ []) [] → AreAccounts old (still_counted share stays items i) → AreAccounts new (still_counted share stays items (i + 1))
+still_counted-parted share stays old new items i d h gone change was =
     let kept = map share (filter stays (take i items)) in
     let rest = map share (drop (i + 1) items) in
     let e : still_counted share stays items (i + 1) ≡ kept ++ rest =
     still_counted_more share stays items i d h ∙ rw gone (ap (λ ys. map share ys ++ rest) (append-nil (filter stays (take i items)))) in
-    subst (AreAccounts new) (sym e) (parts kept rest (subst (AreAccounts old) (still_counted_at share stays items i d h) was))
+    subst (AreAccounts new) (sym e) (parted old new (share (get_or items i d)) kept rest change (subst (AreAccounts old) (still_counted_at share stays items i d h) was))
 
 pub still_counted-done : {X : Type 0} (share : X → Share) (stays : X → Bool) (a : AccountsView) (items : List X) (i : ℕ) → length items ≤ i → AreAccounts a (still_counted share stays items i) → AreAccounts a (map share (filter stays items))
 still_counted-done share stays a items i h was =

@@ -37,7 +37,8 @@ active_share cpu bw = record { cpu = cpu; bw = bw; active = true }
 abbrev pub inactive_share : ℕ → ℕ → Share
 inactive_share cpu bw = record { cpu = cpu; bw = bw; active = false }
 
--- the new sums are the old ones, less the shares that are gone, and with those that came
+-- the new sums are the old ones, less the shares that are gone, and with those that came. So they count every list that the old
+-- ones counted, with those in the place of these (`exchanged` in proofs/Exchanging.antt)
 pub record Exchanges (old new : AccountsView) (gone came : List Share) : Type 0 where
   pub cpus : length new.all ≡ length old.all
   pub all : (cpu : ℕ) → slice_index new.all cpu + this_bw cpu gone ≡ slice_index old.all cpu + this_bw cpu came

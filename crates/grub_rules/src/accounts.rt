@@ -1,7 +1,6 @@
 //! Running sums of the bandwidth of a domain's tasks (sched-deadline.rst, "Bandwidth reclaiming").
 
 ghost use Rattle.std.specs.Prelude.{◌≡◌, ◌<◌, ◌≤◌, ◌^◌, ◌+◌, ◌-◌, ◌==◌, ◌↔◌, IsTrue, ℕ, if◌then◌else◌, List, [], ◌∷◌, ◌++◌, length, slice_index, sum, vec_len, IfOk};
-ghost use Rattle.grub_rules.specs.Sums.{total_bw, uinact};
 ghost use Rattle.grub_rules.specs.Accounts.{AreAccounts, Holds, Exchanges, active_share, inactive_share, inactive_at};
 
 use crate::share::Share;
@@ -11,8 +10,8 @@ use std::marker::Model;
 /// The running sums of a domain (sched-deadline.rst, "Bandwidth reclaiming"): for each CPU the bandwidth of the tasks that belong
 /// to it, this_bw, and of those of them that are active, running_bw, in 1/2^20 of a CPU.
 ///
-/// Each call tells it of one change of the list of tasks, and says for every list that the sums count, in whatever order, that
-/// they count the list with that change afterwards.
+/// Each call tells it of one change of the list of tasks. So, of every list that the sums count, in whatever order, they count
+/// the list with that change afterwards.
 #[derive(Debug, Drop)]
 pub struct Accounts {
     all: Vec<u64>,
@@ -34,7 +33,8 @@ impl Model for Accounts {
 fn add(sums: &mut Vec<u64>, cpu: usize, bw: u64)
     requires home { cpu < vec_len sums.old }
     requires fits { slice_index sums.old.items cpu + bw < 2 ^ 64 }
-    ensures each { (at : ℕ) → slice_index sums.new.items at ≡ slice_index sums.old.items at + (if cpu == at then bw else 0) }
+    ensures each { (at : ℕ) → slice_index sums.new.items at
+        ≡ slice_index sums.old.items at + (if cpu == at then bw else 0) }
     ensures whole { sum sums.new.items ≡ sum sums.old.items + bw }
     ensures len { vec_len sums.new ≡ vec_len sums.old }
 {
@@ -45,7 +45,8 @@ fn add(sums: &mut Vec<u64>, cpu: usize, bw: u64)
 fn subtract(sums: &mut Vec<u64>, cpu: usize, bw: u64)
     requires home { cpu < vec_len sums.old }
     requires held { bw ≤ slice_index sums.old.items cpu }
-    ensures each { (at : ℕ) → slice_index sums.new.items at + (if cpu == at then bw else 0) ≡ slice_index sums.old.items at }
+    ensures each { (at : ℕ) → slice_index sums.new.items at + (if cpu == at then bw else 0)
+        ≡ slice_index sums.old.items at }
     ensures whole { sum sums.new.items + bw ≡ sum sums.old.items }
     ensures len { vec_len sums.new ≡ vec_len sums.old }
 {
@@ -91,8 +92,7 @@ impl Accounts {
     pub fn join(&mut self, share: &Share)
         requires home { share.now.cpu < length self.old.all }
         requires fits { self.old.total + share.now.bw < 2 ^ 64 }
-        ensures change { Exchanges self.old self.new [] (share.now ∷ []) }
-        ensures sums { (before after : List Share) → AreAccounts self.old (before ++ after) → AreAccounts self.new (before ++ share.now ∷ after) }
+        ensures { Exchanges self.old self.new [] (share.now ∷ []) }
     {
         add(&mut self.all, share.cpu, share.bw);
         if share.active {
@@ -104,8 +104,7 @@ impl Accounts {
     /// A task goes off the list, active or not as it is.
     pub fn part(&mut self, share: &Share)
         requires { Holds self.old share.now }
-        ensures change { Exchanges self.old self.new (share.now ∷ []) [] }
-        ensures sums { (before after : List Share) → AreAccounts self.old (before ++ share.now ∷ after) → AreAccounts self.new (before ++ after) }
+        ensures { Exchanges self.old self.new (share.now ∷ []) [] }
     {
         subtract(&mut self.all, share.cpu, share.bw);
         if share.active {
@@ -117,8 +116,7 @@ impl Accounts {
     /// A listed task of this CPU and bandwidth, inactive until now, becomes active: it contends.
     pub fn wake(&mut self, cpu: usize, bw: u64)
         requires { Holds self.old (inactive_share cpu bw) }
-        ensures change { Exchanges self.old self.new (inactive_share cpu bw ∷ []) (active_share cpu bw ∷ []) }
-        ensures sums { (before after : List Share) → AreAccounts self.old (before ++ inactive_share cpu bw ∷ after) → AreAccounts self.new (before ++ active_share cpu bw ∷ after) }
+        ensures { Exchanges self.old self.new (inactive_share cpu bw ∷ []) (active_share cpu bw ∷ []) }
     {
         add(&mut self.active, cpu, bw);
     }
@@ -127,8 +125,7 @@ impl Accounts {
     /// come.
     pub fn idle(&mut self, cpu: usize, bw: u64)
         requires { Holds self.old (active_share cpu bw) }
-        ensures change { Exchanges self.old self.new (active_share cpu bw ∷ []) (inactive_share cpu bw ∷ []) }
-        ensures sums { (before after : List Share) → AreAccounts self.old (before ++ active_share cpu bw ∷ after) → AreAccounts self.new (before ++ inactive_share cpu bw ∷ after) }
+        ensures { Exchanges self.old self.new (active_share cpu bw ∷ []) (inactive_share cpu bw ∷ []) }
     {
         subtract(&mut self.active, cpu, bw);
     }
@@ -137,8 +134,7 @@ impl Accounts {
     pub fn shift(&mut self, share: &Share, to: usize)
         requires held { Holds self.old share.now }
         requires home { to < length self.old.all }
-        ensures change { Exchanges self.old self.new (share.now ∷ []) (record share.now { cpu = to } ∷ []) }
-        ensures sums { (before after : List Share) → AreAccounts self.old (before ++ share.now ∷ after) → AreAccounts self.new (before ++ record share.now { cpu = to } ∷ after) }
+        ensures { Exchanges self.old self.new (share.now ∷ []) (record share.now { cpu = to } ∷ []) }
     {
         subtract(&mut self.all, share.cpu, share.bw);
         add(&mut self.all, to, share.bw);
@@ -154,8 +150,7 @@ impl Accounts {
         requires held { Holds self.old before.now }
         requires home { after.now.cpu < length self.old.all }
         requires fits { self.old.total - before.now.bw + after.now.bw < 2 ^ 64 }
-        ensures change { Exchanges self.old self.new (before.now ∷ []) (after.now ∷ []) }
-        ensures sums { (front back : List Share) → AreAccounts self.old (front ++ before.now ∷ back) → AreAccounts self.new (front ++ after.now ∷ back) }
+        ensures { Exchanges self.old self.new (before.now ∷ []) (after.now ∷ []) }
     {
         if before == after {
             return;
@@ -177,16 +172,14 @@ impl Accounts {
     /// The bandwidth of the inactive tasks of a CPU, Uinact: this_bw less running_bw.
     pub fn uinact(&self, cpu: usize) -> u64
         requires { cpu < length self.now.all }
-        ensures value { result ≡ inactive_at cpu self.now }
-        ensures sums { (shares : List Share) → AreAccounts self.now shares → result ≡ uinact cpu shares }
+        ensures { result ≡ inactive_at cpu self.now }
     {
         self.all[cpu] - self.active[cpu]
     }
 
     /// The bandwidth of all listed tasks of the domain.
     pub fn total(&self) -> u64
-        ensures value { result ≡ self.now.total }
-        ensures sums { (shares : List Share) → AreAccounts self.now shares → result ≡ total_bw shares }
+        ensures { result ≡ self.now.total }
     {
         self.total
     }

@@ -1,7 +1,6 @@
 -- What a domain keeps of its tasks beside their list, for the code's own contracts.
-use Rattle.std.specs.Prelude.{ℕ, ◌+◌, ◌-◌, ◌<◌, ◌≤◌, ◌^◌, ◌≡◌, ◌≢◌, ◌⊎◌, false, if◌then◌else◌, List, ◌∷◌, ◌++◌, length, All, AllPairs, Option, Some, None, IfSome}
-use Rattle.grub_rules.specs.declared.share.Share.{Share}
-use Rattle.grub_rules.specs.Accounts.{AreAccounts, Holds}
+use Rattle.std.specs.Prelude.{ℕ, ◌+◌, ◌-◌, ◌<◌, ◌≤◌, ◌^◌, ◌≡◌, ◌≢◌, ◌⊎◌, false, if◌then◌else◌, List, [], ◌∷◌, length, All, AllPairs, Option, Some, None, IfSome}
+use Rattle.grub_rules.specs.Accounts.{AreAccounts, Holds, Exchanges}
 use Rattle.edf_pick.specs.declared.candidate.Candidate.{Candidate}
 use Rattle.edf_pick.specs.Order.{ordered, has_candidate, with_candidate, without_candidate}
 use Rattle.domain_run.specs.declared.task.Task.{Task}
@@ -56,8 +55,7 @@ pub record MayTurn (queue : RunQueue) (before after : Standing) : Type 0 where
 
 -- it has
 pub record HasTurned (before after : Standing) (old new : RunQueue) : Type 0 where
-  pub wide : length new.accounts.all ≡ length old.accounts.all
-  pub sums : (front back : List Share) → AreAccounts old.accounts (front ++ before.share ∷ back) → AreAccounts new.accounts (front ++ after.share ∷ back)
+  pub sums : Exchanges old.accounts new.accounts (before.share ∷ []) (after.share ∷ [])
   pub order : ((before.ready ≡ after.ready) × (new.ready ≡ old.ready)) ⊎ (new.ready ≡ with_ready after.ready (without_ready before.ready old.ready))
 
 -- what a state keeps: a domain, a run queue that counts its tasks, room for 256 tasks, and a place for each CPU

@@ -1,9 +1,9 @@
-use Rattle.std.proofs.Common.{◌≡◌, ◌<◌, ◌%◌, refl, sym, ap, subst, ◌∙◌, arith}
+use Rattle.std.proofs.Common.{◌≡◌, ◌<◌, ◌%◌, [], ◌∷◌, refl, sym, ap, subst, ◌∙◌, arith}
 use Rattle.domain_run.specs.Domain.{Domain}
 use Rattle.domain_run.specs.Calls.{new_task, listed}
 use Rattle.domain_run.specs.Sound.{IsDomain}
 use Rattle.grub_rules.specs.declared.share.Share.{Share}
-use Rattle.grub_rules.proofs.LoopLemmas.{Joins}
+use Rattle.grub_rules.specs.Accounts.{Exchanges}
 use Rattle.domain_run.specs.declared.task.Task.{Task}
 use Rattle.domain_run.specs.declared.run_queue.RunQueue.{RunQueue}
 use Rattle.domain_run.specs.Conditions.{is_ready}
@@ -36,13 +36,15 @@ join-requires-clause-home c =
 pub invariant_of-self : goal.invariant_of-self
 invariant_of-self c = record {
   domain = subst IsDomain (sym (after_is c)) (list_keeps (before c) c.args.self.now c.args.number c.args.name c.args.params c.args.delay c.args.script c.self.view_is c.self.invariant.domain c.requires.delay c.requires.granted);
-  wide = c.join.ensures.change.cpus ∙ c.self.invariant.wide;
+  wide = c.join.ensures.cpus ∙ c.self.invariant.wide;
   counts =
       let t = c.new_task-task.result in
       let s = c.self.inside in
+      let home : c.args.number % s.cpus < s.cpus = omega (arith, c.self.invariant.domain.steady.some) in
+      let same : t.cpu ≡ c.args.number % s.cpus = ap (λ (x : Task). x.cpu) (new_is c) in
       let new : RunQueue = record { accounts = c.join.new.self; ready = s.queue.ready } in
       subst (Counts new) (sym c.push_reserved.ensures.items)
-      (counts_push s.queue new s.tasks.items t (ap (λ (x : Task). is_ready x.condition) (new_is c)) refl (subst (Joins s.queue.accounts new.accounts) c.share_of.ensures c.join.ensures.sums) c.self.invariant.counts);
+      (counts_push s.queue new s.tasks.items t (ap (λ (x : Task). is_ready x.condition) (new_is c)) refl (rw (same, c.self.invariant.wide) home) (subst (λ x. Exchanges s.queue.accounts new.accounts [] (x ∷ [])) c.share_of.ensures c.join.ensures) c.self.invariant.counts);
   tasks_room = omega (arith, c.push_reserved.ensures.capacity, c.self.invariant.tasks_room);
   before_len = c.self.invariant.before_len;
   idle_len = c.self.invariant.idle_len;

@@ -39,7 +39,7 @@ run_all-requires-clause-sums c =
     let m = middle d b.tasks.items b.places b.switches.items c.self.invariant.domain c.begin.ensures.prepared c.begin.ensures.tasks c.begin.ensures.places (c.begin.ensures.switches ∙ rw c.try_reserve.ensures.items refl) in
     let counted : IsCounted d.cpus b.queue e.tasks = subst (λ n. IsCounted n b.queue e.tasks) c.self.invariant.domain.steady.wide c.begin.ensures.counted in
     let each : (cpu : ℕ) → slice_index c.inactive.new.idle.items cpu ≡ uinact cpu (shares e.tasks) = λ cpu. c.inactive.ensures.each cpu ∙ inactive_is b.queue.accounts (shares e.tasks) cpu counted.counts.sums in
-    let total : c.total.result ≡ sum_of e.tasks = c.total.ensures.value ∙ counted.counts.sums.total in
+    let total : c.total.result ≡ sum_of e.tasks = c.total.ensures ∙ counted.counts.sums.total in
     sums_are e c.inactive.new.idle.items c.total.result m.steady each total
 
 pub run_all-requires-clause-sound : goal.run_all-requires-clause-sound
@@ -82,7 +82,7 @@ invariant_of-self-2 c =
     let m = middle d b.tasks.items b.places b.switches.items c.self.invariant.domain c.begin.ensures.prepared c.begin.ensures.tasks c.begin.ensures.places (c.begin.ensures.switches ∙ rw c.try_reserve.ensures.items refl) in
     let counted : IsCounted d.cpus b.queue e.tasks = subst (λ n. IsCounted n b.queue e.tasks) c.self.invariant.domain.steady.wide c.begin.ensures.counted in
     let each : (cpu : ℕ) → slice_index c.inactive.new.idle.items cpu ≡ uinact cpu (shares e.tasks) = λ cpu. c.inactive.ensures.each cpu ∙ inactive_is b.queue.accounts (shares e.tasks) cpu counted.counts.sums in
-    let total : c.total.result ≡ sum_of e.tasks = c.total.ensures.value ∙ counted.counts.sums.total in
+    let total : c.total.result ≡ sum_of e.tasks = c.total.ensures ∙ counted.counts.sums.total in
     let ran : c.run_all.new.tasks.items ≡ map (ran_if e) e.tasks =
     c.run_all.ensures.tasks
     ∙ ap (λ (ps : Places). map (ran_with s.time ps c.inactive.new.idle.items c.total.result s.cpus s.limit) e.tasks) c.occupants.ensures.occupants
@@ -108,7 +108,7 @@ returns-clause-ok c =
     let m = middle d b.tasks.items b.places b.switches.items c.self.invariant.domain c.begin.ensures.prepared c.begin.ensures.tasks c.begin.ensures.places (c.begin.ensures.switches ∙ rw c.try_reserve.ensures.items refl) in
     let counted : IsCounted d.cpus b.queue e.tasks = subst (λ n. IsCounted n b.queue e.tasks) c.self.invariant.domain.steady.wide c.begin.ensures.counted in
     let each : (cpu : ℕ) → slice_index c.inactive.new.idle.items cpu ≡ uinact cpu (shares e.tasks) = λ cpu. c.inactive.ensures.each cpu ∙ inactive_is b.queue.accounts (shares e.tasks) cpu counted.counts.sums in
-    let total : c.total.result ≡ sum_of e.tasks = c.total.ensures.value ∙ counted.counts.sums.total in
+    let total : c.total.result ≡ sum_of e.tasks = c.total.ensures ∙ counted.counts.sums.total in
     let ran : c.run_all.new.tasks.items ≡ map (ran_if e) e.tasks =
     c.run_all.ensures.tasks
     ∙ ap (λ (ps : Places). map (ran_with s.time ps c.inactive.new.idle.items c.total.result s.cpus s.limit) e.tasks) c.occupants.ensures.occupants
