@@ -45,72 +45,24 @@ fn timer_cursor(rt: HostRuntime) -> Result<(), Fail> {
     Ok(())
 }
 
-fn is_script(
-    alloc: Global,
-    loops: i64,
-    phases: usize,
-    count: u64,
-    events: usize,
-    event: Event,
-) -> Result<bool, Fail> {
-    let mut list = Vec::new(alloc);
-    for _ in 0..phases {
-        list.push(Phase {
-            count,
-            events: vec![in alloc; event; events]?,
-        })?;
-    }
-    Ok(match Script::new(loops, list) {
-        Ok(script) => script.loops() == loops && script.phases().len() == phases,
-        Err(_) => false,
-    })
-}
-
 const MOST: u64 = 1_000_000_000;
 
-#[test]
-fn limits_of_loops(rt: HostRuntime) -> Result<(), Fail> {
-    for (loops, is_one) in [
-        (-2, false),
-        (-1, true),
-        (0, false),
-        (1, true),
-        (1_000_000_000, true),
-        (1_000_000_001, false),
-    ] {
-        let given = is_script(rt.alloc(), loops, 1, 1, 1, Event::Wait)?;
-        assert_eq!(rt; given, is_one, "{loops}");
+/// As long as a script that ends may be.
+fn longest(alloc: Global) -> Result<Script, Fail> {
+    let mut phases = Vec::new(alloc);
+    for _ in 0..64 {
+        phases.push(Phase {
+            count: MOST,
+            events: vec![in alloc; Event::Run(MOST); 64]?,
+        })?;
     }
-    Ok(())
+    Ok(Script::new(1_000_000_000, phases)?)
 }
 
 #[test]
-fn limits_of_phases(rt: HostRuntime) -> Result<(), Fail> {
-    for (phases, count, events, is_one) in [
-        (0, 1, 1, false),
-        (64, 1, 1, true),
-        (65, 1, 1, false),
-        (1, 0, 1, false),
-        (1, MOST, 1, true),
-        (1, MOST + 1, 1, false),
-        (1, 1, 0, false),
-        (1, 1, 64, true),
-        (1, 1, 65, false),
-    ] {
-        let given = is_script(rt.alloc(), 1, phases, count, events, Event::Wait)?;
-        assert_eq!(rt; given, is_one, "{phases} {count} {events}");
-    }
-    Ok(())
-}
-
-#[test]
-fn limits_of_events(rt: HostRuntime) -> Result<(), Fail> {
-    for (n, is_one) in [(0, false), (1, true), (MOST, true), (MOST + 1, false)] {
-        for event in [Event::Run(n), Event::Sleep(n), Event::Timer(n)] {
-            let given = is_script(rt.alloc(), 1, 1, 1, 1, event)?;
-            assert_eq!(rt; given, is_one, "{event:?}");
-        }
-    }
+fn the_longest_script_answers_at_once(rt: HostRuntime) -> Result<(), Fail> {
+    let mut cursor = longest(rt.alloc())?.cursor(0);
+    assert_eq!(rt; cursor.next(0), Segment::Run(MOST));
     Ok(())
 }
 

@@ -57,8 +57,8 @@ is_late None reference time = false
 abbrev pub answered : CursorView → ℕ → Asked
 answered c time = if is_late (event_at c.script c.place) c.reference time then given_at (moved c time) time else given_at c time
 
--- without end each round is like the first, so from any place the same events follow as from one place of the first round; there
--- a cursor is kept
+-- without end each round is like the first, so from any place the same events follow as from one place of the first round:
+-- there a cursor is kept
 abbrev pub first_place : Option ℕ → ℕ → ℕ → ℕ
 first_place None round place = place % round
 first_place (Some n) round place = place
