@@ -38,39 +38,63 @@ fn rooms(state: &State) -> [usize; 4] {
     ]
 }
 
-fn name(alloc: Global) -> Result<Name, Fail> {
-    Ok(Name::new(String::from_str(alloc, "T")?)?)
+/// A task that is not admitted yet.
+#[derive(Drop)]
+struct Newcomer {
+    name: Name,
+    params: Params,
+    script: Script,
+}
+
+fn new_task(alloc: Global) -> Result<Newcomer, Fail> {
+    let params = params()?;
+    let name = Name::new(String::from_str(alloc, "T")?)?;
+    let script = script(alloc)?;
+    Ok(Newcomer {
+        name,
+        params,
+        script,
+    })
+}
+
+fn is_admitted(state: &mut State, number: u32, task: Newcomer) -> bool {
+    let number = number.clamp(1, 65535);
+    state
+        .admit(number, task.name, task.params, 0, task.script)
+        .is_ok()
 }
 
 /// A domain whose task 1 waits.
-fn with_waiting(alloc: Global, params: Params) -> Result<State, Fail> {
+fn with_waiting(alloc: Global, task: Newcomer) -> Result<State, Fail> {
     let mut state = State::open(alloc, 1, 1048576)?;
-    let (name, script) = (name(alloc)?, script(alloc)?);
-    if matches!(state.admit(1, name, params, 0, script), Ok(())) && state.now() == 0 {
+    if is_admitted(&mut state, 1, task) && state.now() == 0 {
         state.tick()?;
     }
     Ok(state)
 }
 
 /// Each call once, and granted, and the state's room is what it was.
-fn keeps_its_room(state: &mut State, name: Name, params: Params, script: Script) -> bool {
-    let before = rooms(state);
-    matches!(state.admit(2, name, params, 0, script), Ok(()))
+fn keeps_its_room(mut state: State, params: Params, task: Newcomer) -> bool {
+    let before = rooms(&state);
+    is_admitted(&mut state, 2, task)
         && state.regrade(1, params, None) == Reply::Changed
         && state.wake(1) == Reply::Woken
         && state.leave(1) == Reply::Left
-        && rooms(state) == before
+        && rooms(&state) == before
+}
+
+fn has_memory(alloc: Global) -> bool {
+    let block: Result<Vec<u8>, AllocError> = Vec::with_capacity(alloc, 1);
+    block.is_ok()
 }
 
 /// All that takes memory is made before the calls, in 15 requests, and one request is made behind them. So with the 16th refused
 /// (`rt try --test --fail-alloc 16`) this is false, since that is the one behind: the calls asked for none.
 fn asks_for_nothing(alloc: Global) -> Result<bool, Fail> {
-    let params = params()?;
-    let mut state = with_waiting(alloc, params)?;
-    let (name, script) = (name(alloc)?, script(alloc)?);
-    let keeps = keeps_its_room(&mut state, name, params, script);
-    let behind: Result<Vec<u8>, AllocError> = Vec::with_capacity(alloc, 1);
-    Ok(keeps && behind.is_ok())
+    let task = new_task(alloc)?;
+    let params = task.params;
+    let state = with_waiting(alloc, new_task(alloc)?)?;
+    Ok(keeps_its_room(state, params, task) && has_memory(alloc))
 }
 
 #[test]
