@@ -1,6 +1,6 @@
 -- What the machine's numbers need: ranges in which 64 bits, and 128 for a budget, hold every number that is formed. No rule of a
 -- domain speaks of them; a domain keeps them by itself.
-use Rattle.std.specs.Prelude.{ℕ, ℤ, ◌≤◌, ◌<◌, ◌^◌, ◌+◌, ◌≤ℤ◌, pos, neg_ℤ, IfSome}
+use Rattle.std.specs.Prelude.{ℕ, ◌≤◌, ◌<◌, ◌^◌, ◌+◌, ◌≤ℤ◌, pos, neg_ℤ, IfSome}
 use Rattle.cbs_rules.specs.declared.server.Server.{Server}
 
 -- a domain's time: 50 days, which is more than 65536 calls of 60000000 ticks
