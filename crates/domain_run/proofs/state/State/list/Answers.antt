@@ -40,7 +40,7 @@ invariant_of-self c = record {
   counts =
       let t = c.new_task-task.result in
       let s = c.self.inside in
-      let home : c.args.number % s.cpus < s.cpus = omega (arith, c.self.invariant.domain.steady.some) in
+      let home : c.args.number % s.cpus < s.cpus = omega (arith, c.self.invariant.domain.steady.cpus.0) in
       let same : t.cpu ≡ c.args.number % s.cpus = ap (λ (x : Task). x.cpu) (new_is c) in
       let new : RunQueue = record { accounts = c.join.new.self; ready = s.queue.ready } in
       subst (Counts new) (sym c.push_reserved.ensures.items)
