@@ -9,3 +9,5 @@ pub mod Counting
 pub mod Changing
 pub mod Ticking
 pub mod Tracing
+pub mod KeptKeys
+pub mod CallerLemmas

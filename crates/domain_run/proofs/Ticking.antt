@@ -103,7 +103,7 @@ begun_is d is sound =
       placed_tasks d.time d.cpus d tasks places sound seating,
     )
 
-same_ran_if : (d : Domain) (t : Task) → Same t (ran_if d t)
+pub same_ran_if : (d : Domain) (t : Task) → Same t (ran_if d t)
 same_ran_if d t = same_either (stands t.number d.places) t _ t (same_ran d.time _ t) (same_itself t)
 
 pub finished_is : (d : Domain) → IsSteady d → d.time < 2 ^ 42 → All (IsSound (d.time + 1)) (map (ran_if d) d.tasks) → IsSteady (finished d)

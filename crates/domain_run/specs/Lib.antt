@@ -11,5 +11,7 @@ pub mod Sound
 pub mod RunQueue
 pub mod Views
 pub mod Calls
+pub mod Busy
+pub mod Keys
 pub mod Run
 pub mod examples

@@ -1,7 +1,8 @@
 -- What a caller may see of a task.
-use Rattle.std.specs.Prelude.{ℕ, ◌==◌, find, Option, option_map}
+use Rattle.std.specs.Prelude.{ℕ, ◌==◌, List, find, Option, option_map}
 use Rattle.domain_run.specs.declared.task.Task.{Task}
 use Rattle.domain_run.specs.declared.task.TaskView.{TaskView}
+use Rattle.domain_run.specs.script.ScriptView.{ScriptView}
 use Rattle.domain_run.specs.Domain.{Domain}
 
 abbrev pub view_of : Task → TaskView
@@ -10,3 +11,11 @@ view_of t = record { server = t.server; condition = t.condition; zero_lag = t.ze
 -- the listed task of a number
 abbrev pub view_in : Domain → ℕ → Option TaskView
 view_in d number = option_map view_of (find (λ t. t.number == number) d.tasks)
+
+-- its name, as it was admitted
+abbrev pub name_in : Domain → ℕ → Option (List ℕ)
+name_in d number = option_map (λ t. t.name) (find (λ t. t.number == number) d.tasks)
+
+-- its script, whole, wherever its cursor stands
+abbrev pub script_in : Domain → ℕ → Option ScriptView
+script_in d number = option_map (λ t. t.cursor.script) (find (λ t. t.number == number) d.tasks)

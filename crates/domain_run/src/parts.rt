@@ -319,7 +319,7 @@ fn left_in(condition: Condition) -> PrevState
     }
 }
 
-fn find(tasks: &[Task], number: u32) -> Option<&Task>
+pub(crate) fn find(tasks: &[Task], number: u32) -> Option<&Task>
     ensures { option_copied result ≡ find (λ t. t.number == number) tasks.now }
 {
     tasks.iter().find(|task| task.number == number)

@@ -271,6 +271,13 @@ fn is_late_at(event: Option<Event>, reference: u64, time: u64) -> bool
 }
 
 impl Cursor {
+    /// The whole script, wherever the cursor stands.
+    pub(crate) fn script(&self) -> &Script
+        ensures { result.now ≡ self.now.script }
+    {
+        &self.script
+    }
+
     fn event(&self) -> Option<Event>
         ensures value { result ≡ event_at self.now.script self.now.place }
         ensures event { IfSome result IsEvent }

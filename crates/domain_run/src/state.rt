@@ -8,10 +8,13 @@ ghost use Rattle.domain_run.specs.Domain.{opened};
 ghost use Rattle.domain_run.specs.Views.{view_in};
 ghost use Rattle.domain_run.specs.Tick as tick;
 ghost use Rattle.domain_run.specs.Calls as calls;
+ghost use Rattle.domain_run.specs.Busy.{IfBusy, LacksRoomFor};
+ghost use Rattle.domain_run.specs.Keys.{AreKept};
 ghost use Rattle.domain_run.specs.Sound.{IsDomain, IsPlacement};
 ghost use Rattle.attr_check.specs.Ratio.{cap};
 
 mod calls;
+mod lending;
 
 use crate::call::{Refused, Reply};
 use crate::memory::NoMemory;
@@ -124,12 +127,13 @@ fn bw_within(params: &Params) -> u64
 impl State {
     /// One tick, from the time now to the next microsecond: throttled tasks whose deadline has come are replenished, zero-lag times
     /// that have come are dropped, blocked tasks whose time has come ask their scripts, the ready tasks with the earliest deadlines
-    /// are placed, the switches are added, and every running task is charged. Room for the switches is made first: on `Err` nothing
-    /// has changed.
+    /// are placed, the switches are added, and every running task is charged. Tasks that have left may go off the list; nobody comes,
+    /// and the others keep number, bandwidth and order. Room for the switches is made first: on `Err` nothing has changed.
     pub fn tick(&mut self) -> Result<(), NoMemory>
         requires { self.old.time < 2 ^ 42 }
         ensures ok { OnOk result (self.new ≡ tick.ticked self.old) }
         ensures placed { OnOk result (IsPlacement (tick.begun self.old)) }
+        ensures keys { OnOk result (AreKept self.old.tasks self.new.tasks) }
         ensures err { OnErr result (self.new ≡ self.old) }
     {
         self.switches.try_reserve(self.cpus)?;
@@ -164,7 +168,8 @@ impl State {
     /// The reply to an admission, by the tests in their order.
     fn admit_reply(&self, number: u32, params: &Params) -> Reply
         requires { number < 65536 }
-        ensures { result ≡ calls.admit_reply self.now number params.now }
+        ensures reply { result ≡ calls.admit_reply self.now number params.now }
+        ensures busy { IfBusy result (LacksRoomFor self.now params.now.bw) }
     {
         let sum = self.sum();
         if self.tasks.len() >= 256 {
@@ -208,6 +213,7 @@ impl State {
         ensures admitted { OnOk result (calls.reply_to self.old (Call.Admit number name params delay script) ≡ Reply.Admitted) }
         ensures reply { IfErr result (λ r. r.reply ≡ calls.reply_to self.old (Call.Admit number name params delay script)) }
         ensures refused { IfErr result (λ r. IsTrue (calls.is_refusal r.reply)) }
+        ensures busy { IfErr result (λ r. IfBusy r.reply (LacksRoomFor self.old params.bw)) }
         ensures back { IfErr result (λ r. (r.name ≡ name) × (r.script ≡ script)) }
     {
         match self.admit_reply(number, &params) {

@@ -1,9 +1,10 @@
 //! The calls on a listed task: regrade, wake and leave.
 
-ghost use Rattle.std.specs.Prelude.{◌≡◌, None};
+ghost use Rattle.std.specs.Prelude.{◌≡◌, None, IfNone};
 ghost use Rattle.domain_run.specs.declared.call.Call.TheVariants as Call;
 ghost use Rattle.domain_run.specs.declared.call.Reply.TheVariants as Reply;
 ghost use Rattle.domain_run.specs.Calls as calls;
+ghost use Rattle.domain_run.specs.Busy.{IfBusy, LacksRoomToChange};
 
 use super::{State, bw_within};
 use crate::call::Reply;
@@ -13,7 +14,8 @@ use attr_check::Params;
 impl State {
     /// The reply to a regrade, by the tests in their order.
     fn regrade_reply(&self, number: u32, params: &Params, word: Option<u64>) -> Reply
-        ensures { result ≡ calls.regrade_reply self.now params.now word (calls.task_of self.now number) }
+        ensures reply { result ≡ calls.regrade_reply self.now params.now word (calls.task_of self.now number) }
+        ensures busy { IfNone word (IfBusy result (LacksRoomToChange self.now number params.now.bw)) }
     {
         let Some(task) = parts::live(&self.tasks, number) else {
             return Reply::NotListed;
@@ -45,6 +47,7 @@ impl State {
     pub fn regrade(&mut self, number: u32, params: Params, word: Option<u64>) -> Reply
         ensures reply { result ≡ calls.reply_to self.old (Call.Regrade number params word) }
         ensures domain { self.new ≡ calls.after_call self.old (Call.Regrade number params word) }
+        ensures busy { IfNone word (IfBusy result (LacksRoomToChange self.old number params.bw)) }
     {
         let reply = self.regrade_reply(number, &params, word);
         if reply == Reply::Changed {

@@ -10,6 +10,8 @@ use Rattle.domain_run.specs.RunQueue.{IsCounted}
 use Rattle.domain_run.proofs.Placing.{running_ready}
 use Rattle.domain_run.proofs.Counting.{counted_in, inactive_is}
 use Rattle.domain_run.proofs.Ticking.{middle, sums_are, ran_as, ticked_is, done, done_sound}
+use Rattle.domain_run.specs.Keys.{AreKept}
+use Rattle.domain_run.proofs.KeptKeys.{ticked_kept}
 use Rattle.domain_run.proofs.state.State.tick.Goals as goal
 
 pub begin-requires-clause-counted : goal.begin-requires-clause-counted
@@ -112,6 +114,11 @@ returns-clause-ok c =
     ∙ ap (λ (ps : Places). map (ran_with s.time ps c.inactive.new.idle.items c.total.result s.cpus s.limit) e.tasks) c.occupants.ensures.occupants
     ∙ ran_as e c.inactive.new.idle.items c.total.result each total in
     done d e c.run_all.new.tasks.items m ran ∙ ap ticked c.self.view_is
+
+pub returns-clause-keys : goal.returns-clause-keys
+returns-clause-keys c =
+    let is : IsDomain c.args.self.now = subst IsDomain c.self.view_is c.self.invariant.domain in
+    subst (λ (x : Domain). AreKept c.args.self.now.tasks x.tasks) (sym (returns-clause-ok c)) (ticked_kept c.args.self.now is.steady.numbered)
 
 pub returns-clause-placed : goal.returns-clause-placed
 returns-clause-placed c =

@@ -1,0 +1,36 @@
+//! What a state lends of a listed task: its name and its script.
+
+ghost use Rattle.std.specs.Prelude.{◌≡◌};
+ghost use Rattle.std.specs.Option.{option_copied};
+ghost use Rattle.domain_run.specs.Views.{name_in, script_in};
+
+use super::State;
+use crate::name::Name;
+use crate::parts;
+use crate::script::Script;
+
+#[cfg(test)]
+mod tests;
+
+impl State {
+    /// The name of the task of a number, where it is listed. Takes no memory.
+    pub fn name(&self, number: u32) -> Option<&Name>
+        ensures { option_copied result ≡ name_in self.now number }
+    {
+        match parts::find(&self.tasks, number) {
+            None => None,
+            Some(task) => Some(&task.name),
+        }
+    }
+
+    /// The script of the task of a number, where it is listed: the whole script that was admitted, however far the task has come
+    /// in it. Takes no memory.
+    pub fn script(&self, number: u32) -> Option<&Script>
+        ensures { option_copied result ≡ script_in self.now number }
+    {
+        match parts::find(&self.tasks, number) {
+            None => None,
+            Some(task) => Some(task.cursor.script()),
+        }
+    }
+}
