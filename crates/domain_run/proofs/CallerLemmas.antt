@@ -4,6 +4,8 @@ use Rattle.std.specs.Prelude.{IsTrue, Contains, find, not, is_some, option_map}
 use Rattle.std.specs.List.{list_any}
 use Rattle.std.proofs.lemmas.Bool.{ltb-true, eqb-true}
 use Rattle.std.proofs.lemmas.List.{map-append}
+use Rattle.std.proofs.lemmas.List.Sums.{sum_by-cons}
+use Rattle.grub_rules.specs.declared.share.Share.{Share}
 use Rattle.attr_check.specs.ParamsView.{ParamsView}
 use Rattle.attr_check.specs.Ratio.{cap}
 use Rattle.domain_run.specs.script.ScriptView.{ScriptView}
@@ -15,7 +17,7 @@ use Rattle.domain_run.specs.declared.call.Reply.TheVariants.{Admitted, Changed, 
 use Rattle.domain_run.specs.Conditions.{is_contending, is_leaving}
 use Rattle.domain_run.specs.Parts.{stopped}
 use Rattle.domain_run.specs.Domain.{Domain}
-use Rattle.domain_run.specs.Tick.{sum_of, ticks}
+use Rattle.domain_run.specs.Tick.{share_of, shares, sum_of, ticks}
 use Rattle.domain_run.specs.Calls.{admit_reply, new_task, listed, task_of, of_number, changed, regraded, regrade_reply, wake_reply, awoken, leave_reply, ended, reply_to, is_refusal, granted, after_call}
 use Rattle.domain_run.specs.Views.{view_of, view_in, name_in}
 use Rattle.domain_run.specs.Busy.{LacksRoomFor, LacksRoomToChange}
@@ -197,3 +199,8 @@ regrade_busy d number p seen within e = busy_by (task_of d number) refl e
     busy_by : (o : Option Task) → task_of d number ≡ o → regrade_reply d p None o ≡ Busy seen → LacksRoomToChange d number p.bw seen
     busy_by None is k = absurd cc
     busy_by (Some t) is k = busy_if t (ltb (cap d.cpus d.limit) (sum_of d.tasks - t.params.bw + p.bw)) is refl k
+
+-- ---- the sum of bandwidths, task by task
+
+pub sum_first : (t : Task) (tasks : List Task) → sum_of (t ∷ tasks) ≡ t.params.bw + sum_of tasks
+sum_first t tasks = sum_by-cons (λ (s : Share). s.bw) (share_of t) (shares tasks)
