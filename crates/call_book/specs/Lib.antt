@@ -6,5 +6,12 @@ pub mod BadLine
 pub mod RoundTrip
 pub mod FaultText
 pub mod Examples
+pub mod Book
+pub mod Pieces
+pub mod Ledger
+pub mod Stock
+pub mod Listing
+pub mod Kept
+pub mod BookAnswers
 pub mod Reading
 pub mod Writing
