@@ -70,6 +70,7 @@ pub record IsChanged (t : TicketView) (bw : ℕ) (u : TicketView) : Type 0 where
 
 pub record IsRegradeRefused (t : TicketView) (bw : ℕ) (u : TicketView) (seen : ℕ) : Type 0 where
   pub held : t.bw ≤ seen
+  pub within : seen ≤ cap_of t.gate t.domain
   pub over : cap_of t.gate t.domain < seen - t.bw + bw
   pub ticket : u ≡ ticket_found t (seen ∷ [])
 

@@ -1,3 +1,5 @@
+mod mark;
+
 use crate::answer::{Regrade, Take, Words};
 use crate::dealing::{deal, gather_blanks, gather_tickets, words_of};
 use crate::piece::{Blank, Ticket};
@@ -9,6 +11,8 @@ use bw_world::NoMemory;
 use std::alloc::Global;
 use std::marker::Model;
 use std::sync::Wait;
+
+pub use mark::Mark;
 
 /// The bandwidth words of one to eight root domains, from which many clients take at once, without a lock and without
 /// waiting for one another. All bandwidths and words are in 1/2^20 of a CPU.

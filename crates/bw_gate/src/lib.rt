@@ -19,7 +19,7 @@ mod view;
 
 pub use answer::{Regrade, Take, Words};
 pub use core_steps::steps_are_the_cores;
-pub use gate::Gate;
+pub use gate::{Gate, Mark};
 pub use piece::{Blank, Ticket};
 
 #[cfg(test)]

@@ -35,7 +35,7 @@ each_more : (entries : List Entry) (e : Entry) → AllByRecursion IsEntryRead en
 each_more [] e each is = (is, tt)
 each_more (x ∷ entries) e each is = (each.0, each_more entries e each.1 is)
 
-numbered_more : (before entries : List Entry) (e : Entry) → IsNumberedAfter before entries → e.seq ≡ made_by e.client (before ++ entries) → IsNumberedAfter before (entries ++ e ∷ [])
+pub numbered_more : (before entries : List Entry) (e : Entry) → IsNumberedAfter before entries → e.seq ≡ made_by e.client (before ++ entries) → IsNumberedAfter before (entries ++ e ∷ [])
 numbered_more before [] e is h = (h ∙ ap (made_by e.client) (append-nil before), tt)
 numbered_more before (x ∷ entries) e is h = (is.0, numbered_more (before ++ x ∷ []) entries e is.1 (h ∙ ap (made_by e.client) (sym (append_assoc before (x ∷ []) entries))))
 

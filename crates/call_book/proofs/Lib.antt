@@ -11,3 +11,11 @@ pub mod Entries
 pub mod Sections
 pub mod Written
 pub mod BadLines
+pub mod Histories
+pub mod Words
+pub mod Sweeping
+pub mod Asking
+pub mod Growing
+pub mod Sifting
+pub mod Regrading
+pub mod TicketSums

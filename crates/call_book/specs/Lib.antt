@@ -5,5 +5,8 @@ pub mod Limits
 pub mod BadLine
 pub mod RoundTrip
 pub mod FaultText
+pub mod Book
+pub mod Pieces
+pub mod BookAnswers
 pub mod Examples
 pub mod private

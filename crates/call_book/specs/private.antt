@@ -1,2 +1,6 @@
 pub mod Reading
 pub mod Writing
+pub mod Ledger
+pub mod Stock
+pub mod Listing
+pub mod Kept

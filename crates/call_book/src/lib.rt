@@ -2,11 +2,15 @@
 //!
 //! Meets the definitions "Calls text" (`specs/Spelling.antt`: the text of sections; `specs/Limits.antt`: which sections have
 //! one, and which are read for now; `specs/BadLine.antt`: the first bad line of every other text; `specs/RoundTrip.antt`: what
-//! a written text is read as) and "A client's own calls" (`specs/OwnCalls.antt`). To the crates above it promises that
+//! a written text is read as), "A client's own calls" (`specs/OwnCalls.antt`) and "A domain's book" (`specs/Book.antt`,
+//! `specs/Pieces.antt`, `specs/BookAnswers.antt`). To the crates above it promises that
 //! [`read_calls`] accepts exactly the texts of readable sections, gives back the very sections, and names the first bad line of
-//! every other text, and that [`write_calls`] writes the one text of its sections, which is read as these again.
+//! every other text, and that [`write_calls`] writes the one text of its sections, which is read as these again; and that a
+//! [`Domain`]'s state is the run of its history, in which each client's calls stand once and in their order, and that it holds a
+//! ticket for each listed task, of its bandwidth, and gives it back when the task has gone.
 #![tactic(auto)]
 
+mod book;
 mod cut;
 mod fault;
 mod line_text;
@@ -17,6 +21,7 @@ mod section;
 mod times;
 mod writing;
 
+pub use book::{Admit, AdvanceError, Closed, Domain, Full, Pass, Prepared, prepare};
 pub use domain_run::{Call, NoMemory, Reply};
 pub use fault::CallsFault;
 pub use reading::read_calls;

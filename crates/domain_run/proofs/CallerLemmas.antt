@@ -295,3 +295,8 @@ with_bw_between number old bw (k ∷ front) back apart =
 pub sum_of_keys : (tasks : List Task) → sum_of tasks ≡ sum_by (λ k. k.1) (keys tasks)
 sum_of_keys [] = refl
 sum_of_keys (t ∷ tasks) = omega (arith, sum_by-cons (λ (s : Share). s.bw) (share_of t) (shares tasks), sum_by-cons (λ (k : ℕ × ℕ). k.1) (key_of t) (keys tasks), sum_of_keys tasks)
+
+-- ---- the sum of bandwidths, task by task
+
+pub sum_first : (t : Task) (tasks : List Task) → sum_of (t ∷ tasks) ≡ t.params.bw + sum_of tasks
+sum_first t tasks = sum_by-cons (λ (s : Share). s.bw) (share_of t) (shares tasks)

@@ -1,9 +1,10 @@
 //! The calls on a listed task: regrade, wake and leave.
 
-ghost use Rattle.std.specs.Prelude.{◌≡◌, None, IfNone};
+ghost use Rattle.std.specs.Prelude.{◌≡◌, ◌↔◌, IsTrue, None, IfNone};
 ghost use Rattle.domain_run.specs.declared.call.Call.TheVariants as Call;
 ghost use Rattle.domain_run.specs.declared.call.Reply.TheVariants as Reply;
 ghost use Rattle.domain_run.specs.Calls as calls;
+ghost use Rattle.domain_run.specs.Sound.{IsDomain};
 ghost use Rattle.domain_run.specs.Busy.{IfBusy, LacksRoomToChange};
 
 use super::{State, bw_within};
@@ -30,6 +31,16 @@ impl State {
             None => Reply::Changed,
             Some(seen) => Reply::Busy { seen },
         }
+    }
+
+    /// Whether the domain itself has room for a regrade: [`State::regrade`] then answers [`Reply::Changed`], unless the bandwidth
+    /// word refused.
+    pub fn may_regrade(&self, number: u32, params: &Params) -> bool
+        ensures room { IsTrue result ↔ (calls.regrade_reply self.now params.now None (calls.task_of self.now number) ≡ Reply.Changed) }
+        ensures domain { IsDomain self.now }
+    {
+        let _ = &self.tasks;
+        self.regrade_reply(number, params, None) == Reply::Changed
     }
 
     fn change(&mut self, number: u32, params: &Params)

@@ -1,0 +1,140 @@
+-- A book with one call more.
+use Rattle.std.proofs.Common.{◌≡◌, ℕ, ◌+◌, ◌<◌, ◌≤◌, Bool, true, false, Some, List, [], ◌∷◌, ◌++◌, length, map, refl, sym, ap, ◌∙◌, subst, arith, length-append}
+use Rattle.std.specs.Prelude.{IsTrue, ◌↔◌}
+use Rattle.std.proofs.lemmas.List.{map-append}
+use Rattle.attr_check.specs.Ratio.{cap}
+use Rattle.bw_gate.specs.Pieces.{GateId, TicketView, cap_of}
+use Rattle.pass_seats.specs.Lists.{PassView}
+use Rattle.domain_run.specs.declared.call.Call.{Call}
+use Rattle.domain_run.specs.declared.call.Reply.{Reply}
+use Rattle.domain_run.specs.Domain.{Domain, opened}
+use Rattle.domain_run.specs.Calls.{reply_to, after_call, is_refusal}
+use Rattle.domain_run.specs.Run.{after_calls, replies_to}
+use Rattle.domain_run.specs.Keys.{keys}
+use Rattle.domain_run.specs.Busy.{LacksRoomFor}
+use Rattle.domain_run.proofs.CallerLemmas.{ticks_of, call_time, call_machine, wake_keys, leave_keys, admitted_keys, refused_keeps}
+use Rattle.call_book.specs.declared.section.Entry.{Entry}
+use Rattle.call_book.specs.declared.book.stock.Held.{Held}
+use Rattle.call_book.specs.Pieces.{held_key, HoldsTickets}
+use Rattle.call_book.specs.Book.{BookView, AdmissionView, admission, calls_of, entry_by, with_entry, EntersAlone}
+use Rattle.call_book.specs.BookAnswers.{IsBusy}
+use Rattle.call_book.specs.private.Ledger.{LedgerView}
+use Rattle.call_book.specs.private.Stock.{StockView}
+use Rattle.call_book.specs.private.Kept.{book_of, IsBook}
+use Rattle.call_book.specs.private.Listing.{Says}
+
+-- a run with one call more
+after_calls_push : (d : Domain) (calls : List Call) (call : Call) → after_calls d (calls ++ call ∷ []) ≡ after_call (after_calls d calls) call
+after_calls_push d [] call = refl
+after_calls_push d (c ∷ calls) call = after_calls_push (after_call d c) calls call
+
+replies_to_push : (d : Domain) (calls : List Call) (call : Call) → replies_to d (calls ++ call ∷ []) ≡ replies_to d calls ++ reply_to (after_calls d calls) call ∷ []
+replies_to_push d [] call = refl
+replies_to_push d (c ∷ calls) call = ap (λ (rs : List Reply). reply_to d c ∷ rs) (replies_to_push (after_call d c) calls call)
+
+-- the history is not full
+pub has_room : (full : Bool) (count room : ℕ) → IsTrue full ↔ (count ≡ room) → full ≡ false → count ≤ room → count < room
+has_room full count room says empty within =
+    let differ : count ≡ room → ⊥ = λ e. let yes : full ≡ true = says.1 e in absurd cc in
+    omega (arith, differ, within)
+
+-- The one lemma for every call: before it a book, the reply and the new state of the definition, tickets for the tasks that are
+-- listed then, and not too many ticks; with its entry a book again.
+pub book_grows : (cpus limit : ℕ) (l grown : LedgerView) (s t : StockView) (state next : Domain) (e : Entry) → IsBook (book_of cpus limit l s) state
+    → grown ≡ record l { history = l.history ++ e ∷ [] } → t ≡ record s { tickets = t.tickets; blanks = t.blanks }
+    → e.reply ≡ Some (reply_to state e.call) → next ≡ after_call state e.call → HoldsTickets next t.tickets → ticks_of e.call ≤ 60000000
+    → IsBook (book_of cpus limit grown t) next
+book_grows cpus limit l grown s t state next e is more pieces lawful becomes held few =
+    let start = opened cpus limit in
+    let calls = calls_of l.history in
+    let calls_more : calls_of (l.history ++ e ∷ []) ≡ calls ++ e.call ∷ [] = map-append (λ (x : Entry). x.call) l.history (e ∷ []) in
+    let run : next ≡ after_calls start (calls_of (l.history ++ e ∷ [])) =
+    becomes ∙ ap (λ (d : Domain). after_call d e.call) is.run ∙ sym (after_calls_push start calls e.call) ∙ ap (after_calls start) (sym calls_more) in
+    let answers : replies_to start (calls_of (l.history ++ e ∷ [])) ≡ replies_to start calls ++ reply_to state e.call ∷ [] =
+    ap (replies_to start) calls_more ∙ replies_to_push start calls e.call ∙ ap (λ (d : Domain). replies_to start calls ++ reply_to d e.call ∷ []) (sym is.run) in
+    let legal : map (λ (x : Entry). x.reply) (l.history ++ e ∷ []) ≡ map Some (replies_to start (calls_of (l.history ++ e ∷ []))) =
+    map-append (λ (x : Entry). x.reply) l.history (e ∷ []) ∙ ap (λ (xs : List _). xs ++ e.reply ∷ []) is.legal ∙ ap (λ (r : _). map Some (replies_to start calls) ++ r ∷ []) lawful
+    ∙ sym (map-append Some (replies_to start calls) (reply_to state e.call ∷ [])) ∙ ap (map Some) (sym answers) in
+    let time : next.time ≡ state.time + ticks_of e.call = ap (λ (d : Domain). d.time) becomes ∙ call_time state e.call in
+    let early = is.early in
+    let machine = call_machine state e.call in
+    let b : LedgerView = record l { history = l.history ++ e ∷ [] } in
+    let whole : IsBook (book_of cpus limit b t) next = record {
+      run = run;
+      legal = legal;
+      held = held;
+      machine = (ap (λ (d : Domain). d.cpus) becomes ∙ machine.cpus ∙ is.machine.0, ap (λ (d : Domain). d.limit) becomes ∙ machine.limit ∙ is.machine.1);
+      early = omega (arith, time, early, few, length-append l.history (e ∷ []));
+      few = is.few;
+      high = is.high;
+      capped = ap (λ (x : StockView). cap_of x.gate x.domain) pieces ∙ is.capped;
+    } in
+    subst (λ (x : LedgerView). IsBook (book_of cpus limit x t) next) (sym more) whole
+
+-- a blank goes and a ticket comes
+pub moved : (s u t : StockView) (h : Held) → u ≡ record s { blanks = u.blanks } → t ≡ record u { tickets = u.tickets ++ h ∷ [] } → t ≡ record s { tickets = t.tickets; blanks = t.blanks }
+moved s u t h spared held =
+    let gate = ap (λ (x : StockView). x.gate) held ∙ ap (λ (x : StockView). x.gate) spared in
+    let domain = ap (λ (x : StockView). x.domain) held ∙ ap (λ (x : StockView). x.domain) spared in
+    let made : GateId → ℕ → StockView = λ g d. record { gate = g; domain = d; tickets = t.tickets; blanks = t.blanks } in
+    ap (λ (g : GateId). made g t.domain) gate ∙ ap (made s.gate) domain
+
+-- wake and leave keep the keys
+pub wake_grows : (cpus limit : ℕ) (l grown : LedgerView) (s : StockView) (state next : Domain) (number : ℕ) (p : PassView Entry) (reply : Reply) → IsBook (book_of cpus limit l s) state
+    → grown ≡ record l { history = l.history ++ entry_by p (Call.Wake number) reply ∷ [] } → reply ≡ reply_to state (Call.Wake number) → next ≡ after_call state (Call.Wake number)
+    → IsBook (book_of cpus limit grown s) next
+wake_grows cpus limit l grown s state next number p reply is more lawful becomes =
+    book_grows cpus limit l grown s s state next (entry_by p (Call.Wake number) reply) is more refl (ap Some lawful) becomes (is.held ∙ sym (wake_keys state number) ∙ ap (λ (d : Domain). keys d.tasks) (sym becomes)) (omega arith)
+
+pub leave_grows : (cpus limit : ℕ) (l grown : LedgerView) (s : StockView) (state next : Domain) (number : ℕ) (p : PassView Entry) (reply : Reply) → IsBook (book_of cpus limit l s) state
+    → grown ≡ record l { history = l.history ++ entry_by p (Call.Leave number) reply ∷ [] } → reply ≡ reply_to state (Call.Leave number) → next ≡ after_call state (Call.Leave number)
+    → IsBook (book_of cpus limit grown s) next
+leave_grows cpus limit l grown s state next number p reply is more lawful becomes =
+    book_grows cpus limit l grown s s state next (entry_by p (Call.Leave number) reply) is more refl (ap Some lawful) becomes (is.held ∙ sym (leave_keys state number) ∙ ap (λ (d : Domain). keys d.tasks) (sym becomes)) (omega arith)
+
+-- an admission brings its ticket
+pub admitted_grows : (cpus limit : ℕ) (l grown : LedgerView) (s t : StockView) (state next : Domain) (a : AdmissionView) (ticket : TicketView) (number : ℕ) (call : Call) (p : PassView Entry) → IsBook (book_of cpus limit l s) state
+    → grown ≡ record l { history = l.history ++ entry_by p call Reply.Admitted ∷ [] } → t ≡ record s { tickets = t.tickets; blanks = t.blanks } → t.tickets ≡ s.tickets ++ record { number = number; ticket = ticket } ∷ []
+    → Says state next a Reply.Admitted → number ≡ a.number → call ≡ admission a → ticket.bw ≡ a.params.bw → IsBook (book_of cpus limit grown t) next
+admitted_grows cpus limit l grown s t state next a ticket number call p is more pieces held says named same bw =
+    let h : Held = record { number = number; ticket = ticket } in
+    let after : keys next.tasks ≡ keys state.tasks ++ (a.number, a.params.bw) ∷ [] = ap (λ (d : Domain). keys d.tasks) says.state ∙ admitted_keys state a.number a.name a.params a.delay a.script says.reply in
+    let key : held_key h ≡ (a.number, a.params.bw) = ap (λ (n : ℕ). (n, ticket.bw)) named ∙ ap (λ (n : ℕ). (a.number, n)) bw in
+    let tickets : map held_key t.tickets ≡ keys next.tasks =
+    ap (map held_key) held ∙ map-append held_key s.tickets (h ∷ []) ∙ ap (λ (ks : List (ℕ × ℕ)). ks ++ held_key h ∷ []) is.held ∙ ap (λ (k : ℕ × ℕ). keys state.tasks ++ k ∷ []) key ∙ sym after in
+    let lawful : Some Reply.Admitted ≡ Some (reply_to state call) = ap Some (sym says.reply ∙ ap (reply_to state) (sym same)) in
+    book_grows cpus limit l grown s t state next (entry_by p call Reply.Admitted) is more pieces lawful (says.state ∙ ap (after_call state) (sym same)) tickets (rw same (omega arith))
+
+-- a refused admission changes the history alone
+pub busy_grows : (cpus limit : ℕ) (l grown : LedgerView) (s : StockView) (state next : Domain) (a : AdmissionView) (seen : ℕ) (call : Call) (p : PassView Entry) → IsBook (book_of cpus limit l s) state
+    → grown ≡ record l { history = l.history ++ entry_by p call (Reply.Busy seen) ∷ [] } → Says state next a (Reply.Busy seen) → call ≡ admission a → IsBook (book_of cpus limit grown s) next
+busy_grows cpus limit l grown s state next a seen call p is more says same =
+    let stays : after_call state (admission a) ≡ state = refused_keeps state (admission a) (ap is_refusal says.reply) in
+    let lawful : Some (Reply.Busy seen) ≡ Some (reply_to state call) = ap Some (sym says.reply ∙ ap (reply_to state) (sym same)) in
+    book_grows cpus limit l grown s s state next (entry_by p call (Reply.Busy seen)) is more refl lawful (says.state ∙ ap (after_call state) (sym same)) (is.held ∙ ap (λ (d : Domain). keys d.tasks) (sym (says.state ∙ stays))) (rw same (omega arith))
+
+-- what a call that is entered alone says
+pub enters_alone : (b : BookView) (cpus limit : ℕ) (l grown : LedgerView) (s : StockView) (state : Domain) (p q : PassView Entry) (call : Call) (reply : Reply) → book_of cpus limit l s ≡ b → IsBook (book_of cpus limit l s) state → length l.history < l.room
+    → grown ≡ record l { history = l.history ++ entry_by p call reply ∷ [] } → q ≡ with_entry p call reply → reply_to state call ≡ reply → EntersAlone b (book_of cpus limit grown s) p q call reply
+enters_alone b cpus limit l grown s state p q call reply view is room more made says =
+    let whole : EntersAlone (book_of cpus limit l s) (book_of cpus limit grown s) p q call reply = record {
+      entered = record { free = room; lawful = sym says ∙ ap (λ (d : Domain). reply_to d call) is.run; book = ap (λ (x : LedgerView). book_of cpus limit x s) more; pass = made };
+      tickets = refl;
+      blanks = refl;
+    } in
+    subst (λ (x : BookView). EntersAlone x (book_of cpus limit grown s) p q call reply) view whole
+
+pub busy_answer : (b : BookView) (cpus limit : ℕ) (l grown : LedgerView) (s : StockView) (state next : Domain) (p q : PassView Entry) (a : AdmissionView) (ticket : TicketView) (seen : ℕ) (call : Call) → book_of cpus limit l s ≡ b → IsBook (book_of cpus limit l s) state
+    → length l.history < l.room → grown ≡ record l { history = l.history ++ entry_by p call (Reply.Busy seen) ∷ [] } → q ≡ with_entry p call (Reply.Busy seen) → Says state next a (Reply.Busy seen) → call ≡ admission a → LacksRoomFor state a.params.bw seen
+    → IsBusy b (book_of cpus limit grown s) p q a ticket ticket seen
+busy_answer b cpus limit l grown s state next p q a ticket seen call view is room more made says same lacks =
+    let caps : cap state.cpus state.limit ≡ cap b.cpus b.limit = ap (λ (n : ℕ). cap n state.limit) (is.machine.0 ∙ ap (λ (x : BookView). x.cpus) view) ∙ ap (cap b.cpus) (is.machine.1 ∙ ap (λ (x : BookView). x.limit) view) in
+    let within = lacks.within in
+    let above = lacks.above in
+    let alone = enters_alone b cpus limit l grown s state p q call (Reply.Busy seen) view is room more made (ap (reply_to state) same ∙ says.reply) in
+    record {
+      entered = subst (λ (c : Call). EntersAlone b (book_of cpus limit grown s) p q c (Reply.Busy seen)) same alone;
+      within = subst (λ (n : ℕ). seen ≤ n) caps within;
+      above = subst (λ (n : ℕ). n < seen + a.params.bw) caps above;
+      ticket_back = refl;
+    }

@@ -1,0 +1,16 @@
+-- What a contract inside the crate sees of the pieces in a book, and what they keep.
+use Rattle.std.specs.Prelude.{◌≡◌, ℕ, ◌≤◌, List, []}
+use Rattle.bw_gate.specs.Pieces.{GateId, BlankView, TicketView}
+use Rattle.call_book.specs.declared.book.stock.Held.{Held}
+use Rattle.call_book.specs.Pieces.{ArePieces}
+
+pub record StockView : Type 0 where
+  pub gate : GateId
+  pub domain : ℕ
+  pub tickets : List Held
+  pub blanks : List BlankView
+
+pub record IsStock (gate : GateId) (domain : ℕ) (tickets : List Held) (blanks : List BlankView) (home : List TicketView) (held_room free_room home_room : ℕ) : Type 0 where
+  pub pieces : ArePieces gate domain tickets blanks
+  pub empty : home ≡ []
+  pub room : (256 ≤ held_room) × (256 ≤ free_room) × (256 ≤ home_room)

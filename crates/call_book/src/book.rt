@@ -1,0 +1,12 @@
+//! The book of one domain: its state, the history that it is the run of, and the tickets of its tasks.
+
+mod domain;
+mod ledger;
+mod prepared;
+mod stock;
+
+pub use domain::{Admit, AdvanceError, Closed, Domain, Full};
+pub use prepared::{Prepared, prepare};
+
+/// A client's pass: the list of the calls that it made on one domain.
+pub type Pass = pass_seats::Pass<crate::section::Entry>;

@@ -1,0 +1,364 @@
+//! The book of a domain: what a client does to it under its lock.
+
+ghost use Rattle.std.specs.Prelude.{◌≡◌, ◌<◌, ◌≤◌, ◌+◌, ◌^◌, ◌++◌, ◌∷◌, [], ℕ, length, map, All, IfOk, IfErr, IfSome, IfNone, slice_get};
+ghost use Rattle.std.specs.Option.{option_to_list};
+ghost use Rattle.attr_check.specs.Ratio.{cap};
+ghost use Rattle.bw_gate.specs.Pieces.{cap_of};
+ghost use Rattle.domain_run.specs.declared.call.Call.TheVariants as Call;
+ghost use Rattle.domain_run.specs.Tick as tick;
+ghost use Rattle.domain_run.specs.Keys.{AreKept};
+ghost use Rattle.call_book.specs.Pieces.{HoldsTickets};
+ghost use Rattle.call_book.specs.private.Kept.{IsAsked};
+
+use crate::book::Pass;
+use crate::book::ledger::Ledger;
+use crate::book::prepared::{Listing, Prepared};
+use crate::book::stock::Stock;
+use crate::section::Entry;
+use attr_check::Params;
+use bw_gate::{Blank, Gate, Ticket};
+use domain_run::{Call, NoMemory, Reply, State};
+use std::alloc::Global;
+use std::marker::Model;
+use std::sync::Wait;
+
+/// One root domain with the history of its calls and the tickets of its tasks. It has room for so many calls; it is neither
+/// cloned nor dropped, but closed, since it holds tickets.
+pub struct Domain {
+    cpus: u32,
+    limit: u64,
+    state: State,
+    ledger: Ledger,
+    stock: Stock,
+}
+
+impl Model for Domain {
+    ghost use Rattle.call_book.specs.Book.{BookView};
+    ghost use Rattle.call_book.specs.private.Kept.{book_of, IsBook};
+
+    ghost Value = { BookView };
+
+    ghost view = { λ b. book_of b.cpus b.limit b.ledger b.stock };
+
+    ghost invariant = { λ b. IsBook (book_of b.cpus b.limit b.ledger b.stock) b.state };
+}
+
+/// What [`Domain::admit`] answers.
+pub enum Admit {
+    /// The task is listed, and the domain holds its ticket.
+    Admitted {
+        /// A kept blank, where there is one: it is the caller's.
+        blank: Option<Blank>,
+    },
+    /// EBUSY 16: the sum of bandwidths found does not leave room for the task. The call stands in the history.
+    Busy {
+        /// The ticket, as it was.
+        ticket: Ticket,
+        /// The sum of bandwidths, in 1/2^20 of a CPU.
+        seen: u64,
+    },
+    /// 40: the history is full, or 256 tasks are listed. Nothing has changed.
+    Full {
+        /// The ticket, as it was.
+        ticket: Ticket,
+        /// The admission, as it was.
+        prepared: Prepared,
+    },
+    /// 41: a task of this number was admitted here before. Nothing has changed.
+    Twice {
+        /// The ticket, as it was.
+        ticket: Ticket,
+        /// The admission, as it was.
+        prepared: Prepared,
+    },
+}
+
+/// 40: the history is full. Nothing has changed.
+#[derive(Clone, Copy, Debug, PartialEq, Eq)]
+pub struct Full;
+
+/// Why [`Domain::advance`] made no tick. Nothing has changed.
+#[derive(Clone, Copy, Debug, PartialEq, Eq)]
+pub enum AdvanceError {
+    /// 40: the history is full.
+    Full,
+    /// ENOMEM 12: there was no memory for the first tick.
+    Memory,
+}
+
+/// What a closed domain leaves.
+pub struct Closed {
+    pub state: State,
+    /// The history.
+    pub entries: Vec<Entry>,
+    /// The tickets of the listed tasks, in the order of their admission.
+    pub tickets: Vec<Ticket>,
+    /// The blanks that were kept.
+    pub blanks: Vec<Blank>,
+}
+
+impl Domain {
+    ghost use Rattle.call_book.specs.Limits.{IsCall};
+    ghost use Rattle.bw_gate.specs.Pieces.{sum_of};
+    ghost use Rattle.call_book.specs.Pieces.{IsTicketOf, HoldsTickets, ArePieces};
+    ghost use Rattle.call_book.specs.Book.{own_entries, state_of, IsBookHistory, IsPassOf, EntersAlone, IsRefusedFull};
+    ghost use Rattle.call_book.specs.BookAnswers.{IsAdmit, IsRegraded, IsAdvanced, IsNotAdvanced};
+
+    /// An empty book of one of the gate's domains, of 1 to 64 CPUs that may give away `limit` of each (10485 to 1048576 in
+    /// 1/2^20), so that the cap of its word is their product; with a pass for each of 0 to 64 clients, numbered from 1, and room
+    /// for 1 to 65536 calls and for 256 tickets and blanks. [`NoMemory`] (ENOMEM 12) where a growth was refused: nothing stands.
+    pub fn open(
+        alloc: Global,
+        gate: &Gate,
+        domain: usize,
+        cpus: u32,
+        limit: u64,
+        clients: u32,
+        history: usize,
+    ) -> Result<(Domain, Vec<Pass>), NoMemory>
+        requires cpus { (0 < cpus) × (cpus ≤ 64) }
+        requires limit { (10485 ≤ limit) × (limit ≤ 1048576) }
+        requires cap { cap_of gate.now domain ≡ cap cpus limit }
+        requires clients { clients ≤ 64 }
+        requires history { (0 < history) × (history ≤ 65536) }
+        ensures book { IfOk result (λ r. r.0 ≡ record {
+          gate = gate.now;
+          domain = domain;
+          cpus = cpus;
+          limit = limit;
+          clients = clients;
+          spine = r.0.spine;
+          room = history;
+          history = [];
+          tickets = [];
+          blanks = [];
+        }) }
+        ensures count { IfOk result (λ r. length r.1.items ≡ clients) }
+        ensures passes { IfOk result (λ r. (k : ℕ) → k < clients
+            → slice_get r.1.items k ≡ Some (record { spine = r.0.spine; client = k + 1; entries = [] })) }
+    {
+        let (ledger, passes) = Ledger::open(alloc, clients, history)?;
+        let state = State::open(alloc, cpus, limit)?;
+        let stock = Stock::open(alloc, gate, domain)?;
+        let book = Domain {
+            cpus,
+            limit,
+            state,
+            ledger,
+            stock,
+        };
+        Ok((book, passes))
+    }
+
+    /// Admits a task whose bandwidth its ticket has. Tested in this order: the history is full; then as
+    /// [`State::admit`](domain_run::State::admit) tests. The book tests the sum of bandwidths itself, since one ticket says
+    /// nothing of the others. Takes no memory.
+    pub fn admit(&mut self, pass: &mut Pass, prepared: Prepared, ticket: Ticket) -> Admit
+        requires pass { IsPassOf self.old pass.old }
+        requires ticket { IsTicketOf self.old.gate self.old.domain ticket }
+        requires bw { ticket.bw ≡ prepared.params.bw }
+        ensures { IsAdmit self.old self.new pass.old pass.new prepared ticket result }
+    {
+        if self.ledger.is_full() {
+            return Admit::Full { ticket, prepared };
+        }
+        match prepared.list(&mut self.state) {
+            Listing::Listed { number, call } => {
+                self.ledger.enter(pass, call, Reply::Admitted);
+                let blank = self.stock.spare();
+                self.stock.hold(number, ticket);
+                Admit::Admitted { blank }
+            }
+            Listing::Busy { seen, call } => {
+                self.ledger.enter(pass, call, Reply::Busy { seen });
+                Admit::Busy { ticket, seen }
+            }
+            Listing::Full { prepared } => Admit::Full { ticket, prepared },
+            Listing::Twice { prepared } => Admit::Twice { ticket, prepared },
+        }
+    }
+
+    /// Wakes a task that waits, as [`State::wake`](domain_run::State::wake) does; the reply is entered, a refusal too. Takes no
+    /// memory.
+    pub fn wake(&mut self, pass: &mut Pass, number: u32) -> Result<Reply, Full>
+        requires pass { IsPassOf self.old pass.old }
+        requires call { IsCall (Call.Wake number) }
+        ensures entered { IfOk result (EntersAlone self.old self.new pass.old pass.new (Call.Wake number)) }
+        ensures full { IfErr result (λ _. IsRefusedFull self.old self.new pass.old pass.new) }
+    {
+        if self.ledger.is_full() {
+            return Err(Full);
+        }
+        let reply = self.state.wake(number);
+        self.ledger.enter(pass, Call::Wake { number }, reply);
+        Ok(reply)
+    }
+
+    /// Ends a task, as [`State::leave`](domain_run::State::leave) does; the reply is entered, a refusal too. Its ticket stays
+    /// until an advance takes the task off the list. Takes no memory.
+    pub fn leave(&mut self, pass: &mut Pass, number: u32) -> Result<Reply, Full>
+        requires pass { IsPassOf self.old pass.old }
+        requires call { IsCall (Call.Leave number) }
+        ensures entered { IfOk result (EntersAlone self.old self.new pass.old pass.new (Call.Leave number)) }
+        ensures full { IfErr result (λ _. IsRefusedFull self.old self.new pass.old pass.new) }
+    {
+        if self.ledger.is_full() {
+            return Err(Full);
+        }
+        let reply = self.state.leave(number);
+        self.ledger.enter(pass, Call::Leave { number }, reply);
+        Ok(reply)
+    }
+
+    /// Gives a listed task new parameters, as [`State::regrade`](domain_run::State::regrade) does. Only where the domain's own
+    /// test passes, its ticket asks the gate's word, again as long as other clients come between; where the word refuses, the
+    /// reply is `Busy` with the number that the ticket found last, and else the ticket has the new bandwidth. The reply is entered,
+    /// a refusal too. Takes no memory.
+    pub fn regrade<R: Wait>(
+        &mut self,
+        rt: &R,
+        pass: &mut Pass,
+        gate: &Gate,
+        number: u32,
+        params: Params,
+    ) -> Result<Reply, Full>
+        requires pass { IsPassOf self.old pass.old }
+        requires gate { gate.now ≡ self.old.gate }
+        requires call { IsCall (Call.Regrade number params None) }
+        ensures entered { IfOk result (IsRegraded self.old self.new pass.old pass.new number params) }
+        ensures full { IfErr result (λ _. IsRefusedFull self.old self.new pass.old pass.new) }
+    {
+        if self.ledger.is_full() {
+            return Err(Full);
+        }
+        let word = ask_word(rt, gate, &self.state, &mut self.stock, number, &params);
+        let reply = self.state.regrade(number, params, word);
+        let call = Call::Regrade {
+            number,
+            params,
+            word,
+        };
+        self.ledger.enter(pass, call, reply);
+        Ok(reply)
+    }
+
+    /// Makes up to `n` ticks, 1 to 60000000, and enters how many were made: fewer only where a growth was refused. The tickets of
+    /// tasks that went off the list are given back, and their blanks kept. For now it makes single ticks and waits for nobody; it
+    /// takes `Wait` for a way that will.
+    pub fn advance<R: Wait>(
+        &mut self,
+        _rt: &R,
+        pass: &mut Pass,
+        gate: &Gate,
+        n: u64,
+    ) -> Result<Reply, AdvanceError>
+        requires pass { IsPassOf self.old pass.old }
+        requires gate { gate.now ≡ self.old.gate }
+        requires call { IsCall (Call.Advance n) }
+        ensures done { IfOk result (IsAdvanced self.old self.new pass.old pass.new n) }
+        ensures stopped { IfErr result (IsNotAdvanced self.old self.new pass.old pass.new) }
+    {
+        if self.ledger.is_full() {
+            return Err(AdvanceError::Full);
+        }
+        let ticks = make_ticks(&mut self.state, n);
+        if ticks == 0 {
+            return Err(AdvanceError::Memory);
+        }
+        self.stock.sweep(gate, &self.state);
+        let reply = Reply::Done { ticks };
+        self.ledger.enter(pass, Call::Advance { ticks }, reply);
+        Ok(reply)
+    }
+
+    /// Hands out a kept blank, where there is one. Takes no memory.
+    pub fn spare(&mut self) -> Option<Blank>
+        ensures book { self.new ≡ record self.old { blanks = self.new.blanks } }
+        ensures blank { self.old.blanks ≡ self.new.blanks ++ option_to_list result }
+        ensures none { IfNone result (self.old.blanks ≡ []) }
+        ensures own { IfSome result (λ b. b.gate ≡ self.old.gate) }
+    {
+        self.stock.spare()
+    }
+
+    /// Compares a pass with the book, which changes neither: the pass's list is exactly its client's entries.
+    pub fn agree(&mut self, pass: &mut Pass)
+        requires { pass.old.spine ≡ self.old.spine }
+        ensures book { self.new ≡ self.old }
+        ensures pass { pass.new ≡ pass.old }
+        ensures own { pass.new.entries ≡ own_entries pass.new.client self.new.history }
+    {
+        self.ledger.agree(pass);
+    }
+    /// Ends a book: hands out its state, its history and its pieces. Each pass that is handed in is compared with the history.
+    /// Takes no memory.
+    pub fn close(self, passes: Vec<Pass>) -> Closed
+        requires { All (λ p. p.spine ≡ self.spine) passes.items }
+        ensures state { result.state ≡ state_of self }
+        ensures entries { result.entries.items ≡ self.history }
+        ensures tickets { result.tickets.items ≡ map (λ h. h.ticket) self.tickets }
+        ensures blanks { result.blanks.items ≡ self.blanks }
+        ensures history { IsBookHistory self }
+        ensures own { All (λ p. p.entries ≡ own_entries p.client self.history) passes.items }
+        ensures held { HoldsTickets result.state self.tickets }
+        ensures sums { sum_of self.domain result.tickets.items ≡ tick.sum_of result.state.tasks }
+        ensures pieces { ArePieces self.gate self.domain self.tickets self.blanks }
+    {
+        let Domain {
+            cpus: _,
+            limit: _,
+            state,
+            mut ledger,
+            stock,
+        } = self;
+        ledger.agree_all(passes);
+        let (tickets, blanks) = stock.into_pieces();
+        Closed {
+            state,
+            entries: ledger.into_entries(),
+            tickets,
+            blanks,
+        }
+    }
+}
+
+/// Asks the word where the domain's own test passes: the number with which it refused, where it did.
+fn ask_word<R: Wait>(
+    rt: &R,
+    gate: &Gate,
+    state: &State,
+    stock: &mut Stock,
+    number: u32,
+    params: &Params,
+) -> Option<u64>
+    requires gate { gate.now ≡ stock.old.gate }
+    requires held { HoldsTickets state.now stock.old.tickets }
+    ensures { IsAsked state.now stock.old stock.new number params.now result }
+{
+    if !state.may_regrade(number, params) {
+        return None;
+    }
+    stock.regrade(rt, gate, number, bw_within(params))
+}
+
+fn bw_within(params: &Params) -> u64
+    ensures value { result ≡ params.now.bw }
+    ensures most { result ≤ 2 ^ 20 }
+{
+    params.bw
+}
+
+/// How many of so many ticks were made: fewer only where a growth was refused.
+fn make_ticks(state: &mut State, n: u64) -> u64
+    requires { state.old.time + n ≤ 2 ^ 42 }
+    ensures most { result ≤ n }
+    ensures state { state.new ≡ tick.ticks result state.old }
+    ensures keys { AreKept state.old.tasks state.new.tasks }
+{
+    for k in 0..n {
+        let Ok(()) = state.tick() else {
+            return k;
+        };
+    }
+    n
+}

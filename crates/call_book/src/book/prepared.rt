@@ -1,0 +1,179 @@
+//! An admission that is ready to be made, for which no memory is needed any more.
+
+ghost use Rattle.std.specs.Prelude.{◌≡◌, ◌≤◌, IfOk, List, length, map, vec_len};
+ghost use Rattle.domain_run.specs.script.ScriptView.{PhaseView};
+ghost use Rattle.call_book.specs.Limits.{IsAdmission};
+ghost use Rattle.call_book.specs.Book.{AdmissionView};
+ghost use Rattle.call_book.specs.private.Listing.{IsListing};
+
+use attr_check::Params;
+use domain_run::{Call, Name, NoMemory, Phase, Refused, Reply, Script, State};
+use std::alloc::Global;
+use std::marker::Model;
+
+/// A task that is ready to be admitted, with its own copies of name and script, one for the domain and one for the history.
+#[derive(Debug, Drop)]
+pub struct Prepared {
+    number: u32,
+    params: Params,
+    delay: u64,
+    name: Name,
+    script: Script,
+    entry_name: Name,
+    entry_script: Script,
+}
+
+impl Model for Prepared {
+    ghost use Rattle.std.specs.Prelude.{◌≡◌};
+    ghost use Rattle.call_book.specs.Limits.{IsAdmission};
+    ghost use Rattle.call_book.specs.Book.{AdmissionView};
+
+    ghost Value = { AdmissionView };
+
+    ghost view = { λ p. record { number = p.number; name = p.name; params = p.params; delay = p.delay; script = p.script } };
+
+    ghost invariant = { λ p. (p.entry_name ≡ p.name) × (p.entry_script ≡ p.script) × IsAdmission p.number p.name p.params p.delay p.script };
+}
+
+/// What a domain says to an admission.
+pub(crate) enum Listing {
+    /// The task is listed.
+    Listed { number: u32, call: Call },
+    /// The bandwidth does not fit.
+    Busy { seen: u64, call: Call },
+    /// 256 tasks are listed.
+    Full { prepared: Prepared },
+    /// The number was admitted before.
+    Twice { prepared: Prepared },
+}
+
+/// All growths of an admission: copies of the name and the script, for the domain and for the history. The admission starts a
+/// task of a number from 1 to 65535 after a delay of at most 10^9 us. [`NoMemory`] (ENOMEM 12) where a growth was refused:
+/// nothing stands.
+pub fn prepare(
+    alloc: Global,
+    number: u32,
+    name: &Name,
+    params: Params,
+    delay: u64,
+    script: &Script,
+) -> Result<Prepared, NoMemory>
+    requires { IsAdmission number name.now params delay script.now }
+    ensures { IfOk result (λ p. p ≡ record { number = number; name = name.now; params = params; delay = delay; script = script.now }) }
+{
+    Ok(Prepared {
+        number,
+        params,
+        delay,
+        name: copy_of_name(alloc, name)?,
+        script: copy_of_script(alloc, script)?,
+        entry_name: copy_of_name(alloc, name)?,
+        entry_script: copy_of_script(alloc, script)?,
+    })
+}
+
+fn copy_of_name(alloc: Global, name: &Name) -> Result<Name, NoMemory>
+    ensures { IfOk result (λ n. n ≡ name.now) }
+{
+    let text = String::from_str(alloc, name.as_str())?;
+    match Name::new(text) {
+        Ok(name) => Ok(name),
+        Err(_) => unreachable!(),
+    }
+}
+
+fn copies_of_phases(alloc: Global, phases: &[Phase]) -> Result<Vec<Phase>, NoMemory>
+    ensures { IfOk result (λ v. v.items ≡ phases.now) }
+{
+    let mut copies = Vec::with_capacity(alloc, phases.len())?;
+    for phase in phases {
+        copies.push_reserved(Phase {
+            count: phase.count,
+            events: Vec::from_slice(alloc, &phase.events)?,
+        });
+    }
+    Ok(copies)
+}
+
+fn copy_of_script(alloc: Global, script: &Script) -> Result<Script, NoMemory>
+    ensures { IfOk result (λ s. s ≡ script.now) }
+{
+    let phases = copies_of_phases(alloc, script.phases())?;
+    match Script::new(script.loops(), phases) {
+        Ok(script) => Ok(script),
+        Err(_) => unreachable!(),
+    }
+}
+
+impl Prepared {
+    /// The bandwidth of the task, in 1/2^20 of a CPU: that of the ticket with which it is admitted.
+    pub fn bw(&self) -> u64
+        ensures { result ≡ self.now.params.bw }
+    {
+        self.params.bw
+    }
+
+    /// Makes the admission.
+    pub(crate) fn list(self, state: &mut State) -> Listing
+        ensures { IsListing state.old state.new self result }
+    {
+        let Prepared {
+            number,
+            params,
+            delay,
+            name,
+            script,
+            entry_name,
+            entry_script,
+        } = self;
+        let Err(refused) = state.admit(number, name, params, delay, script) else {
+            let call = Call::Admit {
+                number,
+                name: entry_name,
+                params,
+                delay,
+                script: entry_script,
+            };
+            return Listing::Listed { number, call };
+        };
+        let Refused {
+            reply,
+            name,
+            script,
+        } = refused;
+        match reply {
+            Reply::Busy { seen } => {
+                let call = Call::Admit {
+                    number,
+                    name,
+                    params,
+                    delay,
+                    script,
+                };
+                Listing::Busy { seen, call }
+            }
+            Reply::Full => Listing::Full {
+                prepared: Prepared {
+                    number,
+                    params,
+                    delay,
+                    name,
+                    script,
+                    entry_name,
+                    entry_script,
+                },
+            },
+            _ => Listing::Twice {
+                prepared: Prepared {
+                    number,
+                    params,
+                    delay,
+                    name,
+                    script,
+                    entry_name,
+                    entry_script,
+                },
+            },
+        }
+    }
+}
