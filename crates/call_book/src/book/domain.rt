@@ -100,7 +100,7 @@ pub struct Closed {
 impl Domain {
     ghost use Rattle.call_book.specs.Limits.{IsCall};
     ghost use Rattle.bw_gate.specs.Pieces.{sum_of};
-    ghost use Rattle.call_book.specs.Pieces.{IsTicketOf, HoldsTickets, ArePieces};
+    ghost use Rattle.call_book.specs.Pieces.{IsTicketOf, HoldsTickets};
     ghost use Rattle.call_book.specs.Book.{own_entries, state_of, IsBookHistory, IsPassOf, EntersAlone, IsRefusedFull};
     ghost use Rattle.call_book.specs.BookAnswers.{IsAdmit, IsRegraded, IsAdvanced, IsNotAdvanced};
 
@@ -302,7 +302,9 @@ impl Domain {
         ensures own { All (λ p. p.entries ≡ own_entries p.client self.history) passes.items }
         ensures held { HoldsTickets result.state self.tickets }
         ensures sums { sum_of self.domain result.tickets.items ≡ tick.sum_of result.state.tasks }
-        ensures pieces { ArePieces self.gate self.domain self.tickets self.blanks }
+        ensures homes { All (IsTicketOf self.gate self.domain) result.tickets.items }
+        ensures spare { All (λ b. b.gate ≡ self.gate) result.blanks.items }
+        ensures few { length result.tickets.items + length result.blanks.items ≤ 256 }
     {
         let Domain {
             cpus: _,

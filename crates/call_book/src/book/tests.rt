@@ -1,0 +1,234 @@
+ghost use Rattle.std.specs.Prelude.{◌≡◌, ◌<◌, ◌≤◌, IfOk, All, length};
+ghost use Rattle.call_book.specs.Limits.{IsCall, IsEntry};
+
+use super::{Admit, Closed, Domain, Pass, Prepared, prepare};
+use crate::reading::read_calls;
+use crate::section::{Entry, Section};
+use bw_gate::{Blank, Gate, Take};
+use domain_run::{Call, Reply};
+use std::alloc::Global;
+use std::process::Abort;
+use std::sync::Wait;
+use std::test::Fail;
+
+// A gate of one domain of one CPU, its book with one client, and the client's blanks.
+struct Desk {
+    gate: Gate,
+    domain: Domain,
+    pass: Pass,
+    blanks: Vec<Blank>,
+    ghost own: { domain.gate ≡ gate },
+    ghost first: { domain.domain ≡ 0 },
+    ghost one: { 0 < length gate.terms.caps },
+    ghost spine: { pass.spine ≡ domain.spine },
+    ghost some: { 0 < pass.client },
+    ghost most: { pass.client ≤ domain.clients },
+    ghost blanks_own: { All (λ b. b.gate ≡ gate) blanks.items },
+}
+
+fn opened(rt: &impl Abort, alloc: Global, limit: u64, history: usize) -> Result<Desk, Fail>
+    requires limit { (10485 ≤ limit) × (limit ≤ 1048576) }
+    requires history { (0 < history) × (history ≤ 65536) }
+{
+    let (gate, blanks) = Gate::open(alloc, &[limit], 8)?;
+    let (domain, mut passes) = Domain::open(alloc, &gate, 0, 1, limit, 1, history)?;
+    let Some(pass) = passes.pop() else {
+        panic!(rt; "no pass")
+    };
+    Ok(Desk {
+        gate,
+        domain,
+        pass,
+        blanks,
+    })
+}
+
+// The calls that a text of one section spells.
+fn calls_of(rt: &impl Abort, alloc: Global, text: &[u8]) -> Result<Vec<Entry>, Fail>
+    ensures { IfOk result (λ v. All IsEntry v.items) }
+{
+    let mut sections = read_calls(alloc, text)?;
+    let Some(section) = sections.pop() else {
+        panic!(rt; "no section")
+    };
+    let Section {
+        cpus: _,
+        limit: _,
+        entries,
+    } = section;
+    Ok(entries)
+}
+
+fn next_blank(rt: &impl Abort, desk: &mut Desk) -> Blank
+    ensures blank { result.gate ≡ desk.old.gate }
+    ensures gate { desk.new.gate ≡ desk.old.gate }
+{
+    if let Some(blank) = desk.domain.spare() {
+        return blank;
+    }
+    let Some(blank) = desk.blanks.pop() else {
+        panic!(rt; "no blank")
+    };
+    blank
+}
+
+// Takes the bandwidth at the word and admits the task.
+fn admit(rt: &impl Abort, desk: &mut Desk, prepared: Prepared) -> Reply {
+    let blank = next_blank(rt, desk);
+    let ticket = match desk.gate.try_take(blank, 0, prepared.bw()) {
+        Take::Taken(ticket) => ticket,
+        Take::Refused { blank: _, seen } => return Reply::Busy { seen },
+        Take::Raced {
+            blank: _,
+            expected: _,
+            seen: _,
+        } => panic!(rt; "raced"),
+    };
+    let (ticket, reply) = match desk.domain.admit(&mut desk.pass, prepared, ticket) {
+        Admit::Admitted { blank: _ } => return Reply::Admitted,
+        Admit::Busy { ticket, seen } => (ticket, Reply::Busy { seen }),
+        Admit::Full {
+            ticket,
+            prepared: _,
+        } => (ticket, Reply::Full),
+        Admit::Twice {
+            ticket,
+            prepared: _,
+        } => (ticket, Reply::Twice),
+    };
+    desk.gate.give(ticket);
+    reply
+}
+
+// Makes a call with word and book.
+fn make<R: Abort + Wait>(rt: &R, alloc: Global, desk: &mut Desk, call: &Call) -> Result<Reply, Fail>
+    requires { IsCall call.now }
+{
+    match call {
+        Call::Admit {
+            number,
+            name,
+            params,
+            delay,
+            script,
+        } => {
+            let prepared = prepare(alloc, *number, name, *params, *delay, script)?;
+            Ok(admit(rt, desk, prepared))
+        }
+        Call::Regrade {
+            number,
+            params,
+            word: _,
+        } => Ok(
+            desk.domain
+                .regrade(rt, &mut desk.pass, &desk.gate, *number, *params)
+                .unwrap_or(Reply::Full),
+        ),
+        Call::Wake { number } => Ok(
+            desk.domain
+                .wake(&mut desk.pass, *number)
+                .unwrap_or(Reply::Full),
+        ),
+        Call::Leave { number } => Ok(
+            desk.domain
+                .leave(&mut desk.pass, *number)
+                .unwrap_or(Reply::Full),
+        ),
+        Call::Advance { ticks } => {
+            Ok(desk.domain.advance(rt, &mut desk.pass, &desk.gate, *ticks)?)
+        }
+    }
+}
+
+// The replies to the calls of a text, one after another.
+fn replies<R: Abort + Wait>(
+    rt: &R,
+    alloc: Global,
+    desk: &mut Desk,
+    text: &[u8],
+) -> Result<Vec<Reply>, Fail> {
+    let entries = calls_of(rt, alloc, text)?;
+    let mut replies = Vec::new(alloc);
+    for entry in &entries {
+        replies.push(make(rt, alloc, desk, &entry.call)?)?;
+    }
+    Ok(replies)
+}
+
+// Closes book and gate: the sum of bandwidths, the word, and how many calls were entered.
+fn end(alloc: Global, desk: Desk) -> (u64, u64, usize) {
+    let Desk {
+        gate,
+        domain,
+        pass,
+        blanks,
+    } = desk;
+    let mut passes = Vec::new(alloc);
+    let _ = passes.push(pass);
+    let Closed {
+        state,
+        entries,
+        tickets,
+        blanks: _,
+    } = domain.close(passes);
+    let words = gate.close(blanks, tickets);
+    (state.sum(), words.word[0], entries.len())
+}
+
+// A book of one entry: the second admission is Full and its ticket comes back, as the word shows.
+#[test]
+fn full_book(rt: HostRuntime) -> Result<(), Fail> {
+    let mut desk = opened(&rt, rt.alloc(), 1048576, 1)?;
+    let text =
+        b"dlcalls 1\ndomain 1 1048576\nadmit 1 1 a 2 5 5 - 0 1:1{r1}\nadmit 1 2 b 2 5 5 - 0 1:1{r1}\nwake 1 1\n";
+    let got = replies(&rt, rt.alloc(), &mut desk, text);
+    let ends = end(rt.alloc(), desk);
+    assert_eq!(rt;
+        got?.as_slice(),
+        [Reply::Admitted, Reply::Full, Reply::Full].as_slice()
+    );
+    assert_eq!(rt; ends, (419430, 419430, 1));
+    Ok(())
+}
+
+// regrade: 2 8 8 to 4 8 8 fills the domain, 5 8 8 is too much, and there is no task 7.
+#[test]
+fn regrade(rt: HostRuntime) -> Result<(), Fail> {
+    let mut desk = opened(&rt, rt.alloc(), 524288, 9)?;
+    let text =
+        b"dlcalls 1\ndomain 1 524288\nadmit 1 1 a 2 8 8 - 0 1:1{r1}\nregrade 1 1 4 8 8 -\nregrade 1 1 5 8 8 -\nregrade 1 7 2 8 8 -\n";
+    let got = replies(&rt, rt.alloc(), &mut desk, text);
+    let ends = end(rt.alloc(), desk);
+    let busy = Reply::Busy { seen: 524288 };
+    assert_eq!(rt;
+        got?.as_slice(),
+        [Reply::Admitted, Reply::Changed, busy, Reply::NotListed].as_slice()
+    );
+    assert_eq!(rt; ends, (524288, 524288, 4));
+    Ok(())
+}
+
+// A task that has ended leaves the list at its zero-lag time, its bandwidth goes, and its blank is handed out.
+#[test]
+fn blank_is_kept(rt: HostRuntime) -> Result<(), Fail> {
+    let mut desk = opened(&rt, rt.alloc(), 1048576, 9)?;
+    let text =
+        b"dlcalls 1\ndomain 1 1048576\nadmit 1 1 a 2 5 5 - 0 1:1{r4}\nadvance 1 10\nwake 1 1\nadvance 1 1\nleave 1 1\n";
+    let got = replies(&rt, rt.alloc(), &mut desk, text);
+    let kept = (desk.domain.spare().is_some(), desk.domain.spare().is_some());
+    let ends = end(rt.alloc(), desk);
+    assert_eq!(rt;
+        got?.as_slice(),
+        [
+            Reply::Admitted,
+            Reply::Done { ticks: 10 },
+            Reply::NotListed,
+            Reply::Done { ticks: 1 },
+            Reply::NotListed
+        ]
+        .as_slice()
+    );
+    assert_eq!(rt; kept, (true, false));
+    assert_eq!(rt; ends, (0, 0, 5));
+    Ok(())
+}
