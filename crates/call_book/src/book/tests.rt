@@ -4,8 +4,8 @@ ghost use Rattle.call_book.specs.Limits.{IsCall, IsEntry};
 use super::{Admit, Closed, Domain, Pass, Prepared, prepare};
 use crate::reading::read_calls;
 use crate::section::{Entry, Section};
-use bw_gate::{Blank, Gate, Take};
-use domain_run::{Call, Reply};
+use bw_gate::{Blank, Gate, Take, Ticket};
+use domain_run::{Call, NoMemory, Reply};
 use std::alloc::Global;
 use std::process::Abort;
 use std::sync::Wait;
@@ -26,11 +26,13 @@ struct Desk {
     ghost blanks_own: { All (λ b. b.gate ≡ gate) blanks.items },
 }
 
-fn opened(rt: &impl Abort, alloc: Global, limit: u64, history: usize) -> Result<Desk, Fail>
+fn opened(rt: &impl Abort, alloc: Global, limit: u64, history: usize) -> Result<Desk, NoMemory>
     requires limit { (10485 ≤ limit) × (limit ≤ 1048576) }
     requires history { (0 < history) × (history ≤ 65536) }
 {
-    let (gate, blanks) = Gate::open(alloc, &[limit], 8)?;
+    let Ok((gate, blanks)) = Gate::open(alloc, &[limit], 8) else {
+        return Err(NoMemory);
+    };
     let (domain, mut passes) = Domain::open(alloc, &gate, 0, 1, limit, 1, history)?;
     let Some(pass) = passes.pop() else {
         panic!(rt; "no pass")
@@ -73,7 +75,9 @@ fn next_blank(rt: &impl Abort, desk: &mut Desk) -> Blank
 }
 
 // Takes the bandwidth at the word and admits the task.
-fn admit(rt: &impl Abort, desk: &mut Desk, prepared: Prepared) -> Reply {
+fn admit(rt: &impl Abort, desk: &mut Desk, prepared: Prepared) -> Reply
+    ensures { desk.new.gate ≡ desk.old.gate }
+{
     let blank = next_blank(rt, desk);
     let ticket = match desk.gate.try_take(blank, 0, prepared.bw()) {
         Take::Taken(ticket) => ticket,
@@ -103,6 +107,7 @@ fn admit(rt: &impl Abort, desk: &mut Desk, prepared: Prepared) -> Reply {
 // Makes a call with word and book.
 fn make<R: Abort + Wait>(rt: &R, alloc: Global, desk: &mut Desk, call: &Call) -> Result<Reply, Fail>
     requires { IsCall call.now }
+    ensures { desk.new.gate ≡ desk.old.gate }
 {
     match call {
         Call::Admit {
@@ -146,7 +151,9 @@ fn replies<R: Abort + Wait>(
     alloc: Global,
     desk: &mut Desk,
     text: &[u8],
-) -> Result<Vec<Reply>, Fail> {
+) -> Result<Vec<Reply>, Fail>
+    ensures { desk.new.gate ≡ desk.old.gate }
+{
     let entries = calls_of(rt, alloc, text)?;
     let mut replies = Vec::new(alloc);
     for entry in &entries {
@@ -230,5 +237,58 @@ fn blank_is_kept(rt: HostRuntime) -> Result<(), Fail> {
     );
     assert_eq!(rt; kept, (true, false));
     assert_eq!(rt; ends, (0, 0, 5));
+    Ok(())
+}
+
+// The ticket of another client, which takes a quarter of a CPU at the word and not in the book.
+fn rival(rt: &impl Abort, desk: &mut Desk) -> Ticket
+    ensures ticket { result.gate ≡ desk.old.gate }
+    ensures gate { desk.new.gate ≡ desk.old.gate }
+{
+    let blank = next_blank(rt, desk);
+    match desk.gate.try_take(blank, 0, 262144) {
+        Take::Taken(ticket) => ticket,
+        Take::Refused { blank: _, seen } => panic!(rt; "refused at {seen}"),
+        Take::Raced {
+            blank: _,
+            expected: _,
+            seen: _,
+        } => panic!(rt; "raced"),
+    }
+}
+
+// An admission, and then a regrade for which a rival leaves no room at the word.
+fn refused<R: Abort + Wait>(rt: &R, alloc: Global, desk: &mut Desk) -> Result<Vec<Reply>, Fail> {
+    let admission = b"dlcalls 1\ndomain 1 524288\nadmit 1 1 a 2 8 8 - 0 1:1{r1}\n";
+    let regrade = b"dlcalls 1\ndomain 1 524288\nregrade 1 1 4 8 8 -\n";
+    let first = replies(rt, alloc, desk, admission)?;
+    assert_eq!(rt; first.as_slice(), [Reply::Admitted].as_slice());
+    let other = rival(rt, desk);
+    let second = replies(rt, alloc, desk, regrade);
+    desk.gate.give(other);
+    second
+}
+
+// refused_by_the_word: the domain's own test passes and the word's does not, since another client has the rest of it.
+#[test]
+fn refused_by_the_word(rt: HostRuntime) -> Result<(), Fail> {
+    let mut desk = opened(&rt, rt.alloc(), 524288, 9)?;
+    let got = refused(&rt, rt.alloc(), &mut desk);
+    let ends = end(rt.alloc(), desk);
+    let busy = Reply::Busy { seen: 524288 };
+    assert_eq!(rt; got?.as_slice(), [busy].as_slice());
+    assert_eq!(rt; ends, (262144, 262144, 2));
+    Ok(())
+}
+
+// Run with each allocation refused in turn: a book that was refused leaves nothing, and can be opened then.
+#[test]
+fn refused_growth_of_open(rt: HostRuntime) -> Result<(), Fail> {
+    let desk = match opened(&rt, rt.alloc(), 1048576, 9) {
+        Ok(desk) => desk,
+        Err(NoMemory) => opened(&rt, rt.alloc(), 1048576, 9)?,
+    };
+    let ends = end(rt.alloc(), desk);
+    assert_eq!(rt; ends, (0, 0, 0));
     Ok(())
 }
