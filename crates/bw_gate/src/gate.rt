@@ -8,11 +8,10 @@ use crate::view;
 use crate::view::{Exact, View};
 use atomic_table::Table;
 use bw_world::NoMemory;
+pub use mark::Mark;
 use std::alloc::Global;
 use std::marker::Model;
 use std::sync::Wait;
-
-pub use mark::Mark;
 
 /// The bandwidth words of one to eight root domains, from which many clients take at once, without a lock and without
 /// waiting for one another. All bandwidths and words are in 1/2^20 of a CPU.
