@@ -44,8 +44,9 @@ pub record IsTaken (b : BlankView) (d bw : ℕ) (t : TicketView) : Type 0 where
   pub room : seen + bw ≤ cap_of b.gate d
   pub ticket : t ≡ ticket_of b d bw (seen ∷ seen ∷ [])
 
--- refused: the word that the load found has no room for the bandwidth
+-- refused: the word that the load found, which is at most the cap, has no room for the bandwidth
 pub record IsTakeRefused (b : BlankView) (d bw : ℕ) (c : BlankView) (seen : ℕ) : Type 0 where
+  pub within : seen ≤ cap_of b.gate d
   pub over : cap_of b.gate d < seen + bw
   pub blank : c ≡ blank_found b (seen ∷ [])
 

@@ -2,3 +2,5 @@ pub mod Naming
 pub mod Sections
 pub mod Written
 pub mod Replied
+pub mod Checked
+pub mod Asked

@@ -1,4 +1,9 @@
 pub mod Replay
 pub mod Answer
 pub mod Status
+pub mod Options
+pub mod SessionId
+pub mod Asks
+pub mod Clients
+pub mod ScenarioAnswers
 pub mod private

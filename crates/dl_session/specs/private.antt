@@ -1,1 +1,3 @@
 pub mod Replaying
+pub mod Entering
+pub mod Parts

@@ -7,12 +7,26 @@
 //! writer, nothing was written.
 #![tactic(auto)]
 
+mod client;
 mod fault;
+mod named;
 mod named_run;
+mod names;
+mod options;
+mod parts;
+mod pool;
+mod refusal;
 mod replaying;
+mod session;
 
+pub use client::Client;
 pub use fault::{FaultLine, SessionFault};
+pub use names::Names;
+pub use options::{Options, Print};
+pub use parts::Parts;
+pub use refusal::{Answer, Refusal};
 pub use replaying::replay;
+pub use session::Session;
 
 #[cfg(test)]
 mod tests;

@@ -1,6 +1,6 @@
 //! An admission that is ready to be made, for which no memory is needed any more.
 
-ghost use Rattle.std.specs.Prelude.{◌≡◌, ◌≤◌, IfOk, List, length, map, vec_len};
+ghost use Rattle.std.specs.Prelude.{◌≡◌, ◌≤◌, ◌^◌, IfOk, List, length, map, vec_len};
 ghost use Rattle.domain_run.specs.script.ScriptView.{PhaseView};
 ghost use Rattle.call_book.specs.Limits.{IsAdmission};
 ghost use Rattle.call_book.specs.Book.{AdmissionView};
@@ -106,9 +106,10 @@ fn copy_of_script(alloc: Global, script: &Script) -> Result<Script, NoMemory>
 }
 
 impl Prepared {
-    /// The bandwidth of the task, in 1/2^20 of a CPU: that of the ticket with which it is admitted.
+    /// The bandwidth of the task, in 1/2^20 of a CPU, at most the whole: that of the ticket with which it is admitted.
     pub fn bw(&self) -> u64
-        ensures { result ≡ self.now.params.bw }
+        ensures value { result ≡ self.now.params.bw }
+        ensures most { result ≤ 2 ^ 20 }
     {
         self.params.bw
     }

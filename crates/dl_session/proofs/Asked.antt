@@ -1,0 +1,119 @@
+-- What a client is answered, and what its passes have then.
+use Rattle.std.proofs.Common.{◌≡◌, ◌≢◌, ℕ, ◌+◌, ◌*◌, ◌/◌, ◌%◌, ◌^◌, ◌≤◌, ◌<◌, ◌==◌, Bool, true, false, not, cond, eqb, List, [], ◌∷◌, ◌++◌, length, map, set, get_or, Option, Some, None, Result, Ok, Err, All, refl, sym, ap, subst, ◌∙◌, arith}
+use Rattle.std.specs.Prelude.{slice_index_or, position, nat_lt}
+use Rattle.std.specs.List.{position_or_len, cons_option}
+use Rattle.std.proofs.Math.Nat.{mul-div_cancel}
+use Rattle.std.proofs.lemmas.Bool.{and_parts, leb-true, not-false, ne_eqb, eqb-false}
+use Rattle.std.proofs.lemmas.List.{append-nil, get_or-map, get_or-set_same, get_or-set_other, length-map, length-set}
+use Rattle.attr_check.specs.declared.attr.SchedAttr.{SchedAttr}
+use Rattle.attr_check.specs.declared.refusal.AttrRefusal.{AttrRefusal}
+use Rattle.attr_check.specs.ParamsView.{ParamsView}
+use Rattle.attr_check.specs.Accepted.{accepted, unless_refused, first_refusal, params_of}
+use Rattle.domain_run.specs.declared.call.Call.{Call}
+use Rattle.domain_run.specs.declared.call.Reply.{Reply}
+use Rattle.domain_run.specs.declared.call.Reply.TheVariants as replies
+use Rattle.rtapp_scenario.specs.ScenarioView.{TaskSpecView}
+use Rattle.pass_seats.specs.Lists.{PassView}
+use Rattle.bw_gate.specs.Pieces.{BlankView}
+use Rattle.call_book.specs.declared.section.Entry.{Entry}
+use Rattle.dl_session.specs.declared.refusal.Refusal.{Refusal}
+use Rattle.dl_session.specs.declared.refusal.Refusal.TheVariants as refusals
+use Rattle.dl_session.specs.SessionId.{SessionId, IsSession, IsPlace, cap_in}
+use Rattle.dl_session.specs.Asks.{Answer, IsLawful, Goes, IsOver, domain_of, same_cpus, call_of, ClientView, Makes, made_by, made_in, made_of, made_at, Made, entries_from, pass_in}
+use Rattle.dl_session.specs.private.Entering.{IsVerdict, pass_after}
+
+-- ---- attributes
+
+unless_is : (a : SchedAttr) (r : Option AttrRefusal) (p : ParamsView) → unless_refused a r ≡ Ok p → p ≡ params_of a
+unless_is a None p e = cc
+unless_is a (Some r) p e = absurd cc
+
+pub accepted_is : (a : SchedAttr) (p : ParamsView) → accepted a ≡ Ok p → p ≡ params_of a
+accepted_is a p e = unless_is a (first_refusal a) p e
+
+-- ---- places
+
+placed : (b : Bool) (n d k : ℕ) → cond b (Some n) None ≡ Some d → nat_lt n k ≡ b → d < k
+placed true n d k e is = omega (arith, e, is)
+placed false n d k e is = absurd cc
+
+pub is_place : (id : SessionId) (cpus : Option (List ℕ)) (d : ℕ) → IsSession id → domain_of id.cpu_sets cpus ≡ Some d → IsPlace id d
+is_place id None d s e = omega (arith, s.some, e)
+is_place id (Some cpus) d s e = placed (nat_lt (position_or_len (same_cpus cpus) id.cpu_sets) (length id.cpu_sets)) (position_or_len (same_cpus cpus) id.cpu_sets) d (length id.cpu_sets) e refl
+
+-- ---- answers
+
+pub lawful_of : (id : SessionId) (t : TaskSpecView) (d : ℕ) (answer : Answer) → Goes id t d → IsVerdict (cap_in id d) (params_of t.attr).bw answer → IsLawful id t answer
+lawful_of id t d (Ok replies.Admitted) g v = (d, g)
+lawful_of id t d (Ok (replies.Busy seen)) g v = (d, g, record { within = v.0; above = v.1 })
+lawful_of id t d (Ok replies.Changed) g v = v
+lawful_of id t d (Ok replies.Woken) g v = v
+lawful_of id t d (Ok replies.Left) g v = v
+lawful_of id t d (Ok (replies.Done n)) g v = v
+lawful_of id t d (Ok replies.Full) g v = v
+lawful_of id t d (Ok replies.Twice) g v = v
+lawful_of id t d (Ok replies.NotListed) g v = v
+lawful_of id t d (Ok replies.NotWaiting) g v = v
+lawful_of id t d (Err refusals.Full) g v = (d, g)
+lawful_of id t d (Err refusals.Twice) g v = (d, g)
+lawful_of id t d (Err refusals.Enomem) g v = (d, g)
+lawful_of id t d (Err (refusals.Busy seen)) g v = (d, g, record { within = v.0; above = v.1 })
+lawful_of id t d (Err refusals.Eperm) g v = absurd v
+lawful_of id t d (Err (refusals.Einval k)) g v = absurd v
+
+-- ---- what a client makes
+
+-- nothing
+pub makes_nothing : (c c' : ClientView) → c'.number ≡ c.number → c'.passes ≡ c.passes → Makes c c' (λ d. [])
+makes_nothing c c' number passes = record {
+  number = number;
+  domains = ap length passes;
+  passes = λ d inside. ap (λ (ps : List (List Entry)). slice_index_or ps d []) passes ∙ sym (append-nil (pass_in c d));
+}
+
+pub refused_makes : (c c' : ClientView) (d : ℕ) (call : Call) (r : Refusal) → c'.number ≡ c.number → c'.passes ≡ c.passes → Makes c c' (made_by d call (Err r))
+refused_makes c c' d call r number passes = makes_nothing c c' number passes
+
+-- what was made for a list of one task
+pub makes_one : (id : SessionId) (c c' : ClientView) (t : TaskSpecView) (d : ℕ) (answer : Answer) → domain_of id.cpu_sets t.cpus ≡ Some d → Makes c c' (made_by d (call_of t) answer) → Makes c c' (λ e. made_in id e (record { task = t; answer = answer } ∷ []))
+makes_one id c c' t d answer is m =
+    subst (λ (o : Option ℕ). Makes c c' (λ e. cons_option (made_at e o (call_of t) answer) [])) (sym is) m
+
+-- at one place
+entered : (number : ℕ) (p q : PassView Entry) (call : Call) (answer : Answer) → p.client ≡ number → q ≡ pass_after p call answer
+    → q.entries ≡ p.entries ++ entries_from number (length p.entries) (cons_option (made_of call answer) [])
+entered number p q call (Ok reply) client is = ap (λ (r : PassView Entry). r.entries) is ∙ ap (λ (n : ℕ). p.entries ++ record { client = n; seq = length p.entries; call = call; reply = Some reply } ∷ []) client
+entered number p q call (Err refusal) client is = ap (λ (r : PassView Entry). r.entries) is ∙ sym (append-nil p.entries)
+
+entries_at : (ps : List (PassView Entry)) (e : ℕ) (x : PassView Entry) → e < length ps → slice_index_or (map (λ (p : PassView Entry). p.entries) ps) e [] ≡ (get_or ps e x).entries
+entries_at ps e x inside = get_or-map (λ (p : PassView Entry). p.entries) ps e x [] inside
+
+at_place : (b : Bool) (number : ℕ) (ps : List (PassView Entry)) (d e : ℕ) (x q : PassView Entry) (call : Call) (answer : Answer)
+    → eqb d e ≡ b → d < length ps → (get_or ps d x).client ≡ number → q ≡ pass_after (get_or ps d x) call answer
+    → (get_or (set ps d q) e x).entries
+    ≡ (get_or ps e x).entries ++ entries_from number (length (get_or ps e x).entries) (cons_option (cond b (made_of call answer) None) [])
+at_place true number ps d e x q call answer is inside client becomes =
+    let same : d ≡ e = omega (arith, is) in
+    subst
+      (λ (k : ℕ). (get_or (set ps d q) k x).entries ≡ (get_or ps k x).entries ++ entries_from number (length (get_or ps k x).entries) (cons_option (made_of call answer) []))
+      same
+      (ap (λ (r : PassView Entry). r.entries) (get_or-set_same ps d q x inside) ∙ entered number (get_or ps d x) q call answer client becomes)
+at_place false number ps d e x q call answer is inside client becomes =
+    let other : e ≢ d = λ same. absurd (omega (arith, is, same)) in
+    ap (λ (r : PassView Entry). r.entries) (get_or-set_other ps d e q x other) ∙ sym (append-nil (get_or ps e x).entries)
+
+-- a client whose pass of one place has made a call
+pub makes_at : (c c' : ClientView) (ps : List (PassView Entry)) (d : ℕ) (x q : PassView Entry) (call : Call) (answer : Answer)
+    → c.passes ≡ map (λ (p : PassView Entry). p.entries) ps → c'.passes ≡ map (λ (p : PassView Entry). p.entries) (set ps d q) → c'.number ≡ c.number
+    → d < length ps → (get_or ps d x).client ≡ c.number → q ≡ pass_after (get_or ps d x) call answer
+    → Makes c c' (made_by d call answer)
+makes_at c c' ps d x q call answer old new number inside client becomes = record {
+  number = number;
+  domains = ap length new ∙ length-map (set ps d q) _ ∙ length-set ps d q ∙ sym (length-map ps _) ∙ sym (ap length old);
+  passes = λ e there.
+      let here : e < length ps = omega (arith, there, ap length old, length-map ps (λ (p : PassView Entry). p.entries)) in
+      let here' : e < length (set ps d q) = omega (arith, here, length-set ps d q) in
+      let was : pass_in c e ≡ (get_or ps e x).entries = ap (λ (l : List (List Entry)). slice_index_or l e []) old ∙ entries_at ps e x here in
+      let is : pass_in c' e ≡ (get_or (set ps d q) e x).entries = ap (λ (l : List (List Entry)). slice_index_or l e []) new ∙ entries_at (set ps d q) e x here' in
+      is ∙ subst (λ (l : List Entry). (get_or (set ps d q) e x).entries ≡ l ++ entries_from c.number (length l) (cons_option (cond (eqb d e) (made_of call answer) None) [])) (sym was) (at_place (eqb d e) c.number ps d e x q call answer refl inside client becomes);
+}

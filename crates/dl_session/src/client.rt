@@ -1,0 +1,301 @@
+//! A client: its passes, the piece in its hand, and the calls that it makes.
+
+ghost use Rattle.std.specs.Prelude.{◌≡◌, None, IfSome, IfOk, IfErr, IsSome, Ok, Err, [], ◌∷◌};
+ghost use Rattle.attr_check.specs.Accepted.{accepted, params_of};
+ghost use Rattle.domain_run.specs.declared.call.Call.TheVariants as calls;
+ghost use Rattle.call_book.specs.Limits.{IsCall};
+ghost use Rattle.call_book.specs.Book.{IsMember, admission};
+ghost use Rattle.dl_session.specs.SessionId.{IsSession, IsPlace, cap_in};
+ghost use Rattle.dl_session.specs.Asks.{Asks, call_of, Makes, made_by, MakesRegrade, MakesAdvance, IsFullBook, IsFullOrMemory, IsLastFound};
+ghost use Rattle.dl_session.specs.Clients.{IsNew};
+ghost use Rattle.dl_session.specs.private.Parts.{IsHand};
+ghost use Rattle.dl_session.specs.private.Entering.{IsAsk, IsDoneFor, IsVerdict};
+
+use crate::named::{Ask, Named, Outcome};
+use crate::names::Names;
+use crate::parts::Hand;
+use crate::refusal::{Answer, Refusal};
+use crate::session::Session;
+use attr_check::{Params, check};
+use bw_gate::{Blank, Gate, Take};
+use call_book::{NoMemory, Pass, Prepared, prepare};
+use rtapp_scenario::TaskSpec;
+use std::alloc::Global;
+use std::marker::{Model, PhantomData};
+use std::sync::{Mutex, Wait};
+
+/// One of the clients of a session. It may be dropped; its pass and its piece are then missing at the session's end. To a contract
+/// it is its number, from 1, what it has entered in the book of each domain, and the piece in its hand.
+#[derive(Drop)]
+pub struct Client<N: Names> {
+    number: u32,
+    passes: Vec<Pass>,
+    hand: Option<Blank>,
+    of: PhantomData<N>,
+}
+
+impl<N: Names> Model for Client<N> {
+    ghost use Rattle.std.specs.Prelude.{map};
+    ghost use Rattle.dl_session.specs.Asks.{ClientView};
+    ghost use Rattle.dl_session.specs.Clients.{IsNew};
+ghost use Rattle.dl_session.specs.private.Parts.{IsHand};
+ghost use Rattle.dl_session.specs.private.Entering.{IsClientOf};
+
+    ghost Value = { ClientView };
+
+    ghost view = { λ c. record { number = c.number; passes = map (λ p. p.entries) c.passes.items; hand = c.hand } };
+
+    ghost invariant = { λ c. IsClientOf N.id c.number c.passes.items c.hand };
+}
+
+impl<N: Names> Client<N> {
+    /// The client of a number, which has entered nothing.
+    pub(crate) fn new(number: u32, hand: Hand) -> Client<N>
+        requires session { IsSession N.id }
+        requires member { IsMember N.id.clients number }
+        requires hand { IsHand N.id.gate N.id.spines number hand }
+        ensures { IsNew N.id number result }
+    {
+        let Hand { passes, blank } = hand;
+        Client {
+            number,
+            passes,
+            hand: blank,
+            of: PhantomData,
+        }
+    }
+
+    /// Its number in the session, 1 to 64.
+    pub fn number(&self) -> u32
+        ensures { result ≡ self.now.number }
+    {
+        self.number
+    }
+
+    /// Makes a call under a domain's lock.
+    fn enter<const D: usize, R: Wait>(
+        &mut self,
+        rt: &R,
+        lock: &Mutex<Named<N, D>>,
+        gate: &Gate,
+        ask: Ask,
+    ) -> Answer
+        requires session { IsSession N.id }
+        requires gate { gate.now ≡ N.id.gate }
+        requires place { IsPlace N.id D }
+        requires ask { IsAsk N.id D ask }
+        ensures { IsDoneFor N.id D self.old self.new ask result }
+    {
+        let mut named = lock.lock(rt);
+        let Outcome { answer, blank } = named.make(rt, gate, &mut self.passes[D], ask);
+        if let Some(blank) = blank {
+            self.hand = Some(blank);
+        }
+        answer
+    }
+
+    fn enter_book<const D: usize, R: Wait>(
+        &mut self,
+        rt: &R,
+        book: &Option<Mutex<Named<N, D>>>,
+        gate: &Gate,
+        ask: Ask,
+    ) -> Answer
+        requires session { IsSession N.id }
+        requires gate { gate.now ≡ N.id.gate }
+        requires place { IsPlace N.id D }
+        requires some { IsSome book.now }
+        requires ask { IsAsk N.id D ask }
+        ensures { IsDoneFor N.id D self.old self.new ask result }
+    {
+        match book {
+            Some(lock) => self.enter(rt, lock, gate, ask),
+            None => unreachable!(),
+        }
+    }
+
+    /// Makes a call under the lock of the domain of a place.
+    fn enter_at<R: Wait>(
+        &mut self,
+        rt: &R,
+        session: &Session<N>,
+        place: usize,
+        ask: Ask,
+    ) -> Answer
+        requires place { IsPlace N.id place }
+        requires ask { IsAsk N.id place ask }
+        ensures { IsDoneFor N.id place self.old self.new ask result }
+    {
+        let gate = &session.gate;
+        let books = &session.books;
+        match place {
+            0 => self.enter_book(rt, &books.book0, gate, ask),
+            1 => self.enter_book(rt, &books.book1, gate, ask),
+            2 => self.enter_book(rt, &books.book2, gate, ask),
+            3 => self.enter_book(rt, &books.book3, gate, ask),
+            4 => self.enter_book(rt, &books.book4, gate, ask),
+            5 => self.enter_book(rt, &books.book5, gate, ask),
+            6 => self.enter_book(rt, &books.book6, gate, ask),
+            _ => self.enter_book(rt, &books.book7, gate, ask),
+        }
+    }
+
+    /// A piece for an admission to a domain: the one in the client's hand, or else one of the pool, or else one that the domain
+    /// keeps.
+    fn find_blank<R: Wait>(&mut self, rt: &R, session: &Session<N>, place: usize) -> Option<Blank>
+        requires place { IsPlace N.id place }
+        ensures same { self.new ≡ record self.old { hand = None } }
+        ensures own { IfSome result (λ b. b.gate ≡ N.id.gate) }
+    {
+        match self.hand.take() {
+            Some(blank) => Some(blank),
+            None => session.find_blank(rt, place),
+        }
+    }
+
+    /// Asks the gate for the bandwidth of an admission, and then the domain.
+    fn submit<R: Wait>(
+        &mut self,
+        rt: &R,
+        session: &Session<N>,
+        place: usize,
+        blank: Blank,
+        prepared: Prepared,
+    ) -> Answer
+        requires place { IsPlace N.id place }
+        requires own { blank.gate ≡ N.id.gate }
+        ensures made { Makes self.old self.new (made_by place (admission prepared) result) }
+        ensures verdict { IsVerdict (cap_in N.id place) prepared.params.bw result }
+        ensures last { IsLastFound self.new.hand result }
+    {
+        match session
+            .gate
+            .take(rt, blank, place, prepared.bw())
+        {
+            Take::Taken(ticket) => {
+                self.enter_at(rt, session, place, Ask::Admit { prepared, ticket })
+            }
+            Take::Refused { blank, seen } => {
+                self.hand = Some(blank);
+                Err(Refusal::Busy { seen })
+            }
+            Take::Raced { .. } => unreachable!(),
+        }
+    }
+
+    fn admit_at<R: Wait>(
+        &mut self,
+        rt: &R,
+        alloc: Global,
+        session: &Session<N>,
+        task: &TaskSpec,
+        params: Params,
+        place: usize,
+    ) -> Answer
+        requires place { IsPlace N.id place }
+        requires checked { accepted task.now.attr ≡ Ok params }
+        ensures made { Makes self.old self.new (made_by place (call_of task.now) result) }
+        ensures verdict { IsVerdict (cap_in N.id place) (params_of task.now.attr).bw result }
+        ensures last { IsLastFound self.new.hand result }
+    {
+        let Some(blank) = self.find_blank(rt, session, place) else {
+            return Err(Refusal::Full);
+        };
+        match prepare(alloc, task.number, &task.name, params, task.delay, &task.script) {
+            Ok(prepared) => self.submit(rt, session, place, blank, prepared),
+            Err(NoMemory) => {
+                self.hand = Some(blank);
+                Err(Refusal::Enomem)
+            }
+        }
+    }
+
+    /// Admits a task to the domain that has exactly its CPUs, the first where it names none. Tested in this order: its attributes
+    /// (EINVAL); its CPUs (EPERM); a blank in the client's hand, in the pool or in the domain (Full); memory for the admission
+    /// (ENOMEM); the gate's word, without the domain's lock (EBUSY); and then the domain's book, under its lock, as
+    /// [`Domain::admit`](call_book::Domain::admit) tests. After a refusal the client holds no ticket. It waits for the gate, as
+    /// long as other clients come between, and for the locks of pool and domain.
+    pub fn admit<R: Wait>(
+        &mut self,
+        rt: &R,
+        alloc: Global,
+        session: &Session<N>,
+        task: &TaskSpec,
+    ) -> Answer
+        ensures asked { Asks N.id self.old self.new (record { task = task.now; answer = result } ∷ []) }
+        ensures last { IsLastFound self.new.hand result }
+    {
+        let (params, place) = match session.goal_of(task) {
+            Ok(found) => found,
+            Err(refusal) => return Err(refusal),
+        };
+        self.admit_at(rt, alloc, session, task, params, place)
+    }
+
+    /// Gives a listed task of a domain new parameters, as [`Domain::regrade`](call_book::Domain::regrade) does. `Full` where the
+    /// book is full: it changed nothing and stands nowhere. Every other answer stands in the book.
+    pub fn regrade<R: Wait>(
+        &mut self,
+        rt: &R,
+        session: &Session<N>,
+        domain: usize,
+        number: u32,
+        params: Params,
+    ) -> Answer
+        requires domain { IsPlace N.id domain }
+        requires call { IsCall (calls.Regrade number params None) }
+        ensures made { MakesRegrade self.old self.new domain number params result }
+        ensures full { IsFullBook result }
+    {
+        self.enter_at(rt, session, domain, Ask::Regrade { number, params })
+    }
+
+    /// Wakes a task of a domain that waits, as [`Domain::wake`](call_book::Domain::wake) does. `Full` where the book is full.
+    pub fn wake<R: Wait>(
+        &mut self,
+        rt: &R,
+        session: &Session<N>,
+        domain: usize,
+        number: u32,
+    ) -> Answer
+        requires domain { IsPlace N.id domain }
+        requires call { IsCall (calls.Wake number) }
+        ensures made { Makes self.old self.new (made_by domain (calls.Wake number) result) }
+        ensures full { IsFullBook result }
+    {
+        self.enter_at(rt, session, domain, Ask::Wake { number })
+    }
+
+    /// Ends a task of a domain, as [`Domain::leave`](call_book::Domain::leave) does. `Full` where the book is full.
+    pub fn leave<R: Wait>(
+        &mut self,
+        rt: &R,
+        session: &Session<N>,
+        domain: usize,
+        number: u32,
+    ) -> Answer
+        requires domain { IsPlace N.id domain }
+        requires call { IsCall (calls.Leave number) }
+        ensures made { Makes self.old self.new (made_by domain (calls.Leave number) result) }
+        ensures full { IsFullBook result }
+    {
+        self.enter_at(rt, session, domain, Ask::Leave { number })
+    }
+
+    /// Makes up to `ticks` ticks of a domain, 1 to 60000000, as [`Domain::advance`](call_book::Domain::advance) does. `Full` where
+    /// the book is full, `Enomem` where there was no memory for the first tick: nothing has changed.
+    pub fn advance<R: Wait>(
+        &mut self,
+        rt: &R,
+        session: &Session<N>,
+        domain: usize,
+        ticks: u64,
+    ) -> Answer
+        requires domain { IsPlace N.id domain }
+        requires call { IsCall (calls.Advance ticks) }
+        ensures made { MakesAdvance self.old self.new domain ticks result }
+        ensures full { IsFullOrMemory result }
+    {
+        self.enter_at(rt, session, domain, Ask::Advance { ticks })
+    }
+}

@@ -1,0 +1,8 @@
+ghost use Rattle.dl_session.specs.SessionId.{SessionId};
+
+/// The names of one session: a type without data that stands for it, so that the type of a lock tells which gate and which
+/// domain's book it keeps. Who opens a session picks them.
+pub trait Names {
+    /// The session's gate and its domains.
+    ghost id: { SessionId };
+}

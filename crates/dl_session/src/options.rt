@@ -1,0 +1,27 @@
+/// What is written of a run.
+#[derive(Clone, Copy, Debug, PartialEq, Eq)]
+pub enum Print {
+    /// The trace: a sched_switch line for each switch.
+    Trace,
+    /// The calls text of the histories.
+    Calls,
+}
+
+/// With what a scenario is run.
+#[derive(Clone, Debug, Drop)]
+pub struct Options {
+    /// How many CPUs each root domain has, 1 to 64; 1 to 8 domains. The first has the first CPUs of the machine, the second the
+    /// next ones, and so on.
+    pub domains: Vec<u32>,
+    /// What deadline tasks may take of each CPU, 10485 to 1048576 in 1/2^20 (sched-deadline.rst, "Bandwidth management").
+    pub limit: u64,
+    /// How many clients admit tasks, 1 to 64.
+    pub clients: u32,
+    /// How many workers reckon in each domain, 1 to 8.
+    pub workers: usize,
+    /// How many calls the history of each domain has room for, 1 to 65536.
+    pub history: usize,
+    /// Whether every task asks for reclaiming (SCHED_FLAG_RECLAIM).
+    pub reclaim: bool,
+    pub print: Print,
+}

@@ -1,0 +1,246 @@
+//! A session: one gate, and the domains behind their locks.
+
+ghost use Rattle.std.specs.Prelude.{◌≡◌, ◌≤◌, ◌+◌, ◌==◌, nat_lt, is_some, length, map, replicate, take, true, Some, Ok, Err, IfSome, IfOk, IfErr};
+ghost use Rattle.std.specs.List.{list_all, list_any};
+ghost use Rattle.std.specs.Option.{option_map};
+ghost use Rattle.attr_check.specs.Accepted.{accepted};
+ghost use Rattle.dl_session.specs.SessionId.{IsPlace};
+ghost use Rattle.dl_session.specs.Asks.{domain_of, same_cpus, IsLawful};
+ghost use Rattle.dl_session.specs.Clients.{IsHandedOut};
+ghost use Rattle.dl_session.specs.private.Parts.{AreNamed};
+
+use crate::client::Client;
+use crate::names::Names;
+use crate::named::Named;
+use crate::parts::{Hand, Parts};
+use crate::pool::Pool;
+use crate::refusal::Refusal;
+use attr_check::{Params, check};
+use bw_gate::{Blank, Gate};
+use call_book::Domain;
+use rtapp_scenario::TaskSpec;
+use std::marker::Model;
+use std::sync::{Mutex, Wait};
+
+/// The domains of a session, each behind a lock whose type tells its place.
+pub(crate) struct Books<N: Names> {
+    pub(crate) book0: Option<Mutex<Named<N, 0>>>,
+    pub(crate) book1: Option<Mutex<Named<N, 1>>>,
+    pub(crate) book2: Option<Mutex<Named<N, 2>>>,
+    pub(crate) book3: Option<Mutex<Named<N, 3>>>,
+    pub(crate) book4: Option<Mutex<Named<N, 4>>>,
+    pub(crate) book5: Option<Mutex<Named<N, 5>>>,
+    pub(crate) book6: Option<Mutex<Named<N, 6>>>,
+    pub(crate) book7: Option<Mutex<Named<N, 7>>>,
+    ghost has0: { is_some book0 ≡ nat_lt 0 (length N.id.cpu_sets) },
+    ghost has1: { is_some book1 ≡ nat_lt 1 (length N.id.cpu_sets) },
+    ghost has2: { is_some book2 ≡ nat_lt 2 (length N.id.cpu_sets) },
+    ghost has3: { is_some book3 ≡ nat_lt 3 (length N.id.cpu_sets) },
+    ghost has4: { is_some book4 ≡ nat_lt 4 (length N.id.cpu_sets) },
+    ghost has5: { is_some book5 ≡ nat_lt 5 (length N.id.cpu_sets) },
+    ghost has6: { is_some book6 ≡ nat_lt 6 (length N.id.cpu_sets) },
+    ghost has7: { is_some book7 ≡ nat_lt 7 (length N.id.cpu_sets) },
+}
+
+/// One gate with the domains that it admits to, each behind its own lock, a pool of pieces, and the clients that were not handed
+/// out yet. It is neither cloned nor dropped, but closed, since its domains hold tickets. To a contract it is which of its
+/// clients, from 1 on, wait to be handed out.
+pub struct Session<N: Names> {
+    pub(crate) gate: Gate,
+    pub(crate) cpu_sets: Vec<Vec<u32>>,
+    pub(crate) books: Books<N>,
+    pub(crate) pool: Mutex<Pool<N>>,
+    pub(crate) hands: Vec<Option<Hand>>,
+}
+
+impl<N: Names> Model for Session<N> {
+    ghost use Rattle.std.specs.Prelude.{◌≡◌, List, Bool, map, is_some, length};
+    ghost use Rattle.dl_session.specs.SessionId.{IsSession};
+    ghost use Rattle.dl_session.specs.private.Parts.{AreHands};
+
+    ghost Value = { List Bool };
+
+    ghost view = { λ s. map is_some s.hands.items };
+
+    ghost invariant = { λ s. (s.gate ≡ N.id.gate)
+        × (map (λ v. v.items) s.cpu_sets.items ≡ N.id.cpu_sets)
+        × IsSession N.id
+        × (length s.hands.items ≡ N.id.clients)
+        × AreHands N.id.gate N.id.spines s.hands.items };
+}
+
+impl<N: Names> Session<N> {
+    /// The session of these parts, with all its clients waiting. Takes no memory.
+    pub fn open(parts: Parts) -> Session<N>
+        requires { N.id ≡ parts }
+        ensures { result ≡ replicate N.id.clients true }
+    {
+        let Parts {
+            gate,
+            cpu_sets,
+            limit: _,
+            books,
+            hands,
+            pool,
+        } = parts;
+        Session {
+            gate,
+            cpu_sets,
+            books: Books::new(books),
+            pool: Mutex::new(Pool::new(pool)),
+            hands,
+        }
+    }
+
+    /// The gate, from which every client may take at any time, without a lock.
+    pub fn gate(&self) -> &Gate
+        ensures { result.now ≡ N.id.gate }
+    {
+        &self.gate
+    }
+
+    /// How many domains it has, 1 to 8.
+    pub fn domains(&self) -> usize
+        ensures { result ≡ length N.id.cpu_sets }
+    {
+        self.cpu_sets.len()
+    }
+
+    /// The client of a number, from 1, where it was not handed out before.
+    pub fn client(&mut self, number: u32) -> Option<Client<N>>
+        ensures { IsHandedOut N.id self.old self.new number result }
+    {
+        let place = (number as usize).checked_sub(1)?;
+        let hand = self.hands.get_mut(place)?.take()?;
+        Some(Client::new(number, hand))
+    }
+
+    /// The parameters and the domain of a task, or why it is admitted nowhere.
+    pub(crate) fn goal_of(&self, task: &TaskSpec) -> Result<(Params, usize), Refusal>
+        ensures checked { IfOk result (λ r. accepted task.now.attr ≡ Ok r.0) }
+        ensures domain { IfOk result (λ r. domain_of N.id.cpu_sets task.now.cpus ≡ Some r.1) }
+        ensures refused { IfErr result (λ r. IsLawful N.id task.now (Err r)) }
+    {
+        let params = match check(&task.attr) {
+            Ok(params) => params,
+            Err(kind) => return Err(Refusal::Einval(kind)),
+        };
+        match place_of(&self.cpu_sets, &task.cpus) {
+            Some(place) => Ok((params, place)),
+            None => Err(Refusal::Eperm),
+        }
+    }
+
+    /// A piece of the pool, or else one that the domain of a place keeps.
+    pub(crate) fn find_blank<R: Wait>(&self, rt: &R, place: usize) -> Option<Blank>
+        ensures { IfSome result (λ b. b.gate ≡ N.id.gate) }
+    {
+        let pooled = self.pool.lock(rt).take();
+        match pooled {
+            Some(blank) => Some(blank),
+            None => self.books.spare_at(rt, place),
+        }
+    }
+}
+
+/// Puts the last book behind its lock, where it is that of this place.
+fn locked<N: Names, const D: usize>(books: &mut Vec<Domain>) -> Option<Mutex<Named<N, D>>>
+    requires named { AreNamed N.id books.old.items }
+    requires most { length books.old.items ≤ D + 1 }
+    ensures some { is_some result ≡ nat_lt D (length books.old.items) }
+    ensures books { books.new.items ≡ take D books.old.items }
+{
+    if books.len() <= D {
+        return None;
+    }
+    let domain = books.pop()?;
+    Some(Mutex::new(Named::new(domain)))
+}
+
+impl<N: Names> Books<N> {
+    fn new(mut books: Vec<Domain>) -> Books<N>
+        requires named { AreNamed N.id books.items }
+        requires count { length books.items ≡ length N.id.cpu_sets }
+        requires few { length books.items ≤ 8 }
+    {
+        let book7 = locked(&mut books);
+        let book6 = locked(&mut books);
+        let book5 = locked(&mut books);
+        let book4 = locked(&mut books);
+        let book3 = locked(&mut books);
+        let book2 = locked(&mut books);
+        let book1 = locked(&mut books);
+        let book0 = locked(&mut books);
+        books.destroy_empty();
+        Books {
+            book0,
+            book1,
+            book2,
+            book3,
+            book4,
+            book5,
+            book6,
+            book7,
+        }
+    }
+
+    fn spare_at<R: Wait>(&self, rt: &R, place: usize) -> Option<Blank>
+        ensures { IfSome result (λ b. b.gate ≡ N.id.gate) }
+    {
+        match place {
+            0 => spare(rt, &self.book0),
+            1 => spare(rt, &self.book1),
+            2 => spare(rt, &self.book2),
+            3 => spare(rt, &self.book3),
+            4 => spare(rt, &self.book4),
+            5 => spare(rt, &self.book5),
+            6 => spare(rt, &self.book6),
+            _ => spare(rt, &self.book7),
+        }
+    }
+}
+
+/// A blank that a domain keeps.
+fn spare<N: Names, const D: usize, R: Wait>(
+    rt: &R,
+    book: &Option<Mutex<Named<N, D>>>,
+) -> Option<Blank>
+    ensures { IfSome result (λ b. b.gate ≡ N.id.gate) }
+{
+    match book {
+        Some(lock) => lock.lock(rt).spare(),
+        None => None,
+    }
+}
+
+/// The domain that has exactly the CPUs of a task, the first where it names none.
+fn place_of(cpu_sets: &Vec<Vec<u32>>, cpus: &Option<Vec<u32>>) -> Option<usize>
+    ensures { let sets = map (λ v. v.items) cpu_sets.now.items in
+        result ≡ domain_of sets (option_map (λ v. v.items) cpus.now) }
+{
+    match cpus {
+        None => Some(0),
+        Some(cpus) => cpu_sets
+            .iter()
+            .position(|set| are_same(cpus, set)),
+    }
+}
+
+/// The same CPUs, in any order.
+fn are_same(xs: &Vec<u32>, ys: &Vec<u32>) -> bool
+    ensures { result ≡ same_cpus xs.now.items ys.now.items }
+{
+    all_in(xs, ys) && all_in(ys, xs)
+}
+
+fn all_in(xs: &Vec<u32>, ys: &Vec<u32>) -> bool
+    ensures { result ≡ list_all (λ x. list_any (λ y. y == x) ys.now.items) xs.now.items }
+{
+    xs.iter().all(|x| is_in(*x, ys))
+}
+
+fn is_in(x: u32, ys: &Vec<u32>) -> bool
+    ensures { result ≡ list_any (λ y. y == x) ys.now.items }
+{
+    ys.iter().any(|y| *y == x)
+}
