@@ -2,8 +2,8 @@
 use Rattle.std.proofs.Common.{◌≡◌, ◌≢◌, ℕ, ◌+◌, ◌*◌, ◌/◌, ◌%◌, ◌^◌, ◌≤◌, ◌<◌, ◌==◌, Bool, true, false, not, cond, eqb, List, [], ◌∷◌, ◌++◌, length, map, set, get_or, Option, Some, None, Result, Ok, Err, All, refl, sym, ap, subst, ◌∙◌, arith}
 use Rattle.std.specs.Prelude.{slice_index_or, position, nat_lt}
 use Rattle.std.specs.List.{position_or_len, cons_option}
-use Rattle.std.proofs.Math.Nat.{mul-div_cancel}
-use Rattle.std.proofs.lemmas.Bool.{and_parts, leb-true, not-false, ne_eqb, eqb-false}
+use Rattle.std.proofs.lemmas.Bool.{ltb-true, eqb-true, eqb-false}
+use Rattle.std.proofs.lemmas.Option.{same_Some}
 use Rattle.std.proofs.lemmas.List.{append-nil, get_or-map, get_or-set_same, get_or-set_other, length-map, length-set}
 use Rattle.attr_check.specs.declared.attr.SchedAttr.{SchedAttr}
 use Rattle.attr_check.specs.declared.refusal.AttrRefusal.{AttrRefusal}
@@ -20,7 +20,11 @@ use Rattle.dl_session.specs.declared.refusal.Refusal.{Refusal}
 use Rattle.dl_session.specs.declared.refusal.Refusal.TheVariants as refusals
 use Rattle.dl_session.specs.SessionId.{SessionId, IsSession, IsPlace, cap_in}
 use Rattle.dl_session.specs.Asks.{Answer, IsLawful, Goes, IsOver, domain_of, same_cpus, call_of, ClientView, Makes, made_by, made_in, made_of, made_at, Made, entries_from, pass_in}
-use Rattle.dl_session.specs.private.Entering.{IsVerdict, pass_after}
+use Rattle.call_book.specs.Book.{admission}
+use Rattle.domain_run.specs.declared.call.Call.TheVariants as calls
+use Rattle.dl_session.specs.declared.named.Ask.{Ask}
+use Rattle.dl_session.specs.declared.named.Ask.TheVariants as asks
+use Rattle.dl_session.specs.private.Entering.{IsVerdict, pass_after, IsDone, IsDoneFor}
 
 -- ---- attributes
 
@@ -34,11 +38,11 @@ accepted_is a p e = unless_is a (first_refusal a) p e
 -- ---- places
 
 placed : (b : Bool) (n d k : ℕ) → cond b (Some n) None ≡ Some d → nat_lt n k ≡ b → d < k
-placed true n d k e is = omega (arith, e, is)
+placed true n d k e is = let same = same_Some n d e in omega (arith, same, ltb-true n k is)
 placed false n d k e is = absurd cc
 
 pub is_place : (id : SessionId) (cpus : Option (List ℕ)) (d : ℕ) → IsSession id → domain_of id.cpu_sets cpus ≡ Some d → IsPlace id d
-is_place id None d s e = omega (arith, s.some, e)
+is_place id None d s e = let same = same_Some 0 d e in omega (arith, s.some, same)
 is_place id (Some cpus) d s e = placed (nat_lt (position_or_len (same_cpus cpus) id.cpu_sets) (length id.cpu_sets)) (position_or_len (same_cpus cpus) id.cpu_sets) d (length id.cpu_sets) e refl
 
 -- ---- answers
@@ -71,8 +75,14 @@ makes_nothing c c' number passes = record {
   passes = λ d inside. ap (λ (ps : List (List Entry)). slice_index_or ps d []) passes ∙ sym (append-nil (pass_in c d));
 }
 
+neither : (b : Bool) → cond {A = Option Made} b None None ≡ None
+neither true = refl
+neither false = refl
+
 pub refused_makes : (c c' : ClientView) (d : ℕ) (call : Call) (r : Refusal) → c'.number ≡ c.number → c'.passes ≡ c.passes → Makes c c' (made_by d call (Err r))
-refused_makes c c' d call r number passes = makes_nothing c c' number passes
+refused_makes c c' d call r number passes =
+    let m = makes_nothing c c' number passes in
+    record { number = m.number; domains = m.domains; passes = λ e inside. rw (neither (eqb d e)) (m.passes e inside) }
 
 -- what was made for a list of one task
 pub makes_one : (id : SessionId) (c c' : ClientView) (t : TaskSpecView) (d : ℕ) (answer : Answer) → domain_of id.cpu_sets t.cpus ≡ Some d → Makes c c' (made_by d (call_of t) answer) → Makes c c' (λ e. made_in id e (record { task = t; answer = answer } ∷ []))
@@ -93,13 +103,13 @@ at_place : (b : Bool) (number : ℕ) (ps : List (PassView Entry)) (d e : ℕ) (x
     → (get_or (set ps d q) e x).entries
     ≡ (get_or ps e x).entries ++ entries_from number (length (get_or ps e x).entries) (cons_option (cond b (made_of call answer) None) [])
 at_place true number ps d e x q call answer is inside client becomes =
-    let same : d ≡ e = omega (arith, is) in
+    let same : d ≡ e = eqb-true d e is in
     subst
       (λ (k : ℕ). (get_or (set ps d q) k x).entries ≡ (get_or ps k x).entries ++ entries_from number (length (get_or ps k x).entries) (cons_option (made_of call answer) []))
       same
       (ap (λ (r : PassView Entry). r.entries) (get_or-set_same ps d q x inside) ∙ entered number (get_or ps d x) q call answer client becomes)
 at_place false number ps d e x q call answer is inside client becomes =
-    let other : e ≢ d = λ same. absurd (omega (arith, is, same)) in
+    let other : e ≢ d = λ same. eqb-false d e is (sym same) in
     ap (λ (r : PassView Entry). r.entries) (get_or-set_other ps d e q x other) ∙ sym (append-nil (get_or ps e x).entries)
 
 -- a client whose pass of one place has made a call
@@ -117,3 +127,38 @@ makes_at c c' ps d x q call answer old new number inside client becomes = record
       let is : pass_in c' e ≡ (get_or (set ps d q) e x).entries = ap (λ (l : List (List Entry)). slice_index_or l e []) new ∙ entries_at (set ps d q) e x here' in
       is ∙ subst (λ (l : List Entry). (get_or (set ps d q) e x).entries ≡ l ++ entries_from c.number (length l) (cons_option (cond (eqb d e) (made_of call answer) None) [])) (sym was) (at_place (eqb d e) c.number ps d e x q call answer refl inside client becomes);
 }
+
+-- a call that was refused left nothing
+made_nothing : (c c' : ClientView) (d : ℕ) (call : Call) (r : Refusal) → Makes c c' (made_by d call (Err r)) → Makes c c' (λ e. [])
+made_nothing c c' d call r m = record {
+  number = m.number;
+  domains = m.domains;
+  passes = λ e inside. subst (λ (o : Option Made). pass_in c' e ≡ pass_in c e ++ entries_from c.number (length (pass_in c e)) (cons_option o [])) (neither (eqb d e)) (m.passes e inside);
+}
+
+-- whatever a client asked for under the lock of a domain
+pub done_for : (id : SessionId) (d : ℕ) (c e : ClientView) (p q : PassView Entry) (ask : Ask) (answer : Answer)
+    → ((call : Call) (a : Answer) → q ≡ pass_after p call a → Makes c e (made_by d call a))
+    → IsDone id d p q ask answer → IsDoneFor id d c e ask answer
+done_for id d c e p q (asks.Admit prepared ticket) answer m done = (m (admission prepared) answer done.pass, done.verdict)
+done_for id d c e p q (asks.Regrade number params) answer m done =
+    (record { word = done.word; made = m (calls.Regrade number params done.word) answer done.replied.pass }, done.replied.full)
+done_for id d c e p q (asks.Wake number) answer m done = (m (calls.Wake number) answer done.pass, done.full)
+done_for id d c e p q (asks.Leave number) answer m done = (m (calls.Leave number) answer done.pass, done.full)
+done_for id d c e p q (asks.Advance n) (Ok (replies.Done ticks)) m done =
+    (record { some = done.some; most = done.most; made = m (calls.Advance ticks) (Ok (replies.Done ticks)) done.pass }, tt)
+done_for id d c e p q (asks.Advance n) (Ok replies.Admitted) m done = absurd done
+done_for id d c e p q (asks.Advance n) (Ok replies.Changed) m done = absurd done
+done_for id d c e p q (asks.Advance n) (Ok replies.Woken) m done = absurd done
+done_for id d c e p q (asks.Advance n) (Ok replies.Left) m done = absurd done
+done_for id d c e p q (asks.Advance n) (Ok replies.Full) m done = absurd done
+done_for id d c e p q (asks.Advance n) (Ok replies.Twice) m done = absurd done
+done_for id d c e p q (asks.Advance n) (Ok (replies.Busy seen)) m done = absurd done
+done_for id d c e p q (asks.Advance n) (Ok replies.NotListed) m done = absurd done
+done_for id d c e p q (asks.Advance n) (Ok replies.NotWaiting) m done = absurd done
+done_for id d c e p q (asks.Advance n) (Err refusals.Full) m done = (made_nothing c e d (calls.Wake 0) refusals.Full (m (calls.Wake 0) (Err refusals.Full) done), tt)
+done_for id d c e p q (asks.Advance n) (Err refusals.Enomem) m done = (made_nothing c e d (calls.Wake 0) refusals.Full (m (calls.Wake 0) (Err refusals.Full) done), tt)
+done_for id d c e p q (asks.Advance n) (Err refusals.Eperm) m done = absurd done
+done_for id d c e p q (asks.Advance n) (Err refusals.Twice) m done = absurd done
+done_for id d c e p q (asks.Advance n) (Err (refusals.Einval k)) m done = absurd done
+done_for id d c e p q (asks.Advance n) (Err (refusals.Busy seen)) m done = absurd done

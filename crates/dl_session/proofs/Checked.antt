@@ -40,26 +40,26 @@ passed a e =
     let t6 = skipped (passes a Grain) Grain _ t5.1 in
     let t7 = skipped (passes a Long) Long _ t6.1 in
     let top = and_parts _ _ t3.0 in
-    let top' = and_parts _ _ top.1 in
+    let top' = and_parts _ _ top.0 in
     let order = and_parts _ _ t5.0 in
     let grain = and_parts _ _ t6.0 in
-    let grain' = and_parts _ _ grain.1 in
+    let grain' = and_parts _ _ grain.0 in
     record {
-      runtime_below = top.0;
-      deadline_below = top'.0;
-      period_below = top'.1;
+      runtime_below = top'.0;
+      deadline_below = top'.1;
+      period_below = top.1;
       small = t4.0;
       runtime_first = order.0;
       deadline_first = order.1;
-      runtime_whole = grain.0;
-      deadline_whole = grain'.0;
-      period_whole = grain'.1;
+      runtime_whole = grain'.0;
+      deadline_whole = grain'.1;
+      period_whole = grain.1;
       long = t7.0;
     }
 
 -- the attributes with the period written out, and no flag but that of reclaiming
-normal : SchedAttr → SchedAttr
-normal a = record { policy = 6; flags = cond (params_of a).reclaim 2 0; runtime = a.runtime; deadline = a.deadline; period = period_of a }
+normal : Bool → SchedAttr → SchedAttr
+normal reclaim a = record { policy = 6; flags = cond reclaim 2 0; runtime = a.runtime; deadline = a.deadline; period = period_of a }
 
 whole : (n : ℕ) → is_whole n ≡ true → n / 1000 * 1000 ≡ n
 whole n is = let none : n % 1000 ≡ 0 = eqb-true _ _ is in omega (arith, none)
@@ -68,22 +68,17 @@ period_below : (b : Bool) (a : SchedAttr) → nat_lt a.deadline (2 ^ 63) ≡ tru
 period_below true a d p = d
 period_below false a d p = p
 
-flag_small : (b : Bool) → nat_lt (cond b 2 0) 8 ≡ true
-flag_small true = refl
-flag_small false = refl
+some_period : (a : SchedAttr) → Passes a → eqb (period_of a) 0 ≡ false
+some_period a t = ne_eqb _ _ (λ none. omega (arith, none, leb-true _ _ t.small, leb-true _ _ t.runtime_first, leb-true _ _ t.deadline_first))
 
-flag_kept : (b : Bool) → eqb (cond b 2 0 / 2 % 2) 1 ≡ b
-flag_kept true = refl
-flag_kept false = refl
-
-normal_accepted : (a : SchedAttr) → Passes a → accepted (normal a) ≡ Ok (params_of a)
+normal_accepted : (b : Bool) (a : SchedAttr) → Passes a → accepted (normal b a) ≡ Ok (record (params_of a) { reclaim = b })
 unfolding normal
-normal_accepted a t =
-    let some : eqb (period_of a) 0 ≡ false = ne_eqb _ _ (λ none. omega (arith, none, leb-true _ _ t.small, leb-true _ _ t.runtime_first, leb-true _ _ t.deadline_first)) in
-    let below = period_below (eqb a.period 0) a t.deadline_below t.period_below in
-    rw (some, flag_small (params_of a).reclaim, flag_kept (params_of a).reclaim, below, t.runtime_below, t.deadline_below, t.small, t.runtime_first, t.deadline_first, t.runtime_whole, t.deadline_whole, t.period_whole, t.long) refl
+normal_accepted true a t =
+    rw (some_period a t, period_below (eqb a.period 0) a t.deadline_below t.period_below, t.runtime_below, t.deadline_below, t.small, t.runtime_first, t.deadline_first, t.runtime_whole, t.deadline_whole, t.period_whole, t.long) refl
+normal_accepted false a t =
+    rw (some_period a t, period_below (eqb a.period 0) a t.deadline_below t.period_below, t.runtime_below, t.deadline_below, t.small, t.runtime_first, t.deadline_first, t.runtime_whole, t.deadline_whole, t.period_whole, t.long) refl
 
-same_attr : (a : SchedAttr) → Passes a → attr_of (params_of a) ≡ normal a
+same_attr : (a : SchedAttr) → Passes a → attr_of (params_of a) ≡ normal (params_of a).reclaim a
 unfolding normal
 same_attr a t = rw (whole a.runtime t.runtime_whole, whole a.deadline t.deadline_whole, whole (period_of a) t.period_whole) refl
 
@@ -91,4 +86,4 @@ pub accepted_again : (a : SchedAttr) (p : ParamsView) → accepted a ≡ Ok p �
 accepted_again a p e =
     let is = unless_is a (first_refusal a) p e in
     let t = passed a is.0 in
-    subst (λ (q : ParamsView). IsChecked q) (sym is.1) (ap accepted (same_attr a t) ∙ normal_accepted a t)
+    subst (λ (q : ParamsView). IsChecked q) (sym is.1) (ap accepted (same_attr a t) ∙ normal_accepted (params_of a).reclaim a t)
