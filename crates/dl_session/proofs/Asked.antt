@@ -1,10 +1,11 @@
 -- What a client is answered, and what its passes have then.
 use Rattle.std.proofs.Common.{◌≡◌, ◌≢◌, ℕ, ◌+◌, ◌*◌, ◌/◌, ◌%◌, ◌^◌, ◌≤◌, ◌<◌, ◌==◌, Bool, true, false, not, cond, eqb, List, [], ◌∷◌, ◌++◌, length, map, set, get_or, Option, Some, None, Result, Ok, Err, All, refl, sym, ap, subst, ◌∙◌, arith}
 use Rattle.std.specs.Prelude.{slice_index_or, position, nat_lt}
-use Rattle.std.specs.List.{position_or_len, cons_option}
+use Rattle.std.specs.List.{position_or_len, prefix_len, cons_option}
 use Rattle.std.proofs.lemmas.Bool.{ltb-true, eqb-true, eqb-false}
 use Rattle.std.proofs.lemmas.Option.{same_Some}
 use Rattle.std.proofs.lemmas.List.{append-nil, get_or-map, get_or-set_same, get_or-set_other, length-map, length-set}
+use Rattle.std.proofs.lemmas.List.Elements.{All-nil, All-cons}
 use Rattle.attr_check.specs.declared.attr.SchedAttr.{SchedAttr}
 use Rattle.attr_check.specs.declared.refusal.AttrRefusal.{AttrRefusal}
 use Rattle.attr_check.specs.ParamsView.{ParamsView}
@@ -14,12 +15,14 @@ use Rattle.domain_run.specs.declared.call.Reply.{Reply}
 use Rattle.domain_run.specs.declared.call.Reply.TheVariants as replies
 use Rattle.rtapp_scenario.specs.ScenarioView.{TaskSpecView}
 use Rattle.pass_seats.specs.Lists.{PassView}
-use Rattle.bw_gate.specs.Pieces.{BlankView}
+use Rattle.bw_gate.specs.Pieces.{BlankView, last_of}
+use Rattle.bw_gate.specs.Answers.{IsTake, words_of}
+use Rattle.bw_gate.specs.declared.answer.Take.TheVariants as takes
 use Rattle.call_book.specs.declared.section.Entry.{Entry}
 use Rattle.dl_session.specs.declared.refusal.Refusal.{Refusal}
 use Rattle.dl_session.specs.declared.refusal.Refusal.TheVariants as refusals
 use Rattle.dl_session.specs.SessionId.{SessionId, IsSession, IsPlace, cap_in}
-use Rattle.dl_session.specs.Asks.{Answer, IsLawful, Goes, IsOver, domain_of, same_cpus, call_of, ClientView, Makes, made_by, made_in, made_of, made_at, Made, entries_from, pass_in}
+use Rattle.dl_session.specs.Asks.{Answer, IsLawful, Goes, IsOver, domain_of, same_cpus, call_of, ClientView, Asks, Makes, made_by, made_in, made_of, made_at, Made, entries_from, pass_in}
 use Rattle.call_book.specs.Book.{admission}
 use Rattle.domain_run.specs.declared.call.Call.TheVariants as calls
 use Rattle.dl_session.specs.declared.named.Ask.{Ask}
@@ -44,6 +47,17 @@ placed false n d k e is = absurd cc
 pub is_place : (id : SessionId) (cpus : Option (List ℕ)) (d : ℕ) → IsSession id → domain_of id.cpu_sets cpus ≡ Some d → IsPlace id d
 is_place id None d s e = let same = same_Some 0 d e in omega (arith, s.some, same)
 is_place id (Some cpus) d s e = placed (nat_lt (position_or_len (same_cpus cpus) id.cpu_sets) (length id.cpu_sets)) (position_or_len (same_cpus cpus) id.cpu_sets) d (length id.cpu_sets) e refl
+
+mapped_len : {X : Type 0} (f : X → List ℕ) (p : List ℕ → Bool) (xs : List X) → prefix_len p (map f xs) ≡ prefix_len (λ x. p (f x)) xs
+mapped_len f p [] = refl
+mapped_len f p (x ∷ xs) = ap (λ (n : ℕ). cond (p (f x)) (1 + n) 0) (mapped_len f p xs)
+
+-- the first of the sets that passes is the first whose list does
+pub position_of : {X : Type 0} (f : X → List ℕ) (p : List ℕ → Bool) (xs : List X)
+    → cond (nat_lt (position_or_len (λ x. p (f x)) xs) (length xs)) (Some (position_or_len (λ x. p (f x)) xs)) None ≡ position p (map f xs)
+position_of f p xs =
+    ap (λ (n : ℕ). cond (nat_lt n (length xs)) (Some n) None) (sym (mapped_len f (λ y. not (p y)) xs))
+    ∙ ap (λ (n : ℕ). cond (nat_lt (position_or_len p (map f xs)) n) (Some (position_or_len p (map f xs))) None) (sym (length-map xs f))
 
 -- ---- answers
 
@@ -83,6 +97,10 @@ pub refused_makes : (c c' : ClientView) (d : ℕ) (call : Call) (r : Refusal) �
 refused_makes c c' d call r number passes =
     let m = makes_nothing c c' number passes in
     record { number = m.number; domains = m.domains; passes = λ e inside. rw (neither (eqb d e)) (m.passes e inside) }
+
+refused_at : (e : ℕ) (o : Option ℕ) (call : Call) (r : Refusal) → made_at e o call (Err r) ≡ None
+refused_at e None call r = refl
+refused_at e (Some d) call r = neither (eqb d e)
 
 -- what was made for a list of one task
 pub makes_one : (id : SessionId) (c c' : ClientView) (t : TaskSpecView) (d : ℕ) (answer : Answer) → domain_of id.cpu_sets t.cpus ≡ Some d → Makes c c' (made_by d (call_of t) answer) → Makes c c' (λ e. made_in id e (record { task = t; answer = answer } ∷ []))
@@ -162,3 +180,35 @@ done_for id d c e p q (asks.Advance n) (Err refusals.Eperm) m done = absurd done
 done_for id d c e p q (asks.Advance n) (Err refusals.Twice) m done = absurd done
 done_for id d c e p q (asks.Advance n) (Err (refusals.Einval k)) m done = absurd done
 done_for id d c e p q (asks.Advance n) (Err (refusals.Busy seen)) m done = absurd done
+
+-- ---- admissions
+
+-- a task that is admitted nowhere
+pub refused_asks : (id : SessionId) (c : ClientView) (t : TaskSpecView) (r : Refusal) → IsLawful id t (Err r) → Asks id c c (record { task = t; answer = Err r } ∷ [])
+refused_asks id c t r lawful = record {
+  lawful = All-cons (λ q. IsLawful id q.task q.answer) _ [] lawful (All-nil (λ q. IsLawful id q.task q.answer));
+  made = record {
+    number = refl;
+    domains = refl;
+    passes = λ e inside. rw (refused_at e (domain_of id.cpu_sets t.cpus) (call_of t) r) (sym (append-nil (pass_in c e)));
+  };
+}
+
+-- the answer to a task that goes to a domain
+pub asks_one : (id : SessionId) (c c' : ClientView) (t : TaskSpecView) (p : ParamsView) (d : ℕ) (answer : Answer) → accepted t.attr ≡ Ok p → domain_of id.cpu_sets t.cpus ≡ Some d
+    → Makes c c' (made_by d (call_of t) answer) → IsVerdict (cap_in id d) (params_of t.attr).bw answer → Asks id c c' (record { task = t; answer = answer } ∷ [])
+asks_one id c c' t p d answer checked is m verdict =
+    let params : p ≡ params_of t.attr = accepted_is t.attr p checked in
+    record {
+      lawful = All-cons (λ q. IsLawful id q.task q.answer) _ [] (lawful_of id t d answer (record { checked = subst (λ (q : ParamsView). accepted t.attr ≡ Ok q) params checked; domain = is }) verdict) (All-nil (λ q. IsLawful id q.task q.answer));
+      made = makes_one id c c' t d answer is m;
+    }
+
+last_of_more : (found : List ℕ) (n : ℕ) → last_of (found ++ n ∷ []) ≡ n
+last_of_more [] n = refl
+last_of_more (x ∷ []) n = refl
+last_of_more (x ∷ y ∷ found) n = last_of_more (y ∷ found) n
+
+-- a refused try found its number last
+pub last_seen : (b : BlankView) (d bw : ℕ) (back : BlankView) (seen : ℕ) → IsTake b d bw (takes.Refused back seen) → last_of back.found ≡ seen
+last_seen b d bw back seen t = ap (λ (v : BlankView). last_of v.found) t.last.blank ∙ last_of_more (b.found ++ words_of t.races) seen

@@ -1,11 +1,12 @@
 //! A session: one gate, and the domains behind their locks.
 
-ghost use Rattle.std.specs.Prelude.{◌≡◌, ◌≤◌, ◌+◌, ◌==◌, nat_lt, is_some, length, map, replicate, take, true, Some, Ok, Err, IfSome, IfOk, IfErr};
+ghost use Rattle.std.specs.Prelude.{◌≡◌, ◌≤◌, ◌+◌, ◌==◌, nat_lt, is_some, length, map, replicate, take, true, Option, Some, Ok, Err, IfSome, IfOk, IfErr};
 ghost use Rattle.std.specs.List.{list_all, list_any};
 ghost use Rattle.std.specs.Option.{option_map};
 ghost use Rattle.attr_check.specs.Accepted.{accepted};
+ghost use Rattle.bw_gate.specs.Pieces.{BlankView};
 ghost use Rattle.dl_session.specs.SessionId.{IsPlace};
-ghost use Rattle.dl_session.specs.Asks.{domain_of, same_cpus, IsLawful};
+ghost use Rattle.dl_session.specs.Asks.{domain_of, same_cpus, IsLawful, IsLastFound};
 ghost use Rattle.dl_session.specs.Clients.{IsHandedOut};
 ghost use Rattle.dl_session.specs.private.Parts.{AreNamed};
 
@@ -119,7 +120,9 @@ impl<N: Names> Session<N> {
     pub(crate) fn goal_of(&self, task: &TaskSpec) -> Result<(Params, usize), Refusal>
         ensures checked { IfOk result (λ r. accepted task.now.attr ≡ Ok r.0) }
         ensures domain { IfOk result (λ r. domain_of N.id.cpu_sets task.now.cpus ≡ Some r.1) }
+        ensures place { IfOk result (λ r. IsPlace N.id r.1) }
         ensures refused { IfErr result (λ r. IsLawful N.id task.now (Err r)) }
+        ensures unasked { (hand : Option BlankView) → IfErr result (λ r. IsLastFound hand (Err r)) }
     {
         let params = match check(&task.attr) {
             Ok(params) => params,
