@@ -6,4 +6,5 @@ pub mod SessionId
 pub mod Asks
 pub mod Clients
 pub mod ScenarioAnswers
+pub mod Report
 pub mod private

@@ -1,3 +1,4 @@
 pub mod Replaying
 pub mod Entering
 pub mod Parts
+pub mod Closing

@@ -4,9 +4,9 @@ ghost use Rattle.std.specs.Prelude.{◌≡◌, None, IfSome, IfOk, IfErr, IsSome
 ghost use Rattle.attr_check.specs.Accepted.{accepted, params_of};
 ghost use Rattle.domain_run.specs.declared.call.Call.TheVariants as calls;
 ghost use Rattle.call_book.specs.Limits.{IsCall};
-ghost use Rattle.call_book.specs.Book.{IsMember, admission};
-ghost use Rattle.dl_session.specs.SessionId.{IsSession, IsPlace, cap_in};
-ghost use Rattle.dl_session.specs.Asks.{Asks, call_of, Makes, made_by, MakesRegrade, MakesAdvance, IsFullBook, IsFullOrMemory, IsLastFound};
+ghost use Rattle.call_book.specs.Book.{IsMember, admission, own_entries};
+ghost use Rattle.dl_session.specs.SessionId.{IsSession, IsPlace, cap_in, spine_of};
+ghost use Rattle.dl_session.specs.Asks.{Asks, call_of, pass_in, Makes, made_by, MakesRegrade, MakesAdvance, IsFullBook, IsFullOrMemory, IsLastFound};
 ghost use Rattle.dl_session.specs.Clients.{IsNew};
 ghost use Rattle.dl_session.specs.private.Parts.{IsHand};
 ghost use Rattle.dl_session.specs.private.Entering.{IsAsk, IsDoneFor, IsVerdict};
@@ -18,7 +18,7 @@ use crate::refusal::{Answer, Refusal};
 use crate::session::Session;
 use attr_check::{Params, check};
 use bw_gate::{Blank, Gate, Take};
-use call_book::{NoMemory, Pass, Prepared, prepare};
+use call_book::{Domain, NoMemory, Pass, Prepared, prepare};
 use rtapp_scenario::TaskSpec;
 use std::alloc::Global;
 use std::marker::{Model, PhantomData};
@@ -92,6 +92,30 @@ impl<N: Names> Client<N> {
             self.hand = Some(blank);
         }
         answer
+    }
+
+    /// Lets its pass of a place agree with the book of that place, which changes neither.
+    pub(crate) fn agree(&mut self, domain: &mut Domain, place: usize)
+        requires place { IsPlace N.id place }
+        requires spine { domain.old.spine ≡ spine_of N.id place }
+        ensures domain { domain.new ≡ domain.old }
+        ensures same { self.new ≡ self.old }
+        ensures own { pass_in self.new place ≡ own_entries self.new.number domain.new.history }
+    {
+        domain.agree(&mut self.passes[place]);
+    }
+
+    /// The piece in its hand.
+    pub(crate) fn into_hand(self) -> Option<Blank>
+        ensures own { IfSome result (λ b. b.gate ≡ N.id.gate) }
+    {
+        let Client {
+            number: _,
+            passes: _,
+            hand,
+            of: _,
+        } = self;
+        hand
     }
 
     fn enter_book<const D: usize, R: Wait>(

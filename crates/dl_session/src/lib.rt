@@ -8,6 +8,7 @@
 #![tactic(auto)]
 
 mod client;
+mod closing;
 mod fault;
 mod named;
 mod named_run;
@@ -17,6 +18,7 @@ mod parts;
 mod pool;
 mod refusal;
 mod replaying;
+mod report;
 mod session;
 
 pub use client::Client;
@@ -26,6 +28,7 @@ pub use options::{Options, Print};
 pub use parts::Parts;
 pub use refusal::{Answer, Refusal};
 pub use replaying::replay;
+pub use report::Report;
 pub use session::Session;
 
 #[cfg(test)]

@@ -295,6 +295,7 @@ impl Domain {
     pub fn close(self, passes: Vec<Pass>) -> Closed
         requires { All (λ p. p.spine ≡ self.spine) passes.items }
         ensures state { result.state ≡ state_of self }
+        ensures machine { (result.state.cpus ≡ self.cpus) × (result.state.limit ≡ self.limit) }
         ensures entries { result.entries.items ≡ self.history }
         ensures tickets { result.tickets.items ≡ map (λ h. h.ticket) self.tickets }
         ensures blanks { result.blanks.items ≡ self.blanks }

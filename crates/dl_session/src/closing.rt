@@ -1,0 +1,103 @@
+//! The end of a session: the books are unlocked and closed, and every piece goes home to the gate.
+
+ghost use Rattle.std.specs.Prelude.{◌≡◌, ◌≢◌, ◌+◌, ◌*◌, ◌≤◌, ◌<◌, ℕ, [], ◌∷◌, ◌++◌, min, nat_lt, is_some, length, All, IfOk, vec_capacity, slice_index_or};
+ghost use Rattle.call_book.specs.Book.{own_entries};
+ghost use Rattle.bw_gate.specs.Pieces.{sum_of};
+ghost use Rattle.dl_session.specs.SessionId.{IsSession, IsPlace};
+ghost use Rattle.dl_session.specs.Asks.{pass_in};
+ghost use Rattle.dl_session.specs.Report.{IsHistoryOf, IsReport, sum_left};
+ghost use Rattle.dl_session.specs.private.Entering.{IsNamed};
+ghost use Rattle.dl_session.specs.private.Parts.{AreNamed, AreBlanksOf};
+ghost use Rattle.dl_session.specs.private.Closing.{AreTicketsOf};
+
+use crate::client::Client;
+use crate::named::Named;
+use crate::names::Names;
+use bw_gate::{Blank, Gate, Ticket};
+use call_book::{Closed, Domain, NoMemory, Section};
+use std::alloc::Global;
+use std::marker::PhantomData;
+use std::sync::Mutex;
+
+/// The pieces that come home, with room for all tickets.
+pub(crate) struct Home<N: Names> {
+    tickets: Vec<Ticket>,
+    blanks: Vec<Blank>,
+    of: PhantomData<N>,
+    ghost tickets_own: { AreTicketsOf N.id.gate tickets.items },
+    ghost blanks_own: { AreBlanksOf N.id.gate blanks.items },
+}
+
+/// Adds blanks.
+fn pour_blanks<N: Names>(home: &mut Vec<Blank>, mut blanks: Vec<Blank>)
+    requires old { AreBlanksOf N.id.gate home.old.items }
+    requires own { AreBlanksOf N.id.gate blanks.items }
+    ensures { AreBlanksOf N.id.gate home.new.items }
+{
+    while let Some(blank) = blanks.pop() {
+        // There is room for every piece of the gate.
+        let _ = home.push(blank);
+    }
+}
+
+/// Adds tickets, for which there is room.
+fn pour_tickets<N: Names>(home: &mut Vec<Ticket>, mut tickets: Vec<Ticket>)
+    requires old { AreTicketsOf N.id.gate home.old.items }
+    requires own { AreTicketsOf N.id.gate tickets.items }
+    requires room { length home.old.items + length tickets.items ≤ vec_capacity home.old }
+    ensures own { AreTicketsOf N.id.gate home.new.items }
+    ensures count { length home.new.items ≡ length home.old.items + length tickets.items }
+    ensures room { vec_capacity home.new ≡ vec_capacity home.old }
+    ensures sums { (d : ℕ) → sum_of d home.new.items ≡ sum_of d home.old.items + sum_of d tickets.items }
+{
+    while let Some(ticket) = tickets.pop() {
+        home.push_reserved(ticket);
+    }
+    tickets.destroy_empty();
+}
+
+/// Lets every client's pass of a place agree with its book, which changes neither.
+fn agree_all<N: Names>(domain: &mut Domain, clients: &mut Vec<Client<N>>, place: usize)
+    requires named { IsNamed N.id place domain.old }
+    ensures domain { domain.new ≡ domain.old }
+    ensures clients { clients.new.items ≡ clients.old.items }
+    ensures own { All (λ c. pass_in c place ≡ own_entries c.number domain.new.history) clients.new.items }
+{
+    for k in 0..clients.len() {
+        clients[k].agree(domain, place);
+    }
+}
+
+/// Closes a book: its history, and its pieces go home.
+fn close_book<N: Names>(
+    alloc: Global,
+    mut domain: Domain,
+    clients: &mut Vec<Client<N>>,
+    place: usize,
+    home: &mut Home<N>,
+) -> Section
+    requires session { IsSession N.id }
+    requires named { IsNamed N.id place domain }
+    requires room { length home.old.tickets.items + 256 ≤ vec_capacity home.old.tickets }
+    ensures history { IsHistoryOf N.id place clients.new.items result }
+    ensures clients { clients.new.items ≡ clients.old.items }
+    ensures here { sum_of place home.new.tickets.items ≡ sum_of place home.old.tickets.items + sum_left result }
+    ensures elsewhere { (d : ℕ) → d ≢ place → sum_of d home.new.tickets.items ≡ sum_of d home.old.tickets.items }
+    ensures count { length home.new.tickets.items ≤ length home.old.tickets.items + 256 }
+    ensures room { vec_capacity home.new.tickets ≡ vec_capacity home.old.tickets }
+{
+    agree_all(&mut domain, clients, place);
+    let Closed {
+        state,
+        entries,
+        tickets,
+        blanks,
+    } = domain.close(Vec::new(alloc));
+    pour_tickets::<N>(&mut home.tickets, tickets);
+    pour_blanks::<N>(&mut home.blanks, blanks);
+    Section {
+        cpus: state.cpus(),
+        limit: state.limit(),
+        entries,
+    }
+}
