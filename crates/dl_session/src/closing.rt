@@ -8,11 +8,12 @@ ghost use Rattle.dl_session.specs.Asks.{pass_in};
 ghost use Rattle.dl_session.specs.Report.{IsHistoryOf, IsReport, sum_left};
 ghost use Rattle.dl_session.specs.private.Entering.{IsNamed};
 ghost use Rattle.dl_session.specs.private.Parts.{AreNamed, AreBlanksOf};
-ghost use Rattle.dl_session.specs.private.Closing.{AreTicketsOf};
+ghost use Rattle.dl_session.specs.private.Closing.{AreTicketsOf, AreHistories, AreSums};
 
 use crate::client::Client;
 use crate::named::Named;
 use crate::names::Names;
+use crate::session::Books;
 use bw_gate::{Blank, Gate, Ticket};
 use call_book::{Closed, Domain, NoMemory, Section};
 use std::alloc::Global;
@@ -20,7 +21,7 @@ use std::marker::PhantomData;
 use std::sync::Mutex;
 
 /// The pieces that come home, with room for all tickets.
-pub(crate) struct Home<N: Names> {
+struct Home<N: Names> {
     tickets: Vec<Ticket>,
     blanks: Vec<Blank>,
     of: PhantomData<N>,
@@ -100,4 +101,75 @@ fn close_book<N: Names>(
         limit: state.limit(),
         entries,
     }
+}
+
+/// Takes a book out of its lock, where the session has it.
+fn unlock<N: Names, const D: usize>(lock: Option<Mutex<Named<N, D>>>, books: &mut Vec<Domain>)
+    requires some { is_some lock ≡ nat_lt D (length N.id.cpu_sets) }
+    requires before { length books.old.items ≡ min D (length N.id.cpu_sets) }
+    requires named { AreNamed N.id books.old.items }
+    requires room { length N.id.cpu_sets ≤ vec_capacity books.old }
+    ensures count { length books.new.items ≡ min (D + 1) (length N.id.cpu_sets) }
+    ensures named { AreNamed N.id books.new.items }
+    ensures room { vec_capacity books.new ≡ vec_capacity books.old }
+{
+    if let Some(lock) = lock {
+        books.push_reserved(lock.into_inner().into_domain());
+    }
+}
+
+/// Takes all books out of their locks.
+fn unlock_all<N: Names>(locks: Books<N>, books: &mut Vec<Domain>)
+    requires few { length N.id.cpu_sets ≤ 8 }
+    requires empty { books.old.items ≡ [] }
+    requires room { length N.id.cpu_sets ≤ vec_capacity books.old }
+    ensures count { length books.new.items ≡ length N.id.cpu_sets }
+    ensures named { AreNamed N.id books.new.items }
+{
+    let Books {
+        book0,
+        book1,
+        book2,
+        book3,
+        book4,
+        book5,
+        book6,
+        book7,
+    } = locks;
+    unlock(book0, books);
+    unlock(book1, books);
+    unlock(book2, books);
+    unlock(book3, books);
+    unlock(book4, books);
+    unlock(book5, books);
+    unlock(book6, books);
+    unlock(book7, books);
+}
+
+/// Closes the books of all domains, in their order.
+fn close_all<N: Names>(
+    alloc: Global,
+    books: Vec<Domain>,
+    clients: &mut Vec<Client<N>>,
+    home: &mut Home<N>,
+    histories: &mut Vec<Section>,
+)
+    requires session { IsSession N.id }
+    requires named { AreNamed N.id books.items }
+    requires count { length books.items ≡ length N.id.cpu_sets }
+    requires empty { (home.old.tickets.items ≡ []) × (histories.old.items ≡ []) }
+    requires room { length N.id.cpu_sets * 256 ≤ vec_capacity home.old.tickets }
+    requires sections { length N.id.cpu_sets ≤ vec_capacity histories.old }
+    ensures clients { clients.new.items ≡ clients.old.items }
+    ensures count { length histories.new.items ≡ length N.id.cpu_sets }
+    ensures histories { AreHistories N.id clients.old.items histories.new.items }
+    ensures sums { AreSums histories.new.items home.new.tickets.items }
+{
+    let mut rest = books.into_iter();
+    while let Some(domain) = rest.next() {
+        let place = histories.len();
+        let history = close_book(alloc, domain, clients, place, home);
+        histories.push_reserved(history);
+    }
+    rest.destroy_empty();
 }

@@ -1,0 +1,39 @@
+-- Books and tickets at a session's end.
+use Rattle.std.proofs.Common.{◌≡◌, ◌≢◌, ℕ, ◌+◌, ◌≤◌, ◌<◌, Bool, true, false, eqb, cond, List, [], ◌∷◌, ◌++◌, length, get_or, All, refl, sym, subst, ◌∙◌, arith}
+use Rattle.std.proofs.lemmas.Bool.{ne_eqb, eqb-true, eqb-false}
+use Rattle.std.proofs.lemmas.List.{get_or_push, get_or_append_left, length_push}
+use Rattle.std.proofs.lemmas.List.Sums.{sum_by-le}
+use Rattle.bw_gate.specs.Pieces.{GateId, TicketView, share_of, sum_of}
+use Rattle.call_book.specs.Pieces.{IsTicketOf}
+use Rattle.call_book.specs.Book.{BookView}
+use Rattle.dl_session.specs.SessionId.{SessionId}
+use Rattle.dl_session.specs.private.Entering.{IsNamed}
+use Rattle.dl_session.specs.private.Parts.{AreNamed}
+
+-- by the place in a list with one element more
+pub by_place_more : {X : Type 0} (P : ℕ → X → Type 0) (xs : List X) (y : X)
+    → ((d : ℕ) (x : X) → d < length xs → P d (get_or xs d x)) → P (length xs) y
+    → (d : ℕ) (x : X) → d < length (xs ++ y ∷ []) → P d (get_or (xs ++ y ∷ []) d x)
+by_place_more P xs y each last d x inside = by (eqb d (length xs)) refl
+  where
+    by : (b : Bool) → eqb d (length xs) ≡ b → P d (get_or (xs ++ y ∷ []) d x)
+    by true is =
+        let at = eqb-true d (length xs) is in
+        subst (λ e. P e (get_or (xs ++ y ∷ []) e x)) (sym at) (subst (P (length xs)) (sym (get_or_push xs y x (length xs) refl)) last)
+    by false is =
+        let other = eqb-false d (length xs) is in
+        let before : d < length xs = omega (arith, inside, length_push xs y, other) in
+        subst (P d) (sym (get_or_append_left xs (y ∷ []) x d before)) (each d x before)
+
+pub named_more : (id : SessionId) (books : List BookView) (b : BookView) → AreNamed id books → IsNamed id (length books) b → AreNamed id (books ++ b ∷ [])
+named_more id books b named last = by_place_more (IsNamed id) books b named last
+
+-- tickets of one domain have nothing of another
+share_apart : (gate : GateId) (e d : ℕ) (t : TicketView) → IsTicketOf gate e t → d ≢ e → share_of d t ≤ 0
+share_apart gate e d t is other =
+    let no : eqb t.domain d ≡ false = ne_eqb _ _ (λ same. other (sym same ∙ is.inside)) in
+    rw no (omega arith)
+
+pub apart : (gate : GateId) (e d : ℕ) (ts : List TicketView) → All (IsTicketOf gate e) ts → d ≢ e → sum_of d ts ≡ 0
+apart gate e d ts own other =
+    omega (arith, sum_by-le (share_of d) 0 ts (λ k x inside. share_apart gate e d (get_or ts k x) (own k x inside) other))

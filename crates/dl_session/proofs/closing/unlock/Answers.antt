@@ -1,0 +1,13 @@
+use Rattle.std.proofs.Common.{◌≡◌, ℕ, List, length, sym, subst, ◌∙◌, arith}
+use Rattle.call_book.specs.Book.{BookView}
+use Rattle.dl_session.specs.private.Entering.{IsNamed}
+use Rattle.dl_session.specs.private.Parts.{AreNamed}
+use Rattle.dl_session.proofs.Closed.{named_more}
+use Rattle.dl_session.proofs.closing.unlock.Goals as goal
+
+pub returns-in-Some-clause-named : goal.returns-in-Some-clause-named
+returns-in-Some-clause-named g c =
+    let id = g.N.Names.id in
+    let at : g.row.D ≡ length c.args.books.now.items = omega (arith, c.requires.before, c.into_domain.ensures.place) in
+    subst (λ (bs : List BookView). AreNamed id bs) (sym c.push_reserved.ensures.items)
+      (named_more id c.args.books.now.items c.into_domain.result c.requires.named (subst (λ (d : ℕ). IsNamed id d c.into_domain.result) at c.into_domain.ensures))
