@@ -1,5 +1,5 @@
 -- Books and tickets at a session's end.
-use Rattle.std.proofs.Common.{◌≡◌, ◌≢◌, ℕ, ◌+◌, ◌≤◌, ◌<◌, Bool, true, false, eqb, cond, List, [], ◌∷◌, ◌++◌, length, get_or, All, refl, sym, subst, ◌∙◌, arith}
+use Rattle.std.proofs.Common.{◌≡◌, ◌≢◌, ℕ, suc, ◌+◌, ◌≤◌, ◌<◌, Bool, true, false, eqb, cond, List, [], ◌∷◌, ◌++◌, length, get_or, All, refl, sym, ap, subst, ◌∙◌, arith}
 use Rattle.std.proofs.lemmas.Bool.{ne_eqb, eqb-true, eqb-false}
 use Rattle.std.proofs.lemmas.List.{get_or_push, get_or_append_left, length_push}
 use Rattle.std.proofs.lemmas.List.Sums.{sum_by-le}
@@ -37,3 +37,13 @@ share_apart gate e d t is other =
 pub apart : (gate : GateId) (e d : ℕ) (ts : List TicketView) → All (IsTicketOf gate e) ts → d ≢ e → sum_of d ts ≡ 0
 apart gate e d ts own other =
     omega (arith, sum_by-le (share_of d) 0 ts (λ k x inside. share_apart gate e d (get_or ts k x) (own k x inside) other))
+
+-- the books that are left when one more was taken
+pub left_next : (id : SessionId) (n m k l : ℕ) (all rest : List BookView) (b : BookView) → all ≡ b ∷ rest → m ≡ n + 1 → k ≡ l + 1
+    → ((j : ℕ) (x : BookView) → j < k → IsNamed id (n + j) (get_or all j x))
+    → (j : ℕ) (x : BookView) → j < l → IsNamed id (m + j) (get_or rest j x)
+left_next id n m k l all rest b is more one each j x inside =
+    let same : n + suc j ≡ m + j = omega (arith, more) in
+    let at : get_or all (suc j) x ≡ get_or rest j x = ap (λ (bs : List BookView). get_or bs (suc j) x) is in
+    let there : suc j < k = omega (arith, inside, one) in
+    subst (λ (d : ℕ). IsNamed id d (get_or rest j x)) same (subst (IsNamed id (n + suc j)) at (each (suc j) x there))
