@@ -4,3 +4,4 @@ pub mod Written
 pub mod Replied
 pub mod Checked
 pub mod Asked
+pub mod Opening
