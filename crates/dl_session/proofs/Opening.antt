@@ -2,12 +2,12 @@
 use Rattle.std.proofs.Common.{◌≡◌, ◌≢◌, ℕ, zero, suc, ◌+◌, ◌-◌, ◌*◌, ◌≤◌, ◌<◌, Bool, true, false, eqb, List, [], ◌∷◌, ◌++◌, length, map, set, take, drop, replicate, get_or, Option, Some, None, All, refl, sym, ap, subst, ◌∙◌, arith}
 use Rattle.std.specs.Prelude.{IfSome, is_some, slice_get}
 use Rattle.std.specs.List.{range_with_len}
-use Rattle.std.specs.Option.{option_to_list}
+use Rattle.std.specs.Option.{option_map}
 use Rattle.std.proofs.lemmas.Bool.{eqb-true, eqb-false}
-use Rattle.std.proofs.lemmas.List.{append_assoc, append-nil, drop_more, get_or-map, get_or-set_same, get_or-set_other, get_or_append_left, get_or_push, length-append, length-map, length-replicate, length-set, length_push, map_push, take_all, take_more_set, map_more, length-take}
-use Rattle.std.proofs.lemmas.List.Elements.{All-nil, All-cons, All-head, All-tail, All-map, All-same, All-weaker, All-get_or}
+use Rattle.std.proofs.lemmas.List.{append_assoc, drop_more, get_or-map, get_or-set_same, get_or-set_other, get_or_append_left, get_or_push, map-set, length-map, length-replicate, length-set, length_push, map_push, take_more_set, map_more}
+use Rattle.std.proofs.lemmas.List.Elements.{All-nil, All-cons, All-head, All-tail, All-map, All-same, All-weaker}
 use Rattle.std.proofs.lemmas.List.FromFn.{length-range_with_len}
-use Rattle.std.proofs.lemmas.Option.{get_or_from_slice_get}
+use Rattle.std.proofs.lemmas.Option.{get_or_from_slice_get, slice_get-map, slice_get_read}
 use Rattle.std.proofs.Math.Seq.{map-set_same}
 use Rattle.std.proofs.Math.Nat.{mul-le-mul_left, mul-le-mul_right}
 use Rattle.atomic_table.specs.Seated.{TableId}
@@ -15,15 +15,17 @@ use Rattle.attr_check.specs.Ratio.{cap}
 use Rattle.pass_seats.specs.Lists.{PassView}
 use Rattle.bw_gate.specs.Pieces.{GateId}
 use Rattle.bw_gate.specs.Terms.{AreTerms}
-use Rattle.domain_run.specs.Domain.{IsCpus, IsLimit}
+use Rattle.domain_run.specs.Domain.{IsCpus}
 use Rattle.call_book.specs.declared.section.Entry.{Entry}
-use Rattle.call_book.specs.Book.{BookView}
+use Rattle.call_book.specs.Book.{BookView, IsMember}
 use Rattle.dl_session.specs.declared.options.Options.{Options}
 use Rattle.dl_session.specs.declared.parts.Hand.{Hand}
 use Rattle.dl_session.specs.Options.{AreOptions, terms_of}
-use Rattle.dl_session.specs.SessionId.{SessionId, IsSession, cpu_sets_from, cpus_of, spine_of}
-use Rattle.dl_session.specs.private.Entering.{IsNamed}
-use Rattle.dl_session.specs.private.Parts.{new_passes, IsHand, AreHands, HaveRoom, AreNewPasses, IsBookOf, AreBooks, AreNamed, id_of}
+use Rattle.dl_session.specs.SessionId.{SessionId, IsSession, cpu_sets_from, spine_of}
+use Rattle.dl_session.specs.Asks.{ClientView}
+use Rattle.dl_session.specs.Clients.{IsNew, IsNotThere, IsGivenOut}
+use Rattle.dl_session.specs.private.Entering.{IsNamed, IsClientOf}
+use Rattle.dl_session.specs.private.Parts.{new_passes, IsHand, AreHands, HaveRoom, AreNewPasses, AreBooks, AreNamed, id_of}
 
 -- ---- the CPUs
 
@@ -294,4 +296,79 @@ are_named o gate books sets clients is count number are d x inside =
       limit = b.has_limit;
       clients = b.has_clients ∙ sym number;
       place = omega (arith, here, ap length is, length_sets 0 o.domains.items);
+    }
+
+-- ---- the books behind their locks
+
+pub one_more : (books left : List BookView) (b : BookView) → books ≡ left ++ b ∷ [] → length books ≡ length left + 1
+one_more books left b is = ap length is ∙ length_push left b
+
+-- the last of the books of the first domains
+pub last_named : (id : SessionId) (books left : List BookView) (b : BookView) (d : ℕ) → books ≡ left ++ b ∷ [] → length left ≡ d → AreNamed id books → IsNamed id d b
+last_named id books left b d is count named =
+    let inside : length left < length books = omega (arith, one_more books left b is) in
+    subst (λ (n : ℕ). IsNamed id n b) count
+        (subst (IsNamed id (length left)) (ap (λ (bs : List BookView). get_or bs (length left) b) is ∙ get_or_push left b b (length left) refl) (named (length left) b inside))
+
+pub front_named : (id : SessionId) (books left : List BookView) (b : BookView) → books ≡ left ++ b ∷ [] → AreNamed id books → AreNamed id left
+front_named id books left b is named d x inside =
+    let there : d < length books = omega (arith, one_more books left b is, inside) in
+    subst (IsNamed id d) (ap (λ (bs : List BookView). get_or bs d x) is ∙ get_or_append_left left (b ∷ []) x d inside) (named d x there)
+
+-- ---- a client
+
+pub is_client : (id : SessionId) (number : ℕ) (h : Hand) → IsSession id → IsMember id.clients number → IsHand id.gate id.spines number h → IsClientOf id number h.passes.items h.blank
+is_client id number h s member is =
+    let new : TableId → PassView Entry = λ t. record { spine = t; client = number; entries = [] } in
+    let count : length h.passes.items ≡ length id.spines = ap length is.passes ∙ length-map id.spines new in
+    record {
+      member = member;
+      count = count ∙ s.books;
+      each = λ d x inside.
+          let there : d < length id.spines = omega (arith, inside, count) in
+          let at : get_or h.passes.items d x ≡ new (spine_of id d) = ap (λ (ps : List (PassView Entry)). get_or ps d x) is.passes ∙ get_or-map new id.spines d id.gate.table x there in
+          record { spine = ap (λ (p : PassView Entry). p.spine) at; owner = ap (λ (p : PassView Entry). p.client) at };
+      own = is.own;
+    }
+
+no_entries : (spines : List TableId) (number : ℕ) → map (λ (p : PassView Entry). p.entries) (new_passes spines number) ≡ replicate (length spines) []
+no_entries [] number = refl
+no_entries (spine ∷ spines) number = ap (λ (es : List (List Entry)). [] ∷ es) (no_entries spines number)
+
+pub is_new : (id : SessionId) (number : ℕ) (h : Hand) → IsSession id → IsHand id.gate id.spines number h → map (λ (p : PassView Entry). p.entries) h.passes.items ≡ replicate (length id.cpu_sets) []
+is_new id number h s is =
+    ap (map (λ (p : PassView Entry). p.entries)) is.passes ∙ no_entries id.spines number ∙ ap (λ (n : ℕ). replicate n []) s.books
+
+-- ---- the clients that wait
+
+-- whether the client of a place waits
+waits_at : (hands : List (Option Hand)) (k : ℕ) (z : Option Hand) → k < length hands → z ≡ get_or hands k z → slice_get (map is_some hands) k ≡ Some (is_some z)
+waits_at hands k z inside at = slice_get-map is_some hands k ∙ ap (option_map is_some) (slice_get_read hands (length hands) k z refl inside at)
+
+-- the place of a number
+waits_for : (hands : List (Option Hand)) (waiting : List Bool) (k number : ℕ) (z : Option Hand) → k < length hands → z ≡ get_or hands k z → map is_some hands ≡ waiting → k ≡ number - 1
+    → slice_get waiting (number - 1) ≡ Some (is_some z)
+waits_for hands waiting k number z inside at view place =
+    sym (ap (λ (ws : List Bool). slice_get ws (number - 1)) view) ∙ ap (slice_get (map is_some hands)) (sym place) ∙ waits_at hands k z inside at
+
+pub not_there : (hands : List (Option Hand)) (waiting : List Bool) (k number : ℕ) (z y : Option Hand) → k < length hands → z ≡ get_or hands k z → map is_some hands ≡ waiting → k ≡ number - 1
+    → None ≡ z → y ≡ None → IsNotThere waiting (map is_some (set hands k y)) number
+not_there hands waiting k number z y inside at view place none empty =
+    let waits = waits_for hands waiting k number z inside at view place in
+    record {
+      absent = λ _ e.
+          let wrong : Some false ≡ Some true = ap (λ (o : Option Hand). Some (is_some o)) none ∙ sym waits ∙ e in
+          absurd (cc wrong);
+      same = map-set_same is_some hands k y z (ap is_some (empty ∙ none) ∙ ap is_some at) ∙ view;
+    }
+
+pub given_out : (id : SessionId) (hands : List (Option Hand)) (waiting : List Bool) (k number : ℕ) (z y : Option Hand) (h : Hand) (client : ClientView)
+    → k < length hands → z ≡ get_or hands k z → map is_some hands ≡ waiting → k ≡ number - 1
+    → 0 < number → Some h ≡ z → y ≡ None → IsNew id number client → IsGivenOut id waiting (map is_some (set hands k y)) number client
+given_out id hands waiting k number z y h client inside at view place some there empty new =
+    record {
+      some = some;
+      waits = waits_for hands waiting k number z inside at view place ∙ sym (ap (λ (o : Option Hand). Some (is_some o)) there);
+      others = map-set is_some hands k y ∙ ap (λ (ws : List Bool). set ws k (is_some y)) view ∙ ap (λ (n : ℕ). set waiting n (is_some y)) place ∙ ap (λ (o : Option Hand). set waiting (number - 1) (is_some o)) empty;
+      new = new;
     }

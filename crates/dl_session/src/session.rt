@@ -1,6 +1,6 @@
 //! A session: one gate, and the domains behind their locks.
 
-ghost use Rattle.std.specs.Prelude.{◌≡◌, ◌≤◌, ◌+◌, ◌==◌, nat_lt, is_some, length, map, replicate, take, true, Some, Ok, Err, IfSome, IfOk, IfErr};
+ghost use Rattle.std.specs.Prelude.{◌≡◌, ◌≤◌, ◌+◌, ◌==◌, min, nat_lt, is_some, length, map, replicate, true, Some, Ok, Err, IfSome, IfOk, IfErr};
 ghost use Rattle.std.specs.List.{list_all, list_any};
 ghost use Rattle.std.specs.Option.{option_map};
 ghost use Rattle.attr_check.specs.Accepted.{accepted};
@@ -143,12 +143,14 @@ impl<N: Names> Session<N> {
     }
 }
 
-/// Puts the last book behind its lock, where it is that of this place.
+/// Puts the last book behind its lock, where it is that of this place. The books are those of the first domains: at most one more
+/// than the place before, and at most as many after.
 fn locked<N: Names, const D: usize>(books: &mut Vec<Domain>) -> Option<Mutex<Named<N, D>>>
     requires named { AreNamed N.id books.old.items }
-    requires most { length books.old.items ≤ D + 1 }
-    ensures some { is_some result ≡ nat_lt D (length books.old.items) }
-    ensures books { books.new.items ≡ take D books.old.items }
+    requires count { length books.old.items ≡ min (D + 1) (length N.id.cpu_sets) }
+    ensures some { is_some result ≡ nat_lt D (length N.id.cpu_sets) }
+    ensures named { AreNamed N.id books.new.items }
+    ensures count { length books.new.items ≡ min D (length N.id.cpu_sets) }
 {
     if books.len() <= D {
         return None;

@@ -1,4 +1,4 @@
-use Rattle.std.proofs.Common.{◌≡◌, ℕ, true, length, map, replicate, refl, ap, sym, subst, ◌∙◌, arith}
+use Rattle.std.proofs.Common.{◌≡◌, ℕ, true, map, replicate, refl, ap, sym, ◌∙◌}
 use Rattle.dl_session.proofs.Opening.{count_hands, is_session, are_named}
 use Rattle.dl_session.proofs.parts.Parts.open.Goals as goal
 
