@@ -1,6 +1,6 @@
 //! The end of a session: the books are unlocked and closed, and every piece goes home to the gate.
 
-ghost use Rattle.std.specs.Prelude.{◌≡◌, ◌≢◌, ◌+◌, ◌*◌, ◌≤◌, ◌<◌, ℕ, [], ◌∷◌, ◌++◌, min, nat_lt, is_some, length, All, IfOk, vec_capacity, slice_index_or};
+ghost use Rattle.std.specs.Prelude.{◌≡◌, ◌≢◌, ◌+◌, ◌*◌, ◌≤◌, ◌<◌, ℕ, [], ◌∷◌, ◌++◌, min, nat_lt, is_some, length, All, IfOk, vec_capacity, slice_index};
 ghost use Rattle.call_book.specs.Book.{own_entries};
 ghost use Rattle.bw_gate.specs.Pieces.{sum_of};
 ghost use Rattle.dl_session.specs.SessionId.{IsSession, IsPlace};
@@ -8,13 +8,16 @@ ghost use Rattle.dl_session.specs.Asks.{pass_in};
 ghost use Rattle.dl_session.specs.Report.{IsHistoryOf, IsReport, sum_left};
 ghost use Rattle.dl_session.specs.private.Entering.{IsNamed};
 ghost use Rattle.dl_session.specs.private.Parts.{AreNamed, AreBlanksOf};
-ghost use Rattle.dl_session.specs.private.Closing.{AreTicketsOf, AreHistories, AreSums};
+ghost use Rattle.dl_session.specs.private.Closing.{AreTicketsOf, AreHistories, AreSums, IsRoom};
 
 use crate::client::Client;
 use crate::named::Named;
 use crate::names::Names;
+use crate::parts::PIECES;
+use crate::refusal::Refusal;
+use crate::report::Report;
 use crate::session::Books;
-use bw_gate::{Blank, Gate, Ticket};
+use bw_gate::{Blank, Gate, Ticket, Words};
 use call_book::{Closed, Domain, NoMemory, Section};
 use std::alloc::Global;
 use std::marker::PhantomData;
@@ -172,4 +175,109 @@ fn close_all<N: Names>(
         histories.push_reserved(history);
     }
     rest.destroy_empty();
+}
+
+/// The room that a session's end needs.
+pub(crate) struct Room {
+    books: Vec<Domain>,
+    tickets: Vec<Ticket>,
+    histories: Vec<Section>,
+    words: Vec<u64>,
+    refused: Vec<(u32, Refusal)>,
+}
+
+impl Room {
+    /// Room for the end of so many domains.
+    pub(crate) fn open(alloc: Global, domains: usize) -> Result<Room, NoMemory>
+        requires { domains ≤ 8 }
+        ensures { IfOk result (IsRoom domains) }
+    {
+        let histories = Vec::with_capacity(alloc, domains)?;
+        let words = Vec::with_capacity(alloc, domains)?;
+        let Ok(tickets) = Vec::with_capacity(alloc, domains * PIECES) else {
+            return Err(NoMemory);
+        };
+        let Ok(books) = Vec::with_capacity(alloc, domains) else {
+            tickets.destroy_empty();
+            return Err(NoMemory);
+        };
+        Ok(Room {
+            books,
+            tickets,
+            histories,
+            words,
+            refused: Vec::new(alloc),
+        })
+    }
+}
+
+/// Takes the pieces out of the clients' hands.
+fn pour_hands<N: Names>(home: &mut Vec<Blank>, mut clients: Vec<Client<N>>)
+    requires { AreBlanksOf N.id.gate home.old.items }
+    ensures { AreBlanksOf N.id.gate home.new.items }
+{
+    while let Some(client) = clients.pop() {
+        if let Some(blank) = client.into_hand() {
+            // There is room for every piece of the gate.
+            let _ = home.push(blank);
+        }
+    }
+}
+
+/// The words of a closed gate.
+fn put_words(closed: &Words, words: &mut Vec<u64>)
+    requires empty { words.old.items ≡ [] }
+    requires count { closed.now.count ≤ 8 }
+    requires room { closed.now.count ≤ vec_capacity words.old }
+    ensures count { length words.new.items ≡ closed.now.count }
+    ensures words { (d : ℕ) → d < closed.now.count → slice_index words.new.items d ≡ slice_index closed.now.word d }
+{
+    for d in 0..closed.count {
+        words.push_reserved(closed.word[d]);
+    }
+}
+
+/// Closes all books and then the gate.
+pub(crate) fn close_with<N: Names>(
+    alloc: Global,
+    gate: Gate,
+    locks: Books<N>,
+    blanks: Vec<Blank>,
+    mut clients: Vec<Client<N>>,
+    room: Room,
+) -> Report
+    requires session { IsSession N.id }
+    requires gate { gate ≡ N.id.gate }
+    requires blanks { AreBlanksOf N.id.gate blanks.items }
+    requires room { IsRoom (length N.id.cpu_sets) room }
+    ensures { IsReport N.id clients.items result }
+{
+    let Room {
+        mut books,
+        tickets,
+        mut histories,
+        mut words,
+        refused,
+    } = room;
+    unlock_all(locks, &mut books);
+    let mut home = Home {
+        tickets,
+        blanks,
+        of: PhantomData,
+    };
+    close_all(alloc, books, &mut clients, &mut home, &mut histories);
+    let Home {
+        tickets,
+        mut blanks,
+        of: _,
+    } = home;
+    pour_hands(&mut blanks, clients);
+    let home = blanks.len() + tickets.len();
+    put_words(&gate.close(blanks, tickets), &mut words);
+    Report {
+        histories,
+        refused,
+        words,
+        home,
+    }
 }

@@ -16,7 +16,7 @@ use std::alloc::Global;
 use std::marker::Model;
 
 /// The pieces of the gate that stand ready for each domain: one for each task that it may list.
-const PIECES: usize = 256;
+pub(crate) const PIECES: usize = 256;
 
 /// A client's passes, one of each domain's book, and its piece.
 #[derive(Drop)]
@@ -176,7 +176,7 @@ fn shut(alloc: Global, gate: &Gate, mut books: Vec<Domain>)
     books.destroy_empty();
 }
 
-fn give_all(gate: &Gate, mut tickets: Vec<Ticket>)
+pub(crate) fn give_all(gate: &Gate, mut tickets: Vec<Ticket>)
     requires { All (λ t. t.gate ≡ gate.now) tickets.items }
 {
     while let Some(ticket) = tickets.pop() {

@@ -28,4 +28,11 @@ impl<N: Names> Pool<N> {
     {
         self.blanks.pop()
     }
+
+    pub(crate) fn into_blanks(self) -> Vec<Blank>
+        ensures { All (λ b. b.gate ≡ N.id.gate) result.items }
+    {
+        let Pool { blanks, of: _ } = self;
+        blanks
+    }
 }

@@ -1,6 +1,6 @@
 //! A session: one gate, and the domains behind their locks.
 
-ghost use Rattle.std.specs.Prelude.{◌≡◌, ◌≤◌, ◌+◌, ◌==◌, nat_lt, is_some, length, map, replicate, take, true, Option, Some, Ok, Err, IfSome, IfOk, IfErr};
+ghost use Rattle.std.specs.Prelude.{◌≡◌, ◌≤◌, ◌+◌, ◌==◌, min, nat_lt, is_some, length, map, replicate, true, Option, Some, Ok, Err, IfSome, IfOk, IfErr};
 ghost use Rattle.std.specs.List.{list_all, list_any};
 ghost use Rattle.std.specs.Option.{option_map};
 ghost use Rattle.attr_check.specs.Accepted.{accepted};
@@ -8,18 +8,22 @@ ghost use Rattle.bw_gate.specs.Pieces.{BlankView};
 ghost use Rattle.dl_session.specs.SessionId.{IsPlace};
 ghost use Rattle.dl_session.specs.Asks.{domain_of, same_cpus, IsLawful, IsLastFound};
 ghost use Rattle.dl_session.specs.Clients.{IsHandedOut};
+ghost use Rattle.dl_session.specs.Report.{IsReport};
 ghost use Rattle.dl_session.specs.private.Parts.{AreNamed};
 
 use crate::client::Client;
+use crate::closing::{Room, close_with};
 use crate::names::Names;
 use crate::named::Named;
-use crate::parts::{Hand, Parts};
+use crate::parts::{Hand, Parts, give_all};
 use crate::pool::Pool;
 use crate::refusal::Refusal;
+use crate::report::Report;
 use attr_check::{Params, check};
 use bw_gate::{Blank, Gate};
-use call_book::Domain;
+use call_book::{Closed, Domain, NoMemory};
 use rtapp_scenario::TaskSpec;
+use std::alloc::Global;
 use std::marker::Model;
 use std::sync::{Mutex, Wait};
 
@@ -134,6 +138,29 @@ impl<N: Names> Session<N> {
         }
     }
 
+    /// Ends the session: the books are closed and all pieces that the clients and the domains have go home to the gate. Each pass of
+    /// these clients is compared with its book. [`NoMemory`] (ENOMEM 12) where a growth was refused: the session is gone, and its
+    /// tickets were given back.
+    pub fn close(self, alloc: Global, clients: Vec<Client<N>>) -> Result<Report, NoMemory>
+        ensures { IfOk result (IsReport N.id clients.items) }
+    {
+        let Session {
+            gate,
+            cpu_sets,
+            books,
+            pool,
+            hands: _,
+        } = self;
+        let blanks = pool.into_inner().into_blanks();
+        match Room::open(alloc, cpu_sets.len()) {
+            Ok(room) => Ok(close_with(alloc, gate, books, blanks, clients, room)),
+            Err(NoMemory) => {
+                books.shut(alloc, &gate);
+                Err(NoMemory)
+            }
+        }
+    }
+
     /// A piece of the pool, or else one that the domain of a place keeps.
     pub(crate) fn find_blank<R: Wait>(&self, rt: &R, place: usize) -> Option<Blank>
         ensures { IfSome result (λ b. b.gate ≡ N.id.gate) }
@@ -146,12 +173,14 @@ impl<N: Names> Session<N> {
     }
 }
 
-/// Puts the last book behind its lock, where it is that of this place.
+/// Puts the last book behind its lock, where it is that of this place. The books are those of the first domains: at most one more
+/// than the place before, and at most as many after.
 fn locked<N: Names, const D: usize>(books: &mut Vec<Domain>) -> Option<Mutex<Named<N, D>>>
     requires named { AreNamed N.id books.old.items }
-    requires most { length books.old.items ≤ D + 1 }
-    ensures some { is_some result ≡ nat_lt D (length books.old.items) }
-    ensures books { books.new.items ≡ take D books.old.items }
+    requires count { length books.old.items ≡ min (D + 1) (length N.id.cpu_sets) }
+    ensures some { is_some result ≡ nat_lt D (length N.id.cpu_sets) }
+    ensures named { AreNamed N.id books.new.items }
+    ensures count { length books.new.items ≡ min D (length N.id.cpu_sets) }
 {
     if books.len() <= D {
         return None;
@@ -200,6 +229,50 @@ impl<N: Names> Books<N> {
             6 => spare(rt, &self.book6),
             _ => spare(rt, &self.book7),
         }
+    }
+}
+
+/// Ends a book; what tickets it holds go back to the gate.
+fn shut<N: Names, const D: usize>(alloc: Global, gate: &Gate, book: Option<Mutex<Named<N, D>>>)
+    requires { gate.now ≡ N.id.gate }
+{
+    if let Some(lock) = book {
+        let Closed {
+            state: _,
+            entries: _,
+            tickets,
+            blanks: _,
+        } = lock
+            .into_inner()
+            .into_domain()
+            .close(Vec::new(alloc));
+        give_all(gate, tickets);
+    }
+}
+
+impl<N: Names> Books<N> {
+    /// Ends all books; what tickets they hold go back to the gate.
+    fn shut(self, alloc: Global, gate: &Gate)
+        requires { gate.now ≡ N.id.gate }
+    {
+        let Books {
+            book0,
+            book1,
+            book2,
+            book3,
+            book4,
+            book5,
+            book6,
+            book7,
+        } = self;
+        shut(alloc, gate, book0);
+        shut(alloc, gate, book1);
+        shut(alloc, gate, book2);
+        shut(alloc, gate, book3);
+        shut(alloc, gate, book4);
+        shut(alloc, gate, book5);
+        shut(alloc, gate, book6);
+        shut(alloc, gate, book7);
     }
 }
 

@@ -1,7 +1,8 @@
 -- What comes home at a session's end.
-use Rattle.std.specs.Prelude.{◌≡◌, ℕ, ◌<◌, List, length, All, slice_index_or}
+use Rattle.std.specs.Prelude.{◌≡◌, ℕ, ◌*◌, ◌<◌, ◌≤◌, List, [], length, All, vec_capacity, slice_index_or}
 use Rattle.bw_gate.specs.Pieces.{GateId, TicketView, sum_of}
 use Rattle.call_book.specs.SectionView.{SectionView}
+use Rattle.dl_session.specs.declared.closing.Room.{Room}
 use Rattle.dl_session.specs.SessionId.{SessionId}
 use Rattle.dl_session.specs.Asks.{ClientView}
 use Rattle.dl_session.specs.Report.{IsHistoryOf, sum_left}
@@ -18,3 +19,15 @@ AreHistories id clients histories =
 abbrev pub AreSums : List SectionView → List TicketView → Type 0
 AreSums histories tickets =
     (d : ℕ) (x : SectionView) → d < length histories → sum_of d tickets ≡ sum_left (slice_index_or histories d x)
+
+-- nothing yet, with room for the end of so many domains
+pub record IsRoom (domains : ℕ) (r : Room) : Type 0 where
+  pub no_books : r.books.items ≡ []
+  pub no_tickets : r.tickets.items ≡ []
+  pub no_histories : r.histories.items ≡ []
+  pub no_words : r.words.items ≡ []
+  pub nobody : r.refused.items ≡ []
+  pub for_books : domains ≤ vec_capacity r.books
+  pub for_tickets : domains * 256 ≤ vec_capacity r.tickets
+  pub for_histories : domains ≤ vec_capacity r.histories
+  pub for_words : domains ≤ vec_capacity r.words
