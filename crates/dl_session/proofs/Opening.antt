@@ -61,8 +61,8 @@ all_sets : (P : ℕ → Type 0) (base : ℕ) (domains : List ℕ) → All P doma
 all_sets P base [] all = All-nil (λ (cpus : List ℕ). P (length cpus))
 all_sets P base (cpus ∷ domains) all =
     All-cons (λ (cpus : List ℕ). P (length cpus)) (range_with_len base cpus) (cpu_sets_from (base + cpus) domains)
-        (subst P (sym (length-range_with_len base cpus)) (All-head P cpus domains all))
-        (all_sets P (base + cpus) domains (All-tail P cpus domains all))
+    (subst P (sym (length-range_with_len base cpus)) (All-head P cpus domains all))
+    (all_sets P (base + cpus) domains (All-tail P cpus domains all))
 
 -- ---- the gate
 
@@ -86,7 +86,7 @@ are_terms o caps are is =
       few = omega (arith, count, are.few_domains);
       small = All-same (λ (c : ℕ). c ≤ 67108864) caps (map (λ (cpus : ℕ). cap cpus o.limit) o.domains.items) is
           (All-map (λ (c : ℕ). c ≤ 67108864) (λ (cpus : ℕ). cap cpus o.limit) o.domains.items
-              (All-weaker IsCpus (λ (cpus : ℕ). cap cpus o.limit ≤ 67108864) (λ cpus h. cap_most cpus o.limit h.1 are.limit.1) o.domains.items are.cpus));
+          (All-weaker IsCpus (λ (cpus : ℕ). cap cpus o.limit ≤ 67108864) (λ cpus h. cap_most cpus o.limit h.1 are.limit.1) o.domains.items are.cpus));
       a_piece = omega (arith, are.a_client);
       not_many = omega (arith, are.few_domains, are.few_clients);
     }
@@ -217,8 +217,8 @@ dealing_more was hands all passes left p k z y is last at gets d =
       room = λ n wide i x there.
           let there' : i < length hands = omega (arith, there, same) in
           some_set (λ j h. n ≤ h.passes.cap) hands k i y x inside
-              (gets_room z y p n gets (subst (λ (o : Option Hand). IfSome o (λ h. n ≤ h.passes.cap)) (sym at) (d.room n wide k z inside)))
-              (λ other. d.room n wide i x there');
+          (gets_room z y p n gets (subst (λ (o : Option Hand). IfSome o (λ h. n ≤ h.passes.cap)) (sym at) (d.room n wide k z inside)))
+          (λ other. d.room n wide i x there');
       free = λ i x there.
           let other : i ≢ k = λ e. absurd (omega (arith, e, there, last)) in
           subst (λ (o : Option Hand). IfSome o (λ h. length h.passes.items < h.passes.cap)) (sym (get_or-set_other hands k i y x other)) (d.free i x (omega (arith, there, one)));
@@ -230,10 +230,10 @@ dealing_more was hands all passes left p k z y is last at gets d =
           let there' : i < length hands = omega (arith, there, same) in
           let client : length left + 1 ≡ k + 1 = omega (arith, last) in
           let mine : p ≡ record { spine = spine; client = k + 1; entries = [] } =
-                  last_new spine passes left p is (d.passes spine new) ∙ ap (λ (n : ℕ). record { spine = spine; client = n; entries = [] }) client in
+          last_new spine passes left p is (d.passes spine new) ∙ ap (λ (n : ℕ). record { spine = spine; client = n; entries = [] }) client in
           some_set (λ j h. IsHand gate (spines ++ spine ∷ []) (j + 1) h) hands k i y x inside
-              (gets_hand gate spines spine (k + 1) z y p gets mine (subst (λ (o : Option Hand). IfSome o (IsHand gate spines (k + 1))) (sym at) (d.waiting gate spines are k z (omega (arith, one, last)))))
-              (λ other. d.dealt gate spines spine are new i x (omega (arith, one, last, above, other)) there');
+          (gets_hand gate spines spine (k + 1) z y p gets mine (subst (λ (o : Option Hand). IfSome o (IsHand gate spines (k + 1))) (sym at) (d.waiting gate spines are k z (omega (arith, one, last)))))
+          (λ other. d.dealt gate spines spine are new i x (omega (arith, one, last, above, other)) there');
     }
 
 pub count_hands : (hands : List (Option Hand)) (n : ℕ) → map is_some hands ≡ replicate n true → length hands ≡ n
@@ -244,7 +244,7 @@ pub room_for_one : (gate : GateId) (spines : List TableId) (n i : ℕ) (o : Opti
     → IfSome o (λ h. length h.passes.items < h.passes.cap)
 room_for_one gate spines n i o less are room =
     some_both o (IsHand gate spines i) (λ h. n ≤ h.passes.cap) (λ h. length h.passes.items < h.passes.cap)
-        (λ h is wide. let count : length h.passes.items ≡ length spines = ap length is.passes ∙ length-map spines _ in omega (arith, count, less, wide)) are room
+    (λ h is wide. let count : length h.passes.items ≡ length spines = ap length is.passes ∙ length-map spines _ in omega (arith, count, less, wide)) are room
 
 -- ---- books
 
@@ -308,7 +308,7 @@ pub last_named : (id : SessionId) (books left : List BookView) (b : BookView) (d
 last_named id books left b d is count named =
     let inside : length left < length books = omega (arith, one_more books left b is) in
     subst (λ (n : ℕ). IsNamed id n b) count
-        (subst (IsNamed id (length left)) (ap (λ (bs : List BookView). get_or bs (length left) b) is ∙ get_or_push left b b (length left) refl) (named (length left) b inside))
+    (subst (IsNamed id (length left)) (ap (λ (bs : List BookView). get_or bs (length left) b) is ∙ get_or_push left b b (length left) refl) (named (length left) b inside))
 
 pub front_named : (id : SessionId) (books left : List BookView) (b : BookView) → books ≡ left ++ b ∷ [] → AreNamed id books → AreNamed id left
 front_named id books left b is named d x inside =

@@ -16,6 +16,19 @@ pub record SessionId : Type 0 where
   -- its clients are 1 to so many
   pub clients : ℕ
 
+-- no session in particular
+abbrev pub no_session : SessionId
+no_session = record {
+  gate = record {
+    table = record { words = 0; slots = 0; views_name = 0; atom = 0; block = 0; offset = 0; slot_names = [] };
+    terms = record { caps = []; pieces = 0 };
+  };
+  spines = [];
+  cpu_sets = [];
+  limit = 0;
+  clients = 0;
+}
+
 -- the spine of a domain's book
 abbrev pub spine_of : SessionId → ℕ → TableId
 spine_of id d = slice_index_or id.spines d id.gate.table

@@ -171,6 +171,14 @@ impl<N: Names, const D: usize> Named<N, D> {
         }
     }
 
+    /// The domain, which is then the caller's.
+    pub(crate) fn into_domain(self) -> Domain
+        ensures { IsNamed N.id D result }
+    {
+        let Named { domain, of: _ } = self;
+        domain
+    }
+
     /// Makes a call with a client's pass.
     pub(crate) fn make<R: Wait>(
         &mut self,

@@ -86,7 +86,11 @@ fn gate_of(alloc: Global, options: &Options) -> Result<(Gate, Vec<Blank>), NoMem
     for d in 0..count {
         caps[d] = options.domains[d] as u64 * options.limit;
     }
-    match Gate::open(alloc, &caps[..count], count * PIECES + options.clients as usize) {
+    match Gate::open(
+        alloc,
+        &caps[..count],
+        count * PIECES + options.clients as usize,
+    ) {
         Ok(opened) => Ok(opened),
         Err(_) => Err(NoMemory),
     }
@@ -150,7 +154,15 @@ fn books_of(
     let mut books = Vec::with_capacity(alloc, count)?;
     for d in 0..count {
         let cpus = options.domains[d];
-        let Ok((domain, passes)) = Domain::open(alloc, gate, d, cpus, options.limit, options.clients, options.history) else {
+        let Ok((domain, passes)) = Domain::open(
+            alloc,
+            gate,
+            d,
+            cpus,
+            options.limit,
+            options.clients,
+            options.history,
+        ) else {
             shut(alloc, gate, books);
             return Err(NoMemory);
         };
@@ -176,6 +188,7 @@ fn shut(alloc: Global, gate: &Gate, mut books: Vec<Domain>)
     books.destroy_empty();
 }
 
+/// Gives tickets back to the gate.
 pub(crate) fn give_all(gate: &Gate, mut tickets: Vec<Ticket>)
     requires { All (λ t. t.gate ≡ gate.now) tickets.items }
 {

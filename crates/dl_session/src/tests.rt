@@ -7,6 +7,8 @@ use std::io::{ErrorKind, Read};
 use std::test::Fail;
 use switch_text::Counted;
 
+mod opening;
+
 const THROTTLED: &[u8] =
     b"dlcalls 1\ndomain 1 1048576\nadmit 1 1 a 2 5 5 - 0 1:1{r4}\nadvance 1 11\n";
 

@@ -13,7 +13,7 @@ loop-pass-preserved-in-Some-index_mut c =
     let push = c.push_reserved.ensures in
     let gets = subst (λ (o : Option Hand). Gets o (Some now) p) (sym c.in-Some-index_mut.is) (push.items, omega (arith, push.capacity), refl) in
     dealing_more c.args.hands.now.items c.loop-pass.hands.items c.args.passes.items c.loop-pass.passes.items left.items p c.len.result c.index_mut.result.now (Some now)
-        c.in-Some.ensures.items last c.index_mut.ensures.value gets c.loop-pass.invariant
+    c.in-Some.ensures.items last c.index_mut.ensures.value gets c.loop-pass.invariant
 
 pub loop-pass-preserved : goal.loop-pass-preserved
 loop-pass-preserved c =
@@ -23,4 +23,4 @@ loop-pass-preserved c =
     let last : c.len.result ≡ length left.items = c.len.ensures ∙ left.ok.0 in
     let gets = subst (λ (o : Option Hand). Gets o o p) (sym c.in_default-index_mut.is) tt in
     dealing_more c.args.hands.now.items c.loop-pass.hands.items c.args.passes.items c.loop-pass.passes.items left.items p c.len.result none none
-        c.in-Some.ensures.items last c.index_mut.ensures.value gets c.loop-pass.invariant
+    c.in-Some.ensures.items last c.index_mut.ensures.value gets c.loop-pass.invariant

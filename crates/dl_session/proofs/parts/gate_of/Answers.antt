@@ -16,5 +16,5 @@ open-requires c =
     let caps = take n c.loop-d.caps in
     let all : take d domains ≡ domains = take_all d domains (omega (arith, end, count)) in
     let are : caps ≡ map (λ (cpus : ℕ). cap cpus o.limit) domains =
-            ap (λ (k : ℕ). take k c.loop-d.caps) end ∙ c.loop-d.invariant.made ∙ ap (map (λ (cpus : ℕ). cap cpus o.limit)) all in
+    ap (λ (k : ℕ). take k c.loop-d.caps) end ∙ c.loop-d.invariant.made ∙ ap (map (λ (cpus : ℕ). cap cpus o.limit)) all in
     subst (λ (k : ℕ). AreTerms (record { caps = caps; pieces = k * 256 + o.clients })) (sym count) (are_terms o caps c.requires are)

@@ -9,7 +9,7 @@ returns-in_err-hand g c =
     let short : k < hands.len = c.in_ok-get_mut.ensures.variant.0 (refl {a = true}) in
     let inside : k < length hands.items = omega (arith, short, hands.ok.0) in
     let is = not_there hands.items c.args.self.now k c.args.number c.in_ok-get_mut.field-0.now c.take.new.self
-            inside c.in_ok-get_mut.ensures.value c.self.view_is c.in_ok-place.ensures.1 c.in_err-hand.ensures.value c.in_err-hand.ensures.after in
+    inside c.in_ok-get_mut.ensures.value c.self.view_is c.in_ok-place.ensures.1 c.in_err-hand.ensures.value c.in_err-hand.ensures.after in
     rw c.from_residual-in_err-hand.ensures is
 
 pub returns : goal.returns
@@ -19,4 +19,4 @@ returns g c =
     let short : k < hands.len = c.in_ok-get_mut.ensures.variant.0 (refl {a = true}) in
     let inside : k < length hands.items = omega (arith, short, hands.ok.0) in
     given_out g.N.Names.id hands.items c.args.self.now k c.args.number c.in_ok-get_mut.field-0.now c.take.new.self c.in_ok-hand.hand c.new.result
-        inside c.in_ok-get_mut.ensures.value c.self.view_is c.in_ok-place.ensures.1 (omega (arith, c.in_ok-place.ensures.0)) c.in_ok-hand.ensures.value c.in_ok-hand.ensures.after c.new.ensures
+    inside c.in_ok-get_mut.ensures.value c.self.view_is c.in_ok-place.ensures.1 (omega (arith, c.in_ok-place.ensures.0)) c.in_ok-hand.ensures.value c.in_ok-hand.ensures.after c.new.ensures
