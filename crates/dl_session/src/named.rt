@@ -205,14 +205,6 @@ impl<N: Names, const D: usize> Named<N, D> {
         }
     }
 
-    /// The domain.
-    pub(crate) fn into_domain(self) -> Domain
-        ensures { IsNamed N.id D result }
-    {
-        let Named { domain, of: _ } = self;
-        domain
-    }
-
     /// Hands out a blank that the domain keeps, where there is one.
     pub(crate) fn spare(&mut self) -> Option<Blank>
         ensures { IfSome result (λ b. b.gate ≡ N.id.gate) }

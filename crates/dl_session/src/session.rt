@@ -1,6 +1,6 @@
 //! A session: one gate, and the domains behind their locks.
 
-ghost use Rattle.std.specs.Prelude.{◌≡◌, ◌≤◌, ◌+◌, ◌==◌, min, nat_lt, is_some, length, map, replicate, true, Option, Some, Ok, Err, IfSome, IfOk, IfErr};
+ghost use Rattle.std.specs.Prelude.{◌≡◌, ◌≤◌, ◌<◌, ◌+◌, ◌==◌, min, nat_lt, is_some, length, map, replicate, true, Option, Some, Ok, Err, IfSome, IfOk, IfErr};
 ghost use Rattle.std.specs.List.{list_all, list_any};
 ghost use Rattle.std.specs.Option.{option_map};
 ghost use Rattle.attr_check.specs.Accepted.{accepted};
@@ -106,7 +106,8 @@ impl<N: Names> Session<N> {
 
     /// How many domains it has, 1 to 8.
     pub fn domains(&self) -> usize
-        ensures { result ≡ length N.id.cpu_sets }
+        ensures count { result ≡ length N.id.cpu_sets }
+        ensures within { (0 < result) × (result ≤ 8) }
     {
         self.cpu_sets.len()
     }

@@ -7,6 +7,7 @@ use std::io::{ErrorKind, Read};
 use std::test::Fail;
 use switch_text::Counted;
 
+mod clients;
 mod opening;
 
 const THROTTLED: &[u8] =
