@@ -1,5 +1,5 @@
 // The calls of one client of a session, given as the calls of a text.
-ghost use Rattle.std.specs.Prelude.{◌≡◌, ◌<◌, ◌≤◌, length, vec_capacity, IfOk, All};
+ghost use Rattle.std.specs.Prelude.{◌≡◌, ◌+◌, ◌<◌, ◌≤◌, length, vec_capacity, IfOk, All};
 ghost use Rattle.call_book.specs.Limits.{IsCall, IsEntry, IsSection};
 
 use crate::{Answer, Client, Names, Options, Parts, Print, Report, Session};
@@ -163,7 +163,7 @@ fn regrade(rt: HostRuntime) -> Result<(), Fail> {
     let text = b"dlcalls 1\ndomain 1 524288\nadmit 1 1 a 2 8 8 - 0 1:1{r2}\nregrade 1 1 4 8 8 -\nregrade 1 1 5 8 8 -\nregrade 1 7 4 8 8 -\nleave 1 7\n";
     let (said, report) = ran(&rt, rt.alloc(), text, 1024)?;
     assert_eq!(rt; said.as_str(), "Admitted; Changed; Busy { seen: 524288 }; NotListed; NotListed; ");
-    assert_eq!(rt; report.words.as_slice(), &[524288]);
+    assert_eq!(rt; report.words.as_slice(), [524288].as_slice());
     Ok(())
 }
 
@@ -178,7 +178,7 @@ fn admission_race(rt: HostRuntime) -> Result<(), Fail> {
     assert!(rt; said.as_str().starts_with("Admitted; Admitted; Admitted; EBUSY 16 seen 1572864; "));
     assert!(rt; said.as_str().ends_with("EBUSY 16 seen 1572864; EBUSY 16 seen 1572864; "));
     assert_eq!(rt; report.histories[0].entries.len(), 3);
-    assert_eq!(rt; report.words.as_slice(), &[1572864]);
+    assert_eq!(rt; report.words.as_slice(), [1572864].as_slice());
     assert_eq!(rt; report.home, 257);
     Ok(())
 }
@@ -188,7 +188,7 @@ fn full_book(rt: HostRuntime) -> Result<(), Fail> {
     let text = b"dlcalls 1\ndomain 1 1048576\nadmit 1 1 a 2 8 8 - 0 1:1{r2}\nadmit 1 2 b 2 8 8 - 0 1:1{r2}\nleave 1 1\nadvance 1 1\n";
     let (said, report) = ran(&rt, rt.alloc(), text, 1)?;
     assert_eq!(rt; said.as_str(), "Admitted; Full 40; Full 40; Full 40; ");
-    assert_eq!(rt; report.words.as_slice(), &[262144]);
+    assert_eq!(rt; report.words.as_slice(), [262144].as_slice());
     assert_eq!(rt; report.home, 257);
     Ok(())
 }
