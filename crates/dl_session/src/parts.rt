@@ -43,9 +43,12 @@ impl Model for Parts {
 
     ghost Value = { SessionId };
 
-    ghost view = { λ p. id_of p.gate p.books.items (map (λ v. v.items) p.cpu_sets.items) p.limit (vec_len p.hands) };
+    ghost view = { λ p.
+        id_of p.gate p.books.items (map (λ v. v.items) p.cpu_sets.items) p.limit (vec_len p.hands) };
 
-    ghost invariant = { λ p. AreParts (id_of p.gate p.books.items (map (λ v. v.items) p.cpu_sets.items) p.limit (vec_len p.hands)) p.books.items p.hands.items p.pool.items };
+    ghost invariant = { λ p. AreParts
+        (id_of p.gate p.books.items (map (λ v. v.items) p.cpu_sets.items) p.limit (vec_len p.hands))
+        p.books.items p.hands.items p.pool.items };
 }
 
 /// So many CPUs of the machine from this one on.
@@ -105,8 +108,10 @@ fn empty_hands(
 ) -> Result<Vec<Option<Hand>>, NoMemory>
     ensures some { IfOk result (λ v. map is_some v.items ≡ replicate clients true) }
     ensures room { IfOk result (λ v. HaveRoom domains v.items) }
-    ensures hands { (gate : GateId) → AreBlanksOf gate pool.old.items → IfOk result (λ v. AreHands gate [] v.items) }
-    ensures pool { (gate : GateId) → AreBlanksOf gate pool.old.items → AreBlanksOf gate pool.new.items }
+    ensures hands { (gate : GateId) → AreBlanksOf gate pool.old.items
+        → IfOk result (λ v. AreHands gate [] v.items) }
+    ensures pool { (gate : GateId) → AreBlanksOf gate pool.old.items
+        → AreBlanksOf gate pool.new.items }
 {
     let mut hands = Vec::with_capacity(alloc, clients as usize)?;
     for _ in 0..clients {
@@ -123,8 +128,9 @@ fn deal(hands: &mut Vec<Option<Hand>>, mut passes: Vec<Pass>)
     requires room { HaveRoomForOne hands.old.items }
     ensures some { map is_some hands.new.items ≡ map is_some hands.old.items }
     ensures room { (n : ℕ) → HaveRoom n hands.old.items → HaveRoom n hands.new.items }
-    ensures dealt { (gate : GateId) (spines : List TableId) (spine : TableId) → AreHands gate spines hands.old.items
-        → AreNewPasses spine passes.items → AreHands gate (spines ++ spine ∷ []) hands.new.items }
+    ensures dealt { (gate : GateId) (spines : List TableId) (spine : TableId)
+        → AreHands gate spines hands.old.items → AreNewPasses spine passes.items
+        → AreHands gate (spines ++ spine ∷ []) hands.new.items }
 {
     while let Some(pass) = passes.pop() {
         if let Some(hand) = &mut hands[passes.len()] {
@@ -146,8 +152,10 @@ fn books_of(
     requires some { map is_some hands.old.items ≡ replicate options.now.clients true }
     requires room { HaveRoom (length options.now.domains.items) hands.old.items }
     ensures count { IfOk result (λ v. length v.items ≡ length options.now.domains.items) }
-    ensures books { IfOk result (λ v. AreBooks gate.now options.now.domains.items options.now.limit options.now.clients v.items) }
-    ensures hands { IfOk result (λ v. AreHands gate.now (map (λ b. b.spine) v.items) hands.new.items) }
+    ensures books { let o = options.now in
+        IfOk result (λ v. AreBooks gate.now o.domains.items o.limit o.clients v.items) }
+    ensures hands { IfOk result (λ v.
+        AreHands gate.now (map (λ b. b.spine) v.items) hands.new.items) }
     ensures some { OnOk result (map is_some hands.new.items ≡ replicate options.now.clients true) }
 {
     let count = options.domains.len();
