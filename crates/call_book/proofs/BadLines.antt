@@ -1,11 +1,11 @@
 -- A text has one bad line, and what a reader whose answers are right says to each text.
-use Rattle.std.proofs.Common.{◌≡◌, ℕ, ◌+◌, List, [], ◌∷◌, ◌++◌, ◌⊎◌, length, Result, Ok, Err, refl, sym, ap, subst, ◌∙◌, append_assoc, inl, inr}
+use Rattle.std.proofs.Common.{◌≡◌, ℕ, ◌+◌, List, ◌++◌, ◌⊎◌, length, Result, Ok, Err, refl, sym, ap, subst, ◌∙◌, append_assoc, inl, inr}
 use Rattle.std.specs.Prelude.{IfOk, IfErr, IsErrOf, MatchResult}
 use Rattle.std.specs.Global.{Vec}
 use Rattle.call_book.specs.declared.fault.CallsFault.{CallsFault}
 use Rattle.call_book.specs.declared.fault.CallsFault.TheVariants as faults
 use Rattle.call_book.specs.SectionView.{SectionView}
-use Rattle.call_book.specs.Spelling.{lines_of, spelling}
+use Rattle.call_book.specs.Spelling.{spelling}
 use Rattle.call_book.specs.Limits.{AreRead}
 use Rattle.call_book.specs.BadLine.{Begins, IsBadLine, IsReadFault}
 use Rattle.call_book.proofs.Fronts.{AreLines, front_lines, sections_lines, GoesOn, compared}

@@ -5,7 +5,7 @@ use Rattle.std.specs.List.{AllByRecursion, flat_map}
 use Rattle.std.proofs.lemmas.Option.{some_pair_parts}
 use Rattle.call_book.specs.declared.section.Entry.{Entry}
 use Rattle.call_book.specs.SectionView.{SectionView}
-use Rattle.call_book.specs.Spelling.{entry_line, domain_line, section_lines, lines_of, text_of}
+use Rattle.call_book.specs.Spelling.{entry_line, section_lines, lines_of, text_of}
 use Rattle.call_book.specs.private.Reading.{cut_at, IsEntryRead, IsSectionRead}
 use Rattle.call_book.proofs.Cuts.{Lacks, Lacks-written, cut_again}
 use Rattle.call_book.proofs.Lines.{line_lacks, domain_lacks}

@@ -9,7 +9,7 @@ use Rattle.call_book.specs.declared.fault.PartFault.{PartFault}
 use Rattle.call_book.specs.declared.fault.PartFault.TheVariants.{Bad, Memory}
 use Rattle.call_book.specs.SectionView.{SectionView}
 use Rattle.call_book.specs.Spelling.{domain_line, section_lines, text_of}
-use Rattle.call_book.specs.private.Reading.{cut_at, domain_at, Fails, fault_from, entries_text, AreEntries, IsSectionRead, IsFirstSection, LacksEntry, LacksDomain, IsNoSection, sections_text, HasRoom, SectionsSoFar, AreSectionsOf, IsBadSectionLine, IsSectionsFault}
+use Rattle.call_book.specs.private.Reading.{cut_at, domain_at, Fails, fault_from, entries_text, AreEntries, IsSectionRead, IsFirstSection, LacksDomain, IsNoSection, sections_text, HasRoom, SectionsSoFar, AreSectionsOf, IsBadSectionLine, IsSectionsFault}
 use Rattle.call_book.proofs.Cuts.{cut_takes, cut_again}
 use Rattle.call_book.proofs.Lines.{domain_takes, domain_again, domain_lacks}
 use Rattle.call_book.proofs.Sections.{section_from}

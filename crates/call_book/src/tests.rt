@@ -15,7 +15,8 @@ const ALL_KINDS: &str = "dlcalls 1\ndomain 64 1048576\nadmit 1 1 T1 4 8 9 R 0 -1
     regrade 1 1 5 8 9 -\nregrade 64 65535 6 8 9 R\nregrade 64 1 6 8 9 - busy 0\nwake 64 65535\nleave 2 65535\nadvance 1 60000000\n";
 
 /// Two sections, in which each client counts its calls anew.
-const TWO_SECTIONS: &str = "dlcalls 1\ndomain 1 996147\nadvance 1 1\nadvance 2 1\nadvance 1 2\ndomain 2 1048576\nadvance 1 3\n";
+const TWO_SECTIONS: &str =
+    "dlcalls 1\ndomain 1 996147\nadvance 1 1\nadvance 2 1\nadvance 1 2\ndomain 2 1048576\nadvance 1 3\n";
 
 /// The first bad line, or 0 where the text is read.
 fn bad_line(alloc: Global, text: &[u8]) -> Result<u64, CallsFault> {
@@ -85,7 +86,10 @@ fn first_wrong_front(alloc: Global, text: &[u8]) -> Result<Option<usize>, CallsF
 fn fronts_of_a_text(rt: HostRuntime) -> Result<(), Fail> {
     assert_eq!(rt; first_wrong_front(rt.alloc(), THROTTLED.as_bytes())?, None);
     assert_eq!(rt; first_wrong_front(rt.alloc(), ALL_KINDS.as_bytes())?, None);
-    assert_eq!(rt; first_wrong_front(rt.alloc(), TWO_SECTIONS.as_bytes())?, None);
+    assert_eq!(rt;
+        first_wrong_front(rt.alloc(), TWO_SECTIONS.as_bytes())?,
+        None
+    );
     Ok(())
 }
 

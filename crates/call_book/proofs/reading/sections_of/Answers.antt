@@ -1,4 +1,4 @@
-use Rattle.std.proofs.Common.{◌+◌, ◌*◌, ◌∷◌, [], arith, length-append}
+use Rattle.std.proofs.Common.{◌∷◌, [], arith, length-append}
 use Rattle.std.proofs.lemmas.List.{length-map}
 use Rattle.call_book.specs.Spelling.{entry_line}
 use Rattle.call_book.proofs.SectionSteps.{count_more, section_more, some_left}
