@@ -54,8 +54,10 @@ pub(crate) fn write_runs<W: Write>(
     requires few { length placed.now ≤ 8 }
     requires placed { All IsPlaced placed.now }
     requires faults { faults_of writer.old < 2 ^ 63 }
-    ensures ok { OnOk result (IsWritten (side W.contents writer.old writer.new) (trace_of_runs placed.now)) }
-    ensures err { IfErr result (IsUnwritten (side W.contents writer.old writer.new) (trace_of_runs placed.now)) }
+    ensures ok { OnOk result
+        (IsWritten (side W.contents writer.old writer.new) (trace_of_runs placed.now)) }
+    ensures err { IfErr result
+        (IsUnwritten (side W.contents writer.old writer.new) (trace_of_runs placed.now)) }
 {
     let written = all_as_written(alloc, placed)?;
     match write_trace(&written, writer) {
