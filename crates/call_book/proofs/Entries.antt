@@ -1,5 +1,5 @@
 -- Entries one after the other.
-use Rattle.std.proofs.Common.{◌≡◌, ℕ, ◌+◌, ◌-◌, ◌≤◌, ◌<◌, cond, eqb, List, [], ◌∷◌, ◌++◌, length, get_or, map, set, Some, None, refl, sym, ap, ◌∙◌, append_assoc, inl, inr, arith, get_or-set_same, get_or-set_other}
+use Rattle.std.proofs.Common.{◌≡◌, ℕ, ◌+◌, ◌-◌, ◌≤◌, ◌<◌, cond, eqb, List, [], ◌∷◌, ◌++◌, length, get_or, map, set, Option, Some, None, refl, sym, ap, ◌∙◌, append_assoc, inl, inr, arith, get_or-set_same, get_or-set_other}
 use Rattle.std.specs.Prelude.{codes}
 use Rattle.std.specs.List.{AllByRecursion}
 use Rattle.std.proofs.lemmas.Bool.{cases_eq, cases_lt, eq-eqb, ne_eqb}
@@ -8,12 +8,10 @@ use Rattle.std.proofs.lemmas.Option.{some_pair_parts}
 use Rattle.std.proofs.lemmas.List.{append-nil, map-append, get_or_past}
 use Rattle.std.proofs.lemmas.List.Sums.{sum_by_push, count_by-le-length}
 use Rattle.call_book.specs.declared.section.Entry.{Entry}
-use Rattle.call_book.specs.declared.fault.PartFault.{PartFault}
-use Rattle.call_book.specs.declared.fault.PartFault.TheVariants.{Bad, Memory}
 use Rattle.call_book.specs.Spelling.{entry_line, text_of}
 use Rattle.call_book.specs.OwnCalls.{IsNumberedAfter, made_by}
 use Rattle.call_book.specs.Limits.{IsClient}
-use Rattle.call_book.specs.private.Reading.{cut_at, call_at, IsEntryRead, entries_text, SoFar, Counts, IsNext, IsBadEntryLine, IsEntriesFault, Fails, fault_from}
+use Rattle.call_book.specs.private.Reading.{cut_at, call_at, IsEntryRead, entries_text, SoFar, Counts, IsNext, LacksEntry}
 use Rattle.call_book.proofs.Cuts.{cut_takes, cut_again}
 use Rattle.call_book.proofs.Lines.{call_takes, call_again, line_lacks}
 
@@ -82,39 +80,21 @@ counts_few made entries counts len few k =
 line_cut : (e : Entry) (after : List ℕ) → IsEntryRead e → cut_at 10 (entry_line e ++ 10 ∷ after) ≡ Some (entry_line e, after)
 line_cut e after is = cut_again 10 (entry_line e) after (line_lacks e.client e.call is.within.client is.within.call)
 
-pub stops_unfinished : (text rest : List ℕ) (entries : List Entry) (n : ℕ) → SoFar text rest entries → length entries < 65536 → n ≡ length entries + 3 → 0 < length rest → cut_at 10 rest ≡ None → IsBadEntryLine text n
-stops_unfinished text rest entries n so_far few place more cut = record {
-  entries = entries;
-  rest = rest;
-  so_far = so_far;
-  few = omega arith;
-  place = place;
-  more = more;
-  stops = λ h e after is same. absurd (let again = ap (cut_at 10) same ∙ line_cut e after is in cc);
-}
+not_both : {X : Type 0} (x : X) (o : Option X) → o ≡ None → o ≡ Some x → ⊥
+not_both x None none some = cc
+not_both x (Some y) none some = cc
 
-pub stops_bad : (text rest line after : List ℕ) (entries : List Entry) (n : ℕ) → SoFar text rest entries → length entries < 65536 → n ≡ length entries + 3 → 0 < length rest → cut_at 10 rest ≡ Some (line, after) → call_at line ≡ None → IsBadEntryLine text n
-stops_bad text rest line after entries n so_far few place more cut bad = record {
-  entries = entries;
-  rest = rest;
-  so_far = so_far;
-  few = omega arith;
-  place = place;
-  more = more;
-  stops = λ h e rest_of is same.
-      let again : Some (line, after) ≡ Some (entry_line e, rest_of) = sym cut ∙ ap (cut_at 10) same ∙ line_cut e rest_of is in
-      let line_is : line ≡ entry_line e = (some_pair_parts line (entry_line e) after rest_of again).0 in
-      absurd (let read = ap call_at line_is ∙ call_again e.client e.call is.within.client is.within.call in cc);
-}
+-- an unfinished line is no entry's
+pub lacks_unfinished : (rest : List ℕ) → cut_at 10 rest ≡ None → LacksEntry rest
+lacks_unfinished rest cut = λ e after is same. not_both (entry_line e, after) (cut_at 10 rest) cut (ap (cut_at 10) same ∙ line_cut e after is)
 
-pub stops_full : (text rest : List ℕ) (entries : List Entry) (n : ℕ) → SoFar text rest entries → length entries ≡ 65536 → n ≡ length entries + 3 → 0 < length rest → IsBadEntryLine text n
-stops_full text rest entries n so_far full place more = record { entries = entries; rest = rest; so_far = so_far; few = omega arith; place = place; more = more; stops = λ few e after is same. omega arith }
+-- nor is a line that is read as no call
+pub lacks_bad : (rest line after : List ℕ) → cut_at 10 rest ≡ Some (line, after) → call_at line ≡ None → LacksEntry rest
+lacks_bad rest line after cut bad = λ e rest_of is same.
+    let again : Some (line, after) ≡ Some (entry_line e, rest_of) = sym cut ∙ ap (cut_at 10) same ∙ line_cut e rest_of is in
+    let line_is : line ≡ entry_line e = (some_pair_parts line (entry_line e) after rest_of again).0 in
+    not_both (e.client, e.call) (call_at line) bad (ap call_at line_is ∙ call_again e.client e.call is.within.client is.within.call)
 
 -- before the first entry
 pub starts : (text : List ℕ) → SoFar text text []
 starts text = record { parts = refl; each = tt; numbered = tt }
-
-pub stops_fault : (text rest line after : List ℕ) (entries : List Entry) (n : ℕ) (fault : PartFault) → SoFar text rest entries → length entries < 65536 → n ≡ length entries + 3 → 0 < length rest
-    → cut_at 10 rest ≡ Some (line, after) → Fails fault (call_at line) → IsEntriesFault text (fault_from n fault)
-stops_fault text rest line after entries n Bad so_far few place more cut bad = stops_bad text rest line after entries n so_far few place more cut bad
-stops_fault text rest line after entries n Memory so_far few place more cut bad = tt

@@ -8,7 +8,9 @@ pub mod Scripts
 pub mod Attributes
 pub mod Lines
 pub mod Entries
+pub mod Fronts
 pub mod Sections
+pub mod SectionSteps
 pub mod Written
 pub mod BadLines
 pub mod Histories

@@ -14,7 +14,7 @@ use Rattle.domain_run.specs.declared.call.Call.{Call}
 use Rattle.domain_run.specs.declared.call.Call.TheVariants.{Admit, Regrade, Wake, Leave, Advance}
 use Rattle.call_book.specs.declared.times.Times.{Times}
 use Rattle.call_book.specs.Spelling.{line_of, call_fields, flag_text, script_text}
-use Rattle.call_book.specs.Limits.{IsClient, IsNumber, IsChecked, IsAdmission, IsCall}
+use Rattle.call_book.specs.Limits.{IsClient, IsNumber, IsAdmission, IsCall}
 use Rattle.call_book.specs.private.Reading.{◌>>=◌, cut_at, number_within_at, field_at, times_at, flag_at, params_at, name_at, script_at, plan_at, admit_at, seen_at, answer, answer_at, regrade_at, numbered_at, worded_at, call_at, domain_at}
 use Rattle.call_book.proofs.Cuts.{Lacks, Lacks-append, Lacks-written, cut_takes, cut_none, cut_again}
 use Rattle.call_book.proofs.Numbers.{bind_some, within_takes, within_again, decimal_lacks}

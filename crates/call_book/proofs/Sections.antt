@@ -1,250 +1,175 @@
--- The one section of a text, and the first bad line of a text that is no section's.
-use Rattle.std.proofs.Common.{◌≡◌, ℕ, ◌≤◌, ◌<◌, Bool, true, false, not, List, [], ◌∷◌, ◌++◌, length, map, All, Option, Some, None, refl, sym, ap, subst, ◌∙◌, append_assoc, arith}
-use Rattle.std.specs.Prelude.{codes}
-use Rattle.std.specs.List.{AllByRecursion}
+-- The sections of a text, line by line, and the first bad line of a text that is no sections'.
+use Rattle.std.proofs.Common.{◌≡◌, ℕ, ◌≤◌, ◌<◌, Bool, true, false, not, List, [], ◌∷◌, ◌++◌, ◌⊎◌, length, map, All, Option, Some, None, refl, sym, ap, subst, ◌∙◌, append_assoc, append-nil, inl, inr, arith, length-append}
+use Rattle.std.specs.Prelude.{codes, Result, Ok, Err, IfOk, IfErr}
+use Rattle.std.specs.Global.{Vec}
+use Rattle.std.specs.List.{AllByRecursion, flat_map}
 use Rattle.std.specs.Str.{bytes_eq}
 use Rattle.std.proofs.lemmas.Bool.{not-false}
 use Rattle.std.proofs.lemmas.Slice.Eq.{bytes_eq-Decides}
 use Rattle.std.proofs.lemmas.Option.{some_pair_parts}
-use Rattle.std.proofs.lemmas.List.{append-nil, length-append, length-map}
-use Rattle.std.proofs.lemmas.List.Elements.{All-from_recursion, recursion_from_All, All-weaker, All-head, All-cons, All-nil}
+use Rattle.std.proofs.lemmas.List.Elements.{All-from_recursion, recursion_from_All, All-weaker}
 use Rattle.domain_run.specs.declared.call.Call.{Call}
+use Rattle.domain_run.specs.declared.call.Call.TheVariants.{Admit, Regrade, Wake, Leave, Advance}
 use Rattle.domain_run.specs.declared.call.Reply.{Reply}
 use Rattle.call_book.specs.declared.section.Entry.{Entry}
 use Rattle.call_book.specs.declared.fault.CallsFault.{CallsFault}
 use Rattle.call_book.specs.declared.fault.CallsFault.TheVariants as faults
-use Rattle.call_book.specs.declared.fault.PartFault.{PartFault}
-use Rattle.call_book.specs.declared.fault.PartFault.TheVariants.{Bad, Memory}
 use Rattle.call_book.specs.SectionView.{SectionView}
-use Rattle.call_book.specs.Spelling.{entry_line, domain_line, section_lines, lines_of, text_of, spelling}
-use Rattle.call_book.specs.OwnCalls.{IsNumbered, IsNumberedAfter, made_by}
+use Rattle.call_book.specs.Spelling.{line_of, call_fields, entry_line, domain_line, section_lines, lines_of, text_of, spelling}
+use Rattle.call_book.specs.OwnCalls.{IsNumberedAfter, made_by}
 use Rattle.call_book.specs.Limits.{IsEntry, IsSection, AreRead}
-use Rattle.call_book.specs.BadLine.{IsBadLine, IsReadFault}
-use Rattle.call_book.specs.private.Reading.{cut_at, call_at, domain_at, IsEntryRead, entries_text, SoFar, IsBadEntryLine, IsEntriesFault, Fails, fault_from}
+use Rattle.call_book.specs.BadLine.{IsAccepted, Begins, IsBadLine, IsReadFault}
+use Rattle.call_book.specs.private.Reading.{cut_at, call_at, domain_at, IsEntryRead, IsSectionRead, LacksEntry, LacksDomain, HasRoom, sections_text, AreSectionsOf, IsBadSectionLine, IsSectionsFault}
 use Rattle.call_book.proofs.Cuts.{Lacks-written, cut_takes, cut_again}
-use Rattle.call_book.proofs.Lines.{call_again, line_lacks, domain_takes, domain_again, domain_lacks}
+use Rattle.call_book.proofs.Lines.{call_again, domain_again}
+use Rattle.call_book.proofs.Fronts.{compared, no_line, same_lines, sections_lines}
 
--- a section that is read
-pub record IsSectionRead (s : SectionView) : Type 0 where
-  pub some : 0 < s.cpus
-  pub most : s.cpus ≤ 64
-  pub low : 10485 ≤ s.limit
-  pub high : s.limit ≤ 1048576
-  pub few : length s.entries ≤ 65536
-  pub each : AllByRecursion IsEntryRead s.entries
-  pub numbered : IsNumbered s.entries
+-- ---- sections that are read
 
-only_one : {X : Type 0} (P : X → Type 0) (x : X) → P x → All P (x ∷ [])
-only_one P x h = All-cons P x [] h (All-nil P)
-
-pub are_read : (s : SectionView) → IsSectionRead s → AreRead (s ∷ [])
-are_read s is =
-    let each = All-from_recursion IsEntryRead s.entries is.each in
-    record {
-      within = record {
-        some = omega arith;
-        most = omega arith;
-        each = only_one IsSection s (record {
-          some_cpus = is.some;
-          most_cpus = is.most;
-          least_limit = is.low;
-          most_limit = is.high;
-          most_entries = is.few;
-          entries = All-weaker IsEntryRead IsEntry (λ e h. h.within) s.entries each;
-          numbered = is.numbered;
-        });
-      };
-      no_replies = only_one (λ (t : SectionView). All (λ (e : Entry). e.reply ≡ None) t.entries) s (All-weaker IsEntryRead (λ e. e.reply ≡ None) (λ e h. h.no_reply) s.entries each);
-      one = omega arith;
-    }
-
--- what is read is one section
-pub record OneRead (sections : List SectionView) : Type 0 where
-  pub section : SectionView
-  pub one : sections ≡ section ∷ []
-  pub is : IsSectionRead section
-
-pub one_read : (sections : List SectionView) → AreRead sections → OneRead sections
-one_read [] are = absurd (omega (arith, are.one))
-one_read (s ∷ []) are =
-    let is = All-head IsSection s [] are.within.each in
-    let replies = All-head (λ (t : SectionView). All (λ (e : Entry). e.reply ≡ None) t.entries) s [] are.no_replies in
-    record {
-      section = s;
-      one = refl;
-      is = record {
-        some = is.some_cpus;
-        most = is.most_cpus;
-        low = is.least_limit;
-        high = is.most_limit;
-        few = is.most_entries;
-        each = recursion_from_All IsEntryRead s.entries (λ k d lt. record { within = is.entries k d lt; no_reply = replies k d lt });
-        numbered = is.numbered;
-      };
-    }
-one_read (s ∷ t ∷ sections) are = absurd (omega (arith, are.one))
-
--- ---- the text of one section
-
-pub lines_one : (s : SectionView) → lines_of (s ∷ []) ≡ codes "dlcalls 1" ∷ domain_line s ∷ map entry_line s.entries
-lines_one s = ap (λ (ls : List (List ℕ)). codes "dlcalls 1" ∷ ls) (append-nil (section_lines s))
-
-line_first : (l t : List ℕ) → (l ++ (10 ∷ [])) ++ t ≡ l ++ (10 ∷ t)
-line_first l t = simp append_assoc
-
-pub spelling_one : (s : SectionView) → spelling (s ∷ []) ≡ codes "dlcalls 1" ++ (10 ∷ (domain_line s ++ (10 ∷ entries_text s.entries)))
-spelling_one s = ap text_of (lines_one s) ∙ ap (λ (t : List ℕ). codes "dlcalls 1" ++ (10 ∷ t)) (line_first (domain_line s) (entries_text s.entries))
-
-header_cut : (rest : List ℕ) → cut_at 10 (codes "dlcalls 1" ++ (10 ∷ rest)) ≡ Some (codes "dlcalls 1", rest)
-header_cut rest = cut_again 10 (codes "dlcalls 1") rest (Lacks-written 10 (codes "dlcalls 1") refl)
-
-domain_cut : (s : SectionView) (rest : List ℕ) → IsSectionRead s → cut_at 10 (domain_line s ++ (10 ∷ rest)) ≡ Some (domain_line s, rest)
-domain_cut s rest is = cut_again 10 (domain_line s) rest (domain_lacks s.cpus s.limit is.most is.high)
-
--- a section that is read
-abbrev sample : SectionView
-sample = record { cpus = 1; limit = 1048576; entries = [] }
-
-sample_is : IsSectionRead sample
-sample_is = record { some = omega arith; most = omega arith; low = omega arith; high = omega arith; few = omega arith; each = tt; numbered = tt }
-
--- ---- the first bad line
-
--- the first line of an accepted text
-first_line : (sections : List SectionView) → AreRead sections → (line : List ℕ) (more : List (List ℕ)) → lines_of sections ≡ line ∷ more → line ≡ codes "dlcalls 1"
-first_line sections are line more e = cc
-
-pub bad_header : (text : List ℕ) → ((after : List ℕ) → text ≡ codes "dlcalls 1" ++ (10 ∷ after) → ⊥) → IsBadLine text 1
-bad_header text other = record {
-  front = [];
-  rest = text;
-  parts = refl;
-  place = refl;
-  before = (sample ∷ [], are_read sample sample_is, lines_of (sample ∷ []), refl);
-  stops = λ line after same begins. other after (same ∙ ap (λ (l : List ℕ). l ++ 10 ∷ after) (first_line begins.0 begins.1 line begins.2 begins.3));
-  refused = λ a. let o = one_read a.0 a.1 in other (domain_line o.section ++ (10 ∷ entries_text o.section.entries)) (a.2 ∙ ap spelling o.one ∙ spelling_one o.section);
+is_section : (s : SectionView) → IsSectionRead s → IsSection s
+is_section s is = record {
+  some_cpus = is.some;
+  most_cpus = is.most;
+  least_limit = is.low;
+  most_limit = is.high;
+  most_entries = is.few;
+  entries = All-weaker IsEntryRead IsEntry (λ e h. h.within) s.entries (All-from_recursion IsEntryRead s.entries is.each);
+  numbered = is.numbered;
 }
 
--- the second line of an accepted text
-second_line : (s : SectionView) (line : List ℕ) (more : List (List ℕ)) → lines_of (s ∷ []) ≡ codes "dlcalls 1" ∷ line ∷ more → line ≡ domain_line s
-second_line s line more e = let f = sym (lines_one s) ∙ e in cc
+has_no_replies : (s : SectionView) → IsSectionRead s → All (λ (e : Entry). e.reply ≡ None) s.entries
+has_no_replies s is = All-weaker IsEntryRead (λ e. e.reply ≡ None) (λ e h. h.no_reply) s.entries (All-from_recursion IsEntryRead s.entries is.each)
 
-begun : (sections : List SectionView) (lines : List (List ℕ)) (more : List (List ℕ)) (s : SectionView) → sections ≡ s ∷ [] → lines_of sections ≡ lines ++ more → lines_of (s ∷ []) ≡ lines ++ more
-begun sections lines more s one e = ap lines_of (sym one) ∙ e
+pub are_read : (sections : List SectionView) → AllByRecursion IsSectionRead sections → 0 < length sections → length sections ≤ 8 → AreRead sections
+are_read sections each some most =
+    let all = All-from_recursion IsSectionRead sections each in
+    record {
+      within = record { some = some; most = most; each = All-weaker IsSectionRead IsSection is_section sections all };
+      no_replies = All-weaker IsSectionRead (λ (s : SectionView). All (λ (e : Entry). e.reply ≡ None) s.entries) has_no_replies sections all;
+    }
 
-pub bad_domain : (text rest : List ℕ) → text ≡ codes "dlcalls 1" ++ (10 ∷ rest) → ((s : SectionView) (after : List ℕ) → IsSectionRead s → rest ≡ domain_line s ++ (10 ∷ after) → ⊥) → IsBadLine text 2
-bad_domain text rest header other = record {
-  front = codes "dlcalls 1" ∷ [];
-  rest = rest;
-  parts = header;
-  place = refl;
-  before = (sample ∷ [], are_read sample sample_is, section_lines sample ++ [], refl);
-  stops = λ line after same begins.
-      let o = one_read begins.0 begins.1 in
-      let line_is = second_line o.section line begins.2 (begun begins.0 (codes "dlcalls 1" ∷ line ∷ []) begins.2 o.section o.one begins.3) in
-      other o.section after o.is (same ∙ ap (λ (l : List ℕ). l ++ 10 ∷ after) line_is);
-  refused = λ a.
-      let o = one_read a.0 a.1 in
-      let whole : codes "dlcalls 1" ++ (10 ∷ rest) ≡ codes "dlcalls 1" ++ (10 ∷ (domain_line o.section ++ (10 ∷ entries_text o.section.entries))) = sym header ∙ a.2 ∙ ap spelling o.one ∙ spelling_one o.section in
-      let cuts = sym (header_cut rest) ∙ ap (cut_at 10) whole ∙ header_cut (domain_line o.section ++ (10 ∷ entries_text o.section.entries)) in
-      other o.section (entries_text o.section.entries) o.is (some_pair_parts (codes "dlcalls 1") (codes "dlcalls 1") rest (domain_line o.section ++ (10 ∷ entries_text o.section.entries)) cuts).1;
+section_read : (s : SectionView) → IsSection s → All (λ (e : Entry). e.reply ≡ None) s.entries → IsSectionRead s
+section_read s is replies = record {
+  some = is.some_cpus;
+  most = is.most_cpus;
+  low = is.least_limit;
+  high = is.most_limit;
+  few = is.most_entries;
+  each = recursion_from_All IsEntryRead s.entries (λ k d lt. record { within = is.entries k d lt; no_reply = replies k d lt });
+  numbered = is.numbered;
 }
 
--- the element that a mapped list has at a place
-pub record AtPlace {X Y : Type 0} (P : X → Type 0) (f : X → Y) (xs : List X) (place : ℕ) (y : Y) : Type 0 where
-  pub element : X
-  pub is : P element
-  pub value : f element ≡ y
-  pub within : place < length xs
+pub each_read : (sections : List SectionView) → AreRead sections → AllByRecursion IsSectionRead sections
+each_read sections are = recursion_from_All IsSectionRead sections (λ k d lt. section_read _ (are.within.each k d lt) (are.no_replies k d lt))
 
-at_place : {X Y : Type 0} (P : X → Type 0) (f : X → Y) (xs : List X) (ys : List Y) (y : Y) (zs : List Y) → AllByRecursion P xs → map f xs ≡ ys ++ (y ∷ zs) → AtPlace P f xs (length ys) y
-at_place P f [] [] y zs each e = absurd cc
-at_place P f [] (w ∷ ys) y zs each e = absurd cc
-at_place P f (x ∷ xs) [] y zs each e = record { element = x; is = each.0; value = cc; within = omega arith }
-at_place P f (x ∷ xs) (w ∷ ys) y zs each e =
-    let tail : map f xs ≡ ys ++ (y ∷ zs) = cc in
-    let p = at_place P f xs ys y zs each.1 tail in
-    record { element = p.element; is = p.is; value = p.value; within = omega (arith, p.within) }
-
--- what stands behind the entries of a text that goes on as entries do
-pub record GoesOn (entries others : List Entry) (rest : List ℕ) : Type 0 where
-  pub entry : Entry
-  pub is : IsEntryRead entry
-  pub after : List ℕ
-  pub rest_is : rest ≡ entry_line entry ++ (10 ∷ after)
-  pub within : length entries < length others
-
-entry_cut : (e : Entry) (rest : List ℕ) → IsEntryRead e → cut_at 10 (entry_line e ++ (10 ∷ rest)) ≡ Some (entry_line e, rest)
-entry_cut e rest is = cut_again 10 (entry_line e) rest (line_lacks e.client e.call is.within.client is.within.call)
-
-entries_first : (e : Entry) (entries : List Entry) (rest : List ℕ) → entries_text (e ∷ entries) ++ rest ≡ entry_line e ++ (10 ∷ (entries_text entries ++ rest))
-entries_first e entries rest = simp append_assoc
-
-goes_on : (entries others : List Entry) (rest : List ℕ) → AllByRecursion IsEntryRead entries → AllByRecursion IsEntryRead others → entries_text entries ++ rest ≡ entries_text others → 0 < length rest → GoesOn entries others rest
-goes_on [] [] rest each each' e more = absurd (omega (arith, ap length e))
-goes_on [] (y ∷ others) rest each each' e more = record { entry = y; is = each'.0; after = entries_text others; rest_is = e ∙ line_first (entry_line y) (entries_text others); within = omega arith }
-goes_on (x ∷ entries) [] rest each each' e more = absurd (let f : entry_line x ++ (10 ∷ (entries_text entries ++ rest)) ≡ [] = sym (entries_first x entries rest) ∙ e in omega (arith, ap length f, length-append (entry_line x) (10 ∷ (entries_text entries ++ rest))))
-goes_on (x ∷ entries) (y ∷ others) rest each each' e more =
-    let same : entry_line x ++ (10 ∷ (entries_text entries ++ rest)) ≡ entry_line y ++ (10 ∷ entries_text others) = sym (entries_first x entries rest) ∙ e ∙ line_first (entry_line y) (entries_text others) in
-    let cuts = sym (entry_cut x (entries_text entries ++ rest) each.0) ∙ ap (cut_at 10) same ∙ entry_cut y (entries_text others) each'.0 in
-    let parts = some_pair_parts (entry_line x) (entry_line y) (entries_text entries ++ rest) (entries_text others) cuts in
-    let p = goes_on entries others rest each.1 each'.1 parts.1 more in
-    record { entry = p.entry; is = p.is; after = p.after; rest_is = p.rest_is; within = omega (arith, p.within) }
+-- ---- the lines of sections
 
 abbrev pub section_from : ℕ → ℕ → List Entry → SectionView
 section_from cpus limit entries = record { cpus = cpus; limit = limit; entries = entries }
 
-grouped : (d t r : List ℕ) → ((d ++ (10 ∷ [])) ++ t) ++ r ≡ d ++ (10 ∷ (t ++ r))
-grouped d t r = simp append_assoc
+abbrev first_byte : List ℕ → ℕ
+first_byte [] = 0
+first_byte (c ∷ cs) = c
 
--- the lines of entries, where a text goes on with a line
-next_line : (s : SectionView) (first : List ℕ) (lines : List (List ℕ)) (line : List ℕ) (more : List (List ℕ)) → lines_of (s ∷ []) ≡ (codes "dlcalls 1" ∷ first ∷ (lines ++ line ∷ [])) ++ more → map entry_line s.entries ≡ lines ++ (line ∷ more)
-next_line s first lines line more e =
-    let whole : codes "dlcalls 1" ∷ domain_line s ∷ map entry_line s.entries ≡ codes "dlcalls 1" ∷ first ∷ ((lines ++ line ∷ []) ++ more) = sym (lines_one s) ∙ e in
-    let tail : map entry_line s.entries ≡ (lines ++ line ∷ []) ++ more = cc in
-    tail ∙ append_assoc lines (line ∷ []) more
+-- the line of a call does not begin with a d
+other_first : (client : ℕ) (call : Call) → 100 ≡ first_byte (line_of (call_fields client call)) → ⊥
+other_first client (Admit number name params delay script) e = let f : 100 ≡ 97 = e in omega (arith, f)
+other_first client (Regrade number params word) e = let f : 100 ≡ 114 = e in omega (arith, f)
+other_first client (Wake number) e = let f : 100 ≡ 119 = e in omega (arith, f)
+other_first client (Leave number) e = let f : 100 ≡ 108 = e in omega (arith, f)
+other_first client (Advance ticks) e = let f : 100 ≡ 97 = e in omega (arith, f)
 
--- the two parts of a text of one section
-pub record SameParts (first rest first' rest' : List ℕ) : Type 0 where
-  pub first_is : first ≡ first'
-  pub rest_is : rest ≡ rest'
+-- so it is not that of a domain
+other_line : (s : SectionView) (e : Entry) → domain_line s ≡ entry_line e → ⊥
+other_line s e same = other_first e.client e.call (ap first_byte same)
 
-same_parts : (s t : SectionView) (rest rest' : List ℕ) → IsSectionRead s → IsSectionRead t → codes "dlcalls 1" ++ (10 ∷ (domain_line s ++ (10 ∷ rest))) ≡ codes "dlcalls 1" ++ (10 ∷ (domain_line t ++ (10 ∷ rest'))) → SameParts (domain_line s) rest (domain_line t) rest'
-same_parts s t rest rest' is is' e =
-    let cuts = sym (header_cut (domain_line s ++ (10 ∷ rest))) ∙ ap (cut_at 10) e ∙ header_cut (domain_line t ++ (10 ∷ rest')) in
-    let body = (some_pair_parts (codes "dlcalls 1") (codes "dlcalls 1") (domain_line s ++ (10 ∷ rest)) (domain_line t ++ (10 ∷ rest')) cuts).1 in
-    let again = sym (domain_cut s rest is) ∙ ap (cut_at 10) body ∙ domain_cut t rest' is' in
-    let p = some_pair_parts (domain_line s) (domain_line t) rest rest' again in
-    record { first_is = p.0; rest_is = p.1 }
+-- lines that do not begin with an entry's
+abbrev StartsAnew : List (List ℕ) → Type 0
+StartsAnew [] = Unit {0}
+StartsAnew (line ∷ lines) = (e : Entry) → line ≡ entry_line e → ⊥
 
-bad_line_at : (text rest : List ℕ) (s : SectionView) (n : ℕ) → text ≡ codes "dlcalls 1" ++ (10 ∷ (domain_line s ++ (10 ∷ rest))) → IsSectionRead s → (stop : IsBadEntryLine rest n) → s.entries ≡ stop.entries → IsBadLine text n
-bad_line_at text rest s n header is stop same_as =
-    let lines = map entry_line s.entries in
-    let front = codes "dlcalls 1" ∷ domain_line s ∷ lines in
-    let counted : length lines ≡ length stop.entries = length-map s.entries entry_line ∙ ap length same_as in
-    let body : rest ≡ entries_text s.entries ++ stop.rest = stop.so_far.parts ∙ ap (λ (es : List Entry). entries_text es ++ stop.rest) (sym same_as) in
-    record {
-      front = front;
-      rest = stop.rest;
-      parts = header ∙ ap (λ (b : List ℕ). codes "dlcalls 1" ++ (10 ∷ (domain_line s ++ (10 ∷ b)))) body ∙ ap (λ (x : List ℕ). codes "dlcalls 1" ++ (10 ∷ x)) (sym (grouped (domain_line s) (entries_text s.entries) stop.rest));
-      place = omega (arith, stop.place, counted);
-      before = (s ∷ [], are_read s is, [], lines_one s ∙ sym (append-nil front));
-      stops = λ line after same begins.
-          let o = one_read begins.0 begins.1 in
-          let tail = next_line o.section (domain_line s) lines line begins.2 (begun begins.0 (front ++ line ∷ []) begins.2 o.section o.one begins.3) in
-          let p = at_place IsEntryRead entry_line o.section.entries lines line begins.2 o.is.each tail in
-          stop.stops (omega (arith, p.within, o.is.few, counted)) p.element after p.is (same ∙ ap (λ (l : List ℕ). l ++ 10 ∷ after) (sym p.value));
-      refused = λ a.
-          let o = one_read a.0 a.1 in
-          let parts = same_parts s o.section rest (entries_text o.section.entries) is o.is (sym header ∙ a.2 ∙ ap spelling o.one ∙ spelling_one o.section) in
-          let g = goes_on stop.entries o.section.entries stop.rest stop.so_far.each o.is.each (sym stop.so_far.parts ∙ parts.rest_is) stop.more in
-          stop.stops (omega (arith, g.within, o.is.few)) g.entry g.after g.is g.rest_is;
-    }
+sections_anew : (sections : List SectionView) → StartsAnew (flat_map section_lines sections)
+sections_anew [] = tt
+sections_anew (s ∷ sections) = λ e same. other_line s e same
 
-pub bad_entry : (text line rest : List ℕ) (cpus limit n : ℕ) → text ≡ codes "dlcalls 1" ++ (10 ∷ (line ++ (10 ∷ rest))) → line ≡ domain_line (section_from cpus limit []) → 0 < cpus → cpus ≤ 64 → 10485 ≤ limit → limit ≤ 1048576 → IsBadEntryLine rest n → IsBadLine text n
-bad_entry text line rest cpus limit n header line_is some most low high stop =
-    bad_line_at text rest (section_from cpus limit stop.entries) n (header ∙ ap (λ (l : List ℕ). codes "dlcalls 1" ++ (10 ∷ (l ++ (10 ∷ rest)))) line_is)
-    (record { some = some; most = most; low = low; high = high; few = stop.few; each = stop.so_far.each; numbered = stop.so_far.numbered }) stop refl
+not_anew : (lines more : List (List ℕ)) (e : Entry) → StartsAnew lines → entry_line e ∷ more ≡ lines → ⊥
+not_anew [] more e anew same = cc
+not_anew (line ∷ lines) more e anew same = let first : line ≡ entry_line e = cc in anew e first
+
+-- the entries of one list end before those of another, and lines follow that go on with the other
+record Longer (xs ys : List Entry) (lines : List (List ℕ)) : Type 0 where
+  entry : Entry
+  is : IsEntryRead entry
+  more : List (List ℕ)
+  next : lines ≡ entry_line entry ∷ more
+  within : length xs < length ys
+
+record SameLines (xs ys : List Entry) (a b : List (List ℕ)) : Type 0 where
+  entries : map entry_line xs ≡ map entry_line ys
+  rest : a ≡ b
+
+one_longer : (x y : Entry) (xs ys : List Entry) (a b : List (List ℕ)) → entry_line x ≡ entry_line y → SameLines xs ys a b ⊎ Longer xs ys a → SameLines (x ∷ xs) (y ∷ ys) a b ⊎ Longer (x ∷ xs) (y ∷ ys) a
+one_longer x y xs ys a b first (inl same) = inl (record { entries = let more = same.entries in cc; rest = same.rest })
+one_longer x y xs ys a b first (inr longer) = inr (record { entry = longer.entry; is = longer.is; more = longer.more; next = longer.next; within = omega (arith, longer.within) })
+
+compared_entries : (xs ys : List Entry) (a b : List (List ℕ)) → AllByRecursion IsEntryRead ys → StartsAnew b → map entry_line xs ++ a ≡ map entry_line ys ++ b → SameLines xs ys a b ⊎ Longer xs ys a
+compared_entries [] [] a b each anew e = inl (record { entries = refl; rest = e })
+compared_entries [] (y ∷ ys) a b each anew e = inr (record { entry = y; is = each.0; more = map entry_line ys ++ b; next = e; within = omega arith })
+compared_entries (x ∷ xs) [] a b each anew e = absurd (not_anew b (map entry_line xs ++ a) x anew e)
+compared_entries (x ∷ xs) (y ∷ ys) a b each anew e =
+    let first : entry_line x ≡ entry_line y = cc in
+    let more : map entry_line xs ++ a ≡ map entry_line ys ++ b = cc in
+    one_longer x y xs ys a b first (compared_entries xs ys a b each.1 anew more)
+
+-- a line that may follow sections: an entry's, where the last of them has room for it
+record EntryFollows (sections : List SectionView) (line : List ℕ) : Type 0 where
+  entry : Entry
+  is : IsEntryRead entry
+  line_is : line ≡ entry_line entry
+  room : HasRoom sections
+
+-- or a domain's, where there are not yet as many sections as in the text
+record DomainFollows (sections others : List SectionView) (line : List ℕ) : Type 0 where
+  section : SectionView
+  is : IsSectionRead section
+  line_is : line ≡ domain_line section
+  within : length sections < length others
+
+more_room : (s : SectionView) (sections : List SectionView) → HasRoom sections → HasRoom (s ∷ sections)
+more_room s [] room = absurd room
+more_room s (t ∷ sections) room = room
+
+follows_later : (s t : SectionView) (ss ts : List SectionView) (line : List ℕ) → EntryFollows ss line ⊎ DomainFollows ss ts line → EntryFollows (s ∷ ss) line ⊎ DomainFollows (s ∷ ss) (t ∷ ts) line
+follows_later s t ss ts line (inl f) = inl (record { entry = f.entry; is = f.is; line_is = f.line_is; room = more_room s ss f.room })
+follows_later s t ss ts line (inr f) = inr (record { section = f.section; is = f.is; line_is = f.line_is; within = omega (arith, f.within) })
+
+-- the last section's entries end, and the text goes on with an entry
+follows_here : (s t : SectionView) (ss : List SectionView) (line : List ℕ) (more : List (List ℕ)) → length t.entries ≤ 65536 → Longer s.entries t.entries (flat_map section_lines ss ++ (line ∷ more)) → EntryFollows (s ∷ ss) line
+follows_here s t [] line more few longer =
+    let next : line ∷ more ≡ entry_line longer.entry ∷ longer.more = longer.next in
+    record { entry = longer.entry; is = longer.is; line_is = cc; room = omega (arith, longer.within, few) }
+follows_here s t (u ∷ ss) line more few longer =
+    let next : domain_line u ∷ ((map entry_line u.entries ++ flat_map section_lines ss) ++ (line ∷ more)) ≡ entry_line longer.entry ∷ longer.more = longer.next in
+    let first : domain_line u ≡ entry_line longer.entry = cc in
+    absurd (other_line u longer.entry first)
+
+-- the entries of the first section, and what follows them
+body_tail : (s t : SectionView) (ss ts : List SectionView) (rest : List (List ℕ)) → flat_map section_lines (t ∷ ts) ≡ flat_map section_lines (s ∷ ss) ++ rest → map entry_line s.entries ++ (flat_map section_lines ss ++ rest) ≡ map entry_line t.entries ++ flat_map section_lines ts
+body_tail s t ss ts rest e =
+    let whole : domain_line t ∷ (map entry_line t.entries ++ flat_map section_lines ts) ≡ domain_line s ∷ ((map entry_line s.entries ++ flat_map section_lines ss) ++ rest) = e in
+    let tail : map entry_line t.entries ++ flat_map section_lines ts ≡ (map entry_line s.entries ++ flat_map section_lines ss) ++ rest = cc in
+    sym (append_assoc (map entry_line s.entries) (flat_map section_lines ss) rest) ∙ sym tail
+
+-- where the lines of sections go on as those of other sections do
+follows : (ss ts : List SectionView) (line : List ℕ) (more : List (List ℕ)) → AllByRecursion IsSectionRead ts → flat_map section_lines ts ≡ flat_map section_lines ss ++ (line ∷ more) → EntryFollows ss line ⊎ DomainFollows ss ts line
+follows [] [] line more each e = absurd cc
+follows [] (t ∷ ts) line more each e = inr (record { section = t; is = each.0; line_is = cc; within = omega arith })
+follows (s ∷ ss) [] line more each e = absurd cc
+follows (s ∷ ss) (t ∷ ts) line more each e =
+    elim (compared_entries s.entries t.entries (flat_map section_lines ss ++ (line ∷ more)) (flat_map section_lines ts) each.0.each (sections_anew ts) (body_tail s t ss ts (line ∷ more) e)) [
+      | inl same ↦ follows_later s t ss ts line (follows ss ts line more each.1 (sym same.rest))
+      | inr longer ↦ inl (follows_here s t ss line more each.0.few longer)
+    ]
 
 -- ---- one spelling
 
@@ -262,46 +187,135 @@ same_line e f before is is' seq seq' same =
     let p = some_pair_parts e.client f.client e.call f.call again in
     same_entry e f p.0 (seq ∙ ap (λ (c : ℕ). made_by c before) p.0 ∙ sym seq') p.1 (is.no_reply ∙ sym is'.no_reply)
 
-no_text : (e : Entry) (entries : List Entry) → entries_text (e ∷ entries) ≡ [] → ⊥
-no_text e entries h =
-    let f : entry_line e ++ (10 ∷ entries_text entries) ≡ [] = sym (line_first (entry_line e) (entries_text entries)) ∙ h in
-    omega (arith, ap length f, length-append (entry_line e) (10 ∷ entries_text entries))
-
-same_entries : (before entries others : List Entry) → AllByRecursion IsEntryRead entries → AllByRecursion IsEntryRead others → IsNumberedAfter before entries → IsNumberedAfter before others → entries_text entries ≡ entries_text others → entries ≡ others
+same_entries : (before entries others : List Entry) → AllByRecursion IsEntryRead entries → AllByRecursion IsEntryRead others → IsNumberedAfter before entries → IsNumberedAfter before others → map entry_line entries ≡ map entry_line others → entries ≡ others
 same_entries before [] [] each each' numbered numbered' e = refl
-same_entries before [] (y ∷ others) each each' numbered numbered' e = absurd (no_text y others (sym e))
-same_entries before (x ∷ entries) [] each each' numbered numbered' e = absurd (no_text x entries e)
+same_entries before [] (y ∷ others) each each' numbered numbered' e = absurd cc
+same_entries before (x ∷ entries) [] each each' numbered numbered' e = absurd cc
 same_entries before (x ∷ entries) (y ∷ others) each each' numbered numbered' e =
-    let lines : entry_line x ++ (10 ∷ entries_text entries) ≡ entry_line y ++ (10 ∷ entries_text others) = sym (line_first (entry_line x) (entries_text entries)) ∙ e ∙ line_first (entry_line y) (entries_text others) in
-    let cuts = sym (entry_cut x (entries_text entries) each.0) ∙ ap (cut_at 10) lines ∙ entry_cut y (entries_text others) each'.0 in
-    let parts = some_pair_parts (entry_line x) (entry_line y) (entries_text entries) (entries_text others) cuts in
-    let first = same_line x y before each.0 each'.0 numbered.0 numbered'.0 parts.0 in
+    let line : entry_line x ≡ entry_line y = cc in
+    let lines : map entry_line entries ≡ map entry_line others = cc in
+    let first = same_line x y before each.0 each'.0 numbered.0 numbered'.0 line in
     let moved : IsNumberedAfter (before ++ x ∷ []) others = subst (λ (z : Entry). IsNumberedAfter (before ++ z ∷ []) others) (sym first) numbered'.1 in
-    ap (λ (z : Entry). z ∷ entries) first ∙ ap (λ (es : List Entry). y ∷ es) (same_entries (before ++ x ∷ []) entries others each.1 each'.1 numbered.1 moved parts.1)
+    ap (λ (z : Entry). z ∷ entries) first ∙ ap (λ (es : List Entry). y ∷ es) (same_entries (before ++ x ∷ []) entries others each.1 each'.1 numbered.1 moved lines)
 
-same_section : (s t : SectionView) → IsSectionRead s → IsSectionRead t → spelling (s ∷ []) ≡ spelling (t ∷ []) → s ≡ t
-same_section s t is is' e =
-    let parts = same_parts s t (entries_text s.entries) (entries_text t.entries) is is' (sym (spelling_one s) ∙ e ∙ spelling_one t) in
-    let again = sym (domain_again s.cpus s.limit is.some is.most is.low is.high) ∙ ap domain_at parts.first_is ∙ domain_again t.cpus t.limit is'.some is'.most is'.low is'.high in
+same_section : (s t : SectionView) → IsSectionRead s → IsSectionRead t → domain_line s ≡ domain_line t → map entry_line s.entries ≡ map entry_line t.entries → s ≡ t
+same_section s t is is' domains lines =
+    let again = sym (domain_again s.cpus s.limit is.some is.most is.low is.high) ∙ ap domain_at domains ∙ domain_again t.cpus t.limit is'.some is'.most is'.low is'.high in
     let p = some_pair_parts s.cpus t.cpus s.limit t.limit again in
-    let entries = same_entries [] s.entries t.entries is.each is'.each is.numbered is'.numbered parts.rest_is in
+    let entries = same_entries [] s.entries t.entries is.each is'.each is.numbered is'.numbered lines in
     ap (λ (c : ℕ). section_from c s.limit s.entries) p.0 ∙ ap (λ (l : ℕ). section_from t.cpus l s.entries) p.1 ∙ ap (section_from t.cpus t.limit) entries
+
+same_bodies : (ss ts : List SectionView) → AllByRecursion IsSectionRead ss → AllByRecursion IsSectionRead ts → flat_map section_lines ss ≡ flat_map section_lines ts → ss ≡ ts
+same_bodies [] [] each each' e = refl
+same_bodies [] (t ∷ ts) each each' e = absurd cc
+same_bodies (s ∷ ss) [] each each' e = absurd cc
+same_bodies (s ∷ ss) (t ∷ ts) each each' e =
+    let whole : domain_line s ∷ (map entry_line s.entries ++ flat_map section_lines ss) ≡ domain_line t ∷ (map entry_line t.entries ++ flat_map section_lines ts) = e in
+    let domains : domain_line s ≡ domain_line t = cc in
+    let tails : map entry_line s.entries ++ flat_map section_lines ss ≡ map entry_line t.entries ++ flat_map section_lines ts = cc in
+    elim (compared_entries s.entries t.entries (flat_map section_lines ss) (flat_map section_lines ts) each'.0.each (sections_anew ts) tails) [
+      | inl same ↦
+          let first = same_section s t each.0 each'.0 domains same.entries in
+          ap (λ (x : SectionView). x ∷ ss) first ∙ ap (λ (xs : List SectionView). t ∷ xs) (same_bodies ss ts each.1 each'.1 same.rest)
+      | inr longer ↦ absurd (not_anew (flat_map section_lines ss) longer.more longer.entry (sections_anew ss) (sym longer.next))
+    ]
 
 pub same_sections : (ss ts : List SectionView) → AreRead ss → AreRead ts → spelling ss ≡ spelling ts → ss ≡ ts
 same_sections ss ts are are' e =
-    let s = one_read ss are in
-    let t = one_read ts are' in
-    s.one ∙ ap (λ (x : SectionView). x ∷ []) (same_section s.section t.section s.is t.is (ap spelling (sym s.one) ∙ e ∙ ap spelling t.one)) ∙ sym t.one
+    let each = each_read ss are in
+    let each' = each_read ts are' in
+    let lines : codes "dlcalls 1" ∷ flat_map section_lines ss ≡ codes "dlcalls 1" ∷ flat_map section_lines ts = same_lines (lines_of ss) (lines_of ts) (sections_lines ss each) (sections_lines ts each') e in
+    let bodies : flat_map section_lines ss ≡ flat_map section_lines ts = cc in
+    same_bodies ss ts each each' bodies
 
--- ---- what the reader finds, line by line
+-- ---- the first bad line
 
--- the two first lines, and what follows them
-pub record Opens (text line rest : List ℕ) : Type 0 where
-  pub header : List ℕ
-  pub body : List ℕ
-  pub header_is : cut_at 10 text ≡ Some (header, body)
-  pub right : header ≡ codes "dlcalls 1"
-  pub line_is : cut_at 10 body ≡ Some (line, rest)
+-- a section that is read
+abbrev sample : SectionView
+sample = record { cpus = 1; limit = 1048576; entries = [] }
+
+sample_is : AreRead (sample ∷ [])
+sample_is = are_read (sample ∷ []) (record { some = omega arith; most = omega arith; low = omega arith; high = omega arith; few = omega arith; each = tt; numbered = tt }, tt) (omega arith) (omega arith)
+
+-- the lines of sections begin an accepted text, and so does the header alone
+sections_begin : (sections : List SectionView) → AllByRecursion IsSectionRead sections → length sections ≤ 8 → Begins (lines_of sections)
+sections_begin [] each most = (sample ∷ [], sample_is, flat_map section_lines (sample ∷ []), refl)
+sections_begin (s ∷ sections) each most = (s ∷ sections, are_read (s ∷ sections) each (omega arith) most, [], sym (append-nil (lines_of (s ∷ sections))))
+
+-- no line behind these sections goes on as in an accepted text
+abbrev NoLineFollows : List ℕ → List SectionView → Type 0
+NoLineFollows rest sections = (line after : List ℕ) → rest ≡ line ++ 10 ∷ after → Begins (lines_of sections ++ line ∷ []) → ⊥
+
+body_more : (sections others : List SectionView) (line : List ℕ) (more : List (List ℕ)) → lines_of others ≡ (lines_of sections ++ line ∷ []) ++ more → flat_map section_lines others ≡ flat_map section_lines sections ++ (line ∷ more)
+body_more sections others line more e =
+    let whole : codes "dlcalls 1" ∷ flat_map section_lines others ≡ codes "dlcalls 1" ∷ ((flat_map section_lines sections ++ line ∷ []) ++ more) = e in
+    let tail : flat_map section_lines others ≡ (flat_map section_lines sections ++ line ∷ []) ++ more = cc in
+    tail ∙ append_assoc (flat_map section_lines sections) (line ∷ []) more
+
+no_line_follows : (rest : List ℕ) (sections : List SectionView) → (HasRoom sections → LacksEntry rest) → (length sections < 8 → LacksDomain rest) → NoLineFollows rest sections
+no_line_follows rest sections stops ends = λ line after same begins.
+    elim (follows sections begins.0 line begins.2 (each_read begins.0 begins.1) (body_more sections begins.0 line begins.2 begins.3)) [
+      | inl f ↦ stops f.room f.entry after f.is (same ∙ ap (λ (l : List ℕ). l ++ 10 ∷ after) f.line_is)
+      | inr f ↦ ends (omega (arith, f.within, begins.1.within.most)) f.section after f.is (same ∙ ap (λ (l : List ℕ). l ++ 10 ∷ after) f.line_is)
+    ]
+
+-- sections of one body, where nothing follows
+not_ended : (sections others : List SectionView) (rest : List ℕ) → lines_of sections ≡ lines_of others → 0 < length others → (0 < length sections → 0 < length rest) → length rest ≡ 0 → ⊥
+not_ended [] [] rest lines some more none = omega (arith, some)
+not_ended [] (t ∷ others) rest lines some more none =
+    let whole : codes "dlcalls 1" ∷ [] ≡ codes "dlcalls 1" ∷ domain_line t ∷ (map entry_line t.entries ++ flat_map section_lines others) = lines in
+    omega (arith, ap length whole)
+not_ended (s ∷ sections) others rest lines some more none = omega (arith, more (omega arith), none)
+
+-- so the text is not accepted
+never_accepted : (text rest : List ℕ) (sections : List SectionView) → text ≡ spelling sections ++ rest → AllByRecursion IsSectionRead sections → (0 < length sections → 0 < length rest) → NoLineFollows rest sections → IsAccepted text → ⊥
+never_accepted text rest sections parts each more none accepted =
+    let others = accepted.0 in
+    let same : text_of (lines_of sections) ++ rest ≡ text_of (lines_of others) ++ [] = sym parts ∙ accepted.2 ∙ sym (append-nil (spelling others)) in
+    elim (compared (lines_of sections) (lines_of others) rest [] (sections_lines sections each) (sections_lines others (each_read others accepted.1)) same) [
+      | inl lines ↦
+          let texts = ap length (ap text_of lines) in
+          let long = ap length same in
+          not_ended sections others rest lines accepted.1.within.some more (omega (arith, texts, long, length-append (text_of (lines_of sections)) rest, length-append (text_of (lines_of others)) []))
+      | inr (inl g) ↦ none g.line g.after g.rest_is (others, accepted.1, g.more, g.other_is ∙ sym (append_assoc (lines_of sections) (g.line ∷ []) g.more))
+      | inr (inr g) ↦ no_line g.line g.after g.rest_is
+    ]
+
+-- a text that stops behind its sections has the next line as its bad one
+bad_behind : (text body : List ℕ) (n : ℕ) → text ≡ codes "dlcalls 1" ++ (10 ∷ body) → IsBadSectionLine body n → IsBadLine text n
+bad_behind text body n header bad =
+    let sections = bad.sections in
+    let parts : text ≡ spelling sections ++ bad.rest = header ∙ ap (λ (b : List ℕ). codes "dlcalls 1" ++ (10 ∷ b)) bad.so_far.parts in
+    let stops = no_line_follows bad.rest sections bad.so_far.stops bad.ends in
+    record {
+      front = lines_of sections;
+      rest = bad.rest;
+      parts = parts;
+      place = omega (arith, bad.place);
+      before = sections_begin sections bad.so_far.each bad.most;
+      stops = stops;
+      refused = never_accepted text bad.rest sections parts bad.so_far.each bad.so_far.more stops;
+    }
+
+-- ---- the header
+
+header_cut : (rest : List ℕ) → cut_at 10 (codes "dlcalls 1" ++ (10 ∷ rest)) ≡ Some (codes "dlcalls 1", rest)
+header_cut rest = cut_again 10 (codes "dlcalls 1") rest (Lacks-written 10 (codes "dlcalls 1") refl)
+
+-- the first line of an accepted text
+first_line : (sections : List SectionView) (line : List ℕ) (more : List (List ℕ)) → lines_of sections ≡ line ∷ more → line ≡ codes "dlcalls 1"
+first_line sections line more e = cc
+
+bad_header : (text : List ℕ) → ((after : List ℕ) → text ≡ codes "dlcalls 1" ++ (10 ∷ after) → ⊥) → IsBadLine text 1
+bad_header text other = record {
+  front = [];
+  rest = text;
+  parts = refl;
+  place = refl;
+  before = (sample ∷ [], sample_is, lines_of (sample ∷ []), refl);
+  stops = λ line after same begins. other after (same ∙ ap (λ (l : List ℕ). l ++ 10 ∷ after) (first_line begins.0 line begins.2 begins.3));
+  refused = λ accepted. other (sections_text accepted.0) accepted.2;
+}
 
 pub not_written : (header written : List ℕ) (r : Bool) → r ≡ not (bytes_eq header written) → written ≡ codes "dlcalls 1" → r ≡ true → header ≡ codes "dlcalls 1" → ⊥
 not_written header written r e w is same = absurd (let yes = (bytes_eq-Decides header written).1 (same ∙ sym w) in let f : not (bytes_eq header written) ≡ true = sym e ∙ is in let g : false ≡ true = ap not (sym yes) ∙ f in cc)
@@ -315,40 +329,17 @@ no_header text cut = bad_header text (λ after same. absurd (let f = sym cut ∙
 pub other_header : (text header body : List ℕ) → cut_at 10 text ≡ Some (header, body) → (header ≡ codes "dlcalls 1" → ⊥) → IsBadLine text 1
 other_header text header body cut other = bad_header text (λ after same. other (some_pair_parts header (codes "dlcalls 1") body after (sym cut ∙ ap (cut_at 10) same ∙ header_cut after)).0)
 
-header_first : (text header body : List ℕ) → cut_at 10 text ≡ Some (header, body) → header ≡ codes "dlcalls 1" → text ≡ codes "dlcalls 1" ++ (10 ∷ body)
+pub header_first : (text header body : List ℕ) → cut_at 10 text ≡ Some (header, body) → header ≡ codes "dlcalls 1" → text ≡ codes "dlcalls 1" ++ (10 ∷ body)
 header_first text header body cut right = cut_takes 10 text (header, body) cut ∙ ap (λ (h : List ℕ). h ++ (10 ∷ body)) right
 
-pub no_domain : (text header body : List ℕ) → cut_at 10 text ≡ Some (header, body) → header ≡ codes "dlcalls 1" → cut_at 10 body ≡ None → IsBadLine text 2
-no_domain text header body cut right none =
-    bad_domain text body (header_first text header body cut right) (λ s after is same. absurd (let f = sym none ∙ ap (cut_at 10) same ∙ domain_cut s after is in cc))
+-- ---- a whole text
 
-other_domain : (text line rest : List ℕ) → Opens text line rest → domain_at line ≡ None → IsBadLine text 2
-other_domain text line rest o none =
-    bad_domain text o.body (header_first text o.header o.body o.header_is o.right) (λ s after is same.
-    let line_is = (some_pair_parts line (domain_line s) rest after (sym o.line_is ∙ ap (cut_at 10) same ∙ domain_cut s after is)).0 in
-    absurd (let f = sym none ∙ ap domain_at line_is ∙ domain_again s.cpus s.limit is.some is.most is.low is.high in cc))
+pub sections_found : (text body : List ℕ) (r : Result (Vec SectionView) CallsFault) → text ≡ codes "dlcalls 1" ++ (10 ∷ body) → IfOk r (λ v. AreSectionsOf body v.items) → IfOk r (λ v. AreRead v.items × (text ≡ spelling v.items))
+sections_found text body (Ok v) header are =
+    (are_read v.items are.each are.some are.most, header ∙ ap (λ (b : List ℕ). codes "dlcalls 1" ++ (10 ∷ b)) are.text_is)
+sections_found text body (Err fault) header are = tt
 
-pub domain_fault : (text line rest : List ℕ) (fault : PartFault) → Opens text line rest → Fails fault (domain_at line) → IsReadFault text (fault_from 2 fault)
-domain_fault text line rest Bad o none = other_domain text line rest o none
-domain_fault text line rest Memory o none = tt
-
-opened : (text line rest : List ℕ) (d : ℕ × ℕ) → Opens text line rest → domain_at line ≡ Some d → text ≡ codes "dlcalls 1" ++ (10 ∷ (domain_line (section_from d.0 d.1 []) ++ (10 ∷ rest)))
-opened text line rest d o read =
-    header_first text o.header o.body o.header_is o.right
-    ∙ ap (λ (b : List ℕ). codes "dlcalls 1" ++ (10 ∷ b)) (cut_takes 10 o.body (line, rest) o.line_is ∙ ap (λ (l : List ℕ). l ++ (10 ∷ rest)) (domain_takes line d read).line_is)
-
-pub entries_fault : (text line rest : List ℕ) (d : ℕ × ℕ) (fault : CallsFault) → Opens text line rest → domain_at line ≡ Some d → IsEntriesFault rest fault → IsReadFault text fault
-entries_fault text line rest d (faults.BadLine n) o read stop =
-    let t = domain_takes line d read in
-    bad_entry text (domain_line (section_from d.0 d.1 [])) rest d.0 d.1 n (opened text line rest d o read) refl t.some t.few t.low t.high stop
-entries_fault text line rest d faults.Memory o read stop = tt
-
-pub section_found : (text line rest : List ℕ) (d : ℕ × ℕ) (entries : List Entry) → Opens text line rest → domain_at line ≡ Some d → SoFar rest [] entries → length entries ≤ 65536
-    → AreRead (section_from d.0 d.1 entries ∷ []) × (text ≡ spelling (section_from d.0 d.1 entries ∷ []))
-section_found text line rest d entries o read so_far few =
-    let t = domain_takes line d read in
-    let s = section_from d.0 d.1 entries in
-    let body : rest ≡ entries_text entries = so_far.parts ∙ append-nil (entries_text entries) in (
-      are_read s (record { some = t.some; most = t.few; low = t.low; high = t.high; few = few; each = so_far.each; numbered = so_far.numbered }),
-      opened text line rest d o read ∙ ap (λ (b : List ℕ). codes "dlcalls 1" ++ (10 ∷ (domain_line s ++ (10 ∷ b)))) body ∙ sym (spelling_one s),
-    )
+pub sections_fault : (text body : List ℕ) (r : Result (Vec SectionView) CallsFault) → text ≡ codes "dlcalls 1" ++ (10 ∷ body) → IfErr r (IsSectionsFault body) → IfErr r (IsReadFault text)
+sections_fault text body (Ok v) header bad = tt
+sections_fault text body (Err (faults.BadLine n)) header bad = bad_behind text body n header bad
+sections_fault text body (Err faults.Memory) header bad = tt

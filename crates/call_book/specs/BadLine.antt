@@ -6,7 +6,7 @@ use Rattle.call_book.specs.SectionView.{SectionView}
 use Rattle.call_book.specs.Spelling.{lines_of, text_of, spelling}
 use Rattle.call_book.specs.Limits.{AreRead}
 
--- for now a text is accepted where it is that of sections that are read
+-- a text is accepted where it is that of sections that are read
 abbrev pub IsAccepted : List ℕ → Type 0
 IsAccepted text = (sections : List SectionView) × AreRead sections × (text ≡ spelling sections)
 

@@ -66,7 +66,7 @@ pub record IsSection (s : SectionView) : Type 0 where
   pub entries : All IsEntry s.entries
   pub numbered : IsNumbered s.entries
 
--- what has a spelling
+-- 1 to 8 sections have a spelling
 pub record AreSections (sections : List SectionView) : Type 0 where
   pub some : 0 < length sections
   pub most : length sections ≤ 8
@@ -74,8 +74,7 @@ pub record AreSections (sections : List SectionView) : Type 0 where
 
 -- ---- what is read
 
--- what is read, for now one section: replies are not written, so what is read has none
+-- replies are not written, so what is read has none
 pub record AreRead (sections : List SectionView) : Type 0 where
   pub within : AreSections sections
   pub no_replies : All (λ s. All (λ e. e.reply ≡ None) s.entries) sections
-  pub one : length sections ≡ 1

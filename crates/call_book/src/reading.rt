@@ -1,9 +1,9 @@
-ghost use Rattle.std.specs.Prelude.{◌≡◌, ◌+◌, ◌-◌, ◌≤◌, ℕ, List, [], ◌∷◌, length, slice_index, slice_set, IfOk, IfErr, IsErrOf, MatchResult, ◌⊎◌};
+ghost use Rattle.std.specs.Prelude.{◌≡◌, ◌+◌, ◌-◌, ◌≤◌, ℕ, List, length, slice_index, slice_set, IfOk, IfErr, IsErrOf, MatchResult, ◌⊎◌};
 ghost use Rattle.call_book.specs.SectionView.{SectionView};
-ghost use Rattle.call_book.specs.Spelling.{spelling};
+ghost use Rattle.call_book.specs.Spelling.{section_lines, spelling};
 ghost use Rattle.call_book.specs.Limits.{IsClient, AreRead};
 ghost use Rattle.call_book.specs.BadLine.{IsBadLine, IsReadFault};
-ghost use Rattle.call_book.specs.private.Reading.{Fails, fault_from, call_at, IsNext, SoFar, IsEntriesFault};
+ghost use Rattle.call_book.specs.private.Reading.{Fails, fault_from, call_at, IsNext, AreEntries, IsFirstSection, IsNoSection, AreSectionsOf, IsSectionsFault};
 
 use crate::cut::cut;
 use crate::fault::{CallsFault, PartFault};
@@ -13,6 +13,8 @@ use std::alloc::Global;
 
 /// The most calls of a section.
 const MOST_CALLS: u64 = 65536;
+/// The most sections of a text.
+const MOST_SECTIONS: u64 = 8;
 
 /// A part that is bad, or has no memory, makes this fault in line `n`.
 fn fault_at(n: u64, fault: PartFault) -> CallsFault
@@ -53,40 +55,83 @@ fn entry_of(alloc: Global, line: &[u8], made: &mut [u64; 64]) -> Result<Entry, P
     })
 }
 
-/// The entries that the text of a section spells from its third line on.
-fn entries_of(alloc: Global, text: &[u8]) -> Result<Vec<Entry>, CallsFault>
-    ensures found { IfOk result (λ v. SoFar text.now [] v.items) }
-    ensures few { IfOk result (λ v. length v.items ≤ 65536) }
-    ensures fault { IfErr result (IsEntriesFault text.now) }
+/// The entries at the front of a text, and the rest: from the first line on that is no entry's, or that is one too many.
+fn entries_of(alloc: Global, text: &[u8]) -> Result<(Vec<Entry>, &[u8]), PartFault>
+    ensures found { IfOk result (λ p. AreEntries text.now p.1.now p.0.items) }
+    ensures fault { IfErr result (λ e. e ≡ PartFault.Memory) }
 {
     let mut entries = Vec::new(alloc);
     let mut made = [0u64; 64];
     let mut rest = text;
-    for i in 0..MOST_CALLS {
-        if rest.is_empty() {
-            return Ok(entries);
-        }
+    for _ in 0..MOST_CALLS {
         let Some((line, after)) = cut(rest, b'\n') else {
-            return Err(CallsFault::BadLine { n: i + 3 });
+            return Ok((entries, rest));
         };
         let entry = match entry_of(alloc, line, &mut made) {
             Ok(entry) => entry,
-            Err(fault) => return Err(fault_at(i + 3, fault)),
+            Err(PartFault::Bad) => return Ok((entries, rest)),
+            Err(PartFault::Memory) => return Err(PartFault::Memory),
         };
-        match entries.push(entry) {
+        entries.push(entry)?;
+        rest = after;
+    }
+    Ok((entries, rest))
+}
+
+/// The section at the front of a text, and the rest, which does not go on with it.
+fn section_of(alloc: Global, text: &[u8]) -> Result<(Section, &[u8]), PartFault>
+    ensures found { IfOk result (λ p. IsFirstSection text.now p.1.now p.0) }
+    ensures fault { IfErr result (IsNoSection text.now) }
+{
+    let Some((line, rest)) = cut(text, b'\n') else {
+        return Err(PartFault::Bad);
+    };
+    let (cpus, limit) = domain_of(line)?;
+    let (entries, rest) = entries_of(alloc, rest)?;
+    let section = Section {
+        cpus: cpus as u32,
+        limit,
+        entries,
+    };
+    Ok((section, rest))
+}
+
+/// The lines of a section: its domain's, and one for each call.
+fn line_count(section: &Section) -> u64
+    requires { length section.now.entries ≤ 65536 }
+    ensures { result ≡ length (section_lines section.now) }
+{
+    section.entries.len() as u64 + 1
+}
+
+/// The sections that a text spells behind its header, which is line 1.
+fn sections_of(alloc: Global, text: &[u8]) -> Result<Vec<Section>, CallsFault>
+    ensures found { IfOk result (λ v. AreSectionsOf text.now v.items) }
+    ensures fault { IfErr result (IsSectionsFault text.now) }
+{
+    let mut sections = Vec::new(alloc);
+    let mut rest = text;
+    let mut n = 2;
+    for _ in 0..MOST_SECTIONS {
+        let (section, after) = match section_of(alloc, rest) {
+            Ok(found) => found,
+            Err(fault) => return Err(fault_at(n, fault)),
+        };
+        n += line_count(&section);
+        match sections.push(section) {
             Ok(()) => rest = after,
             Err(_) => return Err(CallsFault::Memory),
         }
+        if rest.is_empty() {
+            return Ok(sections);
+        }
     }
-    if !rest.is_empty() {
-        return Err(CallsFault::BadLine { n: MOST_CALLS + 3 });
-    }
-    Ok(entries)
+    Err(CallsFault::BadLine { n })
 }
 
-/// The one section that a calls text spells.
-fn section_of(alloc: Global, text: &[u8]) -> Result<Section, CallsFault>
-    ensures found { IfOk result (λ s. AreRead (s ∷ []) × (text.now ≡ spelling (s ∷ []))) }
+/// The sections that a whole calls text spells.
+fn whole_text(alloc: Global, text: &[u8]) -> Result<Vec<Section>, CallsFault>
+    ensures found { IfOk result (λ v. AreRead v.items × (text.now ≡ spelling v.items)) }
     ensures fault { IfErr result (IsReadFault text.now) }
 {
     let Some((header, rest)) = cut(text, b'\n') else {
@@ -95,23 +140,11 @@ fn section_of(alloc: Global, text: &[u8]) -> Result<Section, CallsFault>
     if header != b"dlcalls 1".as_slice() {
         return Err(CallsFault::BadLine { n: 1 });
     }
-    let Some((line, rest)) = cut(rest, b'\n') else {
-        return Err(CallsFault::BadLine { n: 2 });
-    };
-    let (cpus, limit) = match domain_of(line) {
-        Ok(domain) => domain,
-        Err(fault) => return Err(fault_at(2, fault)),
-    };
-    let entries = entries_of(alloc, rest)?;
-    Ok(Section {
-        cpus: cpus as u32,
-        limit,
-        entries,
-    })
+    sections_of(alloc, rest)
 }
 
-/// The sections that a calls text spells, in one pass over the text. Entries have no reply, and each client's are numbered
-/// 0, 1, 2, .. in their order. For now a text is read where it has one section.
+/// The 1 to 8 sections that a calls text spells, in one pass over the text. Entries have no reply, and in each section each
+/// client's are numbered 0, 1, 2, .. in their order.
 ///
 /// # Errors
 /// 30 [`CallsFault::BadLine`]: the first line, from 1, at which the text stops being a front of whole lines of a text that is
@@ -128,10 +161,5 @@ pub fn read_calls(alloc: Global, text: &[u8]) -> Result<Vec<Section>, CallsFault
     ensures bad { (n : ℕ) → IsBadLine text.now n
         → IsErrOf result (CallsFault.BadLine n) ⊎ IsErrOf result CallsFault.Memory }
 {
-    let section = section_of(alloc, text)?;
-    let mut sections = Vec::new(alloc);
-    match sections.push(section) {
-        Ok(()) => Ok(sections),
-        Err(_) => Err(CallsFault::Memory),
-    }
+    whole_text(alloc, text)
 }

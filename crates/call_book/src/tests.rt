@@ -14,6 +14,10 @@ const ALL_KINDS: &str = "dlcalls 1\ndomain 64 1048576\nadmit 1 1 T1 4 8 9 R 0 -1
     1000000000:1000000000{w,r1000000000}2{t1000000000,s1000000000,w}\n\
     regrade 1 1 5 8 9 -\nregrade 64 65535 6 8 9 R\nregrade 64 1 6 8 9 - busy 0\nwake 64 65535\nleave 2 65535\nadvance 1 60000000\n";
 
+/// Two sections, in which each client counts its calls anew.
+const TWO_SECTIONS: &str =
+    "dlcalls 1\ndomain 1 996147\nadvance 1 1\nadvance 2 1\nadvance 1 2\ndomain 2 1048576\nadvance 1 3\n";
+
 /// The first bad line, or 0 where the text is read.
 fn bad_line(alloc: Global, text: &[u8]) -> Result<u64, CallsFault> {
     match read_calls(alloc, text) {
@@ -30,6 +34,17 @@ fn throttled_inside_a_job(rt: HostRuntime) -> Result<(), Fail> {
     assert_eq!(rt;
         shown.as_str(),
         "[Section { cpus: 1, limit: 1048576, entries: [Entry { client: 1, seq: 0, call: Admit { number: 1, name: Name { text: \"a\" }, params: Params { runtime: 2, deadline: 5, period: 5, reclaim: false, bw: 419430 }, delay: 0, script: Script { rounds: Some(1), phases: [Phase { count: 1, events: [Run(4)] }] } }, reply: None }, Entry { client: 1, seq: 1, call: Advance { ticks: 11 }, reply: None }] }]"
+    );
+    Ok(())
+}
+
+#[test]
+fn two_sections(rt: HostRuntime) -> Result<(), Fail> {
+    let sections = read_calls(rt.alloc(), TWO_SECTIONS.as_bytes())?;
+    let shown = format!(in rt.alloc(); "{sections:?}")?;
+    assert_eq!(rt;
+        shown.as_str(),
+        "[Section { cpus: 1, limit: 996147, entries: [Entry { client: 1, seq: 0, call: Advance { ticks: 1 }, reply: None }, Entry { client: 2, seq: 0, call: Advance { ticks: 1 }, reply: None }, Entry { client: 1, seq: 1, call: Advance { ticks: 2 }, reply: None }] }, Section { cpus: 2, limit: 1048576, entries: [Entry { client: 1, seq: 0, call: Advance { ticks: 3 }, reply: None }] }]"
     );
     Ok(())
 }
@@ -71,6 +86,10 @@ fn first_wrong_front(alloc: Global, text: &[u8]) -> Result<Option<usize>, CallsF
 fn fronts_of_a_text(rt: HostRuntime) -> Result<(), Fail> {
     assert_eq!(rt; first_wrong_front(rt.alloc(), THROTTLED.as_bytes())?, None);
     assert_eq!(rt; first_wrong_front(rt.alloc(), ALL_KINDS.as_bytes())?, None);
+    assert_eq!(rt;
+        first_wrong_front(rt.alloc(), TWO_SECTIONS.as_bytes())?,
+        None
+    );
     Ok(())
 }
 
@@ -88,6 +107,14 @@ fn full_text(alloc: Global) -> Result<Vec<u8>, AllocError> {
 fn full_section(rt: HostRuntime) -> Result<(), Fail> {
     let mut text = full_text(rt.alloc())?;
     assert_eq!(rt; bad_line(rt.alloc(), text.as_slice())?, 0);
+    text.extend_from_slice(b"domain 1 1048576\nadvance 1 1\n")?;
+    assert_eq!(rt; bad_line(rt.alloc(), text.as_slice())?, 0);
+    Ok(())
+}
+
+#[test]
+fn a_call_too_many(rt: HostRuntime) -> Result<(), Fail> {
+    let mut text = full_text(rt.alloc())?;
     text.extend_from_slice(b"advance 1 1\n")?;
     assert_eq!(rt; bad_line(rt.alloc(), text.as_slice())?, 65539);
     Ok(())

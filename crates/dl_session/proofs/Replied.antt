@@ -1,23 +1,15 @@
 -- What a replay answers, from what its parts answered.
-use Rattle.std.proofs.Common.{◌≡◌, ℕ, ◌+◌, List, Result, Ok, Err, subst}
-use Rattle.std.specs.Prelude.{OnOk, OnErr, IfErr}
+use Rattle.std.proofs.Common.{◌≡◌, ℕ, List, Result, Ok, Err, subst}
+use Rattle.std.specs.Prelude.{IfErr}
 use Rattle.std.specs.Io.KnownBytes.{Appends}
 use Rattle.call_book.specs.SectionView.{SectionView}
-use Rattle.switch_text.specs.Sides.{HasNoFault, HasOneFault}
+use Rattle.switch_text.specs.Sides.{HasNoFault}
 use Rattle.switch_text.specs.Faults.{TakesFront}
 use Rattle.dl_session.specs.declared.fault.SessionFault.{SessionFault}
 use Rattle.dl_session.specs.declared.fault.SessionFault.TheVariants.{Calls, Read, Write, Memory}
 use Rattle.dl_session.specs.Replay.{trace_of_sections}
 use Rattle.dl_session.specs.Answer.{Seen, AreSpelled, IsAnswered, IsFaultOf}
-use Rattle.dl_session.specs.private.Replaying.{IsCut}
-
-pub on_both : {T E : Type 0} (r : Result T E) (P Q R : Type 0) → (P → Q → R) → OnOk r P → OnOk r Q → OnOk r R
-on_both (Ok x) P Q R f a b = f a b
-on_both (Err e) P Q R f a b = tt
-
-pub if_err : {T E : Type 0} (r : Result T E) (P : E → Type 0) (Q : Type 0) (R : E → Type 0) → ((e : E) → P e → Q → R e) → IfErr r P → OnErr r Q → IfErr r R
-if_err (Ok x) P Q R f a b = tt
-if_err (Err e) P Q R f a b = f e a b
+use Rattle.dl_session.specs.private.Replaying.{IsWritten, IsUnwritten}
 
 -- what was read, and what its sections' trace is
 pub record IsSpelled (s : Seen) (trace : List ℕ) : Type 0 where
@@ -26,23 +18,27 @@ pub record IsSpelled (s : Seen) (trace : List ℕ) : Type 0 where
   pub same : trace ≡ trace_of_sections sections
   pub reads : HasNoFault s.reader
 
-pub answered : (s : Seen) (trace : List ℕ) → IsSpelled s trace → Appends s.writer.before.bytes s.writer.after.bytes trace → HasNoFault s.writer → IsAnswered s
-answered s trace is written writes = record {
+pub answered : (s : Seen) (trace : List ℕ) → IsSpelled s trace → IsWritten s.writer trace → IsAnswered s
+answered s trace is is_written = record {
   sections = is.sections;
   input = is.input;
-  written = subst (Appends s.writer.before.bytes s.writer.after.bytes) is.same written;
+  written = subst (Appends s.writer.before.bytes s.writer.after.bytes) is.same is_written.taken;
   reads = is.reads;
-  writes = writes;
+  writes = is_written.writes;
 }
 
-pub means_cut : (s : Seen) (trace : List ℕ) → IsSpelled s trace → (e : SessionFault) → IsCut s.writer trace e → HasOneFault s.writer → IsFaultOf s e
-means_cut s trace is (Calls n) cut writes = absurd cut
-means_cut s trace is Read cut writes = absurd cut
-means_cut s trace is (Write n) cut writes = record {
+pub faulted : (s : Seen) (trace : List ℕ) → IsSpelled s trace → (e : SessionFault) → IsUnwritten s.writer trace e → IsFaultOf s e
+faulted s trace is (Calls n) unwritten = absurd unwritten
+faulted s trace is Read unwritten = absurd unwritten
+faulted s trace is (Write n) unwritten = record {
   sections = is.sections;
   input = is.input;
-  taken = subst (λ t. TakesFront s.writer.before.bytes s.writer.after.bytes t n) is.same cut;
+  taken = subst (λ t. TakesFront s.writer.before.bytes s.writer.after.bytes t n) is.same unwritten.taken;
   reads = is.reads;
-  writes = writes;
+  writes = unwritten.writes;
 }
-means_cut s trace is Memory cut writes = absurd cut
+faulted s trace is Memory unwritten = record { unwritten = unwritten.kept; reads = is.reads; writes = unwritten.writes }
+
+pub if_err_from : {T E : Type 0} (r : Result T E) (P Q : E → Type 0) → ((e : E) → P e → Q e) → IfErr r P → IfErr r Q
+if_err_from (Ok x) P Q f h = tt
+if_err_from (Err e) P Q f h = f e h

@@ -3,7 +3,7 @@
 //!
 //! Meets the definition of what a replay answers (`specs/Answer.antt`), over the trace of the sections that a calls text spells
 //! (`specs/Replay.antt`). To the crates above it promises the theorem on `replay`: `Ok` means that what was written is the trace
-//! of the run of the calls that were read, and nothing else; each fault means what it says, and where it is no fault of the
+//! of the runs of the sections that were read, each on a domain of its own, and nothing else; each fault means what it says, and where it is no fault of the
 //! writer, nothing was written.
 #![tactic(auto)]
 
@@ -15,11 +15,13 @@ mod named_run;
 mod names;
 mod options;
 mod parts;
+mod placed_run;
 mod pool;
 mod refusal;
 mod replaying;
 mod report;
 mod session;
+mod trace;
 
 pub use client::Client;
 pub use fault::{FaultLine, SessionFault};

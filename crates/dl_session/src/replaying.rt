@@ -1,55 +1,19 @@
 //! From bytes to bytes: recorded calls in, their trace out.
 
-ghost use Rattle.std.specs.Prelude.{◌≡◌, ◌<◌, ◌^◌, OnOk, OnErr, IfErr, length, [], ◌∷◌};
-ghost use Rattle.std.specs.Io.KnownBytes.{Appends};
-ghost use Rattle.switch_text.specs.Sides.{inner_of, faults_of, side, HasNoFault, HasOneFault};
+ghost use Rattle.std.specs.Prelude.{◌<◌, ◌^◌, OnOk, IfErr};
+ghost use Rattle.switch_text.specs.Sides.{faults_of, side};
 ghost use Rattle.dl_session.specs.Answer.{seen, IsAnswered, IsFaultOf};
-ghost use Rattle.dl_session.specs.private.Replaying.{AreNamed, IsCut, trace_of_run};
 
 use crate::fault::SessionFault;
-use crate::named_run::{NamedRun, run_section};
-use call_book::{CallsFault, Section, read_calls};
+use crate::placed_run::run_sections;
+use crate::trace::write_runs;
+use call_book::{CallsFault, read_calls};
 use std::alloc::Global;
 use std::io::{Read, Write};
-use switch_text::{Counted, ReadFault, Run, write_trace};
+use switch_text::{Counted, ReadFault};
 
-/// Writes the trace of a run, whose domain has the first CPUs of the machine.
-#[tactic(auto, unfolding(crate::specs::private::Replaying::trace_of_run))]
-fn write_run<W: Write>(run: &NamedRun, writer: &mut Counted<W>) -> Result<(), SessionFault>
-    requires named { AreNamed run.now.state run.now.names }
-    requires faults { faults_of writer.old < 2 ^ 63 }
-    ensures ok { OnOk result (Appends (W.contents (inner_of writer.old)) (W.contents (inner_of writer.new))
-        (trace_of_run run.now.state run.now.names)) }
-    ensures whole { OnOk result (HasNoFault (side W.contents writer.old writer.new)) }
-    ensures err { IfErr result (IsCut (side W.contents writer.old writer.new)
-        (trace_of_run run.now.state run.now.names)) }
-    ensures cut { OnErr result (HasOneFault (side W.contents writer.old writer.new)) }
-{
-    let runs = [Run {
-        base: 0,
-        names: &run.names,
-        switches: run.state.switches(),
-    }];
-    match write_trace(&runs, writer) {
-        Ok(()) => Ok(()),
-        Err(fault) => Err(SessionFault::Write {
-            written: fault.written,
-        }),
-    }
-}
-
-/// The one section of a text that is read.
-fn only_section(mut sections: Vec<Section>) -> Section
-    requires { length sections.items ≡ 1 }
-    ensures { sections.items ≡ result ∷ [] }
-{
-    match sections.pop() {
-        Some(section) => section,
-        None => unreachable!(),
-    }
-}
-
-/// Reads a calls text to its end, runs the calls of its section, and writes their trace.
+/// Reads a calls text to its end, runs the calls of each of its 1 to 8 sections on a domain of its own, and writes one trace of
+/// all domains, by time and CPU of the machine: the first domain has the first CPUs of the machine, the second the next ones.
 ///
 /// `Ok`: the input spells sections, and what was written is the trace of their run, and nothing else.
 ///
@@ -79,9 +43,9 @@ pub fn replay<R: Read, W: Write>(
         Err(CallsFault::BadLine { n }) => return Err(SessionFault::Calls(n)),
         Err(CallsFault::Memory) => return Err(SessionFault::Memory),
     };
-    let run = match run_section(alloc, only_section(sections)) {
-        Ok(run) => run,
+    let runs = match run_sections(alloc, sections) {
+        Ok(runs) => runs,
         Err(_) => return Err(SessionFault::Memory),
     };
-    write_run(&run, writer)
+    write_runs(alloc, &runs, writer)
 }

@@ -20,6 +20,9 @@ const THROTTLED_TRACE: &[u8] = b"# tracer: nop
                a-1001    [000] d..2.     0.000007: sched_switch: prev_comm=a prev_pid=1001 prev_prio=-1 prev_state=X ==> next_comm=swapper/0 next_pid=0 next_prio=120
 ";
 
+const NINE_SECTIONS: &[u8] =
+    b"dlcalls 1\ndomain 1 10485\ndomain 1 10485\ndomain 1 10485\ndomain 1 10485\ndomain 1 10485\ndomain 1 10485\ndomain 1 10485\ndomain 1 10485\ndomain 1 10485\n";
+
 /// What a replay says at its end: nothing, or how the program tells its fault.
 fn told(alloc: Global, answer: Result<(), SessionFault>) -> Result<String, Fail> {
     Ok(match answer {
@@ -45,13 +48,14 @@ fn throttled_inside_a_job(rt: HostRuntime) -> Result<(), Fail> {
 
 #[test]
 fn bad_lines(rt: HostRuntime) -> Result<(), Fail> {
-    let table: [(&[u8], &str); 4] = [
+    let table: [(&[u8], &str); 5] = [
         (b"", "dlsim: calls 30 line 1"),
         (b"dlcalls 1\n", "dlsim: calls 30 line 2"),
         (
-            b"dlcalls 1\ndomain 1 1048576\ndomain 1 1048576\n",
+            b"dlcalls 1\ndomain 1 1048576\ndomain 0 1048576\n",
             "dlsim: calls 30 line 3",
         ),
+        (NINE_SECTIONS, "dlsim: calls 30 line 10"),
         (&THROTTLED[..65], "dlsim: calls 30 line 4"),
     ];
     for (text, wanted) in table {
@@ -88,6 +92,67 @@ fn reclaiming_example(rt: HostRuntime) -> Result<(), Fail> {
         ("0.000000: ", "prev_comm=swapper/0 ", "next_comm=T1 "),
         ("0.000002: ", "-1 prev_state=S ", "next_comm=T2 "),
         ("0.000008: ", "-1 prev_state=R+ ", "next_comm=T1 "),
+    ];
+    assert!(rt; has_lines(rt.alloc(), text, &lines)?);
+    Ok(())
+}
+
+// Each domain has its own tasks 1, and CPUs behind those of the domain before.
+#[test]
+fn two_domains(rt: HostRuntime) -> Result<(), Fail> {
+    let text =
+        b"dlcalls 1\ndomain 1 1048576\nadmit 1 1 a 2 8 8 - 0 1:1{r2}\nadvance 1 3\ndomain 2 1048576\nadmit 1 1 a 2 8 8 - 1 1:1{r2}\nadmit 1 2 b 2 8 8 - 1 1:1{r1}\nadvance 1 4\n";
+    let lines = [
+        (
+            "[000] d..2.     0.000000: ",
+            "prev_comm=swapper/0 ",
+            "next_comm=a next_pid=1001 ",
+        ),
+        (
+            "[001] d..2.     0.000001: ",
+            "prev_comm=swapper/1 ",
+            "next_comm=b next_pid=1002 ",
+        ),
+        (
+            "[002] d..2.     0.000001: ",
+            "prev_comm=swapper/2 ",
+            "next_comm=a next_pid=1001 ",
+        ),
+        (
+            "[000] d..2.     0.000002: ",
+            "-1 prev_state=X ",
+            "next_comm=swapper/0 ",
+        ),
+        (
+            "[001] d..2.     0.000002: ",
+            "-1 prev_state=X ",
+            "next_comm=swapper/1 ",
+        ),
+        (
+            "[002] d..2.     0.000003: ",
+            "-1 prev_state=X ",
+            "next_comm=swapper/2 ",
+        ),
+    ];
+    assert!(rt; has_lines(rt.alloc(), text, &lines)?);
+    Ok(())
+}
+
+#[test]
+fn two_tasks_of_one_name(rt: HostRuntime) -> Result<(), Fail> {
+    let text =
+        b"dlcalls 1\ndomain 1 1048576\nadmit 1 1 a 2 8 8 - 0 1:1{r1}\nadmit 1 2 a 2 8 8 - 0 1:1{r1}\nadvance 1 2\n";
+    let lines = [
+        (
+            "0.000000: ",
+            "prev_comm=swapper/0 ",
+            "next_comm=a next_pid=1001 ",
+        ),
+        (
+            "0.000001: ",
+            "prev_comm=a prev_pid=1001 ",
+            "next_comm=a next_pid=1002 ",
+        ),
     ];
     assert!(rt; has_lines(rt.alloc(), text, &lines)?);
     Ok(())

@@ -4,7 +4,7 @@ use Rattle.std.specs.Option.{option_map_or}
 use Rattle.std.specs.Result.{result_ok}
 use Rattle.std.specs.Char.{is_ascii_digit}
 use Rattle.std.specs.Str.{bytes_eq}
-use Rattle.std.specs.List.{before_first, after_first, position_or_len, list_all, AllByRecursion}
+use Rattle.std.specs.List.{before_first, after_first, position_or_len, list_all, flat_map, AllByRecursion}
 use Rattle.attr_check.specs.ParamsView.{ParamsView}
 use Rattle.attr_check.specs.Accepted.{accepted}
 use Rattle.domain_run.specs.declared.script.Event.{Event}
@@ -18,7 +18,8 @@ use Rattle.call_book.specs.declared.fault.CallsFault.{CallsFault}
 use Rattle.call_book.specs.declared.fault.CallsFault.TheVariants as faults
 use Rattle.call_book.specs.declared.times.Times.{Times}
 use Rattle.call_book.specs.declared.section.Entry.{Entry}
-use Rattle.call_book.specs.Spelling.{entry_line, text_of}
+use Rattle.call_book.specs.SectionView.{SectionView}
+use Rattle.call_book.specs.Spelling.{entry_line, domain_line, section_lines, text_of}
 use Rattle.call_book.specs.OwnCalls.{IsNumbered, made_by}
 use Rattle.call_book.specs.Limits.{IsClient, IsEntry}
 
@@ -236,7 +237,7 @@ abbrev pub fault_from : ℕ → PartFault → CallsFault
 fault_from n Bad = faults.BadLine n
 fault_from n Memory = faults.Memory
 
--- ---- the entries of the one section, from line 3 on
+-- ---- the entries of a section
 
 pub record IsEntryRead (e : Entry) : Type 0 where
   pub within : IsEntry e
@@ -262,16 +263,73 @@ pub record IsNext (line : List ℕ) (made : List ℕ) (e : Entry) : Type 0 where
   pub no_reply : e.reply ≡ None
   pub seq : e.seq ≡ slice_index made (e.client - 1)
 
--- after these entries more stands there, and it does not begin with the line of a further entry
-pub record IsBadEntryLine (text : List ℕ) (n : ℕ) : Type 0 where
-  pub entries : List Entry
-  pub rest : List ℕ
+-- the text does not begin with the line of an entry
+abbrev pub LacksEntry : List ℕ → Type 0
+LacksEntry text = (e : Entry) (after : List ℕ) → IsEntryRead e → text ≡ entry_line e ++ 10 ∷ after → ⊥
+
+-- the entries at the front of a text: as many as stand there, and as a section may have
+pub record AreEntries (text rest : List ℕ) (entries : List Entry) : Type 0 where
   pub so_far : SoFar text rest entries
   pub few : length entries ≤ 65536
-  pub place : n ≡ length entries + 3
-  pub more : 0 < length rest
-  pub stops : length entries < 65536 → (e : Entry) (after : List ℕ) → IsEntryRead e → rest ≡ entry_line e ++ 10 ∷ after → ⊥
+  pub stops : length entries < 65536 → LacksEntry rest
 
-abbrev pub IsEntriesFault : List ℕ → CallsFault → Type 0
-IsEntriesFault text (faults.BadLine n) = IsBadEntryLine text n
-IsEntriesFault text faults.Memory = Unit {0}
+-- ---- the sections of a text, from line 2 on
+
+pub record IsSectionRead (s : SectionView) : Type 0 where
+  pub some : 0 < s.cpus
+  pub most : s.cpus ≤ 64
+  pub low : 10485 ≤ s.limit
+  pub high : s.limit ≤ 1048576
+  pub few : length s.entries ≤ 65536
+  pub each : AllByRecursion IsEntryRead s.entries
+  pub numbered : IsNumbered s.entries
+
+-- the section at the front of a text, with as many entries as stand there, and as it may have
+pub record IsFirstSection (text rest : List ℕ) (s : SectionView) : Type 0 where
+  pub parts : text ≡ text_of (section_lines s) ++ rest
+  pub is : IsSectionRead s
+  pub stops : length s.entries < 65536 → LacksEntry rest
+
+-- the text does not begin with the line of a domain
+abbrev pub LacksDomain : List ℕ → Type 0
+LacksDomain text = (s : SectionView) (after : List ℕ) → IsSectionRead s → text ≡ domain_line s ++ 10 ∷ after → ⊥
+
+abbrev pub IsNoSection : List ℕ → PartFault → Type 0
+IsNoSection text Bad = LacksDomain text
+IsNoSection text Memory = Unit {0}
+
+abbrev pub sections_text : List SectionView → List ℕ
+sections_text sections = text_of (flat_map section_lines sections)
+
+-- there is a last section, and it may have one more entry
+abbrev pub HasRoom : List SectionView → Type 0
+HasRoom [] = ⊥
+HasRoom (s ∷ []) = length s.entries < 65536
+HasRoom (s ∷ t ∷ sections) = HasRoom (t ∷ sections)
+
+-- the text is that of these sections, and then the rest, which does not go on with the last of them
+pub record SectionsSoFar (text rest : List ℕ) (sections : List SectionView) : Type 0 where
+  pub parts : text ≡ sections_text sections ++ rest
+  pub each : AllByRecursion IsSectionRead sections
+  pub stops : HasRoom sections → LacksEntry rest
+  pub more : 0 < length sections → 0 < length rest
+
+-- the text is that of these sections
+pub record AreSectionsOf (text : List ℕ) (sections : List SectionView) : Type 0 where
+  pub text_is : text ≡ sections_text sections
+  pub some : 0 < length sections
+  pub most : length sections ≤ 8
+  pub each : AllByRecursion IsSectionRead sections
+
+-- after these sections more stands there, or there is none of them, and no further section follows
+pub record IsBadSectionLine (text : List ℕ) (n : ℕ) : Type 0 where
+  pub sections : List SectionView
+  pub rest : List ℕ
+  pub so_far : SectionsSoFar text rest sections
+  pub most : length sections ≤ 8
+  pub place : n ≡ length (flat_map section_lines sections) + 2
+  pub ends : length sections < 8 → LacksDomain rest
+
+abbrev pub IsSectionsFault : List ℕ → CallsFault → Type 0
+IsSectionsFault text (faults.BadLine n) = IsBadSectionLine text n
+IsSectionsFault text faults.Memory = Unit {0}

@@ -50,7 +50,8 @@ const REGRADES: &str = "regrade 0 1 2 5 5 -;regrade 65 1 2 5 5 -;regrade 01 1 2 
     regrade 1 1 2 5 5 - ;regrade 1 1 2 5 5 - 1;regrade 1 1 2 5 5 - busy 67108865;regrade 1 1 2 5 5  -;\
     regrade  1 1 2 5 5 -; regrade 1 1 2 5 5 -;regrade";
 
-const OTHER_LINES: &str = "; ;domain 1 1048576;dlcalls 1;Advance 1 1;advances 1 1;limit 1 1048576;\
+const OTHER_LINES: &str =
+    "; ;domain 0 1048576;domain 1 1048577;dlcalls 1;Advance 1 1;advances 1 1;limit 1 1048576;\
     wake 1 65536;leave 1 65536;advance 1 60000001; wake 1 1; leave 1 1; advance 1 1";
 
 /// What may not follow the word of a call that has a number alone.
@@ -92,6 +93,28 @@ fn first_read_of_all(alloc: Global) -> Result<Option<&'static str>, Fail> {
 #[test]
 fn every_bad_line(rt: HostRuntime) -> Result<(), Fail> {
     assert_eq!(rt; first_read_of_all(rt.alloc())?, None);
+    Ok(())
+}
+
+/// A text of so many sections of one call each.
+fn of_sections(alloc: Global, count: u64) -> Result<String, Fail> {
+    let mut text = String::from_str(alloc, "dlcalls 1\n")?;
+    for _ in 0..count {
+        text.push_str("domain 1 1048576\nadvance 1 1\n")?;
+    }
+    Ok(text)
+}
+
+#[test]
+fn at_most_8_sections(rt: HostRuntime) -> Result<(), Fail> {
+    for (count, want) in [(0, 2), (1, 0), (8, 0), (9, 18)] {
+        let text = of_sections(rt.alloc(), count)?;
+        assert_eq!(rt;
+            bad_line(rt.alloc(), text.as_bytes())?,
+            want,
+            "{count} sections"
+        );
+    }
     Ok(())
 }
 

@@ -1,4 +1,4 @@
-use super::{ALL_KINDS, THROTTLED};
+use super::{ALL_KINDS, THROTTLED, TWO_SECTIONS};
 use crate::{Call, Entry, Reply, Section, read_calls, write_calls};
 use attr_check::{Params, SchedAttr, check};
 use std::alloc::Global;
@@ -47,7 +47,7 @@ fn sections(alloc: Global) -> Result<Vec<Section>, Fail> {
     Ok(sections)
 }
 
-/// Sections are written that no text is read as.
+/// Neither the reply nor the sequence number is written.
 #[test]
 fn refused_by_the_word(rt: HostRuntime) -> Result<(), Fail> {
     let sections = sections(rt.alloc())?;
@@ -68,6 +68,7 @@ fn is_written_again(alloc: Global, text: &str) -> Result<bool, Fail> {
 fn read_and_written_again(rt: HostRuntime) -> Result<(), Fail> {
     assert!(rt; is_written_again(rt.alloc(), THROTTLED)?);
     assert!(rt; is_written_again(rt.alloc(), ALL_KINDS)?);
+    assert!(rt; is_written_again(rt.alloc(), TWO_SECTIONS)?);
     assert!(rt; is_written_again(rt.alloc(), "dlcalls 1\ndomain 64 10485\n")?);
     Ok(())
 }

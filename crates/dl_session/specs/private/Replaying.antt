@@ -1,16 +1,18 @@
--- A run under way, and what is written of it.
-use Rattle.std.specs.Prelude.{ℕ, ◌≡◌, List, [], ◌∷◌}
+-- Runs under way, and what is written of them.
+use Rattle.std.specs.Prelude.{ℕ, ◌≡◌, ◌+◌, ◌≤◌, List, map}
+use Rattle.std.specs.Io.KnownBytes.{Appends, Keeps}
 use Rattle.domain_run.specs.Domain.{Domain, opened}
 use Rattle.domain_run.specs.Sound.{IsAdmitted}
 use Rattle.domain_run.specs.Run.{run_of}
 use Rattle.call_book.specs.declared.section.Entry.{Entry}
 use Rattle.call_book.specs.SectionView.{SectionView}
 use Rattle.switch_text.specs.Names.{Names, named, HasName}
-use Rattle.switch_text.specs.Trace.{trace_of}
-use Rattle.switch_text.specs.Sides.{Side}
+use Rattle.switch_text.specs.Trace.{RunView, trace_of}
+use Rattle.switch_text.specs.Sides.{Side, HasNoFault, HasOneFault}
 use Rattle.switch_text.specs.Faults.{TakesFront}
 use Rattle.dl_session.specs.declared.fault.SessionFault.{SessionFault}
 use Rattle.dl_session.specs.declared.fault.SessionFault.TheVariants.{Calls, Read, Write, Memory}
+use Rattle.dl_session.specs.declared.placed_run.PlacedRun.{PlacedRun}
 use Rattle.dl_session.specs.Replay.{names_of, no_names, calls_of}
 
 abbrev pub section_view : ℕ → ℕ → List Entry → SectionView
@@ -30,13 +32,37 @@ pub record IsRunOf (s : SectionView) (d : Domain) (names : Names) : Type 0 where
   pub called : Gives names (names_of (opened s.cpus s.limit) (calls_of s) no_names)
   pub all_named : AreNamed d names
 
--- the trace of one domain on the first CPUs of the machine
-unfoldable pub trace_of_run : Domain → Names → List ℕ
-trace_of_run d names = trace_of (record { base = 0; names = named names; switches = d.switches } ∷ [])
+-- the run of one domain of the machine, as it is written
+abbrev pub view_of : PlacedRun → RunView
+view_of r = record { base = r.base; names = named r.run.names; switches = r.run.state.switches }
 
--- the writer took exactly so many bytes of a text, and not all
-abbrev pub IsCut : Side → List ℕ → SessionFault → Type 0
-IsCut writer text (Calls n) = ⊥
-IsCut writer text Read = ⊥
-IsCut writer text (Write written) = TakesFront writer.before.bytes writer.after.bytes text written
-IsCut writer text Memory = ⊥
+-- its CPUs are CPUs of the machine, and each number that was admitted has a name
+pub record IsPlaced (r : PlacedRun) : Type 0 where
+  pub inside : r.base + r.run.state.cpus ≤ 512
+  pub named : AreNamed r.run.state r.run.names
+
+-- the trace of the domains of a machine
+unfoldable pub trace_of_runs : List PlacedRun → List ℕ
+trace_of_runs runs = trace_of (map view_of runs)
+
+-- the writer took a text, and nothing else
+pub record IsWritten (writer : Side) (text : List ℕ) : Type 0 where
+  pub taken : Appends writer.before.bytes writer.after.bytes text
+  pub writes : HasNoFault writer
+
+-- the writer failed: it took exactly so many bytes of a text, and not all
+pub record IsCut (writer : Side) (text : List ℕ) (written : ℕ) : Type 0 where
+  pub taken : TakesFront writer.before.bytes writer.after.bytes text written
+  pub writes : HasOneFault writer
+
+-- nothing was written, and no write failed
+pub record IsUntouched (writer : Side) : Type 0 where
+  pub kept : Keeps writer.before.bytes writer.after.bytes
+  pub writes : HasNoFault writer
+
+-- why a text was not written: the writer failed, or memory was refused before the first byte
+abbrev pub IsUnwritten : Side → List ℕ → SessionFault → Type 0
+IsUnwritten writer text (Calls n) = ⊥
+IsUnwritten writer text Read = ⊥
+IsUnwritten writer text (Write written) = IsCut writer text written
+IsUnwritten writer text Memory = IsUntouched writer

@@ -1,0 +1,11 @@
+use Rattle.std.proofs.Common.{◌≡◌, map, take}
+use Rattle.std.specs.Prelude.{All}
+use Rattle.switch_text.specs.Runs as runs
+use Rattle.dl_session.specs.private.Replaying.{view_of}
+use Rattle.dl_session.proofs.trace.all_as_written.Given as goal
+
+abbrev pub invariant-loop-run : goal.invariant-loop-run
+invariant-loop-run l = record {
+  views : runs.views l.written.items ≡ map view_of (take l.run-index l.placed);
+  runs : All runs.IsRun l.written.items;
+}

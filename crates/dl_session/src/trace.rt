@@ -1,0 +1,69 @@
+//! The last step: the runs of the domains of a machine as one trace.
+
+ghost use Rattle.std.specs.Prelude.{◌≡◌, ◌<◌, ◌≤◌, ◌^◌, All, IfOk, IfErr, OnOk, length, map};
+ghost use Rattle.switch_text.specs.Runs as runs;
+ghost use Rattle.switch_text.specs.Sides.{faults_of, side};
+ghost use Rattle.dl_session.specs.private.Replaying.{IsPlaced, view_of, trace_of_runs, IsWritten, IsUnwritten};
+
+use crate::fault::SessionFault;
+use crate::placed_run::PlacedRun;
+use std::alloc::Global;
+use std::io::Write;
+use switch_text::{Counted, Run, write_trace};
+
+/// A run as it is written.
+fn as_written(placed: &PlacedRun) -> Run<'_>
+    requires { IsPlaced placed.now }
+    ensures view { runs.view_of result ≡ view_of placed.now }
+    ensures run { runs.IsRun result }
+{
+    Run {
+        base: placed.base,
+        names: &placed.run.names,
+        switches: placed.run.state.switches(),
+    }
+}
+
+/// Runs as they are written.
+fn all_as_written(alloc: Global, placed: &[PlacedRun]) -> Result<Vec<Run<'_>>, SessionFault>
+    requires { All IsPlaced placed.now }
+    ensures views { IfOk result (λ v. runs.views v.items ≡ map view_of placed.now) }
+    ensures runs { IfOk result (λ v. All runs.IsRun v.items) }
+    ensures err { IfErr result (λ e. e ≡ SessionFault.Memory) }
+{
+    let mut written = Vec::new(alloc);
+    for run in placed {
+        match written.push(as_written(run)) {
+            Ok(()) => {}
+            Err(_) => return Err(SessionFault::Memory),
+        }
+    }
+    Ok(written)
+}
+
+/// Writes the runs of 1 to 8 domains as one trace, by time and CPU of the machine.
+///
+/// # Errors
+/// [`SessionFault::Memory`]: a growth was refused, and nothing was written. [`SessionFault::Write`]: the writer failed; it took
+/// exactly so many bytes, the front of the trace, and not all.
+pub(crate) fn write_runs<W: Write>(
+    alloc: Global,
+    placed: &[PlacedRun],
+    writer: &mut Counted<W>,
+) -> Result<(), SessionFault>
+    requires few { length placed.now ≤ 8 }
+    requires placed { All IsPlaced placed.now }
+    requires faults { faults_of writer.old < 2 ^ 63 }
+    ensures ok { OnOk result
+        (IsWritten (side W.contents writer.old writer.new) (trace_of_runs placed.now)) }
+    ensures err { IfErr result
+        (IsUnwritten (side W.contents writer.old writer.new) (trace_of_runs placed.now)) }
+{
+    let written = all_as_written(alloc, placed)?;
+    match write_trace(&written, writer) {
+        Ok(()) => Ok(()),
+        Err(fault) => Err(SessionFault::Write {
+            written: fault.written,
+        }),
+    }
+}
