@@ -1,0 +1,3 @@
+pub mod Spending
+pub mod Cutting
+pub mod MapStep
