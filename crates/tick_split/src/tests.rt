@@ -261,25 +261,27 @@ fn each_piece_has_one_turn(rt: HostRuntime) -> Result<(), Fail> {
     Ok(())
 }
 
-// Run with each growth refused in turn, those of starting a worker too: the plans are as before, and can be made then.
+// Run with each growth refused in turn, and where no thread or one alone can be started: the plans are as before, and one worker
+// then makes them.
 #[test]
 fn refused_growth_of_plan_all(rt: HostRuntime) -> Result<(), Fail> {
     let mut all = plans()?;
     if plan_all(&rt, rt.alloc(), &mut all, 2, &Silent).is_err() {
         assert_eq!(rt; all, plans()?);
-        plan_all(&rt, rt.alloc(), &mut all, 2, &Silent)?;
+        plan_all(&rt, rt.alloc(), &mut all, 1, &Silent)?;
     }
     assert_eq!(rt; outcomes(&all), PLANNED);
     Ok(())
 }
 
-// Run with each growth refused in turn, those of starting a worker too: the slices are as before, and can be charged then.
+// Run with each growth refused in turn, and where no thread or one alone can be started: the slices are as before, and one worker
+// then charges them.
 #[test]
 fn refused_growth_of_charge_all(rt: HostRuntime) -> Result<(), Fail> {
     let mut all = slices();
     if charge_all(&rt, rt.alloc(), &mut all, 2, &Silent).is_err() {
         assert_eq!(rt; all, slices());
-        charge_all(&rt, rt.alloc(), &mut all, 2, &Silent)?;
+        charge_all(&rt, rt.alloc(), &mut all, 1, &Silent)?;
     }
     assert_eq!(rt; lefts(&all), CHARGED);
     Ok(())

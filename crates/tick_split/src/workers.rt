@@ -23,12 +23,7 @@ fn start_of(k: usize, pieces: usize, len: usize) -> usize
 }
 
 /// Piece k as a list of its own.
-fn piece<W: Copy>(
-    alloc: Global,
-    items: &[W],
-    k: usize,
-    pieces: usize,
-) -> Result<Vec<W>, StartFault>
+fn piece<W: Copy>(alloc: Global, items: &[W], k: usize, pieces: usize) -> Result<Vec<W>, StartFault>
     requires { k < pieces }
     ensures { IfOk result (λ v. v.items ≡ piece_of k pieces items.now) }
 {
@@ -90,7 +85,7 @@ fn gathered<W: Work>(alloc: Global, items: &[W], parts: &[Vec<W>]) -> Result<Vec
     requires some { 0 < length parts.now }
     requires parts { (k : ℕ) (d : _) → k < length parts.now
         → (slice_index_or parts.now k d).items
-            ≡ map W.done (piece_of k (length parts.now) items.now) }
+        ≡ map W.done (piece_of k (length parts.now) items.now) }
     ensures { IfOk result (λ v. v.items ≡ map W.done items.now) }
 {
     let mut all = Vec::with_capacity(alloc, items.len())?;
@@ -119,7 +114,7 @@ fn work_apart<R: Threads + Wait, W: Work, G: Turn>(
             requires { (0 < pieces) × All W.ready items.now }
             ensures { IfOk result (λ v. (vec_len v ≡ pieces) × ((k : ℕ) (d : _) → k < pieces
                 → (slice_index_or v.items k d).items
-                    ≡ map W.done (piece_of k pieces items.entry.now))) }
+                ≡ map W.done (piece_of k pieces items.entry.now))) }
         {
             let workers = start_all(scope, alloc, items, pieces, turn)?;
             Ok(join_promised(rt, workers)?)

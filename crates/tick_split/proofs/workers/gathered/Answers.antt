@@ -1,5 +1,4 @@
-use Rattle.std.proofs.Common.{◌≡◌, ◌++◌, map, take, length, get_or, arith, sym, ap, subst, ◌∙◌}
-use Rattle.std.specs.Prelude.{vec_len}
+use Rattle.std.proofs.Common.{◌≡◌, ◌++◌, map, take, length, arith, sym, ap, subst, ◌∙◌}
 use Rattle.tick_split.specs.Pieces.{piece_start, piece_of}
 use Rattle.tick_split.proofs.Cutting.{piece_more, pieces_whole}
 use Rattle.tick_split.proofs.workers.gathered.Goals as goal
@@ -13,7 +12,7 @@ loop-part-preserved g c =
     let here : part.items ≡ map g.W.Work.done (piece_of l.part-index (length parts) items) = subst (λ v. v.items ≡ map g.W.Work.done (piece_of l.part-index (length parts) items)) (sym c.part-item.is) (c.requires.parts l.part-index part c.loop-part-test.true) in
     let before = map g.W.Work.done (take (piece_start l.part-index (length parts) (length items)) items) in
     let joined : c.extend_from_slice.new.self.items ≡ before ++ map g.W.Work.done (piece_of l.part-index (length parts) items) =
-        rw (← l.invariant, ← here, ← c.as_slice.ensures.value) c.in_ok-extend_from_slice.ensures.items in
+    rw (← l.invariant, ← here, ← c.as_slice.ensures.value) c.in_ok-extend_from_slice.ensures.items in
     joined ∙ sym (piece_more g.W.Work.done items (length parts) c.requires.some l.part-index)
 
 pub returns : goal.returns
