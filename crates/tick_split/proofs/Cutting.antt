@@ -29,7 +29,8 @@ module _ {X Y : Type 0} (f : X → Y) (xs : List X) (pieces : ℕ) (some : 0 < p
       let a = piece_start k pieces (length xs) in
       ap (map f) (front_more xs a (piece_start (k + 1) pieces (length xs)) (start_rises k pieces (length xs) some)) ∙ map-append f (take a xs) (piece_of k pieces xs)
 
-  pub pieces_whole : map f (take (piece_start pieces pieces (length xs)) xs) ≡ map f xs
-  pieces_whole =
+  -- all pieces are the whole
+  pub pieces_whole : (k : ℕ) (ys : List Y) → k ≡ pieces → ys ≡ map f (take (piece_start k pieces (length xs)) xs) → ys ≡ map f xs
+  pieces_whole k ys all is =
       let last = start_last pieces (length xs) some in
-      ap (map f) (ap (λ n. take n xs) last ∙ take_all (length xs) xs (omega arith))
+      is ∙ ap (λ n. map f (take (piece_start n pieces (length xs)) xs)) all ∙ ap (λ n. map f (take n xs)) last ∙ ap (map f) (take_all (length xs) xs (omega arith))

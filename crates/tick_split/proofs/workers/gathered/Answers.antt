@@ -1,4 +1,4 @@
-use Rattle.std.proofs.Common.{◌≡◌, ◌++◌, map, take, length, arith, sym, ap, subst, ◌∙◌}
+use Rattle.std.proofs.Common.{◌≡◌, ◌++◌, map, take, length, arith, sym, subst, ◌∙◌}
 use Rattle.tick_split.specs.Pieces.{piece_start, piece_of}
 use Rattle.tick_split.proofs.Cutting.{piece_more, pieces_whole}
 use Rattle.tick_split.proofs.workers.gathered.Goals as goal
@@ -20,5 +20,5 @@ returns g c =
     let l = c.loop-part in
     let parts = c.args.parts.now in
     let items = c.args.items.now in
-    let at : l.part-index ≡ length parts = omega arith in
-    l.invariant ∙ ap (λ k. map g.W.Work.done (take (piece_start k (length parts) (length items)) items)) at ∙ pieces_whole g.W.Work.done items (length parts) c.requires.some
+    let last : l.part-index ≡ length parts = omega arith in
+    pieces_whole g.W.Work.done items (length parts) c.requires.some l.part-index l.all.items last l.invariant
