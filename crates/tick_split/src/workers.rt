@@ -61,8 +61,7 @@ fn start_all<'s, E, W: Work + 's, G: Turn>(
     pieces: usize,
     turn: &'s G,
 ) -> Result<Vec<PromisedHandle<Vec<W>, Worked<W>>>, StartFault>
-    requires some { 0 < pieces }
-    requires ready { All W.ready items.now }
+    requires { All W.ready items.now }
     ensures len { IfOk result (λ v. vec_len v ≡ pieces) }
     ensures each { IfOk result (λ v. (k : ℕ) (d : _) → k < pieces
         → (slice_index_or v.items k d).promise.0.value.items ≡ piece_of k pieces items.now) }
@@ -75,24 +74,25 @@ fn start_all<'s, E, W: Work + 's, G: Turn>(
             requires { All W.ready part.items }
             ensures { result.items ≡ map W.done part.items }
         { worked(part, k, turn) };
-        workers.push(scope.spawn_with(promise, worker)?)?;
+        workers.push_reserved(scope.spawn_with(promise, worker)?);
     }
     Ok(workers)
 }
 
-/// The pieces put together again.
-fn gathered<W: Work>(alloc: Global, items: &[W], parts: &[Vec<W>]) -> Result<Vec<W>, StartFault>
+/// Puts the pieces back to their places.
+fn put_back<W: Work>(items: &mut [W], parts: &[Vec<W>])
     requires some { 0 < length parts.now }
     requires parts { (k : ℕ) (d : _) → k < length parts.now
         → (slice_index_or parts.now k d).items
-        ≡ map W.done (piece_of k (length parts.now) items.now) }
-    ensures { IfOk result (λ v. v.items ≡ map W.done items.now) }
+        ≡ map W.done (piece_of k (length parts.now) items.old) }
+    ensures { items.new ≡ map W.done items.old }
 {
-    let mut all = Vec::with_capacity(alloc, items.len())?;
-    for part in parts {
-        all.extend_from_slice(part.as_slice())?;
+    let len = items.len();
+    for (k, part) in parts.iter().enumerate() {
+        let from = start_of(k, parts.len(), len);
+        let to = start_of(k + 1, parts.len(), len);
+        items[from..to].copy_from_slice(part.as_slice());
     }
-    Ok(all)
 }
 
 /// Works on copies of the pieces, each in a worker of its own, into which it is moved and from which it comes back with the join.
@@ -102,25 +102,26 @@ fn work_apart<R: Threads + Wait, W: Work, G: Turn>(
     items: &[W],
     pieces: usize,
     turn: &G,
-) -> Result<Vec<W>, StartFault>
-    requires some { 0 < pieces }
-    requires ready { All W.ready items.now }
-    ensures { IfOk result (λ v. v.items ≡ map W.done items.now) }
+) -> Result<Vec<Vec<W>>, StartFault>
+    requires { All W.ready items.now }
+    ensures len { IfOk result (λ v. vec_len v ≡ pieces) }
+    ensures each { IfOk result (λ v. (k : ℕ) (d : _) → k < pieces
+        → (slice_index_or v.items k d).items ≡ map W.done (piece_of k pieces items.now)) }
 {
-    let parts = thread::scope(
+    thread::scope(
         thread::scope_env(),
         rt,
         |scope| -> Result<Vec<Vec<W>>, StartFault>
-            requires { (0 < pieces) × All W.ready items.now }
-            ensures { IfOk result (λ v. (vec_len v ≡ pieces) × ((k : ℕ) (d : _) → k < pieces
+            requires { All W.ready items.now }
+            ensures len { IfOk result (λ v. vec_len v ≡ pieces) }
+            ensures each { IfOk result (λ v. (k : ℕ) (d : _) → k < pieces
                 → (slice_index_or v.items k d).items
-                ≡ map W.done (piece_of k pieces items.entry.now))) }
+                ≡ map W.done (piece_of k pieces items.entry.now)) }
         {
             let workers = start_all(scope, alloc, items, pieces, turn)?;
             Ok(join_promised(rt, workers)?)
         },
-    )?;
-    gathered(alloc, items, parts.as_slice())
+    )
 }
 
 /// Works on each element, in at most so many workers. In one piece it is done here, with no thread and no memory.
@@ -139,8 +140,8 @@ pub(crate) fn work_all<R: Threads + Wait, W: Work, G: Turn>(
 {
     let pieces = workers.min(items.len());
     if pieces > 1 {
-        let done = work_apart(rt, alloc, items, pieces, turn)?;
-        items.copy_from_slice(done.as_slice());
+        let parts = work_apart(rt, alloc, items, pieces, turn)?;
+        put_back(items, parts.as_slice());
     } else if pieces == 1 {
         work_on(items, 0, turn);
     }
