@@ -13,9 +13,9 @@ use std::alloc::Global;
 use std::sync::Wait;
 use std::thread::Threads;
 
-/// Plans each element, by so many workers at most (1 to 8 are meant). There are min(workers, elements) pieces, each worked on in a
-/// thread of its own; with one piece or none it is done here, which starts no thread, takes no memory and is always Ok. Each piece
-/// has its turn.
+/// Plans each element as [`plan`](crate::plan) does, by so many workers at most (1 to 8 are meant). There are min(workers, elements)
+/// pieces, each worked on in a thread of its own; with one piece or none it is done here, which starts no thread, takes no memory and
+/// is always Ok. Each piece has its [`Turn`].
 ///
 /// # Errors
 ///
@@ -36,7 +36,8 @@ pub fn plan_all<R: Threads + Wait, G: Turn>(
     work_all(rt, alloc, plans, workers, turn)
 }
 
-/// Charges each element, by so many workers at most, as [`plan_all`] plans.
+/// Charges each element as [`charge`](crate::charge) does, by so many workers at most; pieces, threads and turns are those of
+/// [`plan_all`].
 ///
 /// # Errors
 ///
