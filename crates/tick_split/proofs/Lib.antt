@@ -1,0 +1,4 @@
+pub mod Spending
+pub mod Cutting
+pub mod MapStep
+pub mod CallerLemmas

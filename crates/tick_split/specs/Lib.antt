@@ -1,0 +1,5 @@
+pub mod Planning
+pub mod Charging
+pub mod Pieces
+pub mod private
+pub mod Examples
