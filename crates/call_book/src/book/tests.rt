@@ -34,7 +34,22 @@ fn opened(rt: &impl Abort, alloc: Global, limit: u64, history: usize) -> Result<
     requires limit { (10485 ≤ limit) × (limit ≤ 1048576) }
     requires history { (0 < history) × (history ≤ 65536) }
 {
-    let Ok((gate, blanks)) = Gate::open(alloc, &[limit], 8) else {
+    opened_with(rt, alloc, limit, history, 8)
+}
+
+// The same with so many pieces.
+fn opened_with(
+    rt: &impl Abort,
+    alloc: Global,
+    limit: u64,
+    history: usize,
+    pieces: usize,
+) -> Result<Desk, NoMemory>
+    requires limit { (10485 ≤ limit) × (limit ≤ 1048576) }
+    requires history { (0 < history) × (history ≤ 65536) }
+    requires pieces { (0 < pieces) × (pieces ≤ 4096) }
+{
+    let Ok((gate, blanks)) = Gate::open(alloc, &[limit], pieces) else {
         return Err(NoMemory);
     };
     let (domain, mut passes) = Domain::open(alloc, &gate, 0, 1, limit, 1, history)?;
