@@ -1,13 +1,21 @@
 -- The tickets of a book, where those of tasks that have gone are given back one after another.
-use Rattle.std.proofs.Common.{◌≡◌, ℕ, ◌+◌, ◌<◌, ◌≤◌, Bool, true, false, cond, List, [], ◌∷◌, ◌++◌, length, get_or, refl, sym, ap, ◌∙◌, subst, arith, append_assoc, append-nil, length-append}
-use Rattle.std.specs.Prelude.{filter, not, All, remove}
+use Rattle.std.proofs.Common.{◌≡◌, ℕ, zero, suc, ◌+◌, ◌<◌, ◌≤◌, Bool, true, false, cond, eqb, eq-eqb, ◌||◌, Option, Some, None, List, [], ◌∷◌, ◌++◌, length, map, get_or, refl, sym, ap, ◌∙◌, subst, arith, append_assoc, append-nil, length-append}
+use Rattle.std.specs.Prelude.{filter, not, All, remove, option_map, slice_get}
+use Rattle.std.specs.Option.{option_eq}
+use Rattle.std.proofs.lemmas.Bool.{eqb-true}
+use Rattle.std.proofs.lemmas.Option.{same_Some, none-some}
 use Rattle.std.proofs.lemmas.List.{length_push}
 use Rattle.std.proofs.lemmas.List.Elements.{All-nil, All-cons, All-head, All-tail, All-append, All-filter, All-weaker}
 use Rattle.bw_gate.specs.Pieces.{GateId, BlankView}
 use Rattle.call_book.specs.Pieces.{ArePieces}
 use Rattle.bw_gate.specs.Answers.{IsGive}
 use Rattle.call_book.specs.declared.book.stock.Held.{Held}
-use Rattle.call_book.specs.Pieces.{IsTicketOf, AreGiven}
+use Rattle.domain_run.specs.declared.task.Task.{Task}
+use Rattle.domain_run.specs.Domain.{Domain}
+use Rattle.domain_run.specs.Views.{number_in}
+use Rattle.domain_run.specs.Keys.{keys, has_task}
+use Rattle.domain_run.proofs.CallerLemmas.{view_where_listed}
+use Rattle.call_book.specs.Pieces.{IsTicketOf, AreGiven, HoldsTickets, held_key, is_kept}
 
 abbrev gone_by : (Held → Bool) → List Held → List Held
 gone_by kept tickets = filter (λ h. not (kept h)) tickets
@@ -93,6 +101,63 @@ swept_give kept all first items place blanks h left more b is within read goes r
       blanks_are = pushed ∙ ap (λ (xs : List BlankView). xs ++ b ∷ []) is.blanks_are ∙ append_assoc first is.given (b ∷ []);
       are_given = given_push is.gone is.given h b is.are_given give;
     }
+
+-- ---- which ticket stays: that of the task at its place
+
+-- the number of the task at a place
+abbrev listed_at : List Task → ℕ → Option ℕ
+listed_at tasks place = option_map (λ (t : Task). t.number) (slice_get tasks place)
+
+abbrev first_key : List (ℕ × ℕ) → ℕ × ℕ
+first_key ks = get_or ks 0 (0, 0)
+
+abbrev later_keys : List (ℕ × ℕ) → List (ℕ × ℕ)
+later_keys [] = []
+later_keys (k ∷ ks) = ks
+
+-- the ticket behind some that stay, where these tickets are those of the tasks
+stays_here : (front rest : List Held) (h : Held) (tasks : List Task) → map held_key (front ++ h ∷ rest) ≡ keys tasks → listed_at tasks (length front) ≡ Some h.number
+stays_here [] rest h [] same = absurd (omega (arith, ap length same))
+stays_here [] rest h (t ∷ tasks) same = ap (λ (ks : List (ℕ × ℕ)). Some (first_key ks).0) (sym same)
+stays_here (x ∷ front) rest h [] same = absurd (omega (arith, ap length same))
+stays_here (x ∷ front) rest h (t ∷ tasks) same = stays_here front rest h tasks (ap later_keys same)
+
+-- who stands at a place is listed
+listed_here : (tasks : List Task) (place number : ℕ) → listed_at tasks place ≡ Some number → has_task tasks number ≡ true
+listed_here [] place number here = absurd (none-some number here)
+listed_here (t ∷ tasks) zero number here = ap (λ b. b || has_task tasks number) (eq-eqb t.number number (same_Some t.number number here))
+listed_here (t ∷ tasks) (suc place) number here =
+    let rest = listed_here tasks place number here in
+    elim (eqb t.number number) as (λ b. (b || has_task tasks number) ≡ true) [ true ↦ refl | false ↦ rest ]
+
+same_number : (o : Option ℕ) (number : ℕ) → option_eq eqb o (Some number) ≡ true → o ≡ Some number
+same_number None number is = absurd cc
+same_number (Some n) number is = ap (λ (m : ℕ). Some m) (eqb-true n number is)
+
+-- a ticket whose task is the one at its place stays
+pub kept_there : (state : Domain) (place : ℕ) (h : Held) → option_eq eqb (number_in state place) (Some h.number) ≡ true → is_kept state h ≡ true
+kept_there state place h here = view_where_listed state h.number ∙ listed_here state.tasks place h.number (same_number (number_in state place) h.number here)
+
+-- a ticket that stays is that of the task at its place
+there_kept : (state : Domain) (all : List Held) (first : List BlankView) (items : List Held) (place : ℕ) (blanks : List BlankView) (h : Held) → HoldsTickets state (filter (is_kept state) all) → IsSwept (is_kept state) all first items place blanks → place < length items → h ≡ get_or items place h → is_kept state h ≡ true → number_in state place ≡ Some h.number
+there_kept state all first items place blanks h held is within read stays =
+    let next = next_at is.front is.behind items place h is.items_are is.place_is within read in
+    let step = kept_first (is_kept state) h next.rest stays in
+    let behind : filter (is_kept state) is.behind ≡ h ∷ filter (is_kept state) next.rest = ap (filter (is_kept state)) next.behind_is ∙ step.0 in
+    let same : map held_key (is.front ++ h ∷ filter (is_kept state) next.rest) ≡ keys state.tasks =
+    ap (map held_key) (ap (λ (xs : List Held). is.front ++ xs) (sym behind) ∙ is.kept_are) ∙ held in
+    ap (listed_at state.tasks) (sym is.place_is) ∙ stays_here is.front (filter (is_kept state) next.rest) h state.tasks same
+
+-- so any other goes
+pub gone_there : (state : Domain) (all : List Held) (first : List BlankView) (items : List Held) (place : ℕ) (blanks : List BlankView) (h : Held) → HoldsTickets state (filter (is_kept state) all) → IsSwept (is_kept state) all first items place blanks → place < length items → h ≡ get_or items place h → option_eq eqb (number_in state place) (Some h.number) ≡ false → is_kept state h ≡ false
+gone_there state all first items place blanks h held is within read other =
+    elim (is_kept state h) as (λ b. is_kept state h ≡ b → b ≡ false) [
+      | true ↦ λ stays.
+          let here = there_kept state all first items place blanks h held is within read stays in
+          let yes : option_eq eqb (number_in state place) (Some h.number) ≡ true = ap (λ (o : Option ℕ). option_eq eqb o (Some h.number)) here ∙ eq-eqb h.number h.number refl in
+          absurd cc
+      | false ↦ λ stays. refl
+    ] refl
 
 -- all have been looked at
 pub swept_all : (kept : Held → Bool) (all : List Held) (first : List BlankView) (items : List Held) (place : ℕ) (blanks : List BlankView) → IsSwept kept all first items place blanks → length items ≤ place → (items ≡ filter kept all) × ((given : List BlankView) × (blanks ≡ first ++ given) × AreGiven (gone_by kept all) given)

@@ -1,5 +1,5 @@
 -- What a caller may see of a task.
-use Rattle.std.specs.Prelude.{ℕ, ◌==◌, List, find, Option, option_map}
+use Rattle.std.specs.Prelude.{ℕ, ◌==◌, List, find, Option, option_map, slice_get}
 use Rattle.domain_run.specs.declared.task.Task.{Task}
 use Rattle.domain_run.specs.declared.task.TaskView.{TaskView}
 use Rattle.domain_run.specs.script.ScriptView.{ScriptView}
@@ -19,3 +19,7 @@ name_in d number = option_map (λ t. t.name) (find (λ t. t.number == number) d.
 -- its script, whole, wherever its cursor stands
 abbrev pub script_in : Domain → ℕ → Option ScriptView
 script_in d number = option_map (λ t. t.cursor.script) (find (λ t. t.number == number) d.tasks)
+
+-- the number of the task at a place of the list, from 0, in the order of admission
+abbrev pub number_in : Domain → ℕ → Option ℕ
+number_in d place = option_map (λ t. t.number) (slice_get d.tasks place)

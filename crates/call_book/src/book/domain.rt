@@ -19,6 +19,8 @@ use attr_check::Params;
 use bw_gate::{Blank, Gate, Ticket};
 use domain_run::{Call, NoMemory, Reply, State};
 use std::alloc::Global;
+use std::error::Error;
+use std::fmt;
 use std::marker::Model;
 use std::sync::Wait;
 
@@ -73,11 +75,23 @@ pub enum Admit {
     },
 }
 
-/// 40: the history is full. Nothing has changed.
+/// 40: the history is full. Nothing has changed. It prints as `the history is full`.
 #[derive(Clone, Copy, Debug, PartialEq, Eq)]
 pub struct Full;
 
-/// Why [`Domain::advance`] made no tick. Nothing has changed.
+impl fmt::Display for Full {
+    ghost use Rattle.std.specs.Prelude.{Some, codes};
+
+    ghost output = { λ _. Some (codes "the history is full") };
+
+    fn fmt<W: fmt::Write>(&self, f: &mut fmt::Formatter<W>) -> fmt::Result {
+        f.write_str("the history is full")
+    }
+}
+
+impl Error for Full {}
+
+/// Why [`Domain::advance`] made no tick. Nothing has changed. It prints as `the history is full` or `out of memory`.
 #[derive(Clone, Copy, Debug, PartialEq, Eq)]
 pub enum AdvanceError {
     /// 40: the history is full.
@@ -86,8 +100,25 @@ pub enum AdvanceError {
     Memory,
 }
 
+impl fmt::Display for AdvanceError {
+    ghost use Rattle.std.specs.Prelude.{Some};
+    ghost use Rattle.call_book.specs.FaultText.{advance_text};
+
+    ghost output = { λ e. Some (advance_text e) };
+
+    fn fmt<W: fmt::Write>(&self, f: &mut fmt::Formatter<W>) -> fmt::Result {
+        match self {
+            AdvanceError::Full => f.write_str("the history is full"),
+            AdvanceError::Memory => f.write_str("out of memory"),
+        }
+    }
+}
+
+impl Error for AdvanceError {}
+
 /// What a closed domain leaves.
 pub struct Closed {
+    /// The state of the domain: the run of the history.
     pub state: State,
     /// The history.
     pub entries: Vec<Entry>,
@@ -290,6 +321,7 @@ impl Domain {
     {
         self.ledger.agree(pass);
     }
+
     /// Ends a book: hands out its state, its history and its pieces. Each pass that is handed in is compared with the history.
     /// Takes no memory.
     pub fn close(self, passes: Vec<Pass>) -> Closed

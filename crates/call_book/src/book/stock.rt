@@ -4,8 +4,7 @@ ghost use Rattle.std.specs.Prelude.{◌≡◌, ◌<◌, ◌≤◌, ◌+◌, ◌^
 ghost use Rattle.std.specs.List.{list_any};
 ghost use Rattle.std.specs.Option.{option_to_list};
 ghost use Rattle.bw_gate.specs.Pieces.{BlankView, cap_of};
-ghost use Rattle.call_book.specs.Pieces.{IsTicketOf, IsAnswered, AsksTheWord, is_held, is_kept, is_gone, AreGiven};
-ghost use Rattle.call_book.specs.Pieces.{ArePieces};
+ghost use Rattle.call_book.specs.Pieces.{IsTicketOf, IsAnswered, AsksTheWord, ArePieces, HoldsTickets, is_held, is_kept, is_gone, AreGiven};
 ghost use Rattle.call_book.specs.declared.book.stock.Held.{Held};
 
 use bw_gate::{Blank, Gate, Mark, Regrade, Ticket};
@@ -103,9 +102,10 @@ impl Stock {
         regrade_held(rt, gate, &mut self.held, number, bw)
     }
 
-    /// Gives the tickets of tasks that are no longer listed back, and keeps their blanks.
+    /// Gives the tickets of tasks that are no longer listed back, and keeps their blanks. The others are those of the list.
     pub(crate) fn sweep(&mut self, gate: &Gate, state: &State)
-        requires { gate.now ≡ self.old.gate }
+        requires gate { gate.now ≡ self.old.gate }
+        requires listed { HoldsTickets state.now (filter (is_kept state.now) self.old.tickets) }
         ensures stock { self.new ≡ record self.old { tickets = filter (is_kept state.now) self.old.tickets; blanks = self.new.blanks } }
         ensures given { (given : List BlankView) × (self.new.blanks ≡ self.old.blanks ++ given)
             × AreGiven (filter (is_gone state.now) self.old.tickets) given }
@@ -187,8 +187,10 @@ fn regrade_held<R: Wait>(
     }
 }
 
+// One walk, since the tickets stand in the order of the tasks: a ticket stays exactly where the task at its place is its own.
 fn sweep_held(gate: &Gate, state: &State, held: &mut Vec<Held>, blanks: &mut Vec<Blank>)
     requires own { All (λ h. h.ticket.gate ≡ gate.now) held.old.items }
+    requires listed { HoldsTickets state.now (filter (is_kept state.now) held.old.items) }
     requires room { length held.old.items + length blanks.old.items ≤ vec_capacity blanks.old }
     ensures kept { held.new.items ≡ filter (is_kept state.now) held.old.items }
     ensures given { (given : List BlankView) × (blanks.new.items ≡ blanks.old.items ++ given)
@@ -198,7 +200,7 @@ fn sweep_held(gate: &Gate, state: &State, held: &mut Vec<Held>, blanks: &mut Vec
 {
     let mut place = 0;
     while place < held.len() {
-        if state.view(held[place].number).is_some() {
+        if state.number_at(place) == Some(held[place].number) {
             place += 1;
         } else {
             let Held { number: _, ticket } = held.remove(place);

@@ -1,4 +1,4 @@
-ghost use Rattle.std.specs.Prelude.{◌≡◌, ◌<◌, ◌≤◌, IfOk, All, length};
+ghost use Rattle.std.specs.Prelude.{◌≡◌, ◌<◌, ◌≤◌, IfOk, IfSome, All, length};
 ghost use Rattle.call_book.specs.Limits.{IsCall, IsEntry};
 
 use super::{Admit, Closed, Domain, Pass, Prepared, prepare};
@@ -10,6 +10,10 @@ use std::alloc::Global;
 use std::process::Abort;
 use std::sync::Wait;
 use std::test::Fail;
+
+mod rates;
+mod shared;
+mod threads;
 
 // A gate of one domain of one CPU, its book with one client, and the client's blanks.
 struct Desk {
@@ -30,7 +34,22 @@ fn opened(rt: &impl Abort, alloc: Global, limit: u64, history: usize) -> Result<
     requires limit { (10485 ≤ limit) × (limit ≤ 1048576) }
     requires history { (0 < history) × (history ≤ 65536) }
 {
-    let Ok((gate, blanks)) = Gate::open(alloc, &[limit], 8) else {
+    opened_with(rt, alloc, limit, history, 8)
+}
+
+// The same with so many pieces.
+fn opened_with(
+    rt: &impl Abort,
+    alloc: Global,
+    limit: u64,
+    history: usize,
+    pieces: usize,
+) -> Result<Desk, NoMemory>
+    requires limit { (10485 ≤ limit) × (limit ≤ 1048576) }
+    requires history { (0 < history) × (history ≤ 65536) }
+    requires pieces { (0 < pieces) × (pieces ≤ 4096) }
+{
+    let Ok((gate, blanks)) = Gate::open(alloc, &[limit], pieces) else {
         return Err(NoMemory);
     };
     let (domain, mut passes) = Domain::open(alloc, &gate, 0, 1, limit, 1, history)?;
@@ -290,5 +309,36 @@ fn refused_growth_of_open(rt: HostRuntime) -> Result<(), Fail> {
     };
     let ends = end(rt.alloc(), desk);
     assert_eq!(rt; ends, (0, 0, 0));
+    Ok(())
+}
+
+fn entries_of(alloc: Global, text: &[u8]) -> Option<Vec<Entry>>
+    ensures { IfSome result (λ v. All IsEntry v.items) }
+{
+    let mut sections = read_calls(alloc, text).ok()?;
+    let Section {
+        cpus: _,
+        limit: _,
+        entries,
+    } = sections.pop()?;
+    Some(entries)
+}
+
+// The last call of a text, an admission, ready to be made.
+fn prepared_of(alloc: Global, text: &[u8]) -> Option<Prepared> {
+    let mut entries = entries_of(alloc, text)?;
+    let entry = entries.pop()?;
+    shared::renumbered(alloc, &entry.call, 7)
+}
+
+// Run with each allocation refused in turn: an admission that was refused leaves nothing, and can be prepared then.
+#[test]
+fn refused_growth_of_prepare(rt: HostRuntime) -> Result<(), Fail> {
+    let text = b"dlcalls 1\ndomain 1 1048576\nadmit 1 1 a 2 5 5 - 0 -1:3{r1,s2}2{w}\n";
+    let prepared = match prepared_of(rt.alloc(), text) {
+        Some(prepared) => Some(prepared),
+        None => prepared_of(rt.alloc(), text),
+    };
+    assert_eq!(rt; prepared.map(|prepared| prepared.bw()), Some(419430));
     Ok(())
 }

@@ -1,8 +1,8 @@
-//! What a state lends of a listed task: its name and its script.
+//! What a state lends of a listed task: its name, its script and its number.
 
 ghost use Rattle.std.specs.Prelude.{◌≡◌};
 ghost use Rattle.std.specs.Option.{option_copied};
-ghost use Rattle.domain_run.specs.Views.{name_in, script_in};
+ghost use Rattle.domain_run.specs.Views.{name_in, script_in, number_in};
 
 use super::State;
 use crate::name::Name;
@@ -31,6 +31,17 @@ impl State {
         match parts::find(&self.tasks, number) {
             None => None,
             Some(task) => Some(task.cursor.script()),
+        }
+    }
+
+    /// The number of the task at a place of the list, from 0, in the order of admission; none behind its end. It looks at this
+    /// place alone, and takes no memory.
+    pub fn number_at(&self, place: usize) -> Option<u32>
+        ensures { result ≡ number_in self.now place }
+    {
+        match self.tasks.get(place) {
+            None => None,
+            Some(task) => Some(task.number),
         }
     }
 }

@@ -1,12 +1,12 @@
-use Rattle.std.proofs.Common.{◌≡◌, ◌+◌, ◌≤◌, true, false, suc, length, take, drop, All, refl, sym, ap, ◌∙◌, subst, arith}
-use Rattle.std.specs.Prelude.{is_some}
+use Rattle.std.proofs.Common.{◌≡◌, ℕ, ◌+◌, ◌≤◌, true, false, eqb, Option, Some, suc, length, take, drop, All, refl, sym, ap, ◌∙◌, subst, arith}
+use Rattle.std.specs.Option.{option_eq}
 use Rattle.std.proofs.lemmas.List.{get_or_default, length_push}
 use Rattle.std.proofs.lemmas.List.Edits.{length-remove}
 use Rattle.std.proofs.lemmas.List.Elements.{All-append, All-take, All-drop}
 use Rattle.bw_gate.specs.Answers.{IsGive}
 use Rattle.call_book.specs.declared.book.stock.Held.{Held}
 use Rattle.call_book.specs.Pieces.{is_kept}
-use Rattle.call_book.proofs.Sweeping.{swept_none, swept_keep, swept_give}
+use Rattle.call_book.proofs.Sweeping.{swept_none, swept_keep, swept_give, kept_there, gone_there}
 use Rattle.call_book.proofs.book.stock.sweep_held.Goals as goal
 
 pub loop-place-init : goal.loop-place-init
@@ -19,12 +19,13 @@ loop-place-init c = record {
   within = omega arith;
 }
 
-pub loop-place-preserved-then-is_some : goal.loop-place-preserved-then-is_some
-loop-place-preserved-then-is_some c =
+pub loop-place-preserved-then-eq : goal.loop-place-preserved-then-eq
+loop-place-preserved-then-eq c =
     let inv = c.loop-place.invariant in
     let h = c.index.result.now in
     let kept = is_kept c.args.state.now in
-    let stays : kept h ≡ true = ap is_some (sym c.view.ensures) ∙ sym c.is_some.ensures ∙ c.if-is_some.true in
+    let here = ap (λ (o : Option ℕ). option_eq eqb o (Some h.number)) (sym c.number_at.ensures) ∙ sym c.eq.ensures ∙ c.if-eq.true in
+    let stays : kept h ≡ true = kept_there c.args.state.now c.loop-place.place h here in
     let within : c.loop-place.place + 1 ≤ length c.loop-place.held.items = omega arith in
     record {
       swept = swept_keep kept c.args.held.now.items c.args.blanks.now.items c.loop-place.held.items c.loop-place.place c.loop-place.blanks.items h inv.swept (omega arith) c.index.ensures stays;
@@ -43,7 +44,8 @@ loop-place-preserved c =
     let h = c.index.result.now in
     let kept = is_kept c.args.state.now in
     let P : Held → Type 0 = λ x. x.ticket.gate ≡ c.args.gate.now in
-    let goes : kept h ≡ false = ap is_some (sym c.view.ensures) ∙ sym c.is_some.ensures ∙ c.if-is_some.false in
+    let other = ap (λ (o : Option ℕ). option_eq eqb o (Some h.number)) (sym c.number_at.ensures) ∙ sym c.eq.ensures ∙ c.if-eq.false in
+    let goes : kept h ≡ false = gone_there c.args.state.now c.args.held.now.items c.args.blanks.now.items items place c.loop-place.blanks.items h c.requires.listed inv.swept (omega arith) c.index.ensures other in
     let same : c.remove-ticket.result ≡ h = c.remove-ticket.ensures.value ∙ get_or_default items place c.remove-ticket.result h (omega arith) ∙ sym c.index.ensures in
     let give : IsGive h.ticket c.give.result = subst (λ (x : Held). IsGive x.ticket c.give.result) same c.give.ensures in
     let fewer = ap length c.remove-ticket.ensures.items in

@@ -1,7 +1,13 @@
 use Rattle.std.proofs.Common.{length, arith}
 use Rattle.call_book.proofs.Growing.{has_room}
-use Rattle.call_book.proofs.Sifting.{advance_grows, advance_answer}
+use Rattle.call_book.proofs.Sifting.{sifted_holds, advance_grows, advance_answer}
 use Rattle.call_book.proofs.book.domain.Domain.advance.Goals as goal
+
+pub sweep-requires-clause-listed : goal.sweep-requires-clause-listed
+sweep-requires-clause-listed g c =
+    let inside = c.self.inside in
+    let made = c.make_ticks-ticks in
+    sifted_holds inside.state made.new.state inside.stock.tickets c.self.invariant.held made.ensures.keys
 
 pub invariant_of-self-2 : goal.invariant_of-self-2
 invariant_of-self-2 g c =
