@@ -1,6 +1,6 @@
 //! The parts of a tick, on one task.
 
-ghost use Rattle.std.specs.Prelude.{◌≡◌, ◌<◌, ◌≤◌, ◌^◌, ◌+◌, ◌-◌, ℕ, IsTrue, IsSome, false, position, find, ◌==◌, option_copied, option_map, pos, ◌≤ℤ◌, ◌<ℤ◌, ◌&&◌, not};
+ghost use Rattle.std.specs.Prelude.{◌≡◌, ◌<◌, ◌≤◌, ◌^◌, ◌+◌, ◌-◌, ℕ, IsTrue, IsSome, false, position, find, ◌==◌, option_copied, option_map, pos, neg_ℤ, ◌≤ℤ◌, ◌<ℤ◌, ◌&&◌, not};
 ghost use Rattle.domain_run.specs.Conditions as conditions;
 ghost use Rattle.cbs_rules.specs.Serving as serving;
 ghost use Rattle.edf_pick.specs.Places as places_spec;
@@ -11,11 +11,14 @@ ghost use Rattle.domain_run.specs.Calls as calls;
 ghost use Rattle.domain_run.specs.Domain.{Domain};
 ghost use Rattle.domain_run.specs.Parts as parts;
 ghost use Rattle.domain_run.specs.private.Charging.{IsReadyToStand};
+ghost use Rattle.domain_run.specs.private.Paying.{ran_until};
+ghost use Rattle.domain_run.specs.Jump as jump;
 ghost use Rattle.domain_run.specs.script.Segments.{IsSegment, next_ask};
 ghost use Rattle.domain_run.specs.Bounds.{IsServed};
 ghost use Rattle.domain_run.specs.Sound.{IsTimed, IsSound};
 
 use crate::name::Name;
+use crate::running::Running;
 use crate::script::{Script, Segment};
 use crate::switch::PrevState;
 use crate::task::{Condition, Task, TaskView};
@@ -29,6 +32,15 @@ fn has_come(time: u64, moment: Option<u64>) -> bool
     match moment {
         None => false,
         Some(moment) => moment <= time,
+    }
+}
+
+fn ticks_to(time: u64, moment: Option<u64>) -> u64
+    ensures { result ≡ jump.ticks_to time moment }
+{
+    match moment {
+        None => (1 << 42) - 1,
+        Some(moment) => moment.saturating_sub(time),
     }
 }
 
@@ -69,6 +81,15 @@ impl Condition {
         match self {
             Condition::Blocked(until) => until <= time,
             _ => false,
+        }
+    }
+
+    fn asks_at(self) -> Option<u64>
+        ensures { result ≡ jump.asks_at self }
+    {
+        match self {
+            Condition::Blocked(until) => Some(until),
+            _ => None,
         }
     }
 }
@@ -264,6 +285,54 @@ pub(crate) fn run(task: &mut Task, rate: u64, time: u64)
     task.server = cbs_rules::charge(task.server, rate, 1);
     task.work -= 1;
     after_charge(task, time + 1);
+}
+
+/// Part 6: so many ticks of running at once, up to a time, with what they leave of the budget.
+pub(crate) fn run_until(task: &mut Task, time: u64, ticks: u64, left: i128)
+    requires early { time < 2 ^ 43 }
+    requires low { neg_ℤ (pos (2 ^ 32)) ≤ℤ left }
+    requires high { left ≤ℤ pos (2 ^ 52) }
+    requires worked { ticks ≤ task.old.work }
+    requires sound { IsSound time task.old }
+    requires running { IsTrue (conditions.is_ready task.old.condition) }
+    ensures task { task.new ≡ ran_until time ticks left task.old }
+    ensures sound { IsSound time task.new }
+{
+    task.server.left = left;
+    task.work -= ticks;
+    after_charge(task, time);
+}
+
+/// The ticks from a time to the first at which something is to be done to a task before the choice.
+pub(crate) fn rest_of(task: &Task, time: u64) -> u64
+    ensures { result ≡ jump.rest_of time task.now }
+{
+    let replenished = if task.condition.is_throttled() {
+        task.server.deadline
+    } else {
+        None
+    };
+    let gone = if is_listed(task) {
+        None
+    } else {
+        Some(0)
+    };
+    let served = ticks_to(time, replenished).min(ticks_to(time, task.zero_lag));
+    served.min(ticks_to(time, task.condition.asks_at()).min(ticks_to(time, gone)))
+}
+
+/// A running task as a jump sees it.
+pub(crate) fn running_of(task: &Task, uinact: u64) -> Running
+    ensures { result ≡ record { number = task.now.number; params = task.now.params;
+        uinact = uinact; left = task.now.server.left; work = task.now.work } }
+{
+    Running {
+        number: task.number,
+        params: task.params,
+        uinact,
+        left: task.server.left,
+        work: task.work,
+    }
 }
 
 fn place_of(number: u32, places: &[Option<u32>]) -> Option<usize>

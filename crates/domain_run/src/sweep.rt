@@ -1,6 +1,6 @@
 //! The parts of a tick, on all tasks of a domain.
 
-ghost use Rattle.std.specs.Prelude.{◌≡◌, ◌<◌, ◌≤◌, ◌^◌, ◌+◌, map, filter, ℕ, All, ◌++◌, length, slice_index, vec_len, vec_capacity};
+ghost use Rattle.std.specs.Prelude.{◌≡◌, ◌<◌, ◌≤◌, ◌^◌, ◌+◌, ◌-◌, map, filter, ℕ, All, ◌++◌, length, slice_index, vec_len, vec_capacity};
 ghost use Rattle.domain_run.specs.Parts as parts_spec;
 ghost use Rattle.edf_pick.specs.Places as places_spec;
 ghost use Rattle.domain_run.specs.Sound.{IsSound, IsApart};
@@ -10,11 +10,14 @@ ghost use Rattle.domain_run.specs.Tick as tick_spec;
 ghost use Rattle.domain_run.specs.private.Charging.{AreSums, IsReadyToStand, rate_with, ran_with};
 ghost use Rattle.domain_run.specs.Calls as calls;
 ghost use Rattle.domain_run.specs.private.RunQueue.{IsCounted};
+ghost use Rattle.domain_run.specs.private.Paying.{MayPayIf, paid};
+ghost use Rattle.domain_run.specs.Jump as jump;
 
-use crate::parts;
 use crate::run_queue::{RunQueue, share_of, standing_of};
+use crate::state::bw_within;
 use crate::switch::Switch;
 use crate::task::Task;
+use crate::{parts, seats};
 use attr_check::Params;
 use edf_pick::Placement;
 use grub_rules::Accounts;
@@ -273,6 +276,59 @@ pub(crate) fn run_all(
         run_if(task, places, sums, time);
         queue.turn(before, standing_of(task));
     }
+}
+
+fn pay(task: &mut Task, places: &[Option<u32>], budgets: &[i128], ticks: u64, time: u64)
+    requires early { time < 2 ^ 43 }
+    requires sound { IsSound time task.old }
+    requires may { MayPayIf places.now ticks budgets.now task.old }
+    ensures task { task.new ≡ paid time places.now ticks budgets.now task.old }
+    ensures sound { IsSound time task.new }
+{
+    if !task.condition.is_ready() {
+        return;
+    }
+    if let Some(i) = seats::index_of(task.number, places) {
+        let _bw = bw_within(&task.params);
+        parts::run_until(task, time, ticks, budgets[i]);
+    }
+}
+
+/// Part 6 of so many ticks at once, up to a time: every running task has its budget, and its work has fallen.
+pub(crate) fn pay_all(
+    tasks: &mut Vec<Task>,
+    queue: &mut RunQueue,
+    places: &[Option<u32>],
+    budgets: &[i128],
+    ticks: u64,
+    time: u64,
+)
+    requires early { time < 2 ^ 43 }
+    requires sound { All (IsSound time) tasks.old.items }
+    requires may { All (MayPayIf places.now ticks budgets.now) tasks.old.items }
+    requires counted { IsCounted (length queue.old.accounts.all) queue.old tasks.old.items }
+    ensures tasks { tasks.new.items ≡ map (paid time places.now ticks budgets.now) tasks.old.items }
+    ensures sound { All (IsSound time) tasks.new.items }
+    ensures counted { IsCounted (length queue.old.accounts.all) queue.new tasks.new.items }
+    ensures room { vec_capacity tasks.new ≡ vec_capacity tasks.old }
+{
+    for task in tasks.iter_mut() {
+        let before = standing_of(task);
+        pay(task, places, budgets, ticks, time);
+        queue.turn(before, standing_of(task));
+    }
+}
+
+/// The ticks from a time to the first at which something is to be done to any task before the choice.
+pub(crate) fn rest(tasks: &[Task], time: u64) -> u64
+    ensures rest { result ≡ jump.rest time tasks.now }
+    ensures most { result ≤ 2 ^ 42 - 1 }
+{
+    let mut rest = (1 << 42) - 1;
+    for task in tasks {
+        rest = parts::rest_of(task, time).min(rest);
+    }
+    rest
 }
 
 /// A regrade of the task of a number.
