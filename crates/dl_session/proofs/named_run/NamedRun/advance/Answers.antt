@@ -1,12 +1,9 @@
-use Rattle.std.proofs.Common.{◌∙◌, ap, arith}
+use Rattle.std.proofs.Common.{◌≡◌, ℕ, ◌+◌, ◌≤◌, sym, ap, ◌∙◌, subst, arith}
 use Rattle.domain_run.specs.Domain.{Domain}
-use Rattle.dl_session.proofs.Naming.{one_more}
+use Rattle.domain_run.specs.Tick.{ticks}
+use Rattle.domain_run.proofs.CallerLemmas.{ticks_time}
+use Rattle.dl_session.proofs.Naming.{ticks_used}
 use Rattle.dl_session.proofs.named_run.NamedRun.advance.Goals as goal
 
-pub loop-preserved : goal.loop-preserved
-loop-preserved c = record {
-  state = c.in-Ok.ensures.ok ∙ one_more c.loop.counter c.args.self.now.state c.loop.self.state c.loop.invariant.state;
-  time = ap (λ (d : Domain). d.time) c.in-Ok.ensures.ok ∙ omega (arith, c.loop.invariant.time);
-  used = ap (λ (d : Domain). d.used) c.in-Ok.ensures.ok ∙ c.loop.invariant.used;
-  names = c.loop.invariant.names;
-}
+pub returns-clause-state : goal.returns-clause-state
+returns-clause-state c = ?
