@@ -16,3 +16,4 @@ pub mod Staying
 pub mod Jumping
 pub mod Paying
 pub mod Runners
+pub mod Unturned

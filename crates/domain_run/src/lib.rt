@@ -18,6 +18,7 @@ mod state;
 mod sweep;
 mod switch;
 mod task;
+mod turning;
 
 pub use call::{Call, Refused, Reply};
 pub use memory::NoMemory;

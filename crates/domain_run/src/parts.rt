@@ -26,7 +26,7 @@ use attr_check::Params;
 use cbs_rules::Server;
 use edf_pick::Candidate;
 
-fn has_come(time: u64, moment: Option<u64>) -> bool
+pub(crate) fn has_come(time: u64, moment: Option<u64>) -> bool
     ensures { result ≡ conditions.has_come time moment }
 {
     match moment {
@@ -75,7 +75,7 @@ impl Condition {
         matches!(self, Condition::Leaving)
     }
 
-    fn is_over(self, time: u64) -> bool
+    pub(crate) fn is_over(self, time: u64) -> bool
         ensures { result ≡ conditions.is_over time self }
     {
         match self {
@@ -339,6 +339,16 @@ fn place_of(number: u32, places: &[Option<u32>]) -> Option<usize>
     ensures { result ≡ position (places_spec.is_task number) places.now }
 {
     places.iter().position(|occupant| *occupant == Some(number))
+}
+
+/// Part 4: whether a task belongs to the CPU on which it is placed, or is placed on none.
+pub(crate) fn is_at_home(task: &Task, places: &[Option<u32>]) -> bool
+    ensures { IsTrue result → parts.homed places.now task.now ≡ task.now }
+{
+    match place_of(task.number, places) {
+        None => true,
+        Some(cpu) => cpu == task.cpu,
+    }
 }
 
 /// Part 4: a placed task, which is ready, belongs to its CPU.

@@ -14,10 +14,9 @@ ghost use Rattle.domain_run.specs.private.Paying.{MayPayIf, paid};
 ghost use Rattle.domain_run.specs.Jump as jump;
 
 use crate::run_queue::{RunQueue, share_of, standing_of};
-use crate::state::bw_within;
 use crate::switch::Switch;
 use crate::task::Task;
-use crate::{parts, seats};
+use crate::{parts, turning};
 use attr_check::Params;
 use edf_pick::Placement;
 use grub_rules::Accounts;
@@ -34,9 +33,7 @@ fn replenish_all(tasks: &mut Vec<Task>, queue: &mut RunQueue, time: u64)
     ensures room { vec_capacity tasks.new ≡ vec_capacity tasks.old }
 {
     for task in tasks.iter_mut() {
-        let before = standing_of(task);
-        parts::replenish_due(task, time);
-        queue.turn(before, standing_of(task));
+        turning::replenish(task, queue, time);
     }
 }
 
@@ -51,9 +48,7 @@ fn settle_all(tasks: &mut Vec<Task>, queue: &mut RunQueue, time: u64)
     ensures room { vec_capacity tasks.new ≡ vec_capacity tasks.old }
 {
     for task in tasks.iter_mut() {
-        let before = standing_of(task);
-        parts::settle(task, time);
-        queue.turn(before, standing_of(task));
+        turning::settle(task, queue, time);
     }
 }
 
@@ -95,9 +90,7 @@ fn unblock_all(tasks: &mut Vec<Task>, queue: &mut RunQueue, time: u64)
     ensures room { vec_capacity tasks.new ≡ vec_capacity tasks.old }
 {
     for task in tasks.iter_mut() {
-        let before = standing_of(task);
-        parts::unblock(task, time);
-        queue.turn(before, standing_of(task));
+        turning::unblock(task, queue, time);
     }
 }
 
@@ -127,9 +120,7 @@ fn home_all(tasks: &mut Vec<Task>, queue: &mut RunQueue, places: &[Option<u32>])
     ensures room { vec_capacity tasks.new ≡ vec_capacity tasks.old }
 {
     for task in tasks.iter_mut() {
-        let before = standing_of(task);
-        parts::home(task, places);
-        queue.turn(before, standing_of(task));
+        turning::home(task, queue, places);
     }
 }
 
@@ -278,22 +269,6 @@ pub(crate) fn run_all(
     }
 }
 
-fn pay(task: &mut Task, places: &[Option<u32>], budgets: &[i128], ticks: u64, time: u64)
-    requires early { time < 2 ^ 43 }
-    requires sound { IsSound time task.old }
-    requires may { MayPayIf places.now ticks budgets.now task.old }
-    ensures task { task.new ≡ paid time places.now ticks budgets.now task.old }
-    ensures sound { IsSound time task.new }
-{
-    if !task.condition.is_ready() {
-        return;
-    }
-    if let Some(i) = seats::index_of(task.number, places) {
-        let _bw = bw_within(&task.params);
-        parts::run_until(task, time, ticks, budgets[i]);
-    }
-}
-
 /// Part 6 of so many ticks at once, up to a time: every running task has its budget, and its work has fallen.
 pub(crate) fn pay_all(
     tasks: &mut Vec<Task>,
@@ -313,9 +288,7 @@ pub(crate) fn pay_all(
     ensures room { vec_capacity tasks.new ≡ vec_capacity tasks.old }
 {
     for task in tasks.iter_mut() {
-        let before = standing_of(task);
-        pay(task, places, budgets, ticks, time);
-        queue.turn(before, standing_of(task));
+        turning::pay(task, queue, places, budgets, ticks, time);
     }
 }
 
@@ -341,9 +314,7 @@ pub(crate) fn regrade_one(tasks: &mut Vec<Task>, queue: &mut RunQueue, number: u
     ensures room { vec_capacity tasks.new ≡ vec_capacity tasks.old }
 {
     for task in tasks.iter_mut() {
-        let before = standing_of(task);
-        parts::regrade(task, number, params);
-        queue.turn(before, standing_of(task));
+        turning::regrade(task, queue, number, params);
     }
 }
 
@@ -356,9 +327,7 @@ pub(crate) fn release_one(tasks: &mut Vec<Task>, queue: &mut RunQueue, number: u
     ensures room { vec_capacity tasks.new ≡ vec_capacity tasks.old }
 {
     for task in tasks.iter_mut() {
-        let before = standing_of(task);
-        parts::release(task, number, time);
-        queue.turn(before, standing_of(task));
+        turning::release(task, queue, number, time);
     }
 }
 
@@ -373,8 +342,6 @@ pub(crate) fn end_one(tasks: &mut Vec<Task>, queue: &mut RunQueue, number: u32, 
     ensures room { vec_capacity tasks.new ≡ vec_capacity tasks.old }
 {
     for task in tasks.iter_mut() {
-        let before = standing_of(task);
-        parts::end(task, number, time);
-        queue.turn(before, standing_of(task));
+        turning::end(task, queue, number, time);
     }
 }
