@@ -4,7 +4,7 @@ ghost use Rattle.std.specs.Prelude.{◌≡◌, ◌<◌, ◌≤◌, ◌^◌, ◌+
 ghost use Rattle.domain_run.specs.Tick.{ticks as ticks_of};
 ghost use Rattle.domain_run.specs.Keys.{AreKept};
 
-use crate::plan;
+use crate::plan::{self, Room};
 use domain_run::{NoMemory, State};
 
 /// How many ticks an advance made.
@@ -14,7 +14,7 @@ pub struct Done {
 }
 
 /// One event and the ticks up to the next: how many they were. `Err` where room for the event's switches was refused.
-fn jump(state: &mut State, most: u64) -> Result<u64, NoMemory>
+fn jump(state: &mut State, most: u64, room: &mut Room) -> Result<u64, NoMemory>
     requires some { 0 < most }
     requires early { state.old.time + most ≤ 2 ^ 42 }
     ensures some { IfOk result (λ made. 0 < made) }
@@ -24,8 +24,8 @@ fn jump(state: &mut State, most: u64) -> Result<u64, NoMemory>
     ensures keys { AreKept state.old.tasks state.new.tasks }
 {
     state.begin()?;
-    let plan = plan::make(state, most);
-    state.finish(plan.ticks, &plan.budgets[..plan.count]);
+    let plan = plan::make(state, most, room);
+    state.finish(plan.ticks, &room.budgets[..plan.count]);
     Ok(plan.ticks)
 }
 
@@ -39,9 +39,10 @@ pub fn advance(state: &mut State, n: u64) -> Done
     ensures most { result.ticks ≤ n }
     ensures keys { AreKept state.old.tasks state.new.tasks }
 {
+    let mut room = Room::new();
     let mut ticks = 0;
     'events: while ticks < n {
-        let Ok(made) = jump(state, n - ticks) else {
+        let Ok(made) = jump(state, n - ticks, &mut room) else {
             break;
         };
         ticks += made;

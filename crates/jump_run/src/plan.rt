@@ -6,21 +6,30 @@ ghost use Rattle.jump_run.specs.Plan.{AreGathered};
 
 use domain_run::{Running, State};
 
-/// So many ticks, and what is left of the budgets of the running tasks then, by CPU.
+/// Room for what is gathered of the running tasks, by CPU: what is left of their budgets, their rates, and what is left after the
+/// jump. It is made once for all jumps of an advance.
 #[derive(Drop)]
-pub(crate) struct Plan {
-    pub(crate) ticks: u64,
-    pub(crate) count: usize,
+pub(crate) struct Room {
+    pub(crate) lefts: [u64; 64],
+    pub(crate) rates: [u64; 64],
     pub(crate) budgets: [i128; 64],
 }
 
-/// So many ticks, and the budgets and rates of the running tasks, by CPU.
-#[derive(Drop)]
-struct Runners {
-    ticks: u64,
-    count: usize,
-    lefts: [u64; 64],
-    rates: [u64; 64],
+/// So many ticks of so many running tasks.
+#[derive(Clone, Copy, Debug, PartialEq, Eq)]
+pub(crate) struct Plan {
+    pub(crate) ticks: u64,
+    pub(crate) count: usize,
+}
+
+impl Room {
+    pub(crate) fn new() -> Room {
+        Room {
+            lefts: [0; 64],
+            rates: [0; 64],
+            budgets: [0; 64],
+        }
+    }
 }
 
 /// What is left of a running task's budget, which is above 0.
@@ -70,7 +79,7 @@ fn rate_of(state: &State, runner: &Running) -> u64
     )
 }
 
-fn gather(state: &State, most: u64) -> Runners
+fn gather(state: &State, most: u64, room: &mut Room) -> Plan
     requires begun { jump.IsUnderWay state.now }
     requires some { 0 < most }
     ensures some { 0 < result.ticks }
@@ -79,52 +88,44 @@ fn gather(state: &State, most: u64) -> Runners
     ensures short { result.ticks ≤ 2 ^ 42 }
     ensures many { result.count ≡ length (jump.standing state.now.places) }
     ensures few { result.count ≤ 64 }
-    ensures each { AreGathered state.now result.ticks result.count result.lefts result.rates }
+    ensures len { length room.new.budgets ≡ 64 }
+    ensures each { AreGathered state.now result.ticks result.count room.new.lefts room.new.rates }
 {
     let mut ticks = most.min(state.quiet());
-    let mut lefts = [0; 64];
-    let mut rates = [0; 64];
     for i in 0..64 {
         let Some(runner) = state.running(i) else {
-            return Runners {
+            return Plan {
                 ticks,
                 count: i,
-                lefts,
-                rates,
             };
         };
         let rate = rate_of(state, &runner);
         let left = left_of(&runner);
-        lefts[i] = left;
-        rates[i] = rate;
+        room.lefts[i] = left;
+        room.rates[i] = rate;
         ticks = ticks.min(runner.work).min(spent_after(left, rate));
     }
-    Runners {
+    Plan {
         ticks,
         count: 64,
-        lefts,
-        rates,
     }
 }
 
-/// As many ticks of the tick that has begun and of the next ones as pass before the next event, and at most `most`.
-pub(crate) fn make(state: &State, most: u64) -> Plan
+/// As many ticks of the tick that has begun and of the next ones as pass before the next event, and at most `most`; and what
+/// they leave of the budgets of the running tasks.
+pub(crate) fn make(state: &State, most: u64, room: &mut Room) -> Plan
     requires begun { jump.IsUnderWay state.now }
     requires some { 0 < most }
     ensures some { 0 < result.ticks }
     ensures most { result.ticks ≤ most }
     ensures quiet { result.ticks ≤ jump.quiet state.now }
-    ensures few { result.count ≤ length result.budgets }
-    ensures charged { jump.AreCharged state.now result.ticks (take result.count result.budgets) }
+    ensures few { result.count ≤ 64 }
+    ensures charged { jump.AreCharged state.now result.ticks
+        (take result.count room.new.budgets) }
 {
-    let runners = gather(state, most);
-    let mut budgets = [0; 64];
-    for i in 0..runners.count {
-        budgets[i] = left_after(runners.lefts[i], runners.rates[i], runners.ticks);
+    let plan = gather(state, most, room);
+    for i in 0..plan.count {
+        room.budgets[i] = left_after(room.lefts[i], room.rates[i], plan.ticks);
     }
-    Plan {
-        ticks: runners.ticks,
-        count: runners.count,
-        budgets,
-    }
+    plan
 }

@@ -1,9 +1,6 @@
-use Rattle.std.proofs.Common.{◌≡◌, ℕ, ◌+◌, ◌-◌, ◌*◌, ◌<◌, ◌≤◌, length, refl, sym, ◌∙◌, arith}
+use Rattle.std.proofs.Common.{◌-◌, ◌≤◌, refl, sym, ◌∙◌, arith}
 use Rattle.std.proofs.Math.Nat.{mul-le-mul_left}
-use Rattle.std.specs.Prelude.{pos}
-use Rattle.std.proofs.lemmas.Int.{ints}
 use Rattle.std.proofs.lemmas.List.{length-set}
-use Rattle.domain_run.specs.Jump.{running, rate_for}
 use Rattle.jump_run.specs.Plan.{IsGathered}
 use Rattle.jump_run.proofs.Gathering.{IsNext, gathered_push}
 use Rattle.jump_run.proofs.plan.gather.Goals as goal
@@ -38,9 +35,10 @@ loop-i-preserved c =
       short = omega (arith, min_is, work_is, l.invariant.short);
       within = let there = c.in-Some.ensures.there.0 refl in omega (arith, there);
       few = λ some. c.in-Some.ensures.few;
-      lefts = length-set l.lefts l.i left ∙ l.invariant.lefts;
-      rates = length-set l.rates l.i rate ∙ l.invariant.rates;
-      each = gathered_push c.args.state.now l.ticks next l.i l.lefts l.rates r left rate (omega (arith, min_is, work_is)) at (omega arith) (omega arith) l.invariant.each;
+      lefts = length-set l.room.lefts l.i left ∙ l.invariant.lefts;
+      rates = length-set l.room.rates l.i rate ∙ l.invariant.rates;
+      budgets = l.invariant.budgets;
+      each = gathered_push c.args.state.now l.ticks next l.i l.room.lefts l.room.rates r left rate (omega (arith, min_is, work_is)) at (omega arith) (omega arith) l.invariant.each;
     }
 
 pub returns-clause-many : goal.returns-clause-many

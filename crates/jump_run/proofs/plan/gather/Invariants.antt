@@ -11,7 +11,8 @@ invariant-loop-i l = record {
   short : l.ticks ≤ 2 ^ 42;
   within : l.i ≤ length (standing l.state.places);
   few : 0 < l.i → length (standing l.state.places) ≤ 64;
-  lefts : length l.lefts ≡ 64;
-  rates : length l.rates ≡ 64;
-  each : AreGathered l.state l.ticks l.i l.lefts l.rates;
+  lefts : length l.room.lefts ≡ 64;
+  rates : length l.room.rates ≡ 64;
+  budgets : length l.room.budgets ≡ 64;
+  each : AreGathered l.state l.ticks l.i l.room.lefts l.room.rates;
 }
