@@ -1,14 +1,12 @@
 -- Many ticks at once are so many single ticks.
-use Rattle.std.proofs.Common.{◌≡◌, ◌≢◌, ℕ, zero, suc, ◌+◌, ◌-◌, ◌*◌, ◌^◌, ◌<◌, ◌≤◌, min, Bool, true, false, cond, eqb, leb, ltb, ◌||◌, ◌&&◌, not, Option, Some, None, List, [], ◌∷◌, ◌++◌, length, map, get_or, refl, sym, ap, subst, ◌∙◌, arith, eq-eqb}
-use Rattle.std.specs.Prelude.{ℤ, pos, ◌-ℤ◌, ◌<ℤ◌, int_le, All, AllPairs, IsTrue, filter, find, position, is_none, is_some, option_map, unwrap_or}
+use Rattle.std.proofs.Common.{◌≡◌, ℕ, zero, suc, ◌+◌, ◌-◌, ◌*◌, ◌<◌, ◌≤◌, min, Bool, true, false, cond, eqb, ◌||◌, ◌&&◌, not, Option, Some, None, List, [], ◌∷◌, ◌++◌, map, get_or, refl, sym, ap, ◌∙◌, arith, eq-eqb}
+use Rattle.std.specs.Prelude.{ℤ, pos, ◌-ℤ◌, ◌<ℤ◌, int_le, All, filter, position, is_none, is_some, option_map, unwrap_or}
 use Rattle.std.proofs.lemmas.Int.{ints}
 use Rattle.std.proofs.lemmas.Bool.{lt-leb, ne_eqb}
 use Rattle.std.proofs.Math.Nat.{mul-le-mul}
 use Rattle.std.proofs.lemmas.List.{append-nil, map-append}
 use Rattle.std.proofs.lemmas.List.Elements.{All-cons, All-map, All-weaker}
-use Rattle.attr_check.specs.ParamsView.{ParamsView}
-use Rattle.cbs_rules.specs.declared.server.Server.{Server}
-use Rattle.cbs_rules.specs.Serving.{charged, is_spent}
+use Rattle.cbs_rules.specs.Serving.{charged}
 use Rattle.grub_rules.specs.declared.share.Share.{Share}
 use Rattle.grub_rules.specs.Sums.{total_bw, uinact}
 use Rattle.grub_rules.specs.Rate as reclaiming
@@ -23,8 +21,8 @@ use Rattle.domain_run.specs.script.Segments.{asked}
 use Rattle.domain_run.specs.Parts.{replenish_due, settled, is_listed, unblocked, homed, homed_at, running_on, goes_on, after_charge, ran}
 use Rattle.domain_run.specs.Switches.{same_occupant, state_of, switches_from}
 use Rattle.domain_run.specs.Domain.{Domain}
-use Rattle.domain_run.specs.Tick.{share_of, shares, sum_of, candidate_of, candidates, prepared, with_places, with_prepared, begun, rate_of, ran_if, finished, ticked, ticks}
-use Rattle.domain_run.specs.Jump.{under_way, replenished_at, asks_at, gone_at, ticks_to, rest_of, rest}
+use Rattle.domain_run.specs.Tick.{share_of, shares, candidate_of, candidates, prepared, with_places, with_prepared, begun, rate_of, ran_if, finished, ticked, ticks}
+use Rattle.domain_run.specs.Jump.{replenished_at, asks_at, gone_at, ticks_to, rest_of, rest}
 use Rattle.domain_run.specs.private.RunQueue.{ready_of}
 use Rattle.domain_run.specs.private.Paying.{ran_until}
 use Rattle.domain_run.proofs.Counting.{one, candidates_first}

@@ -1,5 +1,5 @@
 -- What many ticks at once do to each task, by the budgets that a caller tells.
-use Rattle.std.proofs.Common.{◌≡◌, ◌≢◌, ℕ, zero, suc, ◌+◌, ◌-◌, ◌*◌, ◌/◌, ◌^◌, ◌<◌, ◌≤◌, max, Bool, true, false, cond, eqb, ◌||◌, Option, Some, None, List, [], ◌∷◌, length, map, get_or, drop, refl, sym, ap, subst, ◌∙◌, arith, eq-eqb}
+use Rattle.std.proofs.Common.{◌≡◌, ◌≢◌, ℕ, zero, suc, ◌+◌, ◌-◌, ◌*◌, ◌^◌, ◌<◌, ◌≤◌, max, Bool, true, false, cond, eqb, ◌||◌, Option, Some, None, List, [], ◌∷◌, length, map, get_or, refl, sym, ap, subst, ◌∙◌, arith, eq-eqb}
 use Rattle.std.specs.Prelude.{ℤ, pos, neg_ℤ, ◌-ℤ◌, ◌<ℤ◌, ◌≤ℤ◌, All, Any, AllPairs, IsTrue, IfSome, find, position, slice_get, slice_index_or, option_map, unsigned_abs}
 use Rattle.std.specs.List.{list_any}
 use Rattle.std.proofs.lemmas.Int.{ints}
@@ -13,25 +13,24 @@ use Rattle.attr_check.specs.Ratio.{unit, cap}
 use Rattle.grub_rules.specs.Rate.{div_up, taken}
 use Rattle.grub_rules.specs.Rate as reclaiming
 use Rattle.grub_rules.proofs.Rating.{taken_is, used_most}
-use Rattle.edf_pick.specs.Places.{Places, is_task, stands}
+use Rattle.edf_pick.specs.Places.{Places, stands}
 use Rattle.domain_run.specs.declared.task.Task.{Task}
 use Rattle.domain_run.specs.declared.task.Condition.{Condition}
 use Rattle.domain_run.specs.declared.task.Condition.TheVariants.{Ready, Throttled, Blocked, Waiting, Leaving}
-use Rattle.domain_run.specs.declared.running.Running.{Running}
 use Rattle.domain_run.specs.Conditions.{is_ready}
 use Rattle.domain_run.specs.Domain.{Domain, IsLimit}
 use Rattle.domain_run.specs.declared.script.Segment.{Segment}
 use Rattle.domain_run.specs.declared.script.Segment.TheVariants.{Run as RunFor, Until, Wait as WaitFor, End}
 use Rattle.domain_run.specs.Bounds.{IsNear}
-use Rattle.domain_run.specs.Parts.{went_on, after_charge}
+use Rattle.domain_run.specs.Parts.{went_on}
 use Rattle.domain_run.specs.Tick.{sum_of, rate_of, prepared, begun, ticks}
-use Rattle.domain_run.specs.Sound.{IsTimed, IsSound, IsSteady, IsPlacement, IsDomain, IsTraced, IsSwitch, IsAdmitted}
-use Rattle.domain_run.specs.Jump.{under_way, IsUnderWay, standing, running_of, running_if, running, rest_of, rest, quiet, rate_for, IsCharged, AreCharged}
+use Rattle.domain_run.specs.Sound.{IsTimed, IsSound, IsSteady, IsPlacement, IsDomain, IsSwitch, IsAdmitted}
+use Rattle.domain_run.specs.Jump.{under_way, standing, running_of, running_if, running, quiet, IsCharged, AreCharged}
 use Rattle.domain_run.specs.private.Paying.{ran_until, index_of, paid_at, paid, MayPay, MayPayIf}
 use Rattle.domain_run.proofs.Keeping.{Same, same_itself, same_either, AllPairs-map, sum-map}
 use Rattle.domain_run.proofs.Placing.{running_ready}
-use Rattle.domain_run.proofs.Staying.{first_at, first_is, first_passes, first_none}
-use Rattle.domain_run.proofs.Jumping.{map_alike, Runs, RunsIf, jumped, jump_is}
+use Rattle.domain_run.proofs.Staying.{first_is, first_passes, first_none}
+use Rattle.domain_run.proofs.Jumping.{map_alike, RunsIf, jumped, jump_is}
 use Rattle.domain_run.proofs.Ticking.{begun_is}
 use Rattle.domain_run.proofs.Tracing.{AreStanding, tick_traced}
 

@@ -1,8 +1,7 @@
 -- The tasks that run in the middle of a tick.
-use Rattle.std.proofs.Common.{◌≡◌, ◌≢◌, ℕ, zero, suc, ◌+◌, ◌*◌, ◌^◌, ◌<◌, ◌≤◌, true, false, eqb, Option, Some, None, List, [], ◌∷◌, length, get_or, refl, sym, ap, subst, ◌∙◌, arith}
-use Rattle.std.specs.Prelude.{ℤ, pos, ◌<ℤ◌, ◌≤ℤ◌, All, Any, AllPairs, IsTrue, find, slice_get, option_map}
+use Rattle.std.proofs.Common.{◌≡◌, ℕ, zero, suc, ◌*◌, ◌^◌, ◌<◌, ◌≤◌, eqb, Some, None, [], ◌∷◌, length, refl, sym, ap, subst, ◌∙◌, arith}
+use Rattle.std.specs.Prelude.{pos, ◌<ℤ◌, ◌≤ℤ◌, Any, IsTrue, find, slice_get, option_map}
 use Rattle.std.proofs.Math.Nat.{mul-le-mul}
-use Rattle.std.proofs.lemmas.Int.{ints}
 use Rattle.attr_check.specs.Ratio.{cap}
 use Rattle.grub_rules.specs.Sums.{uinact}
 use Rattle.grub_rules.proofs.CallerLemmas.{uinact-le-total_bw}

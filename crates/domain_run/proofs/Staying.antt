@@ -1,14 +1,13 @@
 -- A placement stays where it is, while the same tasks are ready with the same deadlines.
 use Rattle.std.proofs.Common.{◌≡◌, ℕ, zero, suc, ◌+◌, ◌<◌, ◌≤◌, Bool, true, false, cond, eqb, ltb, ◌||◌, ◌&&◌, Option, Some, None, List, [], ◌∷◌, length, map, get_or, set, refl, sym, ap, subst, ◌∙◌, arith, inl, inr, eq-eqb}
-use Rattle.std.specs.Prelude.{All, find, ◌⊎◌, position, is_none, slice_get, option_map, unwrap_or, count_by}
+use Rattle.std.specs.Prelude.{All, find, ◌⊎◌, position, is_none, slice_get, option_map, unwrap_or}
 use Rattle.std.specs.List.{list_any, position_or_len}
 use Rattle.std.proofs.lemmas.Bool.{cases_lt, eqb-true, lt-ltb, le-ltb}
-use Rattle.std.proofs.lemmas.List.{get_or-set_same, length-set}
 use Rattle.std.proofs.lemmas.List.Elements.{All-set, All-map}
 use Rattle.std.proofs.lemmas.List.Sums.{sum_by-cons}
 use Rattle.std.proofs.lemmas.Option.{same_Some}
 use Rattle.edf_pick.specs.declared.candidate.Candidate.{Candidate}
-use Rattle.edf_pick.specs.Choice.{is_before, rank, is_chosen, ranked}
+use Rattle.edf_pick.specs.Choice.{is_before, rank, ranked}
 use Rattle.edf_pick.specs.Places.{Places, is_task, stands, is_chosen_number, kept, is_free, seat_of, put, seated, seated_if, seated_upto, placed}
 
 -- ---- lists

@@ -1,5 +1,5 @@
 -- A task that stays as it is.
-use Rattle.std.proofs.Common.{◌≡◌, refl, inl}
+use Rattle.std.proofs.Common.{refl, inl}
 use Rattle.domain_run.specs.declared.run_queue.Standing.{Standing}
 use Rattle.domain_run.specs.declared.run_queue.RunQueue.{RunQueue}
 use Rattle.domain_run.specs.private.RunQueue.{HasTurned}

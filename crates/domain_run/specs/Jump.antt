@@ -1,5 +1,5 @@
 -- Many ticks at once (own): between two events each tick does the same to every task.
-use Rattle.std.specs.Prelude.{ℕ, ℤ, pos, ◌+◌, ◌-◌, ◌*◌, ◌^◌, ◌<◌, ◌≤◌, ◌<ℤ◌, ◌-ℤ◌, ◌≡◌, ◌==◌, min, if◌then◌else◌, List, [], ◌∷◌, length, find, slice_get, slice_index_or, Option, Some, None, option_map}
+use Rattle.std.specs.Prelude.{ℕ, ℤ, pos, ◌+◌, ◌-◌, ◌*◌, ◌^◌, ◌≤◌, ◌<ℤ◌, ◌-ℤ◌, ◌≡◌, ◌==◌, min, if◌then◌else◌, List, [], ◌∷◌, length, find, slice_get, slice_index_or, Option, Some, None, option_map}
 use Rattle.std.specs.List.{filter_map}
 use Rattle.grub_rules.specs.Sums.{uinact}
 use Rattle.grub_rules.specs.Rate as reclaiming

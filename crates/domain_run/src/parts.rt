@@ -312,19 +312,20 @@ pub(crate) fn rest_of(task: &Task, time: u64) -> u64
     } else {
         None
     };
-    let gone = if is_listed(task) {
-        None
-    } else {
-        Some(0)
-    };
+    let gone = if is_listed(task) { None } else { Some(0) };
     let served = ticks_to(time, replenished).min(ticks_to(time, task.zero_lag));
     served.min(ticks_to(time, task.condition.asks_at()).min(ticks_to(time, gone)))
 }
 
 /// A running task as a jump sees it.
 pub(crate) fn running_of(task: &Task, uinact: u64) -> Running
-    ensures { result ≡ record { number = task.now.number; params = task.now.params;
-        uinact = uinact; left = task.now.server.left; work = task.now.work } }
+    ensures { result ≡ record {
+      number = task.now.number;
+      params = task.now.params;
+      uinact = uinact;
+      left = task.now.server.left;
+      work = task.now.work;
+    } }
 {
     Running {
         number: task.number,

@@ -23,5 +23,8 @@ pub(crate) fn standing_at(places: &[Option<u32>], i: usize) -> Option<u32>
 pub(crate) fn index_of(number: u32, places: &[Option<u32>]) -> Option<usize>
     ensures { result ≡ position (λ n. n == number) (standing places.now) }
 {
-    places.iter().filter_map(|occupant| *occupant).position(|n| n == number)
+    places
+        .iter()
+        .filter_map(|occupant| *occupant)
+        .position(|n| n == number)
 }

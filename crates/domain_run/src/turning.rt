@@ -8,11 +8,10 @@ ghost use Rattle.domain_run.specs.private.Charging.{IsReadyToStand};
 ghost use Rattle.domain_run.specs.private.Paying.{MayPayIf, paid};
 ghost use Rattle.domain_run.specs.private.RunQueue as spec;
 
-use crate::parts;
 use crate::run_queue::{RunQueue, standing_of};
-use crate::seats;
 use crate::state::bw_within;
 use crate::task::Task;
+use crate::{parts, seats};
 use attr_check::Params;
 
 /// Part 1: only a throttled task is replenished.

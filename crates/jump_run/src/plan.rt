@@ -94,10 +94,7 @@ fn gather(state: &State, most: u64, room: &mut Room) -> Plan
     let mut ticks = most.min(state.quiet());
     for i in 0..64 {
         let Some(runner) = state.running(i) else {
-            return Plan {
-                ticks,
-                count: i,
-            };
+            return Plan { ticks, count: i };
         };
         let rate = rate_of(state, &runner);
         let left = left_of(&runner);
@@ -105,10 +102,7 @@ fn gather(state: &State, most: u64, room: &mut Room) -> Plan
         room.rates[i] = rate;
         ticks = ticks.min(runner.work).min(spent_after(left, rate));
     }
-    Plan {
-        ticks,
-        count: 64,
-    }
+    Plan { ticks, count: 64 }
 }
 
 /// As many ticks of the tick that has begun and of the next ones as pass before the next event, and at most `most`; and what

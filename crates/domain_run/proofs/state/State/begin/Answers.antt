@@ -1,11 +1,10 @@
-use Rattle.std.proofs.Common.{◌≡◌, ◌+◌, ◌<◌, ◌^◌, refl, sym, ap, ◌∙◌, subst, arith}
+use Rattle.std.proofs.Common.{◌+◌, ◌<◌, ◌^◌, refl, sym, ap, ◌∙◌, subst, arith}
 use Rattle.domain_run.specs.Domain.{Domain}
-use Rattle.domain_run.specs.Tick.{begun}
-use Rattle.domain_run.specs.Jump.{under_way, IsUnderWay}
+use Rattle.domain_run.specs.Jump.{under_way}
 use Rattle.domain_run.specs.Sound.{IsDomain, IsPlacement}
 use Rattle.domain_run.specs.private.RunQueue.{IsCounted}
 use Rattle.domain_run.proofs.Counting.{counted_in}
-use Rattle.domain_run.proofs.Ticking.{IsMiddle, middle}
+use Rattle.domain_run.proofs.Ticking.{middle}
 use Rattle.domain_run.proofs.Paying.{under_way_is}
 use Rattle.domain_run.proofs.state.State.begin.Goals as goal
 

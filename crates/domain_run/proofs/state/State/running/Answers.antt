@@ -1,4 +1,4 @@
-use Rattle.std.proofs.Common.{◌≡◌, ℕ, ◌<◌, ◌≤◌, ◌^◌, eqb, Option, Some, None, List, length, refl, sym, ap, subst, ◌∙◌, arith}
+use Rattle.std.proofs.Common.{◌≡◌, ◌<◌, ◌≤◌, ◌^◌, eqb, Some, None, List, length, refl, sym, ap, subst, ◌∙◌, arith}
 use Rattle.std.specs.Prelude.{pos, ◌<ℤ◌, ◌≤ℤ◌, find, slice_get}
 use Rattle.grub_rules.specs.Sums.{uinact}
 use Rattle.edf_pick.specs.Places.{Places}
@@ -7,7 +7,7 @@ use Rattle.domain_run.specs.declared.running.Running.{Running}
 use Rattle.domain_run.specs.Domain.{Domain}
 use Rattle.domain_run.specs.Tick.{shares}
 use Rattle.domain_run.specs.Sound.{IsPlacement}
-use Rattle.domain_run.specs.Jump.{standing, running_of, running}
+use Rattle.domain_run.specs.Jump.{standing, running}
 use Rattle.domain_run.proofs.Counting.{inactive_is}
 use Rattle.domain_run.proofs.Runners.{IsRunning, found_running, never_lost, standing_short, inactive_short}
 use Rattle.domain_run.proofs.state.State.running.Goals as goal
