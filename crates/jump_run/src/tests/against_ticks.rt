@@ -1,7 +1,7 @@
 //! Jumps against single ticks: the same calls on two domains.
 
-use super::{UNIT, Worker, admit, params};
-use crate::advance;
+use super::{UNIT, Worker, admit, forever, params};
+use crate::{Done, advance};
 use domain_run::{Event, State};
 use std::alloc::Global;
 use std::test::Fail;
@@ -61,10 +61,12 @@ fn single_ticks(state: &mut State, ticks: u64) -> Result<(), Fail> {
     Ok(())
 }
 
-fn advance_both(pair: &mut Pair, ticks: u64) -> Result<(), Fail> {
+/// Jumps on the one, and as many single ticks as it made on the other.
+fn advance_both(pair: &mut Pair, ticks: u64) -> Result<Done, Fail> {
     let left = (1_u64 << 42).saturating_sub(pair.jumping.now());
-    advance(&mut pair.jumping, ticks.min(left));
-    single_ticks(&mut pair.ticking, ticks)
+    let done = advance(&mut pair.jumping, ticks.min(left));
+    single_ticks(&mut pair.ticking, done.ticks)?;
+    Ok(done)
 }
 
 fn call_both(alloc: Global, pair: &mut Pair, next: u32, draws: &mut Draws) -> Result<(), Fail> {
@@ -84,7 +86,9 @@ fn call_both(alloc: Global, pair: &mut Pair, next: u32, draws: &mut Draws) -> Re
             pair.jumping.leave(number);
             pair.ticking.leave(number);
         }
-        _ => advance_both(pair, draws.below(90))?,
+        _ => {
+            advance_both(pair, draws.below(90))?;
+        }
     }
     Ok(())
 }
@@ -98,13 +102,17 @@ fn are_same(pair: &Pair, numbers: u32) -> bool {
     same
 }
 
-/// After so many drawn calls both are the same, and there were switches.
-fn agree(alloc: Global, cpus: u32, seed: u64) -> Result<bool, Fail> {
+fn pair_of(alloc: Global, cpus: u32) -> Result<Pair, Fail> {
     let cpus = cpus.clamp(1, 64);
-    let mut pair = Pair {
+    Ok(Pair {
         jumping: State::open(alloc, cpus, UNIT)?,
         ticking: State::open(alloc, cpus, UNIT)?,
-    };
+    })
+}
+
+/// After so many drawn calls both are the same, and there were switches.
+fn agree(alloc: Global, cpus: u32, seed: u64) -> Result<bool, Fail> {
+    let mut pair = pair_of(alloc, cpus)?;
     let mut draws = Draws { seed };
     let mut same = true;
     for next in 1..300 {
@@ -119,5 +127,27 @@ fn jumps_against_single_ticks(rt: HostRuntime) -> Result<(), Fail> {
     for (cpus, seed) in [(1, 1), (2, 2), (64, 3)] {
         assert!(rt; agree(rt.alloc(), cpus, seed)?, "{cpus} CPUs");
     }
+    Ok(())
+}
+
+/// An advance with many switches: how many ticks were made, and whether so many single ticks leave the same.
+fn many_switches(alloc: Global) -> Result<(Done, bool), Fail> {
+    let mut pair = pair_of(alloc, 1)?;
+    let events = [Event::Run(1), Event::Sleep(3)];
+    let worker = forever((2, 8, 8), &events);
+    admit(alloc, &mut pair.jumping, 1, worker)?;
+    admit(alloc, &mut pair.ticking, 1, worker)?;
+    let done = advance_both(&mut pair, 500)?;
+    let same = are_same(&pair, 2);
+    Ok((done, same))
+}
+
+/// With a growth of the switches refused in the middle (`rt try --test --fail-alloc N`) it is the second assertion that fails:
+/// fewer ticks, and exactly so many.
+#[test]
+fn cut_short_by_memory(rt: HostRuntime) -> Result<(), Fail> {
+    let (done, same) = many_switches(rt.alloc())?;
+    assert!(rt; same);
+    assert_eq!(rt; done.ticks, 500);
     Ok(())
 }
