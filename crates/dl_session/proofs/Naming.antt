@@ -1,5 +1,5 @@
 -- Each admitted number keeps its name.
-use Rattle.std.proofs.Common.{◌≡◌, ℕ, suc, ◌+◌, ◌<◌, ◌≤◌, true, false, cond, eqb, ◌||◌, List, length, refl, sym, ap, ◌∙◌, subst, arith, eq-eqb, Result, Ok, Err}
+use Rattle.std.proofs.Common.{◌≡◌, ℕ, zero, suc, ◌+◌, ◌<◌, ◌≤◌, true, false, cond, eqb, ◌||◌, List, length, refl, sym, ap, ◌∙◌, subst, arith, eq-eqb, Result, Ok, Err}
 use Rattle.std.specs.Prelude.{OnOk}
 use Rattle.std.specs.List.{list_any}
 use Rattle.std.proofs.lemmas.Bool.{eqb-true, eqb-false, ne_eqb}
@@ -17,8 +17,10 @@ use Rattle.switch_text.specs.Names.{Names, named, HasName}
 use Rattle.dl_session.specs.Replay.{with_name}
 use Rattle.dl_session.specs.private.Replaying.{AreNamed}
 
-pub one_more : (k : ℕ) (d e : Domain) → e ≡ ticks k d → ticked e ≡ ticks (k + 1) d
-one_more k d e same = let more : suc k ≡ k + 1 = omega arith in ap ticked same ∙ ap (λ n. ticks n d) more
+-- ticks admit nobody
+pub ticks_used : (k : ℕ) (d : Domain) → (ticks k d).used ≡ d.used
+ticks_used zero d = refl
+ticks_used (suc k) d = ticks_used k d
 
 eqb-swap : (a b : ℕ) → eqb a b ≡ eqb b a
 eqb-swap a b =

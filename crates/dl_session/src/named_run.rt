@@ -144,11 +144,9 @@ impl NamedRun {
         ensures names { self.new.names ≡ self.old.names }
         ensures err { IfErr result (λ e. e ≡ SessionFault.Memory) }
     {
-        for _ in 0..ticks {
-            match self.state.tick() {
-                Ok(()) => {}
-                Err(NoMemory) => return Err(SessionFault::Memory),
-            }
+        let done = jump_run::advance(&mut self.state, ticks);
+        if done.ticks < ticks {
+            return Err(SessionFault::Memory);
         }
         Ok(())
     }

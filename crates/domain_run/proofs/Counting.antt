@@ -34,14 +34,14 @@ use Rattle.domain_run.proofs.Keeping.{Same, same_itself, same_either, same_ran, 
 use Rattle.attr_check.specs.ParamsView.{ParamsView}
 
 -- a ready task, or none
-abbrev one : Option Candidate → List Candidate
+abbrev pub one : Option Candidate → List Candidate
 one None = []
 one (Some c) = c ∷ []
 
 candidates_append : (xs ys : List Task) → candidates (xs ++ ys) ≡ candidates xs ++ candidates ys
 candidates_append xs ys = ap (map candidate_of) (filter-append (λ t. is_ready t.condition) xs ys) ∙ map-append candidate_of (filter (λ t. is_ready t.condition) xs) (filter (λ t. is_ready t.condition) ys)
 
-candidates_first : (t : Task) (ys : List Task) → candidates (t ∷ ys) ≡ one (ready_of t) ++ candidates ys
+pub candidates_first : (t : Task) (ys : List Task) → candidates (t ∷ ys) ≡ one (ready_of t) ++ candidates ys
 candidates_first t ys =
     let rest = filter (λ t. is_ready t.condition) ys in
     elim (is_ready t.condition) as (λ b. map candidate_of (cond b (t ∷ rest) rest) ≡ one (cond b (Some (candidate_of t)) None) ++ map candidate_of rest) [ true ↦ refl | false ↦ refl ]

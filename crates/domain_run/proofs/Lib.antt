@@ -12,3 +12,8 @@ pub mod Ticking
 pub mod Tracing
 pub mod KeptKeys
 pub mod CallerLemmas
+pub mod Staying
+pub mod Jumping
+pub mod Paying
+pub mod Runners
+pub mod Unturned

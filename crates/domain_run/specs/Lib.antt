@@ -12,5 +12,6 @@ pub mod Run
 pub mod Views
 pub mod Bounds
 pub mod Sound
+pub mod Jump
 pub mod examples
 pub mod private

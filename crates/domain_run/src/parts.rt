@@ -1,6 +1,6 @@
 //! The parts of a tick, on one task.
 
-ghost use Rattle.std.specs.Prelude.{◌≡◌, ◌<◌, ◌≤◌, ◌^◌, ◌+◌, ◌-◌, ℕ, IsTrue, IsSome, false, position, find, ◌==◌, option_copied, option_map, pos, ◌≤ℤ◌, ◌<ℤ◌, ◌&&◌, not};
+ghost use Rattle.std.specs.Prelude.{◌≡◌, ◌<◌, ◌≤◌, ◌^◌, ◌+◌, ◌-◌, ℕ, IsTrue, IsSome, false, position, find, ◌==◌, option_copied, option_map, pos, neg_ℤ, ◌≤ℤ◌, ◌<ℤ◌, ◌&&◌, not};
 ghost use Rattle.domain_run.specs.Conditions as conditions;
 ghost use Rattle.cbs_rules.specs.Serving as serving;
 ghost use Rattle.edf_pick.specs.Places as places_spec;
@@ -11,11 +11,14 @@ ghost use Rattle.domain_run.specs.Calls as calls;
 ghost use Rattle.domain_run.specs.Domain.{Domain};
 ghost use Rattle.domain_run.specs.Parts as parts;
 ghost use Rattle.domain_run.specs.private.Charging.{IsReadyToStand};
+ghost use Rattle.domain_run.specs.private.Paying.{ran_until};
+ghost use Rattle.domain_run.specs.Jump as jump;
 ghost use Rattle.domain_run.specs.script.Segments.{IsSegment, next_ask};
 ghost use Rattle.domain_run.specs.Bounds.{IsServed};
 ghost use Rattle.domain_run.specs.Sound.{IsTimed, IsSound};
 
 use crate::name::Name;
+use crate::running::Running;
 use crate::script::{Script, Segment};
 use crate::switch::PrevState;
 use crate::task::{Condition, Task, TaskView};
@@ -23,12 +26,21 @@ use attr_check::Params;
 use cbs_rules::Server;
 use edf_pick::Candidate;
 
-fn has_come(time: u64, moment: Option<u64>) -> bool
+pub(crate) fn has_come(time: u64, moment: Option<u64>) -> bool
     ensures { result ≡ conditions.has_come time moment }
 {
     match moment {
         None => false,
         Some(moment) => moment <= time,
+    }
+}
+
+fn ticks_to(time: u64, moment: Option<u64>) -> u64
+    ensures { result ≡ jump.ticks_to time moment }
+{
+    match moment {
+        None => (1 << 42) - 1,
+        Some(moment) => moment.saturating_sub(time),
     }
 }
 
@@ -63,12 +75,21 @@ impl Condition {
         matches!(self, Condition::Leaving)
     }
 
-    fn is_over(self, time: u64) -> bool
+    pub(crate) fn is_over(self, time: u64) -> bool
         ensures { result ≡ conditions.is_over time self }
     {
         match self {
             Condition::Blocked(until) => until <= time,
             _ => false,
+        }
+    }
+
+    fn asks_at(self) -> Option<u64>
+        ensures { result ≡ jump.asks_at self }
+    {
+        match self {
+            Condition::Blocked(until) => Some(until),
+            _ => None,
         }
     }
 }
@@ -266,10 +287,69 @@ pub(crate) fn run(task: &mut Task, rate: u64, time: u64)
     after_charge(task, time + 1);
 }
 
+/// Part 6: so many ticks of running at once, up to a time, with what they leave of the budget.
+pub(crate) fn run_until(task: &mut Task, time: u64, ticks: u64, left: i128)
+    requires early { time < 2 ^ 43 }
+    requires low { neg_ℤ (pos (2 ^ 32)) ≤ℤ left }
+    requires high { left ≤ℤ pos (2 ^ 52) }
+    requires worked { ticks ≤ task.old.work }
+    requires sound { IsSound time task.old }
+    requires running { IsTrue (conditions.is_ready task.old.condition) }
+    ensures task { task.new ≡ ran_until time ticks left task.old }
+    ensures sound { IsSound time task.new }
+{
+    task.server.left = left;
+    task.work -= ticks;
+    after_charge(task, time);
+}
+
+/// The ticks from a time to the first at which something is to be done to a task before the choice.
+pub(crate) fn rest_of(task: &Task, time: u64) -> u64
+    ensures { result ≡ jump.rest_of time task.now }
+{
+    let replenished = if task.condition.is_throttled() {
+        task.server.deadline
+    } else {
+        None
+    };
+    let gone = if is_listed(task) { None } else { Some(0) };
+    let served = ticks_to(time, replenished).min(ticks_to(time, task.zero_lag));
+    served.min(ticks_to(time, task.condition.asks_at()).min(ticks_to(time, gone)))
+}
+
+/// A running task as a jump sees it.
+pub(crate) fn running_of(task: &Task, uinact: u64) -> Running
+    ensures { result ≡ record {
+      number = task.now.number;
+      params = task.now.params;
+      uinact = uinact;
+      left = task.now.server.left;
+      work = task.now.work;
+    } }
+{
+    Running {
+        number: task.number,
+        params: task.params,
+        uinact,
+        left: task.server.left,
+        work: task.work,
+    }
+}
+
 fn place_of(number: u32, places: &[Option<u32>]) -> Option<usize>
     ensures { result ≡ position (places_spec.is_task number) places.now }
 {
     places.iter().position(|occupant| *occupant == Some(number))
+}
+
+/// Part 4: whether a task belongs to the CPU on which it is placed, or is placed on none.
+pub(crate) fn is_at_home(task: &Task, places: &[Option<u32>]) -> bool
+    ensures { IsTrue result → parts.homed places.now task.now ≡ task.now }
+{
+    match place_of(task.number, places) {
+        None => true,
+        Some(cpu) => cpu == task.cpu,
+    }
 }
 
 /// Part 4: a placed task, which is ready, belongs to its CPU.

@@ -14,6 +14,7 @@ ghost use Rattle.domain_run.specs.Sound.{IsDomain, IsPlacement};
 ghost use Rattle.attr_check.specs.Ratio.{cap};
 
 mod calls;
+mod jumps;
 mod lending;
 mod machine;
 #[cfg(test)]
@@ -121,7 +122,7 @@ impl State {
 }
 
 // The bandwidth, with the bound that its type keeps, for the sums in which it stands.
-fn bw_within(params: &Params) -> u64
+pub(crate) fn bw_within(params: &Params) -> u64
     ensures value { result ≡ params.now.bw }
     ensures most { result ≤ 2 ^ 20 }
 {

@@ -1,6 +1,6 @@
 //! The parts of a tick, on all tasks of a domain.
 
-ghost use Rattle.std.specs.Prelude.{◌≡◌, ◌<◌, ◌≤◌, ◌^◌, ◌+◌, map, filter, ℕ, All, ◌++◌, length, slice_index, vec_len, vec_capacity};
+ghost use Rattle.std.specs.Prelude.{◌≡◌, ◌<◌, ◌≤◌, ◌^◌, ◌+◌, ◌-◌, map, filter, ℕ, All, ◌++◌, length, slice_index, vec_len, vec_capacity};
 ghost use Rattle.domain_run.specs.Parts as parts_spec;
 ghost use Rattle.edf_pick.specs.Places as places_spec;
 ghost use Rattle.domain_run.specs.Sound.{IsSound, IsApart};
@@ -10,11 +10,13 @@ ghost use Rattle.domain_run.specs.Tick as tick_spec;
 ghost use Rattle.domain_run.specs.private.Charging.{AreSums, IsReadyToStand, rate_with, ran_with};
 ghost use Rattle.domain_run.specs.Calls as calls;
 ghost use Rattle.domain_run.specs.private.RunQueue.{IsCounted};
+ghost use Rattle.domain_run.specs.private.Paying.{MayPayIf, paid};
+ghost use Rattle.domain_run.specs.Jump as jump;
 
-use crate::parts;
 use crate::run_queue::{RunQueue, share_of, standing_of};
 use crate::switch::Switch;
 use crate::task::Task;
+use crate::{parts, turning};
 use attr_check::Params;
 use edf_pick::Placement;
 use grub_rules::Accounts;
@@ -31,9 +33,7 @@ fn replenish_all(tasks: &mut Vec<Task>, queue: &mut RunQueue, time: u64)
     ensures room { vec_capacity tasks.new ≡ vec_capacity tasks.old }
 {
     for task in tasks.iter_mut() {
-        let before = standing_of(task);
-        parts::replenish_due(task, time);
-        queue.turn(before, standing_of(task));
+        turning::replenish(task, queue, time);
     }
 }
 
@@ -48,9 +48,7 @@ fn settle_all(tasks: &mut Vec<Task>, queue: &mut RunQueue, time: u64)
     ensures room { vec_capacity tasks.new ≡ vec_capacity tasks.old }
 {
     for task in tasks.iter_mut() {
-        let before = standing_of(task);
-        parts::settle(task, time);
-        queue.turn(before, standing_of(task));
+        turning::settle(task, queue, time);
     }
 }
 
@@ -92,9 +90,7 @@ fn unblock_all(tasks: &mut Vec<Task>, queue: &mut RunQueue, time: u64)
     ensures room { vec_capacity tasks.new ≡ vec_capacity tasks.old }
 {
     for task in tasks.iter_mut() {
-        let before = standing_of(task);
-        parts::unblock(task, time);
-        queue.turn(before, standing_of(task));
+        turning::unblock(task, queue, time);
     }
 }
 
@@ -124,9 +120,7 @@ fn home_all(tasks: &mut Vec<Task>, queue: &mut RunQueue, places: &[Option<u32>])
     ensures room { vec_capacity tasks.new ≡ vec_capacity tasks.old }
 {
     for task in tasks.iter_mut() {
-        let before = standing_of(task);
-        parts::home(task, places);
-        queue.turn(before, standing_of(task));
+        turning::home(task, queue, places);
     }
 }
 
@@ -275,6 +269,41 @@ pub(crate) fn run_all(
     }
 }
 
+/// Part 6 of so many ticks at once, up to a time: every running task has its budget, and its work has fallen.
+pub(crate) fn pay_all(
+    tasks: &mut Vec<Task>,
+    queue: &mut RunQueue,
+    places: &[Option<u32>],
+    budgets: &[i128],
+    ticks: u64,
+    time: u64,
+)
+    requires early { time < 2 ^ 43 }
+    requires sound { All (IsSound time) tasks.old.items }
+    requires may { All (MayPayIf places.now ticks budgets.now) tasks.old.items }
+    requires counted { IsCounted (length queue.old.accounts.all) queue.old tasks.old.items }
+    ensures tasks { tasks.new.items ≡ map (paid time places.now ticks budgets.now) tasks.old.items }
+    ensures sound { All (IsSound time) tasks.new.items }
+    ensures counted { IsCounted (length queue.old.accounts.all) queue.new tasks.new.items }
+    ensures room { vec_capacity tasks.new ≡ vec_capacity tasks.old }
+{
+    for task in tasks.iter_mut() {
+        turning::pay(task, queue, places, budgets, ticks, time);
+    }
+}
+
+/// The ticks from a time to the first at which something is to be done to any task before the choice.
+pub(crate) fn rest(tasks: &[Task], time: u64) -> u64
+    ensures rest { result ≡ jump.rest time tasks.now }
+    ensures most { result ≤ 2 ^ 42 - 1 }
+{
+    let mut rest = (1 << 42) - 1;
+    for task in tasks {
+        rest = parts::rest_of(task, time).min(rest);
+    }
+    rest
+}
+
 /// A regrade of the task of a number.
 pub(crate) fn regrade_one(tasks: &mut Vec<Task>, queue: &mut RunQueue, number: u32, params: &Params)
     requires short { params.now.bw ≤ 2 ^ 26 }
@@ -285,9 +314,7 @@ pub(crate) fn regrade_one(tasks: &mut Vec<Task>, queue: &mut RunQueue, number: u
     ensures room { vec_capacity tasks.new ≡ vec_capacity tasks.old }
 {
     for task in tasks.iter_mut() {
-        let before = standing_of(task);
-        parts::regrade(task, number, params);
-        queue.turn(before, standing_of(task));
+        turning::regrade(task, queue, number, params);
     }
 }
 
@@ -300,9 +327,7 @@ pub(crate) fn release_one(tasks: &mut Vec<Task>, queue: &mut RunQueue, number: u
     ensures room { vec_capacity tasks.new ≡ vec_capacity tasks.old }
 {
     for task in tasks.iter_mut() {
-        let before = standing_of(task);
-        parts::release(task, number, time);
-        queue.turn(before, standing_of(task));
+        turning::release(task, queue, number, time);
     }
 }
 
@@ -317,8 +342,6 @@ pub(crate) fn end_one(tasks: &mut Vec<Task>, queue: &mut RunQueue, number: u32, 
     ensures room { vec_capacity tasks.new ≡ vec_capacity tasks.old }
 {
     for task in tasks.iter_mut() {
-        let before = standing_of(task);
-        parts::end(task, number, time);
-        queue.turn(before, standing_of(task));
+        turning::end(task, queue, number, time);
     }
 }

@@ -390,10 +390,5 @@ fn make_ticks(state: &mut State, n: u64) -> u64
     ensures state { state.new ≡ tick.ticks result state.old }
     ensures keys { AreKept state.old.tasks state.new.tasks }
 {
-    for k in 0..n {
-        let Ok(()) = state.tick() else {
-            return k;
-        };
-    }
-    n
+    jump_run::advance(state, n).ticks
 }

@@ -1,12 +1,17 @@
-use Rattle.std.proofs.Common.{◌∙◌, ap, arith}
+use Rattle.std.proofs.Common.{◌≡◌, ℕ, ap, ◌∙◌, arith}
 use Rattle.domain_run.specs.Domain.{Domain}
-use Rattle.dl_session.proofs.Naming.{one_more}
+use Rattle.domain_run.specs.Tick.{ticks}
+use Rattle.domain_run.proofs.CallerLemmas.{ticks_time}
+use Rattle.dl_session.proofs.Naming.{ticks_used}
 use Rattle.dl_session.proofs.named_run.NamedRun.advance.Goals as goal
 
-pub loop-preserved : goal.loop-preserved
-loop-preserved c = record {
-  state = c.in-Ok.ensures.ok ∙ one_more c.loop.counter c.args.self.now.state c.loop.self.state c.loop.invariant.state;
-  time = ap (λ (d : Domain). d.time) c.in-Ok.ensures.ok ∙ omega (arith, c.loop.invariant.time);
-  used = ap (λ (d : Domain). d.used) c.in-Ok.ensures.ok ∙ c.loop.invariant.used;
-  names = c.loop.invariant.names;
-}
+pub returns-clause-state : goal.returns-clause-state
+returns-clause-state c =
+    let all : c.advance-done.result.ticks ≡ c.args.ticks = omega (arith, c.if-done-ticks.false, c.advance-done.ensures.most) in
+    c.advance-done.ensures.state ∙ ap (λ (k : ℕ). ticks k c.args.self.now.state) all
+
+pub returns-clause-time : goal.returns-clause-time
+returns-clause-time c = ap (λ (d : Domain). d.time) (returns-clause-state c) ∙ ticks_time c.args.ticks c.args.self.now.state
+
+pub returns-clause-used : goal.returns-clause-used
+returns-clause-used c = ap (λ (d : Domain). d.used) (returns-clause-state c) ∙ ticks_used c.args.ticks c.args.self.now.state

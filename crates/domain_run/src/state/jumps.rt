@@ -1,0 +1,92 @@
+//! Many ticks at once: a tick begins, and so many end as pass before something else is to be done.
+
+ghost use Rattle.std.specs.Prelude.{◌≡◌, ◌<◌, ◌≤◌, ◌^◌, ◌+◌, ◌<ℤ◌, ◌≤ℤ◌, ◌↔◌, pos, OnOk, OnErr, IfSome, IsTrue, is_some, length};
+ghost use Rattle.domain_run.specs.Domain.{Domain};
+ghost use Rattle.domain_run.specs.Tick as tick;
+ghost use Rattle.domain_run.specs.Jump as jump;
+ghost use Rattle.domain_run.specs.Sound.{IsDomain};
+
+use super::State;
+use crate::memory::NoMemory;
+use crate::running::Running;
+use crate::{parts, seats, sweep};
+
+impl State {
+    /// Begins a tick: throttled tasks whose deadline has come are replenished, zero-lag times that have come are dropped, blocked
+    /// tasks whose time has come ask their scripts, the ready tasks with the earliest deadlines are placed, and the switches are
+    /// added. The clock stands at the end of this tick then. What is left of it is [`State::finish`], and no other call is to
+    /// change the state before it. Room for the switches is made first: on `Err` nothing has changed.
+    pub fn begin(&mut self) -> Result<(), NoMemory>
+        requires { self.old.time < 2 ^ 42 }
+        ensures ok { OnOk result (self.new ≡ jump.under_way self.old) }
+        ensures begun { OnOk result (jump.IsUnderWay self.new) }
+        ensures err { OnErr result (self.new ≡ self.old) }
+        ensures domain { IsDomain self.old }
+    {
+        self.switches.try_reserve(self.cpus)?;
+        sweep::begin(
+            self.time,
+            &mut self.tasks,
+            &mut self.queue,
+            &mut self.places,
+            &mut self.switches,
+            &mut self.before,
+        );
+        self.time += 1;
+        Ok(())
+    }
+
+    /// The i-th running task of the tick that has begun, by CPU, from 0: it has budget and work left. None past the last.
+    pub fn running(&self, i: usize) -> Option<Running>
+        requires { jump.IsUnderWay self.now }
+        ensures running { result ≡ jump.running self.now i }
+        ensures there { IsTrue (is_some result) ↔ (i < length (jump.standing self.now.places)) }
+        ensures few { length (jump.standing self.now.places) ≤ 64 }
+        ensures some { IfSome result (λ r. 0 < r.work) }
+        ensures lifted { IfSome result (λ r. pos 0 <ℤ r.left) }
+        ensures short { IfSome result (λ r. r.uinact ≤ 2 ^ 26) }
+        ensures high { IfSome result (λ r. r.left ≤ℤ pos (2 ^ 52)) }
+    {
+        let Some(number) = seats::standing_at(self.places.occupants(), i) else {
+            return None;
+        };
+        let Some(task) = parts::find(&self.tasks, number) else {
+            return None;
+        };
+        Some(parts::running_of(task, self.queue.accounts.uinact(task.cpu)))
+    }
+
+    /// The number of ticks from the beginning of the tick that has begun to the next in which something is to be done before the
+    /// choice: a task is replenished, its zero-lag time comes, it asks its script, or it goes off the list. 2^42 where there is
+    /// none. Until then every tick does the same to every task, while no work ends and no budget is spent.
+    pub fn quiet(&self) -> u64
+        ensures quiet { result ≡ jump.quiet self.now }
+        ensures some { 0 < result }
+        ensures most { result ≤ 2 ^ 42 }
+    {
+        1 + sweep::rest(&self.tasks, self.time)
+    }
+
+    /// Ends the tick that has begun, and so many ticks in all: every running task has run in each, and what is left of its budget
+    /// is told, by CPU. They are at most [`State::quiet`] and at most the work of each, and no budget is spent before the last of
+    /// them. The domain is then as after so many single ticks from where it was before [`State::begin`].
+    pub fn finish(&mut self, ticks: u64, budgets: &[i128])
+        requires begun { jump.IsUnderWay self.old }
+        requires some { 0 < ticks }
+        requires quiet { ticks ≤ jump.quiet self.old }
+        requires early { self.old.time + ticks ≤ 2 ^ 42 + 1 }
+        requires charged { jump.AreCharged self.old ticks budgets.now }
+        ensures { (d : Domain) → self.old ≡ jump.under_way d → self.new ≡ tick.ticks ticks d }
+    {
+        let time = self.time + (ticks - 1);
+        sweep::pay_all(
+            &mut self.tasks,
+            &mut self.queue,
+            self.places.occupants(),
+            budgets,
+            ticks,
+            time,
+        );
+        self.time = time;
+    }
+}

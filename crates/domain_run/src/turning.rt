@@ -1,0 +1,179 @@
+//! One task turns, and the run queue is told. A task on which a part of a tick, or a call, does nothing costs one look.
+
+ghost use Rattle.std.specs.Prelude.{◌≡◌, ◌<◌, ◌≤◌, ◌^◌, ◌+◌};
+ghost use Rattle.domain_run.specs.Parts as parts_spec;
+ghost use Rattle.domain_run.specs.Calls as calls;
+ghost use Rattle.domain_run.specs.Sound.{IsSound};
+ghost use Rattle.domain_run.specs.private.Charging.{IsReadyToStand};
+ghost use Rattle.domain_run.specs.private.Paying.{MayPayIf, paid};
+ghost use Rattle.domain_run.specs.private.RunQueue as spec;
+
+use crate::run_queue::{RunQueue, standing_of};
+use crate::state::bw_within;
+use crate::task::Task;
+use crate::{parts, seats};
+use attr_check::Params;
+
+/// Part 1: only a throttled task is replenished.
+#[tactic(auto, using(crate::proofs::Unturned::unturned))]
+pub(crate) fn replenish(task: &mut Task, queue: &mut RunQueue, time: u64)
+    requires early { time < 2 ^ 42 }
+    requires sound { IsSound time task.old }
+    requires may { spec.MayTurn queue.old (spec.standing_of task.old)
+        (spec.standing_of (parts_spec.replenish_due time task.old)) }
+    ensures task { task.new ≡ parts_spec.replenish_due time task.old }
+    ensures sound { IsSound time task.new }
+    ensures turned { spec.HasTurned (spec.standing_of task.old) (spec.standing_of task.new)
+        queue.old queue.new }
+{
+    if !task.condition.is_throttled() {
+        return;
+    }
+    let before = standing_of(task);
+    parts::replenish_due(task, time);
+    queue.turn(before, standing_of(task));
+}
+
+/// Part 2: only a task with a zero-lag time drops it.
+#[tactic(auto, using(crate::proofs::Unturned::unturned))]
+pub(crate) fn settle(task: &mut Task, queue: &mut RunQueue, time: u64)
+    requires sound { IsSound time task.old }
+    requires may { spec.MayTurn queue.old (spec.standing_of task.old)
+        (spec.standing_of (parts_spec.settled time task.old)) }
+    ensures task { task.new ≡ parts_spec.settled time task.old }
+    ensures sound { IsSound time task.new }
+    ensures turned { spec.HasTurned (spec.standing_of task.old) (spec.standing_of task.new)
+        queue.old queue.new }
+{
+    if !parts::has_come(time, task.zero_lag) {
+        return;
+    }
+    let before = standing_of(task);
+    parts::settle(task, time);
+    queue.turn(before, standing_of(task));
+}
+
+/// Part 3: only a task whose time of blocking is over asks its script.
+#[tactic(auto, using(crate::proofs::Unturned::unturned))]
+pub(crate) fn unblock(task: &mut Task, queue: &mut RunQueue, time: u64)
+    requires early { time < 2 ^ 42 }
+    requires sound { IsSound time task.old }
+    requires may { spec.MayTurn queue.old (spec.standing_of task.old)
+        (spec.standing_of (parts_spec.unblocked time task.old)) }
+    ensures task { task.new ≡ parts_spec.unblocked time task.old }
+    ensures sound { IsSound time task.new }
+    ensures turned { spec.HasTurned (spec.standing_of task.old) (spec.standing_of task.new)
+        queue.old queue.new }
+{
+    if !task.condition.is_over(time) {
+        return;
+    }
+    let before = standing_of(task);
+    parts::unblock(task, time);
+    queue.turn(before, standing_of(task));
+}
+
+/// Part 4: only a task that is placed on another CPU than its own moves.
+#[tactic(auto, using(crate::proofs::Unturned::unturned))]
+pub(crate) fn home(task: &mut Task, queue: &mut RunQueue, places: &[Option<u32>])
+    requires running { IsReadyToStand places.now task.old }
+    requires may { spec.MayTurn queue.old (spec.standing_of task.old)
+        (spec.standing_of (parts_spec.homed places.now task.old)) }
+    ensures task { task.new ≡ parts_spec.homed places.now task.old }
+    ensures turned { spec.HasTurned (spec.standing_of task.old) (spec.standing_of task.new)
+        queue.old queue.new }
+{
+    if !task.condition.is_ready() {
+        return;
+    }
+    if parts::is_at_home(task, places) {
+        return;
+    }
+    let before = standing_of(task);
+    parts::home(task, places);
+    queue.turn(before, standing_of(task));
+}
+
+/// Part 6 of so many ticks at once, up to a time: only a task that stands on a CPU has run.
+#[tactic(auto, using(crate::proofs::Unturned::unturned))]
+pub(crate) fn pay(
+    task: &mut Task,
+    queue: &mut RunQueue,
+    places: &[Option<u32>],
+    budgets: &[i128],
+    ticks: u64,
+    time: u64,
+)
+    requires early { time < 2 ^ 43 }
+    requires sound { IsSound time task.old }
+    requires may { MayPayIf places.now ticks budgets.now task.old }
+    requires turns { spec.MayTurn queue.old (spec.standing_of task.old)
+        (spec.standing_of (paid time places.now ticks budgets.now task.old)) }
+    ensures task { task.new ≡ paid time places.now ticks budgets.now task.old }
+    ensures sound { IsSound time task.new }
+    ensures turned { spec.HasTurned (spec.standing_of task.old) (spec.standing_of task.new)
+        queue.old queue.new }
+{
+    if !task.condition.is_ready() {
+        return;
+    }
+    if let Some(i) = seats::index_of(task.number, places) {
+        let _bw = bw_within(&task.params);
+        let before = standing_of(task);
+        parts::run_until(task, time, ticks, budgets[i]);
+        queue.turn(before, standing_of(task));
+    }
+}
+
+/// A regrade of the task of a number.
+#[tactic(auto, using(crate::proofs::Unturned::unturned))]
+pub(crate) fn regrade(task: &mut Task, queue: &mut RunQueue, number: u32, params: &Params)
+    requires { spec.MayTurn queue.old (spec.standing_of task.old)
+        (spec.standing_of (calls.of_number number (calls.regraded params.now) task.old)) }
+    ensures task { task.new ≡ calls.of_number number (calls.regraded params.now) task.old }
+    ensures turned { spec.HasTurned (spec.standing_of task.old) (spec.standing_of task.new)
+        queue.old queue.new }
+{
+    if task.number != number {
+        return;
+    }
+    let before = standing_of(task);
+    parts::regrade(task, number, params);
+    queue.turn(before, standing_of(task));
+}
+
+/// A wake of the task of a number.
+#[tactic(auto, using(crate::proofs::Unturned::unturned))]
+pub(crate) fn release(task: &mut Task, queue: &mut RunQueue, number: u32, time: u64)
+    requires { spec.MayTurn queue.old (spec.standing_of task.old)
+        (spec.standing_of (calls.of_number number (calls.released time) task.old)) }
+    ensures task { task.new ≡ calls.of_number number (calls.released time) task.old }
+    ensures turned { spec.HasTurned (spec.standing_of task.old) (spec.standing_of task.new)
+        queue.old queue.new }
+{
+    if task.number != number {
+        return;
+    }
+    let before = standing_of(task);
+    parts::release(task, number, time);
+    queue.turn(before, standing_of(task));
+}
+
+/// The end of the task of a number.
+#[tactic(auto, using(crate::proofs::Unturned::unturned))]
+pub(crate) fn end(task: &mut Task, queue: &mut RunQueue, number: u32, time: u64)
+    requires sound { IsSound time task.old }
+    requires may { spec.MayTurn queue.old (spec.standing_of task.old)
+        (spec.standing_of (calls.of_number number (calls.ended time) task.old)) }
+    ensures task { task.new ≡ calls.of_number number (calls.ended time) task.old }
+    ensures sound { IsSound time task.new }
+    ensures turned { spec.HasTurned (spec.standing_of task.old) (spec.standing_of task.new)
+        queue.old queue.new }
+{
+    if task.number != number {
+        return;
+    }
+    let before = standing_of(task);
+    parts::end(task, number, time);
+    queue.turn(before, standing_of(task));
+}

@@ -1,0 +1,195 @@
+//! Worked rows through jumps, and jumps against single ticks.
+
+mod against_ticks;
+
+use super::{Done, advance};
+use attr_check::{Params, SchedAttr, check};
+use domain_run::{Event, Name, Phase, PrevState, Script, State, Switch};
+use std::alloc::Global;
+use std::process::Abort;
+use std::test::Fail;
+
+const UNIT: u64 = 1048576;
+
+/// A task: runtime, deadline and period in us, and one phase of events, once or for ever.
+#[derive(Clone, Copy)]
+struct Worker<'a> {
+    times: (u64, u64, u64),
+    reclaim: bool,
+    loops: i64,
+    events: &'a [Event],
+}
+
+fn params(times: (u64, u64, u64), reclaim: bool) -> Result<Params, Fail> {
+    let (runtime, deadline, period) = times;
+    Ok(check(&SchedAttr {
+        policy: 6,
+        flags: if reclaim { 2 } else { 0 },
+        runtime: runtime.saturating_mul(1000),
+        deadline: deadline.saturating_mul(1000),
+        period: period.saturating_mul(1000),
+    })?)
+}
+
+fn script(alloc: Global, worker: Worker<'_>) -> Result<Script, Fail> {
+    let mut phases = Vec::new(alloc);
+    phases.push(Phase {
+        count: 1,
+        events: worker.events.to_vec(alloc)?,
+    })?;
+    Ok(Script::new(worker.loops, phases)?)
+}
+
+/// Whether the task was admitted.
+fn admit(alloc: Global, state: &mut State, number: u32, worker: Worker<'_>) -> Result<bool, Fail> {
+    let given = params(worker.times, worker.reclaim)?;
+    let name = Name::new(String::from_str(alloc, "T")?)?;
+    let script = script(alloc, worker)?;
+    let number = number.clamp(1, 65535);
+    Ok(matches!(state.admit(number, name, given, 0, script), Ok(())))
+}
+
+/// Tasks 1, 2, .., admitted at 0, after so many ticks: the domain and how many were made.
+fn played(
+    alloc: Global,
+    cpus: u32,
+    limit: u64,
+    workers: &[Worker<'_>],
+    ticks: u64,
+) -> Result<(State, Done), Fail> {
+    let mut state = State::open(alloc, cpus.clamp(1, 64), limit.clamp(10485, UNIT))?;
+    let mut number: u32 = 0;
+    for worker in workers {
+        number = number.saturating_add(1);
+        admit(alloc, &mut state, number, *worker)?;
+    }
+    let left = (1_u64 << 42).saturating_sub(state.now());
+    let done = advance(&mut state, ticks.min(left));
+    Ok((state, done))
+}
+
+/// The tasks bring these switches in so many ticks.
+fn shows(
+    rt: &impl Abort,
+    alloc: Global,
+    machine: (u32, u64),
+    workers: &[Worker<'_>],
+    ticks: u64,
+    switches: &[Switch],
+) -> Result<(), Fail> {
+    let (cpus, limit) = machine;
+    let (state, done) = played(alloc, cpus, limit, workers, ticks)?;
+    assert_eq!(rt; done.ticks, ticks);
+    assert_eq!(rt; state.switches(), switches);
+    Ok(())
+}
+
+fn once(times: (u64, u64, u64), events: &[Event]) -> Worker<'_> {
+    Worker {
+        times,
+        reclaim: false,
+        loops: 1,
+        events,
+    }
+}
+
+fn forever(times: (u64, u64, u64), events: &[Event]) -> Worker<'_> {
+    Worker {
+        times,
+        reclaim: false,
+        loops: -1,
+        events,
+    }
+}
+
+fn reclaiming(worker: Worker<'_>) -> Worker<'_> {
+    Worker {
+        reclaim: true,
+        ..worker
+    }
+}
+
+fn switch(time: u64, cpu: u16, prev: Option<u32>, state: PrevState, next: Option<u32>) -> Switch {
+    Switch {
+        time,
+        prev,
+        next,
+        cpu,
+        state,
+    }
+}
+
+#[test]
+fn reclaiming_example(rt: HostRuntime) -> Result<(), Fail> {
+    let workers = [
+        reclaiming(forever((4, 8, 8), &[Event::Run(2), Event::Sleep(6)])),
+        reclaiming(once((4, 8, 8), &[Event::Run(100)])),
+    ];
+    let switches = [
+        switch(0, 0, None, PrevState::Running, Some(1)),
+        switch(2, 0, Some(1), PrevState::Sleeping, Some(2)),
+        switch(8, 0, Some(2), PrevState::Preempted, Some(1)),
+    ];
+    shows(&rt, rt.alloc(), (1, UNIT), &workers, 9, &switches)
+}
+
+#[test]
+fn throttled_inside_a_job(rt: HostRuntime) -> Result<(), Fail> {
+    let workers = [once((2, 5, 5), &[Event::Run(4)])];
+    let switches = [
+        switch(0, 0, None, PrevState::Running, Some(1)),
+        switch(2, 0, Some(1), PrevState::Preempted, None),
+        switch(5, 0, None, PrevState::Running, Some(1)),
+        switch(7, 0, Some(1), PrevState::Dead, None),
+    ];
+    shows(&rt, rt.alloc(), (1, UNIT), &workers, 10, &switches)
+}
+
+#[test]
+fn spent_while_blocking(rt: HostRuntime) -> Result<(), Fail> {
+    let workers = [forever((4, 8, 8), &[Event::Run(4), Event::Sleep(2)])];
+    let switches = [
+        switch(0, 0, None, PrevState::Running, Some(1)),
+        switch(4, 0, Some(1), PrevState::Sleeping, None),
+        switch(8, 0, None, PrevState::Running, Some(1)),
+    ];
+    shows(&rt, rt.alloc(), (1, UNIT), &workers, 9, &switches)
+}
+
+#[test]
+fn fraction_and_carry(rt: HostRuntime) -> Result<(), Fail> {
+    let workers = [reclaiming(once((4, 8, 8), &[Event::Run(1000)]))];
+    let switches = [
+        switch(0, 0, None, PrevState::Running, Some(1)),
+        switch(23, 0, Some(1), PrevState::Preempted, None),
+        switch(24, 0, None, PrevState::Running, Some(1)),
+    ];
+    shows(&rt, rt.alloc(), (1, 996147), &workers, 25, &switches)
+}
+
+#[test]
+fn two_cpus(rt: HostRuntime) -> Result<(), Fail> {
+    let worker = forever((4, 8, 8), &[Event::Run(4), Event::Timer(8)]);
+    let switches = [
+        switch(0, 0, None, PrevState::Running, Some(2)),
+        switch(0, 1, None, PrevState::Running, Some(1)),
+        switch(4, 0, Some(2), PrevState::Sleeping, None),
+        switch(4, 1, Some(1), PrevState::Sleeping, Some(3)),
+    ];
+    shows(
+        &rt,
+        rt.alloc(),
+        (2, UNIT),
+        &[worker, worker, worker],
+        5,
+        &switches,
+    )
+}
+
+#[test]
+fn an_empty_domain_in_one_call(rt: HostRuntime) -> Result<(), Fail> {
+    let (state, done) = played(rt.alloc(), 2, UNIT, &[], 1 << 41)?;
+    assert_eq!(rt; done, Done { ticks: 1 << 41 });
+    assert_eq!(rt; state.now(), 1 << 41);
+    Ok(())
+}
