@@ -123,9 +123,9 @@ at_place : (b : Bool) (number : ℕ) (ps : List (PassView Entry)) (d e : ℕ) (x
 at_place true number ps d e x q call answer is inside client becomes =
     let same : d ≡ e = eqb-true d e is in
     subst
-      (λ (k : ℕ). (get_or (set ps d q) k x).entries ≡ (get_or ps k x).entries ++ entries_from number (length (get_or ps k x).entries) (cons_option (made_of call answer) []))
-      same
-      (ap (λ (r : PassView Entry). r.entries) (get_or-set_same ps d q x inside) ∙ entered number (get_or ps d x) q call answer client becomes)
+    (λ (k : ℕ). (get_or (set ps d q) k x).entries ≡ (get_or ps k x).entries ++ entries_from number (length (get_or ps k x).entries) (cons_option (made_of call answer) []))
+    same
+    (ap (λ (r : PassView Entry). r.entries) (get_or-set_same ps d q x inside) ∙ entered number (get_or ps d x) q call answer client becomes)
 at_place false number ps d e x q call answer is inside client becomes =
     let other : e ≢ d = λ same. eqb-false d e is (sym same) in
     ap (λ (r : PassView Entry). r.entries) (get_or-set_other ps d e q x other) ∙ sym (append-nil (get_or ps e x).entries)

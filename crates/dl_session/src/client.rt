@@ -38,8 +38,8 @@ impl<N: Names> Model for Client<N> {
     ghost use Rattle.std.specs.Prelude.{map};
     ghost use Rattle.dl_session.specs.Asks.{ClientView};
     ghost use Rattle.dl_session.specs.Clients.{IsNew};
-ghost use Rattle.dl_session.specs.private.Parts.{IsHand};
-ghost use Rattle.dl_session.specs.private.Entering.{IsClientOf};
+    ghost use Rattle.dl_session.specs.private.Parts.{IsHand};
+    ghost use Rattle.dl_session.specs.private.Entering.{IsClientOf};
 
     ghost Value = { ClientView };
 
@@ -139,13 +139,7 @@ impl<N: Names> Client<N> {
     }
 
     /// Makes a call under the lock of the domain of a place.
-    fn enter_at<R: Wait>(
-        &mut self,
-        rt: &R,
-        session: &Session<N>,
-        place: usize,
-        ask: Ask,
-    ) -> Answer
+    fn enter_at<R: Wait>(&mut self, rt: &R, session: &Session<N>, place: usize, ask: Ask) -> Answer
         requires place { IsPlace N.id place }
         requires ask { IsAsk N.id place ask }
         ensures { IsDoneFor N.id place self.old self.new ask result }
@@ -192,10 +186,7 @@ impl<N: Names> Client<N> {
         ensures verdict { IsVerdict (cap_in N.id place) prepared.params.bw result }
         ensures last { IsLastFound self.new.hand result }
     {
-        match session
-            .gate
-            .take(rt, blank, place, prepared.bw())
-        {
+        match session.gate.take(rt, blank, place, prepared.bw()) {
             Take::Taken(ticket) => {
                 self.enter_at(rt, session, place, Ask::Admit { prepared, ticket })
             }
@@ -225,7 +216,14 @@ impl<N: Names> Client<N> {
         let Some(blank) = self.find_blank(rt, session, place) else {
             return Err(Refusal::Full);
         };
-        match prepare(alloc, task.number, &task.name, params, task.delay, &task.script) {
+        match prepare(
+            alloc,
+            task.number,
+            &task.name,
+            params,
+            task.delay,
+            &task.script,
+        ) {
             Ok(prepared) => self.submit(rt, session, place, blank, prepared),
             Err(NoMemory) => {
                 self.hand = Some(blank);

@@ -13,8 +13,8 @@ ghost use Rattle.dl_session.specs.private.Parts.{AreNamed};
 
 use crate::client::Client;
 use crate::closing::{Room, close_with};
-use crate::names::Names;
 use crate::named::Named;
+use crate::names::Names;
 use crate::parts::{Hand, Parts, give_all};
 use crate::pool::Pool;
 use crate::refusal::Refusal;
@@ -243,10 +243,7 @@ fn shut<N: Names, const D: usize>(alloc: Global, gate: &Gate, book: Option<Mutex
             entries: _,
             tickets,
             blanks: _,
-        } = lock
-            .into_inner()
-            .into_domain()
-            .close(Vec::new(alloc));
+        } = lock.into_inner().into_domain().close(Vec::new(alloc));
         give_all(gate, tickets);
     }
 }
@@ -297,9 +294,7 @@ fn place_of(cpu_sets: &Vec<Vec<u32>>, cpus: &Option<Vec<u32>>) -> Option<usize>
 {
     match cpus {
         None => Some(0),
-        Some(cpus) => cpu_sets
-            .iter()
-            .position(|set| are_same(cpus, set)),
+        Some(cpus) => cpu_sets.iter().position(|set| are_same(cpus, set)),
     }
 }
 

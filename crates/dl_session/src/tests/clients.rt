@@ -151,18 +151,26 @@ fn ran<R: Abort + Wait>(
 
 #[test]
 fn waiting(rt: HostRuntime) -> Result<(), Fail> {
-    let text = b"dlcalls 1\ndomain 1 1048576\nadmit 1 1 w 2 10 10 - 0 -1:1{w,r1}\nadvance 1 3\nwake 1 1\nwake 1 1\nadvance 1 3\n";
+    let text =
+        b"dlcalls 1\ndomain 1 1048576\nadmit 1 1 w 2 10 10 - 0 -1:1{w,r1}\nadvance 1 3\nwake 1 1\nwake 1 1\nadvance 1 3\n";
     let (said, report) = ran(&rt, rt.alloc(), text, 1024)?;
-    assert_eq!(rt; said.as_str(), "Admitted; Done { ticks: 3 }; Woken; NotWaiting; Done { ticks: 3 }; ");
+    assert_eq!(rt;
+        said.as_str(),
+        "Admitted; Done { ticks: 3 }; Woken; NotWaiting; Done { ticks: 3 }; "
+    );
     assert_eq!(rt; report.histories[0].entries.len(), 5);
     Ok(())
 }
 
 #[test]
 fn regrade(rt: HostRuntime) -> Result<(), Fail> {
-    let text = b"dlcalls 1\ndomain 1 524288\nadmit 1 1 a 2 8 8 - 0 1:1{r2}\nregrade 1 1 4 8 8 -\nregrade 1 1 5 8 8 -\nregrade 1 7 4 8 8 -\nleave 1 7\n";
+    let text =
+        b"dlcalls 1\ndomain 1 524288\nadmit 1 1 a 2 8 8 - 0 1:1{r2}\nregrade 1 1 4 8 8 -\nregrade 1 1 5 8 8 -\nregrade 1 7 4 8 8 -\nleave 1 7\n";
     let (said, report) = ran(&rt, rt.alloc(), text, 1024)?;
-    assert_eq!(rt; said.as_str(), "Admitted; Changed; Busy { seen: 524288 }; NotListed; NotListed; ");
+    assert_eq!(rt;
+        said.as_str(),
+        "Admitted; Changed; Busy { seen: 524288 }; NotListed; NotListed; "
+    );
     assert_eq!(rt; report.words.as_slice(), [524288].as_slice());
     Ok(())
 }
@@ -175,8 +183,14 @@ fn admission_race(rt: HostRuntime) -> Result<(), Fail> {
         write!(text, "admit 1 {k} t 500 1000 1000 - 0 -1:1{{r100,s900}}\n")?;
     }
     let (said, report) = ran(&rt, rt.alloc(), text.as_bytes(), 1024)?;
-    assert!(rt; said.as_str().starts_with("Admitted; Admitted; Admitted; EBUSY 16 seen 1572864; "));
-    assert!(rt; said.as_str().ends_with("EBUSY 16 seen 1572864; EBUSY 16 seen 1572864; "));
+    assert!(rt;
+        said.as_str()
+            .starts_with("Admitted; Admitted; Admitted; EBUSY 16 seen 1572864; ")
+    );
+    assert!(rt;
+        said.as_str()
+            .ends_with("EBUSY 16 seen 1572864; EBUSY 16 seen 1572864; ")
+    );
     assert_eq!(rt; report.histories[0].entries.len(), 3);
     assert_eq!(rt; report.words.as_slice(), [1572864].as_slice());
     assert_eq!(rt; report.home, 257);
@@ -185,7 +199,8 @@ fn admission_race(rt: HostRuntime) -> Result<(), Fail> {
 
 #[test]
 fn full_book(rt: HostRuntime) -> Result<(), Fail> {
-    let text = b"dlcalls 1\ndomain 1 1048576\nadmit 1 1 a 2 8 8 - 0 1:1{r2}\nadmit 1 2 b 2 8 8 - 0 1:1{r2}\nleave 1 1\nadvance 1 1\n";
+    let text =
+        b"dlcalls 1\ndomain 1 1048576\nadmit 1 1 a 2 8 8 - 0 1:1{r2}\nadmit 1 2 b 2 8 8 - 0 1:1{r2}\nleave 1 1\nadvance 1 1\n";
     let (said, report) = ran(&rt, rt.alloc(), text, 1)?;
     assert_eq!(rt; said.as_str(), "Admitted; Full 40; Full 40; Full 40; ");
     assert_eq!(rt; report.words.as_slice(), [262144].as_slice());

@@ -23,11 +23,7 @@ fn opened(alloc: Global) -> Result<Parts, NoMemory> {
 }
 
 // Opens a session, asks twice for each client, and ends it: how many words it had.
-fn handed_out<N: Names, R: Abort>(
-    rt: &R,
-    alloc: Global,
-    parts: Parts,
-) -> Result<usize, NoMemory>
+fn handed_out<N: Names, R: Abort>(rt: &R, alloc: Global, parts: Parts) -> Result<usize, NoMemory>
     requires { N.id ≡ parts }
 {
     let mut session: Session<N> = Session::open(parts);

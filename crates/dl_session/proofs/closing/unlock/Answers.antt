@@ -10,4 +10,4 @@ returns-in-Some-clause-named g c =
     let id = g.N.Names.id in
     let at : g.row.D ≡ length c.args.books.now.items = omega (arith, c.requires.before, c.into_domain.ensures.place) in
     subst (λ (bs : List BookView). AreNamed id bs) (sym c.push_reserved.ensures.items)
-      (named_more id c.args.books.now.items c.into_domain.result c.requires.named (subst (λ (d : ℕ). IsNamed id d c.into_domain.result) at c.into_domain.ensures))
+    (named_more id c.args.books.now.items c.into_domain.result c.requires.named (subst (λ (d : ℕ). IsNamed id d c.into_domain.result) at c.into_domain.ensures))
