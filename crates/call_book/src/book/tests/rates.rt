@@ -3,7 +3,7 @@ ghost use Rattle.std.specs.Prelude.{◌≡◌, ◌<◌, ◌≤◌};
 ghost use Rattle.call_book.specs.Limits.{IsCall};
 
 use super::shared::{arrive, renumbered};
-use super::{Desk, admit, calls_of, end, opened_with};
+use super::{Desk, Prepared, admit, calls_of, end, opened_with};
 use domain_run::{Call, NoMemory, Reply};
 use std::alloc::Global;
 use std::process::Abort;
@@ -31,45 +31,45 @@ fn since(rt: &impl Clock, start: Instant) -> Duration {
     start.elapsed(rt).unwrap_or(Duration::ZERO)
 }
 
-// Whether the task of a number was listed. The word is taken under the lock too, which a client of its own need not do.
-fn is_entered<R: Abort + Wait>(
-    rt: &R,
-    alloc: Global,
-    book: &Mutex<Desk>,
-    call: &Call,
-    number: u32,
-) -> bool
+// Makes a client's tasks of one book ready.
+fn make_ready(alloc: Global, ready: &mut Vec<Prepared>, call: &Call, client: usize, all: usize)
     requires call { IsCall call.now }
-    requires number { (0 < number) × (number ≤ 65535) }
+    requires all { 0 < all }
 {
-    let Some(prepared) = renumbered(alloc, call, number) else {
+    for number in 1..TASKS + 1 {
+        if number as usize % all == client
+            && let Some(prepared) = renumbered(alloc, call, number)
+        {
+            let _ = ready.push(prepared);
+        }
+    }
+}
+
+// Whether a task was listed. The word is taken under the lock too, which a client of its own need not do.
+fn is_entered<R: Abort + Wait>(rt: &R, book: &Mutex<Desk>, prepared: Option<Prepared>) -> bool {
+    let Some(prepared) = prepared else {
         return false;
     };
     admit(rt, &mut book.lock(rt), prepared) == Reply::Admitted
 }
 
-// The tasks of one of so many clients in one book.
+// The last tasks that are ready, so many, in one book: how many were listed.
 fn enter<R: Abort + Wait>(
     rt: &R,
-    alloc: Global,
     book: &Mutex<Desk>,
-    call: &Call,
-    client: usize,
-    all: usize,
-) -> u32
-    requires call { IsCall call.now }
-    requires all { 0 < all }
-{
+    ready: &mut Vec<Prepared>,
+    count: usize,
+) -> u32 {
     let mut listed: u32 = 0;
-    for number in 1..TASKS + 1 {
-        if number as usize % all == client && is_entered(rt, alloc, book, call, number) {
+    for _ in 0..count {
+        if is_entered(rt, book, ready.pop()) {
             listed = listed.saturating_add(1);
         }
     }
     listed
 }
 
-// What one of so many clients does.
+// What one of so many clients does when its tasks are ready.
 fn work<R: Abort + Wait + Clock>(
     rt: &R,
     alloc: Global,
@@ -83,14 +83,28 @@ fn work<R: Abort + Wait + Clock>(
     requires call { IsCall call.now }
     requires all { 0 < all }
 {
+    let mut ready = Vec::new(alloc);
+    for _book in books {
+        make_ready(alloc, &mut ready, call, client, all);
+    }
     arrive(here, all);
     let from = since(rt, start);
-    let mut listed: u32 = 0;
-    for book in books {
-        listed = listed.saturating_add(enter(rt, alloc, book, call, client, all));
-    }
+    let listed = enter_all(rt, books, &mut ready, TASKS as usize / all);
     let to = since(rt, start);
     Share { from, to, listed }
+}
+
+fn enter_all<R: Abort + Wait>(
+    rt: &R,
+    books: &[Mutex<Desk>],
+    ready: &mut Vec<Prepared>,
+    count: usize,
+) -> u32 {
+    let mut listed: u32 = 0;
+    for book in books {
+        listed = listed.saturating_add(enter(rt, book, ready, count));
+    }
+    listed
 }
 
 // All clients at once.
