@@ -70,7 +70,7 @@ fn advance_both(pair: &mut Pair, ticks: u64) -> Result<Done, Fail> {
 }
 
 fn call_both(alloc: Global, pair: &mut Pair, next: u32, draws: &mut Draws) -> Result<(), Fail> {
-    let number = draws.below(u64::from(next)) as u32;
+    let number = (draws.below(u64::from(next)) % 1024) as u32;
     match draws.below(8) {
         0 | 1 => admit_both(alloc, pair, next, draws)?,
         2 => {
