@@ -1,10 +1,17 @@
-//! Sessions: what the program does between the bytes that it reads and the bytes that it writes. For now that is [`replay`], for
-//! recorded calls.
+//! Sessions, and what the program does between the bytes that it reads and the bytes that it writes.
 //!
-//! Meets the definition of what a replay answers (`specs/Answer.antt`), over the trace of the sections that a calls text spells
-//! (`specs/Replay.antt`). To the crates above it promises the theorem on `replay`: `Ok` means that what was written is the trace
-//! of the runs of the sections that were read, each on a domain of its own, and nothing else; each fault means what it says, and where it is no fault of the
-//! writer, nothing was written.
+//! [`replay`] is for recorded calls. It meets the definition of what a replay answers (`specs/Answer.antt`), over the trace of the
+//! sections that a calls text spells (`specs/Replay.antt`). To the crates above it promises the theorem on `replay`: `Ok` means that
+//! what was written is the trace of the runs of the sections that were read, each on a domain of its own, and nothing else; each
+//! fault means what it says, and where it is no fault of the writer, nothing was written.
+//!
+//! A [`Session`] is one gate with the domains that it admits to, each behind a lock of its own, for the calls of many clients. It
+//! meets the definitions of which session it is (`specs/SessionId.antt`, `specs/Options.antt`), of the clients that it hands out
+//! (`specs/Clients.antt`), of what a [`Client`] is answered and what it leaves in the books (`specs/Asks.antt`), and of what the
+//! session leaves at its end (`specs/Report.antt`). To the crates above it promises: a call leaves exactly its entry, or none; an
+//! admission is answered EINVAL and EPERM exactly where the definition says; and at the end the histories are legal, and each
+//! client's entries in them are what it entered. Which histories answer a scenario stands in `specs/ScenarioAnswers.antt`; no
+//! contract names it yet.
 #![tactic(auto)]
 
 mod client;
