@@ -66,7 +66,8 @@ impl Model for State {
 
 impl State {
     /// An empty domain of 1 to 64 CPUs that may give away `limit` of each, 10485 to 1048576 in 1/2^20. Room for 256 tasks and for
-    /// the numbers ever admitted is made here; after it only [`State::tick`] takes memory. `Err` where a growth was refused.
+    /// the numbers ever admitted is made here; after it only [`State::tick`] and [`State::begin`] take memory. `Err` where a growth
+    /// was refused.
     pub fn open(alloc: Global, cpus: u32, limit: u64) -> Result<State, NoMemory>
         requires cpus { IsCpus cpus }
         requires limit { IsLimit limit }

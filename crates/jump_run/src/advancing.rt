@@ -7,7 +7,7 @@ ghost use Rattle.domain_run.specs.Keys.{AreKept};
 use crate::plan::{self, Room};
 use domain_run::{NoMemory, State};
 
-/// How many ticks an advance made.
+/// How many ticks an advance made, at most as many as asked; fewer only where a growth was refused.
 #[derive(Clone, Copy, Debug, PartialEq, Eq)]
 pub struct Done {
     pub ticks: u64,
