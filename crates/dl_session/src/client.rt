@@ -43,7 +43,11 @@ impl<N: Names> Model for Client<N> {
 
     ghost Value = { ClientView };
 
-    ghost view = { λ c. record { number = c.number; passes = map (λ p. p.entries) c.passes.items; hand = c.hand } };
+    ghost view = { λ c. record {
+      number = c.number;
+      passes = map (λ p. p.entries) c.passes.items;
+      hand = c.hand;
+    } };
 
     ghost invariant = { λ c. IsClientOf N.id c.number c.passes.items c.hand };
 }
@@ -244,7 +248,8 @@ impl<N: Names> Client<N> {
         session: &Session<N>,
         task: &TaskSpec,
     ) -> Answer
-        ensures asked { Asks N.id self.old self.new (record { task = task.now; answer = result } ∷ []) }
+        ensures asked { let asked = record { task = task.now; answer = result } in
+            Asks N.id self.old self.new (asked ∷ []) }
         ensures last { IsLastFound self.new.hand result }
     {
         let (params, place) = match session.goal_of(task) {

@@ -52,7 +52,8 @@ fn pour_tickets<N: Names>(home: &mut Vec<Ticket>, mut tickets: Vec<Ticket>)
     ensures own { AreTicketsOf N.id.gate home.new.items }
     ensures count { length home.new.items ≡ length home.old.items + length tickets.items }
     ensures room { vec_capacity home.new ≡ vec_capacity home.old }
-    ensures sums { (d : ℕ) → sum_of d home.new.items ≡ sum_of d home.old.items + sum_of d tickets.items }
+    ensures sums { (d : ℕ) →
+        sum_of d home.new.items ≡ sum_of d home.old.items + sum_of d tickets.items }
 {
     while let Some(ticket) = tickets.pop() {
         home.push_reserved(ticket);
@@ -65,7 +66,8 @@ fn agree_all<N: Names>(domain: &mut Domain, clients: &mut Vec<Client<N>>, place:
     requires named { IsNamed N.id place domain.old }
     ensures domain { domain.new ≡ domain.old }
     ensures clients { clients.new.items ≡ clients.old.items }
-    ensures own { All (λ c. pass_in c place ≡ own_entries c.number domain.new.history) clients.new.items }
+    ensures own { let history = domain.new.history in
+        All (λ c. pass_in c place ≡ own_entries c.number history) clients.new.items }
 {
     for k in 0..clients.len() {
         clients[k].agree(domain, place);
@@ -85,8 +87,10 @@ fn close_book<N: Names>(
     requires room { length home.old.tickets.items + 256 ≤ vec_capacity home.old.tickets }
     ensures history { IsHistoryOf N.id place clients.new.items result }
     ensures clients { clients.new.items ≡ clients.old.items }
-    ensures here { sum_of place home.new.tickets.items ≡ sum_of place home.old.tickets.items + sum_left result }
-    ensures elsewhere { (d : ℕ) → d ≢ place → sum_of d home.new.tickets.items ≡ sum_of d home.old.tickets.items }
+    ensures here { sum_of place home.new.tickets.items
+        ≡ sum_of place home.old.tickets.items + sum_left result }
+    ensures elsewhere { (d : ℕ) → d ≢ place →
+        sum_of d home.new.tickets.items ≡ sum_of d home.old.tickets.items }
     ensures count { length home.new.tickets.items ≤ length home.old.tickets.items + 256 }
     ensures room { vec_capacity home.new.tickets ≡ vec_capacity home.old.tickets }
 {
@@ -230,7 +234,8 @@ fn put_words(closed: &Words, words: &mut Vec<u64>)
     requires count { closed.now.count ≤ 8 }
     requires room { closed.now.count ≤ vec_capacity words.old }
     ensures count { length words.new.items ≡ closed.now.count }
-    ensures words { (d : ℕ) → d < closed.now.count → slice_index words.new.items d ≡ slice_index closed.now.word d }
+    ensures words { (d : ℕ) → d < closed.now.count →
+        slice_index words.new.items d ≡ slice_index closed.now.word d }
 {
     for d in 0..closed.count {
         words.push_reserved(closed.word[d]);
