@@ -248,8 +248,8 @@ impl<N: Names> Client<N> {
         session: &Session<N>,
         task: &TaskSpec,
     ) -> Answer
-        ensures asked { let asked = record { task = task.now; answer = result } in
-            Asks N.id self.old self.new (asked ∷ []) }
+        ensures asked { Asks N.id self.old self.new
+            (record { task = task.now; answer = result } ∷ []) }
         ensures last { IsLastFound self.new.hand result }
     {
         let (params, place) = match session.goal_of(task) {

@@ -1,19 +1,19 @@
 //! The end of a session: the books are unlocked and closed, and every piece goes home to the gate.
 
-ghost use Rattle.std.specs.Prelude.{◌≡◌, ◌≢◌, ◌+◌, ◌*◌, ◌≤◌, ◌<◌, ℕ, [], ◌∷◌, ◌++◌, min, nat_lt, is_some, length, All, IfOk, vec_capacity, slice_index};
+ghost use Rattle.std.specs.Prelude.{◌≡◌, ◌≢◌, ◌+◌, ◌*◌, ◌≤◌, ◌<◌, ℕ, [], ◌∷◌, ◌++◌, min, nat_lt, is_some, length, All, IfOk, IfSome, vec_capacity, slice_index};
 ghost use Rattle.call_book.specs.Book.{own_entries};
 ghost use Rattle.bw_gate.specs.Pieces.{sum_of};
 ghost use Rattle.dl_session.specs.SessionId.{IsSession, IsPlace};
 ghost use Rattle.dl_session.specs.Asks.{pass_in};
 ghost use Rattle.dl_session.specs.Report.{IsHistoryOf, IsReport, sum_left};
 ghost use Rattle.dl_session.specs.private.Entering.{IsNamed};
-ghost use Rattle.dl_session.specs.private.Parts.{AreNamed, AreBlanksOf};
+ghost use Rattle.dl_session.specs.private.Parts.{AreNamed, AreBlanksOf, AreHands};
 ghost use Rattle.dl_session.specs.private.Closing.{AreTicketsOf, AreHistories, AreSums, IsRoom};
 
 use crate::client::Client;
 use crate::named::Named;
 use crate::names::Names;
-use crate::parts::PIECES;
+use crate::parts::{Hand, PIECES};
 use crate::refusal::Refusal;
 use crate::report::Report;
 use crate::session::Books;
@@ -215,15 +215,38 @@ impl Room {
     }
 }
 
+/// Adds the piece of a hand, where it has one.
+fn pour_piece<N: Names>(home: &mut Vec<Blank>, piece: Option<Blank>)
+    requires old { AreBlanksOf N.id.gate home.old.items }
+    requires own { IfSome piece (λ b. b.gate ≡ N.id.gate) }
+    ensures { AreBlanksOf N.id.gate home.new.items }
+{
+    if let Some(blank) = piece {
+        // There is room for every piece of the gate.
+        let _ = home.push(blank);
+    }
+}
+
 /// Takes the pieces out of the clients' hands.
 fn pour_hands<N: Names>(home: &mut Vec<Blank>, mut clients: Vec<Client<N>>)
     requires { AreBlanksOf N.id.gate home.old.items }
     ensures { AreBlanksOf N.id.gate home.new.items }
 {
     while let Some(client) = clients.pop() {
-        if let Some(blank) = client.into_hand() {
-            // There is room for every piece of the gate.
-            let _ = home.push(blank);
+        pour_piece::<N>(home, client.into_hand());
+    }
+}
+
+/// Takes the pieces of the clients that were not handed out.
+pub(crate) fn pour_waiting<N: Names>(home: &mut Vec<Blank>, mut hands: Vec<Option<Hand>>)
+    requires own { AreBlanksOf N.id.gate home.old.items }
+    requires hands { AreHands N.id.gate N.id.spines hands.items }
+    ensures { AreBlanksOf N.id.gate home.new.items }
+{
+    while let Some(hand) = hands.pop() {
+        if let Some(hand) = hand {
+            let Hand { passes: _, blank } = hand;
+            pour_piece::<N>(home, blank);
         }
     }
 }

@@ -12,7 +12,7 @@ ghost use Rattle.dl_session.specs.Report.{IsReport};
 ghost use Rattle.dl_session.specs.private.Parts.{AreNamed};
 
 use crate::client::Client;
-use crate::closing::{Room, close_with};
+use crate::closing::{Room, close_with, pour_waiting};
 use crate::named::Named;
 use crate::names::Names;
 use crate::parts::{Hand, Parts, give_all};
@@ -150,9 +150,10 @@ impl<N: Names> Session<N> {
             cpu_sets,
             books,
             pool,
-            hands: _,
+            hands,
         } = self;
-        let blanks = pool.into_inner().into_blanks();
+        let mut blanks = pool.into_inner().into_blanks();
+        pour_waiting::<N>(&mut blanks, hands);
         match Room::open(alloc, cpu_sets.len()) {
             Ok(room) => Ok(close_with(alloc, gate, books, blanks, clients, room)),
             Err(NoMemory) => {

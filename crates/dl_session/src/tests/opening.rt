@@ -49,7 +49,26 @@ fn each_client_once(rt: HostRuntime) -> Result<(), Fail> {
     Ok(())
 }
 
-// Run with each allocation refused in turn: parts that were refused leave nothing, and can be opened then, and a session that could
+// Ends a session of which no client was handed out: how many pieces came home.
+fn ended<N: Names>(alloc: Global, parts: Parts) -> Result<usize, NoMemory>
+    requires { N.id ≡ parts }
+{
+    let session: Session<N> = Session::open(parts);
+    Ok(session.close(alloc, Vec::new(alloc))?.home)
+}
+
+fn ended_at_once(alloc: Global, parts: Parts) -> Result<usize, NoMemory> {
+    ended::<Brand>(alloc, parts)
+}
+
+#[test]
+fn waiting_clients_lose_no_piece(rt: HostRuntime) -> Result<(), Fail> {
+    let parts = opened(rt.alloc())?;
+    assert_eq!(rt; ended_at_once(rt.alloc(), parts)?, 2 * 256 + 2);
+    Ok(())
+}
+
+// Run with one allocation refused: parts that were refused leave nothing, and can be opened then, and a session that could
 // not be ended is gone.
 #[test]
 fn refused_growths(rt: HostRuntime) -> Result<(), Fail> {
