@@ -7,7 +7,8 @@ pub enum Print {
     Calls,
 }
 
-/// With what a scenario is run.
+/// With what a scenario is to be run. A session is opened from its domains, limit, clients and history; `workers`, `reclaim` and
+/// `print` are within their limits and are read by nothing yet, since no function runs a scenario today.
 #[derive(Clone, Debug, Drop)]
 pub struct Options {
     /// How many CPUs each root domain has, 1 to 64; 1 to 8 domains. The first has the first CPUs of the machine, the second the
@@ -17,11 +18,11 @@ pub struct Options {
     pub limit: u64,
     /// How many clients admit tasks, 1 to 64.
     pub clients: u32,
-    /// How many workers reckon in each domain, 1 to 8.
+    /// How many workers are to reckon in each domain, 1 to 8.
     pub workers: usize,
     /// How many calls the history of each domain has room for, 1 to 65536.
     pub history: usize,
-    /// Whether every task asks for reclaiming (SCHED_FLAG_RECLAIM).
+    /// Whether every task is to ask for reclaiming (SCHED_FLAG_RECLAIM). A client admits a task with the flags that it has.
     pub reclaim: bool,
     pub print: Print,
 }
