@@ -6,7 +6,7 @@ use Rattle.call_book.specs.SectionView.{SectionView}
 use Rattle.switch_text.specs.Sides.{HasNoFault}
 use Rattle.switch_text.specs.Faults.{TakesFront}
 use Rattle.dl_session.specs.declared.fault.SessionFault.{SessionFault}
-use Rattle.dl_session.specs.declared.fault.SessionFault.TheVariants.{Calls, Read, Write, Memory}
+use Rattle.dl_session.specs.declared.fault.SessionFault.TheVariants.{Json, Scenario, Calls, Read, Write, Start, Full, Memory}
 use Rattle.dl_session.specs.Replay.{trace_of_sections}
 use Rattle.dl_session.specs.Answer.{Seen, AreSpelled, IsAnswered, IsFaultOf}
 use Rattle.dl_session.specs.private.Replaying.{IsWritten, IsUnwritten}
@@ -30,6 +30,10 @@ answered s trace is is_written = record {
 pub faulted : (s : Seen) (trace : List ℕ) → IsSpelled s trace → (e : SessionFault) → IsUnwritten s.writer trace e → IsFaultOf s e
 faulted s trace is (Calls n) unwritten = absurd unwritten
 faulted s trace is Read unwritten = absurd unwritten
+faulted s trace is (Json fault) unwritten = absurd unwritten
+faulted s trace is (Scenario fault) unwritten = absurd unwritten
+faulted s trace is Start unwritten = absurd unwritten
+faulted s trace is Full unwritten = absurd unwritten
 faulted s trace is (Write n) unwritten = record {
   sections = is.sections;
   input = is.input;

@@ -8,7 +8,7 @@ use Rattle.call_book.specs.BadLine.{IsBadLine}
 use Rattle.switch_text.specs.Sides.{Side, HasNoFault, HasOneFault}
 use Rattle.switch_text.specs.Faults.{TakesFront}
 use Rattle.dl_session.specs.declared.fault.SessionFault.{SessionFault}
-use Rattle.dl_session.specs.declared.fault.SessionFault.TheVariants.{Calls, Read, Write, Memory}
+use Rattle.dl_session.specs.declared.fault.SessionFault.TheVariants.{Json, Scenario, Calls, Read, Write, Start, Full, Memory}
 use Rattle.dl_session.specs.Replay.{trace_of_sections}
 
 -- what a call of replay met: its reader and its writer, each before the call and after it
@@ -76,3 +76,7 @@ IsFaultOf s (Calls n) = IsRefused s n
 IsFaultOf s Read = IsUnread s
 IsFaultOf s (Write written) = IsCutOff s written
 IsFaultOf s Memory = IsOutOfMemory s
+IsFaultOf s (Json fault) = ⊥
+IsFaultOf s (Scenario fault) = ⊥
+IsFaultOf s Start = ⊥
+IsFaultOf s Full = ⊥

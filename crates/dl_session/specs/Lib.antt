@@ -6,5 +6,7 @@ pub mod SessionId
 pub mod Asks
 pub mod Clients
 pub mod ScenarioAnswers
+pub mod Admissions
 pub mod Report
+pub mod RunAnswer
 pub mod private

@@ -25,9 +25,9 @@ pub record IsHistoryOf (id : SessionId) (d : ℕ) (clients : List ClientView) (s
 abbrev pub sum_left : SectionView → ℕ
 sum_left s = sum_of (run_of s.cpus s.limit (calls_of s.entries)).tasks
 
--- the histories of all domains, in their order; the words, which have room for what the listed tasks have, are at most their caps, and
--- are exactly what these tasks have where all pieces came home; and nobody stands among the refused
-pub record IsReport (id : SessionId) (clients : List ClientView) (r : Report) : Type 0 where
+-- the histories of all domains, in their order; and the words, which have room for what the listed tasks have, are at most their
+-- caps, and are exactly what these tasks have where all pieces came home
+pub record IsLeft (id : SessionId) (clients : List ClientView) (r : Report) : Type 0 where
   pub count : length r.histories.items ≡ length id.cpu_sets
   pub histories : (d : ℕ) (x : SectionView) → IsPlace id d → IsHistoryOf id d clients (slice_index_or r.histories.items d x)
   pub words : length r.words.items ≡ length id.cpu_sets
@@ -35,4 +35,8 @@ pub record IsReport (id : SessionId) (clients : List ClientView) (r : Report) : 
   pub capped : (d : ℕ) → IsPlace id d → slice_index r.words.items d ≤ cap_in id d
   pub exact : r.home ≡ id.gate.terms.pieces
       → (d : ℕ) (x : SectionView) → IsPlace id d → slice_index r.words.items d ≡ sum_left (slice_index_or r.histories.items d x)
+
+-- what the end of a session leaves: nobody stands among the refused
+pub record IsReport (id : SessionId) (clients : List ClientView) (r : Report) : Type 0 where
+  pub left : IsLeft id clients r
   pub refused : r.refused.items ≡ []

@@ -2,3 +2,4 @@ pub mod Replaying
 pub mod Entering
 pub mod Parts
 pub mod Closing
+pub mod Running

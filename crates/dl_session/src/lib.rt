@@ -14,9 +14,11 @@
 //! contract names it yet.
 #![tactic(auto)]
 
+mod admitting;
 mod client;
 mod closing;
 mod fault;
+mod finishing;
 mod named;
 mod named_run;
 mod names;
@@ -24,11 +26,14 @@ mod options;
 mod parts;
 mod placed_run;
 mod pool;
+mod printing;
 mod refusal;
 mod replaying;
 mod report;
+mod running;
 mod session;
 mod trace;
+mod turnstile;
 
 pub use client::Client;
 pub use fault::{FaultLine, SessionFault};
@@ -38,7 +43,9 @@ pub use parts::Parts;
 pub use refusal::{Answer, Refusal};
 pub use replaying::replay;
 pub use report::Report;
+pub use running::run;
 pub use session::Session;
+pub use turnstile::{AllPass, Turnstile};
 
 #[cfg(test)]
 mod tests;

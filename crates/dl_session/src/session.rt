@@ -163,6 +163,18 @@ impl<N: Names> Session<N> {
         }
     }
 
+    /// Ends the session where it is of no use any more; what tickets it holds go back to the gate.
+    pub(crate) fn shut(self, alloc: Global) {
+        let Session {
+            gate,
+            cpu_sets: _,
+            books,
+            pool: _,
+            hands: _,
+        } = self;
+        books.shut(alloc, &gate);
+    }
+
     /// A piece of the pool, or else one that the domain of a place keeps.
     pub(crate) fn find_blank<R: Wait>(&self, rt: &R, place: usize) -> Option<Blank>
         ensures { IfSome result (λ b. b.gate ≡ N.id.gate) }

@@ -11,7 +11,7 @@ use Rattle.switch_text.specs.Trace.{RunView, trace_of}
 use Rattle.switch_text.specs.Sides.{Side, HasNoFault, HasOneFault}
 use Rattle.switch_text.specs.Faults.{TakesFront}
 use Rattle.dl_session.specs.declared.fault.SessionFault.{SessionFault}
-use Rattle.dl_session.specs.declared.fault.SessionFault.TheVariants.{Calls, Read, Write, Memory}
+use Rattle.dl_session.specs.declared.fault.SessionFault.TheVariants.{Json, Scenario, Calls, Read, Write, Start, Full, Memory}
 use Rattle.dl_session.specs.declared.placed_run.PlacedRun.{PlacedRun}
 use Rattle.dl_session.specs.Replay.{names_of, no_names, calls_of}
 
@@ -66,3 +66,7 @@ IsUnwritten writer text (Calls n) = ⊥
 IsUnwritten writer text Read = ⊥
 IsUnwritten writer text (Write written) = IsCut writer text written
 IsUnwritten writer text Memory = IsUntouched writer
+IsUnwritten writer text (Json fault) = ⊥
+IsUnwritten writer text (Scenario fault) = ⊥
+IsUnwritten writer text Start = ⊥
+IsUnwritten writer text Full = ⊥

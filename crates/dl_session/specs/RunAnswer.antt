@@ -1,0 +1,127 @@
+-- What a run of a scenario answers, and what it leaves (own).
+use Rattle.std.specs.Prelude.{◌≡◌, ◌≢◌, ℕ, ◌<◌, Bool, if◌then◌else◌, List, [], length, map, Result, Ok, slice_index_or}
+use Rattle.std.specs.Io.KnownBytes.{Appends}
+use Rattle.json_order.specs.Json.{Json}
+use Rattle.json_order.specs.Fault.{strict, Spells}
+use Rattle.json_order.specs.Fault as json
+use Rattle.json_order.specs.declared.fault.JsonFault.{JsonFault}
+use Rattle.json_order.specs.declared.fault.JsonKind.TheVariants as kinds
+use Rattle.rtapp_scenario.specs.ScenarioView.{TaskSpecView, ScenarioView}
+use Rattle.rtapp_scenario.specs.Scenario.{parsed}
+use Rattle.rtapp_scenario.specs.Told as profile
+use Rattle.rtapp_scenario.specs.declared.fault.ScenarioFault.{ScenarioFault}
+use Rattle.rtapp_scenario.specs.declared.fault.ScenarioFault.TheVariants as scenario_faults
+use Rattle.call_book.specs.SectionView.{SectionView}
+use Rattle.call_book.specs.Spelling.{spelling}
+use Rattle.switch_text.specs.Sides.{HasNoFault, HasOneFault}
+use Rattle.switch_text.specs.Faults.{TakesFront}
+use Rattle.dl_session.specs.declared.fault.SessionFault.{SessionFault}
+use Rattle.dl_session.specs.declared.fault.SessionFault.TheVariants as faults
+use Rattle.dl_session.specs.declared.options.Options.{Options}
+use Rattle.dl_session.specs.declared.options.Print.{Print}
+use Rattle.dl_session.specs.declared.options.Print.TheVariants as prints
+use Rattle.dl_session.specs.declared.refusal.Refusal.{Refusal}
+use Rattle.dl_session.specs.declared.report.Report.{Report}
+use Rattle.dl_session.specs.SessionId.{SessionId, IsPlace}
+use Rattle.dl_session.specs.Options.{IsSessionOf}
+use Rattle.dl_session.specs.Report.{IsHistoryOf, IsLeft}
+use Rattle.dl_session.specs.ScenarioAnswers.{AnswersScenario}
+use Rattle.dl_session.specs.Replay.{trace_of_sections}
+use Rattle.dl_session.specs.Answer.{Seen, IsInput, NothingWritten, IsUnread, IsOutOfMemory}
+
+-- ---- the scenario
+
+-- what the input spells as JSON
+pub record IsJson (s : Seen) (value : Json) : Type 0 where
+  pub text : List ℕ
+  pub input : IsInput s text
+  pub spelled : Spells strict text value
+
+-- the scenario that the input spells
+pub record IsScenario (s : Seen) (scenario : ScenarioView) : Type 0 where
+  pub value : Json
+  pub json : IsJson s value
+  pub parsed : parsed value ≡ Ok scenario
+
+-- a task as it is admitted: with SCHED_FLAG_RECLAIM (2) where the options ask for it (sched_setattr(2))
+abbrev pub flagged : Bool → TaskSpecView → TaskSpecView
+flagged reclaim t = if reclaim then record t { attr = record t.attr { flags = 2 } } else t
+
+-- ---- the run
+
+-- the session has the domains and clients of the options; each domain's history is legal and was made by its clients; and histories
+-- and refusals answer the scenario
+pub record IsRun (s : Seen) (o : Options) (histories : List SectionView) (refused : List (ℕ × Refusal)) : Type 0 where
+  pub scenario : ScenarioView
+  pub input : IsScenario s scenario
+  pub id : SessionId
+  pub session : IsSessionOf o id
+  pub count : length histories ≡ length id.cpu_sets
+  pub legal : (d : ℕ) (x : SectionView) → IsPlace id d → IsHistoryOf id d [] (slice_index_or histories d x)
+  pub answers : AnswersScenario id o.clients (map (flagged o.reclaim) scenario.tasks) scenario.duration_us (map (λ h. h.entries) histories) refused
+
+-- what is written of histories: the trace of their run, or their calls text
+abbrev pub printed : Print → List SectionView → List ℕ
+printed prints.Trace histories = trace_of_sections histories
+printed prints.Calls histories = spelling histories
+
+-- ---- what is answered
+
+-- the histories and refusals of a run, the words that it left, and their text was written, and nothing else
+pub record IsRunAnswer (s : Seen) (o : Options) (r : Report) : Type 0 where
+  pub run : IsRun s o r.histories.items r.refused.items
+  pub left : IsLeft run.id [] r
+  pub written : Appends s.writer.before.bytes s.writer.after.bytes (printed o.print r.histories.items)
+  pub reads : HasNoFault s.reader
+  pub writes : HasNoFault s.writer
+
+-- ---- faults
+
+-- the input is no JSON, and nothing was written
+pub record IsNoJson (s : Seen) (fault : JsonFault) : Type 0 where
+  pub text : List ℕ
+  pub input : IsInput s text
+  pub not_memory : fault.kind ≢ kinds.Memory
+  pub first : json.IsFault text fault.kind fault.at
+  pub unwritten : NothingWritten s
+  pub reads : HasNoFault s.reader
+  pub writes : HasNoFault s.writer
+
+-- the input is JSON and no scenario, and nothing was written
+pub record IsNoScenario (s : Seen) (fault : ScenarioFault) : Type 0 where
+  pub value : Json
+  pub json : IsJson s value
+  pub not_memory : fault ≢ scenario_faults.Memory
+  pub first : profile.IsFault (parsed value) fault
+  pub unwritten : NothingWritten s
+  pub reads : HasNoFault s.reader
+  pub writes : HasNoFault s.writer
+
+-- the scenario asks for an advance, and a history had no room for it; nothing was written
+pub record IsFullBook (s : Seen) : Type 0 where
+  pub scenario : ScenarioView
+  pub input : IsScenario s scenario
+  pub advances : 0 < scenario.duration_us
+  pub unwritten : NothingWritten s
+  pub reads : HasNoFault s.reader
+  pub writes : HasNoFault s.writer
+
+-- the writer failed: exactly so many bytes of the text of a run were taken, and not all
+pub record IsRunCutOff (s : Seen) (o : Options) (written : ℕ) : Type 0 where
+  pub histories : List SectionView
+  pub refused : List (ℕ × Refusal)
+  pub run : IsRun s o histories refused
+  pub taken : TakesFront s.writer.before.bytes s.writer.after.bytes (printed o.print histories) written
+  pub reads : HasNoFault s.reader
+  pub writes : HasOneFault s.writer
+
+-- a fault is what was met
+abbrev pub IsRunFault : Seen → Options → SessionFault → Type 0
+IsRunFault s o (faults.Json fault) = IsNoJson s fault
+IsRunFault s o (faults.Scenario fault) = IsNoScenario s fault
+IsRunFault s o (faults.Calls n) = ⊥
+IsRunFault s o faults.Read = IsUnread s
+IsRunFault s o (faults.Write written) = IsRunCutOff s o written
+IsRunFault s o faults.Start = ⊥
+IsRunFault s o faults.Full = IsFullBook s
+IsRunFault s o faults.Memory = IsOutOfMemory s

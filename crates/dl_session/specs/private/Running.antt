@@ -1,0 +1,52 @@
+-- The steps of a run: its clients advance the domains, the books are closed, and their states are kept for the trace.
+use Rattle.std.specs.Prelude.{◌≡◌, ℕ, ◌+◌, ◌<◌, List, [], length, map, All, slice_index_or}
+use Rattle.domain_run.specs.Domain.{Domain}
+use Rattle.domain_run.specs.Run.{run_of}
+use Rattle.rtapp_scenario.specs.ScenarioView.{TaskSpecView}
+use Rattle.call_book.specs.SectionView.{SectionView}
+use Rattle.call_book.specs.Book.{calls_of, IsLegal}
+use Rattle.dl_session.specs.declared.fault.SessionFault.{SessionFault}
+use Rattle.dl_session.specs.declared.fault.SessionFault.TheVariants.{Json, Scenario, Calls, Read, Write, Start, Full, Memory}
+use Rattle.dl_session.specs.declared.finishing.Finished.{Finished}
+use Rattle.dl_session.specs.SessionId.{SessionId}
+use Rattle.dl_session.specs.Asks.{ClientView, Makes}
+use Rattle.dl_session.specs.Report.{IsReport, IsLeft}
+use Rattle.dl_session.specs.ScenarioAnswers.{EndsWith, advance_of, AnswersScenario}
+
+-- each client has entered its advance of each domain, and nothing else: client 1 one of the whole duration, the others none
+pub record HaveAdvanced (duration : ℕ) (before after : List ClientView) : Type 0 where
+  pub places : length after ≡ length before
+  pub each : (i : ℕ) (x : ClientView) → i < length before
+      → Makes (slice_index_or before i x) (slice_index_or after i x) (λ d. advance_of duration (i + 1))
+
+-- each entry has its lawful reply
+abbrev pub AreLegal : List SectionView → Type 0
+AreLegal histories = All (λ h. IsLegal h.cpus h.limit h.entries) histories
+
+-- the states are what the histories of these domains lead to
+abbrev pub AreRuns : List SectionView → List Domain → Type 0
+AreRuns histories states =
+    (d : ℕ) (s : SectionView) (x : Domain) → d < length histories
+    → slice_index_or states d x ≡ run_of (slice_index_or histories d s).cpus (slice_index_or histories d s).limit (calls_of (slice_index_or histories d s).entries)
+
+-- what the end of a run leaves, by clients that had entered so much
+pub record IsFinished (id : SessionId) (duration : ℕ) (clients : List ClientView) (f : Finished) : Type 0 where
+  pub after : List ClientView
+  pub advanced : HaveAdvanced duration clients after
+  pub report : IsReport id after f.report
+  pub ends : (d : ℕ) (x : SectionView) → d < length id.cpu_sets → EndsWith duration (slice_index_or f.report.histories.items d x).entries
+  pub count : length f.states.items ≡ length id.cpu_sets
+  pub runs : AreRuns f.report.histories.items f.states.items
+
+-- what a run of tasks leaves: the histories and the refusals answer them
+pub record IsRan (id : SessionId) (tasks : List TaskSpecView) (duration : ℕ) (f : Finished) : Type 0 where
+  pub left : IsLeft id [] f.report
+  pub answers : AnswersScenario id id.clients tasks duration (map (λ h. h.entries) f.report.histories.items) f.report.refused.items
+  pub count : length f.states.items ≡ length f.report.histories.items
+  pub runs : AreRuns f.report.histories.items f.states.items
+
+-- why it did not come to its end: a history was full, or a growth was refused
+abbrev pub IsStopped : ℕ → SessionFault → Type 0
+IsStopped duration Full = 0 < duration
+IsStopped duration Memory = Unit {0}
+IsStopped duration _ = ⊥

@@ -1,0 +1,182 @@
+//! From bytes to bytes: a scenario in, the trace or the calls text of its run out.
+
+ghost use Rattle.std.specs.Prelude.{◌≡◌, ◌<◌, ◌≤◌, ◌^◌, length, map, IfOk, IfErr, OnOk};
+ghost use Rattle.switch_text.specs.Sides.{Side, HasNoFault, faults_of, side};
+ghost use Rattle.dl_session.specs.declared.options.Options.{Options as OptionsView};
+ghost use Rattle.dl_session.specs.Options.{AreOptions};
+ghost use Rattle.dl_session.specs.Admissions.{AreNew};
+ghost use Rattle.dl_session.specs.Answer.{seen, NothingWritten};
+ghost use Rattle.dl_session.specs.RunAnswer.{flagged, IsScenario, IsRunAnswer, IsRunFault};
+ghost use Rattle.dl_session.specs.private.Running.{IsRan, IsStopped};
+
+use crate::admitting::admit_alone;
+use crate::client::Client;
+use crate::fault::SessionFault;
+use crate::finishing::{Finished, finish};
+use crate::names::Names;
+use crate::options::Options;
+use crate::parts::Parts;
+use crate::printing::write_run;
+use crate::report::Report;
+use crate::session::Session;
+use crate::turnstile::Turnstile;
+use call_book::NoMemory;
+use json_order::{JsonFault, JsonKind, read};
+use rtapp_scenario::{Scenario, ScenarioFault, TaskSpec, parse};
+use std::alloc::Global;
+use std::io::{Read, Write};
+use std::marker::Brand;
+use std::sync::Wait;
+use switch_text::{Counted, ReadFault};
+
+fn json_fault(fault: JsonFault) -> SessionFault {
+    match fault.kind {
+        JsonKind::Memory => SessionFault::Memory,
+        _ => SessionFault::Json(fault),
+    }
+}
+
+fn scenario_fault(fault: ScenarioFault) -> SessionFault {
+    match fault {
+        ScenarioFault::Memory => SessionFault::Memory,
+        fault => SessionFault::Scenario(fault),
+    }
+}
+
+/// Reads a scenario to its end.
+fn read_scenario<R: Read>(
+    alloc: Global,
+    reader: &mut Counted<R>,
+) -> Result<Scenario, SessionFault>
+    requires { faults_of reader.old < 2 ^ 63 }
+    ensures ok { (w : Side) → IfOk result (IsScenario (seen (side R.remaining reader.old reader.new) w)) }
+    ensures reads { OnOk result (HasNoFault (side R.remaining reader.old reader.new)) }
+    ensures short { IfOk result (λ s. s.duration_us ≤ 60000000) }
+    ensures err { let r : Side = side R.remaining reader.old reader.new in
+        (w : Side) (o : OptionsView) → NothingWritten (seen r w) → HasNoFault w
+        → IfErr result (IsRunFault (seen r w) o) }
+{
+    let text = match reader.read_all(alloc) {
+        Ok(text) => text,
+        Err(ReadFault::Failed) => return Err(SessionFault::Read),
+        Err(ReadFault::Memory) => return Err(SessionFault::Memory),
+    };
+    let tree = match read(alloc, &text) {
+        Ok(tree) => tree,
+        Err(fault) => return Err(json_fault(fault)),
+    };
+    match parse(alloc, &tree) {
+        Ok(scenario) => Ok(scenario),
+        Err(fault) => Err(scenario_fault(fault)),
+    }
+}
+
+/// Sets the flag of reclaiming on all tasks, where it is asked for (sched_setattr(2), SCHED_FLAG_RECLAIM).
+fn flag_all(tasks: &mut Vec<TaskSpec>, reclaim: bool)
+    ensures { tasks.new.items ≡ map (flagged reclaim) tasks.old.items }
+{
+    if !reclaim {
+        return;
+    }
+    for i in 0..tasks.len() {
+        tasks[i].attr.flags = 2;
+    }
+}
+
+/// The clients of a session, as they wait.
+fn take_clients<N: Names>(
+    alloc: Global,
+    session: &mut Session<N>,
+    many: u32,
+) -> Result<Vec<Client<N>>, NoMemory>
+    requires many { many ≡ N.id.clients }
+    ensures { IfOk result (λ v. AreNew N.id v.items) }
+{
+    let mut clients = Vec::with_capacity(alloc, many as usize)?;
+    for number in 1..many + 1 {
+        if let Some(client) = session.client(number) {
+            clients.push_reserved(client);
+        }
+    }
+    Ok(clients)
+}
+
+/// Runs tasks in a session of these parts: the admissions, then the advance of each domain by the whole duration, in microseconds,
+/// and the end.
+fn run_in<N: Names, T: Turnstile, X: Wait>(
+    rt: &X,
+    alloc: Global,
+    parts: Parts,
+    many: u32,
+    tasks: &[TaskSpec],
+    duration: u64,
+    turnstile: &T,
+) -> Result<Finished, SessionFault>
+    requires parts { N.id ≡ parts }
+    requires many { many ≡ parts.clients }
+    requires one { many ≡ 1 }
+    requires duration { duration ≤ 60000000 }
+    ensures ok { IfOk result (IsRan N.id tasks.now duration) }
+    ensures err { IfErr result (IsStopped duration) }
+{
+    let mut session: Session<N> = Session::open(parts);
+    let Ok(clients) = take_clients(alloc, &mut session, many) else {
+        session.shut(alloc);
+        return Err(SessionFault::Memory);
+    };
+    match admit_alone(rt, alloc, &session, clients, tasks, turnstile) {
+        Ok((clients, refused)) => {
+            let mut finished = finish(rt, alloc, session, clients, duration)?;
+            finished.report.refused = refused;
+            Ok(finished)
+        }
+        Err(fault) => {
+            session.shut(alloc);
+            Err(fault)
+        }
+    }
+}
+
+/// Reads a scenario to its end, opens a session, lets client 1 admit the scenario's tasks in their order, with the turnstile round
+/// each admission, advances each domain by the scenario's duration as the last entry of its book, closes the session, and writes the
+/// trace of all domains, or the calls text of the histories. A duration of 0 makes no advance.
+///
+/// `Ok`: the histories in the report are legal and answer the scenario together with the refusals, and what was written is the text
+/// of their run, and nothing else. A task that is refused is no fault: it stands in the report.
+///
+/// # Errors
+/// [`SessionFault::Json`] and [`SessionFault::Scenario`] where the input is no scenario, [`SessionFault::Read`] where the reader
+/// failed, [`SessionFault::Full`] where a history has no room for the advance, [`SessionFault::Memory`] where a growth was refused:
+/// nothing was written. [`SessionFault::Write`] where the writer failed: it took exactly so many bytes, the front of the text, and
+/// not all.
+pub fn run<R: Read, W: Write, T: Turnstile, X: Wait>(
+    rt: &X,
+    alloc: Global,
+    reader: &mut Counted<R>,
+    writer: &mut Counted<W>,
+    options: &Options,
+    turnstile: &T,
+) -> Result<Report, SessionFault>
+    requires reader { faults_of reader.old < 2 ^ 63 }
+    requires writer { faults_of writer.old < 2 ^ 63 }
+    requires options { AreOptions options.now }
+    requires one { options.now.clients ≡ 1 }
+    ensures ok { IfOk result (IsRunAnswer
+        (seen (side R.remaining reader.old reader.new) (side W.contents writer.old writer.new)) options.now) }
+    ensures err { IfErr result (IsRunFault
+        (seen (side R.remaining reader.old reader.new) (side W.contents writer.old writer.new)) options.now) }
+{
+    let Scenario {
+        duration_us,
+        mut tasks,
+    } = read_scenario(alloc, reader)?;
+    flag_all(&mut tasks, options.reclaim);
+    let Ok(parts) = Parts::open(alloc, options) else {
+        return Err(SessionFault::Memory);
+    };
+    let many = options.clients;
+    let Finished { report, states } =
+        run_in::<Brand, T, X>(rt, alloc, parts, many, &tasks, duration_us, turnstile)?;
+    write_run(alloc, options.print, &report.histories, states, writer)?;
+    Ok(report)
+}
