@@ -1,6 +1,8 @@
 pub mod Replay
 pub mod Answer
 pub mod Status
+pub mod Lines
+pub mod Words
 pub mod Options
 pub mod SessionId
 pub mod Asks

@@ -1,6 +1,9 @@
 ghost use Rattle.std.specs.Prelude.{◌≡◌};
+ghost use Rattle.std.specs.Fmt.{WritesOnOk};
+ghost use Rattle.dl_session.specs.Lines.{shown, one_line, scenario_line};
 ghost use Rattle.dl_session.specs.Status.{exit_status};
 
+use crate::refusal::Refusal;
 use json_order::JsonFault;
 use rtapp_scenario::ScenarioFault;
 use std::fmt;
@@ -66,9 +69,83 @@ pub struct FaultLine<'a> {
     fault: &'a SessionFault,
 }
 
+/// Writes a character of a key: a control character (below 0x20, or 0x7f) as `\u00` and its two digits, so that the line stays one
+/// line, and any other as it is.
+fn write_shown<W: fmt::Write>(f: &mut fmt::Formatter<W>, c: char) -> fmt::Result
+    ensures { WritesOnOk W.write_str_gives f.old result (shown c) f.new }
+{
+    let code = u32::from(c);
+    if code < 0x20 || code == 0x7f {
+        write!(f, "\\u00{code:02x}")
+    } else {
+        f.write_char(c)
+    }
+}
+
+fn write_key<W: fmt::Write>(f: &mut fmt::Formatter<W>, key: &str) -> fmt::Result
+    ensures { WritesOnOk W.write_str_gives f.old result (one_line key.now) f.new }
+{
+    for c in key.chars() {
+        write_shown(f, c)?;
+    }
+    Ok(())
+}
+
+/// Writes the fault of a scenario, with its key on one line.
+fn write_scenario<W: fmt::Write>(
+    f: &mut fmt::Formatter<W>,
+    fault: &ScenarioFault,
+) -> fmt::Result
+    ensures { WritesOnOk W.write_str_gives f.old result (scenario_line fault.now) f.new }
+{
+    let number = fault.number();
+    match fault {
+        ScenarioFault::Unsupported(key) | ScenarioFault::Value(key) => {
+            write!(f, "dlsim: scenario {number} key ")?;
+            write_key(f, key)
+        }
+        _ => write!(f, "dlsim: scenario {number}"),
+    }
+}
+
 impl fmt::Display for FaultLine<'_> {
+    ghost use Rattle.std.specs.Prelude.{Some};
+    ghost use Rattle.dl_session.specs.Lines.{fault_line};
+
+    ghost output = { λ line. Some (fault_line line.fault.now) };
+
     fn fmt<W: fmt::Write>(&self, f: &mut fmt::Formatter<W>) -> fmt::Result {
-        let fault = self.fault;
-        write!(f, "dlsim: {fault}")
+        match self.fault {
+            SessionFault::Json(fault) => write!(f, "dlsim: {fault}"),
+            SessionFault::Scenario(fault) => write_scenario(f, fault),
+            SessionFault::Calls(line) => write!(f, "dlsim: calls 30 line {line}"),
+            SessionFault::Read => f.write_str("dlsim: read failed"),
+            SessionFault::Write { written } => write!(f, "dlsim: write failed after {written}"),
+            SessionFault::Start => f.write_str("dlsim: no thread"),
+            SessionFault::Full => f.write_str("dlsim: book full"),
+            SessionFault::Memory => f.write_str("dlsim: out of memory"),
+        }
+    }
+}
+
+/// The line by which the program tells that a task was refused: `dlsim: task 4 EBUSY 16 seen 1572864`, without an LF.
+#[derive(Clone, Copy, Debug)]
+pub struct RefusedLine {
+    /// The task's number, from 1.
+    pub number: u32,
+    /// Why it was refused.
+    pub refusal: Refusal,
+}
+
+impl fmt::Display for RefusedLine {
+    ghost use Rattle.std.specs.Prelude.{Some};
+    ghost use Rattle.dl_session.specs.Lines.{refused_line};
+
+    ghost output = { λ line. Some (refused_line line) };
+
+    fn fmt<W: fmt::Write>(&self, f: &mut fmt::Formatter<W>) -> fmt::Result {
+        let number = self.number;
+        let refusal = self.refusal;
+        write!(f, "dlsim: task {number} {refusal}")
     }
 }

@@ -34,9 +34,10 @@ mod running;
 mod session;
 mod trace;
 mod turnstile;
+mod words;
 
 pub use client::Client;
-pub use fault::{FaultLine, SessionFault};
+pub use fault::{FaultLine, RefusedLine, SessionFault};
 pub use names::Names;
 pub use options::{Options, Print};
 pub use parts::Parts;
@@ -46,6 +47,7 @@ pub use report::Report;
 pub use running::run;
 pub use session::Session;
 pub use turnstile::{AllPass, Turnstile};
+pub use words::{Words, WordsFault, read_limit, read_list, read_options};
 
 #[cfg(test)]
 mod tests;

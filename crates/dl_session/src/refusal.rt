@@ -26,6 +26,11 @@ pub enum Refusal {
 pub type Answer = Result<Reply, Refusal>;
 
 impl fmt::Display for Refusal {
+    ghost use Rattle.std.specs.Prelude.{Some};
+    ghost use Rattle.dl_session.specs.Lines.{refusal_text};
+
+    ghost output = { λ refusal. Some (refusal_text refusal) };
+
     fn fmt<W: fmt::Write>(&self, f: &mut fmt::Formatter<W>) -> fmt::Result {
         match self {
             Refusal::Einval(kind) => write!(f, "EINVAL 22 {kind}"),

@@ -1,0 +1,64 @@
+-- What the program prints on standard error (own).
+use Rattle.std.specs.Prelude.{ℕ, false, List, [], ◌∷◌, ◌++◌, ◌/◌, ◌%◌, ◌||◌, ◌==◌, nat_lt, if◌then◌else◌, codes, decimal, string_bytes}
+use Rattle.std.specs.Char.{encode_utf8}
+use Rattle.std.specs.Fmt.{digit_glyph}
+use Rattle.std.specs.List.{flat_map}
+use Rattle.std.specs.Str.{chars}
+use Rattle.attr_check.specs.RefusalName.{refusal_name}
+use Rattle.json_order.specs.Fault.{number_of}
+use Rattle.rtapp_scenario.specs.Told.{fault_number}
+use Rattle.rtapp_scenario.specs.declared.fault.ScenarioFault.{ScenarioFault}
+use Rattle.rtapp_scenario.specs.declared.fault.ScenarioFault.TheVariants.{NoTasks, Duration, Unsupported, Value, Name, Policy, TooMany, Idle, Memory}
+use Rattle.dl_session.specs.declared.fault.SessionFault.{SessionFault}
+use Rattle.dl_session.specs.declared.fault.SessionFault.TheVariants as faults
+use Rattle.dl_session.specs.declared.fault.RefusedLine.{RefusedLine}
+use Rattle.dl_session.specs.declared.refusal.Refusal.{Refusal}
+use Rattle.dl_session.specs.declared.refusal.Refusal.TheVariants as refusals
+
+-- a character of a key: a control character as \u00 and its two digits, so that the line stays one line; any other as it is
+abbrev pub shown : ℕ → List ℕ
+shown c = if nat_lt c 32 || c == 127 then codes "\\u00" ++ (digit_glyph false (c / 16) ∷ digit_glyph false (c % 16) ∷ []) else encode_utf8 c
+
+-- the key to mend, on one line
+abbrev pub one_line : List ℕ → List ℕ
+one_line key = flat_map shown (chars key)
+
+-- behind the number of a scenario's fault
+abbrev pub key_shown : ScenarioFault → List ℕ
+key_shown NoTasks = []
+key_shown Duration = []
+key_shown (Unsupported key) = codes " key " ++ one_line (string_bytes key)
+key_shown (Value key) = codes " key " ++ one_line (string_bytes key)
+key_shown Name = []
+key_shown Policy = []
+key_shown TooMany = []
+key_shown Idle = []
+key_shown Memory = []
+
+-- the line of a scenario's fault
+abbrev pub scenario_line : ScenarioFault → List ℕ
+scenario_line fault = codes "dlsim: scenario " ++ (decimal (fault_number fault) ++ key_shown fault)
+
+-- the line of a fault, without its LF
+abbrev pub fault_line : SessionFault → List ℕ
+fault_line (faults.Json fault) = codes "dlsim: json " ++ (decimal (number_of fault.kind) ++ (codes " at " ++ decimal fault.at))
+fault_line (faults.Scenario fault) = scenario_line fault
+fault_line (faults.Calls n) = codes "dlsim: calls 30 line " ++ decimal n
+fault_line faults.Read = codes "dlsim: read failed"
+fault_line (faults.Write written) = codes "dlsim: write failed after " ++ decimal written
+fault_line faults.Start = codes "dlsim: no thread"
+fault_line faults.Full = codes "dlsim: book full"
+fault_line faults.Memory = codes "dlsim: out of memory"
+
+-- why a task was refused
+abbrev pub refusal_text : Refusal → List ℕ
+refusal_text (refusals.Einval kind) = codes "EINVAL 22 " ++ refusal_name kind
+refusal_text refusals.Eperm = codes "EPERM 1"
+refusal_text refusals.Full = codes "Full 40"
+refusal_text refusals.Twice = codes "Twice 41"
+refusal_text refusals.Enomem = codes "ENOMEM 12"
+refusal_text (refusals.Busy seen) = codes "EBUSY 16 seen " ++ decimal seen
+
+-- the line of a refused task
+abbrev pub refused_line : RefusedLine → List ℕ
+refused_line line = codes "dlsim: task " ++ (decimal line.number ++ (codes " " ++ refusal_text line.refusal))
