@@ -5,3 +5,5 @@ pub mod Replied
 pub mod Asked
 pub mod Closed
 pub mod Opening
+pub mod ScenarioLaw
+pub mod Ran
