@@ -7,3 +7,4 @@ pub mod Closed
 pub mod Opening
 pub mod ScenarioLaw
 pub mod Ran
+pub mod Admitted
