@@ -20,7 +20,7 @@ pub use counted::Counted;
 pub use fault::{ReadFault, WriteFault};
 pub use lines::line;
 pub use run::Run;
-pub use writing::write_trace;
+pub use writing::{write_text, write_trace};
 
 #[cfg(test)]
 mod tests;
