@@ -5,3 +5,4 @@ pub mod Replied
 pub mod Asked
 pub mod Closed
 pub mod Opening
+pub mod Recorded

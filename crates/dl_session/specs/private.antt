@@ -3,3 +3,4 @@ pub mod Entering
 pub mod Parts
 pub mod Closing
 pub mod Running
+pub mod Recorded
