@@ -8,3 +8,4 @@ pub mod Opening
 pub mod ScenarioLaw
 pub mod Ran
 pub mod Admitted
+pub mod Recorded

@@ -4,3 +4,4 @@ pub mod Parts
 pub mod Closing
 pub mod Running
 pub mod Admitting
+pub mod Recorded
