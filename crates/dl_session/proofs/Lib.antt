@@ -6,3 +6,7 @@ pub mod Asked
 pub mod Closed
 pub mod Opening
 pub mod CpuLists
+pub mod ScenarioLaw
+pub mod Ran
+pub mod Admitted
+pub mod Recorded

@@ -16,6 +16,7 @@ use Rattle.domain_run.proofs.Admitting.{with_number_contains}
 use Rattle.switch_text.specs.Names.{Names, named, HasName}
 use Rattle.dl_session.specs.Replay.{with_name}
 use Rattle.dl_session.specs.private.Replaying.{AreNamed}
+use Rattle.dl_session.specs.private.Recorded.{HaveNames}
 
 -- ticks admit nobody
 pub ticks_used : (k : ℕ) (d : Domain) → (ticks k d).used ≡ d.used
@@ -34,21 +35,21 @@ pub on_ok : {T E : Type 0} (r : Result T E) (P Q : Type 0) → (P → Q) → OnO
 on_ok (Ok x) P Q f h = f h
 on_ok (Err e) P Q f h = tt
 
-has_name : (names : Names) (n : ℕ) (name : List ℕ) → named names n ≡ name → 0 < length name → length name ≤ 15 → HasName names n
-has_name names n name e some most = record { some = rw e some; most = rw e most }
+-- one name more
+pub one_more_named : (used : List ℕ) (number : ℕ) (name : List ℕ) (names : ℕ → List ℕ) → IsName name → HaveNames used names → (n : ℕ) → (eqb number n || list_any (λ m. eqb m n) used) ≡ true → (0 < length (with_name names number name n)) × (length (with_name names number name n) ≤ 15)
+one_more_named used number name names is old n h =
+    elim (eqb n number) as (λ b. eqb n number ≡ b → (0 < length (cond b name (names n))) × (length (cond b name (names n)) ≤ 15)) [
+      | true ↦ λ e. (is.some, is.most)
+      | false ↦ λ e. old n (sym (ap (λ b. b || list_any (λ m. eqb m n) used) (eqb-swap number n ∙ e)) ∙ h)
+    ] refl
 
 pub named_step : (d : Domain) (was is : Names) (number : ℕ) (name : List ℕ) (params : ParamsView) (delay : ℕ) (script : ScriptView) → reply_to d (Admit number name params delay script) ≡ Admitted → AreNamed d was → IsName name
     → ((n : ℕ) → named is n ≡ with_name (named was) number name n) → AreNamed (after_call d (Admit number name params delay script)) is
 named_step d was is number name params delay script reply old good each n h =
     let one : after_call d (Admit number name params delay script) ≡ granted d (Admit number name params delay script) = rw reply refl in
     let h2 : (eqb number n || list_any (λ m. eqb m n) d.used) ≡ true = sym (with_number_contains number n d.used) ∙ subst (λ (x : Domain). IsAdmitted x.used n) one h in
-    elim (eqb n number) as (λ b. eqb n number ≡ b → HasName is n) [
-      | true ↦ λ e. has_name is n name (each n ∙ rw e refl) good.some good.most
-      | false ↦ λ e.
-          let there : IsAdmitted d.used n = sym (ap (λ b. b || list_any (λ m. eqb m n) d.used) (eqb-swap number n ∙ e)) ∙ h2 in
-          let was_named = old n there in
-          has_name is n (named was n) (each n ∙ rw e refl) was_named.some was_named.most
-    ] refl
+    let both = one_more_named d.used number name (named was) good (λ m there. let had = old m there in (had.some, had.most)) n h2 in
+    record { some = rw (each n) both.0; most = rw (each n) both.1 }
 
 pub admit_time : (d : Domain) (number : ℕ) (name : List ℕ) (params : ParamsView) (delay : ℕ) (script : ScriptView) → (after_call d (Admit number name params delay script)).time ≡ d.time
 admit_time d number name params delay script =

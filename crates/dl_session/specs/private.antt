@@ -3,3 +3,5 @@ pub mod Entering
 pub mod Parts
 pub mod Closing
 pub mod Running
+pub mod Admitting
+pub mod Recorded

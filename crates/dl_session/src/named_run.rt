@@ -6,16 +6,19 @@ ghost use Rattle.domain_run.specs.NameView.{IsName};
 ghost use Rattle.domain_run.specs.declared.call.Call.TheVariants as Call;
 ghost use Rattle.domain_run.specs.Domain.{opened};
 ghost use Rattle.domain_run.specs.Calls.{after_call};
+ghost use Rattle.domain_run.specs.Run.{run_of};
 ghost use Rattle.domain_run.specs.Tick.{ticks as ticked_by};
 ghost use Rattle.call_book.specs.Limits.{IsNumber, IsCall, IsEntry, IsSection};
+ghost use Rattle.call_book.specs.Book.{IsLegal};
 ghost use Rattle.switch_text.specs.Names.{named};
-ghost use Rattle.dl_session.specs.Replay.{no_names, with_name, names_after};
+ghost use Rattle.dl_session.specs.Replay.{no_names, with_name, names_after, calls_of};
 ghost use Rattle.dl_session.specs.private.Replaying.{AreNamed, Gives, IsRunOf, section_view};
+ghost use Rattle.dl_session.specs.private.Recorded.{given_by, given_by_all};
 
 use crate::fault::SessionFault;
 use attr_check::Params;
 use call_book::{Entry, Section};
-use domain_run::{Call, Name, NoMemory, Script, State};
+use domain_run::{Call, Name, NoMemory, Reply, Script, State};
 use indexmap::IndexMap;
 use std::alloc::Global;
 
@@ -187,4 +190,49 @@ pub(crate) fn run_section(alloc: Global, section: Section) -> Result<NamedRun, S
         entries,
     } = section;
     run_entries(alloc, cpus, limit, entries)
+}
+
+/// Puts down the name that an entry gives: that of an admission that was granted.
+fn put_given(
+    alloc: Global,
+    names: &mut IndexMap<u32, String>,
+    entry: &Entry,
+) -> Result<(), SessionFault>
+    ensures ok { OnOk result (Gives names.new (given_by entry.now (named names.old))) }
+    ensures err { IfErr result (λ e. e ≡ SessionFault.Memory) }
+{
+    match (&entry.call, &entry.reply) {
+        (Call::Admit { number, name, .. }, Some(Reply::Admitted)) => {
+            put_name(names, *number, text_of(alloc, name)?)
+        }
+        _ => Ok(()),
+    }
+}
+
+/// The names that entries give, by number.
+fn names_given(alloc: Global, entries: &[Entry]) -> Result<IndexMap<u32, String>, SessionFault>
+    ensures names { IfOk result (λ names. Gives names (given_by_all entries.now no_names)) }
+    ensures err { IfErr result (λ e. e ≡ SessionFault.Memory) }
+{
+    let mut names = IndexMap::new(alloc);
+    for entry in entries {
+        put_given(alloc, &mut names, entry)?;
+    }
+    Ok(names)
+}
+
+/// The run that a history led to, which is not made again: its state, and the names that its replies tell.
+pub(crate) fn recorded(
+    alloc: Global,
+    history: &Section,
+    state: State,
+) -> Result<NamedRun, SessionFault>
+    requires section { IsSection history.now }
+    requires legal { IsLegal history.now.cpus history.now.limit history.now.entries }
+    requires state { state ≡ run_of history.now.cpus history.now.limit (calls_of history.now) }
+    ensures run { IfOk result (λ r. IsRunOf history.now r.state r.names) }
+    ensures err { IfErr result (λ e. e ≡ SessionFault.Memory) }
+{
+    let names = names_given(alloc, &history.entries)?;
+    Ok(NamedRun { state, names })
 }

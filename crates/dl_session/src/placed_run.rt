@@ -4,10 +4,12 @@ ghost use Rattle.std.specs.Prelude.{◌≡◌, ◌≤◌, All, IfOk, IfErr, leng
 ghost use Rattle.call_book.specs.Limits.{IsSection};
 ghost use Rattle.dl_session.specs.Replay.{runs_from};
 ghost use Rattle.dl_session.specs.private.Replaying.{IsPlaced, view_of};
+ghost use Rattle.dl_session.specs.private.Running.{AreLegal, AreRuns};
 
 use crate::fault::SessionFault;
-use crate::named_run::{NamedRun, run_section};
+use crate::named_run::{NamedRun, recorded, run_section};
 use call_book::Section;
+use domain_run::State;
 use std::alloc::Global;
 use std::collections::VecDeque;
 
@@ -32,16 +34,46 @@ pub(crate) fn run_sections(
     ensures placed { IfOk result (λ v. All IsPlaced v.items) }
     ensures err { IfErr result (λ e. e ≡ SessionFault.Memory) }
 {
-    let mut runs = Vec::new(alloc);
+    let Ok(mut runs) = Vec::with_capacity(alloc, sections.len()) else {
+        return Err(SessionFault::Memory);
+    };
     let mut left = VecDeque::from_vec(sections);
     let mut base: u32 = 0;
     while let Some(section) = left.pop_front() {
         let cpus = section.cpus;
         let run = run_section(alloc, section)?;
-        match runs.push(PlacedRun { base, run }) {
-            Ok(()) => base += cpus,
-            Err(_) => return Err(SessionFault::Memory),
-        }
+        runs.push_reserved(PlacedRun { base, run });
+        base += cpus;
+    }
+    Ok(runs)
+}
+
+/// The runs that histories led to, each on a domain of its own, with these states; nothing is run again.
+pub(crate) fn place_runs(
+    alloc: Global,
+    histories: &[Section],
+    states: Vec<State>,
+) -> Result<Vec<PlacedRun>, SessionFault>
+    requires few { length histories.now ≤ 8 }
+    requires count { length states.items ≡ length histories.now }
+    requires sections { All IsSection histories.now }
+    requires legal { AreLegal histories.now }
+    requires runs { AreRuns histories.now states.items }
+    ensures runs { IfOk result (λ v. map view_of v.items ≡ runs_from 0 histories.now) }
+    ensures few { IfOk result (λ v. length v.items ≤ 8) }
+    ensures placed { IfOk result (λ v. All IsPlaced v.items) }
+    ensures err { IfErr result (λ e. e ≡ SessionFault.Memory) }
+{
+    let Ok(mut runs) = Vec::with_capacity(alloc, histories.len()) else {
+        return Err(SessionFault::Memory);
+    };
+    let mut base: u32 = 0;
+    let mut rest = states.into_iter();
+    while let Some(state) = rest.next() {
+        let history = &histories[runs.len()];
+        let run = recorded(alloc, history, state)?;
+        runs.push_reserved(PlacedRun { base, run });
+        base += history.cpus;
     }
     Ok(runs)
 }

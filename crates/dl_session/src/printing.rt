@@ -2,6 +2,7 @@
 
 ghost use Rattle.std.specs.Prelude.{◌≡◌, ◌<◌, ◌≤◌, ◌^◌, All, OnOk, IfErr, length};
 ghost use Rattle.call_book.specs.Limits.{IsSection};
+ghost use Rattle.call_book.specs.Spelling.{spelling};
 ghost use Rattle.switch_text.specs.Sides.{faults_of, side};
 ghost use Rattle.dl_session.specs.RunAnswer.{printed};
 ghost use Rattle.dl_session.specs.private.Replaying.{IsWritten, IsUnwritten};
@@ -9,13 +10,38 @@ ghost use Rattle.dl_session.specs.private.Running.{AreLegal, AreRuns};
 
 use crate::fault::SessionFault;
 use crate::options::Print;
-use call_book::Section;
+use crate::placed_run::place_runs;
+use crate::trace::write_runs;
+use call_book::{Section, write_calls};
 use domain_run::State;
 use std::alloc::Global;
 use std::io::Write;
-use switch_text::Counted;
+use switch_text::{Counted, write_text};
 
-/// Writes the text of histories that led to these states.
+/// Writes the calls text of histories, in one piece.
+fn write_histories<W: Write>(
+    alloc: Global,
+    histories: &[Section],
+    writer: &mut Counted<W>,
+) -> Result<(), SessionFault>
+    requires { faults_of writer.old < 2 ^ 63 }
+    ensures ok { OnOk result
+        (IsWritten (side W.contents writer.old writer.new) (spelling histories.now)) }
+    ensures err { IfErr result
+        (IsUnwritten (side W.contents writer.old writer.new) (spelling histories.now)) }
+{
+    let Ok(text) = write_calls(alloc, histories) else {
+        return Err(SessionFault::Memory);
+    };
+    match write_text(&text, writer) {
+        Ok(()) => Ok(()),
+        Err(fault) => Err(SessionFault::Write {
+            written: fault.written,
+        }),
+    }
+}
+
+/// Writes the text of histories that led to these states. Nothing is run again.
 ///
 /// # Errors
 /// [`SessionFault::Memory`]: a growth was refused, and nothing was written. [`SessionFault::Write`]: the writer failed; it took
@@ -38,5 +64,11 @@ pub(crate) fn write_run<W: Write>(
     ensures err { IfErr result
         (IsUnwritten (side W.contents writer.old writer.new) (printed print histories.now)) }
 {
-    Err(SessionFault::Memory)
+    match print {
+        Print::Calls => write_histories(alloc, histories, writer),
+        Print::Trace => {
+            let runs = place_runs(alloc, histories, states)?;
+            write_runs(alloc, &runs, writer)
+        }
+    }
 }

@@ -1,13 +1,13 @@
 //! From bytes to bytes: a scenario in, the trace or the calls text of its run out.
 
-ghost use Rattle.std.specs.Prelude.{◌≡◌, ◌<◌, ◌≤◌, ◌^◌, length, map, IfOk, IfErr, OnOk};
+ghost use Rattle.std.specs.Prelude.{◌≡◌, ◌<◌, ◌≤◌, ◌^◌, true, map, replicate, IfOk, IfErr, OnOk};
 ghost use Rattle.switch_text.specs.Sides.{Side, HasNoFault, faults_of, side};
 ghost use Rattle.dl_session.specs.declared.options.Options.{Options as OptionsView};
 ghost use Rattle.dl_session.specs.Options.{AreOptions};
 ghost use Rattle.dl_session.specs.Admissions.{AreNew};
 ghost use Rattle.dl_session.specs.Answer.{seen, NothingWritten};
 ghost use Rattle.dl_session.specs.RunAnswer.{flagged, IsScenario, IsRunAnswer, IsRunFault};
-ghost use Rattle.dl_session.specs.private.Running.{IsRan, IsStopped};
+ghost use Rattle.dl_session.specs.private.Running.{IsJsonTold, IsScenarioTold, IsRan, IsStopped};
 
 use crate::admitting::admit_alone;
 use crate::client::Client;
@@ -29,14 +29,20 @@ use std::marker::Brand;
 use std::sync::Wait;
 use switch_text::{Counted, ReadFault};
 
-fn json_fault(fault: JsonFault) -> SessionFault {
+/// A fault of the JSON text; want of memory is told as such.
+fn json_fault(fault: JsonFault) -> SessionFault
+    ensures { IsJsonTold fault result }
+{
     match fault.kind {
         JsonKind::Memory => SessionFault::Memory,
         _ => SessionFault::Json(fault),
     }
 }
 
-fn scenario_fault(fault: ScenarioFault) -> SessionFault {
+/// A fault of the scenario; want of memory is told as such.
+fn scenario_fault(fault: ScenarioFault) -> SessionFault
+    ensures { IsScenarioTold fault result }
+{
     match fault {
         ScenarioFault::Memory => SessionFault::Memory,
         fault => SessionFault::Scenario(fault),
@@ -78,8 +84,8 @@ fn flag_all(tasks: &mut Vec<TaskSpec>, reclaim: bool)
     if !reclaim {
         return;
     }
-    for i in 0..tasks.len() {
-        tasks[i].attr.flags = 2;
+    for task in tasks.iter_mut() {
+        task.attr.flags = 2;
     }
 }
 
@@ -90,11 +96,12 @@ fn take_clients<N: Names>(
     many: u32,
 ) -> Result<Vec<Client<N>>, NoMemory>
     requires many { many ≡ N.id.clients }
+    requires waiting { session.old ≡ replicate N.id.clients true }
     ensures { IfOk result (λ v. AreNew N.id v.items) }
 {
     let mut clients = Vec::with_capacity(alloc, many as usize)?;
-    for number in 1..many + 1 {
-        if let Some(client) = session.client(number) {
+    for place in 0..many {
+        if let Some(client) = session.client(place + 1) {
             clients.push_reserved(client);
         }
     }
@@ -169,7 +176,10 @@ pub fn run<R: Read, W: Write, T: Turnstile, X: Wait>(
     let Scenario {
         duration_us,
         mut tasks,
-    } = read_scenario(alloc, reader)?;
+    } = match read_scenario(alloc, reader) {
+        Ok(scenario) => scenario,
+        Err(fault) => return Err(fault),
+    };
     flag_all(&mut tasks, options.reclaim);
     let Ok(parts) = Parts::open(alloc, options) else {
         return Err(SessionFault::Memory);
@@ -177,6 +187,8 @@ pub fn run<R: Read, W: Write, T: Turnstile, X: Wait>(
     let many = options.clients;
     let Finished { report, states } =
         run_in::<Brand, T, X>(rt, alloc, parts, many, &tasks, duration_us, turnstile)?;
-    write_run(alloc, options.print, &report.histories, states, writer)?;
-    Ok(report)
+    match write_run(alloc, options.print, &report.histories, states, writer) {
+        Ok(()) => Ok(report),
+        Err(fault) => Err(fault),
+    }
 }

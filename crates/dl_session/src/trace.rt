@@ -31,12 +31,11 @@ fn all_as_written(alloc: Global, placed: &[PlacedRun]) -> Result<Vec<Run<'_>>, S
     ensures runs { IfOk result (λ v. All runs.IsRun v.items) }
     ensures err { IfErr result (λ e. e ≡ SessionFault.Memory) }
 {
-    let mut written = Vec::new(alloc);
+    let Ok(mut written) = Vec::with_capacity(alloc, placed.len()) else {
+        return Err(SessionFault::Memory);
+    };
     for run in placed {
-        match written.push(as_written(run)) {
-            Ok(()) => {}
-            Err(_) => return Err(SessionFault::Memory),
-        }
+        written.push_reserved(as_written(run));
     }
     Ok(written)
 }

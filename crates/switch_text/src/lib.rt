@@ -3,9 +3,10 @@
 //!
 //! Meets the definition "Trace text": a line (`specs/Line.antt`) and the whole text of several runs (`specs/Trace.antt`, with
 //! worked rows in `specs/Examples.antt`). To the crates above it promises that [`write_trace`] appends exactly that text, or
-//! stops at the writer's first fault with the exact number of bytes taken, and that [`Counted`] tells faults from success and
-//! gives all bytes that a reader has left. `proofs/CallerLemmas.antt` has laws of the text for callers: the trace of one run
-//! is its lines as they stand, only the names that occur matter, and what it means that the entries are in order.
+//! stops at the writer's first fault with the exact number of bytes taken, as [`write_text`] does with a text in memory, and
+//! that [`Counted`] tells faults from success and gives all bytes that a reader has left. `proofs/CallerLemmas.antt` has laws
+//! of the text for callers: the trace of one run is its lines as they stand, only the names that occur matter, and what it
+//! means that the entries are in order.
 #![tactic(auto)]
 
 mod batch;
@@ -20,7 +21,7 @@ pub use counted::Counted;
 pub use fault::{ReadFault, WriteFault};
 pub use lines::line;
 pub use run::Run;
-pub use writing::write_trace;
+pub use writing::{write_text, write_trace};
 
 #[cfg(test)]
 mod tests;

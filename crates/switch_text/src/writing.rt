@@ -67,3 +67,23 @@ pub fn write_trace<W: Write>(runs: &[Run<'_>], writer: &mut Counted<W>) -> Resul
         Err(n) => Err(stopped_after(written, n)),
     }
 }
+
+/// Writes a text that stands in memory, from its front; a writer that takes all at once is called once, and for an empty text not
+/// at all. Takes no memory.
+///
+/// # Errors
+/// The writer's first fault ends the call. [`WriteFault::written`] is exactly the number of bytes that the writer took; they
+/// are the front of the text, and not all of it.
+pub fn write_text<W: Write>(text: &[u8], writer: &mut Counted<W>) -> Result<(), WriteFault>
+    requires faults { faults_of writer.old < 2 ^ 63 }
+    ensures ok { OnOk result (Appends
+        (W.contents (inner_of writer.old)) (W.contents (inner_of writer.new)) text.now) }
+    ensures err { IfErr result (λ f. TakesFront
+        (W.contents (inner_of writer.old)) (W.contents (inner_of writer.new)) text.now f.written) }
+    ensures faults { faults_of writer.new ≡ one_more_unless (is_ok result) (faults_of writer.old) }
+{
+    match writer.write_all(text) {
+        Ok(()) => Ok(()),
+        Err(n) => Err(WriteFault { written: n as u64 }),
+    }
+}

@@ -1,5 +1,9 @@
 -- The steps of a run: its clients advance the domains, the books are closed, and their states are kept for the trace.
-use Rattle.std.specs.Prelude.{◌≡◌, ℕ, ◌+◌, ◌<◌, List, [], length, map, All, slice_index_or}
+use Rattle.std.specs.Prelude.{◌≡◌, ◌≢◌, ℕ, ◌+◌, ◌<◌, List, [], length, map, All, slice_index_or}
+use Rattle.json_order.specs.declared.fault.JsonFault.{JsonFault}
+use Rattle.json_order.specs.declared.fault.JsonKind.TheVariants as kinds
+use Rattle.rtapp_scenario.specs.declared.fault.ScenarioFault.{ScenarioFault}
+use Rattle.rtapp_scenario.specs.declared.fault.ScenarioFault.TheVariants as scenario_faults
 use Rattle.domain_run.specs.Domain.{Domain}
 use Rattle.domain_run.specs.Run.{run_of}
 use Rattle.rtapp_scenario.specs.ScenarioView.{TaskSpecView}
@@ -12,6 +16,17 @@ use Rattle.dl_session.specs.SessionId.{SessionId}
 use Rattle.dl_session.specs.Asks.{ClientView, Makes}
 use Rattle.dl_session.specs.Report.{IsReport, IsLeft}
 use Rattle.dl_session.specs.ScenarioAnswers.{EndsWith, advance_of, AnswersScenario}
+
+-- a fault of the input as a session tells it: want of memory is told as such
+abbrev pub IsJsonTold : JsonFault → SessionFault → Type 0
+IsJsonTold found (Json fault) = (found ≡ fault) × (fault.kind ≢ kinds.Memory)
+IsJsonTold found Memory = Unit {0}
+IsJsonTold found _ = ⊥
+
+abbrev pub IsScenarioTold : ScenarioFault → SessionFault → Type 0
+IsScenarioTold found (Scenario fault) = (found ≡ fault) × (fault ≢ scenario_faults.Memory)
+IsScenarioTold found Memory = Unit {0}
+IsScenarioTold found _ = ⊥
 
 -- each client has entered its advance of each domain, and nothing else: client 1 one of the whole duration, the others none
 pub record HaveAdvanced (duration : ℕ) (before after : List ClientView) : Type 0 where

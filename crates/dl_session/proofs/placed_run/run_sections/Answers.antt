@@ -19,10 +19,11 @@ loop-section-preserved c =
     let long = ap length first in
     let few = (All-head IsSection s left (subst (All IsSection) first i.sections)).most_cpus in
     let cpus : c.section.inside.cpus ≡ s.cpus = ap (λ (x : SectionView). x.cpus) c.section.view_is in
-    rw c.in-Ok.ensures.items (record {
+    rw c.push_reserved.ensures.items (record {
       runs = rw cpus (runs_more c.loop-section.runs.items r s c.loop-section.base left c.loop-section.left.items (runs_from 0 c.args.sections.items) refl c.in_ok-run.ensures.run first i.runs);
       placed = All-push IsPlaced c.loop-section.runs.items r i.placed (placed_is r s c.in_ok-run.ensures.run (omega (arith, i.inside, few, long)));
       sections = All-rest IsSection s left c.loop-section.left.items first i.sections;
       few = omega (arith, i.few, long, length-append c.loop-section.runs.items (r ∷ []));
       inside = omega (arith, i.inside, few, long, cpus);
+      room = omega (arith, i.room, long, c.push_reserved.ensures.capacity, length-append c.loop-section.runs.items (r ∷ []));
     })

@@ -1,4 +1,4 @@
-use Rattle.std.proofs.Common.{◌≡◌, ◌+◌, ◌*◌, ◌≤◌, ◌++◌, length, map}
+use Rattle.std.proofs.Common.{◌≡◌, ◌+◌, ◌*◌, ◌≤◌, ◌++◌, length, map, vec_capacity}
 use Rattle.std.specs.Prelude.{All}
 use Rattle.call_book.specs.Limits.{IsSection}
 use Rattle.dl_session.specs.Replay.{runs_from}
@@ -13,6 +13,7 @@ invariant-loop-section l = record {
   sections : All IsSection l.left.items;
   few : length l.runs.items + length l.left.items ≤ 8;
   inside : l.base + 64 * length l.left.items ≤ 512;
+  room : length l.runs.items + length l.left.items ≤ vec_capacity l.runs;
 }
 
 abbrev pub decreases-loop-section : goal.decreases-loop-section

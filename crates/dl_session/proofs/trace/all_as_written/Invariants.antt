@@ -1,4 +1,4 @@
-use Rattle.std.proofs.Common.{◌≡◌, map, take}
+use Rattle.std.proofs.Common.{◌≡◌, ◌≤◌, length, map, take, vec_capacity}
 use Rattle.std.specs.Prelude.{All}
 use Rattle.switch_text.specs.Runs as runs
 use Rattle.dl_session.specs.private.Replaying.{view_of}
@@ -8,4 +8,6 @@ abbrev pub invariant-loop-run : goal.invariant-loop-run
 invariant-loop-run l = record {
   views : runs.views l.written.items ≡ map view_of (take l.run-index l.placed);
   runs : All runs.IsRun l.written.items;
+  count : length l.written.items ≡ l.run-index;
+  room : length l.placed ≤ vec_capacity l.written;
 }

@@ -1,0 +1,165 @@
+-- What a run answers, from what its parts answered.
+use Rattle.std.proofs.Common.{◌≡◌, ◌≢◌, ℕ, List, [], Option, Some, None, length, map, refl, sym, ap, subst, ◌∙◌}
+use Rattle.std.proofs.lemmas.List.Elements.{All-nil}
+use Rattle.std.specs.Io.KnownBytes.{Appends, Keeps}
+use Rattle.json_order.specs.Json.{Json}
+use Rattle.json_order.specs.Fault as json
+use Rattle.json_order.specs.declared.fault.JsonFault.{JsonFault}
+use Rattle.json_order.specs.declared.fault.JsonKind.TheVariants as kinds
+use Rattle.rtapp_scenario.specs.ScenarioView.{TaskSpecView, ScenarioView}
+use Rattle.rtapp_scenario.specs.Scenario.{parsed}
+use Rattle.rtapp_scenario.specs.Told as profile
+use Rattle.rtapp_scenario.specs.declared.fault.ScenarioFault.{ScenarioFault}
+use Rattle.rtapp_scenario.specs.declared.fault.ScenarioFault.TheVariants as scenario_faults
+use Rattle.call_book.specs.SectionView.{SectionView}
+use Rattle.call_book.specs.Book.{own_entries}
+use Rattle.switch_text.specs.Sides.{HasNoFault}
+use Rattle.switch_text.specs.Faults.{TakesFront}
+use Rattle.dl_session.specs.declared.fault.SessionFault.{SessionFault}
+use Rattle.dl_session.specs.declared.fault.SessionFault.TheVariants as faults
+use Rattle.dl_session.specs.declared.options.Options.{Options}
+use Rattle.dl_session.specs.declared.refusal.Refusal.{Refusal}
+use Rattle.dl_session.specs.declared.report.Report.{Report}
+use Rattle.dl_session.specs.declared.finishing.Finished.{Finished}
+use Rattle.dl_session.specs.SessionId.{SessionId, IsPlace}
+use Rattle.dl_session.specs.Asks.{ClientView, pass_in}
+use Rattle.dl_session.specs.Admissions.{AreNew, AllAsked}
+use Rattle.dl_session.specs.Report.{IsHistoryOf, IsLeft}
+use Rattle.dl_session.specs.Options.{IsSessionOf}
+use Rattle.dl_session.specs.ScenarioAnswers.{AnswersScenario}
+use Rattle.dl_session.specs.Answer.{Seen, IsInput, NothingWritten}
+use Rattle.dl_session.specs.RunAnswer.{IsJson, IsScenario, flagged, IsRun, printed, IsRunAnswer, IsRunFault}
+use Rattle.dl_session.specs.private.Replaying.{IsWritten, IsUnwritten}
+use Rattle.dl_session.specs.private.Running.{IsJsonTold, IsScenarioTold, IsFinished, IsRan, IsStopped}
+use Rattle.dl_session.proofs.ScenarioLaw.{answers_all}
+
+-- ---- faults of the input
+
+pub json_faulted : (s : Seen) (o : Options) (text : List ℕ) (found : JsonFault) (e : SessionFault)
+    → IsInput s text → json.IsFault text found.kind found.at → NothingWritten s → HasNoFault s.reader → HasNoFault s.writer → IsJsonTold found e → IsRunFault s o e
+json_faulted s o text found (faults.Json fault) input first unwritten reads writes told = record {
+  text = text;
+  input = input;
+  not_memory = told.1;
+  first = subst (λ (f : JsonFault). json.IsFault text f.kind f.at) told.0 first;
+  unwritten = unwritten;
+  reads = reads;
+  writes = writes;
+}
+json_faulted s o text found faults.Memory input first unwritten reads writes told = record { unwritten = unwritten; reads = reads; writes = writes }
+json_faulted s o text found (faults.Scenario f) input first unwritten reads writes told = absurd told
+json_faulted s o text found (faults.Calls n) input first unwritten reads writes told = absurd told
+json_faulted s o text found faults.Read input first unwritten reads writes told = absurd told
+json_faulted s o text found (faults.Write n) input first unwritten reads writes told = absurd told
+json_faulted s o text found faults.Start input first unwritten reads writes told = absurd told
+json_faulted s o text found faults.Full input first unwritten reads writes told = absurd told
+
+pub scenario_faulted : (s : Seen) (o : Options) (value : Json) (found : ScenarioFault) (e : SessionFault)
+    → IsJson s value → profile.IsFault (parsed value) found → NothingWritten s → HasNoFault s.reader → HasNoFault s.writer → IsScenarioTold found e → IsRunFault s o e
+scenario_faulted s o value found (faults.Scenario fault) is first unwritten reads writes told = record {
+  value = value;
+  json = is;
+  not_memory = told.1;
+  first = subst (profile.IsFault (parsed value)) told.0 first;
+  unwritten = unwritten;
+  reads = reads;
+  writes = writes;
+}
+scenario_faulted s o value found faults.Memory is first unwritten reads writes told = record { unwritten = unwritten; reads = reads; writes = writes }
+scenario_faulted s o value found (faults.Json f) is first unwritten reads writes told = absurd told
+scenario_faulted s o value found (faults.Calls n) is first unwritten reads writes told = absurd told
+scenario_faulted s o value found faults.Read is first unwritten reads writes told = absurd told
+scenario_faulted s o value found (faults.Write n) is first unwritten reads writes told = absurd told
+scenario_faulted s o value found faults.Start is first unwritten reads writes told = absurd told
+scenario_faulted s o value found faults.Full is first unwritten reads writes told = absurd told
+
+-- a writer that nobody used
+pub keeps_itself : (bytes : Option (List ℕ)) → Keeps bytes bytes
+keeps_itself None = tt
+keeps_itself (Some xs) = refl
+
+-- ---- the run
+
+-- a history, whoever asks for its entries
+by_nobody : (id : SessionId) (d : ℕ) (cs : List ClientView) (h : SectionView) → IsHistoryOf id d cs h → IsHistoryOf id d [] h
+by_nobody id d cs h is = record {
+  cpus = is.cpus;
+  limit = is.limit;
+  legal = is.legal;
+  numbered = is.numbered;
+  members = is.members;
+  spelled = is.spelled;
+  own = All-nil (λ (c : ClientView). pass_in c d ≡ own_entries c.number h.entries);
+}
+
+-- what the parts of a run left, with the refusals in the report
+pub is_ran : (id : SessionId) (tasks : List TaskSpecView) (duration : ℕ) (cs es : List ClientView) (r s : Report) (f g : Finished)
+    → AreNew id cs → AllAsked id tasks cs es s.refused.items → IsFinished id duration es f
+    → r ≡ f.report → s.histories ≡ r.histories → s.words ≡ r.words → s.home ≡ r.home → g.report ≡ s → g.states ≡ f.states
+    → IsRan id tasks duration g
+is_ran id tasks duration cs es r s f g new asked finished is histories words home report states =
+    let left = finished.report.left in
+    let same_h : g.report.histories ≡ f.report.histories = ap (λ (x : Report). x.histories) report ∙ histories ∙ ap (λ (x : Report). x.histories) is in
+    let same_w : g.report.words ≡ f.report.words = ap (λ (x : Report). x.words) report ∙ words ∙ ap (λ (x : Report). x.words) is in
+    let same_o : g.report.home ≡ f.report.home = ap (λ (x : Report). x.home) report ∙ home ∙ ap (λ (x : Report). x.home) is in
+    let same_r : g.report.refused ≡ s.refused = ap (λ (x : Report). x.refused) report in
+    record {
+      left = record {
+        count = rw same_h left.count;
+        histories = rw same_h (λ d x place. by_nobody id d finished.after _ (left.histories d x place));
+        words = rw same_w left.words;
+        room = rw (same_h, same_w) left.room;
+        capped = rw same_w left.capped;
+        exact = rw (same_h, same_w, same_o) left.exact;
+      };
+      answers = rw (same_h, same_r) (answers_all id tasks duration cs es finished.after s.refused.items f.report.histories.items new asked finished.advanced left.count left.histories finished.ends);
+      count = rw (same_h, states) (finished.count ∙ sym left.count);
+      runs = rw (same_h, states) finished.runs;
+    }
+
+abbrev pub is_run : (s : Seen) (o : Options) (scenario : ScenarioView) (duration : ℕ) (given tasks : List TaskSpecView) (id : SessionId) (f : Finished)
+    → IsScenario s scenario → record { duration_us = duration; tasks = given } ≡ scenario → tasks ≡ map (flagged o.reclaim) given → IsSessionOf o id → IsRan id tasks duration f
+    → IsRun s o f.report.histories.items f.report.refused.items
+is_run s o scenario duration given tasks id f input view same session ran = record {
+  scenario = scenario;
+  input = input;
+  id = id;
+  session = session;
+  count = ran.left.count;
+  legal = ran.left.histories;
+  answers = let hs = map (λ h. h.entries) f.report.histories.items in
+    subst (λ (x : ScenarioView). AnswersScenario id o.clients (map (flagged o.reclaim) x.tasks) x.duration_us hs f.report.refused.items) view
+    (subst (λ (ts : List TaskSpecView). AnswersScenario id o.clients ts duration hs f.report.refused.items) same
+    (subst (λ (n : ℕ). AnswersScenario id n tasks duration hs f.report.refused.items) session.clients ran.answers));
+}
+
+-- the text of the run was written
+pub run_answered : (s : Seen) (o : Options) (scenario : ScenarioView) (duration : ℕ) (given tasks : List TaskSpecView) (id : SessionId) (f : Finished) (histories : List SectionView)
+    → IsScenario s scenario → record { duration_us = duration; tasks = given } ≡ scenario → tasks ≡ map (flagged o.reclaim) given → IsSessionOf o id → IsRan id tasks duration f
+    → histories ≡ f.report.histories.items → HasNoFault s.reader → IsWritten s.writer (printed o.print histories) → IsRunAnswer s o f.report
+run_answered s o scenario duration given tasks id f histories input view same session ran written_are reads written = record {
+  run = is_run s o scenario duration given tasks id f input view same session ran;
+  left = ran.left;
+  written = subst (λ (hs : List SectionView). Appends s.writer.before.bytes s.writer.after.bytes (printed o.print hs)) written_are written.taken;
+  reads = reads;
+  writes = written.writes;
+}
+
+-- the last step found a fault
+pub run_faulted : (s : Seen) (o : Options) (histories written : List SectionView) (refused : List (ℕ × Refusal)) (e : SessionFault)
+    → IsRun s o histories refused → written ≡ histories → HasNoFault s.reader → IsUnwritten s.writer (printed o.print written) e → IsRunFault s o e
+run_faulted s o histories written refused (faults.Write n) run same reads unwritten = record {
+  histories = histories;
+  refused = refused;
+  run = run;
+  taken = subst (λ (hs : List SectionView). TakesFront s.writer.before.bytes s.writer.after.bytes (printed o.print hs) n) same unwritten.taken;
+  reads = reads;
+  writes = unwritten.writes;
+}
+run_faulted s o histories written refused faults.Memory run same reads unwritten = record { unwritten = unwritten.kept; reads = reads; writes = unwritten.writes }
+run_faulted s o histories written refused (faults.Json f) run same reads unwritten = absurd unwritten
+run_faulted s o histories written refused (faults.Scenario f) run same reads unwritten = absurd unwritten
+run_faulted s o histories written refused (faults.Calls n) run same reads unwritten = absurd unwritten
+run_faulted s o histories written refused faults.Read run same reads unwritten = absurd unwritten
+run_faulted s o histories written refused faults.Start run same reads unwritten = absurd unwritten
+run_faulted s o histories written refused faults.Full run same reads unwritten = absurd unwritten

@@ -1,0 +1,120 @@
+-- From the steps of a run to the answers of a scenario.
+use Rattle.std.proofs.Common.{◌≡◌, ℕ, false, Option, Some, None, zero, suc, ◌+◌, ◌<◌, List, [], ◌∷◌, ◌++◌, length, map, replicate, get_or, All, refl, sym, ap, subst, ◌∙◌, arith}
+use Rattle.std.proofs.lemmas.List.{append_assoc, append-nil, get_or-map, length-map, length-replicate}
+use Rattle.std.proofs.lemmas.List.Elements.{All-nil, All-get_or, All-weaker}
+use Rattle.rtapp_scenario.specs.ScenarioView.{TaskSpecView}
+use Rattle.call_book.specs.SectionView.{SectionView}
+use Rattle.call_book.specs.declared.section.Entry.{Entry}
+use Rattle.call_book.specs.Book.{IsMember, own_entries}
+use Rattle.dl_session.specs.declared.refusal.Refusal.{Refusal}
+use Rattle.dl_session.specs.SessionId.{SessionId, IsPlace}
+use Rattle.dl_session.specs.Asks.{ClientView, Made, Makes, pass_in, made_in, entries_from}
+use Rattle.dl_session.specs.Clients.{IsNew}
+use Rattle.dl_session.specs.Admissions.{AreNew, AllAsked}
+use Rattle.dl_session.specs.Report.{IsHistoryOf}
+use Rattle.dl_session.specs.ScenarioAnswers.{AnswersScenario, EndsWith, own_asked, advance_of, history_of}
+use Rattle.dl_session.specs.RunAnswer.{flagged}
+use Rattle.dl_session.specs.private.Running.{HaveAdvanced}
+
+-- ---- entries behind entries
+
+length_entries : (client seq : ℕ) (made : List Made) → length (entries_from client seq made) ≡ length made
+length_entries client seq [] = refl
+length_entries client seq (m ∷ made) = ap suc (length_entries client (seq + 1) made)
+
+entries_append : (client seq : ℕ) (xs ys : List Made)
+    → entries_from client seq (xs ++ ys) ≡ entries_from client seq xs ++ entries_from client (seq + length xs) ys
+entries_append client seq [] ys = ap (λ (n : ℕ). entries_from client n ys) (omega arith)
+entries_append client seq (x ∷ xs) ys =
+    let more : seq + 1 + length xs ≡ seq + suc (length xs) = omega arith in
+    ap (λ (es : List Entry). record { client = client; seq = seq; call = x.call; reply = Some x.reply } ∷ es) (entries_append client (seq + 1) xs ys ∙ ap (λ (n : ℕ). entries_from client (seq + 1) xs ++ entries_from client n ys) more)
+
+-- ---- a client, from its first entry to its last
+
+abbrev nothing : List Entry
+nothing = []
+
+empty_pass : (n d : ℕ) → get_or (replicate n nothing) d nothing ≡ nothing
+empty_pass zero d = refl
+empty_pass (suc n) zero = refl
+empty_pass (suc n) (suc d) = empty_pass n d
+
+pass_of_new : (id : SessionId) (number : ℕ) (c : ClientView) (d : ℕ) → IsNew id number c → pass_in c d ≡ []
+pass_of_new id number c d new = ap (λ (ps : List (List Entry)). get_or ps d []) new.passes ∙ empty_pass (length id.cpu_sets) d
+
+-- what it makes when it has entered nothing
+first_made : (c e : ClientView) (made : ℕ → List Made) (d number : ℕ) → Makes c e made → d < length c.passes → pass_in c d ≡ [] → c.number ≡ number
+    → pass_in e d ≡ entries_from number 0 (made d)
+first_made c e made d number makes inside empty is =
+    makes.passes d inside
+    ∙ ap (λ (es : List Entry). es ++ entries_from c.number (length es) (made d)) empty
+    ∙ ap (λ (n : ℕ). entries_from n 0 (made d)) is
+
+then_made : (e f : ClientView) (more : ℕ → List Made) (made : List Made) (d number : ℕ) → Makes e f more → d < length e.passes → pass_in e d ≡ entries_from number 0 made → e.number ≡ number
+    → pass_in f d ≡ entries_from number 0 (made ++ more d)
+then_made e f more made d number makes inside was is =
+    makes.passes d inside
+    ∙ ap (λ (n : ℕ). pass_in e d ++ entries_from n (length (pass_in e d)) (more d)) is
+    ∙ ap (λ (es : List Entry). es ++ entries_from number (length es) (more d)) was
+    ∙ ap (λ (n : ℕ). entries_from number 0 made ++ entries_from number n (more d)) (length_entries number 0 made)
+    ∙ ap (λ (n : ℕ). entries_from number 0 made ++ entries_from number n (more d)) (omega arith)
+    ∙ sym (entries_append number 0 made (more d))
+
+-- ---- the law
+
+no_section : SectionView
+no_section = record { cpus = 0; limit = 0; entries = [] }
+
+history_is : (hs : List SectionView) (d : ℕ) → d < length hs → history_of (map (λ h. h.entries) hs) d ≡ (get_or hs d no_section).entries
+history_is hs d inside = get_or-map (λ (h : SectionView). h.entries) hs d no_section nothing inside
+
+pub answers_all : (id : SessionId) (tasks : List TaskSpecView) (duration : ℕ) (cs es fs : List ClientView) (refused : List (ℕ × Refusal)) (hs : List SectionView)
+    → AreNew id cs → AllAsked id tasks cs es refused → HaveAdvanced duration es fs
+    → length hs ≡ length id.cpu_sets
+    → ((d : ℕ) (x : SectionView) → IsPlace id d → IsHistoryOf id d fs (get_or hs d x))
+    → ((d : ℕ) (x : SectionView) → d < length id.cpu_sets → EndsWith duration (get_or hs d x).entries)
+    → AnswersScenario id id.clients tasks duration (map (λ h. h.entries) hs) refused
+answers_all id tasks duration cs es fs refused hs new asked advanced count histories ends = record {
+  asked = asked.asked;
+  tasks_are = asked.tasks_are;
+  lawful = asked.lawful;
+  refused_are = asked.refused_are;
+  members = λ d inside. rw (history_is hs d (there d inside)) (histories d no_section (place d inside)).members;
+  entries = λ d i inside below. rw (history_is hs d (there d inside)) (own d i (place d inside) below);
+  ends = λ d inside. rw (history_is hs d (there d inside)) (ends d no_section (place d inside));
+}
+  where
+    there : (d : ℕ) → d < length (map (λ (h : SectionView). h.entries) hs) → d < length hs
+    there d inside = omega (arith, inside, length-map hs (λ (h : SectionView). h.entries))
+    place : (d : ℕ) → d < length (map (λ (h : SectionView). h.entries) hs) → d < length id.cpu_sets
+    place d inside = omega (arith, inside, length-map hs (λ (h : SectionView). h.entries), count)
+    own : (d i : ℕ) → d < length id.cpu_sets → i < id.clients
+        → own_entries (i + 1) (get_or hs d no_section).entries ≡ entries_from (i + 1) 0 (made_in id d (own_asked id.clients i asked.asked) ++ advance_of duration (i + 1))
+    own d i inside below =
+        let x : ClientView = record { number = 0; passes = []; hand = None } in
+        let c = get_or cs i x in
+        let e = get_or es i x in
+        let f = get_or fs i x in
+        let at : i < length cs = omega (arith, below, new.count) in
+        let at_e : i < length es = omega (arith, at, asked.places) in
+        let at_f : i < length fs = omega (arith, at_e, advanced.places) in
+        let is_new = new.each i x at in
+        let asks = (asked.each i x at).made in
+        let adds = advanced.each i x at_e in
+        let of_c : d < length c.passes = let made = ap length is_new.passes ∙ length-replicate (length id.cpu_sets) nothing in omega (arith, inside, made) in
+        let of_e : d < length e.passes = omega (arith, of_c, asks.domains) in
+        let number_e : e.number ≡ i + 1 = asks.number ∙ is_new.numbered in
+        let number_f : f.number ≡ i + 1 = adds.number ∙ number_e in
+        let first : pass_in e d ≡ entries_from (i + 1) 0 (made_in id d (own_asked (length cs) i asked.asked)) =
+            first_made c e (λ d. made_in id d (own_asked (length cs) i asked.asked)) d (i + 1) asks of_c (pass_of_new id (i + 1) c d is_new) is_new.numbered in
+        let all = then_made e f (λ d. advance_of duration (i + 1)) (made_in id d (own_asked (length cs) i asked.asked)) d (i + 1) adds of_e first number_e in
+        let shown : pass_in f d ≡ own_entries f.number (get_or hs d no_section).entries =
+            All-get_or (λ (c : ClientView). pass_in c d ≡ own_entries c.number (get_or hs d no_section).entries) fs i x at_f (histories d no_section inside).own in
+        sym (ap (λ (n : ℕ). own_entries n (get_or hs d no_section).entries) number_f) ∙ sym shown ∙ all
+        ∙ ap (λ (n : ℕ). entries_from (i + 1) 0 (made_in id d (own_asked n i asked.asked) ++ advance_of duration (i + 1))) new.count
+
+-- ---- flags
+
+pub unflagged : (ts : List TaskSpecView) → map (flagged false) ts ≡ ts
+unflagged [] = refl
+unflagged (t ∷ ts) = ap (λ (us : List TaskSpecView). t ∷ us) (unflagged ts)

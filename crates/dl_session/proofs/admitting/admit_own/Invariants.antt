@@ -1,0 +1,11 @@
+use Rattle.std.proofs.Common.{◌≡◌, ◌+◌, ◌≤◌, length, take, deque_len, deque_capacity}
+use Rattle.dl_session.specs.private.Admitting.{AsksOwn}
+use Rattle.dl_session.proofs.admitting.admit_own.Given as goal
+
+-- so far
+abbrev pub invariant-loop-task : goal.invariant-loop-task
+invariant-loop-task g l = record {
+  asks : AsksOwn g.N.Names.id l.many l.place (take l.task-index l.tasks) l.fn.seat.client l.client l.answers.items;
+  count : deque_len l.answers ≤ l.task-index;
+  room : deque_capacity l.answers ≡ deque_capacity l.fn.seat.answers;
+}

@@ -1,0 +1,9 @@
+use Rattle.std.proofs.Common.{refl}
+use Rattle.dl_session.proofs.Ran.{is_ran}
+use Rattle.dl_session.proofs.running.run_in.Goals as goal
+
+pub returns-in_ok-finished-in-Ok-admit_alone-clause-ok : goal.returns-in_ok-finished-in-Ok-admit_alone-clause-ok
+returns-in_ok-finished-in-Ok-admit_alone-clause-ok g c =
+    let f = c.in_ok-finished-in-Ok-admit_alone.finished in
+    is_ran g.N.Names.id c.args.tasks.now c.args.duration c.in-Ok.clients.items c.in-Ok-admit_alone.clients.items f.report _ f _
+    c.in-Ok.ensures c.in-Ok-admit_alone.ensures.ok c.in_ok-finished-in-Ok-admit_alone.ensures.ok refl refl refl refl refl refl
