@@ -10,3 +10,4 @@ pub mod ScenarioLaw
 pub mod Ran
 pub mod Admitted
 pub mod Recorded
+pub mod Shown

@@ -1,9 +1,13 @@
-use Rattle.std.proofs.Common.{rules, ◌≡◌, ℕ, ◌+◌, ◌-◌, ◌*◌, ◌<◌, ◌≤◌, length, ◌/◌, ◌%◌, Bool, true, false, nat_eq, nat_lt, List, [], ◌∷◌, ◌++◌, slice_index_or, slice_set, bit_and, bit_or, Fits, w8, w32, w64, Bor, MutBor}
-use Rattle.std.specs.Fmt.{WritesOnOk}
-use Rattle.dl_session.specs.Lines.{shown, one_line, scenario_line}
-use Rattle.dl_session.specs.Status.{exit_status}
+use Rattle.std.proofs.Common.{◌≡◌, ℕ, List, ap, sym, ◌∙◌}
+use Rattle.std.specs.List.{flat_map}
+use Rattle.std.proofs.Output.{has_written_of_eq, has_written_append}
+use Rattle.std.proofs.lemmas.Iterator.{YieldsList-from_chars}
+use Rattle.std.proofs.lemmas.Iterator.Consumers.{YieldsList-end}
+use Rattle.std.proofs.lemmas.List.{flat_map_more, map-id}
+use Rattle.dl_session.specs.Lines.{shown}
 use Rattle.dl_session.proofs.fault.write_key.Goals as goal
 
--- src/fault.rt:85:1
 pub returns : goal.returns
-returns g c = ?
+returns g c = λ plain _.
+    let e = YieldsList-end (YieldsList-from_chars c.args.key.now c.utf8.key cc) c.loop-c.yielded _ c.loop-c.yielded_by _ _ c.in-None.is c.next.ensures.steps in
+    has_written_of_eq _ _ _ _ _ (ap (flat_map shown) (sym (map-id c.loop-c.yielded) ∙ e.0)) (c.loop-c.invariant plain)
