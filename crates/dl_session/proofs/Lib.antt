@@ -4,4 +4,5 @@ pub mod Written
 pub mod Replied
 pub mod Asked
 pub mod Closed
+pub mod Advanced
 pub mod Opening
