@@ -128,9 +128,9 @@ is_run s o scenario duration given tasks id f input view same session ran = reco
   count = ran.left.count;
   legal = ran.left.histories;
   answers = let hs = map (λ h. h.entries) f.report.histories.items in
-    subst (λ (x : ScenarioView). AnswersScenario id o.clients (map (flagged o.reclaim) x.tasks) x.duration_us hs f.report.refused.items) view
-    (subst (λ (ts : List TaskSpecView). AnswersScenario id o.clients ts duration hs f.report.refused.items) same
-    (subst (λ (n : ℕ). AnswersScenario id n tasks duration hs f.report.refused.items) session.clients ran.answers));
+      subst (λ (x : ScenarioView). AnswersScenario id o.clients (map (flagged o.reclaim) x.tasks) x.duration_us hs f.report.refused.items) view
+      (subst (λ (ts : List TaskSpecView). AnswersScenario id o.clients ts duration hs f.report.refused.items) same
+      (subst (λ (n : ℕ). AnswersScenario id n tasks duration hs f.report.refused.items) session.clients ran.answers));
 }
 
 -- the text of the run was written

@@ -86,8 +86,10 @@ answers_all id tasks duration cs es fs refused hs new asked advanced count histo
   where
     there : (d : ℕ) → d < length (map (λ (h : SectionView). h.entries) hs) → d < length hs
     there d inside = omega (arith, inside, length-map hs (λ (h : SectionView). h.entries))
+
     place : (d : ℕ) → d < length (map (λ (h : SectionView). h.entries) hs) → d < length id.cpu_sets
     place d inside = omega (arith, inside, length-map hs (λ (h : SectionView). h.entries), count)
+
     own : (d i : ℕ) → d < length id.cpu_sets → i < id.clients
         → own_entries (i + 1) (get_or hs d no_section).entries ≡ entries_from (i + 1) 0 (made_in id d (own_asked id.clients i asked.asked) ++ advance_of duration (i + 1))
     own d i inside below =
@@ -106,10 +108,10 @@ answers_all id tasks duration cs es fs refused hs new asked advanced count histo
         let number_e : e.number ≡ i + 1 = asks.number ∙ is_new.numbered in
         let number_f : f.number ≡ i + 1 = adds.number ∙ number_e in
         let first : pass_in e d ≡ entries_from (i + 1) 0 (made_in id d (own_asked (length cs) i asked.asked)) =
-            first_made c e (λ d. made_in id d (own_asked (length cs) i asked.asked)) d (i + 1) asks of_c (pass_of_new id (i + 1) c d is_new) is_new.numbered in
+        first_made c e (λ d. made_in id d (own_asked (length cs) i asked.asked)) d (i + 1) asks of_c (pass_of_new id (i + 1) c d is_new) is_new.numbered in
         let all = then_made e f (λ d. advance_of duration (i + 1)) (made_in id d (own_asked (length cs) i asked.asked)) d (i + 1) adds of_e first number_e in
         let shown : pass_in f d ≡ own_entries f.number (get_or hs d no_section).entries =
-            All-get_or (λ (c : ClientView). pass_in c d ≡ own_entries c.number (get_or hs d no_section).entries) fs i x at_f (histories d no_section inside).own in
+        All-get_or (λ (c : ClientView). pass_in c d ≡ own_entries c.number (get_or hs d no_section).entries) fs i x at_f (histories d no_section inside).own in
         sym (ap (λ (n : ℕ). own_entries n (get_or hs d no_section).entries) number_f) ∙ sym shown ∙ all
         ∙ ap (λ (n : ℕ). entries_from (i + 1) 0 (made_in id d (own_asked n i asked.asked) ++ advance_of duration (i + 1))) new.count
 

@@ -92,10 +92,7 @@ fn write_key<W: fmt::Write>(f: &mut fmt::Formatter<W>, key: &str) -> fmt::Result
 }
 
 /// Writes the fault of a scenario, with its key on one line.
-fn write_scenario<W: fmt::Write>(
-    f: &mut fmt::Formatter<W>,
-    fault: &ScenarioFault,
-) -> fmt::Result
+fn write_scenario<W: fmt::Write>(f: &mut fmt::Formatter<W>, fault: &ScenarioFault) -> fmt::Result
     ensures { WritesOnOk W.write_str_gives f.old result (scenario_line fault.now) f.new }
 {
     let number = fault.number();

@@ -50,10 +50,7 @@ fn scenario_fault(fault: ScenarioFault) -> SessionFault
 }
 
 /// Reads a scenario to its end.
-fn read_scenario<R: Read>(
-    alloc: Global,
-    reader: &mut Counted<R>,
-) -> Result<Scenario, SessionFault>
+fn read_scenario<R: Read>(alloc: Global, reader: &mut Counted<R>) -> Result<Scenario, SessionFault>
     requires { faults_of reader.old < 2 ^ 63 }
     ensures ok { (w : Side) → IfOk result (IsScenario (seen (side R.remaining reader.old reader.new) w)) }
     ensures reads { OnOk result (HasNoFault (side R.remaining reader.old reader.new)) }
@@ -185,8 +182,15 @@ pub fn run<R: Read, W: Write, T: Turnstile, X: Wait>(
         return Err(SessionFault::Memory);
     };
     let many = options.clients;
-    let Finished { report, states } =
-        run_in::<Brand, T, X>(rt, alloc, parts, many, &tasks, duration_us, turnstile)?;
+    let Finished { report, states } = run_in::<Brand, T, X>(
+        rt,
+        alloc,
+        parts,
+        many,
+        &tasks,
+        duration_us,
+        turnstile,
+    )?;
     match write_run(alloc, options.print, &report.histories, states, writer) {
         Ok(()) => Ok(report),
         Err(fault) => Err(fault),

@@ -9,7 +9,8 @@ use std::sync::Wait;
 use std::test::Fail;
 use switch_text::Counted;
 
-const RACE: &[u8] = br#"{"tasks":{"t":{"instance":8,"policy":"SCHED_DEADLINE","dl-runtime":500,"dl-period":1000,"run":100,"sleep":900}},"global":{"duration":0}}"#;
+const RACE: &[u8] =
+    br#"{"tasks":{"t":{"instance":8,"policy":"SCHED_DEADLINE","dl-runtime":500,"dl-period":1000,"run":100,"sleep":900}},"global":{"duration":0}}"#;
 
 const RACE_CALLS: &str = "dlcalls 1
 domain 2 996147
@@ -18,9 +19,11 @@ admit 1 2 t-1 500 1000 1000 - 0 -1:1{r100,s900}
 admit 1 3 t-2 500 1000 1000 - 0 -1:1{r100,s900}
 ";
 
-const TWO_DOMAINS: &[u8] = br#"{"tasks":{"a":{"instance":3,"cpus":[0],"policy":"SCHED_DEADLINE","dl-runtime":100,"dl-period":1000,"run":50,"timer":{"ref":"unique","period":1000}},"b":{"instance":3,"cpus":[1],"policy":"SCHED_DEADLINE","dl-runtime":100,"dl-period":1000,"run":50,"timer":{"ref":"unique","period":1000}}},"global":{"duration":1}}"#;
+const TWO_DOMAINS: &[u8] =
+    br#"{"tasks":{"a":{"instance":3,"cpus":[0],"policy":"SCHED_DEADLINE","dl-runtime":100,"dl-period":1000,"run":50,"timer":{"ref":"unique","period":1000}},"b":{"instance":3,"cpus":[1],"policy":"SCHED_DEADLINE","dl-runtime":100,"dl-period":1000,"run":50,"timer":{"ref":"unique","period":1000}}},"global":{"duration":1}}"#;
 
-const MEMBER_ORDER: &[u8] = br#"{"tasks":{"p":{"policy":"SCHED_DEADLINE","dl-runtime":5,"dl-period":10,"phases":{"light":{"loop":2,"run0":3,"sleep1":7},"heavy":{"run0":4,"sleep1":2,"run2":1}}}},"global":{"duration":0}}"#;
+const MEMBER_ORDER: &[u8] =
+    br#"{"tasks":{"p":{"policy":"SCHED_DEADLINE","dl-runtime":5,"dl-period":10,"phases":{"light":{"loop":2,"run0":3,"sleep1":7},"heavy":{"run0":4,"sleep1":2,"run2":1}}}},"global":{"duration":0}}"#;
 
 /// What a run says: how the program tells its fault, or a line for each refused task.
 fn said(alloc: Global, answer: &Result<Report, SessionFault>) -> Result<String, Fail> {
@@ -112,11 +115,16 @@ fn member_order(rt: HostRuntime) -> Result<(), Fail> {
 #[test]
 fn calls_text_of_the_race(rt: HostRuntime) -> Result<(), Fail> {
     let (said, written, report) = ran_on(&rt, rt.alloc(), RACE, 2, 1024, Print::Calls)?;
-    assert!(rt; said.as_str().starts_with("task 4 EBUSY 16 seen 1572864\ntask 5 EBUSY "));
+    assert!(rt;
+        said.as_str()
+            .starts_with("task 4 EBUSY 16 seen 1572864\ntask 5 EBUSY ")
+    );
     assert!(rt; said.as_str().ends_with("\ntask 8 EBUSY 16 seen 1572864\n"));
     assert_eq!(rt; said.as_str().lines().count(), 5);
     assert_eq!(rt; written.as_str(), RACE_CALLS);
-    assert!(rt; report.is_some_and(|r| r.words.as_slice() == [1572864].as_slice() && r.home == 257));
+    assert!(rt;
+        report.is_some_and(|r| r.words.as_slice() == [1572864].as_slice() && r.home == 257)
+    );
     let mut writer = Counted::new(Vec::new(rt.alloc()));
     let again = replay(
         rt.alloc(),
@@ -145,29 +153,41 @@ fn two_domains_eight_clients(rt: HostRuntime) -> Result<(), Fail> {
     assert_eq!(rt; written.as_str().lines().count(), 8001);
     let mut lines = written.as_str().lines();
     assert_eq!(rt; lines.next(), Some("# tracer: nop"));
-    assert!(rt; lines.next().is_some_and(|l| l.contains("[000] d..2.     0.000000: ") && l.contains("next_comm=a-0 next_pid=1001 ")));
-    assert!(rt; lines.next().is_some_and(|l| l.contains("[001] d..2.     0.000000: ") && l.contains("next_comm=b-0 next_pid=1004 ")));
+    assert!(rt;
+        lines.next().is_some_and(|l| l.contains("[000] d..2.     0.000000: ")
+            && l.contains("next_comm=a-0 next_pid=1001 "))
+    );
+    assert!(rt;
+        lines.next().is_some_and(|l| l.contains("[001] d..2.     0.000000: ")
+            && l.contains("next_comm=b-0 next_pid=1004 "))
+    );
     Ok(())
 }
 
 // A book of one entry has no room for the advance behind an admission; without an advance it does.
 #[test]
 fn history_of_one_entry(rt: HostRuntime) -> Result<(), Fail> {
-    let text = br#"{"tasks":{"t":{"policy":"SCHED_DEADLINE","dl-runtime":500,"dl-period":1000,"run":100}},"global":{"duration":1}}"#;
+    let text =
+        br#"{"tasks":{"t":{"policy":"SCHED_DEADLINE","dl-runtime":500,"dl-period":1000,"run":100}},"global":{"duration":1}}"#;
     let (said, written, _) = ran_on(&rt, rt.alloc(), text, 1, 1, Print::Trace)?;
     assert_eq!(rt; said.as_str(), "dlsim: book full");
     assert_eq!(rt; written.as_str(), "");
-    let text = br#"{"tasks":{"t":{"policy":"SCHED_DEADLINE","dl-runtime":500,"dl-period":1000,"run":100}},"global":{"duration":0}}"#;
+    let text =
+        br#"{"tasks":{"t":{"policy":"SCHED_DEADLINE","dl-runtime":500,"dl-period":1000,"run":100}},"global":{"duration":0}}"#;
     let (said, written, report) = ran_on(&rt, rt.alloc(), text, 1, 1, Print::Trace)?;
     assert_eq!(rt; said.as_str(), "");
     assert_eq!(rt; written.as_str(), HEADER);
-    assert!(rt; report.is_some_and(|r| r.words.as_slice() == [524288].as_slice() && r.histories.first().is_some_and(|h| h.entries.len() == 1)));
+    assert!(rt;
+        report.is_some_and(|r| r.words.as_slice() == [524288].as_slice()
+            && r.histories.first().is_some_and(|h| h.entries.len() == 1))
+    );
     Ok(())
 }
 
 #[test]
 fn cpus_of_no_domain(rt: HostRuntime) -> Result<(), Fail> {
-    let text = br#"{"tasks":{"t":{"cpus":[0],"policy":"SCHED_DEADLINE","dl-runtime":500,"dl-period":1000,"run":100}},"global":{"duration":1}}"#;
+    let text =
+        br#"{"tasks":{"t":{"cpus":[0],"policy":"SCHED_DEADLINE","dl-runtime":500,"dl-period":1000,"run":100}},"global":{"duration":1}}"#;
     let (said, written, _) = ran_on(&rt, rt.alloc(), text, 2, 1024, Print::Trace)?;
     assert_eq!(rt; said.as_str(), "task 1 EPERM 1\n");
     assert_eq!(rt; written.as_str(), HEADER);

@@ -14,9 +14,9 @@ returns-in_default-clause-bad c = λ _ cpus list.
     let i = c.loop-piece.piece-index in
     let inside : i < length items = omega (arith, c.loop-piece-test.true, c.loop-piece.auto.piece-index-end) in
     let count : length items ≡ length (slice_split is_comma c.args.text.now) =
-        ap length c.deref-piece-items.ensures.value ∙ sym (length-map pieces (λ (p : Bor (List ℕ)). p.now)) ∙ ap length c.in_ok-pieces.ensures in
+    ap length c.deref-piece-items.ensures.value ∙ sym (length-map pieces (λ (p : Bor (List ℕ)). p.now)) ∙ ap length c.in_ok-pieces.ensures in
     bad_piece c.args.text.now cpus i list (omega (arith, inside, count)) (λ n h e.
-        c.in_default.ensures.none refl n h (sym (piece_at c.args.text.now pieces items i _ c.in_ok-pieces.ensures c.deref-piece-items.ensures.value inside) ∙ e))
+    c.in_default.ensures.none refl n h (sym (piece_at c.args.text.now pieces items i _ c.in_ok-pieces.ensures c.deref-piece-items.ensures.value inside) ∙ e))
 
 pub loop-piece-preserved : goal.loop-piece-preserved
 loop-piece-preserved c =
@@ -27,7 +27,7 @@ loop-piece-preserved c =
     let pushed = c.push_reserved.ensures.items in
     let inside : i < length items = omega (arith, c.loop-piece-test.true, c.loop-piece.auto.piece-index-end) in
     let count : length items ≡ length (slice_split is_comma c.args.text.now) =
-        ap length c.deref-piece-items.ensures.value ∙ sym (length-map pieces (λ (p : Bor (List ℕ)). p.now)) ∙ ap length c.in_ok-pieces.ensures in
+    ap length c.deref-piece-items.ensures.value ∙ sym (length-map pieces (λ (p : Bor (List ℕ)). p.now)) ∙ ap length c.in_ok-pieces.ensures in
     record {
       told = ap (map decimal) pushed ∙ read_one c.args.text.now c.loop-piece.list.items i c.in-Some.cpus inv.told (omega (arith, inside, count))
           (piece_at c.args.text.now pieces items i _ c.in_ok-pieces.ensures c.deref-piece-items.ensures.value inside ∙ c.in-Some.ensures.some.1);
@@ -42,8 +42,8 @@ returns-clause-ok c =
     let pieces = c.in_ok-pieces.pieces.items in
     let inv = c.loop-piece.invariant in
     let count : length items ≡ length (slice_split is_comma c.args.text.now) =
-        ap length c.deref-piece-items.ensures.value ∙ sym (length-map pieces (λ (p : Bor (List ℕ)). p.now)) ∙ ap length c.in_ok-pieces.ensures in
+    ap length c.deref-piece-items.ensures.value ∙ sym (length-map pieces (λ (p : Bor (List ℕ)). p.now)) ∙ ap length c.in_ok-pieces.ensures in
     let few : length pieces ≤ 8 = omega (arith, c.len.ensures, c.if-len-gt-MOST_DOMAINS.false, c.in_ok-pieces.pieces.ok.0) in
     let same : length items ≡ length pieces = ap length c.deref-piece-items.ensures.value in
     whole_list c.args.text.now c.loop-piece.list.items c.loop-piece.piece-index inv.told inv.range
-        (omega (arith, count, c.loop-piece-test.false, c.loop-piece.auto.piece-index-end)) (omega (arith, count, same, few))
+    (omega (arith, count, c.loop-piece-test.false, c.loop-piece.auto.piece-index-end)) (omega (arith, count, same, few))
