@@ -11,3 +11,4 @@ pub mod Ran
 pub mod Admitted
 pub mod Recorded
 pub mod Shown
+pub mod Replayable

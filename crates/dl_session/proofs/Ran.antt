@@ -1,5 +1,5 @@
 -- What a run answers, from what its parts answered.
-use Rattle.std.proofs.Common.{◌≡◌, ◌≢◌, ℕ, List, [], Option, Some, None, length, map, refl, sym, ap, subst, ◌∙◌}
+use Rattle.std.proofs.Common.{◌≡◌, ◌≢◌, ℕ, ◌≤◌, ◌<◌, arith, List, [], Option, Some, None, length, map, refl, sym, ap, subst, ◌∙◌}
 use Rattle.std.proofs.lemmas.List.Elements.{All-nil}
 use Rattle.std.specs.Io.KnownBytes.{Appends, Keeps}
 use Rattle.json_order.specs.Json.{Json}
@@ -25,13 +25,15 @@ use Rattle.dl_session.specs.SessionId.{SessionId, IsPlace}
 use Rattle.dl_session.specs.Asks.{ClientView, pass_in}
 use Rattle.dl_session.specs.Admissions.{AreNew, AllAsked}
 use Rattle.dl_session.specs.Report.{IsHistoryOf, IsLeft}
-use Rattle.dl_session.specs.Options.{IsSessionOf}
+use Rattle.dl_session.specs.Options.{AreOptions, IsSessionOf}
 use Rattle.dl_session.specs.ScenarioAnswers.{AnswersScenario}
 use Rattle.dl_session.specs.Answer.{Seen, IsInput, NothingWritten}
 use Rattle.dl_session.specs.RunAnswer.{IsJson, IsScenario, flagged, IsRun, printed, IsRunAnswer, IsRunFault}
 use Rattle.dl_session.specs.private.Replaying.{IsWritten, IsUnwritten}
 use Rattle.dl_session.specs.private.Running.{IsJsonTold, IsScenarioTold, IsFinished, IsRan, IsStopped}
 use Rattle.dl_session.proofs.ScenarioLaw.{answers_all}
+use Rattle.dl_session.proofs.Replayable.{read_again, same_trace}
+use Rattle.dl_session.proofs.Opening.{length_sets}
 
 -- ---- faults of the input
 
@@ -118,15 +120,22 @@ is_ran id tasks duration cs es r s f g new asked finished is histories words hom
     }
 
 abbrev pub is_run : (s : Seen) (o : Options) (scenario : ScenarioView) (duration : ℕ) (given tasks : List TaskSpecView) (id : SessionId) (f : Finished)
-    → IsScenario s scenario → record { duration_us = duration; tasks = given } ≡ scenario → tasks ≡ map (flagged o.reclaim) given → IsSessionOf o id → IsRan id tasks duration f
+    → AreOptions o → IsScenario s scenario → record { duration_us = duration; tasks = given } ≡ scenario → tasks ≡ map (flagged o.reclaim) given → IsSessionOf o id → IsRan id tasks duration f
     → IsRun s o f.report.histories.items f.report.refused.items
-is_run s o scenario duration given tasks id f input view same session ran = record {
+is_run s o scenario duration given tasks id f options input view same session ran = record {
   scenario = scenario;
   input = input;
   id = id;
   session = session;
   count = ran.left.count;
   legal = ran.left.histories;
+  replayed = record {
+    read =
+      let count = ran.left.count in
+      let domains = ap length session.cpu_sets ∙ length_sets 0 o.domains.items in
+      read_again f.report.histories.items (omega (arith, options.some_domains, domains, count)) (omega (arith, options.few_domains, domains, count)) (λ d x inside. (ran.left.histories d x (omega (arith, inside, count))).spelled);
+    same = same_trace f.report.histories.items;
+  };
   answers = let hs = map (λ h. h.entries) f.report.histories.items in
       subst (λ (x : ScenarioView). AnswersScenario id o.clients (map (flagged o.reclaim) x.tasks) x.duration_us hs f.report.refused.items) view
       (subst (λ (ts : List TaskSpecView). AnswersScenario id o.clients ts duration hs f.report.refused.items) same
@@ -135,10 +144,10 @@ is_run s o scenario duration given tasks id f input view same session ran = reco
 
 -- the text of the run was written
 pub run_answered : (s : Seen) (o : Options) (scenario : ScenarioView) (duration : ℕ) (given tasks : List TaskSpecView) (id : SessionId) (f : Finished) (histories : List SectionView)
-    → IsScenario s scenario → record { duration_us = duration; tasks = given } ≡ scenario → tasks ≡ map (flagged o.reclaim) given → IsSessionOf o id → IsRan id tasks duration f
+    → AreOptions o → IsScenario s scenario → record { duration_us = duration; tasks = given } ≡ scenario → tasks ≡ map (flagged o.reclaim) given → IsSessionOf o id → IsRan id tasks duration f
     → histories ≡ f.report.histories.items → HasNoFault s.reader → IsWritten s.writer (printed o.print histories) → IsRunAnswer s o f.report
-run_answered s o scenario duration given tasks id f histories input view same session ran written_are reads written = record {
-  run = is_run s o scenario duration given tasks id f input view same session ran;
+run_answered s o scenario duration given tasks id f histories options input view same session ran written_are reads written = record {
+  run = is_run s o scenario duration given tasks id f options input view same session ran;
   left = ran.left;
   written = subst (λ (hs : List SectionView). Appends s.writer.before.bytes s.writer.after.bytes (printed o.print hs)) written_are written.taken;
   reads = reads;

@@ -13,6 +13,8 @@ use Rattle.rtapp_scenario.specs.declared.fault.ScenarioFault.{ScenarioFault}
 use Rattle.rtapp_scenario.specs.declared.fault.ScenarioFault.TheVariants as scenario_faults
 use Rattle.call_book.specs.SectionView.{SectionView}
 use Rattle.call_book.specs.Spelling.{spelling}
+use Rattle.call_book.specs.Limits.{AreRead}
+use Rattle.call_book.specs.RoundTrip.{unanswered}
 use Rattle.switch_text.specs.Sides.{HasNoFault, HasOneFault}
 use Rattle.switch_text.specs.Faults.{TakesFront}
 use Rattle.dl_session.specs.declared.fault.SessionFault.{SessionFault}
@@ -49,8 +51,13 @@ flagged reclaim t = if reclaim then record t { attr = record t.attr { flags = 2 
 
 -- ---- the run
 
--- the session has the domains and clients of the options; each domain's history is legal and was made by its clients; and histories
--- and refusals answer the scenario
+-- the calls text of histories is read again, as the same calls, and its replay writes the same trace
+pub record AreReplayed (histories : List SectionView) : Type 0 where
+  pub read : AreRead (map unanswered histories)
+  pub same : trace_of_sections (map unanswered histories) ≡ trace_of_sections histories
+
+-- the session has the domains and clients of the options; each domain's history is legal and was made by its clients; their calls
+-- text can be replayed; and histories and refusals answer the scenario
 pub record IsRun (s : Seen) (o : Options) (histories : List SectionView) (refused : List (ℕ × Refusal)) : Type 0 where
   pub scenario : ScenarioView
   pub input : IsScenario s scenario
@@ -58,6 +65,7 @@ pub record IsRun (s : Seen) (o : Options) (histories : List SectionView) (refuse
   pub session : IsSessionOf o id
   pub count : length histories ≡ length id.cpu_sets
   pub legal : (d : ℕ) (x : SectionView) → IsPlace id d → IsHistoryOf id d [] (slice_index_or histories d x)
+  pub replayed : AreReplayed histories
   pub answers : AnswersScenario id o.clients (map (flagged o.reclaim) scenario.tasks) scenario.duration_us (map (λ h. h.entries) histories) refused
 
 -- what is written of histories: the trace of their run, or their calls text

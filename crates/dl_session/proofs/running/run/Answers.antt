@@ -15,7 +15,7 @@ returns-in-Ok-write_run-clause-ok g c =
     let s = seen (side g.R.Read.remaining c.args.reader.now c.read_scenario.new.reader) w in
     let given = c.duration_us.inside in
     run_answered s c.args.options.now c.in-Ok.scenario given.duration_us given.tasks.items c.deref.result.now c.in-Ok-open.parts c.in_ok-report.field-0 c.deref-2.result.now
-    (c.in-Ok.ensures.ok w) c.duration_us.view_is (c.deref.ensures.value ∙ c.flag_all.ensures) c.in-Ok-open.ensures c.in_ok-report.ensures.ok
+    c.requires.options (c.in-Ok.ensures.ok w) c.duration_us.view_is (c.deref.ensures.value ∙ c.flag_all.ensures) c.in-Ok-open.ensures c.in_ok-report.ensures.ok
     c.deref-2.ensures.value c.in-Ok.ensures.reads c.in-Ok-write_run.ensures.ok
 
 pub returns-clause-err : goal.returns-clause-err
@@ -24,6 +24,6 @@ returns-clause-err g c =
     let s = seen (side g.R.Read.remaining c.args.reader.now c.read_scenario.new.reader) w in
     let given = c.duration_us.inside in
     let run = is_run s c.args.options.now c.in-Ok.scenario given.duration_us given.tasks.items c.deref.result.now c.in-Ok-open.parts c.in_ok-report.field-0
-    (c.in-Ok.ensures.ok w) c.duration_us.view_is (c.deref.ensures.value ∙ c.flag_all.ensures) c.in-Ok-open.ensures c.in_ok-report.ensures.ok in
+    c.requires.options (c.in-Ok.ensures.ok w) c.duration_us.view_is (c.deref.ensures.value ∙ c.flag_all.ensures) c.in-Ok-open.ensures c.in_ok-report.ensures.ok in
     run_faulted s c.args.options.now c.in_ok-report.field-0.report.histories.items c.deref-2.result.now c.in_ok-report.field-0.report.refused.items c.in-Err-write_run.fault
     run c.deref-2.ensures.value c.in-Ok.ensures.reads c.in-Err-write_run.ensures.err
