@@ -4,8 +4,11 @@ ghost use Rattle.std.specs.Prelude.{◌≡◌, ◌<◌, ◌≤◌, ◌^◌, ◌+
 ghost use Rattle.domain_run.specs.Tick.{ticks as ticks_of};
 ghost use Rattle.domain_run.specs.Keys.{AreKept};
 
-use crate::plan::{self, Room};
+use crate::alone;
+use crate::plan::Room;
+use crate::silent::Silent;
 use domain_run::{NoMemory, State};
+use tick_split::Turn;
 
 /// How many ticks an advance made, at most as many as asked; fewer only where a growth was refused.
 #[derive(Clone, Copy, Debug, PartialEq, Eq)]
@@ -14,7 +17,7 @@ pub struct Done {
 }
 
 /// One event and the ticks up to the next: how many they were. `Err` where room for the event's switches was refused.
-fn jump(state: &mut State, most: u64, room: &mut Room) -> Result<u64, NoMemory>
+fn jump<G: Turn>(state: &mut State, most: u64, room: &mut Room, turn: &G) -> Result<u64, NoMemory>
     requires some { 0 < most }
     requires early { state.old.time + most ≤ 2 ^ 42 }
     ensures some { IfOk result (λ made. 0 < made) }
@@ -24,9 +27,27 @@ fn jump(state: &mut State, most: u64, room: &mut Room) -> Result<u64, NoMemory>
     ensures keys { AreKept state.old.tasks state.new.tasks }
 {
     state.begin()?;
-    let plan = plan::make(state, most, room);
-    state.finish(plan.ticks, &room.budgets[..plan.count]);
-    Ok(plan.ticks)
+    let span = alone::make(state, most, room, turn);
+    state.finish(span.ticks, &room.budgets[..span.count]);
+    Ok(span.ticks)
+}
+
+/// As [`advance`], with the turns of one piece.
+fn advance_alone<G: Turn>(state: &mut State, n: u64, turn: &G) -> Done
+    requires { state.old.time + n ≤ 2 ^ 42 }
+    ensures state { state.new ≡ ticks_of result.ticks state.old }
+    ensures most { result.ticks ≤ n }
+    ensures keys { AreKept state.old.tasks state.new.tasks }
+{
+    let mut room = Room::new();
+    let mut ticks = 0;
+    'events: while ticks < n {
+        let Ok(made) = jump(state, n - ticks, &mut room, turn) else {
+            break;
+        };
+        ticks += made;
+    }
+    Done { ticks }
 }
 
 /// Goes on by so many ticks, from event to event: the state and its switches are exactly those of so many single ticks. Room for
@@ -39,13 +60,5 @@ pub fn advance(state: &mut State, n: u64) -> Done
     ensures most { result.ticks ≤ n }
     ensures keys { AreKept state.old.tasks state.new.tasks }
 {
-    let mut room = Room::new();
-    let mut ticks = 0;
-    'events: while ticks < n {
-        let Ok(made) = jump(state, n - ticks, &mut room) else {
-            break;
-        };
-        ticks += made;
-    }
-    Done { ticks }
+    advance_alone(state, n, &Silent)
 }

@@ -6,9 +6,12 @@
 #![tactic(auto)]
 
 mod advancing;
+mod alone;
 mod plan;
+mod silent;
 
 pub use advancing::{Done, advance};
+pub use silent::Silent;
 
 #[cfg(test)]
 mod tests;

@@ -1,10 +1,10 @@
 use Rattle.std.proofs.Common.{◌≡◌, ◌<◌, ◌≤◌, ◌^◌, length}
 use Rattle.domain_run.specs.Jump.{standing, quiet}
 use Rattle.jump_run.specs.Plan.{AreGathered}
-use Rattle.jump_run.proofs.plan.gather.Given as goal
+use Rattle.jump_run.proofs.alone.gather.Given as goal
 
 abbrev pub invariant-loop-i : goal.invariant-loop-i
-invariant-loop-i l = record {
+invariant-loop-i g l = record {
   some : 0 < l.ticks;
   most : l.ticks ≤ l.most;
   quiet : l.ticks ≤ quiet l.state;
