@@ -196,10 +196,3 @@ is_finished id duration cs es books f advanced is ended count end = record {
   count = ended.states_count ∙ is.left.count;
   runs = λ d s x inside. (ended.each d (no_book id) s x inside).run;
 }
-
--- after its admissions the first client has the number that it had
-pub first_is : (id : SessionId) (tasks : List TaskSpecView) (cs es : List ClientView) (refused : List (ℕ × Refusal)) → AreNew id cs → AllAsked id tasks cs es refused → 0 < length es
-    → IsFirst es
-first_is id tasks cs es refused new asked some = λ x.
-    let there : 0 < length cs = omega (arith, some, asked.places) in
-    (asked.each 0 x there).made.number ∙ (new.each 0 x there).numbered

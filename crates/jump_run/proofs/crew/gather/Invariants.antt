@@ -1,7 +1,7 @@
-use Rattle.std.proofs.Common.{◌≡◌, ◌<◌, ◌≤◌, ◌^◌, length}
+use Rattle.std.proofs.Common.{◌≡◌, ◌<◌, ◌≤◌, ◌^◌, length, vec_len, vec_capacity}
 use Rattle.domain_run.specs.Jump.{standing, quiet}
-use Rattle.jump_run.specs.Plan.{AreGathered}
-use Rattle.jump_run.proofs.plan.gather.Given as goal
+use Rattle.jump_run.specs.Plans.{ArePlans}
+use Rattle.jump_run.proofs.crew.gather.Given as goal
 
 abbrev pub invariant-loop-i : goal.invariant-loop-i
 invariant-loop-i l = record {
@@ -11,8 +11,8 @@ invariant-loop-i l = record {
   short : l.ticks ≤ 2 ^ 42;
   within : l.i ≤ length (standing l.state.places);
   few : 0 < l.i → length (standing l.state.places) ≤ 64;
-  lefts : length l.room.lefts ≡ 64;
-  rates : length l.room.rates ≡ 64;
-  budgets : length l.room.budgets ≡ 64;
-  each : AreGathered l.state l.ticks l.i l.room.lefts l.room.rates;
+  room : vec_capacity l.plans ≡ 64;
+  len : vec_len l.plans ≡ l.i;
+  long : length l.plans.items ≡ l.i;
+  each : ArePlans l.state l.ticks l.plans.items;
 }

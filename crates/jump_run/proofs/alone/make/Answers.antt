@@ -6,7 +6,7 @@ use Rattle.std.proofs.lemmas.Int.{ints, fits_signed_from_abs}
 use mir.Syntax.{w128}
 use Rattle.std.proofs.lemmas.List.{length-set}
 use Rattle.jump_run.proofs.Gathering.{left_push, charged_all}
-use Rattle.jump_run.proofs.plan.make.Goals as goal
+use Rattle.jump_run.proofs.alone.make.Goals as goal
 
 -- what is left is within 127 bits
 short : (z : ℤ) (left spent : ℕ) → z ≡ pos left -ℤ pos spent → left ≤ 2 ^ 52 → spent ≤ 2 ^ 69 → unsigned_abs z < 2 ^ 127
@@ -14,25 +14,25 @@ short (pos n) left spent e h k = omega (arith, ints, e, h, k)
 short (negsuc n) left spent e h k = omega (arith, ints, e, h, k)
 
 pub loop-i-init : goal.loop-i-init
-loop-i-init c = record {
-  gathered = c.gather-plan.ensures.each;
-  len = c.gather-plan.ensures.len;
+loop-i-init g c = record {
+  gathered = c.gather-span.ensures.each;
+  len = c.gather-span.ensures.len;
   each = λ j within. absurd (omega arith);
 }
 
 pub left_after-requires-clause-high : goal.left_after-requires-clause-high
-left_after-requires-clause-high c = c.loop-i.invariant.gathered.high c.loop-i.i (omega arith)
+left_after-requires-clause-high g c = c.loop-i.invariant.gathered.high c.loop-i.i (omega arith)
 
 pub left_after-requires-clause-slow : goal.left_after-requires-clause-slow
-left_after-requires-clause-slow c = c.loop-i.invariant.gathered.slow c.loop-i.i (omega arith)
+left_after-requires-clause-slow g c = c.loop-i.invariant.gathered.slow c.loop-i.i (omega arith)
 
 pub loop-i-preserved : goal.loop-i-preserved
-loop-i-preserved c =
+loop-i-preserved g c =
     let l = c.loop-i in
     let g = l.room in
-    let k = c.gather-plan.result.ticks in
+    let k = c.gather-span.result.ticks in
     let are = l.invariant.gathered in
-    let product : slice_index g.rates l.i * k ≤ 2 ^ 27 * 2 ^ 42 = mul-le-mul (are.slow l.i (omega arith)) c.gather-plan.ensures.short in
+    let product : slice_index g.rates l.i * k ≤ 2 ^ 27 * 2 ^ 42 = mul-le-mul (are.slow l.i (omega arith)) c.gather-span.ensures.short in
     let value : to_z w128 (of_z w128 c.left_after.result) ≡ c.left_after.result = to_z-of_z {w = w128} {z = c.left_after.result} (fits_signed_from_abs w128 c.left_after.result (short c.left_after.result (slice_index g.lefts l.i) (slice_index g.rates l.i * k) c.left_after.ensures (are.high l.i (omega arith)) product)) in
     record {
       gathered = are;
@@ -41,7 +41,7 @@ loop-i-preserved c =
     }
 
 pub returns-clause-charged : goal.returns-clause-charged
-returns-clause-charged c =
-    let g = c.gather-plan in
+returns-clause-charged g c =
+    let g = c.gather-span in
     let r = c.loop-i.room in
     charged_all c.args.state.now g.result.ticks g.result.count r.lefts r.rates r.budgets c.loop-i.invariant.gathered g.ensures.many (omega (arith, g.ensures.few, c.loop-i.invariant.len)) (λ i within. c.loop-i.invariant.each i (omega arith))
