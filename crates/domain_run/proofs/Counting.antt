@@ -1,6 +1,6 @@
 -- A run queue that counts a list of tasks, and one task of it that turns.
-use Rattle.std.proofs.Common.{◌≡◌, ◌≢◌, ℕ, ◌+◌, ◌*◌, ◌^◌, ◌<◌, ◌≤◌, Bool, true, false, cond, eqb, Option, Some, None, List, [], ◌∷◌, ◌++◌, length, take, drop, set, get_or, map, refl, sym, ap, subst, ◌∙◌, arith, inl, inr, length-append, not}
-use Rattle.std.specs.Prelude.{AllPairs, IfSome, filter, position, is_none, ◌&&◌}
+use Rattle.std.proofs.Common.{◌≡◌, ◌≢◌, ℕ, ◌+◌, ◌*◌, ◌^◌, ◌<◌, ◌≤◌, Bool, true, false, cond, Option, Some, None, List, [], ◌∷◌, ◌++◌, length, take, drop, set, get_or, map, refl, sym, ap, subst, ◌∙◌, arith, inl, inr, length-append, not}
+use Rattle.std.specs.Prelude.{AllPairs, IfSome, filter, is_none, ◌&&◌}
 use Rattle.std.proofs.lemmas.Bool.{cases_eq}
 use Rattle.std.proofs.lemmas.List.{append-nil, map-append, length-map, length-take, length-drop, length-set, get_or-map, get_or_default, get_or-set_same, get_or-set_other}
 use Rattle.std.proofs.lemmas.List.Elements.{All-set, All-map, All-filter, filter-append}
@@ -20,7 +20,7 @@ use Rattle.domain_run.specs.declared.run_queue.RunQueue.{RunQueue}
 use Rattle.domain_run.specs.Conditions.{is_ready, is_contending, is_leaving}
 use Rattle.domain_run.specs.Tick.{share_of, shares, sum_of, candidate_of, candidates}
 use Rattle.domain_run.specs.private.RunQueue.{ready_of, standing_of, Counts, IsRoster, IsCounted, with_ready, without_ready, MayTurn, HasTurned}
-use Rattle.edf_pick.specs.Places.{Places, is_task, stands, placed}
+use Rattle.edf_pick.specs.Places.{Places, placed}
 use Rattle.domain_run.specs.declared.task.Condition.{Condition}
 use Rattle.domain_run.specs.declared.task.Condition.TheVariants.{Ready, Throttled, Blocked, Waiting, Leaving}
 use Rattle.domain_run.specs.Parts.{is_listed}

@@ -1,7 +1,7 @@
 -- The numbers of those who stand, and the CPUs to which they belong, one CPU after another.
 use Rattle.std.proofs.Common.{◌≡◌, ◌≢◌, ℕ, zero, suc, ◌+◌, ◌<◌, ◌≤◌, Bool, true, false, cond, eqb, Option, Some, None, List, [], ◌∷◌, ◌++◌, length, take, get_or, map, refl, sym, ap, subst, ◌∙◌, arith, inl, inr, eq-eqb}
-use Rattle.std.specs.Prelude.{ℤ, pos, All, AllPairs, position, slice_get, slice_index_or, option_map, IfSome, replicate}
-use Rattle.std.proofs.lemmas.Bool.{cases_lt, cases_eq, eqb-true, ne_eqb, lt-ltb}
+use Rattle.std.specs.Prelude.{ℤ, pos, All, AllPairs, position, slice_index_or, option_map, IfSome, replicate}
+use Rattle.std.proofs.lemmas.Bool.{cases_eq, ne_eqb, lt-ltb}
 use Rattle.std.proofs.lemmas.List.{take_more, get_or-take, length-take-le, append-nil, get_or_default}
 use Rattle.std.proofs.lemmas.List.Kept.{AllPairs-cons}
 use Rattle.std.proofs.lemmas.List.Sums.{position_or_len_is}

@@ -1,25 +1,22 @@
 -- A tick keeps what every domain keeps.
-use Rattle.std.proofs.Common.{◌≡◌, ℕ, ◌+◌, ◌*◌, ◌^◌, ◌<◌, ◌≤◌, Bool, eqb, Option, Some, None, List, ◌++◌, length, map, refl, sym, ap, ◌∙◌, subst, arith}
-use Rattle.std.specs.Prelude.{All, Any, AllPairs, pos, ◌<ℤ◌, IsTrue, filter, position, ◌≢◌, slice_index}
+use Rattle.std.proofs.Common.{◌≡◌, ℕ, ◌+◌, ◌^◌, ◌<◌, ◌≤◌, Bool, eqb, Option, Some, None, List, ◌++◌, length, map, sym, ap, ◌∙◌, subst, arith}
+use Rattle.std.specs.Prelude.{All, Any, AllPairs, pos, ◌<ℤ◌, IsTrue, filter, position, ◌≢◌}
 use Rattle.std.specs.List.{list_any}
-use Rattle.std.proofs.lemmas.List.{length-map, get_or_default}
+use Rattle.std.proofs.lemmas.List.{length-map}
 use Rattle.std.proofs.lemmas.List.Elements.{All-map, All-weaker, All-filter}
 use Rattle.std.proofs.lemmas.List.Kept.{AllPairs-filter}
-use Rattle.std.proofs.Math.Nat.{mul-le-mul}
 use Rattle.attr_check.specs.Ratio.{cap}
 use Rattle.domain_run.specs.declared.task.Task.{Task}
-use Rattle.grub_rules.specs.Sums.{uinact}
 use Rattle.edf_pick.specs.Places.{Places, is_task, stands, placed}
 use Rattle.domain_run.specs.Parts.{replenish_due, settled, is_listed, unblocked, homed, homed_at}
 use Rattle.domain_run.specs.declared.switch.Switch.{Switch}
 use Rattle.domain_run.specs.Switches.{switches_from}
 use Rattle.domain_run.specs.Domain.{Domain}
-use Rattle.domain_run.specs.Tick.{shares, sum_of, candidates, prepared, with_places, begun, ran_if, finished, ticked}
+use Rattle.domain_run.specs.Tick.{sum_of, candidates, prepared, with_places, begun, ran_if, finished, ticked}
 use Rattle.domain_run.specs.Sound.{IsSound, IsPlacement, IsSteady, IsDomain, IsAdmitted}
 use Rattle.domain_run.specs.Conditions.{is_ready}
 use Rattle.domain_run.proofs.Tracing.{AreStanding, tick_traced}
 use Rattle.domain_run.proofs.Keeping.{Same, same_itself, same_either, same_replenished, same_settled, same_unblocked, same_ran, AllPairs-map, length-filter_least, sum-map, sum-filter}
-use Rattle.grub_rules.proofs.CallerLemmas.{uinact-le-total_bw}
 use Rattle.domain_run.proofs.Seating.{placed_is}
 use Rattle.domain_run.proofs.Placing.{homed_number, homed_params, homed_cpu, position_within, placed_tasks}
 

@@ -1,6 +1,5 @@
-use Rattle.std.proofs.Common.{◌≡◌, ◌<◌, ◌+◌, List, map, take, length, refl, sym, ap, subst, ◌∙◌, arith, []}
+use Rattle.std.proofs.Common.{◌+◌, take, refl, sym, subst, ◌∙◌, arith, []}
 use Rattle.std.specs.Prelude.{Some}
-use Rattle.domain_run.specs.declared.task.Task.{Task}
 use Rattle.domain_run.specs.Parts.{homed, homed_at}
 use Rattle.domain_run.specs.Calls.{of_number}
 use Rattle.domain_run.specs.private.RunQueue.{IsCounted}

@@ -1,7 +1,4 @@
-use Rattle.std.proofs.Common.{◌≡◌, None, take, sym, ap, ◌∙◌, ◌++◌, [], ◌∷◌, arith}
-use Rattle.std.proofs.lemmas.List.{take_more}
-use Rattle.edf_pick.specs.Places.{Places}
-use Rattle.domain_run.specs.Jump.{standing}
+use Rattle.std.proofs.Common.{ap, ◌∙◌, ◌++◌, [], ◌∷◌, arith}
 use Rattle.domain_run.proofs.Homing.{standing_one, standing_idle}
 use Rattle.domain_run.proofs.sweep.list_running.Goals as goal
 use Rattle.domain_run.proofs.sweep.list_running.Goals.{in-Some, in_default}

@@ -1,5 +1,4 @@
 use Rattle.std.proofs.Common.{sym, ap, cond, Some, None, ◌∙◌, not}
-use Rattle.domain_run.specs.declared.task.Task.{Task}
 use Rattle.domain_run.proofs.Finding.{unless_ended, find_live}
 use Rattle.domain_run.proofs.index.Index.live.Goals as goal
 

@@ -1,7 +1,7 @@
-use Rattle.std.proofs.Common.{◌≡◌, sym, subst, ap, ◌∙◌}
+use Rattle.std.proofs.Common.{◌≡◌, sym, subst}
 use Rattle.domain_run.specs.Domain.{Domain}
-use Rattle.domain_run.specs.Tick.{begun, ticked}
-use Rattle.domain_run.specs.Jump.{under_way, IsUnderWay}
+use Rattle.domain_run.specs.Tick.{ticked}
+use Rattle.domain_run.specs.Jump.{under_way}
 use Rattle.domain_run.specs.Sound.{IsPlacement}
 use Rattle.domain_run.specs.Keys.{AreKept}
 use Rattle.domain_run.proofs.KeptKeys.{ticked_kept}
