@@ -27,7 +27,7 @@ use Rattle.call_book.specs.Book.{admission}
 use Rattle.domain_run.specs.declared.call.Call.TheVariants as calls
 use Rattle.dl_session.specs.declared.named.Ask.{Ask}
 use Rattle.dl_session.specs.declared.named.Ask.TheVariants as asks
-use Rattle.dl_session.specs.private.Entering.{IsVerdict, pass_after, IsDone, IsDoneFor}
+use Rattle.dl_session.specs.private.Entering.{IsVerdict, pass_after, IsDone, IsDoneFor, IsAdvancedBy, IsAdvancedFor}
 
 -- ---- attributes
 
@@ -163,23 +163,28 @@ done_for id d c e p q (asks.Regrade number params) answer m done =
     (record { word = done.word; made = m (calls.Regrade number params done.word) answer done.replied.pass }, done.replied.full)
 done_for id d c e p q (asks.Wake number) answer m done = (m (calls.Wake number) answer done.pass, done.full)
 done_for id d c e p q (asks.Leave number) answer m done = (m (calls.Leave number) answer done.pass, done.full)
-done_for id d c e p q (asks.Advance n) (Ok (replies.Done ticks)) m done =
+
+-- an advance of a domain under its lock
+pub advanced_for : (d : ℕ) (c e : ClientView) (p q : PassView Entry) (n : ℕ) (answer : Answer)
+    → ((call : Call) (a : Answer) → q ≡ pass_after p call a → Makes c e (made_by d call a))
+    → IsAdvancedBy p q n answer → IsAdvancedFor d c e n answer
+advanced_for d c e p q n (Ok (replies.Done ticks)) m done =
     (record { some = done.some; most = done.most; made = m (calls.Advance ticks) (Ok (replies.Done ticks)) done.pass }, tt)
-done_for id d c e p q (asks.Advance n) (Ok replies.Admitted) m done = absurd done
-done_for id d c e p q (asks.Advance n) (Ok replies.Changed) m done = absurd done
-done_for id d c e p q (asks.Advance n) (Ok replies.Woken) m done = absurd done
-done_for id d c e p q (asks.Advance n) (Ok replies.Left) m done = absurd done
-done_for id d c e p q (asks.Advance n) (Ok replies.Full) m done = absurd done
-done_for id d c e p q (asks.Advance n) (Ok replies.Twice) m done = absurd done
-done_for id d c e p q (asks.Advance n) (Ok (replies.Busy seen)) m done = absurd done
-done_for id d c e p q (asks.Advance n) (Ok replies.NotListed) m done = absurd done
-done_for id d c e p q (asks.Advance n) (Ok replies.NotWaiting) m done = absurd done
-done_for id d c e p q (asks.Advance n) (Err refusals.Full) m done = (made_nothing c e d (calls.Wake 0) refusals.Full (m (calls.Wake 0) (Err refusals.Full) done), tt)
-done_for id d c e p q (asks.Advance n) (Err refusals.Enomem) m done = (made_nothing c e d (calls.Wake 0) refusals.Full (m (calls.Wake 0) (Err refusals.Full) done), tt)
-done_for id d c e p q (asks.Advance n) (Err refusals.Eperm) m done = absurd done
-done_for id d c e p q (asks.Advance n) (Err refusals.Twice) m done = absurd done
-done_for id d c e p q (asks.Advance n) (Err (refusals.Einval k)) m done = absurd done
-done_for id d c e p q (asks.Advance n) (Err (refusals.Busy seen)) m done = absurd done
+advanced_for d c e p q n (Ok replies.Admitted) m done = absurd done
+advanced_for d c e p q n (Ok replies.Changed) m done = absurd done
+advanced_for d c e p q n (Ok replies.Woken) m done = absurd done
+advanced_for d c e p q n (Ok replies.Left) m done = absurd done
+advanced_for d c e p q n (Ok replies.Full) m done = absurd done
+advanced_for d c e p q n (Ok replies.Twice) m done = absurd done
+advanced_for d c e p q n (Ok (replies.Busy seen)) m done = absurd done
+advanced_for d c e p q n (Ok replies.NotListed) m done = absurd done
+advanced_for d c e p q n (Ok replies.NotWaiting) m done = absurd done
+advanced_for d c e p q n (Err refusals.Full) m done = (made_nothing c e d (calls.Wake 0) refusals.Full (m (calls.Wake 0) (Err refusals.Full) done), tt)
+advanced_for d c e p q n (Err refusals.Enomem) m done = (made_nothing c e d (calls.Wake 0) refusals.Full (m (calls.Wake 0) (Err refusals.Full) done), tt)
+advanced_for d c e p q n (Err refusals.Eperm) m done = absurd done
+advanced_for d c e p q n (Err refusals.Twice) m done = absurd done
+advanced_for d c e p q n (Err (refusals.Einval k)) m done = absurd done
+advanced_for d c e p q n (Err (refusals.Busy seen)) m done = absurd done
 
 -- ---- admissions
 

@@ -9,7 +9,7 @@ ghost use Rattle.dl_session.specs.SessionId.{IsSession, IsPlace, cap_in, spine_o
 ghost use Rattle.dl_session.specs.Asks.{Asks, call_of, pass_in, Makes, made_by, MakesRegrade, MakesAdvance, IsFullBook, IsFullOrMemory, IsLastFound};
 ghost use Rattle.dl_session.specs.Clients.{IsNew};
 ghost use Rattle.dl_session.specs.private.Parts.{IsHand};
-ghost use Rattle.dl_session.specs.private.Entering.{IsAsk, IsDoneFor, IsVerdict, IsNamed};
+ghost use Rattle.dl_session.specs.private.Entering.{IsAdvancedFor, IsAsk, IsDoneFor, IsVerdict, IsNamed};
 ghost use Rattle.dl_session.specs.private.Running.{MakesAll, IsEndBy, IsStopped};
 
 use crate::fault::SessionFault;
@@ -26,6 +26,7 @@ use rtapp_scenario::TaskSpec;
 use std::alloc::Global;
 use std::marker::{Model, PhantomData};
 use std::sync::{Mutex, Wait};
+use std::thread::Threads;
 
 /// One of the clients of a session. It may be dropped; its pass and its piece are then missing at the session's end. To a contract
 /// it is its number, from 1, what it has entered in the book of each domain, and the piece in its hand.
@@ -101,6 +102,42 @@ impl<N: Names> Client<N> {
         answer
     }
 
+    /// Advances a domain under its lock.
+    fn advance_locked<const D: usize, R: Threads + Wait>(
+        &mut self,
+        rt: &R,
+        lock: &Mutex<Named<N, D>>,
+        gate: &Gate,
+        ticks: u64,
+    ) -> Answer
+        requires gate { gate.now ≡ N.id.gate }
+        requires place { IsPlace N.id D }
+        requires call { IsCall (calls.Advance ticks) }
+        ensures { IsAdvancedFor D self.old self.new ticks result }
+    {
+        let mut named = lock.lock(rt);
+        named.advance(rt, gate, &mut self.passes[D], ticks)
+    }
+
+    fn advance_in<const D: usize, R: Threads + Wait>(
+        &mut self,
+        rt: &R,
+        book: &Option<Mutex<Named<N, D>>>,
+        gate: &Gate,
+        ticks: u64,
+    ) -> Answer
+        requires gate { gate.now ≡ N.id.gate }
+        requires place { IsPlace N.id D }
+        requires some { IsSome book.now }
+        requires call { IsCall (calls.Advance ticks) }
+        ensures { IsAdvancedFor D self.old self.new ticks result }
+    {
+        match book {
+            Some(lock) => self.advance_locked(rt, lock, gate, ticks),
+            None => unreachable!(),
+        }
+    }
+
     /// Lets its pass of a place agree with the book of that place, which changes neither.
     pub(crate) fn agree(&mut self, domain: &mut Domain, place: usize)
         requires place { IsPlace N.id place }
@@ -115,7 +152,7 @@ impl<N: Names> Client<N> {
     /// Makes exactly so many ticks of a domain that stands behind no lock, 1 to 60000000, as one entry of its book. `Full` where the
     /// book is full: nothing has changed. `Memory` where there was no memory for all ticks: an entry of those that were made
     /// stands, where there were any.
-    pub(crate) fn advance_book<R: Wait>(
+    pub(crate) fn advance_book<R: Threads + Wait>(
         &mut self,
         rt: &R,
         gate: &Gate,
@@ -341,7 +378,7 @@ impl<N: Names> Client<N> {
 
     /// Makes up to `ticks` ticks of a domain, 1 to 60000000, as [`Domain::advance`](call_book::Domain::advance) does. `Full` where
     /// the book is full, `Enomem` where there was no memory for the first tick: nothing has changed.
-    pub fn advance<R: Wait>(
+    pub fn advance<R: Threads + Wait>(
         &mut self,
         rt: &R,
         session: &Session<N>,
@@ -353,6 +390,17 @@ impl<N: Names> Client<N> {
         ensures made { MakesAdvance self.old self.new domain ticks result }
         ensures full { IsFullOrMemory result }
     {
-        self.enter_at(rt, session, domain, Ask::Advance { ticks })
+        let gate = &session.gate;
+        let books = &session.books;
+        match domain {
+            0 => self.advance_in(rt, &books.book0, gate, ticks),
+            1 => self.advance_in(rt, &books.book1, gate, ticks),
+            2 => self.advance_in(rt, &books.book2, gate, ticks),
+            3 => self.advance_in(rt, &books.book3, gate, ticks),
+            4 => self.advance_in(rt, &books.book4, gate, ticks),
+            5 => self.advance_in(rt, &books.book5, gate, ticks),
+            6 => self.advance_in(rt, &books.book6, gate, ticks),
+            _ => self.advance_in(rt, &books.book7, gate, ticks),
+        }
     }
 }

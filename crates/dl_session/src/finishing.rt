@@ -17,6 +17,7 @@ use call_book::Domain;
 use domain_run::State;
 use std::alloc::Global;
 use std::sync::Wait;
+use std::thread::Threads;
 
 /// What a run left, with the state of each domain.
 #[derive(Drop)]
@@ -26,7 +27,7 @@ pub(crate) struct Finished {
 }
 
 /// Lets client 1 advance each domain by the whole duration.
-fn advance_all<N: Names, R: Wait>(
+fn advance_all<N: Names, R: Threads + Wait>(
     rt: &R,
     gate: &Gate,
     books: &mut Vec<Domain>,
@@ -53,7 +54,7 @@ fn advance_all<N: Names, R: Wait>(
 }
 
 /// The same, and no call where the duration is 0.
-fn advance<N: Names, R: Wait>(
+fn advance<N: Names, R: Threads + Wait>(
     rt: &R,
     unlocked: &mut Unlocked<N>,
     client: &mut Client<N>,
@@ -74,7 +75,7 @@ fn advance<N: Names, R: Wait>(
 /// Takes each domain out of its lock and lets client 1 advance it by the whole duration, in microseconds, as the last entry of its
 /// book; no call is made where the duration is 0. Then all books are closed. Where it stops, the session is gone, and its tickets
 /// were given back.
-pub(crate) fn finish<N: Names, R: Wait>(
+pub(crate) fn finish<N: Names, R: Threads + Wait>(
     rt: &R,
     alloc: Global,
     session: Session<N>,

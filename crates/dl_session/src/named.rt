@@ -17,14 +17,14 @@ use call_book::{Admit, AdvanceError, Domain, Full, Pass, Prepared};
 use domain_run::Reply;
 use std::marker::PhantomData;
 use std::sync::Wait;
+use std::thread::Threads;
 
-/// A call that is to be made on a domain.
+/// A call that is to be made on a domain, other than an advance.
 pub(crate) enum Ask {
     Admit { prepared: Prepared, ticket: Ticket },
     Regrade { number: u32, params: Params },
     Wake { number: u32 },
     Leave { number: u32 },
-    Advance { ticks: u64 },
 }
 
 /// What a call came to, and the blank that it left to the client, where it left one.
@@ -142,25 +142,6 @@ fn leave(domain: &mut Domain, pass: &mut Pass, number: u32) -> Outcome
     }
 }
 
-fn advance<R: Wait>(rt: &R, domain: &mut Domain, gate: &Gate, pass: &mut Pass, n: u64) -> Outcome
-    requires gate { gate.now ≡ domain.old.gate }
-    requires pass { IsPassOf domain.old pass.old }
-    requires call { IsCall (calls.Advance n) }
-    ensures same { SameBook domain.old domain.new }
-    ensures advanced { IsAdvancedBy pass.old pass.new n result.answer }
-    ensures own { result.blank ≡ None }
-{
-    let answer = match domain.advance(rt, pass, gate, n) {
-        Ok(reply) => Ok(reply),
-        Err(AdvanceError::Full) => Err(Refusal::Full),
-        Err(AdvanceError::Memory) => Err(Refusal::Enomem),
-    };
-    Outcome {
-        answer,
-        blank: None,
-    }
-}
-
 impl<N: Names, const D: usize> Named<N, D> {
     pub(crate) fn new(domain: Domain) -> Named<N, D>
         requires { IsNamed N.id D domain }
@@ -201,7 +182,27 @@ impl<N: Names, const D: usize> Named<N, D> {
             Ask::Regrade { number, params } => regrade(rt, domain, gate, pass, number, params),
             Ask::Wake { number } => wake(domain, pass, number),
             Ask::Leave { number } => leave(domain, pass, number),
-            Ask::Advance { ticks } => advance(rt, domain, gate, pass, ticks),
+        }
+    }
+
+    /// Makes up to so many ticks with a client's pass.
+    pub(crate) fn advance<R: Threads + Wait>(
+        &mut self,
+        rt: &R,
+        gate: &Gate,
+        pass: &mut Pass,
+        ticks: u64,
+    ) -> Answer
+        requires gate { gate.now ≡ N.id.gate }
+        requires pass { pass.old.spine ≡ spine_of N.id D }
+        requires member { IsMember N.id.clients pass.old.client }
+        requires call { IsCall (calls.Advance ticks) }
+        ensures { IsAdvancedBy pass.old pass.new ticks result }
+    {
+        match self.domain.advance(rt, pass, gate, ticks) {
+            Ok(reply) => Ok(reply),
+            Err(AdvanceError::Full) => Err(Refusal::Full),
+            Err(AdvanceError::Memory) => Err(Refusal::Enomem),
         }
     }
 

@@ -27,6 +27,7 @@ use std::alloc::Global;
 use std::io::{Read, Write};
 use std::marker::Brand;
 use std::sync::Wait;
+use std::thread::Threads;
 use switch_text::{Counted, ReadFault};
 
 /// A fault of the JSON text; want of memory is told as such.
@@ -107,7 +108,7 @@ fn take_clients<N: Names>(
 
 /// Runs tasks in a session of these parts: the admissions, then the advance of each domain by the whole duration, in microseconds,
 /// and the end.
-fn run_in<N: Names, T: Turnstile, X: Wait>(
+fn run_in<N: Names, T: Turnstile, X: Threads + Wait>(
     rt: &X,
     alloc: Global,
     parts: Parts,
@@ -153,7 +154,7 @@ fn run_in<N: Names, T: Turnstile, X: Wait>(
 /// failed, [`SessionFault::Full`] where a history has no room for the advance, [`SessionFault::Memory`] where a growth was refused:
 /// nothing was written. [`SessionFault::Write`] where the writer failed: it took exactly so many bytes, the front of the text, and
 /// not all.
-pub fn run<R: Read, W: Write, T: Turnstile, X: Wait>(
+pub fn run<R: Read, W: Write, T: Turnstile, X: Threads + Wait>(
     rt: &X,
     alloc: Global,
     reader: &mut Counted<R>,

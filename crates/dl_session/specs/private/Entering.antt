@@ -46,7 +46,6 @@ IsAsk id d (asks.Admit prepared ticket) = IsTicketOf id.gate d ticket × (ticket
 IsAsk id d (asks.Regrade number params) = IsCall (calls.Regrade number params None)
 IsAsk id d (asks.Wake number) = IsCall (calls.Wake number)
 IsAsk id d (asks.Leave number) = IsCall (calls.Leave number)
-IsAsk id d (asks.Advance n) = IsCall (calls.Advance n)
 
 -- the pass has the entry of a call where there is a reply, and is as it was where there is none
 abbrev pub pass_after : PassView Entry → Call → Answer → PassView Entry
@@ -116,7 +115,6 @@ IsDone id d p q (asks.Admit prepared ticket) answer = IsOffered (cap_in id d) p 
 IsDone id d p q (asks.Regrade number params) answer = IsRegradedBy p q number params answer
 IsDone id d p q (asks.Wake number) answer = IsReplied p q (calls.Wake number) answer
 IsDone id d p q (asks.Leave number) answer = IsReplied p q (calls.Leave number) answer
-IsDone id d p q (asks.Advance n) answer = IsAdvancedBy p q n answer
 
 -- ---- what it comes to for a client
 
@@ -126,4 +124,7 @@ IsDoneFor id d c e (asks.Admit prepared ticket) answer =
 IsDoneFor id d c e (asks.Regrade number params) answer = MakesRegrade c e d number params answer × IsFullBook answer
 IsDoneFor id d c e (asks.Wake number) answer = Makes c e (made_by d (calls.Wake number) answer) × IsFullBook answer
 IsDoneFor id d c e (asks.Leave number) answer = Makes c e (made_by d (calls.Leave number) answer) × IsFullBook answer
-IsDoneFor id d c e (asks.Advance n) answer = MakesAdvance c e d n answer × IsFullOrMemory answer
+
+-- an advance
+abbrev pub IsAdvancedFor : ℕ → ClientView → ClientView → ℕ → Answer → Type 0
+IsAdvancedFor d c e n answer = MakesAdvance c e d n answer × IsFullOrMemory answer

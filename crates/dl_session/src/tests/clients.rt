@@ -12,6 +12,7 @@ use std::marker::Brand;
 use std::process::Abort;
 use std::sync::Wait;
 use std::test::Fail;
+use std::thread::Threads;
 
 fn attr_of(params: &Params) -> SchedAttr {
     SchedAttr {
@@ -23,7 +24,7 @@ fn attr_of(params: &Params) -> SchedAttr {
     }
 }
 
-fn make<N: Names, R: Wait>(
+fn make<N: Names, R: Threads + Wait>(
     rt: &R,
     alloc: Global,
     session: &Session<N>,
@@ -63,7 +64,7 @@ fn make<N: Names, R: Wait>(
 }
 
 // Makes the calls of these entries by client 1 on domain 0, and ends the session.
-fn made<N: Names, R: Abort + Wait>(
+fn made<N: Names, R: Abort + Threads + Wait>(
     rt: &R,
     alloc: Global,
     parts: Parts,
@@ -89,7 +90,7 @@ fn made<N: Names, R: Abort + Wait>(
     Ok((answers, report))
 }
 
-fn made_in<R: Abort + Wait>(
+fn made_in<R: Abort + Threads + Wait>(
     rt: &R,
     alloc: Global,
     parts: Parts,
@@ -114,7 +115,7 @@ fn section_of(rt: &impl Abort, alloc: Global, text: &[u8]) -> Result<Section, Fa
 }
 
 // Makes the calls of a text in a session of its domain, with room for so many: the answers, and what the session left.
-fn ran<R: Abort + Wait>(
+fn ran<R: Abort + Threads + Wait>(
     rt: &R,
     alloc: Global,
     text: &[u8],

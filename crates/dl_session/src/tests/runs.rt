@@ -7,6 +7,7 @@ use std::alloc::Global;
 use std::fmt::Write;
 use std::sync::Wait;
 use std::test::Fail;
+use std::thread::Threads;
 use switch_text::Counted;
 
 const RACE: &[u8] =
@@ -40,7 +41,7 @@ fn said(alloc: Global, answer: &Result<Report, SessionFault>) -> Result<String, 
 }
 
 /// Runs a scenario with one client on domains of these CPUs: what is said, what was written, and the report.
-fn ran<R: Wait>(
+fn ran<R: Threads + Wait>(
     rt: &R,
     alloc: Global,
     text: &[u8],
@@ -57,7 +58,7 @@ fn ran<R: Wait>(
 }
 
 /// With one client on one domain.
-fn ran_on<R: Wait>(
+fn ran_on<R: Threads + Wait>(
     rt: &R,
     alloc: Global,
     text: &[u8],
