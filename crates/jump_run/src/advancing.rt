@@ -122,9 +122,9 @@ pub fn advance(state: &mut State, n: u64) -> Done
 
 /// As [`advance`], by so many workers at most (1 to 8 are meant): before each jump the rates of the running tasks, and when their
 /// budgets end, are worked out as [`plan_all`](tick_split::plan_all) does, and at its end they are charged as
-/// [`charge_all`](tick_split::charge_all) does, with the turns of their pieces. The number of workers changes no result. Where a
-/// worker is not started or a growth is refused, that step is made in one piece, which needs neither; want of memory for the lists
-/// that workers share makes all steps so. One worker starts no thread and takes no memory beside that of `advance`.
+/// [`charge_all`](tick_split::charge_all) does, with the turns of their pieces. The number of workers changes no result. Where
+/// a worker is not started or a growth is refused, that step is made in one piece, which needs neither; want of memory for the
+/// lists that workers share makes all steps so. One worker starts no thread and takes no memory beside that of `advance`.
 pub fn advance_with<R: Threads + Wait, G: Turn>(
     rt: &R,
     alloc: Global,

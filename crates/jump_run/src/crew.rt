@@ -157,8 +157,8 @@ fn charge_list<R: Threads + Wait, G: Turn>(crew: &Crew<'_, R, G>, slices: &mut V
 }
 
 /// As many ticks of the tick that has begun and of the next ones as pass before the next event, and at most `most`; and what
-/// they leave of the budgets of the running tasks. What the workers share is worked out by each for its own pieces; where a worker
-/// was not started or a growth was refused, it is worked out here, in one piece.
+/// they leave of the budgets of the running tasks. Each worker works out its own pieces; where a worker was not started or a
+/// growth was refused, all is worked out here, in one piece.
 pub(crate) fn make<R: Threads + Wait, G: Turn>(
     crew: &Crew<'_, R, G>,
     state: &State,
