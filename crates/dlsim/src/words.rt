@@ -173,8 +173,9 @@ fn run_command<'a>(alloc: Global) -> Result<Command<'a>, AllocError> {
         .long("reclaim")
         .action(ArgAction::SetTrue)
         .help(RECLAIM_HELP);
-    let print = option(alloc, "print", "TEXT", "trace", PRINT_HELP)
-        .value_parser(ValueParser::Names(&TEXTS));
+    let print = option(alloc, "print", "TEXT", "trace", PRINT_HELP).value_parser(ValueParser::Names(
+        &TEXTS,
+    ));
     with_domains(alloc, command)?
         .arg(counted(alloc, "clients", MOST_CLIENTS, "1", CLIENTS_HELP))?
         .arg(counted(alloc, "workers", MOST_WORKERS, "1", WORKERS_HELP))?
