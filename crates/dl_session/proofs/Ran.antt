@@ -136,9 +136,9 @@ is_run s o scenario duration given tasks id f options input view same session ra
   legal = ran.left.histories;
   replayed = record {
     read =
-      let count = ran.left.count in
-      let domains = ap length session.cpu_sets ∙ length_sets 0 o.domains.items in
-      read_again f.report.histories.items (omega (arith, options.some_domains, domains, count)) (omega (arith, options.few_domains, domains, count)) (λ d x inside. (ran.left.histories d x (omega (arith, inside, count))).spelled);
+        let count = ran.left.count in
+        let domains = ap length session.cpu_sets ∙ length_sets 0 o.domains.items in
+        read_again f.report.histories.items (omega (arith, options.some_domains, domains, count)) (omega (arith, options.few_domains, domains, count)) (λ d x inside. (ran.left.histories d x (omega (arith, inside, count))).spelled);
     same = same_trace f.report.histories.items;
   };
   answers = let hs = map (λ h. h.entries) f.report.histories.items in

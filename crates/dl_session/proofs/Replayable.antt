@@ -24,9 +24,10 @@ made_bare client (e ∷ es) =
 
 numbered_bare : (before es : List Entry) → IsNumberedAfter before es → IsNumberedAfter (map bare before) (map bare es)
 numbered_bare before [] is = tt
-numbered_bare before (e ∷ es) is =
-    (is.0 ∙ sym (made_bare e.client before),
-    subst (λ (bs : List Entry). IsNumberedAfter bs (map bare es)) (map-append bare before (e ∷ [])) (numbered_bare (before ++ e ∷ []) es is.1))
+numbered_bare before (e ∷ es) is = (
+  is.0 ∙ sym (made_bare e.client before),
+  subst (λ (bs : List Entry). IsNumberedAfter bs (map bare es)) (map-append bare before (e ∷ [])) (numbered_bare (before ++ e ∷ []) es is.1),
+)
 
 entries_bare : (es : List Entry) → All IsEntry es → All IsEntry (map bare es)
 entries_bare [] all = All-nil IsEntry
