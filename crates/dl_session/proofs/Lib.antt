@@ -9,3 +9,12 @@ pub mod ScenarioLaw
 pub mod Ran
 pub mod Admitted
 pub mod Recorded
+pub mod OrderLists
+pub mod OrderTicks
+pub mod OrderAdmissions
+pub mod OrderRuns
+pub mod OrderGathered
+pub mod OrderEntries
+pub mod OrderVerdicts
+pub mod OrderSplit
+pub mod OrderLaw

@@ -10,3 +10,4 @@ pub mod Admissions
 pub mod Report
 pub mod RunAnswer
 pub mod private
+pub mod InOrder
