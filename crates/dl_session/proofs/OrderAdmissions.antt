@@ -1,10 +1,7 @@
 -- Admissions that are all granted may be made in any other order.
-use Rattle.std.proofs.Common.{◌≡◌, ◌≢◌, ℕ, ◌+◌, ◌<◌, ◌≤◌, Bool, true, false, cond, eqb, ltb, leb, ◌||◌, Option, Some, None, List, [], ◌∷◌, ◌++◌, length, map, refl, sym, ap, ◌∙◌, subst, arith, length-append, ne_eqb, eqb-true, eq-eqb}
-use Rattle.std.specs.Prelude.{All, AllPairs, IsTrue}
+use Rattle.std.proofs.Common.{◌≡◌, ◌≢◌, ℕ, ◌+◌, Bool, true, false, cond, eqb, ltb, leb, ◌||◌, Option, Some, None, List, [], ◌∷◌, ◌++◌, length, refl, sym, ap, ◌∙◌, subst, arith, length-append, ne_eqb, eqb-true, eq-eqb}
 use Rattle.std.specs.List.{list_any}
 use Rattle.std.proofs.lemmas.Bool.{or_parts, lt-leb, le-ltb}
-use Rattle.std.proofs.lemmas.List.Elements.{All-nil, All-push, All-weaker}
-use Rattle.std.proofs.lemmas.List.Quantifiers.{all_pairs_push}
 use mathlib.Core.Path.{fun_ext}
 use Rattle.attr_check.specs.ParamsView.{ParamsView}
 use Rattle.attr_check.specs.Ratio.{cap}
@@ -12,17 +9,15 @@ use Rattle.domain_run.specs.declared.task.Task.{Task}
 use Rattle.domain_run.specs.declared.call.Call.{Call}
 use Rattle.domain_run.specs.declared.call.Call.TheVariants.{Admit, Regrade, Wake, Leave, Advance}
 use Rattle.domain_run.specs.declared.call.Reply.{Reply}
-use Rattle.domain_run.specs.declared.call.Reply.TheVariants.{Admitted, Changed, Woken, Left, Done, Full, Twice, Busy, NotListed, NotWaiting}
+use Rattle.domain_run.specs.declared.call.Reply.TheVariants.{Admitted, Woken, Done, Full, Twice, Busy, NotWaiting}
 use Rattle.domain_run.specs.Conditions.{is_waiting}
-use Rattle.domain_run.specs.Domain.{Domain, opened}
+use Rattle.domain_run.specs.Domain.{Domain}
 use Rattle.domain_run.specs.Tick.{sum_of}
-use Rattle.domain_run.specs.Calls.{admit_reply, new_task, with_number, listed, task_of, word_reply, regrade_reply, wake_reply, leave_reply, reply_to, is_refusal, granted, after_call}
-use Rattle.domain_run.specs.Run.{after_calls}
+use Rattle.domain_run.specs.Calls.{admit_reply, new_task, with_number, listed, task_of, word_reply, regrade_reply, wake_reply, leave_reply, reply_to, is_refusal, after_call}
 use Rattle.domain_run.proofs.Admitting.{with_number_contains, sum_push, IsGranted, granted_is}
-use Rattle.domain_run.proofs.KeptKeys.{AreNumbered}
 use Rattle.call_book.specs.Book.{AdmissionView, admission}
-use Rattle.dl_session.specs.Replay.{with_name, named_by, names_after, names_of}
-use Rattle.dl_session.proofs.OrderLists.{Reordered, ends, next, swaps, chain, same_order, turned, same_length, same_any, before_same}
+use Rattle.dl_session.specs.Replay.{with_name, named_by, names_after}
+use Rattle.dl_session.proofs.OrderLists.{Reordered, next, swaps, chain, same_order, turned, same_length, same_any, before_same}
 use Rattle.dl_session.proofs.OrderTicks.{Alike, relisted, same_sum_of}
 
 -- ---- alike
@@ -198,13 +193,13 @@ two_admitted d a b one then =
     let sum_b = sum_push d.tasks (task_from d b) in
     let more = h.room in
     let fresh : list_any (λ n. eqb n a.number) (with_number b.number d.used) ≡ false =
-        with_number_contains b.number a.number d.used ∙ ap (λ t. t || list_any (λ n. eqb n a.number) d.used) (ne_eqb b.number a.number (λ e. other (sym e))) ∙ g.fresh in
+    with_number_contains b.number a.number d.used ∙ ap (λ t. t || list_any (λ n. eqb n a.number) d.used) (ne_eqb b.number a.number (λ e. other (sym e))) ∙ g.fresh in
     let second : reply_to (with_admitted d b) (admission a) ≡ Admitted =
-        admits (with_admitted d b) a (record { room = omega (arith, more, long, long_b); fresh = fresh; fits = omega (arith, fits, sum, sum_b) }) in
+    admits (with_admitted d b) a (record { room = omega (arith, more, long, long_b); fresh = fresh; fits = omega (arith, fits, sum, sum_b) }) in
     let left : after_call (after_call d (admission a)) (admission b) ≡ with_admitted (with_admitted d a) b =
-        ap (λ (x : Domain). after_call x (admission b)) step ∙ admitted_as (with_admitted d a) b two in
+    ap (λ (x : Domain). after_call x (admission b)) step ∙ admitted_as (with_admitted d a) b two in
     let right : after_call (after_call d (admission b)) (admission a) ≡ with_admitted (with_admitted d b) a =
-        ap (λ (x : Domain). after_call x (admission a)) step_b ∙ admitted_as (with_admitted d b) a second in
+    ap (λ (x : Domain). after_call x (admission a)) step_b ∙ admitted_as (with_admitted d b) a second in
     record {
       first = first;
       second = subst (λ (x : Domain). reply_to x (admission a) ≡ Admitted) (sym step_b) second;

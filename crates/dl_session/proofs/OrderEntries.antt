@@ -1,26 +1,21 @@
 -- What was granted in a history, and what the tasks' answers say was granted.
-use Rattle.std.proofs.Common.{◌≡◌, ℕ, zero, suc, ◌+◌, ◌-◌, ◌%◌, ◌<◌, ◌≤◌, Bool, true, false, cond, eqb, ltb, ◌&&◌, ◌||◌, Option, Some, None, Ok, Err, List, [], ◌∷◌, ◌++◌, length, map, refl, sym, ap, ◌∙◌, subst, arith, inl, inr, mod-lt, length-append, append-nil, eqb-true, eq-eqb, ne_eqb}
-use Rattle.std.specs.Prelude.{All, filter, filter_map, not}
-use Rattle.std.specs.List.{cons_option}
+use Rattle.std.proofs.Common.{◌≡◌, ℕ, ◌+◌, ◌-◌, ◌%◌, ◌<◌, Bool, true, false, cond, eqb, ltb, ◌&&◌, Option, Some, List, [], ◌∷◌, ◌++◌, map, refl, sym, ap, ◌∙◌, subst, arith, inl, inr, mod-lt, append-nil, eqb-true, eq-eqb, ne_eqb}
+use Rattle.std.specs.Prelude.{All, filter}
 use Rattle.std.proofs.lemmas.Bool.{cases_Bool}
 use Rattle.std.proofs.lemmas.List.{map-append}
-use Rattle.std.proofs.lemmas.List.Elements.{All-nil, All-cons, All-head, All-tail, All-weaker, All-filter, filter_map-append, filter-append}
+use Rattle.std.proofs.lemmas.List.Elements.{All-nil, All-cons, All-head, All-tail, All-weaker, filter_map-append, filter-append}
 use Rattle.domain_run.specs.declared.call.Call.{Call}
 use Rattle.domain_run.specs.declared.call.Call.TheVariants.{Advance}
-use Rattle.domain_run.specs.declared.call.Reply.{Reply}
-use Rattle.domain_run.specs.declared.call.Reply.TheVariants.{Admitted, Changed, Woken, Left, Done, Full, Twice, Busy, NotListed, NotWaiting}
-use Rattle.domain_run.specs.Calls.{is_refusal}
-use Rattle.rtapp_scenario.specs.ScenarioView.{TaskSpecView}
+use Rattle.domain_run.specs.declared.call.Reply.TheVariants.{Done}
 use Rattle.call_book.specs.declared.section.Entry.{Entry}
 use Rattle.call_book.specs.Book.{IsMember, own_entries}
-use Rattle.dl_session.specs.declared.refusal.Refusal.{Refusal}
 use Rattle.dl_session.specs.SessionId.{SessionId}
-use Rattle.dl_session.specs.Asks.{Answer, IsLawful, Asked, Made, call_of, domain_of, made_of, made_at, made_in, entries_from}
+use Rattle.dl_session.specs.Asks.{Asked, Made, call_of, domain_of, made_at, made_in, entries_from}
 use Rattle.dl_session.specs.ScenarioAnswers.{own_asked, advance_of}
-use Rattle.dl_session.specs.InOrder.{is_admitted, granted_in}
-use Rattle.dl_session.proofs.OrderLists.{Reordered, chain, turned, mapped, filtered, filter_mapped, same_length}
+use Rattle.dl_session.specs.InOrder.{is_admitted}
+use Rattle.dl_session.proofs.OrderLists.{Reordered, chain, turned, mapped, filtered, filter_mapped}
 use Rattle.dl_session.proofs.OrderGathered.{gathered, gather, gathered_both}
-use Rattle.dl_session.proofs.OrderRuns.{was_admitted, is_verdict, granted_calls}
+use Rattle.dl_session.proofs.OrderRuns.{was_admitted, granted_calls}
 
 -- ---- entries of a client
 
@@ -121,11 +116,11 @@ granted_are id n d duration asked history some members own =
     let kinds = gathered kind_of n history in
     let shares = gathered (task_kind n) n asked in
     let each : (i : ℕ) → i < n → granted_calls (filter (λ e. eqb (kind_of e) i) history) ≡ calls_in id d (filter (λ q. eqb (task_kind n q) i) asked) = λ i h.
-        ap granted_calls (sym (own_is n i history members) ∙ own i h)
-        ∙ granted_entries (i + 1) 0 (made_in id d (own_asked n i asked) ++ advance_of duration (i + 1))
-        ∙ advance_apart (made_in id d (own_asked n i asked)) duration (i + 1) in
+    ap granted_calls (sym (own_is n i history members) ∙ own i h)
+    ∙ granted_entries (i + 1) 0 (made_in id d (own_asked n i asked) ++ advance_of duration (i + 1))
+    ∙ advance_apart (made_in id d (own_asked n i asked)) duration (i + 1) in
     let same : granted_calls kinds ≡ calls_in id d shares =
-        gathered_both kind_of (task_kind n) granted_calls (calls_in id d) n history asked refl refl granted_both (calls_both id d) each in
+    gathered_both kind_of (task_kind n) granted_calls (calls_in id d) n history asked refl refl granted_both (calls_both id d) each in
     chain (granted_calls history) (granted_calls kinds) (calls_in id d asked)
     (granted_reordered history kinds (gather kind_of n history (kinds_below n history members)))
     (subst (λ (cs : List Call). Reordered cs (calls_in id d asked)) (sym same)

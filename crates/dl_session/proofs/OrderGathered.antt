@@ -1,9 +1,9 @@
 -- A list's elements kind by kind.
-use Rattle.std.proofs.Common.{◌≡◌, ℕ, zero, suc, ◌+◌, ◌<◌, ◌≤◌, Bool, true, false, cond, eqb, List, [], ◌∷◌, ◌++◌, length, refl, sym, ap, ◌∙◌, subst, arith, inl, inr, ne_eqb, eq-eqb}
+use Rattle.std.proofs.Common.{◌≡◌, ℕ, zero, suc, ◌+◌, ◌<◌, ◌≤◌, Bool, true, false, cond, eqb, List, [], ◌∷◌, ◌++◌, refl, sym, ap, ◌∙◌, subst, arith, inl, inr, ne_eqb, eq-eqb}
 use Rattle.std.specs.Prelude.{All, filter}
 use Rattle.std.proofs.lemmas.Bool.{cases_lt}
 use Rattle.std.proofs.lemmas.List.Elements.{All-head, All-tail}
-use Rattle.dl_session.proofs.OrderLists.{Reordered, ends, next, swaps, chain, same_order, turned, before_same, middle_first}
+use Rattle.dl_session.proofs.OrderLists.{Reordered, ends, next, chain, turned, before_same, middle_first}
 
 -- those of kinds 0, 1, .. below n, one kind after another
 abbrev pub gathered : {X : Type 0} → (X → ℕ) → ℕ → List X → List X

@@ -1,9 +1,9 @@
 -- THE ORDER OF ADMISSIONS: the trace of a run is that of its admitted tasks entered in their order, and then the advance.
-use Rattle.std.proofs.Common.{◌≡◌, ℕ, zero, suc, ◌+◌, ◌<◌, Bool, List, [], ◌∷◌, ◌++◌, length, map, get_or, refl, sym, ap, ◌∙◌, subst, arith}
-use Rattle.std.specs.Prelude.{All, filter}
+use Rattle.std.proofs.Common.{◌≡◌, ℕ, suc, ◌+◌, ◌<◌, List, [], ◌∷◌, ◌++◌, length, map, get_or, refl, sym, ap, ◌∙◌, subst, arith}
+use Rattle.std.specs.Prelude.{All}
 use Rattle.std.proofs.lemmas.List.{map-append, get_or-map, length-map}
 use Rattle.domain_run.specs.declared.call.Call.{Call}
-use Rattle.domain_run.specs.Domain.{Domain, opened}
+use Rattle.domain_run.specs.Domain.{opened}
 use Rattle.domain_run.specs.declared.switch.Switch.{Switch}
 use Rattle.domain_run.specs.Run.{run_of}
 use Rattle.rtapp_scenario.specs.ScenarioView.{TaskSpecView}
@@ -18,6 +18,9 @@ use Rattle.dl_session.specs.ScenarioAnswers.{AnswersScenario, EndsWith, own_aske
 use Rattle.dl_session.specs.Replay.{calls_of, names_of, no_names, run_view, runs_from, trace_of_sections}
 use Rattle.dl_session.specs.Report.{IsHistoryOf}
 use Rattle.dl_session.specs.InOrder.{granted_in, section_in_order, sections_from, sections_in_order}
+use Rattle.dl_session.specs.declared.options.Options.{Options}
+use Rattle.dl_session.specs.Answer.{Seen}
+use Rattle.dl_session.specs.RunAnswer.{IsRun, flagged}
 use Rattle.dl_session.proofs.OrderRuns.{opened_listing}
 use Rattle.dl_session.proofs.OrderEntries.{calls_in, granted_are}
 use Rattle.dl_session.proofs.OrderVerdicts.{others_most}
@@ -41,13 +44,13 @@ pub record AreSameRuns (s t : SectionView) : Type 0 where
 same_runs : (s t : SectionView) → s.cpus ≡ t.cpus → s.limit ≡ t.limit → ShowSame (opened s.cpus s.limit) (calls_of s) (calls_of t) → AreSameRuns s t
 same_runs s t cpus limit shows =
     let named : names_of (opened s.cpus s.limit) (calls_of s) no_names ≡ names_of (opened t.cpus t.limit) (calls_of t) no_names =
-        shows.named no_names
-        ∙ ap (λ (n : ℕ). names_of (opened n s.limit) (calls_of t) no_names) cpus
-        ∙ ap (λ (n : ℕ). names_of (opened t.cpus n) (calls_of t) no_names) limit in
+    shows.named no_names
+    ∙ ap (λ (n : ℕ). names_of (opened n s.limit) (calls_of t) no_names) cpus
+    ∙ ap (λ (n : ℕ). names_of (opened t.cpus n) (calls_of t) no_names) limit in
     let switches : (run_of s.cpus s.limit (calls_of s)).switches ≡ (run_of t.cpus t.limit (calls_of t)).switches =
-        shows.switches
-        ∙ ap (λ (n : ℕ). (run_of n s.limit (calls_of t)).switches) cpus
-        ∙ ap (λ (n : ℕ). (run_of t.cpus n (calls_of t)).switches) limit in
+    shows.switches
+    ∙ ap (λ (n : ℕ). (run_of n s.limit (calls_of t)).switches) cpus
+    ∙ ap (λ (n : ℕ). (run_of t.cpus n (calls_of t)).switches) limit in
     record {
       cpus = cpus;
       view = λ base.
@@ -69,11 +72,11 @@ runs_same id asked duration d base (cpus ∷ sets) (h ∷ hs) count each =
     let first : AreSameRuns h (section_in_order id asked duration d cpus) = subst (λ (n : ℕ). AreSameRuns h (section_in_order id asked duration n cpus)) here (each 0 h some) in
     let fewer : length hs ≡ length sets = omega (arith, count) in
     let rest : runs_from (base + h.cpus) hs ≡ runs_from (base + h.cpus) (sections_from id asked duration (d + 1) sets) =
-        runs_same id asked duration (d + 1) (base + h.cpus) sets hs fewer
-        (λ j x inside.
-        let place : d + suc j ≡ d + 1 + j = omega arith in
-        let within : suc j < length (cpus ∷ sets) = omega (arith, inside) in
-        subst (λ (n : ℕ). AreSameRuns (get_or hs j x) (section_in_order id asked duration n (get_or sets j []))) place (each (suc j) x within)) in
+    runs_same id asked duration (d + 1) (base + h.cpus) sets hs fewer
+    (λ j x inside.
+    let place : d + suc j ≡ d + 1 + j = omega arith in
+    let within : suc j < length (cpus ∷ sets) = omega (arith, inside) in
+    subst (λ (n : ℕ). AreSameRuns (get_or hs j x) (section_in_order id asked duration n (get_or sets j []))) place (each (suc j) x within)) in
     let next = sections_from id asked duration (d + 1) sets in
     ap (λ (r : RunView). r ∷ runs_from (base + h.cpus) hs) (first.view base)
     ∙ ap (λ (rs : List RunView). run_view base (section_in_order id asked duration d cpus) ∷ rs) (rest ∙ ap (λ (n : ℕ). runs_from (base + n) next) first.cpus)
@@ -105,7 +108,13 @@ in_order id clients tasks duration histories refused some count legal answers =
         let order = granted_are id clients j duration asked h.entries some members own in
         let section = section_in_order id asked duration j (cpus_of id j) in
         let shows : ShowSame start (calls_of h) (calls_of section) =
-            subst (ShowSame start (calls_of h)) (sym (section_calls id asked duration j (cpus_of id j)))
-            (shows_same start duration h.entries (calls_in id j asked) (opened_listing h.cpus h.limit) parts order) in
+        subst (ShowSame start (calls_of h)) (sym (section_calls id asked duration j (cpus_of id j)))
+        (shows_same start duration h.entries (calls_in id j asked) (opened_listing h.cpus h.limit) parts order) in
         let place : j ≡ 0 + j = omega arith in
         subst (λ (n : ℕ). AreSameRuns h (section_in_order id asked duration n (get_or id.cpu_sets j []))) place (same_runs h section is.cpus is.limit shows)
+
+-- of a run with a client
+pub run_in_order : (s : Seen) (o : Options) (histories : List SectionView) (refused : List (ℕ × Refusal)) → 0 < o.clients → (run : IsRun s o histories refused)
+    → trace_of_sections histories ≡ trace_of_sections (sections_in_order run.id run.answers.asked run.scenario.duration_us)
+run_in_order s o histories refused some run =
+    in_order run.id o.clients (map (flagged o.reclaim) run.scenario.tasks) run.scenario.duration_us histories refused some run.count run.legal run.answers

@@ -1,17 +1,16 @@
 -- Runs of admissions that are all granted, and of those among which some are refused.
-use Rattle.std.proofs.Common.{◌≡◌, ◌≢◌, ℕ, Bool, true, false, cond, eqb, ◌||◌, Option, Some, None, List, [], ◌∷◌, ◌++◌, length, map, refl, sym, ap, ◌∙◌, subst, arith, eq-eqb}
-use Rattle.std.specs.Prelude.{All, AllPairs, IsTrue, filter}
+use Rattle.std.proofs.Common.{◌≡◌, ◌≢◌, ℕ, Bool, true, false, cond, eqb, ◌||◌, Option, Some, None, List, [], ◌∷◌, map, refl, sym, ap, ◌∙◌, subst, arith, eq-eqb}
+use Rattle.std.specs.Prelude.{All, IsTrue, filter}
 use Rattle.std.specs.List.{list_any}
 use Rattle.std.proofs.lemmas.List.Elements.{All-nil, All-head, All-tail, All-push, All-weaker}
 use Rattle.std.proofs.lemmas.List.Quantifiers.{all_pairs_push}
 use Rattle.std.proofs.lemmas.Bool.{or_left, or_right}
 use Rattle.domain_run.specs.declared.task.Task.{Task}
 use Rattle.domain_run.specs.declared.call.Call.{Call}
-use Rattle.domain_run.specs.declared.call.Call.TheVariants.{Advance}
 use Rattle.domain_run.specs.declared.call.Reply.{Reply}
 use Rattle.domain_run.specs.declared.call.Reply.TheVariants.{Admitted, Changed, Woken, Left, Done, Full, Twice, Busy, NotListed, NotWaiting}
 use Rattle.domain_run.specs.Domain.{Domain, opened}
-use Rattle.domain_run.specs.Calls.{with_number, reply_to, is_refusal, granted, after_call}
+use Rattle.domain_run.specs.Calls.{with_number, reply_to, is_refusal, after_call}
 use Rattle.domain_run.specs.Run.{after_calls, replies_to}
 use Rattle.domain_run.proofs.Admitting.{with_number_contains, granted_is}
 use Rattle.domain_run.proofs.CallerLemmas.{refused_keeps}
@@ -21,7 +20,7 @@ use Rattle.call_book.specs.Book.{AdmissionView, admission, calls_of}
 use Rattle.dl_session.specs.Replay.{named_by, names_after, names_of}
 use Rattle.dl_session.specs.InOrder.{is_admitted}
 use Rattle.dl_session.proofs.OrderLists.{Reordered, ends, next, swaps, chain}
-use Rattle.dl_session.proofs.OrderTicks.{Alike, ticks_alike}
+use Rattle.dl_session.proofs.OrderTicks.{Alike}
 use Rattle.dl_session.proofs.OrderAdmissions.{alike_itself, alike_more, task_from, with_admitted, admitted_as, named_as, is_admission, two_calls, alike_call}
 
 -- ---- all granted

@@ -1,6 +1,6 @@
 -- A history is its admissions, and then the advance.
-use Rattle.std.proofs.Common.{◌≡◌, ℕ, suc, ◌+◌, ◌<◌, ◌≤◌, Bool, true, false, cond, ltb, ◌&&◌, Option, Some, None, List, [], ◌∷◌, ◌++◌, length, map, refl, sym, ap, ◌∙◌, subst, arith, inl, inr, append-nil, ltb-true}
-use Rattle.std.specs.Prelude.{All, filter, not}
+use Rattle.std.proofs.Common.{◌≡◌, ℕ, ◌+◌, ◌≤◌, Bool, true, false, cond, ltb, Option, Some, List, [], ◌∷◌, ◌++◌, length, map, refl, sym, ap, ◌∙◌, subst, arith, inl, inr, append-nil, ltb-true}
+use Rattle.std.specs.Prelude.{All, not}
 use Rattle.std.proofs.lemmas.Bool.{cases_Bool}
 use Rattle.std.proofs.lemmas.List.{map-append}
 use Rattle.domain_run.specs.declared.call.Call.{Call}
@@ -9,15 +9,15 @@ use Rattle.domain_run.specs.declared.call.Reply.{Reply}
 use Rattle.domain_run.specs.declared.call.Reply.TheVariants.{Done}
 use Rattle.domain_run.specs.Domain.{Domain}
 use Rattle.domain_run.specs.Calls.{reply_to, after_call}
-use Rattle.domain_run.specs.Run.{after_calls, replies_to}
+use Rattle.domain_run.specs.Run.{after_calls}
 use Rattle.call_book.specs.declared.section.Entry.{Entry}
 use Rattle.call_book.specs.Book.{calls_of}
-use Rattle.dl_session.specs.Asks.{Made, entries_from}
+use Rattle.dl_session.specs.Asks.{Made}
 use Rattle.dl_session.specs.ScenarioAnswers.{advance_of, IsEnd, EndsWith}
 use Rattle.dl_session.specs.Replay.{names_after, names_of}
 use Rattle.dl_session.proofs.OrderLists.{Reordered}
 use Rattle.dl_session.proofs.OrderTicks.{Alike, ticks_alike, alike_switches}
-use Rattle.dl_session.proofs.OrderRuns.{AllAdmitted, EndAlike, order_free, IsListing, listing_run, was_admitted, is_verdict, granted_calls, LegalFrom, RunsAs, granted_run}
+use Rattle.dl_session.proofs.OrderRuns.{order_free, IsListing, listing_run, was_admitted, is_verdict, granted_calls, LegalFrom, granted_run}
 use Rattle.dl_session.proofs.OrderEntries.{granted_both}
 use Rattle.dl_session.proofs.OrderVerdicts.{others, others_both, one_if, all_verdicts}
 
@@ -131,9 +131,9 @@ shows_same start duration history calls is parts r =
     let end = order_free start gs calls order run.admitted in
     let listing : IsListing (after_calls start gs) = listing_run start gs is run.admitted in
     let alike : Alike (after_calls (after_calls start gs) last) (after_calls (after_calls start calls) last) =
-        end_alike (ltb 0 duration) duration (after_calls start gs) (after_calls start calls) end.alike listing in
+    end_alike (ltb 0 duration) duration (after_calls start gs) (after_calls start calls) end.alike listing in
     let left : after_calls start (calls_of history) ≡ after_calls (after_calls start gs) last =
-        ap (after_calls start) parts.calls ∙ after_both start (calls_of before) last ∙ ap (λ (x : Domain). after_calls x last) run.state in
+    ap (after_calls start) parts.calls ∙ after_both start (calls_of before) last ∙ ap (λ (x : Domain). after_calls x last) run.state in
     record {
       switches =
           ap (λ (x : Domain). x.switches) left

@@ -1,10 +1,10 @@
 -- Ticks do not look at the order of the listed tasks.
-use Rattle.std.proofs.Common.{◌≡◌, ◌≢◌, ℕ, zero, suc, ◌+◌, ◌-◌, Bool, true, false, cond, eqb, ◌&&◌, Option, Some, None, List, [], ◌∷◌, ◌++◌, length, map, refl, sym, ap, ◌∙◌, subst, arith}
-use Rattle.std.specs.Prelude.{All, AllPairs, filter, find}
+use Rattle.std.proofs.Common.{◌≡◌, ◌≢◌, ℕ, zero, suc, ◌+◌, ◌-◌, true, false, cond, eqb, ◌&&◌, Option, Some, None, List, [], ◌∷◌, ◌++◌, map, refl, sym, ap, ◌∙◌, subst}
+use Rattle.std.specs.Prelude.{filter}
 use Rattle.std.proofs.lemmas.List.Kept.{AllPairs-filter}
 use mathlib.Core.Path.{fun_ext}
 use Rattle.grub_rules.specs.declared.share.Share.{Share}
-use Rattle.grub_rules.specs.Sums.{total_bw, this_bw, running_bw, uinact}
+use Rattle.grub_rules.specs.Sums.{this_bw, running_bw, uinact}
 use Rattle.grub_rules.specs.Rate as reclaiming
 use Rattle.edf_pick.specs.declared.candidate.Candidate.{Candidate}
 use Rattle.edf_pick.specs.Places.{Places, placed, stands}
@@ -16,10 +16,10 @@ use Rattle.domain_run.specs.Conditions.{is_ready}
 use Rattle.domain_run.specs.Parts.{replenish_due, settled, is_listed, unblocked, homed, ran}
 use Rattle.domain_run.specs.Switches.{same_occupant, left_by, state_of, switches_from}
 use Rattle.domain_run.specs.Domain.{Domain}
-use Rattle.domain_run.specs.Tick.{share_of, shares, sum_of, candidate_of, candidates, prepared, begun, rate_of, ran_if, finished, ticked, ticks}
+use Rattle.domain_run.specs.Tick.{share_of, shares, sum_of, candidate_of, candidates, prepared, begun, rate_of, ran_if, finished, ticks}
 use Rattle.domain_run.proofs.Keeping.{same_replenished, same_settled, same_unblocked, AllPairs-map}
 use Rattle.domain_run.proofs.KeptKeys.{AreNumbered, ticks_numbered}
-use Rattle.dl_session.proofs.OrderLists.{Reordered, ends, next, swaps, chain, same_order, mapped, filtered, same_sum, AreApart, apart_first, apart_rest, apart_reordered, same_found}
+use Rattle.dl_session.proofs.OrderLists.{Reordered, ends, next, swaps, chain, mapped, filtered, same_sum, apart_rest, apart_reordered, same_found}
 
 -- ---- the choice
 
@@ -76,7 +76,7 @@ same_switches time ts us cpu (p ∷ before) [] r apart = refl
 same_switches time ts us cpu (p ∷ before) (n ∷ after) r apart =
     let rest = same_switches time ts us (cpu + 1) before after r apart in
     elim (same_occupant p n) as (λ b. cond b (switches_from time ts (cpu + 1) before after) (record { time = time; prev = p; next = n; cpu = cpu; state = state_of ts p } ∷ switches_from time ts (cpu + 1) before after)
-        ≡ cond b (switches_from time us (cpu + 1) before after) (record { time = time; prev = p; next = n; cpu = cpu; state = state_of us p } ∷ switches_from time us (cpu + 1) before after)) [
+    ≡ cond b (switches_from time us (cpu + 1) before after) (record { time = time; prev = p; next = n; cpu = cpu; state = state_of us p } ∷ switches_from time us (cpu + 1) before after)) [
       | true ↦ rest
       | false ↦ λ i. record { time = time; prev = p; next = n; cpu = cpu; state = same_state ts us r apart p i } ∷ rest i
     ]
@@ -127,10 +127,10 @@ begun_relisted d ts us r s apart =
     let more = prepared_reordered d.time d.tasks ts r in
     let numbered = prepared_apart d.time d.tasks apart in
     let places : placed d.cpus (candidates p) d.places ≡ placed d.cpus (candidates q) d.places =
-        same_placed d.cpus (candidates p) (candidates q) d.places (candidates_reordered p q more) (candidates_apart p numbered) in
+    same_placed d.cpus (candidates p) (candidates q) d.places (candidates_reordered p q more) (candidates_apart p numbered) in
     let new = placed d.cpus (candidates q) d.places in
     let switches : switches_from d.time p 0 d.places (placed d.cpus (candidates p) d.places) ≡ switches_from d.time q 0 d.places new =
-        ap (λ (ps : Places). switches_from d.time p 0 d.places ps) places ∙ same_switches d.time p q 0 d.places new more numbered in
+    ap (λ (ps : Places). switches_from d.time p 0 d.places ps) places ∙ same_switches d.time p q 0 d.places new more numbered in
     let made : Places → List Switch → Domain = λ ps ss. record d { tasks = map (homed new) q; used = us; places = ps; switches = d.switches ++ ss } in
     record {
       same = ap (λ (ps : Places). made ps (switches_from d.time q 0 d.places new)) (sym places) ∙ ap (made (placed d.cpus (candidates p) d.places)) (sym switches);

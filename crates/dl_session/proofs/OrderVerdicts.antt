@@ -1,5 +1,5 @@
 -- Before the advance, a history has admissions and refusals alone.
-use Rattle.std.proofs.Common.{◌≡◌, ℕ, zero, suc, ◌+◌, ◌<◌, ◌≤◌, Bool, true, false, cond, eqb, ltb, ◌&&◌, ◌||◌, Option, Some, None, Ok, Err, List, [], ◌∷◌, ◌++◌, length, map, refl, sym, ap, ◌∙◌, subst, arith, length-append, ne_eqb}
+use Rattle.std.proofs.Common.{◌≡◌, ℕ, zero, suc, ◌+◌, ◌<◌, ◌≤◌, Bool, true, false, cond, eqb, ltb, ◌&&◌, Option, Some, None, Ok, Err, List, [], ◌∷◌, ◌++◌, length, refl, sym, ap, ◌∙◌, arith, length-append, ne_eqb}
 use Rattle.std.specs.Prelude.{All, filter, not}
 use Rattle.std.specs.List.{cons_option}
 use Rattle.std.proofs.lemmas.List.Elements.{All-nil, All-cons, All-head, All-tail, All-filter, filter-append}
@@ -9,12 +9,11 @@ use Rattle.domain_run.specs.declared.call.Reply.{Reply}
 use Rattle.domain_run.specs.declared.call.Reply.TheVariants.{Admitted, Changed, Woken, Left, Done, Full, Twice, Busy, NotListed, NotWaiting}
 use Rattle.rtapp_scenario.specs.ScenarioView.{TaskSpecView}
 use Rattle.call_book.specs.declared.section.Entry.{Entry}
-use Rattle.call_book.specs.Book.{IsMember, own_entries}
-use Rattle.dl_session.specs.declared.refusal.Refusal.{Refusal}
+use Rattle.call_book.specs.Book.{IsMember}
 use Rattle.dl_session.specs.SessionId.{SessionId}
-use Rattle.dl_session.specs.Asks.{Answer, IsLawful, Asked, Made, call_of, domain_of, made_of, made_at, made_in, entries_from}
+use Rattle.dl_session.specs.Asks.{Answer, IsLawful, Asked, Made, call_of, domain_of, made_at, made_in, entries_from}
 use Rattle.dl_session.specs.ScenarioAnswers.{is_own, own_asked, advance_of}
-use Rattle.dl_session.proofs.OrderLists.{Reordered, filtered, same_length}
+use Rattle.dl_session.proofs.OrderLists.{filtered, same_length}
 use Rattle.dl_session.proofs.OrderGathered.{gathered, gather}
 use Rattle.dl_session.proofs.OrderRuns.{is_verdict}
 use Rattle.dl_session.proofs.OrderEntries.{kind_of, own_is, kinds_below, OwnCalls}
