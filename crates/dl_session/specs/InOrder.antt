@@ -7,6 +7,7 @@ use Rattle.dl_session.specs.SessionId.{SessionId}
 use Rattle.dl_session.specs.Asks.{Asked, Made, made_in, entries_from}
 use Rattle.dl_session.specs.ScenarioAnswers.{advance_of}
 
+-- the reply that grants an admission
 abbrev pub is_admitted : Reply → Bool
 is_admitted replies.Admitted = true
 is_admitted _ = false
