@@ -13,3 +13,12 @@ pub mod Admitted
 pub mod Recorded
 pub mod Shown
 pub mod Replayable
+pub mod OrderLists
+pub mod OrderTicks
+pub mod OrderAdmissions
+pub mod OrderRuns
+pub mod OrderGathered
+pub mod OrderEntries
+pub mod OrderVerdicts
+pub mod OrderSplit
+pub mod OrderLaw

@@ -32,6 +32,7 @@ use Rattle.dl_session.specs.RunAnswer.{IsJson, IsScenario, flagged, IsRun, print
 use Rattle.dl_session.specs.private.Replaying.{IsWritten, IsUnwritten}
 use Rattle.dl_session.specs.private.Running.{IsFirst, IsJsonTold, IsScenarioTold, IsFinished, IsRan, IsStopped}
 use Rattle.dl_session.proofs.ScenarioLaw.{answers_all}
+use Rattle.dl_session.proofs.OrderLaw.{in_order}
 use Rattle.dl_session.proofs.Replayable.{read_again, same_trace}
 use Rattle.dl_session.proofs.Opening.{length_sets}
 
@@ -124,6 +125,15 @@ is_ran id tasks duration cs es r s f g new asked finished is histories words hom
       runs = rw (same_h, states) finished.runs;
     }
 
+abbrev pub ran_answers : (o : Options) (scenario : ScenarioView) (duration : ℕ) (given tasks : List TaskSpecView) (id : SessionId) (f : Finished)
+    → record { duration_us = duration; tasks = given } ≡ scenario → tasks ≡ map (flagged o.reclaim) given → IsSessionOf o id → IsRan id tasks duration f
+    → AnswersScenario id o.clients (map (flagged o.reclaim) scenario.tasks) scenario.duration_us (map (λ h. h.entries) f.report.histories.items) f.report.refused.items
+ran_answers o scenario duration given tasks id f view same session ran =
+    let hs = map (λ h. h.entries) f.report.histories.items in
+    subst (λ (x : ScenarioView). AnswersScenario id o.clients (map (flagged o.reclaim) x.tasks) x.duration_us hs f.report.refused.items) view
+    (subst (λ (ts : List TaskSpecView). AnswersScenario id o.clients ts duration hs f.report.refused.items) same
+    (subst (λ (n : ℕ). AnswersScenario id n tasks duration hs f.report.refused.items) session.clients ran.answers))
+
 abbrev pub is_run : (s : Seen) (o : Options) (scenario : ScenarioView) (duration : ℕ) (given tasks : List TaskSpecView) (id : SessionId) (f : Finished)
     → AreOptions o → IsScenario s scenario → record { duration_us = duration; tasks = given } ≡ scenario → tasks ≡ map (flagged o.reclaim) given → IsSessionOf o id → IsRan id tasks duration f
     → IsRun s o f.report.histories.items f.report.refused.items
@@ -141,10 +151,9 @@ is_run s o scenario duration given tasks id f options input view same session ra
         read_again f.report.histories.items (omega (arith, options.some_domains, domains, count)) (omega (arith, options.few_domains, domains, count)) (λ d x inside. (ran.left.histories d x (omega (arith, inside, count))).spelled);
     same = same_trace f.report.histories.items;
   };
-  answers = let hs = map (λ h. h.entries) f.report.histories.items in
-      subst (λ (x : ScenarioView). AnswersScenario id o.clients (map (flagged o.reclaim) x.tasks) x.duration_us hs f.report.refused.items) view
-      (subst (λ (ts : List TaskSpecView). AnswersScenario id o.clients ts duration hs f.report.refused.items) same
-      (subst (λ (n : ℕ). AnswersScenario id n tasks duration hs f.report.refused.items) session.clients ran.answers));
+  answers = ran_answers o scenario duration given tasks id f view same session ran;
+  in_order = in_order id o.clients (map (flagged o.reclaim) scenario.tasks) scenario.duration_us f.report.histories.items f.report.refused.items options.a_client ran.left.count ran.left.histories
+      (ran_answers o scenario duration given tasks id f view same session ran);
 }
 
 -- the text of the run was written

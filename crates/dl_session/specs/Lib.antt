@@ -12,3 +12,4 @@ pub mod Admissions
 pub mod Report
 pub mod RunAnswer
 pub mod private
+pub mod InOrder

@@ -28,6 +28,7 @@ use Rattle.dl_session.specs.SessionId.{SessionId, IsPlace}
 use Rattle.dl_session.specs.Options.{IsSessionOf}
 use Rattle.dl_session.specs.Report.{IsHistoryOf, IsLeft}
 use Rattle.dl_session.specs.ScenarioAnswers.{AnswersScenario}
+use Rattle.dl_session.specs.InOrder.{sections_in_order}
 use Rattle.dl_session.specs.Replay.{trace_of_sections}
 use Rattle.dl_session.specs.Answer.{Seen, IsInput, NothingWritten, IsUnread, IsOutOfMemory}
 
@@ -57,7 +58,8 @@ pub record AreReplayed (histories : List SectionView) : Type 0 where
   pub same : trace_of_sections (map unanswered histories) ≡ trace_of_sections histories
 
 -- the session has the domains and clients of the options; each domain's history is legal and was made by its clients; their calls
--- text can be replayed; and histories and refusals answer the scenario
+-- text can be replayed; histories and refusals answer the scenario; and the trace is that of each domain's admitted tasks, entered in
+-- their order, and then the advance: for every number of clients the same, where the same tasks are admitted
 pub record IsRun (s : Seen) (o : Options) (histories : List SectionView) (refused : List (ℕ × Refusal)) : Type 0 where
   pub scenario : ScenarioView
   pub input : IsScenario s scenario
@@ -67,6 +69,7 @@ pub record IsRun (s : Seen) (o : Options) (histories : List SectionView) (refuse
   pub legal : (d : ℕ) (x : SectionView) → IsPlace id d → IsHistoryOf id d [] (slice_index_or histories d x)
   pub replayed : AreReplayed histories
   pub answers : AnswersScenario id o.clients (map (flagged o.reclaim) scenario.tasks) scenario.duration_us (map (λ h. h.entries) histories) refused
+  pub in_order : trace_of_sections histories ≡ trace_of_sections (sections_in_order id answers.asked scenario.duration_us)
 
 -- what is written of histories: the trace of their run, or their calls text
 abbrev pub printed : Print → List SectionView → List ℕ
