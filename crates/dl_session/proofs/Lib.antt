@@ -4,6 +4,7 @@ pub mod Written
 pub mod Replied
 pub mod Asked
 pub mod Closed
+pub mod Advanced
 pub mod Opening
 pub mod CpuLists
 pub mod ScenarioLaw

@@ -1,5 +1,5 @@
 -- Each admitted number keeps its name.
-use Rattle.std.proofs.Common.{◌≡◌, ℕ, zero, suc, ◌+◌, ◌<◌, ◌≤◌, true, false, cond, eqb, ◌||◌, List, length, refl, sym, ap, ◌∙◌, subst, arith, eq-eqb, Result, Ok, Err}
+use Rattle.std.proofs.Common.{◌≡◌, ℕ, zero, suc, ◌<◌, ◌≤◌, true, false, cond, eqb, ◌||◌, List, length, refl, sym, ap, ◌∙◌, subst, eq-eqb, Result, Ok, Err}
 use Rattle.std.specs.Prelude.{OnOk}
 use Rattle.std.specs.List.{list_any}
 use Rattle.std.proofs.lemmas.Bool.{eqb-true, eqb-false, ne_eqb}
@@ -10,10 +10,10 @@ use Rattle.domain_run.specs.declared.call.Call.TheVariants.{Admit}
 use Rattle.domain_run.specs.declared.call.Reply.TheVariants.{Admitted}
 use Rattle.domain_run.specs.Domain.{Domain}
 use Rattle.domain_run.specs.Calls.{reply_to, is_refusal, after_call, granted}
-use Rattle.domain_run.specs.Tick.{ticks, ticked}
+use Rattle.domain_run.specs.Tick.{ticks}
 use Rattle.domain_run.specs.Sound.{IsAdmitted}
 use Rattle.domain_run.proofs.Admitting.{with_number_contains}
-use Rattle.switch_text.specs.Names.{Names, named, HasName}
+use Rattle.switch_text.specs.Names.{Names, named}
 use Rattle.dl_session.specs.Replay.{with_name}
 use Rattle.dl_session.specs.private.Replaying.{AreNamed}
 use Rattle.dl_session.specs.private.Recorded.{HaveNames}

@@ -30,7 +30,7 @@ use Rattle.dl_session.specs.ScenarioAnswers.{AnswersScenario}
 use Rattle.dl_session.specs.Answer.{Seen, IsInput, NothingWritten}
 use Rattle.dl_session.specs.RunAnswer.{IsJson, IsScenario, flagged, IsRun, printed, IsRunAnswer, IsRunFault}
 use Rattle.dl_session.specs.private.Replaying.{IsWritten, IsUnwritten}
-use Rattle.dl_session.specs.private.Running.{IsJsonTold, IsScenarioTold, IsFinished, IsRan, IsStopped}
+use Rattle.dl_session.specs.private.Running.{IsFirst, IsJsonTold, IsScenarioTold, IsFinished, IsRan, IsStopped}
 use Rattle.dl_session.proofs.ScenarioLaw.{answers_all}
 use Rattle.dl_session.proofs.Replayable.{read_again, same_trace}
 use Rattle.dl_session.proofs.Opening.{length_sets}
@@ -93,6 +93,11 @@ by_nobody id d cs h is = record {
   spelled = is.spelled;
   own = All-nil (λ (c : ClientView). pass_in c d ≡ own_entries c.number h.entries);
 }
+
+-- the first client has the number 1
+pub first_is : (id : SessionId) (tasks : List TaskSpecView) (cs es : List ClientView) (refused : List (ℕ × Refusal))
+    → 0 < length cs → AreNew id cs → AllAsked id tasks cs es refused → IsFirst es
+first_is id tasks cs es refused some new asked x = (asked.each 0 x some).made.number ∙ (new.each 0 x some).numbered
 
 -- what the parts of a run left, with the refusals in the report
 pub is_ran : (id : SessionId) (tasks : List TaskSpecView) (duration : ℕ) (cs es : List ClientView) (r s : Report) (f g : Finished)

@@ -1,11 +1,10 @@
 -- The names that a legal history's replies tell are those of its run.
-use Rattle.std.proofs.Common.{◌≡◌, ℕ, suc, arith, get_or, drop, ◌++◌, ◌<◌, ◌≤◌, Bool, true, false, cond, eqb, leb, ltb, ◌+◌, ◌||◌, List, [], ◌∷◌, length, map, Option, Some, refl, sym, ap, ◌∙◌, subst}
+use Rattle.std.proofs.Common.{◌≡◌, ℕ, suc, arith, get_or, drop, ◌++◌, ◌<◌, Bool, true, false, cond, eqb, leb, ltb, ◌+◌, List, [], ◌∷◌, length, map, Option, Some, refl, sym, ap, ◌∙◌, subst}
 use Rattle.std.specs.Prelude.{All}
 use Rattle.std.specs.List.{list_any}
 use Rattle.std.proofs.lemmas.List.{length_push, drop_more}
 use Rattle.std.proofs.lemmas.List.Elements.{All-head, All-tail}
 use Rattle.attr_check.specs.Ratio.{cap}
-use Rattle.domain_run.specs.NameView.{IsName}
 use Rattle.domain_run.specs.declared.call.Call.{Call}
 use Rattle.domain_run.specs.declared.call.Call.TheVariants.{Admit, Regrade, Wake, Leave, Advance}
 use Rattle.domain_run.specs.declared.call.Reply.{Reply}

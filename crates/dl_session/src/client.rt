@@ -1,6 +1,6 @@
 //! A client: its passes, the piece in its hand, and the calls that it makes.
 
-ghost use Rattle.std.specs.Prelude.{◌≡◌, None, IfSome, IfOk, IfErr, IsSome, Ok, Err, [], ◌∷◌};
+ghost use Rattle.std.specs.Prelude.{◌≡◌, None, IfSome, IfOk, IfErr, OnOk, IsSome, Ok, Err, [], ◌∷◌, length};
 ghost use Rattle.attr_check.specs.Accepted.{accepted, params_of};
 ghost use Rattle.domain_run.specs.declared.call.Call.TheVariants as calls;
 ghost use Rattle.call_book.specs.Limits.{IsCall};
@@ -9,8 +9,10 @@ ghost use Rattle.dl_session.specs.SessionId.{IsSession, IsPlace, cap_in, spine_o
 ghost use Rattle.dl_session.specs.Asks.{Asks, call_of, pass_in, Makes, made_by, MakesRegrade, MakesAdvance, IsFullBook, IsFullOrMemory, IsLastFound};
 ghost use Rattle.dl_session.specs.Clients.{IsNew};
 ghost use Rattle.dl_session.specs.private.Parts.{IsHand};
-ghost use Rattle.dl_session.specs.private.Entering.{IsAsk, IsDoneFor, IsVerdict};
+ghost use Rattle.dl_session.specs.private.Entering.{IsAsk, IsDoneFor, IsVerdict, IsNamed};
+ghost use Rattle.dl_session.specs.private.Running.{MakesAll, IsEndBy, IsStopped};
 
+use crate::fault::SessionFault;
 use crate::named::{Ask, Named, Outcome};
 use crate::names::Names;
 use crate::parts::Hand;
@@ -18,7 +20,8 @@ use crate::refusal::{Answer, Refusal};
 use crate::session::Session;
 use attr_check::{Params, check};
 use bw_gate::{Blank, Gate, Take};
-use call_book::{Domain, NoMemory, Pass, Prepared, prepare};
+use call_book::{AdvanceError, Domain, NoMemory, Pass, Prepared, prepare};
+use domain_run::Reply;
 use rtapp_scenario::TaskSpec;
 use std::alloc::Global;
 use std::marker::{Model, PhantomData};
@@ -107,6 +110,33 @@ impl<N: Names> Client<N> {
         ensures own { pass_in self.new place ≡ own_entries self.new.number domain.new.history }
     {
         domain.agree(&mut self.passes[place]);
+    }
+
+    /// Makes exactly so many ticks of a domain that stands behind no lock, 1 to 60000000, as one entry of its book. `Full` where the
+    /// book is full: nothing has changed. `Memory` where there was no memory for all ticks: an entry of those that were made
+    /// stands, where there were any.
+    pub(crate) fn advance_book<R: Wait>(
+        &mut self,
+        rt: &R,
+        gate: &Gate,
+        domain: &mut Domain,
+        place: usize,
+        ticks: u64,
+    ) -> Result<(), SessionFault>
+        requires gate { gate.now ≡ N.id.gate }
+        requires named { IsNamed N.id place domain.old }
+        requires call { IsCall (calls.Advance ticks) }
+        ensures named { IsNamed N.id place domain.new }
+        ensures domains { length self.old.passes ≡ length N.id.cpu_sets }
+        ensures made { OnOk result (MakesAll self.old self.new place ticks) }
+        ensures ends { OnOk result (IsEndBy self.old.number ticks domain.new.history) }
+        ensures err { IfErr result (IsStopped ticks) }
+    {
+        match domain.advance(rt, &mut self.passes[place], gate, ticks) {
+            Ok(Reply::Done { ticks: made }) if made == ticks => Ok(()),
+            Err(AdvanceError::Full) => Err(SessionFault::Full),
+            _ => Err(SessionFault::Memory),
+        }
     }
 
     /// The piece in its hand.

@@ -8,17 +8,19 @@ ghost use Rattle.dl_session.specs.Asks.{pass_in};
 ghost use Rattle.dl_session.specs.Report.{IsHistoryOf, IsReport, sum_left};
 ghost use Rattle.dl_session.specs.private.Entering.{IsNamed};
 ghost use Rattle.dl_session.specs.private.Parts.{AreNamed, AreBlanksOf, AreHands};
-ghost use Rattle.dl_session.specs.private.Closing.{AreTicketsOf, AreHistories, AreSums, IsRoom};
+ghost use Rattle.dl_session.specs.private.Closing.{AreTicketsOf, AreHistories, AreSums, IsRoom, IsEnded, HaveEnded};
 
 use crate::client::Client;
+use crate::finishing::Finished;
 use crate::named::Named;
 use crate::names::Names;
-use crate::parts::{Hand, PIECES};
+use crate::parts::{Hand, PIECES, shut};
 use crate::refusal::Refusal;
 use crate::report::Report;
 use crate::session::Books;
 use bw_gate::{Blank, Gate, Ticket, Words};
 use call_book::{Closed, Domain, NoMemory, Section};
+use domain_run::State;
 use std::alloc::Global;
 use std::marker::PhantomData;
 use std::sync::Mutex;
@@ -74,21 +76,28 @@ fn agree_all<N: Names>(domain: &mut Domain, clients: &mut Vec<Client<N>>, place:
     }
 }
 
-/// Closes a book: its history, and its pieces go home.
+/// What a closed book leaves.
+struct Ended {
+    history: Section,
+    state: State,
+}
+
+/// Closes a book: its history and its state, and its pieces go home.
 fn close_book<N: Names>(
     alloc: Global,
     mut domain: Domain,
     clients: &mut Vec<Client<N>>,
     place: usize,
     home: &mut Home<N>,
-) -> Section
+) -> Ended
     requires session { IsSession N.id }
     requires named { IsNamed N.id place domain }
     requires room { length home.old.tickets.items + 256 ≤ vec_capacity home.old.tickets }
-    ensures history { IsHistoryOf N.id place clients.new.items result }
+    ensures history { IsHistoryOf N.id place clients.new.items result.history }
+    ensures ended { IsEnded domain result.history result.state }
     ensures clients { clients.new.items ≡ clients.old.items }
     ensures here { sum_of place home.new.tickets.items
-        ≡ sum_of place home.old.tickets.items + sum_left result }
+        ≡ sum_of place home.old.tickets.items + sum_left result.history }
     ensures elsewhere { (d : ℕ) → d ≢ place →
         sum_of d home.new.tickets.items ≡ sum_of d home.old.tickets.items }
     ensures count { length home.new.tickets.items ≤ length home.old.tickets.items + 256 }
@@ -103,11 +112,12 @@ fn close_book<N: Names>(
     } = domain.close(Vec::new(alloc));
     pour_tickets::<N>(&mut home.tickets, tickets);
     pour_blanks::<N>(&mut home.blanks, blanks);
-    Section {
+    let history = Section {
         cpus: state.cpus(),
         limit: state.limit(),
         entries,
-    }
+    };
+    Ended { history, state }
 }
 
 /// Takes a book out of its lock, where the session has it.
@@ -125,13 +135,11 @@ fn unlock<N: Names, const D: usize>(lock: Option<Mutex<Named<N, D>>>, books: &mu
     }
 }
 
-/// Takes all books out of their locks.
-fn unlock_all<N: Names>(locks: Books<N>, books: &mut Vec<Domain>)
+/// Takes all books out of their locks. Takes no memory.
+pub(crate) fn unlock_all<N: Names>(locks: Books<N>) -> Vec<Domain>
     requires few { length N.id.cpu_sets ≤ 8 }
-    requires empty { books.old.items ≡ [] }
-    requires room { length N.id.cpu_sets ≤ vec_capacity books.old }
-    ensures count { length books.new.items ≡ length N.id.cpu_sets }
-    ensures named { AreNamed N.id books.new.items }
+    ensures count { length result.items ≡ length N.id.cpu_sets }
+    ensures named { AreNamed N.id result.items }
 {
     let Books {
         book0,
@@ -142,15 +150,17 @@ fn unlock_all<N: Names>(locks: Books<N>, books: &mut Vec<Domain>)
         book5,
         book6,
         book7,
+        mut room,
     } = locks;
-    unlock(book0, books);
-    unlock(book1, books);
-    unlock(book2, books);
-    unlock(book3, books);
-    unlock(book4, books);
-    unlock(book5, books);
-    unlock(book6, books);
-    unlock(book7, books);
+    unlock(book0, &mut room);
+    unlock(book1, &mut room);
+    unlock(book2, &mut room);
+    unlock(book3, &mut room);
+    unlock(book4, &mut room);
+    unlock(book5, &mut room);
+    unlock(book6, &mut room);
+    unlock(book7, &mut room);
+    room
 }
 
 /// Closes the books of all domains, in their order.
@@ -160,32 +170,37 @@ fn close_all<N: Names>(
     clients: &mut Vec<Client<N>>,
     home: &mut Home<N>,
     histories: &mut Vec<Section>,
+    states: &mut Vec<State>,
 )
     requires session { IsSession N.id }
     requires named { AreNamed N.id books.items }
     requires count { length books.items ≡ length N.id.cpu_sets }
-    requires empty { (home.old.tickets.items ≡ []) × (histories.old.items ≡ []) }
+    requires pieces { home.old.tickets.items ≡ [] }
+    requires empty { (histories.old.items ≡ []) × (states.old.items ≡ []) }
     requires room { length N.id.cpu_sets * 256 ≤ vec_capacity home.old.tickets }
     requires sections { length N.id.cpu_sets ≤ vec_capacity histories.old }
+    requires machines { length N.id.cpu_sets ≤ vec_capacity states.old }
     ensures clients { clients.new.items ≡ clients.old.items }
     ensures count { length histories.new.items ≡ length N.id.cpu_sets }
     ensures histories { AreHistories N.id clients.old.items histories.new.items }
     ensures sums { AreSums histories.new.items home.new.tickets.items }
+    ensures ended { HaveEnded books.items histories.new.items states.new.items }
 {
     let mut rest = books.into_iter();
     while let Some(domain) = rest.next() {
         let place = histories.len();
-        let history = close_book(alloc, domain, clients, place, home);
+        let Ended { history, state } = close_book(alloc, domain, clients, place, home);
         histories.push_reserved(history);
+        states.push_reserved(state);
     }
     rest.destroy_empty();
 }
 
 /// The room that a session's end needs.
 pub(crate) struct Room {
-    books: Vec<Domain>,
     tickets: Vec<Ticket>,
     histories: Vec<Section>,
+    states: Vec<State>,
     words: Vec<u64>,
     refused: Vec<(u32, Refusal)>,
 }
@@ -197,18 +212,15 @@ impl Room {
         ensures { IfOk result (IsRoom domains) }
     {
         let histories = Vec::with_capacity(alloc, domains)?;
+        let states = Vec::with_capacity(alloc, domains)?;
         let words = Vec::with_capacity(alloc, domains)?;
         let Ok(tickets) = Vec::with_capacity(alloc, domains * PIECES) else {
             return Err(NoMemory);
         };
-        let Ok(books) = Vec::with_capacity(alloc, domains) else {
-            tickets.destroy_empty();
-            return Err(NoMemory);
-        };
         Ok(Room {
-            books,
             tickets,
             histories,
+            states,
             words,
             refused: Vec::new(alloc),
         })
@@ -265,47 +277,106 @@ fn put_words(closed: &Words, words: &mut Vec<u64>)
     }
 }
 
-/// Closes all books and then the gate.
-pub(crate) fn close_with<N: Names>(
-    alloc: Global,
-    gate: Gate,
-    locks: Books<N>,
+/// A session whose domains stand behind no lock any more, with all room that its end needs. It is neither cloned nor dropped, but
+/// closed or shut.
+pub(crate) struct Unlocked<N: Names> {
+    pub(crate) gate: Gate,
+    pub(crate) books: Vec<Domain>,
     blanks: Vec<Blank>,
-    mut clients: Vec<Client<N>>,
     room: Room,
-) -> Report
-    requires session { IsSession N.id }
-    requires gate { gate ≡ N.id.gate }
-    requires blanks { AreBlanksOf N.id.gate blanks.items }
-    requires room { IsRoom (length N.id.cpu_sets) room }
-    ensures { IsReport N.id clients.items result }
-{
-    let Room {
-        mut books,
-        tickets,
-        mut histories,
-        mut words,
-        refused,
-    } = room;
-    unlock_all(locks, &mut books);
-    let mut home = Home {
-        tickets,
-        blanks,
-        of: PhantomData,
-    };
-    close_all(alloc, books, &mut clients, &mut home, &mut histories);
-    let Home {
-        tickets,
-        mut blanks,
-        of: _,
-    } = home;
-    pour_hands(&mut blanks, clients);
-    let home = blanks.len() + tickets.len();
-    put_words(&gate.close(blanks, tickets), &mut words);
-    Report {
-        histories,
-        refused,
-        words,
-        home,
+    of: PhantomData<N>,
+    ghost session: { IsSession N.id },
+    ghost same_gate: { gate ≡ N.id.gate },
+    ghost count: { length books.items ≡ length N.id.cpu_sets },
+    ghost named: { AreNamed N.id books.items },
+    ghost blanks_own: { AreBlanksOf N.id.gate blanks.items },
+    ghost enough: { IsRoom (length N.id.cpu_sets) room },
+}
+
+impl<N: Names> Unlocked<N> {
+    pub(crate) fn new(gate: Gate, books: Vec<Domain>, blanks: Vec<Blank>, room: Room) -> Unlocked<N>
+        requires session { IsSession N.id }
+        requires gate { gate ≡ N.id.gate }
+        requires count { length books.items ≡ length N.id.cpu_sets }
+        requires named { AreNamed N.id books.items }
+        requires blanks { AreBlanksOf N.id.gate blanks.items }
+        requires room { IsRoom (length N.id.cpu_sets) room }
+    {
+        Unlocked {
+            gate,
+            books,
+            blanks,
+            room,
+            of: PhantomData,
+        }
+    }
+
+    /// Closes all books and then the gate.
+    pub(crate) fn close(self, alloc: Global, mut clients: Vec<Client<N>>) -> Finished
+        ensures report { IsReport N.id clients.items result.report }
+        ensures ended { HaveEnded self.books.items result.report.histories.items result.states.items }
+    {
+        let Unlocked {
+            gate,
+            books,
+            blanks,
+            room,
+            of: _,
+        } = self;
+        let Room {
+            tickets,
+            mut histories,
+            mut states,
+            mut words,
+            refused,
+        } = room;
+        let mut home = Home {
+            tickets,
+            blanks,
+            of: PhantomData,
+        };
+        close_all(
+            alloc,
+            books,
+            &mut clients,
+            &mut home,
+            &mut histories,
+            &mut states,
+        );
+        let Home {
+            tickets,
+            mut blanks,
+            of: _,
+        } = home;
+        pour_hands(&mut blanks, clients);
+        let home = blanks.len() + tickets.len();
+        put_words(&gate.close(blanks, tickets), &mut words);
+        let report = Report {
+            histories,
+            refused,
+            words,
+            home,
+        };
+        Finished { report, states }
+    }
+
+    /// Ends the books; what tickets they hold go back to the gate.
+    pub(crate) fn shut(self, alloc: Global) {
+        let Unlocked {
+            gate,
+            books,
+            blanks: _,
+            room,
+            of: _,
+        } = self;
+        let Room {
+            tickets,
+            histories: _,
+            states: _,
+            words: _,
+            refused: _,
+        } = room;
+        tickets.destroy_empty();
+        shut(alloc, &gate, books);
     }
 }

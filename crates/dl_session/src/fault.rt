@@ -69,8 +69,8 @@ pub struct FaultLine<'a> {
     fault: &'a SessionFault,
 }
 
-/// Writes a character of a key: a control character (below 0x20, or 0x7f) as `\u00` and its two digits, so that the line stays one
-/// line, and any other as it is.
+/// Writes a character of a key: a control character (below 0x20, or 0x7f) as `\u00` and its two digits, so that the line
+/// stays one line, and any other as it is.
 fn write_shown<W: fmt::Write>(f: &mut fmt::Formatter<W>, c: char) -> fmt::Result
     ensures { WritesOnOk W.write_str_gives f.old result (shown c) f.new }
 {

@@ -1,13 +1,19 @@
 //! The end of a run: client 1 advances each domain, and all books are closed.
 
-ghost use Rattle.std.specs.Prelude.{◌<◌, ◌≤◌, length, IfOk, IfErr};
-ghost use Rattle.dl_session.specs.private.Running.{IsFinished, IsStopped};
+ghost use Rattle.std.specs.Prelude.{◌≡◌, ◌<◌, ◌≤◌, length, IfOk, IfErr, OnOk};
+ghost use Rattle.dl_session.specs.Asks.{Makes};
+ghost use Rattle.dl_session.specs.ScenarioAnswers.{advance_of};
+ghost use Rattle.dl_session.specs.private.Parts.{AreNamed};
+ghost use Rattle.dl_session.specs.private.Running.{AllEnd, IsFirst, IsFinished, IsStopped};
 
 use crate::client::Client;
+use crate::closing::Unlocked;
 use crate::fault::SessionFault;
 use crate::names::Names;
 use crate::report::Report;
 use crate::session::Session;
+use bw_gate::Gate;
+use call_book::Domain;
 use domain_run::State;
 use std::alloc::Global;
 use std::sync::Wait;
@@ -19,6 +25,52 @@ pub(crate) struct Finished {
     pub(crate) states: Vec<State>,
 }
 
+/// Lets client 1 advance each domain by the whole duration.
+fn advance_all<N: Names, R: Wait>(
+    rt: &R,
+    gate: &Gate,
+    books: &mut Vec<Domain>,
+    client: &mut Client<N>,
+    duration: u64,
+) -> Result<(), SessionFault>
+    requires gate { gate.now ≡ N.id.gate }
+    requires named { AreNamed N.id books.old.items }
+    requires count { length books.old.items ≡ length N.id.cpu_sets }
+    requires domains { 0 < length N.id.cpu_sets }
+    requires first { client.old.number ≡ 1 }
+    requires some { 0 < duration }
+    requires most { duration ≤ 60000000 }
+    ensures named { AreNamed N.id books.new.items }
+    ensures count { length books.new.items ≡ length books.old.items }
+    ensures made { OnOk result (Makes client.old client.new (λ d. advance_of duration 1)) }
+    ensures ends { OnOk result (AllEnd duration books.new.items) }
+    ensures err { IfErr result (IsStopped duration) }
+{
+    for place in 0..books.len() {
+        client.advance_book(rt, gate, &mut books[place], place, duration)?;
+    }
+    Ok(())
+}
+
+/// The same, and no call where the duration is 0.
+fn advance<N: Names, R: Wait>(
+    rt: &R,
+    unlocked: &mut Unlocked<N>,
+    client: &mut Client<N>,
+    duration: u64,
+) -> Result<(), SessionFault>
+    requires first { client.old.number ≡ 1 }
+    requires most { duration ≤ 60000000 }
+    ensures made { OnOk result (Makes client.old client.new (λ d. advance_of duration 1)) }
+    ensures ends { OnOk result (AllEnd duration unlocked.new.books.items) }
+    ensures err { IfErr result (IsStopped duration) }
+{
+    if duration == 0 {
+        return Ok(());
+    }
+    advance_all(rt, &unlocked.gate, &mut unlocked.books, client, duration)
+}
+
 /// Takes each domain out of its lock and lets client 1 advance it by the whole duration, in microseconds, as the last entry of its
 /// book; no call is made where the duration is 0. Then all books are closed. Where it stops, the session is gone, and its tickets
 /// were given back.
@@ -26,14 +78,23 @@ pub(crate) fn finish<N: Names, R: Wait>(
     rt: &R,
     alloc: Global,
     session: Session<N>,
-    clients: Vec<Client<N>>,
+    mut clients: Vec<Client<N>>,
     duration: u64,
 ) -> Result<Finished, SessionFault>
     requires some { 0 < length clients.items }
+    requires first { IsFirst clients.items }
     requires duration { duration ≤ 60000000 }
     ensures ok { IfOk result (IsFinished N.id duration clients.items) }
     ensures err { IfErr result (IsStopped duration) }
 {
-    session.shut(alloc);
-    Err(SessionFault::Memory)
+    let Ok(mut unlocked) = session.unlock(alloc) else {
+        return Err(SessionFault::Memory);
+    };
+    match advance(rt, &mut unlocked, &mut clients[0], duration) {
+        Ok(()) => Ok(unlocked.close(alloc, clients)),
+        Err(fault) => {
+            unlocked.shut(alloc);
+            Err(fault)
+        }
+    }
 }

@@ -181,7 +181,7 @@ fn books_of(
 }
 
 /// Ends books; what tickets they hold go back to the gate.
-fn shut(alloc: Global, gate: &Gate, mut books: Vec<Domain>)
+pub(crate) fn shut(alloc: Global, gate: &Gate, mut books: Vec<Domain>)
     requires { All (λ b. b.gate ≡ gate.now) books.items }
 {
     while let Some(domain) = books.pop() {
@@ -197,7 +197,7 @@ fn shut(alloc: Global, gate: &Gate, mut books: Vec<Domain>)
 }
 
 /// Gives tickets back to the gate.
-pub(crate) fn give_all(gate: &Gate, mut tickets: Vec<Ticket>)
+fn give_all(gate: &Gate, mut tickets: Vec<Ticket>)
     requires { All (λ t. t.gate ≡ gate.now) tickets.items }
 {
     while let Some(ticket) = tickets.pop() {

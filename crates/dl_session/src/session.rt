@@ -1,6 +1,6 @@
 //! A session: one gate, and the domains behind their locks.
 
-ghost use Rattle.std.specs.Prelude.{◌≡◌, ◌≤◌, ◌<◌, ◌+◌, ◌==◌, min, nat_lt, is_some, length, map, replicate, true, Option, Some, Ok, Err, IfSome, IfOk, IfErr};
+ghost use Rattle.std.specs.Prelude.{◌≡◌, ◌≤◌, ◌<◌, ◌+◌, ◌==◌, min, nat_lt, is_some, length, map, replicate, true, Option, Some, Ok, Err, [], IfSome, IfOk, IfErr, vec_capacity};
 ghost use Rattle.std.specs.List.{list_all, list_any};
 ghost use Rattle.std.specs.Option.{option_map};
 ghost use Rattle.attr_check.specs.Accepted.{accepted};
@@ -12,16 +12,17 @@ ghost use Rattle.dl_session.specs.Report.{IsReport};
 ghost use Rattle.dl_session.specs.private.Parts.{AreNamed};
 
 use crate::client::Client;
-use crate::closing::{Room, close_with, pour_waiting};
+use crate::closing::{Room, Unlocked, pour_waiting, unlock_all};
+use crate::finishing::Finished;
 use crate::named::Named;
 use crate::names::Names;
-use crate::parts::{Hand, Parts, give_all};
+use crate::parts::{Hand, Parts, shut};
 use crate::pool::Pool;
 use crate::refusal::Refusal;
 use crate::report::Report;
 use attr_check::{Params, check};
 use bw_gate::{Blank, Gate};
-use call_book::{Closed, Domain, NoMemory};
+use call_book::{Domain, NoMemory};
 use rtapp_scenario::TaskSpec;
 use std::alloc::Global;
 use std::marker::Model;
@@ -37,6 +38,10 @@ pub(crate) struct Books<N: Names> {
     pub(crate) book5: Option<Mutex<Named<N, 5>>>,
     pub(crate) book6: Option<Mutex<Named<N, 6>>>,
     pub(crate) book7: Option<Mutex<Named<N, 7>>>,
+    // Where they stood before, and will stand when the locks are gone.
+    pub(crate) room: Vec<Domain>,
+    ghost empty: { room.items ≡ [] },
+    ghost enough: { length N.id.cpu_sets ≤ vec_capacity room },
     ghost has0: { is_some book0 ≡ nat_lt 0 (length N.id.cpu_sets) },
     ghost has1: { is_some book1 ≡ nat_lt 1 (length N.id.cpu_sets) },
     ghost has2: { is_some book2 ≡ nat_lt 2 (length N.id.cpu_sets) },
@@ -145,6 +150,13 @@ impl<N: Names> Session<N> {
     pub fn close(self, alloc: Global, clients: Vec<Client<N>>) -> Result<Report, NoMemory>
         ensures { IfOk result (IsReport N.id clients.items) }
     {
+        let Finished { report, states: _ } = self.unlock(alloc)?.close(alloc, clients);
+        Ok(report)
+    }
+
+    /// Takes each domain out of its lock, and reserves all room that the end needs. [`NoMemory`] (ENOMEM 12) where a growth was
+    /// refused: the session is gone, and its tickets were given back.
+    pub(crate) fn unlock(self, alloc: Global) -> Result<Unlocked<N>, NoMemory> {
         let Session {
             gate,
             cpu_sets,
@@ -152,15 +164,14 @@ impl<N: Names> Session<N> {
             pool,
             hands,
         } = self;
+        let books = unlock_all(books);
+        let Ok(room) = Room::open(alloc, cpu_sets.len()) else {
+            shut(alloc, &gate, books);
+            return Err(NoMemory);
+        };
         let mut blanks = pool.into_inner().into_blanks();
         pour_waiting::<N>(&mut blanks, hands);
-        match Room::open(alloc, cpu_sets.len()) {
-            Ok(room) => Ok(close_with(alloc, gate, books, blanks, clients, room)),
-            Err(NoMemory) => {
-                books.shut(alloc, &gate);
-                Err(NoMemory)
-            }
-        }
+        Ok(Unlocked::new(gate, books, blanks, room))
     }
 
     /// Ends the session where it is of no use any more; what tickets it holds go back to the gate.
@@ -172,7 +183,7 @@ impl<N: Names> Session<N> {
             pool: _,
             hands: _,
         } = self;
-        books.shut(alloc, &gate);
+        shut(alloc, &gate, unlock_all(books));
     }
 
     /// A piece of the pool, or else one that the domain of a place keeps.
@@ -195,6 +206,7 @@ fn locked<N: Names, const D: usize>(books: &mut Vec<Domain>) -> Option<Mutex<Nam
     ensures some { is_some result ≡ nat_lt D (length N.id.cpu_sets) }
     ensures named { AreNamed N.id books.new.items }
     ensures count { length books.new.items ≡ min D (length N.id.cpu_sets) }
+    ensures room { vec_capacity books.new ≡ vec_capacity books.old }
 {
     if books.len() <= D {
         return None;
@@ -217,7 +229,6 @@ impl<N: Names> Books<N> {
         let book2 = locked(&mut books);
         let book1 = locked(&mut books);
         let book0 = locked(&mut books);
-        books.destroy_empty();
         Books {
             book0,
             book1,
@@ -227,6 +238,7 @@ impl<N: Names> Books<N> {
             book5,
             book6,
             book7,
+            room: books,
         }
     }
 
@@ -243,47 +255,6 @@ impl<N: Names> Books<N> {
             6 => spare(rt, &self.book6),
             _ => spare(rt, &self.book7),
         }
-    }
-}
-
-/// Ends a book; what tickets it holds go back to the gate.
-fn shut<N: Names, const D: usize>(alloc: Global, gate: &Gate, book: Option<Mutex<Named<N, D>>>)
-    requires { gate.now ≡ N.id.gate }
-{
-    if let Some(lock) = book {
-        let Closed {
-            state: _,
-            entries: _,
-            tickets,
-            blanks: _,
-        } = lock.into_inner().into_domain().close(Vec::new(alloc));
-        give_all(gate, tickets);
-    }
-}
-
-impl<N: Names> Books<N> {
-    /// Ends all books; what tickets they hold go back to the gate.
-    fn shut(self, alloc: Global, gate: &Gate)
-        requires { gate.now ≡ N.id.gate }
-    {
-        let Books {
-            book0,
-            book1,
-            book2,
-            book3,
-            book4,
-            book5,
-            book6,
-            book7,
-        } = self;
-        shut(alloc, gate, book0);
-        shut(alloc, gate, book1);
-        shut(alloc, gate, book2);
-        shut(alloc, gate, book3);
-        shut(alloc, gate, book4);
-        shut(alloc, gate, book5);
-        shut(alloc, gate, book6);
-        shut(alloc, gate, book7);
     }
 }
 

@@ -10,6 +10,7 @@ use switch_text::Counted;
 mod clients;
 mod opening;
 mod runs;
+mod words;
 
 const THROTTLED: &[u8] =
     b"dlcalls 1\ndomain 1 1048576\nadmit 1 1 a 2 5 5 - 0 1:1{r4}\nadvance 1 11\n";

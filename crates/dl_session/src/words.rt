@@ -1,11 +1,13 @@
 //! From the words of a command line to the options of a run.
 
-ghost use Rattle.std.specs.Prelude.{◌≡◌, ◌≢◌, ◌<◌, ◌≤◌, ℕ, List, IfSome, IfOk, IfErr, IsErrOf, None, true, false, decimal, map, slice_index};
+ghost use Rattle.std.specs.Prelude.{◌≡◌, ◌≢◌, ◌<◌, ◌≤◌, ℕ, List, IfSome, IfOk, IfErr};
+ghost use Rattle.std.specs.Prelude.{IsErrOf, None, true, false, decimal, map, slice_index};
 ghost use Rattle.std.specs.Int.{IsInRange};
 ghost use Rattle.std.specs.List.{slice_split};
 ghost use Rattle.domain_run.specs.Domain.{IsCpus, IsLimit};
 ghost use Rattle.dl_session.specs.Options.{AreOptions};
-ghost use Rattle.dl_session.specs.Words.{is_comma, IsList, limit_of, AreMeant, IsWordsFault, words_status};
+ghost use Rattle.dl_session.specs.Words.{is_comma, IsList, limit_of};
+ghost use Rattle.dl_session.specs.Words.{AreMeant, IsWordsFault, words_status};
 
 use crate::options::{Options, Print};
 use attr_check::to_ratio;
@@ -21,8 +23,8 @@ const HISTORY: usize = 1024;
 /// The words that say how a scenario is run, as a command line has them.
 #[derive(Clone, Copy, Debug)]
 pub struct Words<'a> {
-    /// The list of root domains: the number of CPUs of each, 1 to 64, in decimal without leading zeros; 1 to 8 of them, with commas
-    /// between them and no spaces.
+    /// The list of root domains: the number of CPUs of each, 1 to 64, in decimal without leading zeros; 1 to 8 of them,
+    /// with commas between them and no spaces.
     pub domains: &'a str,
     /// What deadline tasks may take of each CPU in `rt_period`, in any unit of time that both share.
     pub rt_runtime: u64,
@@ -119,7 +121,8 @@ fn read_cpus(piece: &str) -> Option<u32>
     }
 }
 
-/// The numbers of CPUs that a list spells: 1 to 8 numbers from 1 to 64, in decimal without leading zeros, with commas between them.
+/// The numbers of CPUs that a list spells: 1 to 8 numbers from 1 to 64, in decimal without leading zeros, with commas
+/// between them.
 ///
 /// # Errors
 /// [`WordsFault::List`]: the text spells no such list. [`WordsFault::Memory`]: a growth was refused.
@@ -142,8 +145,8 @@ pub fn read_list(alloc: Global, text: &str) -> Result<Vec<u32>, WordsFault>
     Ok(list)
 }
 
-/// What deadline tasks may take of each CPU, in 1/2^20, rounded down (sched-deadline.rst, "Bandwidth management"); none outside of a
-/// hundredth of the CPU to the whole.
+/// What deadline tasks may take of each CPU, in 1/2^20, rounded down (sched-deadline.rst, "Bandwidth management"); none
+/// outside of a hundredth of the CPU to the whole. Takes no memory.
 pub fn read_limit(rt_runtime: u64, rt_period: u64) -> Option<u64>
     ensures limit { result ≡ limit_of rt_runtime rt_period }
     ensures range { IfSome result IsLimit }
@@ -158,8 +161,8 @@ pub fn read_limit(rt_runtime: u64, rt_period: u64) -> Option<u64>
 /// The options that the words mean; each history has room for 1024 calls.
 ///
 /// # Errors
-/// In the order of the tests: [`WordsFault::List`], [`WordsFault::Limit`]. [`WordsFault::Memory`] where a growth was refused, before
-/// any other.
+/// In the order of the tests: [`WordsFault::List`], [`WordsFault::Limit`]. [`WordsFault::Memory`] where a growth was
+/// refused, before any other.
 pub fn read_options(alloc: Global, words: &Words<'_>) -> Result<Options, WordsFault>
     requires a_client { 0 < words.now.clients }
     requires few_clients { words.now.clients ≤ 64 }

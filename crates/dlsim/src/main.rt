@@ -1,7 +1,7 @@
 //! dlsim: a model of SCHED_DEADLINE that writes the switches of a scenario, or of recorded calls, as a trace.
 //!
-//! The program reads its words with clap (`words`), and calls [`dl_session::run`] or [`dl_session::replay`] with standard input and
-//! standard output. What it prints of a fault, and its exit status, are the fault's own ([`SessionFault::line`],
+//! The program reads its words with clap (`words`), and calls [`dl_session::run`] or [`dl_session::replay`] with standard
+//! input and standard output. What it prints of a fault, and its exit status, are the fault's own ([`SessionFault::line`],
 //! [`SessionFault::status`]); the line of a refused task is [`dl_session::RefusedLine`].
 #![tactic(auto)]
 

@@ -1,6 +1,6 @@
 //! The words of the command line.
 
-ghost use Rattle.std.specs.Prelude.{◌<◌, ◌≤◌, IfOk};
+ghost use Rattle.std.specs.Prelude.{◌≡◌, ◌<◌, ◌≤◌, IfOk};
 ghost use Rattle.dl_session.specs.Options.{AreOptions};
 ghost use Rattle.dlsim.specs.Tasks.{IsFit};
 
@@ -24,45 +24,77 @@ const MOST_WORKERS: u64 = 1;
 const TEXTS: [&str; 2] = ["trace", "calls"];
 
 const ABOUT: &str =
-    "A model of Linux SCHED_DEADLINE: deadline tasks in, the trace of their switches (sched_switch) out";
+    "A model of Linux SCHED_DEADLINE: deadline tasks in, the trace of their switches out";
 
 const ABOUT_END: &str = "\
-`dlsim run` takes an rt-app file, `dlsim replay` recorded calls; both read standard input and write the trace to standard output.
+`dlsim run` reads an rt-app file, `dlsim replay` recorded calls, both from
+standard input. The trace on standard output has the lines of ftrace's event
+sched_switch.
 
   dlsim run < examples/periodic.json
   dlsim replay < examples/reclaiming.calls
 
-Exit status: 0 done; 1 bad input; 2 wrong words; 3 reading or writing failed, or a history was full; 4 out of memory. Where it is not
-0, one line on standard error says why, and nothing was written unless that line says `write failed after N`.
-docs/FORMATS.md explains every format and message.";
+Exit status: 0 done; 1 bad input; 2 wrong words; 3 reading or writing failed;
+4 out of memory. Where it is not 0, a line on standard error says why, and
+nothing was written, unless that line says `write failed after N`.
+docs/FORMATS.md explains every option, format and message.";
 
 const REPLAY_ABOUT: &str = "Reads recorded calls and writes the trace of their run";
 
 const REPLAY_END: &str = "\
-In:  a calls text on standard input: `dlcalls 1`, then for each root domain a line `domain CPUS LIMIT` and a line for each call.
-Out: `# tracer: nop`, then a line for each switch of a CPU, as ftrace prints its event sched_switch, by time and CPU.
+In:  a calls text on standard input: the line `dlcalls 1`, then for each root
+     domain a line `domain CPUS LIMIT` and a line for each call on it.
+Out: `# tracer: nop`, then a line for each switch of a CPU, as ftrace prints
+     its event sched_switch, by time and CPU.
 
   dlsim replay < examples/reclaiming.calls
 
-Exit status: 0 done; 1 `dlsim: calls 30 line N`, the first bad line; 2 wrong words; 3 `dlsim: read failed` or `dlsim: write failed
-after N`; 4 `dlsim: out of memory`. docs/FORMATS.md explains the format and the messages.";
+Exit status: 0 done; 1 `dlsim: calls 30 line N`, the first bad line; 2 wrong
+words; 3 `dlsim: read failed` or `dlsim: write failed after N`; 4 `dlsim: out
+of memory`. docs/FORMATS.md explains the format and the messages.";
 
 const RUN_ABOUT: &str =
     "Reads an rt-app scenario, admits its tasks, runs them and writes the trace";
 
 const RUN_END: &str = "\
-In:  an rt-app file (JSON) on standard input: `tasks` with policy SCHED_DEADLINE, dl-runtime, dl-deadline and dl-period in
-     microseconds and their events run, sleep and timer, and `global` with the `duration` in seconds, 0 to 60.
-Out: `# tracer: nop`, then a line for each switch of a CPU, as ftrace prints its event sched_switch, by time and CPU; with
-     `--print calls` the calls that were made, which `dlsim replay` turns into that same trace.
-Err: a line for each task that was not admitted, as `dlsim: task 4 EBUSY 16 seen 1572864`; the others run.
+In:  an rt-app file (JSON) on standard input: `tasks` with the policy
+     SCHED_DEADLINE, dl-runtime, dl-deadline and dl-period in microseconds, and
+     their events run, sleep and timer; `global` with the `duration` in
+     seconds, 0 to 60.
+Out: `# tracer: nop`, then a line for each switch of a CPU, as ftrace prints
+     its event sched_switch, by time and CPU; with `--print calls` the calls
+     that were made, of which `dlsim replay` writes that same trace.
+Err: a line for each task that was not admitted, as
+     `dlsim: task 4 EBUSY 16 seen 1572864`; the others run.
 
   dlsim run --domains 2 < examples/race.json > race.txt
   dlsim run --reclaim < examples/reclaim.json
 
-Exit status: 0 done, refused tasks or not; 1 the file is no JSON (`dlsim: json KIND at BYTE`) or no scenario (`dlsim: scenario 22 key
-resources`); 2 wrong words, `dlsim: bad list` or `dlsim: limit out of range`; 3 `dlsim: read failed`, `dlsim: write failed after N`
-or `dlsim: book full`; 4 `dlsim: out of memory`. docs/FORMATS.md explains the keys and the messages.";
+Exit status: 0 done, refused tasks or not; 1 the input is no JSON (`dlsim: json
+KIND at BYTE`) or no scenario (`dlsim: scenario 22 key resources`); 2 wrong
+words, `dlsim: bad list` or `dlsim: limit out of range`; 3 `dlsim: read failed`,
+`dlsim: write failed after N` or `dlsim: book full`; 4 `dlsim: out of memory`.
+docs/FORMATS.md explains the options, the keys and the messages.";
+
+const DOMAINS_HELP: &str = "\
+CPUs of each root domain: 1 to 8 numbers from 1 to 64, with commas and no
+spaces. The first domain has the first CPUs of the machine";
+
+const RUNTIME_HELP: &str = "\
+What deadline tasks may take of each CPU in --rt-period: 1 to 1000000000
+microseconds, and 1 % to 100 % of that period";
+
+const PERIOD_HELP: &str = "The period of --rt-runtime: 1 to 1000000000 microseconds";
+
+const CLIENTS_HELP: &str = "How many clients admit the tasks; 1 alone for now";
+
+const WORKERS_HELP: &str = "How many workers reckon in each domain; 1 alone for now";
+
+const RECLAIM_HELP: &str = "\
+Every task reclaims unused bandwidth (GRUB, SCHED_FLAG_RECLAIM); without it
+none does";
+
+const PRINT_HELP: &str = "What is written: the trace, or the calls that were made";
 
 /// What the words ask for.
 #[derive(Debug, Drop)]
@@ -123,54 +155,31 @@ fn counted<'a>(
     option(alloc, name, "N", default, help).value_parser(ValueParser::unsigned(1, most))
 }
 
-fn limits<'a>(alloc: Global, command: Command<'a>) -> Result<Command<'a>, AllocError> {
+/// The options that say which domains there are, and how much of them deadline tasks may take.
+fn with_domains<'a>(alloc: Global, command: Command<'a>) -> Result<Command<'a>, AllocError> {
+    let runtime = counted(alloc, "rt-runtime", MOST_TIME, "950000", RUNTIME_HELP);
+    let period = counted(alloc, "rt-period", MOST_TIME, "1000000", PERIOD_HELP);
     command
-        .arg(option(
-            alloc,
-            "domains",
-            "LIST",
-            "1",
-            "CPUs of each root domain: 1 to 8 numbers from 1 to 64, with commas and no spaces, as 2,1. The first domain has the first CPUs of the machine",
-        ))?
-        .arg(counted(
-            alloc,
-            "rt-runtime",
-            MOST_TIME,
-            "950000",
-            "What deadline tasks may take of each CPU in each --rt-period: 1 to 1000000000 microseconds, and 1 % to 100 % of the period",
-        ))?
-        .arg(counted(
-            alloc,
-            "rt-period",
-            MOST_TIME,
-            "1000000",
-            "The period of --rt-runtime: 1 to 1000000000 microseconds",
-        ))
+        .arg(option(alloc, "domains", "LIST", "1", DOMAINS_HELP))?
+        .arg(runtime)?
+        .arg(period)
 }
 
 fn run_command<'a>(alloc: Global) -> Result<Command<'a>, AllocError> {
-    limits(alloc, Command::new(alloc, "run").about(RUN_ABOUT))?
-        .arg(counted(
-            alloc,
-            "clients",
-            MOST_CLIENTS,
-            "1",
-            "How many clients admit the tasks; 1 alone for now",
-        ))?
-        .arg(counted(
-            alloc,
-            "workers",
-            MOST_WORKERS,
-            "1",
-            "How many workers reckon in each domain; 1 alone for now",
-        ))?
-        .arg(Arg::new(alloc, "reclaim")
-            .long("reclaim")
-            .action(ArgAction::SetTrue)
-            .help("Every task reclaims unused bandwidth (GRUB, SCHED_FLAG_RECLAIM); without it none does"))?
-        .arg(option(alloc, "print", "TEXT", "trace", "What is written: the trace, or the calls that were made")
-            .value_parser(ValueParser::Names(&TEXTS)))
-        .map(|command| command.after_help(RUN_END))
+    let command = Command::new(alloc, "run")
+        .about(RUN_ABOUT)
+        .after_help(RUN_END);
+    let reclaim = Arg::new(alloc, "reclaim")
+        .long("reclaim")
+        .action(ArgAction::SetTrue)
+        .help(RECLAIM_HELP);
+    let print = option(alloc, "print", "TEXT", "trace", PRINT_HELP)
+        .value_parser(ValueParser::Names(&TEXTS));
+    with_domains(alloc, command)?
+        .arg(counted(alloc, "clients", MOST_CLIENTS, "1", CLIENTS_HELP))?
+        .arg(counted(alloc, "workers", MOST_WORKERS, "1", WORKERS_HELP))?
+        .arg(reclaim)?
+        .arg(print)
 }
 
 fn command<'a>(alloc: Global) -> Result<Command<'a>, AllocError> {
@@ -223,7 +232,8 @@ fn options_of(alloc: Global, found: &ArgMatches<'_>) -> Result<Options, WordsFau
     read_options(alloc, &words)
 }
 
-/// What the words ask for, or what is wrong with them: first what clap says of them, then the list of domains, then the limit.
+/// What the words ask for, or what is wrong with them: first what clap says of them, then the list of domains, then the
+/// limit.
 pub(crate) fn read_words(rt: &(impl Env + Alloc<A = Global>)) -> Result<Task, Wrong>
     ensures { IfOk result IsFit }
 {

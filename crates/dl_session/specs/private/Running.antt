@@ -1,19 +1,22 @@
 -- The steps of a run: its clients advance the domains, the books are closed, and their states are kept for the trace.
-use Rattle.std.specs.Prelude.{◌≡◌, ◌≢◌, ℕ, ◌+◌, ◌<◌, List, [], length, map, All, slice_index_or}
+use Rattle.std.specs.Prelude.{◌≡◌, ◌≢◌, ℕ, ◌+◌, ◌<◌, List, [], ◌∷◌, ◌++◌, length, map, Some, Ok, All, slice_index_or}
 use Rattle.json_order.specs.declared.fault.JsonFault.{JsonFault}
 use Rattle.json_order.specs.declared.fault.JsonKind.TheVariants as kinds
 use Rattle.rtapp_scenario.specs.declared.fault.ScenarioFault.{ScenarioFault}
 use Rattle.rtapp_scenario.specs.declared.fault.ScenarioFault.TheVariants as scenario_faults
+use Rattle.domain_run.specs.declared.call.Call.TheVariants.{Advance}
+use Rattle.domain_run.specs.declared.call.Reply.TheVariants as replies
 use Rattle.domain_run.specs.Domain.{Domain}
 use Rattle.domain_run.specs.Run.{run_of}
 use Rattle.rtapp_scenario.specs.ScenarioView.{TaskSpecView}
 use Rattle.call_book.specs.SectionView.{SectionView}
-use Rattle.call_book.specs.Book.{calls_of, IsLegal}
+use Rattle.call_book.specs.declared.section.Entry.{Entry}
+use Rattle.call_book.specs.Book.{BookView, calls_of, IsLegal}
 use Rattle.dl_session.specs.declared.fault.SessionFault.{SessionFault}
 use Rattle.dl_session.specs.declared.fault.SessionFault.TheVariants.{Json, Scenario, Calls, Read, Write, Start, Full, Memory}
 use Rattle.dl_session.specs.declared.finishing.Finished.{Finished}
 use Rattle.dl_session.specs.SessionId.{SessionId}
-use Rattle.dl_session.specs.Asks.{ClientView, Makes}
+use Rattle.dl_session.specs.Asks.{ClientView, Makes, made_by}
 use Rattle.dl_session.specs.Report.{IsReport, IsLeft}
 use Rattle.dl_session.specs.ScenarioAnswers.{EndsWith, advance_of, AnswersScenario}
 
@@ -27,6 +30,24 @@ abbrev pub IsScenarioTold : ScenarioFault → SessionFault → Type 0
 IsScenarioTold found (Scenario fault) = (found ≡ fault) × (fault ≢ scenario_faults.Memory)
 IsScenarioTold found Memory = Unit {0}
 IsScenarioTold found _ = ⊥
+
+-- a client has entered one advance of so many ticks, all made, in a domain, and nothing else
+abbrev pub MakesAll : ClientView → ClientView → ℕ → ℕ → Type 0
+MakesAll c c' d ticks = Makes c c' (made_by d (Advance ticks) (Ok (replies.Done ticks)))
+
+-- the last entry of all is this client's advance
+pub record IsEndBy (client duration : ℕ) (history : List Entry) : Type 0 where
+  pub before : List Entry
+  pub seq : ℕ
+  pub all : history ≡ before ++ record { client = client; seq = seq; call = Advance duration; reply = Some (replies.Done duration) } ∷ []
+
+-- the books end with client 1's advance
+abbrev pub AllEnd : ℕ → List BookView → Type 0
+AllEnd duration books = (d : ℕ) (b : BookView) → d < length books → EndsWith duration (slice_index_or books d b).history
+
+-- the first of these clients is client 1
+abbrev pub IsFirst : List ClientView → Type 0
+IsFirst clients = (x : ClientView) → (slice_index_or clients 0 x).number ≡ 1
 
 -- each client has entered its advance of each domain, and nothing else: client 1 one of the whole duration, the others none
 pub record HaveAdvanced (duration : ℕ) (before after : List ClientView) : Type 0 where

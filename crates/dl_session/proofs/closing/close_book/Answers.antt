@@ -1,4 +1,4 @@
-use Rattle.std.proofs.Common.{◌≡◌, ap, ◌∙◌, arith}
+use Rattle.std.proofs.Common.{ap, ◌∙◌, arith}
 use Rattle.call_book.specs.Book.{BookView}
 use Rattle.dl_session.proofs.Closed.{apart}
 use Rattle.dl_session.proofs.closing.close_book.Goals as goal

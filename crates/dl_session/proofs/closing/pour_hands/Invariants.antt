@@ -1,4 +1,3 @@
-use Rattle.std.proofs.Common.{◌≡◌}
 use Rattle.dl_session.specs.private.Parts.{AreBlanksOf}
 use Rattle.dl_session.proofs.closing.pour_hands.Given as goal
 

@@ -1,4 +1,4 @@
-use Rattle.std.proofs.Common.{◌≡◌, ◌+◌, ◌≤◌, ℕ, length, vec_capacity}
+use Rattle.std.proofs.Common.{◌≡◌, ◌+◌, ℕ, length, vec_capacity}
 use Rattle.bw_gate.specs.Pieces.{sum_of}
 use Rattle.dl_session.specs.private.Closing.{AreTicketsOf}
 use Rattle.dl_session.proofs.closing.pour_tickets.Given as goal

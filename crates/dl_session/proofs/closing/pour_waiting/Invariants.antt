@@ -1,4 +1,3 @@
-use Rattle.std.proofs.Common.{◌≡◌}
 use Rattle.dl_session.specs.private.Parts.{AreBlanksOf, AreHands}
 use Rattle.dl_session.proofs.closing.pour_waiting.Given as goal
 

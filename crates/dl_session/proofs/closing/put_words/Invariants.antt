@@ -1,4 +1,4 @@
-use Rattle.std.proofs.Common.{◌≡◌, ◌<◌, ◌≤◌, ℕ, length, slice_index, vec_capacity}
+use Rattle.std.proofs.Common.{◌≡◌, ◌<◌, ℕ, length, slice_index, vec_capacity}
 use Rattle.dl_session.proofs.closing.put_words.Given as goal
 
 abbrev pub invariant-loop-d : goal.invariant-loop-d

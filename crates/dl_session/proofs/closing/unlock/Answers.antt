@@ -1,4 +1,4 @@
-use Rattle.std.proofs.Common.{◌≡◌, ℕ, List, length, sym, subst, ◌∙◌, arith}
+use Rattle.std.proofs.Common.{◌≡◌, ℕ, List, length, sym, subst, arith}
 use Rattle.call_book.specs.Book.{BookView}
 use Rattle.dl_session.specs.private.Entering.{IsNamed}
 use Rattle.dl_session.specs.private.Parts.{AreNamed}

@@ -1,5 +1,5 @@
-use Rattle.std.proofs.Common.{refl}
-use Rattle.dl_session.proofs.Ran.{is_ran}
+use Rattle.std.proofs.Common.{arith, refl}
+use Rattle.dl_session.proofs.Ran.{first_is, is_ran}
 use Rattle.dl_session.proofs.running.run_in.Goals as goal
 
 pub returns-in_ok-finished-in-Ok-admit_alone-clause-ok : goal.returns-in_ok-finished-in-Ok-admit_alone-clause-ok
@@ -7,3 +7,8 @@ returns-in_ok-finished-in-Ok-admit_alone-clause-ok g c =
     let f = c.in_ok-finished-in-Ok-admit_alone.finished in
     is_ran g.N.Names.id c.args.tasks.now c.args.duration c.in-Ok.clients.items c.in-Ok-admit_alone.clients.items f.report _ f _
     c.in-Ok.ensures c.in-Ok-admit_alone.ensures.ok c.in_ok-finished-in-Ok-admit_alone.ensures.ok refl refl refl refl refl refl
+
+pub finish-requires-clause-first : goal.finish-requires-clause-first
+finish-requires-clause-first g c =
+    first_is g.N.Names.id c.args.tasks.now c.in-Ok.clients.items c.in-Ok-admit_alone.clients.items c.in-Ok-admit_alone.refused.items
+    (omega (arith, c.in-Ok.ensures.count, c.requires.one, c.requires.many, c.requires.parts)) c.in-Ok.ensures c.in-Ok-admit_alone.ensures.ok
