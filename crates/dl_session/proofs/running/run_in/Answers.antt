@@ -1,4 +1,5 @@
-use Rattle.std.proofs.Common.{arith, refl}
+use Rattle.std.proofs.Common.{arith, ap, refl}
+use Rattle.dl_session.specs.SessionId.{SessionId}
 use Rattle.dl_session.proofs.Ran.{first_is, is_ran}
 use Rattle.dl_session.proofs.running.run_in.Goals as goal
 
@@ -10,5 +11,6 @@ returns-in_ok-finished-in-Ok-admit_alone-clause-ok g c =
 
 pub finish-requires-clause-first : goal.finish-requires-clause-first
 finish-requires-clause-first g c =
+    let many = ap (λ (i : SessionId). i.clients) c.requires.parts in
     first_is g.N.Names.id c.args.tasks.now c.in-Ok.clients.items c.in-Ok-admit_alone.clients.items c.in-Ok-admit_alone.refused.items
-    (omega (arith, c.in-Ok.ensures.count, c.requires.one, c.requires.many, c.requires.parts)) c.in-Ok.ensures c.in-Ok-admit_alone.ensures.ok
+    (omega (arith, c.in-Ok.ensures.count, c.requires.one, c.requires.many, many)) c.in-Ok.ensures c.in-Ok-admit_alone.ensures.ok
