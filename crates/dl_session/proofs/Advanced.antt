@@ -67,14 +67,6 @@ pub record MakesFirst (n : ℕ) (c c' : ClientView) (made : List Made) : Type 0 
   pub first : (d : ℕ) → d < n → d < length c.passes → pass_in c' d ≡ followed_by c d made
   pub rest : (d : ℕ) → n ≤ d → d < length c.passes → pass_in c' d ≡ pass_in c d
 
-pub makes_none : (c : ClientView) (made : List Made) → MakesFirst 0 c c made
-makes_none c made = record {
-  number = refl;
-  domains = refl;
-  first = λ d none inside. absurd (omega (arith, none));
-  rest = λ d behind inside. refl;
-}
-
 pub makes_more : (n m ticks : ℕ) (a b c : ClientView) → m ≡ n + 1 → MakesFirst n a b (all_ticks ticks) → MakesAll b c n ticks → MakesFirst m a c (all_ticks ticks)
 makes_more n m ticks a b c more before last = record {
   number = last.number ∙ before.number;
@@ -113,14 +105,7 @@ makes_everywhere duration n a c some count m = record {
       subst (λ (ms : List Made). pass_in c d ≡ followed_by a d ms) (sym (advance_is duration some)) (m.first d (omega (arith, inside, count)) inside);
 }
 
--- ---- no advance
-
-neither : (b : Bool) (x : List Made) → cond (b && false) x [] ≡ []
-neither true x = refl
-neither false x = refl
-
-pub makes_no_tick : (c : ClientView) (client : ℕ) → Makes c c (λ d. advance_of 0 client)
-makes_no_tick c client = subst (λ (ms : List Made). Makes c c (λ d. ms)) (sym (neither (eqb client 1) (all_ticks 0))) (makes_nothing c c refl refl)
+-- ---- all clients
 
 only_first : (b : Bool) (duration k : ℕ) → eqb k 1 ≡ b → k ≢ 1 → advance_of duration k ≡ []
 only_first true duration k is other = absurd (other (eqb-true k 1 is))
@@ -211,10 +196,3 @@ is_finished id duration cs es books f advanced is ended count end = record {
   count = ended.states_count ∙ is.left.count;
   runs = λ d s x inside. (ended.each d (no_book id) s x inside).run;
 }
-
--- after its admissions the first client has the number that it had
-pub first_is : (id : SessionId) (tasks : List TaskSpecView) (cs es : List ClientView) (refused : List (ℕ × Refusal)) → AreNew id cs → AllAsked id tasks cs es refused → 0 < length es
-    → IsFirst es
-first_is id tasks cs es refused new asked some = λ x.
-    let there : 0 < length cs = omega (arith, some, asked.places) in
-    (asked.each 0 x there).made.number ∙ (new.each 0 x there).numbered

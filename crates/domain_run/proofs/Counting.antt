@@ -1,6 +1,6 @@
 -- A run queue that counts a list of tasks, and one task of it that turns.
-use Rattle.std.proofs.Common.{◌≡◌, ◌≢◌, ℕ, ◌+◌, ◌*◌, ◌^◌, ◌<◌, ◌≤◌, Bool, true, false, cond, eqb, Option, Some, None, List, [], ◌∷◌, ◌++◌, length, take, drop, set, get_or, map, refl, sym, ap, subst, ◌∙◌, arith, inl, inr, length-append, not}
-use Rattle.std.specs.Prelude.{AllPairs, IfSome, filter, position, is_none, ◌&&◌}
+use Rattle.std.proofs.Common.{◌≡◌, ◌≢◌, ℕ, ◌+◌, ◌*◌, ◌^◌, ◌<◌, ◌≤◌, Bool, true, false, cond, Option, Some, None, List, [], ◌∷◌, ◌++◌, length, take, drop, set, get_or, map, refl, sym, ap, subst, ◌∙◌, arith, inl, inr, length-append, not}
+use Rattle.std.specs.Prelude.{AllPairs, IfSome, filter, is_none, ◌&&◌}
 use Rattle.std.proofs.lemmas.Bool.{cases_eq}
 use Rattle.std.proofs.lemmas.List.{append-nil, map-append, length-map, length-take, length-drop, length-set, get_or-map, get_or_default, get_or-set_same, get_or-set_other}
 use Rattle.std.proofs.lemmas.List.Elements.{All-set, All-map, All-filter, filter-append}
@@ -20,17 +20,16 @@ use Rattle.domain_run.specs.declared.run_queue.RunQueue.{RunQueue}
 use Rattle.domain_run.specs.Conditions.{is_ready, is_contending, is_leaving}
 use Rattle.domain_run.specs.Tick.{share_of, shares, sum_of, candidate_of, candidates}
 use Rattle.domain_run.specs.private.RunQueue.{ready_of, standing_of, Counts, IsRoster, IsCounted, with_ready, without_ready, MayTurn, HasTurned}
-use Rattle.edf_pick.specs.Places.{Places, is_task, stands, placed}
+use Rattle.edf_pick.specs.Places.{Places, placed}
 use Rattle.domain_run.specs.declared.task.Condition.{Condition}
 use Rattle.domain_run.specs.declared.task.Condition.TheVariants.{Ready, Throttled, Blocked, Waiting, Leaving}
-use Rattle.domain_run.specs.Parts.{homed, is_listed}
-use Rattle.domain_run.specs.Calls.{of_number, regraded, released, ended}
-use Rattle.domain_run.specs.private.Charging.{rate_with, ran_with}
-use Rattle.domain_run.proofs.Placing.{not_true, homed_number, homed_params, homed_cpu, position_within}
+use Rattle.domain_run.specs.Parts.{is_listed}
+use Rattle.domain_run.specs.Calls.{ended}
+use Rattle.domain_run.proofs.Placing.{not_true}
 use Rattle.domain_run.specs.Domain.{Domain}
 use Rattle.domain_run.specs.Sound.{IsApart, IsDomain}
 use Rattle.domain_run.proofs.Seating.{IsSeating, placed_is}
-use Rattle.domain_run.proofs.Keeping.{Same, same_itself, same_either, same_ran, length-filter_least}
+use Rattle.domain_run.proofs.Keeping.{Same, same_either, length-filter_least}
 use Rattle.attr_check.specs.ParamsView.{ParamsView}
 
 -- a ready task, or none
@@ -137,38 +136,9 @@ same_fit cpus queue tasks i d y h same is = record {
   home = subst (λ n. n < cpus) (sym same.cpu) (home_at cpus queue tasks i d h is);
 }
 
--- the same, where the task is placed
-pub homed_fit : (places : Places) (queue : RunQueue) (tasks : List Task) (i : ℕ) (d : Task) → i < length tasks → IsCounted (length places) queue tasks → IsFit (length places) (get_or tasks i d) (homed places (get_or tasks i d))
-homed_fit places queue tasks i d h is =
-    let t = get_or tasks i d in
-    let at_home = position (is_task t.number) places in
-    record {
-      number = homed_number at_home t;
-      short = subst (λ (p : ParamsView). p.bw ≤ 2 ^ 26) (sym (homed_params at_home t)) (is.roster.short i d h);
-      home = homed_cpu (length places) at_home t (λ cpu e. position_within t.number places cpu e) (home_at (length places) queue tasks i d h is);
-    }
-
--- the same, after a tick of running
-pub ran_same : (time : ℕ) (places : Places) (idle : List ℕ) (sum cpus limit : ℕ) (t : Task) → Same t (ran_with time places idle sum cpus limit t)
-ran_same time places idle sum cpus limit t = same_either (stands t.number places) t _ t (same_ran time (rate_with idle sum cpus limit t) t) (same_itself t)
-
 -- the same, after a call
-pub regraded_fit : (number : ℕ) (p : ParamsView) (queue : RunQueue) (tasks : List Task) (i : ℕ) (d : Task) → {cpus : ℕ} → i < length tasks → p.bw ≤ 2 ^ 26 → IsCounted cpus queue tasks → IsFit cpus (get_or tasks i d) (of_number number (regraded p) (get_or tasks i d))
-regraded_fit number p queue tasks i d {cpus} h short is =
-    let t = get_or tasks i d in
-    let home = home_at cpus queue tasks i d h is in
-    elim (eqb t.number number) as (λ b. IsFit cpus t (cond b (regraded p t) t)) [
-      | true ↦ record { number = refl; short = short; home = home }
-      | false ↦ record { number = refl; short = is.roster.short i d h; home = home }
-    ]
-
-pub released_same : (number time : ℕ) (t : Task) → Same t (of_number number (released time) t)
-released_same number time t = same_either (eqb t.number number) t _ t (record { number = refl; params = refl; cpu = refl }) (same_itself t)
-
-pub ended_same : (number time : ℕ) (t : Task) → Same t (of_number number (ended time) t)
-ended_same number time t =
-    same_either (eqb t.number number) t _ t
-    (same_either (is_contending t.condition) t _ _ (record { number = refl; params = refl; cpu = refl }) (record { number = refl; params = refl; cpu = refl })) (same_itself t)
+pub ended_same : (time : ℕ) (t : Task) → Same t (ended time t)
+ended_same time t = same_either (is_contending t.condition) t _ _ (record { number = refl; params = refl; cpu = refl }) (record { number = refl; params = refl; cpu = refl })
 
 pub may_turn : (cpus : ℕ) (queue : RunQueue) (tasks : List Task) (i : ℕ) (d y : Task) → i < length tasks → IsFit cpus (get_or tasks i d) y → IsCounted cpus queue tasks → MayTurn queue (standing_of (get_or tasks i d)) (standing_of y)
 may_turn cpus queue tasks i d y h fit is =

@@ -17,3 +17,6 @@ pub mod Jumping
 pub mod Paying
 pub mod Runners
 pub mod Unturned
+pub mod Finding
+pub mod Homing
+pub mod Charged

@@ -77,7 +77,7 @@ find_here (t ∷ tasks) (suc k) d numbered h =
     ap (λ b. cond b (Some t) (find (λ v. eqb v.number u.number) tasks)) other ∙ find_here tasks k d rest (omega (arith, h))
 
 -- the i-th running task is that task
-running_there : (e : Domain) (k i : ℕ) (d : Task) → AllPairs (λ a b. a.number ≢ b.number) e.tasks → k < length e.tasks → index_of e.places (get_or e.tasks k d) ≡ Some i → running e i ≡ Some (running_of e (get_or e.tasks k d))
+running_there : (e : Domain) (k i : ℕ) (d : Task) → AllPairs (λ a b. a.number ≢ b.number) e.tasks → k < length e.tasks → index_of (standing e.places) (get_or e.tasks k d) ≡ Some i → running e i ≡ Some (running_of e (get_or e.tasks k d))
 running_there e k i d numbered h at =
     let t = get_or e.tasks k d in
     ap (running_if e) (there e.places t.number i at).at ∙ ap (option_map (running_of e)) (find_here e.tasks k d numbered h)
@@ -91,14 +91,14 @@ is_Ready Leaving h = absurd cc
 
 -- ---- what is told of the budgets, task by task
 
-charged_there : (e : Domain) (ticks : ℕ) (budgets : List ℤ) (k i : ℕ) (d : Task) → AllPairs (λ a b. a.number ≢ b.number) e.tasks → AreCharged e ticks budgets → k < length e.tasks → index_of e.places (get_or e.tasks k d) ≡ Some i → IsCharged e ticks (running_of e (get_or e.tasks k d)) (slice_index_or budgets i (pos 0))
+charged_there : (e : Domain) (ticks : ℕ) (budgets : List ℤ) (k i : ℕ) (d : Task) → AllPairs (λ a b. a.number ≢ b.number) e.tasks → AreCharged e ticks budgets → k < length e.tasks → index_of (standing e.places) (get_or e.tasks k d) ≡ Some i → IsCharged e ticks (running_of e (get_or e.tasks k d)) (slice_index_or budgets i (pos 0))
 charged_there e ticks budgets k i d numbered are h at = are.each i (running_of e (get_or e.tasks k d)) (running_there e k i d numbered h at)
 
 -- a task that stands runs on until the last tick
 runs_each : (e : Domain) (ticks : ℕ) (budgets : List ℤ) → AllPairs (λ a b. a.number ≢ b.number) e.tasks → IsPlacement e → AreCharged e ticks budgets → All (RunsIf e ticks) e.tasks
-runs_each e ticks budgets numbered placed are k d h = by_index (index_of e.places (get_or e.tasks k d)) refl
+runs_each e ticks budgets numbered placed are k d h = by_index (index_of (standing e.places) (get_or e.tasks k d)) refl
   where
-    by_index : (o : Option ℕ) → index_of e.places (get_or e.tasks k d) ≡ o → RunsIf e ticks (get_or e.tasks k d)
+    by_index : (o : Option ℕ) → index_of (standing e.places) (get_or e.tasks k d) ≡ o → RunsIf e ticks (get_or e.tasks k d)
     by_index None at stand = let no : true ≡ false = sym stand ∙ nowhere e.places (get_or e.tasks k d).number at in absurd cc
     by_index (Some i) at stand =
         let t = get_or e.tasks k d in
@@ -107,10 +107,10 @@ runs_each e ticks budgets numbered placed are k d h = by_index (index_of e.place
 
 -- and has the budget that is told
 paid_each : (e : Domain) (time ticks : ℕ) (budgets : List ℤ) → AllPairs (λ a b. a.number ≢ b.number) e.tasks → AreCharged e ticks budgets
-    → All (λ t. paid time e.places ticks budgets t ≡ cond (stands t.number e.places) (ran_until time ticks (t.server.left -ℤ pos (rate_of e t * ticks)) t) t) e.tasks
-paid_each e time ticks budgets numbered are k d h = by_index (index_of e.places (get_or e.tasks k d)) refl
+    → All (λ t. paid time (standing e.places) ticks budgets t ≡ cond (stands t.number e.places) (ran_until time ticks (t.server.left -ℤ pos (rate_of e t * ticks)) t) t) e.tasks
+paid_each e time ticks budgets numbered are k d h = by_index (index_of (standing e.places) (get_or e.tasks k d)) refl
   where
-    by_index : (o : Option ℕ) → index_of e.places (get_or e.tasks k d) ≡ o
+    by_index : (o : Option ℕ) → index_of (standing e.places) (get_or e.tasks k d) ≡ o
         → paid_at time ticks budgets o (get_or e.tasks k d) ≡ cond (stands (get_or e.tasks k d).number e.places) (ran_until time ticks ((get_or e.tasks k d).server.left -ℤ pos (rate_of e (get_or e.tasks k d) * ticks)) (get_or e.tasks k d)) (get_or e.tasks k d)
     by_index None at =
         let t = get_or e.tasks k d in
@@ -139,10 +139,10 @@ low_of : (left budget : ℤ) (rate ticks : ℕ) → 0 < ticks → rate ≤ 2 ^ 3
 low_of left budget rate zero some slow lasted is = absurd (omega (arith, some))
 low_of left budget rate (suc j) some slow lasted is = let same : suc j - 1 ≡ j = omega arith in low_by left budget rate j slow (subst (λ n. pos (rate * n) <ℤ left) same lasted) is
 
-pub may_pay : (e : Domain) (ticks : ℕ) (budgets : List ℤ) → IsSteady e → IsPlacement e → 0 < ticks → AreCharged e ticks budgets → All (MayPayIf e.places ticks budgets) e.tasks
-may_pay e ticks budgets steady placed some are k d h = by_index (index_of e.places (get_or e.tasks k d)) refl
+pub may_pay : (e : Domain) (ticks : ℕ) (budgets : List ℤ) → IsSteady e → IsPlacement e → 0 < ticks → AreCharged e ticks budgets → All (MayPayIf (standing e.places) ticks budgets) e.tasks
+may_pay e ticks budgets steady placed some are k d h = by_index (index_of (standing e.places) (get_or e.tasks k d)) refl
   where
-    by_index : (o : Option ℕ) → index_of e.places (get_or e.tasks k d) ≡ o → IfSome o (MayPay ticks budgets (get_or e.tasks k d))
+    by_index : (o : Option ℕ) → index_of (standing e.places) (get_or e.tasks k d) ≡ o → IfSome o (MayPay ticks budgets (get_or e.tasks k d))
     by_index None at = tt
     by_index (Some i) at =
         let t = get_or e.tasks k d in
@@ -160,15 +160,15 @@ may_pay e ticks budgets steady placed some are k d h = by_index (index_of e.plac
 -- ---- THE JUMP, as the code has it
 
 pub paid_is : (d : Domain) (k : ℕ) (budgets : List ℤ) (time : ℕ) (tasks : List Task) → IsSteady (under_way d) → IsPlacement (under_way d) → 0 < k → k ≤ quiet (under_way d) → AreCharged (under_way d) k budgets
-    → time ≡ (under_way d).time + (k - 1) → tasks ≡ map (paid time (under_way d).places k budgets) (under_way d).tasks
+    → time ≡ (under_way d).time + (k - 1) → tasks ≡ map (paid time (standing (under_way d).places) k budgets) (under_way d).tasks
     → record (under_way d) { time = time; tasks = tasks } ≡ ticks k d
 paid_is d k budgets time tasks steady placed some quiet-is are time-is tasks-are =
     let e = under_way d in
     let b = begun d in
     let at : time ≡ d.time + k = omega (arith, time-is, some) in
     let runs : All (RunsIf b k) b.tasks = λ i x h stand. let r = runs_each e k budgets steady.numbered placed are i x h stand in record { ready = r.ready; worked = r.worked; lasted = r.lasted } in
-    let alike : map (paid time e.places k budgets) e.tasks ≡ map (jumped b k) b.tasks =
-    map_alike (paid time e.places k budgets) (jumped b k) b.tasks (λ i x h. paid_each e time k budgets steady.numbered are i x h ∙ ap (λ n. let t = get_or b.tasks i x in cond (stands t.number b.places) (ran_until n k (t.server.left -ℤ pos (rate_of b t * k)) t) t) at) in
+    let alike : map (paid time (standing e.places) k budgets) e.tasks ≡ map (jumped b k) b.tasks =
+    map_alike (paid time (standing e.places) k budgets) (jumped b k) b.tasks (λ i x h. paid_each e time k budgets steady.numbered are i x h ∙ ap (λ n. let t = get_or b.tasks i x in cond (stands t.number b.places) (ran_until n k (t.server.left -ℤ pos (rate_of b t * k)) t) t) at) in
     let all = tasks-are ∙ alike in
     (λ i. record e { time = at i; tasks = all i }) ∙ sym (jump_is d k some (omega (arith, quiet-is)) runs)
 
@@ -204,12 +204,15 @@ same_went_on time (Until x) t u h = record { number = h.number; params = h.param
 same_went_on time WaitFor t u h = record { number = h.number; params = h.params; cpu = h.cpu }
 same_went_on time End t u h = record { number = h.number; params = h.params; cpu = h.cpu }
 
-pub same_paid : (time : ℕ) (places : Places) (ticks : ℕ) (budgets : List ℤ) (t : Task) → Same t (paid time places ticks budgets t)
-same_paid time places ticks budgets t = by_index (index_of places t)
+pub same_ran_until : (time ticks : ℕ) (left : ℤ) (t : Task) → Same t (ran_until time ticks left t)
+same_ran_until time ticks left t = same_either _ t _ _ (same_went_on time _ t _ (record { number = refl; params = refl; cpu = refl })) (record { number = refl; params = refl; cpu = refl })
+
+pub same_paid : (time : ℕ) (running : List ℕ) (ticks : ℕ) (budgets : List ℤ) (t : Task) → Same t (paid time running ticks budgets t)
+same_paid time running ticks budgets t = by_index (index_of running t)
   where
     by_index : (o : Option ℕ) → Same t (paid_at time ticks budgets o t)
     by_index None = same_itself t
-    by_index (Some i) = same_either _ t _ _ (same_went_on time _ t _ (record { number = refl; params = refl; cpu = refl })) (record { number = refl; params = refl; cpu = refl })
+    by_index (Some i) = same_ran_until time ticks (slice_index_or budgets i (pos 0)) t
 
 -- a later time, and other tasks of the same numbers, parameters and CPUs
 pub later_is : (e : Domain) (f : Task → Task) (time : ℕ) (tasks : List Task) → IsDomain e → ((t : Task) → Same t (f t)) → e.time ≤ time → time ≤ 2 ^ 42 → tasks ≡ map f e.tasks → All (IsSound time) tasks → IsDomain (record e { time = time; tasks = tasks })

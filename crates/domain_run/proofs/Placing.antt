@@ -39,7 +39,7 @@ task_there : (n : ℕ) (o : Option ℕ) → is_task n o ≡ true → o ≡ Some 
 task_there n None e = absurd cc
 task_there n (Some m) e = ap (λ x. Some x) (eqb-true m n e)
 
-there : (places : Places) (cpu n : ℕ) → occupant places cpu ≡ Some n → cpu < length places
+pub there : (places : Places) (cpu n : ℕ) → occupant places cpu ≡ Some n → cpu < length places
 there places cpu n e =
     elim (cases_lt cpu (length places)) [
       | inl h ↦ h
@@ -49,7 +49,7 @@ there places cpu n e =
 task_is : (n : ℕ) (o : Option ℕ) → o ≡ Some n → is_task n o ≡ true
 task_is n o e = ap (is_task n) e ∙ eq-eqb n n refl
 
-position_at : (places : Places) (cpu n : ℕ) → IsApart places → occupant places cpu ≡ Some n → position (is_task n) places ≡ Some cpu
+pub position_at : (places : Places) (cpu n : ℕ) → IsApart places → occupant places cpu ≡ Some n → position (is_task n) places ≡ Some cpu
 position_at places cpu n apart e =
     let within = there places cpu n e in
     let before : (k : ℕ) → k < cpu → is_task n (get_or places k None) ≡ false = λ k less.
@@ -170,15 +170,3 @@ running_ready d numbered is i x within h =
   where
     ready_there : {n cpu : ℕ} → Any (λ t. (t.number ≡ n) × (t.cpu ≡ cpu) × IsTrue (is_ready t.condition) × (pos 0 <ℤ t.server.left)) d.tasks → Any (λ t. (t.number ≡ n) × IsTrue (is_ready t.condition)) d.tasks
     ready_there (j, u, inside, same, facts) = (j, u, inside, same, (facts.0, facts.2))
-
--- the same of a placement of their candidates
-pub seated_ready : (cpus : ℕ) (tasks : List Task) (places : Places) → AllPairs (λ a b. a.number ≢ b.number) tasks → IsSeating (candidates tasks) cpus places → All (λ t. IsTrue (stands t.number places) → IsTrue (is_ready t.condition)) tasks
-seated_ready cpus tasks places numbered is i x within h =
-    let n = (get_or tasks i x).number in
-    let at = stands_at n places (Any-from_list_any (is_task n) places h) in
-    ready_one tasks i n x numbered within refl (ready_there (Any-from_list_any (is_ready_number n) tasks (ready_in n tasks (is.candidates.each at.0 n at.1))))
-  where
-    ready_there : {n : ℕ} → Any (λ t. is_ready_number n t ≡ true) tasks → Any (λ t. (t.number ≡ n) × IsTrue (is_ready t.condition)) tasks
-    ready_there {n} (j, u, inside, same, test) =
-        let both = and_both (eqb u.number n) (is_ready u.condition) test in
-        (j, u, inside, same, (eqb-true u.number n both.0, both.1))

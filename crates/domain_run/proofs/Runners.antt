@@ -22,7 +22,7 @@ standing_few [] = omega arith
 standing_few (None ∷ places) = omega (arith, standing_few places)
 standing_few (Some n ∷ places) = omega (arith, standing_few places)
 
-standing_occupies : (places : Places) (i n : ℕ) → slice_get (standing places) i ≡ Some n → (cpu : ℕ) × (occupant places cpu ≡ Some n)
+pub standing_occupies : (places : Places) (i n : ℕ) → slice_get (standing places) i ≡ Some n → (cpu : ℕ) × (occupant places cpu ≡ Some n)
 standing_occupies [] i n e = absurd cc
 standing_occupies (None ∷ places) i n e = let there = standing_occupies places i n e in (suc there.0, there.1)
 standing_occupies (Some m ∷ places) zero n e = (0, e)

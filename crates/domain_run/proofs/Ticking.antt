@@ -1,27 +1,22 @@
 -- A tick keeps what every domain keeps.
-use Rattle.std.proofs.Common.{◌≡◌, ℕ, ◌+◌, ◌*◌, ◌^◌, ◌<◌, ◌≤◌, Bool, eqb, Option, Some, None, List, ◌++◌, length, map, refl, sym, ap, ◌∙◌, subst, arith}
-use Rattle.std.specs.Prelude.{All, Any, AllPairs, pos, ◌<ℤ◌, IsTrue, filter, position, ◌≢◌, slice_index}
+use Rattle.std.proofs.Common.{◌≡◌, ℕ, ◌+◌, ◌^◌, ◌<◌, ◌≤◌, Bool, eqb, Option, Some, None, List, ◌++◌, length, map, sym, ap, ◌∙◌, subst, arith}
+use Rattle.std.specs.Prelude.{All, Any, AllPairs, pos, ◌<ℤ◌, IsTrue, filter, position, ◌≢◌}
 use Rattle.std.specs.List.{list_any}
-use Rattle.std.proofs.lemmas.List.{length-map, get_or_default}
+use Rattle.std.proofs.lemmas.List.{length-map}
 use Rattle.std.proofs.lemmas.List.Elements.{All-map, All-weaker, All-filter}
 use Rattle.std.proofs.lemmas.List.Kept.{AllPairs-filter}
-use Rattle.std.proofs.Math.Nat.{mul-le-mul}
 use Rattle.attr_check.specs.Ratio.{cap}
 use Rattle.domain_run.specs.declared.task.Task.{Task}
-use Rattle.grub_rules.specs.Sums.{uinact}
 use Rattle.edf_pick.specs.Places.{Places, is_task, stands, placed}
 use Rattle.domain_run.specs.Parts.{replenish_due, settled, is_listed, unblocked, homed, homed_at}
 use Rattle.domain_run.specs.declared.switch.Switch.{Switch}
 use Rattle.domain_run.specs.Switches.{switches_from}
-use Rattle.domain_run.specs.private.Charging.{ran_with}
 use Rattle.domain_run.specs.Domain.{Domain}
-use Rattle.domain_run.specs.Tick.{shares, sum_of, candidates, prepared, with_places, begun, ran_if, finished, ticked}
+use Rattle.domain_run.specs.Tick.{sum_of, candidates, prepared, with_places, begun, ran_if, finished, ticked}
 use Rattle.domain_run.specs.Sound.{IsSound, IsPlacement, IsSteady, IsDomain, IsAdmitted}
-use Rattle.domain_run.specs.private.Charging.{AreSums}
 use Rattle.domain_run.specs.Conditions.{is_ready}
 use Rattle.domain_run.proofs.Tracing.{AreStanding, tick_traced}
 use Rattle.domain_run.proofs.Keeping.{Same, same_itself, same_either, same_replenished, same_settled, same_unblocked, same_ran, AllPairs-map, length-filter_least, sum-map, sum-filter}
-use Rattle.grub_rules.proofs.CallerLemmas.{uinact-le-total_bw}
 use Rattle.domain_run.proofs.Seating.{placed_is}
 use Rattle.domain_run.proofs.Placing.{homed_number, homed_params, homed_cpu, position_within, placed_tasks}
 
@@ -120,23 +115,6 @@ finished_is d is early sound =
       known = l.known;
       wide = is.wide;
       apart = is.apart;
-    }
-
--- the rates that the code reads are those of the definition
-pub ran_as : (d : Domain) (idle : List ℕ) (sum : ℕ) → ((cpu : ℕ) → slice_index idle cpu ≡ uinact cpu (shares d.tasks)) → sum ≡ sum_of d.tasks → map (ran_with d.time d.places idle sum d.cpus d.limit) d.tasks ≡ map (ran_if d) d.tasks
-ran_as d idle sum each total =
-    let same : (t : Task) → ran_with d.time d.places idle sum d.cpus d.limit t ≡ ran_if d t = λ t. rw (each t.cpu, total) refl in
-    λ i. map (λ t. same t i) d.tasks
-
-pub sums_are : (d : Domain) (idle : List ℕ) (sum : ℕ) → IsSteady d → ((cpu : ℕ) → slice_index idle cpu ≡ uinact cpu (shares d.tasks)) → sum ≡ sum_of d.tasks → AreSums idle sum d.cpus d.limit
-sums_are d idle sum is each total =
-    let most : cap d.cpus d.limit ≤ 64 * 1048576 = mul-le-mul is.cpus.1 is.limit.1 in
-    record {
-      idle_short = λ k x within. rw (get_or_default idle k x 0 within, each k) (omega (arith, uinact-le-total_bw k (shares d.tasks), is.within, most));
-      sum_short = omega (arith, total, is.within, most);
-      within = rw total is.within;
-      are_cpus = is.cpus;
-      is_limit = is.limit;
     }
 
 -- ---- the middle of a tick, as the code has it

@@ -1,4 +1,4 @@
-pub mod Charging
 pub mod Numbers
 pub mod RunQueue
 pub mod Paying
+pub mod Index

@@ -6,6 +6,8 @@
 #![tactic(auto)]
 
 mod call;
+mod charging;
+mod index;
 mod memory;
 mod name;
 mod numbers;
@@ -13,7 +15,6 @@ mod parts;
 mod run_queue;
 mod running;
 mod script;
-mod seats;
 mod state;
 mod sweep;
 mod switch;

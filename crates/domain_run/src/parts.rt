@@ -1,22 +1,21 @@
 //! The parts of a tick, on one task.
 
-ghost use Rattle.std.specs.Prelude.{◌≡◌, ◌<◌, ◌≤◌, ◌^◌, ◌+◌, ◌-◌, ℕ, IsTrue, IsSome, false, position, find, ◌==◌, option_copied, option_map, pos, neg_ℤ, ◌≤ℤ◌, ◌<ℤ◌, ◌&&◌, not};
+ghost use Rattle.std.specs.Prelude.{◌≡◌, ◌<◌, ◌≤◌, ◌^◌, ◌+◌, ◌-◌, ℕ, IsTrue, IsSome, false, ◌≢◌, AllPairs, pos, neg_ℤ, ◌≤ℤ◌, ◌<ℤ◌};
 ghost use Rattle.domain_run.specs.Conditions as conditions;
 ghost use Rattle.cbs_rules.specs.Serving as serving;
-ghost use Rattle.edf_pick.specs.Places as places_spec;
 ghost use Rattle.domain_run.specs.Tick as tick_spec;
 ghost use Rattle.domain_run.specs.Switches as switches_spec;
 ghost use Rattle.domain_run.specs.Views as views;
 ghost use Rattle.domain_run.specs.Calls as calls;
 ghost use Rattle.domain_run.specs.Domain.{Domain};
 ghost use Rattle.domain_run.specs.Parts as parts;
-ghost use Rattle.domain_run.specs.private.Charging.{IsReadyToStand};
 ghost use Rattle.domain_run.specs.private.Paying.{ran_until};
 ghost use Rattle.domain_run.specs.Jump as jump;
 ghost use Rattle.domain_run.specs.script.Segments.{IsSegment, next_ask};
 ghost use Rattle.domain_run.specs.Bounds.{IsServed};
 ghost use Rattle.domain_run.specs.Sound.{IsTimed, IsSound};
 
+use crate::index::Index;
 use crate::name::Name;
 use crate::running::Running;
 use crate::script::{Script, Segment};
@@ -273,20 +272,6 @@ fn after_charge(task: &mut Task, time: u64)
     }
 }
 
-/// Part 6: a tick of running at a rate in 1/2^20.
-pub(crate) fn run(task: &mut Task, rate: u64, time: u64)
-    requires early { time < 2 ^ 42 }
-    requires slow { rate ≤ 2 ^ 32 }
-    requires sound { IsSound time task.old }
-    requires running { IsTrue (conditions.is_ready task.old.condition) }
-    ensures task { task.new ≡ parts.ran time rate task.old }
-    ensures sound { IsSound (time + 1) task.new }
-{
-    task.server = cbs_rules::charge(task.server, rate, 1);
-    task.work -= 1;
-    after_charge(task, time + 1);
-}
-
 /// Part 6: so many ticks of running at once, up to a time, with what they leave of the budget.
 pub(crate) fn run_until(task: &mut Task, time: u64, ticks: u64, left: i128)
     requires early { time < 2 ^ 43 }
@@ -336,35 +321,6 @@ pub(crate) fn running_of(task: &Task, uinact: u64) -> Running
     }
 }
 
-fn place_of(number: u32, places: &[Option<u32>]) -> Option<usize>
-    ensures { result ≡ position (places_spec.is_task number) places.now }
-{
-    places.iter().position(|occupant| *occupant == Some(number))
-}
-
-/// Part 4: whether a task belongs to the CPU on which it is placed, or is placed on none.
-pub(crate) fn is_at_home(task: &Task, places: &[Option<u32>]) -> bool
-    ensures { IsTrue result → parts.homed places.now task.now ≡ task.now }
-{
-    match place_of(task.number, places) {
-        None => true,
-        Some(cpu) => cpu == task.cpu,
-    }
-}
-
-/// Part 4: a placed task, which is ready, belongs to its CPU.
-pub(crate) fn home(task: &mut Task, places: &[Option<u32>])
-    requires { IsReadyToStand places.now task.old }
-    ensures { task.new ≡ parts.homed places.now task.old }
-{
-    if !task.condition.is_ready() {
-        return;
-    }
-    if let Some(cpu) = place_of(task.number, places) {
-        task.cpu = cpu;
-    }
-}
-
 /// Part 4: a ready task as the choice sees it.
 pub(crate) fn candidate_of(task: &Task) -> Candidate
     ensures { result ≡ tick_spec.candidate_of task.now }
@@ -393,38 +349,30 @@ fn left_in(condition: Condition) -> PrevState
     }
 }
 
-pub(crate) fn find(tasks: &[Task], number: u32) -> Option<&Task>
-    ensures { option_copied result ≡ find (λ t. t.number == number) tasks.now }
-{
-    tasks.iter().find(|task| task.number == number)
-}
-
 /// Part 5: the state in which an occupant leaves its CPU.
-pub(crate) fn state_of(tasks: &[Task], occupant: Option<u32>) -> PrevState
+pub(crate) fn state_of(tasks: &[Task], index: &Index, occupant: Option<u32>) -> PrevState
+    requires { AllPairs (λ a b. a.number ≢ b.number) tasks.now }
     ensures { result ≡ switches_spec.state_of tasks.now occupant }
 {
     match occupant {
         None => PrevState::Running,
-        Some(number) => match find(tasks, number) {
+        Some(number) => match index.find(tasks, number) {
             None => PrevState::Dead,
             Some(task) => left_in(task.condition),
         },
     }
 }
 
-/// What a caller may see of the task of a number.
-pub(crate) fn view_of(tasks: &[Task], number: u32) -> Option<TaskView>
-    ensures { result ≡ option_map views.view_of (find (λ t. t.number == number) tasks.now) }
+/// What a caller may see of a task.
+pub(crate) fn view_of(task: &Task) -> TaskView
+    ensures { result ≡ views.view_of task.now }
 {
-    match find(tasks, number) {
-        None => None,
-        Some(task) => Some(TaskView {
-            server: task.server,
-            condition: task.condition,
-            zero_lag: task.zero_lag,
-            cpu: task.cpu,
-            params: task.params,
-        }),
+    TaskView {
+        server: task.server,
+        condition: task.condition,
+        zero_lag: task.zero_lag,
+        cpu: task.cpu,
+        params: task.params,
     }
 }
 
@@ -457,41 +405,26 @@ pub(crate) fn new_task(
     }
 }
 
-/// The task of a number, where it is listed and has not ended.
-pub(crate) fn live(tasks: &[Task], number: u32) -> Option<&Task>
-    ensures { option_copied result
-        ≡ find (λ t. t.number == number && not (conditions.is_leaving t.condition)) tasks.now }
+/// A regrade: new parameters.
+pub(crate) fn regrade(task: &mut Task, params: &Params)
+    ensures { task.new ≡ calls.regraded params.now task.old }
 {
-    tasks.iter().find(|task| task.number == number && !task.condition.is_leaving())
+    task.params = *params;
 }
 
-/// A regrade of the task of a number: new parameters.
-pub(crate) fn regrade(task: &mut Task, number: u32, params: &Params)
-    ensures { task.new ≡ calls.of_number number (calls.regraded params.now) task.old }
+/// A wake: it asks its script in the next tick.
+pub(crate) fn release(task: &mut Task, time: u64)
+    ensures { task.new ≡ calls.released time task.old }
 {
-    if task.number == number {
-        task.params = *params;
-    }
+    task.condition = Condition::Blocked(time);
 }
 
-/// A wake of the task of a number: it asks its script in the next tick.
-pub(crate) fn release(task: &mut Task, number: u32, time: u64)
-    ensures { task.new ≡ calls.of_number number (calls.released time) task.old }
-{
-    if task.number == number {
-        task.condition = Condition::Blocked(time);
-    }
-}
-
-/// The end of the task of a number: where it contends, its zero-lag time is told from now.
-pub(crate) fn end(task: &mut Task, number: u32, time: u64)
+/// The end of a task: where it contends, its zero-lag time is told from now.
+pub(crate) fn end(task: &mut Task, time: u64)
     requires { IsSound time task.old }
-    ensures task { task.new ≡ calls.of_number number (calls.ended time) task.old }
+    ensures task { task.new ≡ calls.ended time task.old }
     ensures sound { IsSound time task.new }
 {
-    if task.number != number {
-        return;
-    }
     if task.condition.is_contending() {
         stop(task, Condition::Leaving, time);
     } else {

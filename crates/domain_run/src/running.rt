@@ -1,3 +1,7 @@
+//! Who runs in the middle of a tick.
+
+ghost use Rattle.std.specs.Prelude.{◌≡◌, slice_get};
+
 use attr_check::Params;
 
 /// A running task in the middle of a tick: what its rate depends on, and for how long it may run.
@@ -11,4 +15,14 @@ pub struct Running {
     pub left: i128,
     /// Work left in its segment, in microseconds.
     pub work: u64,
+}
+
+/// The i-th of those who stand on the CPUs.
+pub(crate) fn standing_at(running: &[u32], i: usize) -> Option<u32>
+    ensures { result ≡ slice_get running.now i }
+{
+    match running.get(i) {
+        None => None,
+        Some(number) => Some(*number),
+    }
 }

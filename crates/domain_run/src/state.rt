@@ -21,15 +21,15 @@ mod machine;
 mod tests;
 
 use crate::call::{Refused, Reply};
+use crate::index::Index;
 use crate::memory::NoMemory;
 use crate::name::Name;
 use crate::numbers::Numbers;
-use crate::parts;
 use crate::run_queue::{RunQueue, share_of};
 use crate::script::Script;
-use crate::sweep::{self, Sums};
 use crate::switch::Switch;
 use crate::task::{Task, TaskView};
+use crate::{charging, parts};
 use attr_check::Params;
 use edf_pick::Placement;
 use std::alloc::Global;
@@ -47,9 +47,12 @@ pub struct State {
     switches: Vec<Switch>,
     // The running sums of the listed tasks, and the ready ones in order.
     queue: RunQueue,
+    // Where the tasks of the list are, by their numbers.
+    index: Index,
+    // Who stands on the CPUs, one after another.
+    running: Vec<u32>,
     // Room for a tick; between two ticks it means nothing.
     before: Vec<Option<u32>>,
-    idle: Vec<u64>,
 }
 
 impl Model for State {
@@ -61,7 +64,7 @@ impl Model for State {
 
     ghost view = { λ s. record { cpus = s.cpus; limit = s.limit; time = s.time; tasks = s.tasks.items; used = s.used; places = s.places; switches = s.switches.items } };
 
-    ghost invariant = { λ s. IsState (record { cpus = s.cpus; limit = s.limit; time = s.time; tasks = s.tasks.items; used = s.used; places = s.places; switches = s.switches.items }) s.queue (vec_capacity s.tasks) (vec_len s.before) (vec_len s.idle) };
+    ghost invariant = { λ s. IsState (record { cpus = s.cpus; limit = s.limit; time = s.time; tasks = s.tasks.items; used = s.used; places = s.places; switches = s.switches.items }) s.queue s.running.items (vec_capacity s.tasks) (vec_len s.before) (vec_capacity s.running) };
 }
 
 impl State {
@@ -83,8 +86,9 @@ impl State {
             places: Placement::open(alloc, cpus)?,
             switches: Vec::new(alloc),
             queue: RunQueue::open(alloc, cpus)?,
+            index: Index::open(alloc)?,
+            running: Vec::with_capacity(alloc, cpus)?,
             before: vec![in alloc; None; cpus]?,
-            idle: vec![in alloc; 0; cpus]?,
         })
     }
 
@@ -118,7 +122,10 @@ impl State {
     pub fn view(&self, number: u32) -> Option<TaskView>
         ensures { result ≡ view_in self.now number }
     {
-        parts::view_of(&self.tasks, number)
+        match self.index.find(&self.tasks, number) {
+            None => None,
+            Some(task) => Some(parts::view_of(task)),
+        }
     }
 }
 
@@ -142,30 +149,10 @@ impl State {
         ensures keys { OnOk result (AreKept self.old.tasks self.new.tasks) }
         ensures err { OnErr result (self.new ≡ self.old) }
     {
-        self.switches.try_reserve(self.cpus)?;
-        sweep::begin(
-            self.time,
-            &mut self.tasks,
-            &mut self.queue,
-            &mut self.places,
-            &mut self.switches,
-            &mut self.before,
-        );
-        sweep::inactive(&mut self.idle, &self.queue.accounts);
-        let sums = Sums {
-            idle: &self.idle,
-            sum: self.queue.accounts.total(),
-            cpus: self.cpus as u64,
-            limit: self.limit,
-        };
-        sweep::run_all(
-            &mut self.tasks,
-            &mut self.queue,
-            self.places.occupants(),
-            &sums,
-            self.time,
-        );
-        self.time += 1;
+        self.begin()?;
+        let mut budgets = [0; 64];
+        let count = charging::charge(self, &mut budgets);
+        self.finish(1, &budgets[..count]);
         Ok(())
     }
 }
@@ -199,6 +186,7 @@ impl State {
         let task = parts::new_task(number, name, params, self.time + delay, script, self.cpus);
         self.used.insert(number);
         self.queue.accounts.join(&share_of(&task));
+        self.index.note(number, self.tasks.len());
         self.tasks.push_reserved(task);
     }
 

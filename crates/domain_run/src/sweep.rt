@@ -1,19 +1,19 @@
 //! The parts of a tick, on all tasks of a domain.
 
-ghost use Rattle.std.specs.Prelude.{◌≡◌, ◌<◌, ◌≤◌, ◌^◌, ◌+◌, ◌-◌, map, filter, ℕ, All, ◌++◌, length, slice_index, vec_len, vec_capacity};
+ghost use Rattle.std.specs.Prelude.{◌≡◌, ◌≢◌, ◌<◌, ◌≤◌, ◌^◌, ◌+◌, ◌-◌, map, filter, All, AllPairs, ◌++◌, length, pos, slice_index_or, Some, vec_len, vec_capacity};
 ghost use Rattle.domain_run.specs.Parts as parts_spec;
 ghost use Rattle.edf_pick.specs.Places as places_spec;
 ghost use Rattle.domain_run.specs.Sound.{IsSound, IsApart};
 ghost use Rattle.domain_run.specs.Switches as switches_spec;
-ghost use Rattle.grub_rules.specs.Accounts.{AreAccounts, inactive_at};
+ghost use Rattle.grub_rules.specs.Accounts.{AreAccounts};
 ghost use Rattle.domain_run.specs.Tick as tick_spec;
-ghost use Rattle.domain_run.specs.private.Charging.{AreSums, IsReadyToStand, rate_with, ran_with};
 ghost use Rattle.domain_run.specs.Calls as calls;
 ghost use Rattle.domain_run.specs.private.RunQueue.{IsCounted};
-ghost use Rattle.domain_run.specs.private.Paying.{MayPayIf, paid};
+ghost use Rattle.domain_run.specs.private.Paying.{MayPay, MayPayIf, paid, ran_until};
 ghost use Rattle.domain_run.specs.Jump as jump;
 
-use crate::run_queue::{RunQueue, share_of, standing_of};
+use crate::index::Index;
+use crate::run_queue::{RunQueue, share_of};
 use crate::switch::Switch;
 use crate::task::Task;
 use crate::{parts, turning};
@@ -66,16 +66,27 @@ fn part_left(accounts: &mut Accounts, tasks: &[Task])
     }
 }
 
+// Where fewer tasks are listed than before, each is at another place.
+fn note_left(index: &mut Index, tasks: &[Task], before: usize) {
+    if tasks.len() < before {
+        for place in 0..tasks.len() {
+            index.note(tasks[place].number, place);
+        }
+    }
+}
+
 /// Part 2: tasks that have left go off the list.
-fn drop_left(tasks: &mut Vec<Task>, queue: &mut RunQueue)
+fn drop_left(tasks: &mut Vec<Task>, queue: &mut RunQueue, index: &mut Index)
     requires { IsCounted (length queue.old.accounts.all) queue.old tasks.old.items }
     ensures tasks { tasks.new.items ≡ filter parts_spec.is_listed tasks.old.items }
     ensures counted { IsCounted (length queue.old.accounts.all) queue.new tasks.new.items }
     ensures few { vec_len tasks.new ≤ vec_len tasks.old }
     ensures room { vec_capacity tasks.new ≡ vec_capacity tasks.old }
 {
+    let before = tasks.len();
     part_left(&mut queue.accounts, tasks);
     tasks.retain(|task| parts::is_listed(task));
+    note_left(index, tasks, before);
 }
 
 /// Part 3: tasks whose time of blocking is over.
@@ -95,7 +106,7 @@ fn unblock_all(tasks: &mut Vec<Task>, queue: &mut RunQueue, time: u64)
 }
 
 /// Parts 1 to 3.
-fn wake_all(tasks: &mut Vec<Task>, queue: &mut RunQueue, time: u64)
+fn wake_all(tasks: &mut Vec<Task>, queue: &mut RunQueue, index: &mut Index, time: u64)
     requires early { time < 2 ^ 42 }
     requires sound { All (IsSound time) tasks.old.items }
     requires counted { IsCounted (length queue.old.accounts.all) queue.old tasks.old.items }
@@ -107,20 +118,36 @@ fn wake_all(tasks: &mut Vec<Task>, queue: &mut RunQueue, time: u64)
 {
     replenish_all(tasks, queue, time);
     settle_all(tasks, queue, time);
-    drop_left(tasks, queue);
+    drop_left(tasks, queue, index);
     unblock_all(tasks, queue, time);
 }
 
+/// Part 4: the task of a number belongs to a CPU.
+fn home_one(tasks: &mut Vec<Task>, queue: &mut RunQueue, index: &Index, number: u32, cpu: usize)
+    requires there { cpu < length queue.old.accounts.all }
+    requires counted { IsCounted (length queue.old.accounts.all) queue.old tasks.old.items }
+    ensures tasks { tasks.new.items
+        ≡ map (calls.of_number number (parts_spec.homed_at (Some cpu))) tasks.old.items }
+    ensures counted { IsCounted (length queue.old.accounts.all) queue.new tasks.new.items }
+    ensures room { vec_capacity tasks.new ≡ vec_capacity tasks.old }
+{
+    if let Some(place) = index.place(tasks, number) {
+        turning::home(&mut tasks[place], queue, cpu);
+    }
+}
+
 /// Part 4: a placed task belongs to its CPU.
-fn home_all(tasks: &mut Vec<Task>, queue: &mut RunQueue, places: &[Option<u32>])
-    requires running { All (IsReadyToStand places.now) tasks.old.items }
+fn home_all(tasks: &mut Vec<Task>, queue: &mut RunQueue, index: &Index, places: &[Option<u32>])
+    requires apart { IsApart places.now }
     requires counted { IsCounted (length places.now) queue.old tasks.old.items }
     ensures tasks { tasks.new.items ≡ map (parts_spec.homed places.now) tasks.old.items }
     ensures counted { IsCounted (length places.now) queue.new tasks.new.items }
     ensures room { vec_capacity tasks.new ≡ vec_capacity tasks.old }
 {
-    for task in tasks.iter_mut() {
-        turning::home(task, queue, places);
+    for cpu in 0..places.len() {
+        if let Some(number) = places[cpu] {
+            home_one(tasks, queue, index, number, cpu);
+        }
     }
 }
 
@@ -129,9 +156,11 @@ fn add_switches(
     switches: &mut Vec<Switch>,
     time: u64,
     tasks: &[Task],
+    index: &Index,
     before: &[Option<u32>],
     after: &[Option<u32>],
 )
+    requires numbered { AllPairs (λ a b. a.number ≢ b.number) tasks.now }
     requires few { length before.now ≤ 64 }
     requires same { length after.now ≡ length before.now }
     requires room { vec_len switches.old + length before.now ≤ vec_capacity switches.old }
@@ -148,7 +177,7 @@ fn add_switches(
                 prev,
                 next,
                 cpu: cpu as u16,
-                state: parts::state_of(tasks, prev),
+                state: parts::state_of(tasks, index, prev),
             });
         }
     }
@@ -162,15 +191,32 @@ fn copy_places(before: &mut Vec<Option<u32>>, places: &[Option<u32>])
     before.copy_from_slice(places);
 }
 
+/// Who stands on the CPUs, one after another.
+fn list_running(running: &mut Vec<u32>, places: &[Option<u32>])
+    requires room { length places.now ≤ vec_capacity running.old }
+    ensures running { running.new.items ≡ jump.standing places.now }
+    ensures room { vec_capacity running.new ≡ vec_capacity running.old }
+{
+    running.clear();
+    for occupant in places {
+        if let Some(number) = occupant {
+            running.push_reserved(*number);
+        }
+    }
+}
+
 /// Parts 1 to 5: replenishment, zero-lag times, wake-ups, placement and the switches. `before` is room.
 pub(crate) fn begin(
     time: u64,
     tasks: &mut Vec<Task>,
     queue: &mut RunQueue,
+    index: &mut Index,
     places: &mut Placement,
+    running: &mut Vec<u32>,
     switches: &mut Vec<Switch>,
     before: &mut Vec<Option<u32>>,
 )
+    requires runners { length places.old ≤ vec_capacity running.old }
     requires early { time < 2 ^ 42 }
     requires sound { All (IsSound time) tasks.old.items }
     requires counted { IsCounted (length places.old) queue.old tasks.old.items }
@@ -187,85 +233,41 @@ pub(crate) fn begin(
         ++ switches_spec.switches_from time (tick_spec.prepared time tasks.old.items) 0 places.old places.new }
     ensures tasks_room { vec_capacity tasks.new ≡ vec_capacity tasks.old }
     ensures before_len { vec_len before.new ≡ vec_len before.old }
+    ensures running { running.new.items ≡ jump.standing places.new }
+    ensures runners { vec_capacity running.new ≡ vec_capacity running.old }
 {
-    wake_all(tasks, queue, time);
+    wake_all(tasks, queue, index, time);
     copy_places(before, places.occupants());
     edf_pick::pick(places, &queue.ready);
-    add_switches(switches, time, tasks, before, places.occupants());
-    home_all(tasks, queue, places.occupants());
+    list_running(running, places.occupants());
+    add_switches(switches, time, tasks, index, before, places.occupants());
+    home_all(tasks, queue, index, places.occupants());
 }
 
-/// Part 6: the bandwidth of the inactive tasks of each CPU.
-pub(crate) fn inactive(idle: &mut Vec<u64>, accounts: &Accounts)
-    requires { vec_len idle.old ≡ length accounts.now.all }
-    ensures each { (cpu : ℕ) → slice_index idle.new.items cpu ≡ inactive_at cpu accounts.now }
-    ensures len { vec_len idle.new ≡ vec_len idle.old }
-{
-    for cpu in 0..idle.len() {
-        idle[cpu] = accounts.uinact(cpu);
-    }
-}
-
-/// What the rates of a tick depend on, beside the task: the inactive bandwidth of each CPU, the bandwidth of all tasks, the
-/// number of CPUs, and the limit.
-#[derive(Clone, Copy)]
-pub(crate) struct Sums<'a> {
-    pub(crate) idle: &'a Vec<u64>,
-    pub(crate) sum: u64,
-    pub(crate) cpus: u64,
-    pub(crate) limit: u64,
-}
-
-fn rate_at(task: &Task, sums: &Sums<'_>) -> u64
-    requires sums { AreSums sums.now.idle.now.items sums.now.sum sums.now.cpus sums.now.limit }
-    requires home { task.now.cpu < vec_len sums.now.idle.now }
-    ensures value { result
-        ≡ rate_with sums.now.idle.now.items sums.now.sum sums.now.cpus sums.now.limit task.now }
-    ensures slow { result ≤ 2 ^ 32 }
-{
-    let uinact = sums.idle[task.cpu];
-    grub_rules::rate(&task.params, uinact, sums.sum, sums.cpus, sums.limit)
-}
-
-fn run_if(task: &mut Task, places: &[Option<u32>], sums: &Sums<'_>, time: u64)
-    requires early { time < 2 ^ 42 }
-    requires sums { AreSums sums.now.idle.now.items sums.now.sum sums.now.cpus sums.now.limit }
-    requires home { task.old.cpu < vec_len sums.now.idle.now }
-    requires sound { IsSound time task.old }
-    requires running { IsReadyToStand places.now task.old }
-    ensures task { task.new ≡ ran_with time places.now
-        sums.now.idle.now.items sums.now.sum sums.now.cpus sums.now.limit task.old }
-    ensures sound { IsSound (time + 1) task.new }
-{
-    if task.condition.is_ready() && edf_pick::stands(task.number, places) {
-        let rate = rate_at(task, sums);
-        parts::run(task, rate, time);
-    }
-}
-
-/// Part 6: every running task is charged.
-pub(crate) fn run_all(
+/// Part 6 of so many ticks at once, up to a time: the i-th running task, which has this number, has its budget, and its work has
+/// fallen.
+fn pay_one(
     tasks: &mut Vec<Task>,
     queue: &mut RunQueue,
-    places: &[Option<u32>],
-    sums: &Sums<'_>,
+    index: &Index,
+    number: u32,
+    i: usize,
+    budgets: &[i128],
+    ticks: u64,
     time: u64,
 )
-    requires early { time < 2 ^ 42 }
-    requires sums { AreSums sums.now.idle.now.items sums.now.sum sums.now.cpus sums.now.limit }
+    requires early { time < 2 ^ 43 }
     requires sound { All (IsSound time) tasks.old.items }
-    requires running { All (IsReadyToStand places.now) tasks.old.items }
-    requires counted { IsCounted (vec_len sums.now.idle.now) queue.old tasks.old.items }
-    ensures tasks { tasks.new.items ≡ map (ran_with time places.now
-        sums.now.idle.now.items sums.now.sum sums.now.cpus sums.now.limit) tasks.old.items }
-    ensures sound { All (IsSound (time + 1)) tasks.new.items }
-    ensures counted { IsCounted (vec_len sums.now.idle.now) queue.new tasks.new.items }
+    requires may { All (λ t. t.number ≡ number → MayPay ticks budgets.now t i) tasks.old.items }
+    requires counted { IsCounted (length queue.old.accounts.all) queue.old tasks.old.items }
+    ensures tasks { tasks.new.items ≡ map (calls.of_number number
+        (ran_until time ticks (slice_index_or budgets.now i (pos 0)))) tasks.old.items }
+    ensures sound { All (IsSound time) tasks.new.items }
+    ensures counted { IsCounted (length queue.old.accounts.all) queue.new tasks.new.items }
     ensures room { vec_capacity tasks.new ≡ vec_capacity tasks.old }
 {
-    for task in tasks.iter_mut() {
-        let before = standing_of(task);
-        run_if(task, places, sums, time);
-        queue.turn(before, standing_of(task));
+    if let Some(place) = index.place(tasks, number) {
+        turning::pay(&mut tasks[place], queue, i, budgets, ticks, time);
     }
 }
 
@@ -273,22 +275,24 @@ pub(crate) fn run_all(
 pub(crate) fn pay_all(
     tasks: &mut Vec<Task>,
     queue: &mut RunQueue,
-    places: &[Option<u32>],
+    index: &Index,
+    running: &[u32],
     budgets: &[i128],
     ticks: u64,
     time: u64,
 )
     requires early { time < 2 ^ 43 }
+    requires apart { AllPairs (λ m n. m ≢ n) running.now }
     requires sound { All (IsSound time) tasks.old.items }
-    requires may { All (MayPayIf places.now ticks budgets.now) tasks.old.items }
+    requires may { All (MayPayIf running.now ticks budgets.now) tasks.old.items }
     requires counted { IsCounted (length queue.old.accounts.all) queue.old tasks.old.items }
-    ensures tasks { tasks.new.items ≡ map (paid time places.now ticks budgets.now) tasks.old.items }
+    ensures tasks { tasks.new.items ≡ map (paid time running.now ticks budgets.now) tasks.old.items }
     ensures sound { All (IsSound time) tasks.new.items }
     ensures counted { IsCounted (length queue.old.accounts.all) queue.new tasks.new.items }
     ensures room { vec_capacity tasks.new ≡ vec_capacity tasks.old }
 {
-    for task in tasks.iter_mut() {
-        turning::pay(task, queue, places, budgets, ticks, time);
+    for i in 0..running.len() {
+        pay_one(tasks, queue, index, running[i], i, budgets, ticks, time);
     }
 }
 
@@ -305,7 +309,13 @@ pub(crate) fn rest(tasks: &[Task], time: u64) -> u64
 }
 
 /// A regrade of the task of a number.
-pub(crate) fn regrade_one(tasks: &mut Vec<Task>, queue: &mut RunQueue, number: u32, params: &Params)
+pub(crate) fn regrade_one(
+    tasks: &mut Vec<Task>,
+    queue: &mut RunQueue,
+    index: &Index,
+    number: u32,
+    params: &Params,
+)
     requires short { params.now.bw ≤ 2 ^ 26 }
     requires counted { IsCounted (length queue.old.accounts.all) queue.old tasks.old.items }
     ensures tasks { tasks.new.items
@@ -313,26 +323,38 @@ pub(crate) fn regrade_one(tasks: &mut Vec<Task>, queue: &mut RunQueue, number: u
     ensures counted { IsCounted (length queue.old.accounts.all) queue.new tasks.new.items }
     ensures room { vec_capacity tasks.new ≡ vec_capacity tasks.old }
 {
-    for task in tasks.iter_mut() {
-        turning::regrade(task, queue, number, params);
+    if let Some(place) = index.place(tasks, number) {
+        turning::regrade(&mut tasks[place], queue, params);
     }
 }
 
 /// A wake of the task of a number.
-pub(crate) fn release_one(tasks: &mut Vec<Task>, queue: &mut RunQueue, number: u32, time: u64)
+pub(crate) fn release_one(
+    tasks: &mut Vec<Task>,
+    queue: &mut RunQueue,
+    index: &Index,
+    number: u32,
+    time: u64,
+)
     requires { IsCounted (length queue.old.accounts.all) queue.old tasks.old.items }
     ensures tasks { tasks.new.items
         ≡ map (calls.of_number number (calls.released time)) tasks.old.items }
     ensures counted { IsCounted (length queue.old.accounts.all) queue.new tasks.new.items }
     ensures room { vec_capacity tasks.new ≡ vec_capacity tasks.old }
 {
-    for task in tasks.iter_mut() {
-        turning::release(task, queue, number, time);
+    if let Some(place) = index.place(tasks, number) {
+        turning::release(&mut tasks[place], queue, time);
     }
 }
 
 /// The end of the task of a number.
-pub(crate) fn end_one(tasks: &mut Vec<Task>, queue: &mut RunQueue, number: u32, time: u64)
+pub(crate) fn end_one(
+    tasks: &mut Vec<Task>,
+    queue: &mut RunQueue,
+    index: &Index,
+    number: u32,
+    time: u64,
+)
     requires sound { All (IsSound time) tasks.old.items }
     requires counted { IsCounted (length queue.old.accounts.all) queue.old tasks.old.items }
     ensures tasks { tasks.new.items
@@ -341,7 +363,7 @@ pub(crate) fn end_one(tasks: &mut Vec<Task>, queue: &mut RunQueue, number: u32, 
     ensures counted { IsCounted (length queue.old.accounts.all) queue.new tasks.new.items }
     ensures room { vec_capacity tasks.new ≡ vec_capacity tasks.old }
 {
-    for task in tasks.iter_mut() {
-        turning::end(task, queue, number, time);
+    if let Some(place) = index.place(tasks, number) {
+        turning::end(&mut tasks[place], queue, time);
     }
 }

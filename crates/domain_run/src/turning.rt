@@ -1,17 +1,16 @@
 //! One task turns, and the run queue is told. A task on which a part of a tick, or a call, does nothing costs one look.
 
-ghost use Rattle.std.specs.Prelude.{◌≡◌, ◌<◌, ◌≤◌, ◌^◌, ◌+◌};
+ghost use Rattle.std.specs.Prelude.{◌≡◌, ◌<◌, ◌≤◌, ◌^◌, ◌+◌, pos, slice_index_or, Some};
 ghost use Rattle.domain_run.specs.Parts as parts_spec;
 ghost use Rattle.domain_run.specs.Calls as calls;
 ghost use Rattle.domain_run.specs.Sound.{IsSound};
-ghost use Rattle.domain_run.specs.private.Charging.{IsReadyToStand};
-ghost use Rattle.domain_run.specs.private.Paying.{MayPayIf, paid};
+ghost use Rattle.domain_run.specs.private.Paying.{MayPay, ran_until};
 ghost use Rattle.domain_run.specs.private.RunQueue as spec;
 
+use crate::parts;
 use crate::run_queue::{RunQueue, standing_of};
 use crate::state::bw_within;
 use crate::task::Task;
-use crate::{parts, seats};
 use attr_check::Params;
 
 /// Part 1: only a throttled task is replenished.
@@ -75,105 +74,86 @@ pub(crate) fn unblock(task: &mut Task, queue: &mut RunQueue, time: u64)
 
 /// Part 4: only a task that is placed on another CPU than its own moves.
 #[tactic(auto, using(crate::proofs::Unturned::unturned))]
-pub(crate) fn home(task: &mut Task, queue: &mut RunQueue, places: &[Option<u32>])
-    requires running { IsReadyToStand places.now task.old }
-    requires may { spec.MayTurn queue.old (spec.standing_of task.old)
-        (spec.standing_of (parts_spec.homed places.now task.old)) }
-    ensures task { task.new ≡ parts_spec.homed places.now task.old }
+pub(crate) fn home(task: &mut Task, queue: &mut RunQueue, cpu: usize)
+    requires { spec.MayTurn queue.old (spec.standing_of task.old)
+        (spec.standing_of (parts_spec.homed_at (Some cpu) task.old)) }
+    ensures task { task.new ≡ parts_spec.homed_at (Some cpu) task.old }
     ensures turned { spec.HasTurned (spec.standing_of task.old) (spec.standing_of task.new)
         queue.old queue.new }
 {
-    if !task.condition.is_ready() {
-        return;
-    }
-    if parts::is_at_home(task, places) {
+    if task.cpu == cpu {
         return;
     }
     let before = standing_of(task);
-    parts::home(task, places);
+    task.cpu = cpu;
     queue.turn(before, standing_of(task));
 }
 
-/// Part 6 of so many ticks at once, up to a time: only a task that stands on a CPU has run.
-#[tactic(auto, using(crate::proofs::Unturned::unturned))]
+/// Part 6 of so many ticks at once, up to a time, of the i-th running task, with what they leave of its budget.
 pub(crate) fn pay(
     task: &mut Task,
     queue: &mut RunQueue,
-    places: &[Option<u32>],
+    i: usize,
     budgets: &[i128],
     ticks: u64,
     time: u64,
 )
     requires early { time < 2 ^ 43 }
     requires sound { IsSound time task.old }
-    requires may { MayPayIf places.now ticks budgets.now task.old }
-    requires turns { spec.MayTurn queue.old (spec.standing_of task.old)
-        (spec.standing_of (paid time places.now ticks budgets.now task.old)) }
-    ensures task { task.new ≡ paid time places.now ticks budgets.now task.old }
+    requires may { MayPay ticks budgets.now task.old i }
+    requires turns { spec.MayTurn queue.old (spec.standing_of task.old) (spec.standing_of
+        (ran_until time ticks (slice_index_or budgets.now i (pos 0)) task.old)) }
+    ensures task { task.new ≡ ran_until time ticks (slice_index_or budgets.now i (pos 0)) task.old }
     ensures sound { IsSound time task.new }
     ensures turned { spec.HasTurned (spec.standing_of task.old) (spec.standing_of task.new)
         queue.old queue.new }
 {
-    if !task.condition.is_ready() {
-        return;
-    }
-    if let Some(i) = seats::index_of(task.number, places) {
-        let _bw = bw_within(&task.params);
-        let before = standing_of(task);
-        parts::run_until(task, time, ticks, budgets[i]);
-        queue.turn(before, standing_of(task));
-    }
-}
-
-/// A regrade of the task of a number.
-#[tactic(auto, using(crate::proofs::Unturned::unturned))]
-pub(crate) fn regrade(task: &mut Task, queue: &mut RunQueue, number: u32, params: &Params)
-    requires { spec.MayTurn queue.old (spec.standing_of task.old)
-        (spec.standing_of (calls.of_number number (calls.regraded params.now) task.old)) }
-    ensures task { task.new ≡ calls.of_number number (calls.regraded params.now) task.old }
-    ensures turned { spec.HasTurned (spec.standing_of task.old) (spec.standing_of task.new)
-        queue.old queue.new }
-{
-    if task.number != number {
-        return;
-    }
+    let _bw = bw_within(&task.params);
     let before = standing_of(task);
-    parts::regrade(task, number, params);
+    parts::run_until(task, time, ticks, budgets[i]);
     queue.turn(before, standing_of(task));
 }
 
-/// A wake of the task of a number.
+/// A regrade.
 #[tactic(auto, using(crate::proofs::Unturned::unturned))]
-pub(crate) fn release(task: &mut Task, queue: &mut RunQueue, number: u32, time: u64)
+pub(crate) fn regrade(task: &mut Task, queue: &mut RunQueue, params: &Params)
     requires { spec.MayTurn queue.old (spec.standing_of task.old)
-        (spec.standing_of (calls.of_number number (calls.released time) task.old)) }
-    ensures task { task.new ≡ calls.of_number number (calls.released time) task.old }
+        (spec.standing_of (calls.regraded params.now task.old)) }
+    ensures task { task.new ≡ calls.regraded params.now task.old }
     ensures turned { spec.HasTurned (spec.standing_of task.old) (spec.standing_of task.new)
         queue.old queue.new }
 {
-    if task.number != number {
-        return;
-    }
     let before = standing_of(task);
-    parts::release(task, number, time);
+    parts::regrade(task, params);
     queue.turn(before, standing_of(task));
 }
 
-/// The end of the task of a number.
+/// A wake.
 #[tactic(auto, using(crate::proofs::Unturned::unturned))]
-pub(crate) fn end(task: &mut Task, queue: &mut RunQueue, number: u32, time: u64)
+pub(crate) fn release(task: &mut Task, queue: &mut RunQueue, time: u64)
+    requires { spec.MayTurn queue.old (spec.standing_of task.old)
+        (spec.standing_of (calls.released time task.old)) }
+    ensures task { task.new ≡ calls.released time task.old }
+    ensures turned { spec.HasTurned (spec.standing_of task.old) (spec.standing_of task.new)
+        queue.old queue.new }
+{
+    let before = standing_of(task);
+    parts::release(task, time);
+    queue.turn(before, standing_of(task));
+}
+
+/// The end of a task.
+#[tactic(auto, using(crate::proofs::Unturned::unturned))]
+pub(crate) fn end(task: &mut Task, queue: &mut RunQueue, time: u64)
     requires sound { IsSound time task.old }
     requires may { spec.MayTurn queue.old (spec.standing_of task.old)
-        (spec.standing_of (calls.of_number number (calls.ended time) task.old)) }
-    ensures task { task.new ≡ calls.of_number number (calls.ended time) task.old }
+        (spec.standing_of (calls.ended time task.old)) }
+    ensures task { task.new ≡ calls.ended time task.old }
     ensures sound { IsSound time task.new }
     ensures turned { spec.HasTurned (spec.standing_of task.old) (spec.standing_of task.new)
         queue.old queue.new }
 {
-    if task.number != number {
-        return;
-    }
     let before = standing_of(task);
-    parts::end(task, number, time);
+    parts::end(task, time);
     queue.turn(before, standing_of(task));
 }

@@ -71,7 +71,7 @@ left_push lefts rates ticks i budgets z here is before j within =
     ]
 
 -- a running task is one of those that stand
-running_within : (d : Domain) (i : ℕ) (r : Running) → running d i ≡ Some r → i < length (standing d.places)
+pub running_within : (d : Domain) (i : ℕ) (r : Running) → running d i ≡ Some r → i < length (standing d.places)
 running_within d i r e =
     elim (cases_lt i (length (standing d.places))) [
       | inl h ↦ h

@@ -1,11 +1,18 @@
 //! From event to event.
 
-ghost use Rattle.std.specs.Prelude.{◌≡◌, ◌<◌, ◌≤◌, ◌^◌, ◌+◌, IfOk, OnErr};
+ghost use Rattle.std.specs.Prelude.{◌≡◌, ◌<◌, ◌≤◌, ◌^◌, ◌+◌, IfOk, OnErr, vec_capacity};
 ghost use Rattle.domain_run.specs.Tick.{ticks as ticks_of};
 ghost use Rattle.domain_run.specs.Keys.{AreKept};
 
-use crate::plan::{self, Room};
+use crate::alone;
+use crate::crew::{self, Crew, Lists};
+use crate::plan::Room;
+use crate::silent::Silent;
 use domain_run::{NoMemory, State};
+use std::alloc::Global;
+use std::sync::Wait;
+use std::thread::Threads;
+use tick_split::Turn;
 
 /// How many ticks an advance made, at most as many as asked; fewer only where a growth was refused.
 #[derive(Clone, Copy, Debug, PartialEq, Eq)]
@@ -14,7 +21,7 @@ pub struct Done {
 }
 
 /// One event and the ticks up to the next: how many they were. `Err` where room for the event's switches was refused.
-fn jump(state: &mut State, most: u64, room: &mut Room) -> Result<u64, NoMemory>
+fn jump<G: Turn>(state: &mut State, most: u64, room: &mut Room, turn: &G) -> Result<u64, NoMemory>
     requires some { 0 < most }
     requires early { state.old.time + most ≤ 2 ^ 42 }
     ensures some { IfOk result (λ made. 0 < made) }
@@ -24,9 +31,80 @@ fn jump(state: &mut State, most: u64, room: &mut Room) -> Result<u64, NoMemory>
     ensures keys { AreKept state.old.tasks state.new.tasks }
 {
     state.begin()?;
-    let plan = plan::make(state, most, room);
-    state.finish(plan.ticks, &room.budgets[..plan.count]);
-    Ok(plan.ticks)
+    let span = alone::make(state, most, room, turn);
+    state.finish(span.ticks, &room.budgets[..span.count]);
+    Ok(span.ticks)
+}
+
+/// As `jump`, by several workers.
+fn jump_with<R: Threads + Wait, G: Turn>(
+    crew: &Crew<'_, R, G>,
+    state: &mut State,
+    most: u64,
+    lists: &mut Lists,
+    room: &mut Room,
+) -> Result<u64, NoMemory>
+    requires workers { 0 < crew.now.workers }
+    requires some { 0 < most }
+    requires early { state.old.time + most ≤ 2 ^ 42 }
+    requires plans { vec_capacity lists.old.plans ≡ 64 }
+    requires slices { vec_capacity lists.old.slices ≡ 64 }
+    ensures some { IfOk result (λ made. 0 < made) }
+    ensures most { IfOk result (λ made. made ≤ most) }
+    ensures ok { IfOk result (λ made. state.new ≡ ticks_of made state.old) }
+    ensures err { OnErr result (state.new ≡ state.old) }
+    ensures keys { AreKept state.old.tasks state.new.tasks }
+    ensures plans { vec_capacity lists.new.plans ≡ 64 }
+    ensures slices { vec_capacity lists.new.slices ≡ 64 }
+{
+    state.begin()?;
+    let span = crew::make(crew, state, most, lists, room);
+    state.finish(span.ticks, &room.budgets[..span.count]);
+    Ok(span.ticks)
+}
+
+/// As [`advance`], with the turns of one piece.
+fn advance_alone<G: Turn>(state: &mut State, n: u64, turn: &G) -> Done
+    requires { state.old.time + n ≤ 2 ^ 42 }
+    ensures state { state.new ≡ ticks_of result.ticks state.old }
+    ensures most { result.ticks ≤ n }
+    ensures keys { AreKept state.old.tasks state.new.tasks }
+{
+    let mut room = Room::new();
+    let mut ticks = 0;
+    'events: while ticks < n {
+        let Ok(made) = jump(state, n - ticks, &mut room, turn) else {
+            break;
+        };
+        ticks += made;
+    }
+    Done { ticks }
+}
+
+/// As [`advance`], by several workers.
+fn advance_by<R: Threads + Wait, G: Turn>(
+    crew: &Crew<'_, R, G>,
+    state: &mut State,
+    n: u64,
+    mut lists: Lists,
+) -> Done
+    requires workers { 0 < crew.now.workers }
+    requires early { state.old.time + n ≤ 2 ^ 42 }
+    requires plans { vec_capacity lists.plans ≡ 64 }
+    requires slices { vec_capacity lists.slices ≡ 64 }
+    ensures state { state.new ≡ ticks_of result.ticks state.old }
+    ensures most { result.ticks ≤ n }
+    ensures keys { AreKept state.old.tasks state.new.tasks }
+{
+    let mut room = Room::new();
+    let mut ticks = 0;
+    'events: while ticks < n {
+        let Ok(made) = jump_with(crew, state, n - ticks, &mut lists, &mut room) else {
+            break;
+        };
+        ticks += made;
+    }
+    Done { ticks }
 }
 
 /// Goes on by so many ticks, from event to event: the state and its switches are exactly those of so many single ticks. Room for
@@ -39,13 +117,39 @@ pub fn advance(state: &mut State, n: u64) -> Done
     ensures most { result.ticks ≤ n }
     ensures keys { AreKept state.old.tasks state.new.tasks }
 {
-    let mut room = Room::new();
-    let mut ticks = 0;
-    'events: while ticks < n {
-        let Ok(made) = jump(state, n - ticks, &mut room) else {
-            break;
-        };
-        ticks += made;
+    advance_alone(state, n, &Silent)
+}
+
+/// As [`advance`], by so many workers at most (1 to 8 are meant): before each jump the rates of the running tasks, and when their
+/// budgets end, are worked out as [`plan_all`](tick_split::plan_all) does, and at its end they are charged as
+/// [`charge_all`](tick_split::charge_all) does, with the turns of their pieces. The number of workers changes no result. Where a
+/// worker is not started or a growth is refused, that step is made in one piece, which needs neither; want of memory for the lists
+/// that workers share makes all steps so. One worker starts no thread and takes no memory beside that of `advance`.
+pub fn advance_with<R: Threads + Wait, G: Turn>(
+    rt: &R,
+    alloc: Global,
+    state: &mut State,
+    n: u64,
+    workers: usize,
+    turn: &G,
+) -> Done
+    requires workers { 0 < workers }
+    requires early { state.old.time + n ≤ 2 ^ 42 }
+    ensures state { state.new ≡ ticks_of result.ticks state.old }
+    ensures most { result.ticks ≤ n }
+    ensures keys { AreKept state.old.tasks state.new.tasks }
+{
+    if workers == 1 {
+        return advance_alone(state, n, turn);
     }
-    Done { ticks }
+    let Ok(lists) = Lists::open(alloc) else {
+        return advance_alone(state, n, turn);
+    };
+    let crew = Crew {
+        rt,
+        alloc,
+        workers,
+        turn,
+    };
+    advance_by(&crew, state, n, lists)
 }

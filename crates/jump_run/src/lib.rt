@@ -6,9 +6,14 @@
 #![tactic(auto)]
 
 mod advancing;
+mod alone;
+mod crew;
 mod plan;
+mod silent;
 
-pub use advancing::{Done, advance};
+pub use advancing::{Done, advance, advance_with};
+pub use silent::Silent;
+pub use tick_split::Turn;
 
 #[cfg(test)]
 mod tests;

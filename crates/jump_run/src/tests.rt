@@ -1,6 +1,7 @@
 //! Worked rows through jumps, and jumps against single ticks.
 
 mod against_ticks;
+mod by_workers;
 
 use super::{Done, advance};
 use attr_check::{Params, SchedAttr, check};
@@ -49,6 +50,17 @@ fn admit(alloc: Global, state: &mut State, number: u32, worker: Worker<'_>) -> R
     Ok(matches!(state.admit(number, name, given, 0, script), Ok(())))
 }
 
+/// Tasks 1, 2, .., admitted at 0.
+fn admitted(alloc: Global, cpus: u32, limit: u64, workers: &[Worker<'_>]) -> Result<State, Fail> {
+    let mut state = State::open(alloc, cpus.clamp(1, 64), limit.clamp(10485, UNIT))?;
+    let mut number: u32 = 0;
+    for worker in workers {
+        number = number.saturating_add(1);
+        admit(alloc, &mut state, number, *worker)?;
+    }
+    Ok(state)
+}
+
 /// Tasks 1, 2, .., admitted at 0, after so many ticks: the domain and how many were made.
 fn played(
     alloc: Global,
@@ -57,12 +69,7 @@ fn played(
     workers: &[Worker<'_>],
     ticks: u64,
 ) -> Result<(State, Done), Fail> {
-    let mut state = State::open(alloc, cpus.clamp(1, 64), limit.clamp(10485, UNIT))?;
-    let mut number: u32 = 0;
-    for worker in workers {
-        number = number.saturating_add(1);
-        admit(alloc, &mut state, number, *worker)?;
-    }
+    let mut state = admitted(alloc, cpus, limit, workers)?;
     let left = (1_u64 << 42).saturating_sub(state.now());
     let done = advance(&mut state, ticks.min(left));
     Ok((state, done))
@@ -156,34 +163,40 @@ fn spent_while_blocking(rt: HostRuntime) -> Result<(), Fail> {
     shows(&rt, rt.alloc(), (1, UNIT), &workers, 9, &switches)
 }
 
-#[test]
-fn fraction_and_carry(rt: HostRuntime) -> Result<(), Fail> {
-    let workers = [reclaiming(once((4, 8, 8), &[Event::Run(1000)]))];
-    let switches = [
+const CARRYING: [Event; 1] = [Event::Run(1000)];
+
+fn carried() -> [Switch; 3] {
+    [
         switch(0, 0, None, PrevState::Running, Some(1)),
         switch(23, 0, Some(1), PrevState::Preempted, None),
         switch(24, 0, None, PrevState::Running, Some(1)),
-    ];
-    shows(&rt, rt.alloc(), (1, 996147), &workers, 25, &switches)
+    ]
 }
 
 #[test]
-fn two_cpus(rt: HostRuntime) -> Result<(), Fail> {
-    let worker = forever((4, 8, 8), &[Event::Run(4), Event::Timer(8)]);
-    let switches = [
+fn fraction_and_carry(rt: HostRuntime) -> Result<(), Fail> {
+    let tasks = [reclaiming(once((4, 8, 8), &CARRYING))];
+    shows(&rt, rt.alloc(), (1, 996147), &tasks, 25, &carried())
+}
+
+const HALF_OF_8_US: [Event; 2] = [Event::Run(4), Event::Timer(8)];
+
+fn three<'a>() -> [Worker<'a>; 3] {
+    [forever((4, 8, 8), &HALF_OF_8_US); 3]
+}
+
+fn on_two_cpus() -> [Switch; 4] {
+    [
         switch(0, 0, None, PrevState::Running, Some(2)),
         switch(0, 1, None, PrevState::Running, Some(1)),
         switch(4, 0, Some(2), PrevState::Sleeping, None),
         switch(4, 1, Some(1), PrevState::Sleeping, Some(3)),
-    ];
-    shows(
-        &rt,
-        rt.alloc(),
-        (2, UNIT),
-        &[worker, worker, worker],
-        5,
-        &switches,
-    )
+    ]
+}
+
+#[test]
+fn two_cpus(rt: HostRuntime) -> Result<(), Fail> {
+    shows(&rt, rt.alloc(), (2, UNIT), &three(), 5, &on_two_cpus())
 }
 
 #[test]

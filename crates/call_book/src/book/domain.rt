@@ -18,11 +18,20 @@ use crate::section::Entry;
 use attr_check::Params;
 use bw_gate::{Blank, Gate, Ticket};
 use domain_run::{Call, NoMemory, Reply, State};
+use jump_run::Silent;
 use std::alloc::Global;
 use std::error::Error;
 use std::fmt;
 use std::marker::Model;
 use std::sync::Wait;
+use std::thread::Threads;
+
+/// How many workers an advance may have: at least one.
+#[derive(Clone, Copy)]
+struct Workers {
+    count: usize,
+    ghost some: { 0 < count },
+}
 
 /// One root domain with the history of its calls and the tickets of its tasks. It has room for so many calls; it is neither
 /// cloned nor dropped, but closed, since it holds tickets.
@@ -32,6 +41,9 @@ pub struct Domain {
     state: State,
     ledger: Ledger,
     stock: Stock,
+    // No contract sees them: they change no answer.
+    alloc: Global,
+    workers: Workers,
 }
 
 impl Model for Domain {
@@ -177,8 +189,20 @@ impl Domain {
             state,
             ledger,
             stock,
+            alloc,
+            workers: Workers { count: 1 },
         };
         Ok((book, passes))
+    }
+
+    /// How many workers an advance may have, 1 to 8; 1 where this was never called. They share the work on the tasks that run, which
+    /// starts threads and takes memory for each event of an advance; what an advance answers and enters is the same with every
+    /// number, also where a worker cannot be started. It is no call of the history. Takes no memory.
+    pub fn set_workers(&mut self, n: usize)
+        requires { (1 ≤ n) × (n ≤ 8) }
+        ensures { self.new ≡ self.old }
+    {
+        self.workers = Workers { count: n };
     }
 
     /// Admits a task whose bandwidth its ticket has. Tested in this order: the history is full; then as
@@ -274,11 +298,11 @@ impl Domain {
     }
 
     /// Makes up to `n` ticks, 1 to 60000000, and enters how many were made: fewer only where a growth was refused. The tickets of
-    /// tasks that went off the list are given back, and their blanks kept. For now it makes single ticks and waits for nobody; it
-    /// takes `Wait` for a way that will.
-    pub fn advance<R: Wait>(
+    /// tasks that went off the list are given back, and their blanks kept. It goes from event to event, by as many workers as
+    /// [`Domain::set_workers`] said, and waits for them; with one it starts no thread.
+    pub fn advance<R: Threads + Wait>(
         &mut self,
-        _rt: &R,
+        rt: &R,
         pass: &mut Pass,
         gate: &Gate,
         n: u64,
@@ -292,7 +316,7 @@ impl Domain {
         if self.ledger.is_full() {
             return Err(AdvanceError::Full);
         }
-        let ticks = make_ticks(&mut self.state, n);
+        let ticks = make_ticks(rt, self.alloc, &mut self.state, n, self.workers);
         if ticks == 0 {
             return Err(AdvanceError::Memory);
         }
@@ -345,6 +369,8 @@ impl Domain {
             state,
             mut ledger,
             stock,
+            alloc: _,
+            workers: _,
         } = self;
         ledger.agree_all(passes);
         let (tickets, blanks) = stock.into_pieces();
@@ -384,11 +410,17 @@ fn bw_within(params: &Params) -> u64
 }
 
 /// How many of so many ticks were made: fewer only where a growth was refused.
-fn make_ticks(state: &mut State, n: u64) -> u64
+fn make_ticks<R: Threads + Wait>(
+    rt: &R,
+    alloc: Global,
+    state: &mut State,
+    n: u64,
+    workers: Workers,
+) -> u64
     requires { state.old.time + n ≤ 2 ^ 42 }
     ensures most { result ≤ n }
     ensures state { state.new ≡ tick.ticks result state.old }
     ensures keys { AreKept state.old.tasks state.new.tasks }
 {
-    jump_run::advance(state, n).ticks
+    jump_run::advance_with(rt, alloc, state, n, workers.count, &Silent).ticks
 }

@@ -5,15 +5,17 @@ use super::{Admit, Closed, Domain, Pass, Prepared, prepare};
 use crate::reading::read_calls;
 use crate::section::{Entry, Section};
 use bw_gate::{Blank, Gate, Take, Ticket};
-use domain_run::{Call, NoMemory, Reply};
+use domain_run::{Call, NoMemory, Reply, State};
 use std::alloc::Global;
 use std::process::Abort;
 use std::sync::Wait;
 use std::test::Fail;
+use std::thread::Threads;
 
 mod rates;
 mod shared;
 mod threads;
+mod workers;
 
 // A gate of one domain of one CPU, its book with one client, and the client's blanks.
 struct Desk {
@@ -34,25 +36,27 @@ fn opened(rt: &impl Abort, alloc: Global, limit: u64, history: usize) -> Result<
     requires limit { (10485 ≤ limit) × (limit ≤ 1048576) }
     requires history { (0 < history) × (history ≤ 65536) }
 {
-    opened_with(rt, alloc, limit, history, 8)
+    opened_with(rt, alloc, 1, limit, history, 8)
 }
 
-// The same with so many pieces.
+// The same with so many CPUs and pieces.
 fn opened_with(
     rt: &impl Abort,
     alloc: Global,
+    cpus: u32,
     limit: u64,
     history: usize,
     pieces: usize,
 ) -> Result<Desk, NoMemory>
+    requires cpus { (0 < cpus) × (cpus ≤ 64) }
     requires limit { (10485 ≤ limit) × (limit ≤ 1048576) }
     requires history { (0 < history) × (history ≤ 65536) }
     requires pieces { (0 < pieces) × (pieces ≤ 4096) }
 {
-    let Ok((gate, blanks)) = Gate::open(alloc, &[limit], pieces) else {
+    let Ok((gate, blanks)) = Gate::open(alloc, &[u64::from(cpus) * limit], pieces) else {
         return Err(NoMemory);
     };
-    let (domain, mut passes) = Domain::open(alloc, &gate, 0, 1, limit, 1, history)?;
+    let (domain, mut passes) = Domain::open(alloc, &gate, 0, cpus, limit, 1, history)?;
     let Some(pass) = passes.pop() else {
         panic!(rt; "no pass")
     };
@@ -124,7 +128,12 @@ fn admit(rt: &impl Abort, desk: &mut Desk, prepared: Prepared) -> Reply
 }
 
 // Makes a call with word and book.
-fn make<R: Abort + Wait>(rt: &R, alloc: Global, desk: &mut Desk, call: &Call) -> Result<Reply, Fail>
+fn make<R: Abort + Threads + Wait>(
+    rt: &R,
+    alloc: Global,
+    desk: &mut Desk,
+    call: &Call,
+) -> Result<Reply, Fail>
     requires { IsCall call.now }
     ensures { desk.new.gate ≡ desk.old.gate }
 {
@@ -165,7 +174,7 @@ fn make<R: Abort + Wait>(rt: &R, alloc: Global, desk: &mut Desk, call: &Call) ->
 }
 
 // The replies to the calls of a text, one after another.
-fn replies<R: Abort + Wait>(
+fn replies<R: Abort + Threads + Wait>(
     rt: &R,
     alloc: Global,
     desk: &mut Desk,
@@ -181,8 +190,8 @@ fn replies<R: Abort + Wait>(
     Ok(replies)
 }
 
-// Closes book and gate: the sum of bandwidths, the word, and how many calls were entered.
-fn end(alloc: Global, desk: Desk) -> (u64, u64, usize) {
+// Closes book and gate: the state, the word, and how many calls were entered.
+fn closed(alloc: Global, desk: Desk) -> (State, u64, usize) {
     let Desk {
         gate,
         domain,
@@ -198,7 +207,13 @@ fn end(alloc: Global, desk: Desk) -> (u64, u64, usize) {
         blanks: _,
     } = domain.close(passes);
     let words = gate.close(blanks, tickets);
-    (state.sum(), words.word[0], entries.len())
+    (state, words.word[0], entries.len())
+}
+
+// The same with the sum of bandwidths in place of the state.
+fn end(alloc: Global, desk: Desk) -> (u64, u64, usize) {
+    let (state, word, calls) = closed(alloc, desk);
+    (state.sum(), word, calls)
 }
 
 // A book of one entry: the second admission is Full and its ticket comes back, as the word shows.
@@ -277,7 +292,11 @@ fn rival(rt: &impl Abort, desk: &mut Desk) -> Ticket
 }
 
 // An admission, and then a regrade for which a rival leaves no room at the word.
-fn refused<R: Abort + Wait>(rt: &R, alloc: Global, desk: &mut Desk) -> Result<Vec<Reply>, Fail> {
+fn refused<R: Abort + Threads + Wait>(
+    rt: &R,
+    alloc: Global,
+    desk: &mut Desk,
+) -> Result<Vec<Reply>, Fail> {
     let admission = b"dlcalls 1\ndomain 1 524288\nadmit 1 1 a 2 8 8 - 0 1:1{r1}\n";
     let regrade = b"dlcalls 1\ndomain 1 524288\nregrade 1 1 4 8 8 -\n";
     let first = replies(rt, alloc, desk, admission)?;

@@ -1,25 +1,23 @@
 -- What many ticks at once do to each task, for the code's own contracts.
 use Rattle.std.specs.Prelude.{ℕ, ℤ, pos, neg_ℤ, ◌-◌, ◌^◌, ◌<◌, ◌≤◌, ◌≤ℤ◌, ◌==◌, List, length, position, slice_index_or, Option, Some, None, IsTrue, IfSome}
-use Rattle.edf_pick.specs.Places.{Places}
 use Rattle.domain_run.specs.declared.task.Task.{Task}
 use Rattle.domain_run.specs.Conditions.{is_ready}
 use Rattle.domain_run.specs.Parts.{after_charge}
-use Rattle.domain_run.specs.Jump.{standing}
 
 -- a task that ran for so many ticks until a time, with what they left of its budget
 abbrev pub ran_until : ℕ → ℕ → ℤ → Task → Task
 ran_until time ticks left t = after_charge time (record t { server = record t.server { left = left }; work = t.work - ticks })
 
 -- which of the running tasks a task is
-abbrev pub index_of : Places → Task → Option ℕ
-index_of places t = position (λ n. n == t.number) (standing places)
+abbrev pub index_of : List ℕ → Task → Option ℕ
+index_of running t = position (λ n. n == t.number) running
 
 abbrev pub paid_at : ℕ → ℕ → List ℤ → Option ℕ → Task → Task
 paid_at time ticks budgets None t = t
 paid_at time ticks budgets (Some i) t = ran_until time ticks (slice_index_or budgets i (pos 0)) t
 
-abbrev pub paid : ℕ → Places → ℕ → List ℤ → Task → Task
-paid time places ticks budgets t = paid_at time ticks budgets (index_of places t) t
+abbrev pub paid : ℕ → List ℕ → ℕ → List ℤ → Task → Task
+paid time running ticks budgets t = paid_at time ticks budgets (index_of running t) t
 
 -- what one that stands on a CPU needs
 pub record MayPay (ticks : ℕ) (budgets : List ℤ) (t : Task) (i : ℕ) : Type 0 where
@@ -30,5 +28,5 @@ pub record MayPay (ticks : ℕ) (budgets : List ℤ) (t : Task) (i : ℕ) : Type
   pub low : t.params.bw ≤ 2 ^ 20 → neg_ℤ (pos (2 ^ 32)) ≤ℤ slice_index_or budgets i (pos 0)
   pub high : slice_index_or budgets i (pos 0) ≤ℤ pos (2 ^ 52)
 
-abbrev pub MayPayIf : Places → ℕ → List ℤ → Task → Type 0
-MayPayIf places ticks budgets t = IfSome (index_of places t) (MayPay ticks budgets t)
+abbrev pub MayPayIf : List ℕ → ℕ → List ℤ → Task → Type 0
+MayPayIf running ticks budgets t = IfSome (index_of running t) (MayPay ticks budgets t)

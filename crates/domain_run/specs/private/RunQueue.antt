@@ -9,6 +9,7 @@ use Rattle.domain_run.specs.declared.run_queue.RunQueue.{RunQueue}
 use Rattle.domain_run.specs.Conditions.{is_ready}
 use Rattle.domain_run.specs.Domain.{Domain}
 use Rattle.domain_run.specs.Sound.{IsDomain}
+use Rattle.domain_run.specs.Jump.{standing}
 use Rattle.domain_run.specs.Tick.{share_of, shares, candidate_of, candidates}
 
 -- a ready task as the choice sees it
@@ -58,11 +59,13 @@ pub record HasTurned (before after : Standing) (old new : RunQueue) : Type 0 whe
   pub sums : Exchanges old.accounts new.accounts (before.share ∷ []) (after.share ∷ [])
   pub order : ((before.ready ≡ after.ready) × (new.ready ≡ old.ready)) ⊎ (new.ready ≡ with_ready after.ready (without_ready before.ready old.ready))
 
--- what a state keeps: a domain, a run queue that counts its tasks, room for 256 tasks, and a place for each CPU
-pub record IsState (d : Domain) (queue : RunQueue) (tasks before idle : ℕ) : Type 0 where
+-- what a state keeps: a domain, a run queue that counts its tasks, who stands on its CPUs, room for 256 tasks, and a place for
+-- each CPU
+pub record IsState (d : Domain) (queue : RunQueue) (running : List ℕ) (tasks before runners : ℕ) : Type 0 where
   pub domain : IsDomain d
   pub wide : length queue.accounts.all ≡ d.cpus
   pub counts : Counts queue d.tasks
   pub tasks_room : 256 ≤ tasks
+  pub running_is : running ≡ standing d.places
   pub before_len : before ≡ d.cpus
-  pub idle_len : idle ≡ d.cpus
+  pub runners_room : d.cpus ≤ runners

@@ -9,7 +9,7 @@ ghost use Rattle.domain_run.specs.Busy.{IfBusy, LacksRoomToChange};
 
 use super::{State, bw_within};
 use crate::call::Reply;
-use crate::{parts, sweep};
+use crate::sweep;
 use attr_check::Params;
 
 impl State {
@@ -20,7 +20,7 @@ impl State {
         ensures busy { IfNone word
             (IfBusy result (LacksRoomToChange self.now number params.now.bw)) }
     {
-        let Some(task) = parts::live(&self.tasks, number) else {
+        let Some(task) = self.index.live(&self.tasks, number) else {
             return Reply::NotListed;
         };
         let sum = self.sum();
@@ -48,7 +48,13 @@ impl State {
             ≡ Reply.Changed }
         ensures { self.new ≡ calls.changed self.old number (calls.regraded params.now) }
     {
-        sweep::regrade_one(&mut self.tasks, &mut self.queue, number, params);
+        sweep::regrade_one(
+            &mut self.tasks,
+            &mut self.queue,
+            &self.index,
+            number,
+            params,
+        );
     }
 
     /// Gives a listed task new parameters at the time now, at once; its deadline, its budget and a zero-lag time ahead stay. Tested
@@ -71,7 +77,7 @@ impl State {
     fn wake_reply(&self, number: u32) -> Reply
         ensures { result ≡ calls.wake_reply (calls.task_of self.now number) }
     {
-        match parts::live(&self.tasks, number) {
+        match self.index.live(&self.tasks, number) {
             None => Reply::NotListed,
             Some(task) if task.condition.is_waiting() => Reply::Woken,
             Some(_) => Reply::NotWaiting,
@@ -82,7 +88,13 @@ impl State {
         requires { calls.wake_reply (calls.task_of self.old number) ≡ Reply.Woken }
         ensures { self.new ≡ calls.changed self.old number (calls.released self.old.time) }
     {
-        sweep::release_one(&mut self.tasks, &mut self.queue, number, self.time);
+        sweep::release_one(
+            &mut self.tasks,
+            &mut self.queue,
+            &self.index,
+            number,
+            self.time,
+        );
     }
 
     /// Wakes a task that waits: in the next tick it asks its script. [`Reply::NotListed`] where no task of this number is listed, or
@@ -102,7 +114,7 @@ impl State {
     fn leave_reply(&self, number: u32) -> Reply
         ensures { result ≡ calls.leave_reply (calls.task_of self.now number) }
     {
-        match parts::live(&self.tasks, number) {
+        match self.index.live(&self.tasks, number) {
             None => Reply::NotListed,
             Some(_) => Reply::Left,
         }
@@ -111,7 +123,13 @@ impl State {
     fn end(&mut self, number: u32)
         ensures { self.new ≡ calls.changed self.old number (calls.ended self.old.time) }
     {
-        sweep::end_one(&mut self.tasks, &mut self.queue, number, self.time);
+        sweep::end_one(
+            &mut self.tasks,
+            &mut self.queue,
+            &self.index,
+            number,
+            self.time,
+        );
     }
 
     /// Ends a task: it stays listed until its zero-lag time, which is told from now where it contends, and its bandwidth with it.

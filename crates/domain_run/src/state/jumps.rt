@@ -8,8 +8,8 @@ ghost use Rattle.domain_run.specs.Sound.{IsDomain};
 
 use super::State;
 use crate::memory::NoMemory;
-use crate::running::Running;
-use crate::{parts, seats, sweep};
+use crate::running::{Running, standing_at};
+use crate::{parts, sweep};
 
 impl State {
     /// Begins a tick: throttled tasks whose deadline has come are replenished, zero-lag times that have come are dropped, blocked
@@ -28,7 +28,9 @@ impl State {
             self.time,
             &mut self.tasks,
             &mut self.queue,
+            &mut self.index,
             &mut self.places,
+            &mut self.running,
             &mut self.switches,
             &mut self.before,
         );
@@ -47,10 +49,10 @@ impl State {
         ensures short { IfSome result (λ r. r.uinact ≤ 2 ^ 26) }
         ensures high { IfSome result (λ r. r.left ≤ℤ pos (2 ^ 52)) }
     {
-        let Some(number) = seats::standing_at(self.places.occupants(), i) else {
+        let Some(number) = standing_at(&self.running, i) else {
             return None;
         };
-        let Some(task) = parts::find(&self.tasks, number) else {
+        let Some(task) = self.index.find(&self.tasks, number) else {
             return None;
         };
         Some(parts::running_of(task, self.queue.accounts.uinact(task.cpu)))
@@ -82,7 +84,8 @@ impl State {
         sweep::pay_all(
             &mut self.tasks,
             &mut self.queue,
-            self.places.occupants(),
+            &self.index,
+            &self.running,
             budgets,
             ticks,
             time,

@@ -6,7 +6,6 @@ ghost use Rattle.domain_run.specs.Views.{name_in, script_in, number_in};
 
 use super::State;
 use crate::name::Name;
-use crate::parts;
 use crate::script::Script;
 
 #[cfg(test)]
@@ -17,7 +16,7 @@ impl State {
     pub fn name(&self, number: u32) -> Option<&Name>
         ensures { option_copied result ≡ name_in self.now number }
     {
-        match parts::find(&self.tasks, number) {
+        match self.index.find(&self.tasks, number) {
             None => None,
             Some(task) => Some(&task.name),
         }
@@ -28,7 +27,7 @@ impl State {
     pub fn script(&self, number: u32) -> Option<&Script>
         ensures { option_copied result ≡ script_in self.now number }
     {
-        match parts::find(&self.tasks, number) {
+        match self.index.find(&self.tasks, number) {
             None => None,
             Some(task) => Some(task.cursor.script()),
         }

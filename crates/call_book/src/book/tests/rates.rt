@@ -150,7 +150,7 @@ fn total(shares: &[Share]) -> (u32, Duration) {
 fn opened_books(rt: &impl Abort, alloc: Global) -> Result<Vec<Mutex<Desk>>, NoMemory> {
     let mut books = Vec::with_capacity(alloc, BOOKS)?;
     for k in 0..BOOKS {
-        match opened_with(rt, alloc, 1048576, 256, 256) {
+        match opened_with(rt, alloc, 1, 1048576, 256, 256) {
             Ok(desk) => books.push_reserved(Mutex::new(desk)),
             Err(NoMemory) => return Ok(books),
         }

@@ -15,7 +15,7 @@ use std::alloc::Global;
 use std::marker::{Brand, PhantomData};
 use std::sync::atomic::{AtomicUsize, Ordering};
 use std::sync::{Mutex, Wait};
-use std::thread::yield_now;
+use std::thread::{Threads, yield_now};
 
 // Which gate and which book the clients share, and how many they are. The call that starts them picks all three.
 pub(super) trait Naming {
@@ -206,7 +206,13 @@ impl<N: Naming> Locked<N> {
         let _ = self.domain.leave(&mut client.pass, number);
     }
 
-    pub(super) fn advance<R: Wait>(&mut self, rt: &R, gate: &Gate, client: &mut Client<N>, n: u64)
+    pub(super) fn advance<R: Threads + Wait>(
+        &mut self,
+        rt: &R,
+        gate: &Gate,
+        client: &mut Client<N>,
+        n: u64,
+    )
         requires gate { gate.now ≡ N.gate }
         requires call { IsCall (Call.Advance n) }
     {

@@ -41,7 +41,7 @@ fn regraded<N: Naming, R: Wait>(
 
 // A round of a client: the two calls are an admission and a regrade, which it makes under a number of its own. But for the first
 // task of each client it then ends the task, which goes off the list when time passes.
-fn round<N: Naming, R: Wait>(
+fn round<N: Naming, R: Threads + Wait>(
     rt: &R,
     alloc: Global,
     gate: &Gate,
@@ -69,7 +69,7 @@ fn round<N: Naming, R: Wait>(
 }
 
 // All rounds of a client, with numbers that no other client has.
-fn rounds<N: Naming, R: Wait>(
+fn rounds<N: Naming, R: Threads + Wait>(
     rt: &R,
     alloc: Global,
     gate: &Gate,

@@ -1,37 +1,42 @@
-use Rattle.std.proofs.Common.{◌<◌, length, get_or, sym, subst, arith}
-use Rattle.domain_run.specs.Calls.{of_number, ended}
-use Rattle.domain_run.proofs.Keeping.{Same}
+use Rattle.std.proofs.Common.{List, length, sym, subst}
+use Rattle.domain_run.specs.declared.task.Task.{Task}
+use Rattle.domain_run.specs.private.Index.{IsAt, IsAbsent}
+use Rattle.domain_run.specs.Calls.{ended}
 use Rattle.domain_run.proofs.Counting.{ended_same}
+use Rattle.domain_run.proofs.Finding.{IsFound, same_found, found_may, found_set, found_turned, map_others}
 use Rattle.std.proofs.lemmas.List.Elements.{All-set}
-use Rattle.domain_run.specs.private.RunQueue.{standing_of, HasTurned}
 use Rattle.domain_run.specs.Sound.{IsSound}
-use Rattle.edf_pick.proofs.MapStep.{map_step}
-use Rattle.domain_run.proofs.Counting.{IsFit, same_fit, may_turn, turned}
 use Rattle.domain_run.proofs.sweep.end_one.Goals as goal
 
 pub end-requires-clause-may : goal.end-requires-clause-may
 end-requires-clause-may c =
-    let l = c.loop-task in
-    let x = c.task-item.result in
-    let y = of_number c.args.number (ended c.args.time) (get_or l.task-items l.task-index x) in
-    let t = get_or l.task-items l.task-index x in
-    let cpus = length c.args.queue.now.accounts.all in
-    let within : l.task-index < length l.task-items = omega arith in
-    let fit : IsFit cpus t y = same_fit cpus l.queue l.task-items l.task-index x y within (ended_same c.args.number c.args.time t) l.invariant.counted in
-    may_turn cpus l.queue l.task-items l.task-index x y within fit l.invariant.counted
+    let tasks = c.args.tasks.now.items in
+    let p = c.in-Some.place in
+    let x = c.index_mut.result.now in
+    let at : IsAt tasks c.args.number p = subst (λ (ts : List Task). IsAt ts c.args.number p) c.deref.ensures.value c.in-Some.ensures.there in
+    let found : IsFound (length c.args.queue.now.accounts.all) c.args.queue.now tasks c.args.number p x (ended c.args.time) = same_found (length c.args.queue.now.accounts.all) c.args.queue.now tasks c.args.number p x (ended c.args.time) at c.index_mut.ensures.value (ended_same c.args.time x) c.requires.counted in
+    found_may (length c.args.queue.now.accounts.all) c.args.queue.now tasks c.args.number p x (ended c.args.time) found
 
-pub loop-task-preserved : goal.loop-task-preserved
-loop-task-preserved c =
-    let l = c.loop-task in
-    let x = c.task-item.result in
-    let y = c.end.new.task in
-    let t = get_or l.task-items l.task-index x in
-    let cpus = length c.args.queue.now.accounts.all in
-    let within : l.task-index < length l.task-items = omega arith in
-    let fit : IsFit cpus t y = same_fit cpus l.queue l.task-items l.task-index x y within (subst (Same t) (sym c.end.ensures.task) (ended_same c.args.number c.args.time t)) l.invariant.counted in
-    let has : HasTurned (standing_of t) (standing_of y) l.queue c.end.new.queue = c.end.ensures.turned in
-    record {
-      written = map_step (of_number c.args.number (ended c.args.time)) c.deref_mut-task-items.result.now l.task-items l.task-index x y c.loop-task-test.true l.invariant.written c.end.ensures.task;
-      sound = All-set (IsSound c.args.time) l.task-items l.task-index y c.end.ensures.sound l.invariant.sound;
-      counted = turned cpus l.queue c.end.new.queue l.task-items l.task-index x y within fit has l.invariant.counted;
-    }
+pub returns-in-Some-clause-tasks : goal.returns-in-Some-clause-tasks
+returns-in-Some-clause-tasks c =
+    let tasks = c.args.tasks.now.items in
+    let p = c.in-Some.place in
+    let x = c.index_mut.result.now in
+    let at : IsAt tasks c.args.number p = subst (λ (ts : List Task). IsAt ts c.args.number p) c.deref.ensures.value c.in-Some.ensures.there in
+    let found : IsFound (length c.args.queue.now.accounts.all) c.args.queue.now tasks c.args.number p x (ended c.args.time) = same_found (length c.args.queue.now.accounts.all) c.args.queue.now tasks c.args.number p x (ended c.args.time) at c.index_mut.ensures.value (ended_same c.args.time x) c.requires.counted in
+    found_set (length c.args.queue.now.accounts.all) c.args.queue.now tasks c.args.number p x c.end.new.task (ended c.args.time) c.end.ensures.task found
+
+pub returns-in-Some-clause-counted : goal.returns-in-Some-clause-counted
+returns-in-Some-clause-counted c =
+    let tasks = c.args.tasks.now.items in
+    let p = c.in-Some.place in
+    let x = c.index_mut.result.now in
+    let at : IsAt tasks c.args.number p = subst (λ (ts : List Task). IsAt ts c.args.number p) c.deref.ensures.value c.in-Some.ensures.there in
+    let found : IsFound (length c.args.queue.now.accounts.all) c.args.queue.now tasks c.args.number p x (ended c.args.time) = same_found (length c.args.queue.now.accounts.all) c.args.queue.now tasks c.args.number p x (ended c.args.time) at c.index_mut.ensures.value (ended_same c.args.time x) c.requires.counted in
+    found_turned (length c.args.queue.now.accounts.all) c.args.queue.now c.end.new.queue tasks c.args.number p x c.end.new.task (ended c.args.time) c.end.ensures.task c.end.ensures.turned found
+
+pub returns-in_default-clause-tasks : goal.returns-in_default-clause-tasks
+returns-in_default-clause-tasks c = sym (map_others (ended c.args.time) c.args.number c.args.tasks.now.items (subst (λ (ts : List Task). IsAbsent ts c.args.number) c.deref.ensures.value c.in_default.ensures.absent))
+
+pub returns-in-Some-clause-sound : goal.returns-in-Some-clause-sound
+returns-in-Some-clause-sound c = All-set (IsSound c.args.time) c.args.tasks.now.items c.in-Some.place c.end.new.task c.end.ensures.sound c.requires.sound

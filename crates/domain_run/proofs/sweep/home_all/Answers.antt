@@ -1,42 +1,39 @@
-use Rattle.std.proofs.Common.{◌<◌, length, get_or, sym, subst, arith}
-use Rattle.domain_run.specs.Parts.{homed}
-use Rattle.domain_run.proofs.Counting.{homed_fit}
-use Rattle.domain_run.specs.private.RunQueue.{standing_of, HasTurned}
-use Rattle.edf_pick.proofs.MapStep.{map_step, rest_all}
-use Rattle.domain_run.proofs.Counting.{IsFit, may_turn, turned}
-use Rattle.std.specs.Prelude.{IsTrue, All}
-use Rattle.edf_pick.specs.Places.{stands}
-use Rattle.domain_run.specs.Conditions.{is_ready}
+use Rattle.std.proofs.Common.{◌+◌, take, refl, sym, subst, ◌∙◌, arith, []}
+use Rattle.std.specs.Prelude.{Some}
+use Rattle.domain_run.specs.Parts.{homed, homed_at}
+use Rattle.domain_run.specs.Calls.{of_number}
+use Rattle.domain_run.specs.private.RunQueue.{IsCounted}
+use Rattle.domain_run.proofs.Staying.{map_itself}
+use Rattle.domain_run.proofs.Homing.{homed_next, homed_idle, map_steps, map_same}
 use Rattle.domain_run.proofs.sweep.home_all.Goals as goal
+use Rattle.domain_run.proofs.sweep.home_all.Goals.{in-Some, in_default}
 
-pub home-requires-clause-may : goal.home-requires-clause-may
-home-requires-clause-may c =
-    let l = c.loop-task in
-    let x = c.task-item.result in
-    let y = homed c.args.places.now (get_or l.task-items l.task-index x) in
-    let t = get_or l.task-items l.task-index x in
-    let cpus = length c.args.places.now in
-    let within : l.task-index < length l.task-items = omega arith in
-    let fit : IsFit cpus t y = homed_fit c.args.places.now l.queue l.task-items l.task-index x within l.invariant.counted in
-    may_turn cpus l.queue l.task-items l.task-index x y within fit l.invariant.counted
+pub loop-cpu-init : goal.loop-cpu-init
+loop-cpu-init c = record { written = sym (map_itself (homed []) c.args.tasks.now.items (λ k d h. refl)); counted = c.requires.counted; room = refl }
 
-pub loop-task-preserved : goal.loop-task-preserved
-loop-task-preserved c =
-    let l = c.loop-task in
-    let x = c.task-item.result in
-    let y = c.home.new.task in
-    let t = get_or l.task-items l.task-index x in
-    let cpus = length c.args.places.now in
-    let within : l.task-index < length l.task-items = omega arith in
-    let fit : IsFit cpus t y = subst (IsFit cpus t) (sym c.home.ensures.task) (homed_fit c.args.places.now l.queue l.task-items l.task-index x within l.invariant.counted) in
-    let has : HasTurned (standing_of t) (standing_of y) l.queue c.home.new.queue = c.home.ensures.turned in
-    record {
-      written = map_step (homed c.args.places.now) c.deref_mut-task-items.result.now l.task-items l.task-index x y c.loop-task-test.true l.invariant.written c.home.ensures.task;
-      counted = turned cpus l.queue c.home.new.queue l.task-items l.task-index x y within fit has l.invariant.counted;
-    }
+pub home_one-requires-clause-there : goal.home_one-requires-clause-there
+home_one-requires-clause-there c = omega (arith, c.loop-cpu-test.true, c.loop-cpu.invariant.counted.wide)
 
-pub home-requires-clause-running : goal.home-requires-clause-running
-home-requires-clause-running c =
-    let l = c.loop-task in
-    rest_all (λ t. IsTrue (stands t.number c.args.places.now) → IsTrue (is_ready t.condition)) (homed c.args.places.now) c.deref_mut-task-items.result.now l.task-items l.task-index c.task-item.result c.loop-task-test.true l.invariant.written
-    (subst (All (λ t. IsTrue (stands t.number c.args.places.now) → IsTrue (is_ready t.condition))) (sym c.deref_mut-task-items.ensures.value) c.requires.running)
+pub home_one-requires-clause-counted : goal.home_one-requires-clause-counted
+home_one-requires-clause-counted c = subst (λ n. IsCounted n c.loop-cpu.queue c.loop-cpu.tasks.items) (sym c.loop-cpu.invariant.counted.wide) c.loop-cpu.invariant.counted
+
+pub loop-cpu-preserved : goal.loop-cpu-preserved
+loop-cpu-preserved c =
+    let l = c.loop-cpu in
+    let ps = c.args.places.now in
+    let first = c.args.tasks.now.items in
+    elim c.match-places-cpu.branch [
+      | in-Some w ↦
+          let n = w.in-Some.number in
+          let f = of_number n (homed_at (Some l.cpu)) in
+          record {
+            written = rw w.tasks-is (w.home_one.ensures.tasks ∙ map_steps f (homed (take l.cpu ps)) (homed (take (l.cpu + 1) ps)) first l.tasks.items l.invariant.written (λ k d h. homed_next ps l.cpu n _ c.loop-cpu-test.true c.requires.apart w.in-Some.is));
+            counted = rw (w.tasks-is, w.queue-is) (subst (λ k. IsCounted k w.home_one.new.queue w.home_one.new.tasks.items) l.invariant.counted.wide w.home_one.ensures.counted);
+            room = rw w.tasks-is (w.home_one.ensures.room ∙ l.invariant.room);
+          }
+      | in_default w ↦ record {
+        written = rw w.tasks-is (l.invariant.written ∙ map_same (homed (take l.cpu ps)) (homed (take (l.cpu + 1) ps)) first (λ t. sym (homed_idle ps l.cpu t c.loop-cpu-test.true w.in_default.is)));
+        counted = rw (w.tasks-is, w.queue-is) l.invariant.counted;
+        room = rw w.tasks-is l.invariant.room;
+      }
+    ]

@@ -1,34 +1,37 @@
-use Rattle.std.proofs.Common.{◌<◌, length, get_or, sym, subst, arith}
-use Rattle.domain_run.specs.Calls.{of_number, released}
-use Rattle.domain_run.proofs.Keeping.{Same}
-use Rattle.domain_run.proofs.Counting.{released_same}
-use Rattle.domain_run.specs.private.RunQueue.{standing_of, HasTurned}
-use Rattle.edf_pick.proofs.MapStep.{map_step}
-use Rattle.domain_run.proofs.Counting.{IsFit, same_fit, may_turn, turned}
+use Rattle.std.proofs.Common.{List, length, sym, subst}
+use Rattle.domain_run.specs.declared.task.Task.{Task}
+use Rattle.domain_run.specs.private.Index.{IsAt, IsAbsent}
+use Rattle.std.proofs.Common.{refl}
+use Rattle.domain_run.specs.Calls.{released}
+use Rattle.domain_run.proofs.Finding.{IsFound, same_found, found_may, found_set, found_turned, map_others}
 use Rattle.domain_run.proofs.sweep.release_one.Goals as goal
 
 pub release-requires : goal.release-requires
 release-requires c =
-    let l = c.loop-task in
-    let x = c.task-item.result in
-    let y = of_number c.args.number (released c.args.time) (get_or l.task-items l.task-index x) in
-    let t = get_or l.task-items l.task-index x in
-    let cpus = length c.args.queue.now.accounts.all in
-    let within : l.task-index < length l.task-items = omega arith in
-    let fit : IsFit cpus t y = same_fit cpus l.queue l.task-items l.task-index x y within (released_same c.args.number c.args.time t) l.invariant.counted in
-    may_turn cpus l.queue l.task-items l.task-index x y within fit l.invariant.counted
+    let tasks = c.args.tasks.now.items in
+    let p = c.in-Some.place in
+    let x = c.index_mut.result.now in
+    let at : IsAt tasks c.args.number p = subst (λ (ts : List Task). IsAt ts c.args.number p) c.deref.ensures.value c.in-Some.ensures.there in
+    let found : IsFound (length c.args.queue.now.accounts.all) c.args.queue.now tasks c.args.number p x (released c.args.time) = same_found (length c.args.queue.now.accounts.all) c.args.queue.now tasks c.args.number p x (released c.args.time) at c.index_mut.ensures.value (record { number = refl; params = refl; cpu = refl }) c.requires in
+    found_may (length c.args.queue.now.accounts.all) c.args.queue.now tasks c.args.number p x (released c.args.time) found
 
-pub loop-task-preserved : goal.loop-task-preserved
-loop-task-preserved c =
-    let l = c.loop-task in
-    let x = c.task-item.result in
-    let y = c.release.new.task in
-    let t = get_or l.task-items l.task-index x in
-    let cpus = length c.args.queue.now.accounts.all in
-    let within : l.task-index < length l.task-items = omega arith in
-    let fit : IsFit cpus t y = same_fit cpus l.queue l.task-items l.task-index x y within (subst (Same t) (sym c.release.ensures.task) (released_same c.args.number c.args.time t)) l.invariant.counted in
-    let has : HasTurned (standing_of t) (standing_of y) l.queue c.release.new.queue = c.release.ensures.turned in
-    record {
-      written = map_step (of_number c.args.number (released c.args.time)) c.deref_mut-task-items.result.now l.task-items l.task-index x y c.loop-task-test.true l.invariant.written c.release.ensures.task;
-      counted = turned cpus l.queue c.release.new.queue l.task-items l.task-index x y within fit has l.invariant.counted;
-    }
+pub returns-in-Some-clause-tasks : goal.returns-in-Some-clause-tasks
+returns-in-Some-clause-tasks c =
+    let tasks = c.args.tasks.now.items in
+    let p = c.in-Some.place in
+    let x = c.index_mut.result.now in
+    let at : IsAt tasks c.args.number p = subst (λ (ts : List Task). IsAt ts c.args.number p) c.deref.ensures.value c.in-Some.ensures.there in
+    let found : IsFound (length c.args.queue.now.accounts.all) c.args.queue.now tasks c.args.number p x (released c.args.time) = same_found (length c.args.queue.now.accounts.all) c.args.queue.now tasks c.args.number p x (released c.args.time) at c.index_mut.ensures.value (record { number = refl; params = refl; cpu = refl }) c.requires in
+    found_set (length c.args.queue.now.accounts.all) c.args.queue.now tasks c.args.number p x c.release.new.task (released c.args.time) c.release.ensures.task found
+
+pub returns-in-Some-clause-counted : goal.returns-in-Some-clause-counted
+returns-in-Some-clause-counted c =
+    let tasks = c.args.tasks.now.items in
+    let p = c.in-Some.place in
+    let x = c.index_mut.result.now in
+    let at : IsAt tasks c.args.number p = subst (λ (ts : List Task). IsAt ts c.args.number p) c.deref.ensures.value c.in-Some.ensures.there in
+    let found : IsFound (length c.args.queue.now.accounts.all) c.args.queue.now tasks c.args.number p x (released c.args.time) = same_found (length c.args.queue.now.accounts.all) c.args.queue.now tasks c.args.number p x (released c.args.time) at c.index_mut.ensures.value (record { number = refl; params = refl; cpu = refl }) c.requires in
+    found_turned (length c.args.queue.now.accounts.all) c.args.queue.now c.release.new.queue tasks c.args.number p x c.release.new.task (released c.args.time) c.release.ensures.task c.release.ensures.turned found
+
+pub returns-in_default-clause-tasks : goal.returns-in_default-clause-tasks
+returns-in_default-clause-tasks c = sym (map_others (released c.args.time) c.args.number c.args.tasks.now.items (subst (λ (ts : List Task). IsAbsent ts c.args.number) c.deref.ensures.value c.in_default.ensures.absent))

@@ -14,6 +14,9 @@ begin-requires-clause-counted c =
     let d : Domain = record { cpus = s.cpus; limit = s.limit; time = s.time; tasks = s.tasks.items; used = s.used; places = s.places; switches = s.switches.items } in
     subst (λ n. IsCounted n s.queue d.tasks) (sym c.self.invariant.domain.steady.wide) (counted_in d s.queue c.self.invariant.domain c.self.invariant.wide c.self.invariant.counts)
 
+pub begin-requires-clause-runners : goal.begin-requires-clause-runners
+begin-requires-clause-runners c = omega (arith, c.self.invariant.domain.steady.wide, c.self.invariant.runners_room)
+
 pub invariant_of-self-2 : goal.invariant_of-self-2
 invariant_of-self-2 c =
     let s = c.self.inside in
@@ -30,7 +33,8 @@ invariant_of-self-2 c =
       counts = counted.counts;
       tasks_room = omega (arith, c.begin.ensures.tasks_room, c.self.invariant.tasks_room);
       before_len = c.begin.ensures.before_len ∙ c.self.invariant.before_len;
-      idle_len = c.self.invariant.idle_len;
+      running_is = c.begin.ensures.running;
+      runners_room = omega (arith, c.begin.ensures.runners, c.self.invariant.runners_room);
     }
 
 pub returns-clause-ok : goal.returns-clause-ok

@@ -22,7 +22,8 @@ invariant_of-self c = record {
   counts = c.regrade_one.ensures.counted.counts;
   tasks_room = omega (arith, c.regrade_one.ensures.room, c.self.invariant.tasks_room);
   before_len = c.self.invariant.before_len;
-  idle_len = c.self.invariant.idle_len;
+  running_is = c.self.invariant.running_is;
+  runners_room = c.self.invariant.runners_room;
 }
 
 pub regrade_one-requires-clause-counted : goal.regrade_one-requires-clause-counted

@@ -20,7 +20,8 @@ invariant_of-self c = record {
   counts = c.end_one.ensures.counted.counts;
   tasks_room = omega (arith, c.end_one.ensures.room, c.self.invariant.tasks_room);
   before_len = c.self.invariant.before_len;
-  idle_len = c.self.invariant.idle_len;
+  running_is = c.self.invariant.running_is;
+  runners_room = c.self.invariant.runners_room;
 }
 
 pub end_one-requires-clause-counted : goal.end_one-requires-clause-counted

@@ -1,5 +1,6 @@
-use Rattle.std.proofs.Common.{◌≡◌, ℕ, ◌+◌, ◌-◌, ◌≤◌, ◌^◌, map, sym, ap, ◌∙◌, subst, arith}
-use Rattle.edf_pick.specs.Places.{Places}
+use Rattle.std.proofs.Common.{◌≡◌, ℕ, List, ◌+◌, ◌-◌, ◌≤◌, ◌^◌, map, sym, ap, ◌∙◌, subst, arith}
+use Rattle.domain_run.specs.Jump.{standing}
+use Rattle.domain_run.proofs.Homing.{standing_distinct}
 use Rattle.domain_run.specs.Domain.{Domain}
 use Rattle.domain_run.specs.Jump.{under_way, quiet, AreCharged}
 use Rattle.domain_run.specs.Sound.{IsDomain, IsPlacement}
@@ -19,7 +20,10 @@ pay_all-requires-clause-may c =
     let d : Domain = record { cpus = s.cpus; limit = s.limit; time = s.time; tasks = s.tasks.items; used = s.used; places = s.places; switches = s.switches.items } in
     let charged : AreCharged d c.args.ticks c.args.budgets.now = subst (λ (x : Domain). AreCharged x c.args.ticks c.args.budgets.now) (sym c.self.view_is) c.requires.charged in
     let placed : IsPlacement d = subst IsPlacement (sym c.self.view_is) c.requires.begun.placed in
-    rw c.occupants.ensures.occupants (may_pay d c.args.ticks c.args.budgets.now c.self.invariant.domain.steady placed c.requires.some charged)
+    rw (c.deref.ensures.value, c.self.invariant.running_is) (may_pay d c.args.ticks c.args.budgets.now c.self.invariant.domain.steady placed c.requires.some charged)
+
+pub pay_all-requires-clause-apart : goal.pay_all-requires-clause-apart
+pay_all-requires-clause-apart c = rw (c.deref.ensures.value, c.self.invariant.running_is) (standing_distinct c.self.inside.places c.self.invariant.domain.steady.apart)
 
 pub pay_all-requires-clause-counted : goal.pay_all-requires-clause-counted
 pay_all-requires-clause-counted c =
@@ -31,16 +35,17 @@ invariant_of-self c =
     let s = c.self.inside in
     let d : Domain = record { cpus = s.cpus; limit = s.limit; time = s.time; tasks = s.tasks.items; used = s.used; places = s.places; switches = s.switches.items } in
     let end : ℕ = s.time + (c.args.ticks - 1) in
-    let tasks_are : c.pay_all.new.tasks.items ≡ map (paid end s.places c.args.ticks c.args.budgets.now) s.tasks.items = c.pay_all.ensures.tasks ∙ ap (λ (ps : Places). map (paid end ps c.args.ticks c.args.budgets.now) s.tasks.items) c.occupants.ensures.occupants in
+    let tasks_are : c.pay_all.new.tasks.items ≡ map (paid end (standing s.places) c.args.ticks c.args.budgets.now) s.tasks.items = c.pay_all.ensures.tasks ∙ ap (λ (ns : List ℕ). map (paid end ns c.args.ticks c.args.budgets.now) s.tasks.items) (c.deref.ensures.value ∙ c.self.invariant.running_is) in
     let same_time : c.self.inside.time ≡ c.args.self.now.time = ap (λ (x : Domain). x.time) c.self.view_is in
     let early : end ≤ 2 ^ 42 = omega (arith, same_time, c.requires.early, c.requires.some) in
     record {
-      domain = later_is d (paid end c.self.inside.places c.args.ticks c.args.budgets.now) end c.pay_all.new.tasks.items c.self.invariant.domain (same_paid end c.self.inside.places c.args.ticks c.args.budgets.now) (omega arith) early tasks_are c.pay_all.ensures.sound;
+      domain = later_is d (paid end (standing c.self.inside.places) c.args.ticks c.args.budgets.now) end c.pay_all.new.tasks.items c.self.invariant.domain (same_paid end (standing c.self.inside.places) c.args.ticks c.args.budgets.now) (omega arith) early tasks_are c.pay_all.ensures.sound;
       wide = c.pay_all.ensures.counted.wide ∙ c.self.invariant.wide;
       counts = c.pay_all.ensures.counted.counts;
       tasks_room = omega (arith, c.pay_all.ensures.room, c.self.invariant.tasks_room);
       before_len = c.self.invariant.before_len;
-      idle_len = c.self.invariant.idle_len;
+      running_is = c.self.invariant.running_is;
+      runners_room = c.self.invariant.runners_room;
     }
 
 pub returns : goal.returns
@@ -48,10 +53,10 @@ returns c e is =
     let s = c.self.inside in
     let d : Domain = record { cpus = s.cpus; limit = s.limit; time = s.time; tasks = s.tasks.items; used = s.used; places = s.places; switches = s.switches.items } in
     let end : ℕ = s.time + (c.args.ticks - 1) in
-    let tasks_are : c.pay_all.new.tasks.items ≡ map (paid end s.places c.args.ticks c.args.budgets.now) s.tasks.items = c.pay_all.ensures.tasks ∙ ap (λ (ps : Places). map (paid end ps c.args.ticks c.args.budgets.now) s.tasks.items) c.occupants.ensures.occupants in
+    let tasks_are : c.pay_all.new.tasks.items ≡ map (paid end (standing s.places) c.args.ticks c.args.budgets.now) s.tasks.items = c.pay_all.ensures.tasks ∙ ap (λ (ns : List ℕ). map (paid end ns c.args.ticks c.args.budgets.now) s.tasks.items) (c.deref.ensures.value ∙ c.self.invariant.running_is) in
     let k = c.args.ticks in
     let budgets = c.args.budgets.now in
     let same : d ≡ under_way e = c.self.view_is ∙ is in
-    let tasks : c.pay_all.new.tasks.items ≡ map (paid end (under_way e).places k budgets) (under_way e).tasks = tasks_are ∙ ap (λ (x : Domain). map (paid end x.places k budgets) x.tasks) same in
+    let tasks : c.pay_all.new.tasks.items ≡ map (paid end (standing (under_way e).places) k budgets) (under_way e).tasks = tasks_are ∙ ap (λ (x : Domain). map (paid end (standing x.places) k budgets) x.tasks) same in
     ap (λ (x : Domain). record x { time = end; tasks = c.pay_all.new.tasks.items }) same
     ∙ paid_is e k budgets end c.pay_all.new.tasks.items (subst (λ (x : Domain). IsDomain x) same c.self.invariant.domain).steady (subst IsPlacement is c.requires.begun.placed) c.requires.some (subst (λ (x : Domain). k ≤ quiet x) is c.requires.quiet) (subst (λ (x : Domain). AreCharged x k budgets) is c.requires.charged) (ap (λ (x : Domain). x.time + (k - 1)) same) tasks

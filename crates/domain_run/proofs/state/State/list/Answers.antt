@@ -47,7 +47,8 @@ invariant_of-self c = record {
       (counts_push s.queue new s.tasks.items t (ap (λ (x : Task). is_ready x.condition) (new_is c)) refl (rw (same, c.self.invariant.wide) home) (subst (λ x. Exchanges s.queue.accounts new.accounts [] (x ∷ [])) c.share_of.ensures c.join.ensures) c.self.invariant.counts);
   tasks_room = omega (arith, c.push_reserved.ensures.capacity, c.self.invariant.tasks_room);
   before_len = c.self.invariant.before_len;
-  idle_len = c.self.invariant.idle_len;
+  running_is = c.self.invariant.running_is;
+  runners_room = c.self.invariant.runners_room;
 }
 
 pub returns : goal.returns

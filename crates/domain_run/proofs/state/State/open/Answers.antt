@@ -1,4 +1,5 @@
-use Rattle.std.proofs.Common.{arith}
+use Rattle.std.proofs.Common.{arith, sym}
+use Rattle.domain_run.proofs.Homing.{standing_opened}
 use Rattle.domain_run.proofs.Opening.{opened_is}
 use Rattle.domain_run.proofs.state.State.open.Goals as goal
 
@@ -8,6 +9,7 @@ invariant_of-result c = record {
   wide = c.in_ok-open-3.ensures.wide;
   counts = rw c.in_ok-with_capacity.ensures.items c.in_ok-open-3.ensures.counts;
   tasks_room = omega (arith, c.in_ok-with_capacity.ensures.exact);
+  running_is = rw (c.in_ok-with_capacity-2.ensures.items, c.in_ok-open-2.ensures) (sym (standing_opened c.args.cpus));
   before_len = c.in_ok-vec.ensures.len;
-  idle_len = c.in_ok-vec-2.ensures.len;
+  runners_room = omega (arith, c.in_ok-with_capacity-2.ensures.exact);
 }

@@ -1,7 +1,6 @@
-use Rattle.std.proofs.Common.{◌≡◌, ◌<◌, ◌≤◌, ◌^◌, eqb, Some, None, List, length, refl, sym, ap, subst, ◌∙◌, arith}
+use Rattle.std.proofs.Common.{◌≡◌, ◌<◌, ◌≤◌, ◌^◌, eqb, Some, None, ℕ, List, length, refl, sym, ap, subst, ◌∙◌, arith}
 use Rattle.std.specs.Prelude.{pos, ◌<ℤ◌, ◌≤ℤ◌, find, slice_get}
 use Rattle.grub_rules.specs.Sums.{uinact}
-use Rattle.edf_pick.specs.Places.{Places}
 use Rattle.domain_run.specs.declared.task.Task.{Task}
 use Rattle.domain_run.specs.declared.running.Running.{Running}
 use Rattle.domain_run.specs.Domain.{Domain}
@@ -36,8 +35,8 @@ returns-in_default-find-clause-there c =
     let e : Domain = record { cpus = s.cpus; limit = s.limit; time = s.time; tasks = s.tasks.items; used = s.used; places = s.places; switches = s.switches.items } in
     let n = c.in-Some.number in
     let placed : IsPlacement e = subst IsPlacement (sym c.self.view_is) c.requires.placed in
-    let at : Some n ≡ slice_get (standing e.places) c.args.i = subst (λ (ps : Places). Some n ≡ slice_get (standing ps) c.args.i) c.occupants.ensures.occupants c.in-Some.ensures in
-    let lost : None ≡ find (λ u. eqb u.number n) e.tasks = subst (λ (ts : List Task). None ≡ find (λ u. eqb u.number n) ts) c.deref.ensures.value c.in_default-find.ensures in
+    let at : Some n ≡ slice_get (standing e.places) c.args.i = subst (λ (ns : List ℕ). Some n ≡ slice_get ns c.args.i) (c.deref.ensures.value ∙ c.self.invariant.running_is) c.in-Some.ensures in
+    let lost : None ≡ find (λ u. eqb u.number n) e.tasks = subst (λ (ts : List Task). None ≡ find (λ u. eqb u.number n) ts) c.deref-2.ensures.value c.in_default-find.ensures in
     absurd (never_lost e c.args.i n c.self.invariant.domain.steady placed at lost)
 
 pub uinact-requires : goal.uinact-requires
@@ -46,9 +45,9 @@ uinact-requires c =
     let e : Domain = record { cpus = s.cpus; limit = s.limit; time = s.time; tasks = s.tasks.items; used = s.used; places = s.places; switches = s.switches.items } in
     let n = c.in-Some.number in
     let placed : IsPlacement e = subst IsPlacement (sym c.self.view_is) c.requires.placed in
-    let at : Some n ≡ slice_get (standing e.places) c.args.i = subst (λ (ps : Places). Some n ≡ slice_get (standing ps) c.args.i) c.occupants.ensures.occupants c.in-Some.ensures in
+    let at : Some n ≡ slice_get (standing e.places) c.args.i = subst (λ (ns : List ℕ). Some n ≡ slice_get ns c.args.i) (c.deref.ensures.value ∙ c.self.invariant.running_is) c.in-Some.ensures in
     let t = c.in-Some-find.task.now in
-    let found : Some t ≡ find (λ u. eqb u.number n) e.tasks = subst (λ (ts : List Task). Some t ≡ find (λ u. eqb u.number n) ts) c.deref.ensures.value c.in-Some-find.ensures in
+    let found : Some t ≡ find (λ u. eqb u.number n) e.tasks = subst (λ (ts : List Task). Some t ≡ find (λ u. eqb u.number n) ts) c.deref-2.ensures.value c.in-Some-find.ensures in
     let is : IsRunning e c.args.i t = found_running e c.args.i n t c.self.invariant.domain.steady placed at found in
     subst (λ k. t.cpu < k) (sym c.self.invariant.wide) is.home
 
@@ -58,9 +57,9 @@ returns-clause-running c =
     let e : Domain = record { cpus = s.cpus; limit = s.limit; time = s.time; tasks = s.tasks.items; used = s.used; places = s.places; switches = s.switches.items } in
     let n = c.in-Some.number in
     let placed : IsPlacement e = subst IsPlacement (sym c.self.view_is) c.requires.placed in
-    let at : Some n ≡ slice_get (standing e.places) c.args.i = subst (λ (ps : Places). Some n ≡ slice_get (standing ps) c.args.i) c.occupants.ensures.occupants c.in-Some.ensures in
+    let at : Some n ≡ slice_get (standing e.places) c.args.i = subst (λ (ns : List ℕ). Some n ≡ slice_get ns c.args.i) (c.deref.ensures.value ∙ c.self.invariant.running_is) c.in-Some.ensures in
     let t = c.in-Some-find.task.now in
-    let found : Some t ≡ find (λ u. eqb u.number n) e.tasks = subst (λ (ts : List Task). Some t ≡ find (λ u. eqb u.number n) ts) c.deref.ensures.value c.in-Some-find.ensures in
+    let found : Some t ≡ find (λ u. eqb u.number n) e.tasks = subst (λ (ts : List Task). Some t ≡ find (λ u. eqb u.number n) ts) c.deref-2.ensures.value c.in-Some-find.ensures in
     let is : IsRunning e c.args.i t = found_running e c.args.i n t c.self.invariant.domain.steady placed at found in
     let u : c.uinact.result ≡ uinact t.cpu (shares e.tasks) = c.uinact.ensures ∙ inactive_is s.queue.accounts (shares e.tasks) t.cpu c.self.invariant.counts.sums in
     ap (λ x. Some x) c.running_of.ensures ∙ (λ k. Some (record { number = t.number; params = t.params; uinact = u k; left = t.server.left; work = t.work })) ∙ sym is.is ∙ ap (λ (x : Domain). running x c.args.i) c.self.view_is
@@ -71,9 +70,9 @@ returns-clause-there c =
     let e : Domain = record { cpus = s.cpus; limit = s.limit; time = s.time; tasks = s.tasks.items; used = s.used; places = s.places; switches = s.switches.items } in
     let n = c.in-Some.number in
     let placed : IsPlacement e = subst IsPlacement (sym c.self.view_is) c.requires.placed in
-    let at : Some n ≡ slice_get (standing e.places) c.args.i = subst (λ (ps : Places). Some n ≡ slice_get (standing ps) c.args.i) c.occupants.ensures.occupants c.in-Some.ensures in
+    let at : Some n ≡ slice_get (standing e.places) c.args.i = subst (λ (ns : List ℕ). Some n ≡ slice_get ns c.args.i) (c.deref.ensures.value ∙ c.self.invariant.running_is) c.in-Some.ensures in
     let t = c.in-Some-find.task.now in
-    let found : Some t ≡ find (λ u. eqb u.number n) e.tasks = subst (λ (ts : List Task). Some t ≡ find (λ u. eqb u.number n) ts) c.deref.ensures.value c.in-Some-find.ensures in
+    let found : Some t ≡ find (λ u. eqb u.number n) e.tasks = subst (λ (ts : List Task). Some t ≡ find (λ u. eqb u.number n) ts) c.deref-2.ensures.value c.in-Some-find.ensures in
     let is : IsRunning e c.args.i t = found_running e c.args.i n t c.self.invariant.domain.steady placed at found in
     (λ h. subst (λ (x : Domain). c.args.i < length (standing x.places)) c.self.view_is is.there, λ h. refl)
 
@@ -83,9 +82,9 @@ returns-clause-some c =
     let e : Domain = record { cpus = s.cpus; limit = s.limit; time = s.time; tasks = s.tasks.items; used = s.used; places = s.places; switches = s.switches.items } in
     let n = c.in-Some.number in
     let placed : IsPlacement e = subst IsPlacement (sym c.self.view_is) c.requires.placed in
-    let at : Some n ≡ slice_get (standing e.places) c.args.i = subst (λ (ps : Places). Some n ≡ slice_get (standing ps) c.args.i) c.occupants.ensures.occupants c.in-Some.ensures in
+    let at : Some n ≡ slice_get (standing e.places) c.args.i = subst (λ (ns : List ℕ). Some n ≡ slice_get ns c.args.i) (c.deref.ensures.value ∙ c.self.invariant.running_is) c.in-Some.ensures in
     let t = c.in-Some-find.task.now in
-    let found : Some t ≡ find (λ u. eqb u.number n) e.tasks = subst (λ (ts : List Task). Some t ≡ find (λ u. eqb u.number n) ts) c.deref.ensures.value c.in-Some-find.ensures in
+    let found : Some t ≡ find (λ u. eqb u.number n) e.tasks = subst (λ (ts : List Task). Some t ≡ find (λ u. eqb u.number n) ts) c.deref-2.ensures.value c.in-Some-find.ensures in
     let is : IsRunning e c.args.i t = found_running e c.args.i n t c.self.invariant.domain.steady placed at found in
     subst (λ (x : Running). 0 < x.work) (sym c.running_of.ensures) is.busy
 
@@ -95,9 +94,9 @@ returns-clause-lifted c =
     let e : Domain = record { cpus = s.cpus; limit = s.limit; time = s.time; tasks = s.tasks.items; used = s.used; places = s.places; switches = s.switches.items } in
     let n = c.in-Some.number in
     let placed : IsPlacement e = subst IsPlacement (sym c.self.view_is) c.requires.placed in
-    let at : Some n ≡ slice_get (standing e.places) c.args.i = subst (λ (ps : Places). Some n ≡ slice_get (standing ps) c.args.i) c.occupants.ensures.occupants c.in-Some.ensures in
+    let at : Some n ≡ slice_get (standing e.places) c.args.i = subst (λ (ns : List ℕ). Some n ≡ slice_get ns c.args.i) (c.deref.ensures.value ∙ c.self.invariant.running_is) c.in-Some.ensures in
     let t = c.in-Some-find.task.now in
-    let found : Some t ≡ find (λ u. eqb u.number n) e.tasks = subst (λ (ts : List Task). Some t ≡ find (λ u. eqb u.number n) ts) c.deref.ensures.value c.in-Some-find.ensures in
+    let found : Some t ≡ find (λ u. eqb u.number n) e.tasks = subst (λ (ts : List Task). Some t ≡ find (λ u. eqb u.number n) ts) c.deref-2.ensures.value c.in-Some-find.ensures in
     let is : IsRunning e c.args.i t = found_running e c.args.i n t c.self.invariant.domain.steady placed at found in
     subst (λ (x : Running). pos 0 <ℤ x.left) (sym c.running_of.ensures) is.lifted
 
@@ -107,9 +106,9 @@ returns-clause-high c =
     let e : Domain = record { cpus = s.cpus; limit = s.limit; time = s.time; tasks = s.tasks.items; used = s.used; places = s.places; switches = s.switches.items } in
     let n = c.in-Some.number in
     let placed : IsPlacement e = subst IsPlacement (sym c.self.view_is) c.requires.placed in
-    let at : Some n ≡ slice_get (standing e.places) c.args.i = subst (λ (ps : Places). Some n ≡ slice_get (standing ps) c.args.i) c.occupants.ensures.occupants c.in-Some.ensures in
+    let at : Some n ≡ slice_get (standing e.places) c.args.i = subst (λ (ns : List ℕ). Some n ≡ slice_get ns c.args.i) (c.deref.ensures.value ∙ c.self.invariant.running_is) c.in-Some.ensures in
     let t = c.in-Some-find.task.now in
-    let found : Some t ≡ find (λ u. eqb u.number n) e.tasks = subst (λ (ts : List Task). Some t ≡ find (λ u. eqb u.number n) ts) c.deref.ensures.value c.in-Some-find.ensures in
+    let found : Some t ≡ find (λ u. eqb u.number n) e.tasks = subst (λ (ts : List Task). Some t ≡ find (λ u. eqb u.number n) ts) c.deref-2.ensures.value c.in-Some-find.ensures in
     let is : IsRunning e c.args.i t = found_running e c.args.i n t c.self.invariant.domain.steady placed at found in
     subst (λ (x : Running). x.left ≤ℤ pos (2 ^ 52)) (sym c.running_of.ensures) is.high
 
@@ -119,9 +118,9 @@ returns-clause-short c =
     let e : Domain = record { cpus = s.cpus; limit = s.limit; time = s.time; tasks = s.tasks.items; used = s.used; places = s.places; switches = s.switches.items } in
     let n = c.in-Some.number in
     let placed : IsPlacement e = subst IsPlacement (sym c.self.view_is) c.requires.placed in
-    let at : Some n ≡ slice_get (standing e.places) c.args.i = subst (λ (ps : Places). Some n ≡ slice_get (standing ps) c.args.i) c.occupants.ensures.occupants c.in-Some.ensures in
+    let at : Some n ≡ slice_get (standing e.places) c.args.i = subst (λ (ns : List ℕ). Some n ≡ slice_get ns c.args.i) (c.deref.ensures.value ∙ c.self.invariant.running_is) c.in-Some.ensures in
     let t = c.in-Some-find.task.now in
-    let found : Some t ≡ find (λ u. eqb u.number n) e.tasks = subst (λ (ts : List Task). Some t ≡ find (λ u. eqb u.number n) ts) c.deref.ensures.value c.in-Some-find.ensures in
+    let found : Some t ≡ find (λ u. eqb u.number n) e.tasks = subst (λ (ts : List Task). Some t ≡ find (λ u. eqb u.number n) ts) c.deref-2.ensures.value c.in-Some-find.ensures in
     let is : IsRunning e c.args.i t = found_running e c.args.i n t c.self.invariant.domain.steady placed at found in
     let u : c.uinact.result ≡ uinact t.cpu (shares e.tasks) = c.uinact.ensures ∙ inactive_is s.queue.accounts (shares e.tasks) t.cpu c.self.invariant.counts.sums in
     subst (λ (x : Running). x.uinact ≤ 2 ^ 26) (sym c.running_of.ensures) (omega (arith, u, inactive_short e t.cpu c.self.invariant.domain.steady))

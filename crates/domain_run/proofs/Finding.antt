@@ -1,0 +1,131 @@
+-- The task of a number, and a map that changes this task alone.
+use Rattle.std.proofs.Common.{◌≡◌, ◌≢◌, ℕ, zero, suc, ◌<◌, ◌≤◌, ◌^◌, Bool, true, false, cond, eqb, ◌&&◌, not, Option, Some, None, List, [], ◌∷◌, length, get_or, set, map, refl, sym, ap, subst, ◌∙◌, arith, eq-eqb}
+use Rattle.std.specs.Prelude.{AllPairs, find}
+use Rattle.std.proofs.lemmas.Bool.{ne_eqb, eqb-true}
+use Rattle.std.proofs.lemmas.List.{get_or-map}
+use Rattle.attr_check.specs.ParamsView.{ParamsView}
+use Rattle.domain_run.specs.declared.task.Task.{Task}
+use Rattle.domain_run.specs.Conditions.{is_leaving}
+use Rattle.domain_run.specs.private.Index.{IsAt, IsAbsent}
+use Rattle.domain_run.specs.declared.run_queue.RunQueue.{RunQueue}
+use Rattle.domain_run.specs.Parts.{homed_at}
+use Rattle.domain_run.specs.Calls.{of_number, regraded}
+use Rattle.domain_run.specs.private.RunQueue.{standing_of, IsCounted, MayTurn, HasTurned}
+use Rattle.domain_run.proofs.Keeping.{Same}
+use Rattle.domain_run.proofs.Counting.{IsFit, home_at, same_fit, may_turn, turned}
+use Rattle.domain_run.proofs.Paying.{find_here}
+
+abbrev pub AreNumbered : List Task → Type 0
+AreNumbered tasks = AllPairs (λ a b. a.number ≢ b.number) tasks
+
+rest_absent : (t : Task) (tasks : List Task) (n : ℕ) → IsAbsent (t ∷ tasks) n → IsAbsent tasks n
+rest_absent t tasks n absent k d h = absent (suc k) d (omega arith)
+
+rest_numbered : (t : Task) (tasks : List Task) → AreNumbered (t ∷ tasks) → AreNumbered tasks
+rest_numbered t tasks numbered i j d less within = numbered (suc i) (suc j) d (omega arith) (omega arith)
+
+others : (t : Task) (tasks : List Task) (n : ℕ) → AreNumbered (t ∷ tasks) → t.number ≡ n → IsAbsent tasks n
+others t tasks n numbered is k d h same = numbered zero (suc k) d (omega arith) (omega arith) (is ∙ sym same)
+
+-- FOUND
+find_absent_if : (q : Task → Bool) (tasks : List Task) (n : ℕ) → IsAbsent tasks n → find (λ t. eqb t.number n && q t) tasks ≡ None
+find_absent_if q [] n absent = refl
+find_absent_if q (t ∷ tasks) n absent =
+    let other : eqb t.number n ≡ false = ne_eqb t.number n (absent zero t (omega arith)) in
+    ap (λ b. cond (b && q t) (Some t) (find (λ t. eqb t.number n && q t) tasks)) other ∙ find_absent_if q tasks n (rest_absent t tasks n absent)
+
+pub find_absent : (tasks : List Task) (n : ℕ) → IsAbsent tasks n → find (λ t. eqb t.number n) tasks ≡ None
+find_absent [] n absent = refl
+find_absent (t ∷ tasks) n absent =
+    let other : eqb t.number n ≡ false = ne_eqb t.number n (absent zero t (omega arith)) in
+    ap (λ b. cond b (Some t) (find (λ t. eqb t.number n) tasks)) other ∙ find_absent tasks n (rest_absent t tasks n absent)
+
+pub find_at : (tasks : List Task) (n p : ℕ) (d : Task) → AreNumbered tasks → IsAt tasks n p → find (λ t. eqb t.number n) tasks ≡ Some (get_or tasks p d)
+find_at tasks n p d numbered is = ap (λ m. find (λ t. eqb t.number m) tasks) (sym (is.is d)) ∙ find_here tasks p d numbered is.within
+
+-- where it has not ended
+abbrev pub unless_ended : Option Task → Option Task
+unless_ended None = None
+unless_ended (Some t) = cond (not (is_leaving t.condition)) (Some t) None
+
+pub find_live : (tasks : List Task) (n : ℕ) → AreNumbered tasks → find (λ t. eqb t.number n && not (is_leaving t.condition)) tasks ≡ unless_ended (find (λ t. eqb t.number n) tasks)
+find_live [] n numbered = refl
+find_live (t ∷ tasks) n numbered =
+    let live : Task → Bool = λ t. eqb t.number n && not (is_leaving t.condition) in
+    elim (eqb t.number n) as (λ b. eqb t.number n ≡ b → cond (b && not (is_leaving t.condition)) (Some t) (find live tasks) ≡ unless_ended (cond b (Some t) (find (λ t. eqb t.number n) tasks))) [
+      | true ↦ λ e. ap (λ o. cond (not (is_leaving t.condition)) (Some t) o) (find_absent_if (λ t. not (is_leaving t.condition)) tasks n (others t tasks n numbered (eqb-true t.number n e)))
+      | false ↦ λ e. find_live tasks n (rest_numbered t tasks numbered)
+    ] refl
+
+-- CHANGED
+pub map_others : (f : Task → Task) (n : ℕ) (tasks : List Task) → IsAbsent tasks n → map (of_number n f) tasks ≡ tasks
+map_others f n [] absent = refl
+map_others f n (t ∷ tasks) absent =
+    let first : of_number n f t ≡ t = ap (λ b. cond b (f t) t) (ne_eqb t.number n (absent zero t (omega arith))) in
+    let more = map_others f n tasks (rest_absent t tasks n absent) in
+    λ i. first i ∷ more i
+
+pub map_at : (f : Task → Task) (n : ℕ) (tasks : List Task) (p : ℕ) (d : Task) → AreNumbered tasks → IsAt tasks n p → map (of_number n f) tasks ≡ set tasks p (f (get_or tasks p d))
+map_at f n [] p d numbered is = let no : p < 0 = is.within in absurd (omega (arith, no))
+map_at f n (t ∷ tasks) zero d numbered is =
+    let first : of_number n f t ≡ f t = ap (λ b. cond b (f t) t) (eq-eqb t.number n (is.is t)) in
+    let more = map_others f n tasks (others t tasks n numbered (is.is t)) in
+    λ i. first i ∷ more i
+map_at f n (t ∷ tasks) (suc p) d numbered is =
+    let inside : suc p < suc (length tasks) = is.within in
+    let rest : IsAt tasks n p = record { within = omega (arith, inside); is = is.is } in
+    let other : t.number ≢ n = λ e. numbered zero (suc p) t (omega arith) inside (e ∙ sym (is.is t)) in
+    let first : of_number n f t ≡ t = ap (λ b. cond b (f t) t) (ne_eqb t.number n other) in
+    let more = map_at f n tasks p d (rest_numbered t tasks numbered) rest in
+    λ i. first i ∷ more i
+
+-- what a map left at a place
+pub read_before : (f : Task → Task) (tasks now : List Task) (p : ℕ) (d : Task) → p < length tasks → now ≡ map f tasks → get_or now p d ≡ f (get_or tasks p d)
+read_before f tasks now p d h is = ap (λ (ts : List Task). get_or ts p d) is ∙ get_or-map f tasks p d d h
+
+-- ---- ONE TASK that was found turns, and the queue is told
+
+-- what is found, as a place of the list has it
+pub record IsFound (cpus : ℕ) (queue : RunQueue) (tasks : List Task) (n p : ℕ) (x : Task) (f : Task → Task) : Type 0 where
+  pub at : IsAt tasks n p
+  pub read : x ≡ get_or tasks p x
+  pub fit : IsFit cpus x (f x)
+  pub counted : IsCounted cpus queue tasks
+
+pub found_may : (cpus : ℕ) (queue : RunQueue) (tasks : List Task) (n p : ℕ) (x : Task) (f : Task → Task) → IsFound cpus queue tasks n p x f → MayTurn queue (standing_of x) (standing_of (f x))
+found_may cpus queue tasks n p x f is =
+    let fit : IsFit cpus (get_or tasks p x) (f x) = subst (λ u. IsFit cpus u (f x)) is.read is.fit in
+    subst (λ u. MayTurn queue (standing_of u) (standing_of (f x))) (sym is.read) (may_turn cpus queue tasks p x (f x) is.at.within fit is.counted)
+
+pub found_turned : (cpus : ℕ) (queue new : RunQueue) (tasks : List Task) (n p : ℕ) (x y : Task) (f : Task → Task) → y ≡ f x → HasTurned (standing_of x) (standing_of y) queue new → IsFound cpus queue tasks n p x f → IsCounted cpus new (set tasks p y)
+found_turned cpus queue new tasks n p x y f same has is =
+    let fit : IsFit cpus (get_or tasks p x) y = subst (λ u. IsFit cpus u y) is.read (subst (IsFit cpus x) (sym same) is.fit) in
+    turned cpus queue new tasks p x y is.at.within fit (subst (λ u. HasTurned (standing_of u) (standing_of y) queue new) is.read has) is.counted
+
+pub found_set : (cpus : ℕ) (queue : RunQueue) (tasks : List Task) (n p : ℕ) (x y : Task) (f : Task → Task) → y ≡ f x → IsFound cpus queue tasks n p x f → set tasks p y ≡ map (of_number n f) tasks
+found_set cpus queue tasks n p x y f same is = ap (set tasks p) (same ∙ ap f is.read) ∙ sym (map_at f n tasks p x is.counted.roster.numbered is.at)
+
+-- what was in range stays so where number, parameters and CPU stay
+pub same_found : (cpus : ℕ) (queue : RunQueue) (tasks : List Task) (n p : ℕ) (x : Task) (f : Task → Task) → IsAt tasks n p → x ≡ get_or tasks p x → Same x (f x) → IsCounted cpus queue tasks → IsFound cpus queue tasks n p x f
+same_found cpus queue tasks n p x f at read same counted = record {
+  at = at;
+  read = read;
+  fit = subst (λ u. IsFit cpus u (f x)) (sym read) (same_fit cpus queue tasks p x (f x) at.within (subst (λ u. Same u (f x)) read same) counted);
+  counted = counted;
+}
+
+pub home_found : (cpus : ℕ) (queue : RunQueue) (tasks : List Task) (n p cpu : ℕ) (x : Task) → IsAt tasks n p → x ≡ get_or tasks p x → cpu < cpus → IsCounted cpus queue tasks → IsFound cpus queue tasks n p x (homed_at (Some cpu))
+home_found cpus queue tasks n p cpu x at read there counted = record {
+  at = at;
+  read = read;
+  fit = record { number = refl; short = subst (λ (u : Task). u.params.bw ≤ 2 ^ 26) (sym read) (counted.roster.short p x at.within); home = there };
+  counted = counted;
+}
+
+pub regrade_found : (cpus : ℕ) (queue : RunQueue) (tasks : List Task) (n p : ℕ) (x : Task) (q : ParamsView) → IsAt tasks n p → x ≡ get_or tasks p x → q.bw ≤ 2 ^ 26 → IsCounted cpus queue tasks → IsFound cpus queue tasks n p x (regraded q)
+regrade_found cpus queue tasks n p x q at read short counted = record {
+  at = at;
+  read = read;
+  fit = record { number = refl; short = short; home = subst (λ (u : Task). u.cpu < cpus) (sym read) (home_at cpus queue tasks p x at.within counted) };
+  counted = counted;
+}

@@ -1,0 +1,37 @@
+use Rattle.std.proofs.Common.{List, length, sym, subst}
+use Rattle.domain_run.specs.declared.task.Task.{Task}
+use Rattle.domain_run.specs.private.Index.{IsAt, IsAbsent}
+use Rattle.std.specs.Prelude.{Some}
+use Rattle.domain_run.specs.Parts.{homed_at}
+use Rattle.domain_run.proofs.Finding.{IsFound, home_found, found_may, found_set, found_turned, map_others}
+use Rattle.domain_run.proofs.sweep.home_one.Goals as goal
+
+pub home-requires : goal.home-requires
+home-requires c =
+    let tasks = c.args.tasks.now.items in
+    let p = c.in-Some.place in
+    let x = c.index_mut.result.now in
+    let at : IsAt tasks c.args.number p = subst (λ (ts : List Task). IsAt ts c.args.number p) c.deref.ensures.value c.in-Some.ensures.there in
+    let found : IsFound (length c.args.queue.now.accounts.all) c.args.queue.now tasks c.args.number p x (homed_at (Some c.args.cpu)) = home_found (length c.args.queue.now.accounts.all) c.args.queue.now tasks c.args.number p c.args.cpu x at c.index_mut.ensures.value c.requires.there c.requires.counted in
+    found_may (length c.args.queue.now.accounts.all) c.args.queue.now tasks c.args.number p x (homed_at (Some c.args.cpu)) found
+
+pub returns-in-Some-clause-tasks : goal.returns-in-Some-clause-tasks
+returns-in-Some-clause-tasks c =
+    let tasks = c.args.tasks.now.items in
+    let p = c.in-Some.place in
+    let x = c.index_mut.result.now in
+    let at : IsAt tasks c.args.number p = subst (λ (ts : List Task). IsAt ts c.args.number p) c.deref.ensures.value c.in-Some.ensures.there in
+    let found : IsFound (length c.args.queue.now.accounts.all) c.args.queue.now tasks c.args.number p x (homed_at (Some c.args.cpu)) = home_found (length c.args.queue.now.accounts.all) c.args.queue.now tasks c.args.number p c.args.cpu x at c.index_mut.ensures.value c.requires.there c.requires.counted in
+    found_set (length c.args.queue.now.accounts.all) c.args.queue.now tasks c.args.number p x c.home.new.task (homed_at (Some c.args.cpu)) c.home.ensures.task found
+
+pub returns-in-Some-clause-counted : goal.returns-in-Some-clause-counted
+returns-in-Some-clause-counted c =
+    let tasks = c.args.tasks.now.items in
+    let p = c.in-Some.place in
+    let x = c.index_mut.result.now in
+    let at : IsAt tasks c.args.number p = subst (λ (ts : List Task). IsAt ts c.args.number p) c.deref.ensures.value c.in-Some.ensures.there in
+    let found : IsFound (length c.args.queue.now.accounts.all) c.args.queue.now tasks c.args.number p x (homed_at (Some c.args.cpu)) = home_found (length c.args.queue.now.accounts.all) c.args.queue.now tasks c.args.number p c.args.cpu x at c.index_mut.ensures.value c.requires.there c.requires.counted in
+    found_turned (length c.args.queue.now.accounts.all) c.args.queue.now c.home.new.queue tasks c.args.number p x c.home.new.task (homed_at (Some c.args.cpu)) c.home.ensures.task c.home.ensures.turned found
+
+pub returns-in_default-clause-tasks : goal.returns-in_default-clause-tasks
+returns-in_default-clause-tasks c = sym (map_others (homed_at (Some c.args.cpu)) c.args.number c.args.tasks.now.items (subst (λ (ts : List Task). IsAbsent ts c.args.number) c.deref.ensures.value c.in_default.ensures.absent))

@@ -1,0 +1,12 @@
+-- Where in a list of tasks a number is, for the code's own contracts.
+use Rattle.std.specs.Prelude.{ℕ, ◌<◌, ◌≡◌, ◌≢◌, List, length, All, slice_index_or}
+use Rattle.domain_run.specs.declared.task.Task.{Task}
+
+-- the task of a number is at a place
+pub record IsAt (tasks : List Task) (number place : ℕ) : Type 0 where
+  pub within : place < length tasks
+  pub is : (d : Task) → (slice_index_or tasks place d).number ≡ number
+
+-- no task has the number
+abbrev pub IsAbsent : List Task → ℕ → Type 0
+IsAbsent tasks number = All (λ t. t.number ≢ number) tasks

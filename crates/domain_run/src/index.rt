@@ -1,0 +1,79 @@
+//! Where in the list of tasks a number is. A domain keeps for each number the place at which it was last noted, and looks there
+//! first; a place that is not right any more costs a walk, and nothing else.
+
+ghost use Rattle.std.specs.Prelude.{◌≡◌, ◌≢◌, ◌==◌, AllPairs, IfSome, IfNone, find, option_copied, ◌&&◌, not};
+ghost use Rattle.domain_run.specs.Conditions.{is_leaving};
+ghost use Rattle.domain_run.specs.private.Index.{IsAt, IsAbsent};
+
+use crate::memory::NoMemory;
+use crate::task::Task;
+use std::alloc::Global;
+
+const COUNT: usize = 65536;
+
+/// For each number below 65536 the place at which it was last noted.
+#[derive(Drop)]
+pub(crate) struct Index {
+    noted: Vec<u16>,
+}
+
+impl Index {
+    /// Nothing is noted. No other call takes memory.
+    pub(crate) fn open(alloc: Global) -> Result<Index, NoMemory> {
+        Ok(Index {
+            noted: vec![in alloc; 0; COUNT]?,
+        })
+    }
+
+    /// A number is at a place now.
+    pub(crate) fn note(&mut self, number: u32, place: usize) {
+        if let Some(noted) = self.noted.get_mut(number as usize) {
+            *noted = place.min(65535) as u16;
+        }
+    }
+
+    fn noted_place(&self, number: u32) -> usize {
+        match self.noted.get(number as usize) {
+            None => 0,
+            Some(place) => usize::from(*place),
+        }
+    }
+
+    /// The place of the task of a number, where it is listed.
+    pub(crate) fn place(&self, tasks: &[Task], number: u32) -> Option<usize>
+        ensures there { IfSome result (IsAt tasks.now number) }
+        ensures absent { IfNone result (IsAbsent tasks.now number) }
+    {
+        let place = self.noted_place(number);
+        if place < tasks.len() && tasks[place].number == number {
+            return Some(place);
+        }
+        tasks.iter().position(|task| task.number == number)
+    }
+
+    /// The task of a number, where it is listed.
+    pub(crate) fn find<'a>(&self, tasks: &'a [Task], number: u32) -> Option<&'a Task>
+        requires { AllPairs (λ a b. a.number ≢ b.number) tasks.now }
+        ensures { option_copied result ≡ find (λ t. t.number == number) tasks.now }
+    {
+        match self.place(tasks, number) {
+            None => None,
+            Some(place) => Some(&tasks[place]),
+        }
+    }
+
+    /// The task of a number, where it is listed and has not ended.
+    pub(crate) fn live<'a>(&self, tasks: &'a [Task], number: u32) -> Option<&'a Task>
+        requires { AllPairs (λ a b. a.number ≢ b.number) tasks.now }
+        ensures { option_copied result
+            ≡ find (λ t. t.number == number && not (is_leaving t.condition)) tasks.now }
+    {
+        let Some(task) = self.find(tasks, number) else {
+            return None;
+        };
+        if task.condition.is_leaving() {
+            return None;
+        }
+        Some(task)
+    }
+}

@@ -1,0 +1,125 @@
+//! Worked rows by one worker and by several, and that several do not work on one thread.
+
+ghost use Rattle.std.specs.Prelude.{◌<◌};
+
+use super::{CARRYING, UNIT, Worker, admitted, carried, on_two_cpus, once, reclaiming, three};
+use crate::{Done, Silent, Turn, advance_with};
+use domain_run::{State, Switch};
+use std::alloc::Global;
+use std::process::Abort;
+use std::sync::Wait;
+use std::sync::atomic::{AtomicBool, AtomicUsize, Ordering};
+use std::test::Fail;
+use std::thread::{Threads, sleep};
+use std::time::{Clock, Duration};
+
+/// So many ticks, by so many workers.
+fn advanced<R: Threads + Wait, G: Turn>(
+    rt: &R,
+    alloc: Global,
+    state: &mut State,
+    ticks: u64,
+    workers: usize,
+    turn: &G,
+) -> Done {
+    let left = (1_u64 << 42).saturating_sub(state.now());
+    advance_with(rt, alloc, state, ticks.min(left), workers.max(1), turn)
+}
+
+/// The tasks bring these switches in so many ticks, by 1, 2 and 8 workers.
+fn shows_by<R: Abort + Threads + Wait>(
+    rt: &R,
+    alloc: Global,
+    machine: (u32, u64),
+    tasks: &[Worker<'_>],
+    ticks: u64,
+    switches: &[Switch],
+) -> Result<(), Fail> {
+    let (cpus, limit) = machine;
+    for workers in [1, 2, 8] {
+        let mut state = admitted(alloc, cpus, limit, tasks)?;
+        let done = advanced(rt, alloc, &mut state, ticks, workers, &Silent);
+        assert_eq!(rt; done.ticks, ticks);
+        assert_eq!(rt; state.switches(), switches, "{workers} workers");
+    }
+    Ok(())
+}
+
+#[test]
+fn fraction_and_carry(rt: HostRuntime) -> Result<(), Fail> {
+    let tasks = [reclaiming(once((4, 8, 8), &CARRYING))];
+    shows_by(&rt, rt.alloc(), (1, 996147), &tasks, 25, &carried())
+}
+
+/// Run with each growth of the advance refused in turn too, those of a worker's start among them: the switches are the same.
+#[test]
+fn two_cpus(rt: HostRuntime) -> Result<(), Fail> {
+    shows_by(&rt, rt.alloc(), (2, UNIT), &three(), 5, &on_two_cpus())
+}
+
+/// Two pieces in an order, each time that both are worked on: the second begins when the first has ended, or is late after ten
+/// seconds.
+#[derive(Drop)]
+struct InOrder<C> {
+    clock: C,
+    first: usize,
+    begun: AtomicUsize,
+    ended: AtomicUsize,
+    late: AtomicBool,
+}
+
+impl<C: Clock + Sync> Turn for InOrder<C> {
+    fn begin(&self, piece: usize) {
+        if piece == self.first {
+            return;
+        }
+        let before = self.begun.fetch_add(1, Ordering::SeqCst);
+        for _ in 0..10000 {
+            if self.ended.load(Ordering::SeqCst) > before {
+                return;
+            }
+            sleep(&self.clock, Duration::from_millis(1));
+        }
+        self.late.store(true, Ordering::SeqCst);
+    }
+
+    fn end(&self, piece: usize) {
+        if piece == self.first {
+            self.ended.fetch_add(1, Ordering::SeqCst);
+        }
+    }
+}
+
+/// One jump of two running tasks by two workers, in this order: how often the first piece and the other had their turn, and
+/// whether one was late.
+fn in_order<R: Threads + Wait + Clock + Sync>(
+    rt: &R,
+    alloc: Global,
+    first: usize,
+) -> Result<(usize, usize, bool), Fail> {
+    let mut state = admitted(alloc, 2, UNIT, &three())?;
+    let order = InOrder {
+        clock: rt,
+        first,
+        begun: AtomicUsize::new(0),
+        ended: AtomicUsize::new(0),
+        late: AtomicBool::new(false),
+    };
+    advanced(rt, alloc, &mut state, 4, 2, &order);
+    let (begun, ended) = (&order.begun, &order.ended);
+    let late = order.late.load(Ordering::SeqCst);
+    Ok((
+        begun.load(Ordering::SeqCst),
+        ended.load(Ordering::SeqCst),
+        late,
+    ))
+}
+
+/// all-workers-on-one-thread: in either order of two pieces, who works on the one waits for who works on the other, when the jump
+/// is planned and when it is charged.
+#[test]
+fn two_workers_wait_for_each_other(rt: HostRuntime) -> Result<(), Fail> {
+    assert_eq!(rt; in_order(&rt, rt.alloc(), 0)?, (2, 2, false));
+    assert_eq!(rt; in_order(&rt, rt.alloc(), 1)?, (2, 2, false));
+    Ok(())
+}
