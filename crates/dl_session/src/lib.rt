@@ -10,8 +10,12 @@
 //! (`specs/Clients.antt`), of what a [`Client`] is answered and what it leaves in the books (`specs/Asks.antt`), and of what the
 //! session leaves at its end (`specs/Report.antt`). To the crates above it promises: a call leaves exactly its entry, or none; an
 //! admission is answered EINVAL and EPERM exactly where the definition says; and at the end the histories are legal, and each
-//! client's entries in them are what it entered. Which histories answer a scenario stands in `specs/ScenarioAnswers.antt`; no
-//! contract names it yet.
+//! client's entries in them are what it entered.
+//!
+//! [`run`] is for scenarios. It meets the definitions "Answers of a scenario" (`specs/ScenarioAnswers.antt`) and "Run of a scenario"
+//! (`specs/RunAnswer.antt`), [`read_options`] the definition "Options of a run" (`specs/Words.antt`). To the crate above it promises
+//! the theorem on `run`: `Ok` means that the histories in the report are legal and answer the scenario together with the refusals,
+//! and that what was written is the text of their run, and nothing else.
 #![tactic(auto)]
 
 mod admitting;

@@ -7,8 +7,8 @@ pub enum Print {
     Calls,
 }
 
-/// With what a scenario is to be run. A session is opened from its domains, limit, clients and history; `workers`, `reclaim` and
-/// `print` are within their limits and are read by nothing yet, since no function runs a scenario today.
+/// With what a scenario is to be run. A session is opened from its domains, limit, clients and history; a run reads `reclaim` and
+/// `print` too. `workers` is within its limits and is read by nothing yet.
 #[derive(Clone, Debug, Drop)]
 pub struct Options {
     /// How many CPUs each root domain has, 1 to 64; 1 to 8 domains. The first has the first CPUs of the machine, the second the
