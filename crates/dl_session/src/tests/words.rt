@@ -18,7 +18,7 @@ fn options_from_words(rt: HostRuntime) -> Result<(), Fail> {
     let options = read_options(rt.alloc(), &WORDS);
     let read = match &options {
         Ok(options) => {
-            options.domains.as_slice() == &[2, 64, 1]
+            options.domains.as_slice() == [2, 64, 1].as_slice()
                 && options.limit == 996147
                 && options.history == 1024
         }
