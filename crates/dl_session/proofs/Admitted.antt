@@ -1,10 +1,11 @@
 -- The admissions of several clients, and their union.
-use Rattle.std.proofs.Common.{◌≡◌, ◌≢◌, ℕ, zero, suc, ◌+◌, ◌-◌, ◌%◌, ◌≤◌, ◌<◌, Bool, true, false, cond, eqb, List, [], ◌∷◌, ◌++◌, length, map, set, get_or, filter, filter_map, Option, Some, None, option_map, All, refl, sym, ap, subst, ◌∙◌, arith, mod-lt, add-zero, eq-eqb}
+use Rattle.std.proofs.Common.{◌≡◌, ◌≢◌, ℕ, zero, suc, ◌+◌, ◌-◌, ◌%◌, ◌≤◌, ◌<◌, Bool, true, false, cond, eqb, List, [], ◌∷◌, ◌++◌, length, map, set, get_or, filter, filter_map, take, drop, Option, Some, None, option_map, All, refl, sym, ap, subst, ◌∙◌, arith, mod-lt, add-zero, eq-eqb}
 use Rattle.std.specs.Prelude.{slice_index_or}
 use Rattle.std.specs.List.{cons_option}
 use Rattle.std.proofs.lemmas.Bool.{eqb-true, eqb-false}
-use Rattle.std.proofs.lemmas.List.{append_assoc, append-nil, length-append, map-append, get_or-set_same, get_or-set_other, length-set, length_push, length-map, get_or_default, get_or-map}
+use Rattle.std.proofs.lemmas.List.{append_assoc, append-nil, length-append, map-append, get_or-set_same, get_or-set_other, length-set, length_push, length-map, get_or_default, get_or-map, get_or_push, get_or_append_left, take-append-drop}
 use Rattle.std.proofs.lemmas.List.Elements.{All-append, All-nil, All-cons, All-head, All-tail, filter-append, filter_map-append}
+use Rattle.std.proofs.lemmas.List.Filters.{length-filter_more}
 use Rattle.rtapp_scenario.specs.ScenarioView.{TaskSpecView}
 use Rattle.call_book.specs.declared.section.Entry.{Entry}
 use Rattle.dl_session.specs.declared.refusal.Refusal.{Refusal}
@@ -12,7 +13,8 @@ use Rattle.dl_session.specs.SessionId.{SessionId}
 use Rattle.dl_session.specs.Asks.{Answer, IsLawful, Asked, Made, made_in, made_at, call_of, domain_of, entries_from, ClientView, pass_in, followed_by, Makes, Asks}
 use Rattle.dl_session.specs.ScenarioAnswers.{is_own, own_asked, refusal_of, refused_in}
 use Rattle.dl_session.specs.Admissions.{AllAsked}
-use Rattle.dl_session.specs.private.Admitting.{is_own_task, own_tasks, answered, AreAnswers, AsksOwn, IsUnion}
+use Rattle.dl_session.proofs.Closed.{by_place_more}
+use Rattle.dl_session.specs.private.Admitting.{is_own_task, own_tasks, answered, AreAnswers, AsksOwn, SeatView, AsksSeat, IsSeat, HasRoom, AreSeats, AreAsked, IsUnion}
 
 -- ---- one client after another list of tasks
 
@@ -269,17 +271,92 @@ all_asked id tasks before after shares refused some places count each union =
       each = λ i x within. subst (λ (l : List Asked). Asks id (get_or before i x) (get_or after i x) l) (sym (own i within)) (each i x within).asks;
     }
 
-alone_each : (id : SessionId) (tasks : List TaskSpecView) (c c' : ClientView) (ans : List Answer) → AsksOwn id 1 0 tasks c c' ans
-    → (i : ℕ) (x : ClientView) → i < 1 → AsksOwn id 1 i tasks (get_or (c ∷ []) i x) (get_or (c' ∷ []) i x) (get_or (ans ∷ []) i [])
-alone_each id tasks c c' ans own zero x within = own
-alone_each id tasks c c' ans own (suc i) x within = absurd (omega (arith, within))
+seated_asks : (id : SessionId) (tasks : List TaskSpecView) (n i : ℕ) (c e : ClientView) (s : SeatView) (answers : List Answer)
+    → IsSeat tasks n i c s → AsksSeat id tasks s e answers → AsksOwn id n i tasks c e answers
+seated_asks id tasks n i c e s answers seat asks =
+    subst (λ (x : ClientView). AsksOwn id n i tasks x e answers) seat.client
+    (subst (λ (j : ℕ). AsksOwn id n j tasks s.client e answers) seat.place
+    (subst (λ (m : ℕ). AsksOwn id m s.place tasks s.client e answers) seat.many asks))
 
--- one client alone
-pub alone : (id : SessionId) (tasks : List TaskSpecView) (front before after : List ClientView) (c c' : ClientView) (shares : List (List Answer)) (ans : List Answer) (refused : List (ℕ × Refusal))
-    → length before ≡ 1 → before ≡ front ++ c ∷ [] → after ≡ front ++ c' ∷ [] → shares ≡ ans ∷ [] → AsksOwn id 1 0 tasks c c' ans → IsUnion tasks shares refused → AllAsked id tasks before after refused
-alone id tasks [] before after c c' shares ans refused one was is share own union =
-    subst (λ (cs : List ClientView). AllAsked id tasks cs after refused) (sym was)
-    (subst (λ (cs : List ClientView). AllAsked id tasks (c ∷ []) cs refused) (sym is)
-    (all_asked id tasks (c ∷ []) (c' ∷ []) (ans ∷ []) refused (omega arith) refl refl (alone_each id tasks c c' ans own) (subst (λ (l : List (List Answer)). IsUnion tasks l refused) share union)))
-alone id tasks (x ∷ front) before after c c' shares ans refused one was is share own union =
-    absurd (omega (arith, one, ap length was, length_push front c))
+-- the clients at their seats
+pub all_seated : (id : SessionId) (tasks : List TaskSpecView) (before : List ClientView) (seats : List SeatView) (after : List ClientView) (shares : List (List Answer)) (refused : List (ℕ × Refusal))
+    → 0 < length before → AreSeats tasks before seats → AreAsked id tasks seats after shares → IsUnion tasks shares refused → AllAsked id tasks before after refused
+all_seated id tasks before seats after shares refused some seated asked union =
+    all_asked id tasks before after shares refused some (asked.count ∙ seated.count) (asked.shared ∙ seated.count)
+    (λ i x inside.
+        let s : SeatView = record { client = x; place = i; many = 0; room = 0 } in
+        seated_asks id tasks (length before) i (get_or before i x) (get_or after i x) (get_or seats i s) (get_or shares i []) (seated.each i x s inside) (asked.each i s x (omega (arith, inside, seated.count))))
+    union
+
+-- before the last task of its own a client has had fewer
+pub own_few : (n i k : ℕ) (tasks : List TaskSpecView) (d : TaskSpecView) → k < length tasks → is_own_task n i (get_or tasks k d) ≡ true
+    → length (own_tasks n i (take k tasks)) < length (own_tasks n i tasks)
+own_few n i k tasks d inside is =
+    let more = length-filter_more (is_own_task n i) tasks k d inside in
+    let one = ap {B = ℕ} (λ (b : Bool). cond b 1 0) is in
+    let split = ap (λ (l : List TaskSpecView). length (own_tasks n i l)) (take-append-drop (k + 1) tasks) in
+    let both = ap length (filter-append (is_own_task n i) (take (k + 1) tasks) (drop (k + 1) tasks)) in
+    let sum = length-append (own_tasks n i (take (k + 1) tasks)) (own_tasks n i (drop (k + 1) tasks)) in
+    omega (arith, more, one, split, both, sum)
+
+-- two lists grow by one element each
+pub both_more : {X Y : Type 0} (P : ℕ → X → Y → Type 0) (xs : List X) (ys : List Y) (x : X) (y : Y) → length ys ≡ length xs
+    → ((k : ℕ) (d : X) (e : Y) → k < length xs → P k (get_or xs k d) (get_or ys k e)) → P (length xs) x y
+    → (k : ℕ) (d : X) (e : Y) → k < length (xs ++ x ∷ []) → P k (get_or (xs ++ x ∷ []) k d) (get_or (ys ++ y ∷ []) k e)
+both_more {X} {Y} P xs ys x y same each last k d e inside =
+    by_place_more
+    (λ (j : ℕ) (a : X). (f : Y) → P j a (get_or (ys ++ y ∷ []) j f))
+    xs x
+    (λ j a low f. subst (P j (get_or xs j a)) (sym (get_or_append_left ys (y ∷ []) f j (omega (arith, low, same)))) (each j a f low))
+    (λ f. subst (P (length xs) x) (sym (get_or_push ys y f (length xs) same)) last)
+    k d inside e
+
+-- the clients of the threads that were joined have asked
+pub asked_of : {H S : Type 0} (id : SessionId) (tasks : List TaskSpecView) (f : H → SeatView) (g : S → List Answer) (handles : List H) (clients : List ClientView) (shares : List S)
+    → length clients ≡ length handles → length shares ≡ length handles
+    → ((k : ℕ) (d : H) (x : ClientView) (y : S) → k < length handles → AsksSeat id tasks (f (get_or handles k d)) (get_or clients k x) (g (get_or shares k y)))
+    → AreAsked id tasks (map f handles) clients (map g shares)
+asked_of {H} {S} id tasks f g handles clients shares count shared each =
+    let all : length (map f handles) ≡ length handles = length-map handles f in
+    record {
+      count = count ∙ sym all;
+      shared = length-map shares g ∙ shared ∙ sym all;
+      each = λ i s x inside.
+          let within : i < length handles = omega (arith, inside, all) in
+          let there : i < length shares = omega (arith, within, shared) in
+          let d : H = some_of handles (omega (arith, within)) in
+          let y : S = some_of shares (omega (arith, there)) in
+          subst (λ (t : SeatView). AsksSeat id tasks t (get_or clients i x) (get_or (map g shares) i [])) (sym (get_or-map f handles i d s within))
+          (subst (λ (l : List Answer). AsksSeat id tasks (f (get_or handles i d)) (get_or clients i x) l) (sym (get_or-map g shares i y [] there)) (each i d x y within));
+    }
+
+-- and they are those of these seats
+pub threads_asked : {H : Type 0} (id : SessionId) (tasks : List TaskSpecView) (f : H → SeatView) (handles : List H) (seats : List SeatView) (clients : List ClientView) (shares : List (List Answer))
+    → length handles ≡ length seats → ((k : ℕ) (d : H) (s : SeatView) → k < length seats → f (get_or handles k d) ≡ get_or seats k s)
+    → AreAsked id tasks (map f handles) clients shares → AreAsked id tasks seats clients shares
+threads_asked {H} id tasks f handles seats clients shares count at asked =
+    let all : length (map f handles) ≡ length handles = length-map handles f in
+    record {
+      count = asked.count ∙ all ∙ count;
+      shared = asked.shared ∙ all ∙ count;
+      each = λ i s x inside.
+          let there : i < length handles = omega (arith, inside, count) in
+          let d : H = some_of handles (omega (arith, there)) in
+          subst (λ (t : SeatView). AsksSeat id tasks t (get_or clients i x) (get_or shares i [])) (get_or-map f handles i d s there ∙ at i d s inside) (asked.each i s x (omega (arith, there, all)));
+    }
+
+pub have_room : (tasks : List TaskSpecView) (clients : List ClientView) (seats : List SeatView) → AreSeats tasks clients seats
+    → (k : ℕ) (s : SeatView) → k < length seats → HasRoom tasks (get_or seats k s)
+have_room tasks clients seats seated k s inside = (seated.each k nobody s (omega (arith, inside, seated.count))).room
+
+-- each share has an answer for each of its client's tasks
+pub shares_answer : {S : Type 0} (id : SessionId) (tasks : List TaskSpecView) (g : S → List Answer) (before after : List ClientView) (seats : List SeatView) (shares : List S)
+    → AreSeats tasks before seats → AreAsked id tasks seats after (map g shares)
+    → (i : ℕ) (x : S) → i < length shares → AreAnswers (length shares) i tasks (g (get_or shares i x))
+shares_answer id tasks g before after seats shares seated asked i x inside =
+    let count : length shares ≡ length before = sym (length-map shares g) ∙ asked.shared ∙ seated.count in
+    let within : i < length before = omega (arith, inside, count) in
+    let s : SeatView = record { client = nobody; place = i; many = 0; room = 0 } in
+    let own = seated_asks id tasks (length before) i (get_or before i nobody) (get_or after i nobody) (get_or seats i s) (get_or (map g shares) i []) (seated.each i nobody s within) (asked.each i s nobody (omega (arith, within, seated.count))) in
+    subst (λ (n : ℕ). AreAnswers n i tasks (g (get_or shares i x))) (sym count)
+    (subst (λ (l : List Answer). AreAnswers (length before) i tasks l) (get_or-map g shares i x [] inside) own.each)

@@ -117,6 +117,14 @@ pub record IsFullBook (s : Seen) : Type 0 where
   pub reads : HasNoFault s.reader
   pub writes : HasNoFault s.writer
 
+-- the system started no thread for a client of the scenario, and nothing was written
+pub record IsUnstarted (s : Seen) : Type 0 where
+  pub scenario : ScenarioView
+  pub input : IsScenario s scenario
+  pub unwritten : NothingWritten s
+  pub reads : HasNoFault s.reader
+  pub writes : HasNoFault s.writer
+
 -- the writer failed: exactly so many bytes of the text of a run were taken, and not all
 pub record IsRunCutOff (s : Seen) (o : Options) (written : ℕ) : Type 0 where
   pub histories : List SectionView
@@ -133,6 +141,6 @@ IsRunFault s o (faults.Scenario fault) = IsNoScenario s fault
 IsRunFault s o (faults.Calls n) = ⊥
 IsRunFault s o faults.Read = IsUnread s
 IsRunFault s o (faults.Write written) = IsRunCutOff s o written
-IsRunFault s o faults.Start = ⊥
+IsRunFault s o faults.Start = IsUnstarted s
 IsRunFault s o faults.Full = IsFullBook s
 IsRunFault s o faults.Memory = IsOutOfMemory s

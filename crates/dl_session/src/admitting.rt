@@ -1,24 +1,29 @@
-//! The admissions of a scenario: each client admits its own tasks, and their answers are put together.
+//! The admissions of a scenario: each client admits its own tasks in a thread of its own, and their answers are put together.
 
-ghost use Rattle.std.specs.Prelude.{◌≡◌, ◌<◌, ◌≤◌, ◌-◌, ◌%◌, ◌++◌, ◌∷◌, ℕ, [], length, map, IfOk, IfErr, vec_capacity, slice_index_or};
-ghost use Rattle.std.specs.VecDeque.{deque_capacity};
+ghost use Rattle.std.specs.Prelude.{◌≡◌, ◌<◌, ◌≤◌, ◌-◌, ◌%◌, ◌++◌, ◌∷◌, ℕ, List, [], length, map, All, IfOk, IfErr, vec_len, vec_capacity, slice_index_or};
 ghost use Rattle.dl_session.specs.ScenarioAnswers.{refused_in};
 ghost use Rattle.dl_session.specs.Admissions.{AllAsked};
-ghost use Rattle.dl_session.specs.private.Admitting.{AsksOwn, AreAnswers, IsUnion};
+ghost use Rattle.rtapp_scenario.specs.ScenarioView.{TaskSpecView};
+ghost use Rattle.dl_session.specs.private.Admitting.{SeatView, own_tasks, HasRoom, AreSeats, AsksSeat, AreAsked, AreAnswers, IsUnion, IsUnasked};
 
 use crate::client::Client;
 use crate::fault::SessionFault;
 use crate::names::Names;
 use crate::refusal::{Answer, Refusal};
-use crate::session::Session;
+use crate::session::{Hall, Session};
 use crate::turnstile::Turnstile;
+use call_book::NoMemory;
 use domain_run::Reply;
 use rtapp_scenario::TaskSpec;
 use std::alloc::Global;
 use std::collections::VecDeque;
+use std::marker::{Brand, Model, PhantomData};
+use std::snapshot::Snapshot;
 use std::sync::Wait;
+use std::thread;
+use std::thread::{Promise, PromisedHandle, Scope, Threads};
 
-/// A client at its place among so many, with what it was answered and room for more. Task k is asked for by the client at place
+/// A client at its place among so many, with room for the answers to its own tasks. Task k is asked for by the client at place
 /// (k - 1) mod `many`.
 #[derive(Drop)]
 struct Seat<N: Names> {
@@ -26,6 +31,58 @@ struct Seat<N: Names> {
     place: usize,
     many: usize,
     answers: VecDeque<Answer>,
+}
+
+impl<N: Names> Model for Seat<N> {
+    ghost use Rattle.std.specs.Prelude.{◌≡◌, ◌<◌, []};
+    ghost use Rattle.std.specs.VecDeque.{deque_capacity};
+    ghost use Rattle.dl_session.specs.private.Admitting.{SeatView};
+
+    ghost Value = { SeatView };
+
+    ghost view = { λ s. record {
+      client = s.client;
+      place = s.place;
+      many = s.many;
+      room = deque_capacity s.answers;
+    } };
+
+    ghost invariant = { λ s. (0 < s.many) × (s.answers.items ≡ []) };
+}
+
+/// The tasks of one scenario: a type without data that stands for them, so that a thread's promise can tell them. Who starts the
+/// threads picks them.
+trait Agenda: Send + Sync {
+    ghost tasks: { List TaskSpecView };
+}
+
+impl Agenda for Brand {
+    ghost tasks = { [] };
+}
+
+/// A client that asked for its own tasks, and the answers, in their order.
+#[derive(Drop)]
+struct Share<N: Names> {
+    client: Client<N>,
+    answers: VecDeque<Answer>,
+}
+
+/// The promise of a client's thread: it asks for its own tasks.
+#[derive(Drop)]
+struct Asking<N: Names, A: Agenda> {
+    seat: Snapshot<Seat<N>>,
+    of: PhantomData<A>,
+}
+
+impl<N: Names, A: Agenda> Promise<Share<N>> for Asking<N, A> {
+    ghost kept_by = { λ p r. AsksSeat N.id A.tasks p.seat.value r.client r.answers.items };
+}
+
+/// All clients that asked, and their answers.
+#[derive(Drop)]
+struct Joined<N: Names> {
+    clients: Vec<Client<N>>,
+    shares: Vec<VecDeque<Answer>>,
 }
 
 /// The place of the client that asks for a task, among so many.
@@ -37,19 +94,31 @@ fn place_of(task: &TaskSpec, many: usize) -> usize
     (task.number as usize - 1) % many
 }
 
+/// How many of the tasks the client at a place asks for.
+fn count_own(tasks: &[TaskSpec], place: usize, many: usize) -> usize
+    requires { 0 < many }
+    ensures { result ≡ length (own_tasks many place tasks.now) }
+{
+    let mut count = 0;
+    for task in tasks {
+        if place_of(task, many) == place {
+            count += 1;
+        }
+    }
+    count
+}
+
 /// Lets a client admit its own tasks, in their order.
 fn admit_own<N: Names, T: Turnstile, R: Wait>(
     rt: &R,
     alloc: Global,
-    session: &Session<N>,
+    hall: &Hall<N>,
     tasks: &[TaskSpec],
     turnstile: &T,
     seat: Seat<N>,
-) -> (Client<N>, VecDeque<Answer>)
-    requires some { 0 < seat.many }
-    requires empty { seat.answers.items ≡ [] }
-    requires room { length tasks.now ≤ deque_capacity seat.answers }
-    ensures { AsksOwn N.id seat.many seat.place tasks.now seat.client result.0 result.1.items }
+) -> Share<N>
+    requires { HasRoom tasks.now seat }
+    ensures { AsksSeat N.id tasks.now seat result.client result.answers.items }
 {
     let Seat {
         mut client,
@@ -61,12 +130,127 @@ fn admit_own<N: Names, T: Turnstile, R: Wait>(
         if place_of(task, many) == place {
             let (number, seq) = (client.number(), answers.len());
             turnstile.before(number, seq);
-            let answer = client.admit(rt, alloc, session, task);
+            let answer = client.admit_in(rt, alloc, hall, task);
             answers.push_back_reserved(answer);
             turnstile.after(number, seq);
         }
     }
-    (client, answers)
+    Share { client, answers }
+}
+
+/// Gives each client its seat, in their order, with room for its answers.
+fn seat_all<N: Names>(
+    alloc: Global,
+    clients: Vec<Client<N>>,
+    tasks: &[TaskSpec],
+) -> Result<Vec<Seat<N>>, NoMemory>
+    requires { 0 < length clients.items }
+    ensures { IfOk result (λ v. AreSeats tasks.now clients.items v.items) }
+{
+    let many = clients.len();
+    let mut seats = Vec::with_capacity(alloc, many)?;
+    for client in clients {
+        let place = seats.len();
+        let answers = VecDeque::with_capacity(alloc, count_own(tasks, place, many))?;
+        seats.push_reserved(Seat {
+            client,
+            place,
+            many,
+            answers,
+        });
+    }
+    Ok(seats)
+}
+
+/// Starts the thread of a client.
+fn start_one<
+    's,
+    E,
+    N: Names + Send + Sync + 's,
+    A: Agenda + 's,
+    T: Turnstile + 's,
+    R: Wait + Sync + 's,
+>(
+    scope: &Scope<'s, E>,
+    rt: &'s R,
+    alloc: Global,
+    hall: &'s Hall<N>,
+    tasks: &'s [TaskSpec],
+    turnstile: &'s T,
+    seat: Seat<N>,
+) -> Result<PromisedHandle<Share<N>, Asking<N, A>>, SessionFault>
+    requires tasks { tasks.now ≡ A.tasks }
+    requires room { HasRoom tasks.now seat }
+    ensures ok { IfOk result (λ h. h.promise.seat.value ≡ seat) }
+    ensures err { IfErr result (λ e. e ≡ SessionFault.Start) }
+{
+    let promise = Asking::<N, A> {
+        seat: Snapshot::of(&seat),
+        of: PhantomData,
+    };
+    let asking = move || -> Share<N>
+        requires { HasRoom tasks.now seat }
+        ensures { AsksSeat N.id tasks.entry.now seat result.client result.answers.items }
+    { admit_own(rt, alloc, hall, tasks, turnstile, seat) };
+    match scope.spawn_with(promise, asking) {
+        Ok(handle) => Ok(handle),
+        Err(_) => Err(SessionFault::Start),
+    }
+}
+
+/// Starts a thread for each client. Where one is not started, those before it were.
+fn start_all<
+    's,
+    E,
+    N: Names + Send + Sync + 's,
+    A: Agenda + 's,
+    T: Turnstile + 's,
+    R: Wait + Sync + 's,
+>(
+    scope: &Scope<'s, E>,
+    rt: &'s R,
+    alloc: Global,
+    hall: &'s Hall<N>,
+    tasks: &'s [TaskSpec],
+    turnstile: &'s T,
+    seats: Vec<Seat<N>>,
+) -> Result<Vec<PromisedHandle<Share<N>, Asking<N, A>>>, SessionFault>
+    requires tasks { tasks.now ≡ A.tasks }
+    requires room { All (HasRoom tasks.now) seats.items }
+    ensures len { IfOk result (λ v. vec_len v ≡ length seats.items) }
+    ensures each { IfOk result (λ v. (k : ℕ) (d : _) (s : SeatView) → k < length seats.items
+        → (slice_index_or v.items k d).promise.seat.value ≡ slice_index_or seats.items k s) }
+    ensures err { IfErr result IsUnasked }
+{
+    let Ok(mut handles) = Vec::with_capacity(alloc, seats.len()) else {
+        return Err(SessionFault::Memory);
+    };
+    for seat in seats {
+        handles.push_reserved(start_one(
+            scope, rt, alloc, hall, tasks, turnstile, seat,
+        )?);
+    }
+    Ok(handles)
+}
+
+/// Joins the clients' threads, in their order. Takes no memory.
+fn join_all<N: Names, A: Agenda, R: Threads>(
+    rt: &R,
+    handles: Vec<PromisedHandle<Share<N>, Asking<N, A>>>,
+    mut joined: Joined<N>,
+) -> Joined<N>
+    requires nobody { (joined.clients.items ≡ []) × (joined.shares.items ≡ []) }
+    requires room { (length handles.items ≤ vec_capacity joined.clients)
+        × (length handles.items ≤ vec_capacity joined.shares) }
+    ensures { AreAsked N.id A.tasks (map (λ h. h.promise.seat.value) handles.items)
+        result.clients.items (map (λ q. q.items) result.shares.items) }
+{
+    for handle in handles {
+        let Share { client, answers } = handle.join(rt);
+        joined.clients.push_reserved(client);
+        joined.shares.push_reserved(answers);
+    }
+    joined
 }
 
 /// Keeps the refusal in the answer to a task, where it is one.
@@ -105,39 +289,75 @@ fn gather(
     refused
 }
 
-/// Lets the one client admit all tasks, in their order: the client, and who was refused.
-pub(crate) fn admit_alone<N: Names, T: Turnstile, R: Wait>(
+/// Lets the clients of these seats ask for their own tasks, each in a thread of its own. Want of memory is answered before a thread
+/// is started.
+fn ask_apart<N: Names + Send + Sync, A: Agenda, T: Turnstile, R: Threads + Wait + Sync>(
+    rt: &R,
+    alloc: Global,
+    hall: &Hall<N>,
+    tasks: &[TaskSpec],
+    turnstile: &T,
+    seats: Vec<Seat<N>>,
+) -> Result<Joined<N>, SessionFault>
+    requires tasks { tasks.now ≡ A.tasks }
+    requires room { All (HasRoom tasks.now) seats.items }
+    ensures ok { IfOk result (λ j. AreAsked N.id tasks.now seats.items
+        j.clients.items (map (λ q. q.items) j.shares.items)) }
+    ensures err { IfErr result IsUnasked }
+{
+    let Ok(clients) = Vec::with_capacity(alloc, seats.len()) else {
+        return Err(SessionFault::Memory);
+    };
+    let Ok(shares) = Vec::with_capacity(alloc, seats.len()) else {
+        return Err(SessionFault::Memory);
+    };
+    let joined = Joined { clients, shares };
+    thread::scope(
+        thread::scope_env(),
+        rt,
+        |scope| -> Result<Joined<N>, SessionFault>
+            requires tasks { tasks.now ≡ A.tasks }
+            requires seats { All (HasRoom tasks.now) seats.items }
+            requires nobody { (joined.clients.items ≡ []) × (joined.shares.items ≡ []) }
+            requires room { (length seats.items ≤ vec_capacity joined.clients)
+                × (length seats.items ≤ vec_capacity joined.shares) }
+            ensures ok { IfOk result (λ j. AreAsked N.id tasks.entry.now seats.items
+                j.clients.items (map (λ q. q.items) j.shares.items)) }
+            ensures err { IfErr result IsUnasked }
+        {
+            let handles: Vec<PromisedHandle<Share<N>, Asking<N, A>>> =
+                start_all(scope, rt, alloc, hall, tasks, turnstile, seats)?;
+            Ok(join_all(rt, handles, joined))
+        },
+    )
+}
+
+/// Lets the clients admit a scenario's tasks, each client in a thread of its own, with the turnstile round each admission: the client
+/// at place (k - 1) mod so many asks for task k, in the order of k. The clients come back at their places, with who was refused, in
+/// the order of tasks.
+///
+/// # Errors
+/// [`SessionFault::Memory`] where a growth was refused: nothing was asked for. [`SessionFault::Start`] where the system started no
+/// thread for a client: those that were started have ended, and what the books list stays there. The clients are gone.
+pub fn admit_all<N: Names + Send + Sync, T: Turnstile, R: Threads + Wait + Sync>(
     rt: &R,
     alloc: Global,
     session: &Session<N>,
-    mut clients: Vec<Client<N>>,
+    clients: Vec<Client<N>>,
     tasks: &[TaskSpec],
     turnstile: &T,
 ) -> Result<(Vec<Client<N>>, Vec<(u32, Refusal)>), SessionFault>
-    requires one { length clients.items ≡ 1 }
+    requires some { 0 < length clients.items }
     ensures ok { IfOk result (λ r. AllAsked N.id tasks.now clients.items r.0.items r.1.items) }
-    ensures err { IfErr result (λ e. e ≡ SessionFault.Memory) }
+    ensures err { IfErr result IsUnasked }
 {
-    let Ok(answers) = VecDeque::with_capacity(alloc, tasks.len()) else {
-        return Err(SessionFault::Memory);
-    };
-    let Ok(mut shares) = Vec::with_capacity(alloc, 1) else {
-        return Err(SessionFault::Memory);
-    };
     let Ok(refused) = Vec::with_capacity(alloc, tasks.len()) else {
         return Err(SessionFault::Memory);
     };
-    let Some(client) = clients.pop() else {
-        unreachable!()
+    let Ok(seats) = seat_all(alloc, clients, tasks) else {
+        return Err(SessionFault::Memory);
     };
-    let seat = Seat {
-        client,
-        place: 0,
-        many: 1,
-        answers,
-    };
-    let (client, answers) = admit_own(rt, alloc, session, tasks, turnstile, seat);
-    clients.push_reserved(client);
-    shares.push_reserved(answers);
+    let Joined { clients, shares } =
+        ask_apart::<N, Brand, T, R>(rt, alloc, &session.hall, tasks, turnstile, seats)?;
     Ok((clients, gather(tasks, shares, refused)))
 }

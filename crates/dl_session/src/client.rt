@@ -17,7 +17,7 @@ use crate::named::{Ask, Named, Outcome};
 use crate::names::Names;
 use crate::parts::Hand;
 use crate::refusal::{Answer, Refusal};
-use crate::session::Session;
+use crate::session::{Hall, Session};
 use attr_check::{Params, check};
 use bw_gate::{Blank, Gate, Take};
 use call_book::{AdvanceError, Domain, NoMemory, Pass, Prepared, prepare};
@@ -210,13 +210,13 @@ impl<N: Names> Client<N> {
     }
 
     /// Makes a call under the lock of the domain of a place.
-    fn enter_at<R: Wait>(&mut self, rt: &R, session: &Session<N>, place: usize, ask: Ask) -> Answer
+    fn enter_at<R: Wait>(&mut self, rt: &R, hall: &Hall<N>, place: usize, ask: Ask) -> Answer
         requires place { IsPlace N.id place }
         requires ask { IsAsk N.id place ask }
         ensures { IsDoneFor N.id place self.old self.new ask result }
     {
-        let gate = &session.gate;
-        let books = &session.books;
+        let gate = &hall.gate;
+        let books = &hall.books;
         match place {
             0 => self.enter_book(rt, &books.book0, gate, ask),
             1 => self.enter_book(rt, &books.book1, gate, ask),
@@ -231,14 +231,14 @@ impl<N: Names> Client<N> {
 
     /// A piece for an admission to a domain: the one in the client's hand, or else one of the pool, or else one that the domain
     /// keeps.
-    fn find_blank<R: Wait>(&mut self, rt: &R, session: &Session<N>, place: usize) -> Option<Blank>
+    fn find_blank<R: Wait>(&mut self, rt: &R, hall: &Hall<N>, place: usize) -> Option<Blank>
         requires place { IsPlace N.id place }
         ensures same { self.new ≡ record self.old { hand = None } }
         ensures own { IfSome result (λ b. b.gate ≡ N.id.gate) }
     {
         match self.hand.take() {
             Some(blank) => Some(blank),
-            None => session.find_blank(rt, place),
+            None => hall.find_blank(rt, place),
         }
     }
 
@@ -246,7 +246,7 @@ impl<N: Names> Client<N> {
     fn submit<R: Wait>(
         &mut self,
         rt: &R,
-        session: &Session<N>,
+        hall: &Hall<N>,
         place: usize,
         blank: Blank,
         prepared: Prepared,
@@ -257,9 +257,9 @@ impl<N: Names> Client<N> {
         ensures verdict { IsVerdict (cap_in N.id place) prepared.params.bw result }
         ensures last { IsLastFound self.new.hand result }
     {
-        match session.gate.take(rt, blank, place, prepared.bw()) {
+        match hall.gate.take(rt, blank, place, prepared.bw()) {
             Take::Taken(ticket) => {
-                self.enter_at(rt, session, place, Ask::Admit { prepared, ticket })
+                self.enter_at(rt, hall, place, Ask::Admit { prepared, ticket })
             }
             Take::Refused { blank, seen } => {
                 self.hand = Some(blank);
@@ -273,7 +273,7 @@ impl<N: Names> Client<N> {
         &mut self,
         rt: &R,
         alloc: Global,
-        session: &Session<N>,
+        hall: &Hall<N>,
         task: &TaskSpec,
         params: Params,
         place: usize,
@@ -284,7 +284,7 @@ impl<N: Names> Client<N> {
         ensures verdict { IsVerdict (cap_in N.id place) (params_of task.now.attr).bw result }
         ensures last { IsLastFound self.new.hand result }
     {
-        let Some(blank) = self.find_blank(rt, session, place) else {
+        let Some(blank) = self.find_blank(rt, hall, place) else {
             return Err(Refusal::Full);
         };
         match prepare(
@@ -295,7 +295,7 @@ impl<N: Names> Client<N> {
             task.delay,
             &task.script,
         ) {
-            Ok(prepared) => self.submit(rt, session, place, blank, prepared),
+            Ok(prepared) => self.submit(rt, hall, place, blank, prepared),
             Err(NoMemory) => {
                 self.hand = Some(blank);
                 Err(Refusal::Enomem)
@@ -319,11 +319,26 @@ impl<N: Names> Client<N> {
             (record { task = task.now; answer = result } ∷ []) }
         ensures last { IsLastFound self.new.hand result }
     {
-        let (params, place) = match session.goal_of(task) {
+        self.admit_in(rt, alloc, &session.hall, task)
+    }
+
+    /// The same, with what the clients share of the session.
+    pub(crate) fn admit_in<R: Wait>(
+        &mut self,
+        rt: &R,
+        alloc: Global,
+        hall: &Hall<N>,
+        task: &TaskSpec,
+    ) -> Answer
+        ensures asked { Asks N.id self.old self.new
+            (record { task = task.now; answer = result } ∷ []) }
+        ensures last { IsLastFound self.new.hand result }
+    {
+        let (params, place) = match hall.goal_of(task) {
             Ok(found) => found,
             Err(refusal) => return Err(refusal),
         };
-        self.admit_at(rt, alloc, session, task, params, place)
+        self.admit_at(rt, alloc, hall, task, params, place)
     }
 
     /// Gives a listed task of a domain new parameters, as [`Domain::regrade`](call_book::Domain::regrade) does. `Full` where the
@@ -341,7 +356,7 @@ impl<N: Names> Client<N> {
         ensures made { MakesRegrade self.old self.new domain number params result }
         ensures full { IsFullBook result }
     {
-        self.enter_at(rt, session, domain, Ask::Regrade { number, params })
+        self.enter_at(rt, &session.hall, domain, Ask::Regrade { number, params })
     }
 
     /// Wakes a task of a domain that waits, as [`Domain::wake`](call_book::Domain::wake) does. `Full` where the book is full.
@@ -357,7 +372,7 @@ impl<N: Names> Client<N> {
         ensures made { Makes self.old self.new (made_by domain (calls.Wake number) result) }
         ensures full { IsFullBook result }
     {
-        self.enter_at(rt, session, domain, Ask::Wake { number })
+        self.enter_at(rt, &session.hall, domain, Ask::Wake { number })
     }
 
     /// Ends a task of a domain, as [`Domain::leave`](call_book::Domain::leave) does. `Full` where the book is full.
@@ -373,7 +388,7 @@ impl<N: Names> Client<N> {
         ensures made { Makes self.old self.new (made_by domain (calls.Leave number) result) }
         ensures full { IsFullBook result }
     {
-        self.enter_at(rt, session, domain, Ask::Leave { number })
+        self.enter_at(rt, &session.hall, domain, Ask::Leave { number })
     }
 
     /// Makes up to `ticks` ticks of a domain, 1 to 60000000, as [`Domain::advance`](call_book::Domain::advance) does. `Full` where
@@ -390,8 +405,8 @@ impl<N: Names> Client<N> {
         ensures made { MakesAdvance self.old self.new domain ticks result }
         ensures full { IsFullOrMemory result }
     {
-        let gate = &session.gate;
-        let books = &session.books;
+        let gate = &session.hall.gate;
+        let books = &session.hall.books;
         match domain {
             0 => self.advance_in(rt, &books.book0, gate, ticks),
             1 => self.advance_in(rt, &books.book1, gate, ticks),

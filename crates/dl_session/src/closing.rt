@@ -136,7 +136,9 @@ fn unlock<N: Names, const D: usize>(lock: Option<Mutex<Named<N, D>>>, books: &mu
 }
 
 /// Takes all books out of their locks. Takes no memory.
-pub(crate) fn unlock_all<N: Names>(locks: Books<N>) -> Vec<Domain>
+pub(crate) fn unlock_all<N: Names>(locks: Books<N>, mut room: Vec<Domain>) -> Vec<Domain>
+    requires empty { room.items ≡ [] }
+    requires enough { length N.id.cpu_sets ≤ vec_capacity room }
     requires few { length N.id.cpu_sets ≤ 8 }
     ensures count { length result.items ≡ length N.id.cpu_sets }
     ensures named { AreNamed N.id result.items }
@@ -150,7 +152,6 @@ pub(crate) fn unlock_all<N: Names>(locks: Books<N>) -> Vec<Domain>
         book5,
         book6,
         book7,
-        mut room,
     } = locks;
     unlock(book0, &mut room);
     unlock(book1, &mut room);

@@ -40,6 +40,7 @@ mod trace;
 mod turnstile;
 mod words;
 
+pub use admitting::admit_all;
 pub use client::Client;
 pub use fault::{FaultLine, RefusedLine, SessionFault};
 pub use names::Names;

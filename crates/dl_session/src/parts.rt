@@ -162,7 +162,7 @@ fn books_of(
     let mut books = Vec::with_capacity(alloc, count)?;
     for d in 0..count {
         let cpus = options.domains[d];
-        let Ok((domain, passes)) = Domain::open(
+        let Ok((mut domain, passes)) = Domain::open(
             alloc,
             gate,
             d,
@@ -174,6 +174,7 @@ fn books_of(
             shut(alloc, gate, books);
             return Err(NoMemory);
         };
+        domain.set_workers(options.workers);
         deal(hands, passes);
         books.push_reserved(domain);
     }

@@ -7,9 +7,9 @@ ghost use Rattle.dl_session.specs.Options.{AreOptions};
 ghost use Rattle.dl_session.specs.Admissions.{AreNew};
 ghost use Rattle.dl_session.specs.Answer.{seen, NothingWritten};
 ghost use Rattle.dl_session.specs.RunAnswer.{flagged, IsScenario, IsRunAnswer, IsRunFault};
-ghost use Rattle.dl_session.specs.private.Running.{IsJsonTold, IsScenarioTold, IsRan, IsStopped};
+ghost use Rattle.dl_session.specs.private.Running.{IsJsonTold, IsScenarioTold, IsRan, IsHalted};
 
-use crate::admitting::admit_alone;
+use crate::admitting::admit_all;
 use crate::client::Client;
 use crate::fault::SessionFault;
 use crate::finishing::{Finished, finish};
@@ -108,7 +108,7 @@ fn take_clients<N: Names>(
 
 /// Runs tasks in a session of these parts: the admissions, then the advance of each domain by the whole duration, in microseconds,
 /// and the end.
-fn run_in<N: Names, T: Turnstile, X: Threads + Wait>(
+fn run_in<N: Names + Send + Sync, T: Turnstile, X: Threads + Wait + Sync>(
     rt: &X,
     alloc: Global,
     parts: Parts,
@@ -119,17 +119,17 @@ fn run_in<N: Names, T: Turnstile, X: Threads + Wait>(
 ) -> Result<Finished, SessionFault>
     requires parts { N.id ≡ parts }
     requires many { many ≡ parts.clients }
-    requires one { many ≡ 1 }
+    requires some { 0 < many }
     requires duration { duration ≤ 60000000 }
     ensures ok { IfOk result (IsRan N.id tasks.now duration) }
-    ensures err { IfErr result (IsStopped duration) }
+    ensures err { IfErr result (IsHalted duration) }
 {
     let mut session: Session<N> = Session::open(parts);
     let Ok(clients) = take_clients(alloc, &mut session, many) else {
         session.shut(alloc);
         return Err(SessionFault::Memory);
     };
-    match admit_alone(rt, alloc, &session, clients, tasks, turnstile) {
+    match admit_all(rt, alloc, &session, clients, tasks, turnstile) {
         Ok((clients, refused)) => {
             let mut finished = finish(rt, alloc, session, clients, duration)?;
             finished.report.refused = refused;
@@ -142,19 +142,20 @@ fn run_in<N: Names, T: Turnstile, X: Threads + Wait>(
     }
 }
 
-/// Reads a scenario to its end, opens a session, lets client 1 admit the scenario's tasks in their order, with the turnstile round
-/// each admission, advances each domain by the scenario's duration as the last entry of its book, closes the session, and writes the
-/// trace of all domains, or the calls text of the histories. A duration of 0 makes no advance.
+/// Reads a scenario to its end, opens a session, lets its clients admit the scenario's tasks by [`admit_all`](crate::admit_all), each
+/// in a thread of its own, with the turnstile round each admission. Then client 1 advances each domain by the scenario's duration as
+/// the last entry of its book, the session is closed, and the trace of all domains is written, or the calls text of the histories. A
+/// duration of 0 makes no advance.
 ///
 /// `Ok`: the histories in the report are legal and answer the scenario together with the refusals, and what was written is the text
 /// of their run, and nothing else. A task that is refused is no fault: it stands in the report.
 ///
 /// # Errors
 /// [`SessionFault::Json`] and [`SessionFault::Scenario`] where the input is no scenario, [`SessionFault::Read`] where the reader
-/// failed, [`SessionFault::Full`] where a history has no room for the advance, [`SessionFault::Memory`] where a growth was refused:
-/// nothing was written. [`SessionFault::Write`] where the writer failed: it took exactly so many bytes, the front of the text, and
+/// failed, [`SessionFault::Start`] where the system started no thread for a client, [`SessionFault::Full`] where a history has no
+/// room for the advance, [`SessionFault::Memory`] where a growth was refused: nothing was written. [`SessionFault::Write`] where the writer failed: it took exactly so many bytes, the front of the text, and
 /// not all.
-pub fn run<R: Read, W: Write, T: Turnstile, X: Threads + Wait>(
+pub fn run<R: Read, W: Write, T: Turnstile, X: Threads + Wait + Sync>(
     rt: &X,
     alloc: Global,
     reader: &mut Counted<R>,
@@ -165,7 +166,6 @@ pub fn run<R: Read, W: Write, T: Turnstile, X: Threads + Wait>(
     requires reader { faults_of reader.old < 2 ^ 63 }
     requires writer { faults_of writer.old < 2 ^ 63 }
     requires options { AreOptions options.now }
-    requires one { options.now.clients ≡ 1 }
     ensures ok { IfOk result (IsRunAnswer
         (seen (side R.remaining reader.old reader.new) (side W.contents writer.old writer.new)) options.now) }
     ensures err { IfErr result (IsRunFault

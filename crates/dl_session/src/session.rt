@@ -38,10 +38,6 @@ pub(crate) struct Books<N: Names> {
     pub(crate) book5: Option<Mutex<Named<N, 5>>>,
     pub(crate) book6: Option<Mutex<Named<N, 6>>>,
     pub(crate) book7: Option<Mutex<Named<N, 7>>>,
-    // Where they stood before, and will stand when the locks are gone.
-    pub(crate) room: Vec<Domain>,
-    ghost empty: { room.items ≡ [] },
-    ghost enough: { length N.id.cpu_sets ≤ vec_capacity room },
     ghost has0: { is_some book0 ≡ nat_lt 0 (length N.id.cpu_sets) },
     ghost has1: { is_some book1 ≡ nat_lt 1 (length N.id.cpu_sets) },
     ghost has2: { is_some book2 ≡ nat_lt 2 (length N.id.cpu_sets) },
@@ -52,15 +48,39 @@ pub(crate) struct Books<N: Names> {
     ghost has7: { is_some book7 ≡ nat_lt 7 (length N.id.cpu_sets) },
 }
 
-/// One gate with the domains that it admits to, each behind its own lock, a pool of pieces, and the clients that were not handed
-/// out yet. It is neither cloned nor dropped, but closed, since its domains hold tickets. To a contract it is which of its
-/// clients, from 1 on, wait to be handed out.
-pub struct Session<N: Names> {
+/// What all clients of a session share: one gate with the domains that it admits to, each behind its own lock, and a pool of pieces.
+/// To a contract it is its gate.
+pub(crate) struct Hall<N: Names> {
     pub(crate) gate: Gate,
     pub(crate) cpu_sets: Vec<Vec<u32>>,
     pub(crate) books: Books<N>,
     pub(crate) pool: Mutex<Pool<N>>,
+}
+
+impl<N: Names> Model for Hall<N> {
+    ghost use Rattle.std.specs.Prelude.{◌≡◌, map};
+    ghost use Rattle.bw_gate.specs.Pieces.{GateId};
+    ghost use Rattle.dl_session.specs.SessionId.{IsSession};
+
+    ghost Value = { GateId };
+
+    ghost view = { λ h. h.gate };
+
+    ghost invariant = { λ h. (h.gate ≡ N.id.gate)
+        × (map (λ v. v.items) h.cpu_sets.items ≡ N.id.cpu_sets)
+        × IsSession N.id };
+}
+
+/// One gate with the domains that it admits to, each behind its own lock, a pool of pieces, and the clients that were not handed
+/// out yet. It is neither cloned nor dropped, but closed, since its domains hold tickets. To a contract it is which of its
+/// clients, from 1 on, wait to be handed out.
+pub struct Session<N: Names> {
+    pub(crate) hall: Hall<N>,
     pub(crate) hands: Vec<Option<Hand>>,
+    // Where the domains stood before, and will stand when their locks are gone.
+    pub(crate) room: Vec<Domain>,
+    ghost empty: { room.items ≡ [] },
+    ghost enough: { length N.id.cpu_sets ≤ vec_capacity room },
 }
 
 impl<N: Names> Model for Session<N> {
@@ -72,9 +92,7 @@ impl<N: Names> Model for Session<N> {
 
     ghost view = { λ s. map is_some s.hands.items };
 
-    ghost invariant = { λ s. (s.gate ≡ N.id.gate)
-        × (map (λ v. v.items) s.cpu_sets.items ≡ N.id.cpu_sets)
-        × IsSession N.id
+    ghost invariant = { λ s. IsSession N.id
         × (length s.hands.items ≡ N.id.clients)
         × AreHands N.id.gate N.id.spines s.hands.items };
 }
@@ -89,16 +107,20 @@ impl<N: Names> Session<N> {
             gate,
             cpu_sets,
             limit: _,
-            books,
+            mut books,
             hands,
             pool,
         } = parts;
-        Session {
+        let hall = Hall {
             gate,
             cpu_sets,
-            books: Books::new(books),
+            books: Books::new(&mut books),
             pool: Mutex::new(Pool::new(pool)),
+        };
+        Session {
+            hall,
             hands,
+            room: books,
         }
     }
 
@@ -106,7 +128,7 @@ impl<N: Names> Session<N> {
     pub fn gate(&self) -> &Gate
         ensures { result.now ≡ N.id.gate }
     {
-        &self.gate
+        &self.hall.gate
     }
 
     /// How many domains it has, 1 to 8.
@@ -114,7 +136,7 @@ impl<N: Names> Session<N> {
         ensures count { result ≡ length N.id.cpu_sets }
         ensures within { (0 < result) × (result ≤ 8) }
     {
-        self.cpu_sets.len()
+        self.hall.cpu_sets.len()
     }
 
     /// The client of a number, from 1, where it was not handed out before.
@@ -126,6 +148,54 @@ impl<N: Names> Session<N> {
         Some(Client::new(number, hand))
     }
 
+    /// Ends the session: the books are closed and all pieces that the clients and the domains have go home to the gate. Each pass of
+    /// these clients is compared with its book. [`NoMemory`] (ENOMEM 12) where a growth was refused: the session is gone, and its
+    /// tickets were given back.
+    pub fn close(self, alloc: Global, clients: Vec<Client<N>>) -> Result<Report, NoMemory>
+        ensures { IfOk result (IsReport N.id clients.items) }
+    {
+        let Finished { report, states: _ } = self.unlock(alloc)?.close(alloc, clients);
+        Ok(report)
+    }
+
+    /// Takes each domain out of its lock, and reserves all room that the end needs. [`NoMemory`] (ENOMEM 12) where a growth was
+    /// refused: the session is gone, and its tickets were given back.
+    pub(crate) fn unlock(self, alloc: Global) -> Result<Unlocked<N>, NoMemory> {
+        let Session { hall, hands, room } = self;
+        let Hall {
+            gate,
+            cpu_sets,
+            books,
+            pool,
+        } = hall;
+        let books = unlock_all(books, room);
+        let Ok(room) = Room::open(alloc, cpu_sets.len()) else {
+            shut(alloc, &gate, books);
+            return Err(NoMemory);
+        };
+        let mut blanks = pool.into_inner().into_blanks();
+        pour_waiting::<N>(&mut blanks, hands);
+        Ok(Unlocked::new(gate, books, blanks, room))
+    }
+
+    /// Ends the session where it is of no use any more; what tickets it holds go back to the gate.
+    pub(crate) fn shut(self, alloc: Global) {
+        let Session {
+            hall,
+            hands: _,
+            room,
+        } = self;
+        let Hall {
+            gate,
+            cpu_sets: _,
+            books,
+            pool: _,
+        } = hall;
+        shut(alloc, &gate, unlock_all(books, room));
+    }
+}
+
+impl<N: Names> Hall<N> {
     /// The parameters and the domain of a task, or why it is admitted nowhere.
     pub(crate) fn goal_of(&self, task: &TaskSpec) -> Result<(Params, usize), Refusal>
         ensures checked { IfOk result (λ r. accepted task.now.attr ≡ Ok r.0) }
@@ -142,48 +212,6 @@ impl<N: Names> Session<N> {
             Some(place) => Ok((params, place)),
             None => Err(Refusal::Eperm),
         }
-    }
-
-    /// Ends the session: the books are closed and all pieces that the clients and the domains have go home to the gate. Each pass of
-    /// these clients is compared with its book. [`NoMemory`] (ENOMEM 12) where a growth was refused: the session is gone, and its
-    /// tickets were given back.
-    pub fn close(self, alloc: Global, clients: Vec<Client<N>>) -> Result<Report, NoMemory>
-        ensures { IfOk result (IsReport N.id clients.items) }
-    {
-        let Finished { report, states: _ } = self.unlock(alloc)?.close(alloc, clients);
-        Ok(report)
-    }
-
-    /// Takes each domain out of its lock, and reserves all room that the end needs. [`NoMemory`] (ENOMEM 12) where a growth was
-    /// refused: the session is gone, and its tickets were given back.
-    pub(crate) fn unlock(self, alloc: Global) -> Result<Unlocked<N>, NoMemory> {
-        let Session {
-            gate,
-            cpu_sets,
-            books,
-            pool,
-            hands,
-        } = self;
-        let books = unlock_all(books);
-        let Ok(room) = Room::open(alloc, cpu_sets.len()) else {
-            shut(alloc, &gate, books);
-            return Err(NoMemory);
-        };
-        let mut blanks = pool.into_inner().into_blanks();
-        pour_waiting::<N>(&mut blanks, hands);
-        Ok(Unlocked::new(gate, books, blanks, room))
-    }
-
-    /// Ends the session where it is of no use any more; what tickets it holds go back to the gate.
-    pub(crate) fn shut(self, alloc: Global) {
-        let Session {
-            gate,
-            cpu_sets: _,
-            books,
-            pool: _,
-            hands: _,
-        } = self;
-        shut(alloc, &gate, unlock_all(books));
     }
 
     /// A piece of the pool, or else one that the domain of a place keeps.
@@ -216,19 +244,21 @@ fn locked<N: Names, const D: usize>(books: &mut Vec<Domain>) -> Option<Mutex<Nam
 }
 
 impl<N: Names> Books<N> {
-    fn new(mut books: Vec<Domain>) -> Books<N>
-        requires named { AreNamed N.id books.items }
-        requires count { length books.items ≡ length N.id.cpu_sets }
-        requires few { length books.items ≤ 8 }
+    fn new(books: &mut Vec<Domain>) -> Books<N>
+        requires named { AreNamed N.id books.old.items }
+        requires count { length books.old.items ≡ length N.id.cpu_sets }
+        requires few { length books.old.items ≤ 8 }
+        ensures left { books.new.items ≡ [] }
+        ensures room { vec_capacity books.new ≡ vec_capacity books.old }
     {
-        let book7 = locked(&mut books);
-        let book6 = locked(&mut books);
-        let book5 = locked(&mut books);
-        let book4 = locked(&mut books);
-        let book3 = locked(&mut books);
-        let book2 = locked(&mut books);
-        let book1 = locked(&mut books);
-        let book0 = locked(&mut books);
+        let book7 = locked(books);
+        let book6 = locked(books);
+        let book5 = locked(books);
+        let book4 = locked(books);
+        let book3 = locked(books);
+        let book2 = locked(books);
+        let book1 = locked(books);
+        let book0 = locked(books);
         Books {
             book0,
             book1,
@@ -238,7 +268,6 @@ impl<N: Names> Books<N> {
             book5,
             book6,
             book7,
-            room: books,
         }
     }
 

@@ -8,6 +8,7 @@ use std::test::Fail;
 use switch_text::Counted;
 
 mod clients;
+mod crowds;
 mod opening;
 mod runs;
 mod words;

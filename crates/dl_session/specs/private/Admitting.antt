@@ -1,7 +1,9 @@
 -- Admissions under way: what each client was answered, and what is put together of it.
-use Rattle.std.specs.Prelude.{◌≡◌, ℕ, ◌-◌, ◌<◌, ◌==◌, ◌%◌, Bool, List, [], ◌∷◌, length, map, filter, slice_index_or}
+use Rattle.std.specs.Prelude.{◌≡◌, ℕ, ◌-◌, ◌<◌, ◌≤◌, ◌==◌, ◌%◌, Bool, List, [], ◌∷◌, length, map, filter, slice_index_or}
 use Rattle.rtapp_scenario.specs.ScenarioView.{TaskSpecView}
 use Rattle.dl_session.specs.declared.refusal.Refusal.{Refusal}
+use Rattle.dl_session.specs.declared.fault.SessionFault.{SessionFault}
+use Rattle.dl_session.specs.declared.fault.SessionFault.TheVariants.{Start, Memory}
 use Rattle.dl_session.specs.SessionId.{SessionId}
 use Rattle.dl_session.specs.Asks.{Answer, ClientView, Asked, Asks}
 use Rattle.dl_session.specs.ScenarioAnswers.{own_asked, refused_in}
@@ -27,6 +29,47 @@ AreAnswers n i tasks answers = length answers ≡ length (own_tasks n i tasks)
 pub record AsksOwn (id : SessionId) (n i : ℕ) (tasks : List TaskSpecView) (c c' : ClientView) (answers : List Answer) : Type 0 where
   pub each : AreAnswers n i tasks answers
   pub asks : Asks id c c' (answered (own_tasks n i tasks) answers)
+
+-- a client at its place among so many, with room for so many answers
+pub record SeatView : Type 0 where
+  pub client : ClientView
+  pub place : ℕ
+  pub many : ℕ
+  pub room : ℕ
+
+-- there is room for the answers to its own tasks
+abbrev pub HasRoom : List TaskSpecView → SeatView → Type 0
+HasRoom tasks s = length (own_tasks s.many s.place tasks) ≤ s.room
+
+-- a client that asked for the tasks of its seat
+abbrev pub AsksSeat : SessionId → List TaskSpecView → SeatView → ClientView → List Answer → Type 0
+AsksSeat id tasks s c answers = AsksOwn id s.many s.place tasks s.client c answers
+
+-- a client at its place
+pub record IsSeat (tasks : List TaskSpecView) (n i : ℕ) (c : ClientView) (s : SeatView) : Type 0 where
+  pub client : s.client ≡ c
+  pub place : s.place ≡ i
+  pub many : s.many ≡ n
+  pub room : HasRoom tasks s
+
+-- the clients in their order, each at its place
+pub record AreSeats (tasks : List TaskSpecView) (clients : List ClientView) (seats : List SeatView) : Type 0 where
+  pub count : length seats ≡ length clients
+  pub each : (i : ℕ) (x : ClientView) (s : SeatView) → i < length clients
+      → IsSeat tasks (length clients) i (slice_index_or clients i x) (slice_index_or seats i s)
+
+-- the client of each seat has asked
+pub record AreAsked (id : SessionId) (tasks : List TaskSpecView) (seats : List SeatView) (clients : List ClientView) (shares : List (List Answer)) : Type 0 where
+  pub count : length clients ≡ length seats
+  pub shared : length shares ≡ length seats
+  pub each : (i : ℕ) (s : SeatView) (x : ClientView) → i < length seats
+      → AsksSeat id tasks (slice_index_or seats i s) (slice_index_or clients i x) (slice_index_or shares i [])
+
+-- why nobody, or not everybody, could ask: a growth was refused, or a thread was not started
+abbrev pub IsUnasked : SessionFault → Type 0
+IsUnasked Start = Unit {0}
+IsUnasked Memory = Unit {0}
+IsUnasked _ = ⊥
 
 -- the clients' answers put together: one for each task; those of the tasks of each client are its own; and the refusals are those
 -- among them

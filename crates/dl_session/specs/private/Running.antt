@@ -86,3 +86,8 @@ abbrev pub IsStopped : ℕ → SessionFault → Type 0
 IsStopped duration Full = 0 < duration
 IsStopped duration Memory = Unit {0}
 IsStopped duration _ = ⊥
+
+-- or a client's thread was not started
+abbrev pub IsHalted : ℕ → SessionFault → Type 0
+IsHalted duration Start = Unit {0}
+IsHalted duration fault = IsStopped duration fault

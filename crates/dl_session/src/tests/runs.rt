@@ -1,5 +1,6 @@
 // Whole runs of scenarios, between bytes in memory.
-ghost use Rattle.std.specs.Prelude.{◌≡◌, ◌<◌, ◌≤◌};
+ghost use Rattle.std.specs.Prelude.{◌<◌, ◌≤◌, length, All};
+ghost use Rattle.domain_run.specs.Domain.{IsCpus};
 ghost use Rattle.dl_session.specs.Options.{AreOptions};
 
 use crate::{AllPass, Options, Print, Report, SessionFault, replay, run};
@@ -10,7 +11,7 @@ use std::test::Fail;
 use std::thread::Threads;
 use switch_text::Counted;
 
-const RACE: &[u8] =
+pub(super) const RACE: &[u8] =
     br#"{"tasks":{"t":{"instance":8,"policy":"SCHED_DEADLINE","dl-runtime":500,"dl-period":1000,"run":100,"sleep":900}},"global":{"duration":0}}"#;
 
 const RACE_CALLS: &str = "dlcalls 1
@@ -20,7 +21,7 @@ admit 1 2 t-1 500 1000 1000 - 0 -1:1{r100,s900}
 admit 1 3 t-2 500 1000 1000 - 0 -1:1{r100,s900}
 ";
 
-const TWO_DOMAINS: &[u8] =
+pub(super) const TWO_DOMAINS: &[u8] =
     br#"{"tasks":{"a":{"instance":3,"cpus":[0],"policy":"SCHED_DEADLINE","dl-runtime":100,"dl-period":1000,"run":50,"timer":{"ref":"unique","period":1000}},"b":{"instance":3,"cpus":[1],"policy":"SCHED_DEADLINE","dl-runtime":100,"dl-period":1000,"run":50,"timer":{"ref":"unique","period":1000}}},"global":{"duration":1}}"#;
 
 const MEMBER_ORDER: &[u8] =
@@ -40,15 +41,32 @@ fn said(alloc: Global, answer: &Result<Report, SessionFault>) -> Result<String, 
     Ok(said)
 }
 
-/// Runs a scenario with one client on domains of these CPUs: what is said, what was written, and the report.
-fn ran<R: Threads + Wait>(
+/// A run on domains of these CPUs, with one worker.
+pub(super) fn options_on(domains: Vec<u32>, clients: u32, print: Print) -> Options
+    requires some { (0 < length domains.items) × (length domains.items ≤ 8) }
+    requires cpus { All IsCpus domains.items }
+    requires clients { (0 < clients) × (clients ≤ 64) }
+    ensures { AreOptions result }
+{
+    Options {
+        domains,
+        limit: 996147,
+        clients,
+        workers: 1,
+        history: 1024,
+        reclaim: false,
+        print,
+    }
+}
+
+/// Runs a scenario: what is said, what was written, and the report.
+pub(super) fn ran<R: Threads + Wait + Sync>(
     rt: &R,
     alloc: Global,
     text: &[u8],
     options: &Options,
 ) -> Result<(String, String, Option<Report>), Fail>
-    requires options { AreOptions options.now }
-    requires one { options.now.clients ≡ 1 }
+    requires { AreOptions options.now }
 {
     let (mut reader, mut writer) = (Counted::new(text), Counted::new(Vec::new(alloc)));
     let answer = run(rt, alloc, &mut reader, &mut writer, options, &AllPass);
@@ -58,7 +76,7 @@ fn ran<R: Threads + Wait>(
 }
 
 /// With one client on one domain.
-fn ran_on<R: Threads + Wait>(
+fn ran_on<R: Threads + Wait + Sync>(
     rt: &R,
     alloc: Global,
     text: &[u8],
@@ -139,16 +157,8 @@ fn calls_text_of_the_race(rt: HostRuntime) -> Result<(), Fail> {
 
 // Two domains of one CPU with three tasks each.
 #[test]
-fn two_domains_eight_clients(rt: HostRuntime) -> Result<(), Fail> {
-    let options = Options {
-        domains: vec![in rt.alloc(); 1, 1]?,
-        limit: 996147,
-        clients: 1,
-        workers: 1,
-        history: 1024,
-        reclaim: false,
-        print: Print::Trace,
-    };
+fn two_domains(rt: HostRuntime) -> Result<(), Fail> {
+    let options = options_on(vec![in rt.alloc(); 1, 1]?, 1, Print::Trace);
     let (said, written, _) = ran(&rt, rt.alloc(), TWO_DOMAINS, &options)?;
     assert_eq!(rt; said.as_str(), "");
     assert_eq!(rt; written.as_str().lines().count(), 8001);

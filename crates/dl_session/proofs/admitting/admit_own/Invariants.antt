@@ -1,4 +1,4 @@
-use Rattle.std.proofs.Common.{◌≡◌, ◌+◌, ◌≤◌, length, take, deque_len, deque_capacity}
+use Rattle.std.proofs.Common.{◌≡◌, length, take, deque_capacity}
 use Rattle.dl_session.specs.private.Admitting.{AsksOwn}
 use Rattle.dl_session.proofs.admitting.admit_own.Given as goal
 
@@ -6,6 +6,7 @@ use Rattle.dl_session.proofs.admitting.admit_own.Given as goal
 abbrev pub invariant-loop-task : goal.invariant-loop-task
 invariant-loop-task g l = record {
   asks : AsksOwn g.N.Names.id l.many l.place (take l.task-index l.tasks) l.fn.seat.client l.client l.answers.items;
-  count : deque_len l.answers ≤ l.task-index;
-  room : deque_capacity l.answers ≡ deque_capacity l.fn.seat.answers;
+  room : deque_capacity l.answers ≡ l.fn.seat.room;
+  place : l.place ≡ l.fn.seat.place;
+  many : l.many ≡ l.fn.seat.many;
 }

@@ -1,4 +1,4 @@
-use Rattle.std.proofs.Common.{◌<◌, ℕ, ◌+◌, List, get_or, length, map, ap, sym, subst, ◌∙◌, arith}
+use Rattle.std.proofs.Common.{◌<◌, ℕ, ◌+◌, List, [], ◌∷◌, ◌++◌, get_or, length, map, ap, sym, subst, ◌∙◌, arith}
 use Rattle.std.specs.Prelude.{slice_index}
 use Rattle.std.proofs.lemmas.List.{length-map, length_push, map_push, get_or_read}
 use Rattle.atomic_table.specs.Seated.{TableId}
@@ -27,7 +27,7 @@ loop-d-preserved c =
     let gate = c.args.gate.now in
     let d = c.loop-d.d in
     let was = c.loop-d.books.items in
-    let items = c.push_reserved.ensures.items in
+    let items = c.push_reserved.ensures.items ∙ ap (λ (y : BookView). was ++ y ∷ []) c.set_workers.ensures in
     let b = c.in-Ok.domain in
     let told = c.in-Ok.ensures in
     let spine : BookView → TableId = λ x. x.spine in

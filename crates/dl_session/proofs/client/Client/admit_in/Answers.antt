@@ -1,5 +1,5 @@
 use Rattle.dl_session.proofs.Asked.{refused_asks, asks_one}
-use Rattle.dl_session.proofs.client.Client.admit.Goals as goal
+use Rattle.dl_session.proofs.client.Client.admit_in.Goals as goal
 
 pub returns-in-Err-clause-asked : goal.returns-in-Err-clause-asked
 returns-in-Err-clause-asked g c = refused_asks g.N.Names.id c.args.self.now c.args.task.now c.in-Err.refusal c.in-Err.ensures.refused
