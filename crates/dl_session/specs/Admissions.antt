@@ -2,6 +2,8 @@
 use Rattle.std.specs.Prelude.{◌≡◌, ℕ, ◌+◌, ◌<◌, List, length, map, All, slice_index_or}
 use Rattle.rtapp_scenario.specs.ScenarioView.{TaskSpecView}
 use Rattle.dl_session.specs.declared.refusal.Refusal.{Refusal}
+use Rattle.dl_session.specs.declared.fault.SessionFault.{SessionFault}
+use Rattle.dl_session.specs.declared.fault.SessionFault.TheVariants.{Start, Memory}
 use Rattle.dl_session.specs.SessionId.{SessionId}
 use Rattle.dl_session.specs.Asks.{ClientView, IsLawful, Asked, Asks}
 use Rattle.dl_session.specs.Clients.{IsNew}
@@ -22,3 +24,9 @@ pub record AllAsked (id : SessionId) (tasks : List TaskSpecView) (before after :
   pub places : length after ≡ length before
   pub each : (i : ℕ) (x : ClientView) → i < length before
       → Asks id (slice_index_or before i x) (slice_index_or after i x) (own_asked (length before) i asked)
+
+-- why nobody, or not everybody, could ask: a growth was refused, or a thread was not started
+abbrev pub IsUnasked : SessionFault → Type 0
+IsUnasked Start = Unit {0}
+IsUnasked Memory = Unit {0}
+IsUnasked _ = ⊥

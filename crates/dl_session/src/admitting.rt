@@ -2,9 +2,9 @@
 
 ghost use Rattle.std.specs.Prelude.{◌≡◌, ◌<◌, ◌≤◌, ◌-◌, ◌%◌, ◌++◌, ◌∷◌, ℕ, List, [], length, map, All, IfOk, IfErr, vec_len, vec_capacity, slice_index_or};
 ghost use Rattle.dl_session.specs.ScenarioAnswers.{refused_in};
-ghost use Rattle.dl_session.specs.Admissions.{AllAsked};
+ghost use Rattle.dl_session.specs.Admissions.{AllAsked, IsUnasked};
 ghost use Rattle.rtapp_scenario.specs.ScenarioView.{TaskSpecView};
-ghost use Rattle.dl_session.specs.private.Admitting.{SeatView, own_tasks, HasRoom, AreSeats, AsksSeat, AreAsked, AreAnswers, IsUnion, IsUnasked};
+ghost use Rattle.dl_session.specs.private.Admitting.{SeatView, own_tasks, HasRoom, AreSeats, AsksSeat, AreAsked, AreAnswers, IsUnion};
 
 use crate::client::Client;
 use crate::fault::SessionFault;

@@ -12,6 +12,10 @@
 //! admission is answered EINVAL and EPERM exactly where the definition says; and at the end the histories are legal, and each
 //! client's entries in them are what it entered.
 //!
+//! [`admit_all`] lets many clients admit a scenario's tasks at once, each client in a thread of its own. It meets the definition
+//! "Admissions of many clients" (`specs/Admissions.antt`). To the crates above it promises: each client is back at its place, with
+//! exactly its own tasks asked for, in their order; and each task has one lawful answer.
+//!
 //! [`run`] is for scenarios. It meets the definitions "Answers of a scenario" (`specs/ScenarioAnswers.antt`) and "Run of a scenario"
 //! (`specs/RunAnswer.antt`), [`read_options`] the definition "Options of a run" (`specs/Words.antt`). To the crate above it promises
 //! the theorem on `run`: `Ok` means that the histories in the report are legal and answer the scenario together with the refusals,

@@ -2,8 +2,6 @@
 use Rattle.std.specs.Prelude.{◌≡◌, ℕ, ◌-◌, ◌<◌, ◌≤◌, ◌==◌, ◌%◌, Bool, List, [], ◌∷◌, length, map, filter, slice_index_or}
 use Rattle.rtapp_scenario.specs.ScenarioView.{TaskSpecView}
 use Rattle.dl_session.specs.declared.refusal.Refusal.{Refusal}
-use Rattle.dl_session.specs.declared.fault.SessionFault.{SessionFault}
-use Rattle.dl_session.specs.declared.fault.SessionFault.TheVariants.{Start, Memory}
 use Rattle.dl_session.specs.SessionId.{SessionId}
 use Rattle.dl_session.specs.Asks.{Answer, ClientView, Asked, Asks}
 use Rattle.dl_session.specs.ScenarioAnswers.{own_asked, refused_in}
@@ -64,12 +62,6 @@ pub record AreAsked (id : SessionId) (tasks : List TaskSpecView) (seats : List S
   pub shared : length shares ≡ length seats
   pub each : (i : ℕ) (s : SeatView) (x : ClientView) → i < length seats
       → AsksSeat id tasks (slice_index_or seats i s) (slice_index_or clients i x) (slice_index_or shares i [])
-
--- why nobody, or not everybody, could ask: a growth was refused, or a thread was not started
-abbrev pub IsUnasked : SessionFault → Type 0
-IsUnasked Start = Unit {0}
-IsUnasked Memory = Unit {0}
-IsUnasked _ = ⊥
 
 -- the clients' answers put together: one for each task; those of the tasks of each client are its own; and the refusals are those
 -- among them

@@ -1,8 +1,8 @@
 // Many clients at once.
-ghost use Rattle.std.specs.Prelude.{◌≡◌, ◌<◌, length};
+ghost use Rattle.std.specs.Prelude.{◌≡◌, ◌<◌, ◌≤◌};
 
 use crate::tests::runs::{RACE, TWO_DOMAINS, options_on, ran};
-use crate::{Names, Options, Parts, Print, Report, Session, Turnstile, admit_all, replay, run};
+use crate::{Names, Parts, Print, Report, Session, Turnstile, admit_all, replay, run};
 use call_book::NoMemory;
 use json_order::read;
 use rtapp_scenario::{TaskSpec, parse};
@@ -90,7 +90,7 @@ fn admitted_by_run<R: Threads + Wait + Clock + Sync>(
 }
 
 // The same without a run.
-fn admit_eight<N: Names, R: Threads + Wait + Abort + Sync, T: Turnstile>(
+fn admit_eight<N: Names + Send + Sync, R: Threads + Wait + Abort + Sync, T: Turnstile>(
     rt: &R,
     alloc: Global,
     parts: Parts,
@@ -171,18 +171,31 @@ fn admission_race(rt: HostRuntime) -> Result<(), Fail> {
     Ok(())
 }
 
-// Where nobody is refused, the trace is that of one client, for any number of clients and workers; and so is that of the calls.
+// What eight clients write of the scenario of two domains, where nobody is refused.
+fn two_by_eight<R: Threads + Wait + Abort + Sync>(
+    rt: &R,
+    alloc: Global,
+    workers: usize,
+    print: Print,
+) -> Result<String, Fail>
+    requires { (0 < workers) × (workers ≤ 8) }
+{
+    let mut options = options_on(vec![in alloc; 1, 1]?, 8, print);
+    options.workers = workers;
+    let (said, written, _) = ran(rt, alloc, TWO_DOMAINS, &options)?;
+    assert!(rt; said.is_empty());
+    Ok(written)
+}
+
+// The trace is that of one client, for any number of workers; and so is that of the calls, replayed.
 #[test]
 fn two_domains_eight_clients(rt: HostRuntime) -> Result<(), Fail> {
     let alone = options_on(vec![in rt.alloc(); 1, 1]?, 1, Print::Trace);
     let (_, wanted, _) = ran(&rt, rt.alloc(), TWO_DOMAINS, &alone)?;
-    for workers in [1, 2, 8] {
-        let options = Options { workers, ..options_on(vec![in rt.alloc(); 1, 1]?, 8, Print::Trace) };
-        let (said, written, _) = ran(&rt, rt.alloc(), TWO_DOMAINS, &options)?;
-        assert!(rt; said.is_empty() && written == wanted);
-    }
-    let told = options_on(vec![in rt.alloc(); 1, 1]?, 8, Print::Calls);
-    let (_, calls, _) = ran(&rt, rt.alloc(), TWO_DOMAINS, &told)?;
+    assert!(rt; two_by_eight(&rt, rt.alloc(), 1, Print::Trace)? == wanted);
+    assert!(rt; two_by_eight(&rt, rt.alloc(), 2, Print::Trace)? == wanted);
+    assert!(rt; two_by_eight(&rt, rt.alloc(), 8, Print::Trace)? == wanted);
+    let calls = two_by_eight(&rt, rt.alloc(), 1, Print::Calls)?;
     let mut writer = Counted::new(Vec::new(rt.alloc()));
     assert!(rt; replay(rt.alloc(), &mut Counted::new(calls.as_bytes()), &mut writer).is_ok());
     assert!(rt; writer.into_inner().as_slice() == wanted.as_bytes());
