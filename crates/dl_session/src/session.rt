@@ -89,6 +89,7 @@ impl<N: Names> Session<N> {
             gate,
             cpu_sets,
             limit: _,
+            history: _,
             books,
             hands,
             pool,

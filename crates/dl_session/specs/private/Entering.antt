@@ -26,6 +26,7 @@ pub record IsNamed (id : SessionId) (d : ℕ) (b : BookView) : Type 0 where
   pub cpus : b.cpus ≡ length (cpus_of id d)
   pub limit : b.limit ≡ id.limit
   pub clients : b.clients ≡ id.clients
+  pub room : b.room ≡ id.room
   pub place : IsPlace id d
 
 -- a client's pass of a domain's book
@@ -80,6 +81,7 @@ pub record SameBook (old new : BookView) : Type 0 where
   pub cpus : new.cpus ≡ old.cpus
   pub limit : new.limit ≡ old.limit
   pub clients : new.clients ≡ old.clients
+  pub room : new.room ≡ old.room
 
 -- ---- what a call comes to, under the domain's lock
 
