@@ -10,6 +10,7 @@ use switch_text::Counted;
 mod clients;
 mod opening;
 mod runs;
+mod sides;
 mod words;
 
 const THROTTLED: &[u8] =
