@@ -1,18 +1,22 @@
 -- The advance of each domain at the end of a run.
-use Rattle.std.proofs.Common.{◌≡◌, ◌≢◌, ℕ, zero, suc, ◌+◌, ◌≤◌, ◌<◌, ◌&&◌, Bool, true, false, eqb, cond, List, [], ◌∷◌, ◌++◌, length, map, set, get_or, Some, None, Ok, refl, sym, ap, subst, ◌∙◌, arith}
+use Rattle.std.proofs.Common.{◌≡◌, ◌≢◌, ℕ, zero, suc, ◌+◌, ◌≤◌, ◌<◌, ◌&&◌, Bool, true, false, eqb, cond, List, [], ◌∷◌, ◌++◌, length, map, set, get_or, Some, None, Ok, All, refl, sym, ap, subst, ◌∙◌, arith}
 use Rattle.std.specs.Prelude.{slice_index_or, nat_lt}
 use Rattle.std.specs.List.{cons_option}
 use Rattle.std.proofs.lemmas.Bool.{lt-ltb, eqb-true, eqb-false}
 use Rattle.std.proofs.lemmas.List.{append-nil, get_or_default, get_or-set_same, get_or-set_other, length-set}
+use Rattle.std.proofs.lemmas.List.Elements.{All-cons, All-head, All-tail}
 use Rattle.pass_seats.specs.Lists.{PassView}
 use Rattle.domain_run.specs.Domain.{opened}
 use Rattle.domain_run.specs.declared.call.Call.TheVariants.{Advance}
 use Rattle.domain_run.specs.declared.call.Reply.{Reply}
 use Rattle.domain_run.specs.declared.call.Reply.TheVariants as replies
 use Rattle.call_book.specs.declared.section.Entry.{Entry}
-use Rattle.call_book.specs.Book.{BookView}
+use Rattle.call_book.specs.Book.{BookView, IsFull, own_entries}
 use Rattle.call_book.specs.BookAnswers.{IsAdvanced}
+use Rattle.call_book.specs.SectionView.{SectionView}
 use Rattle.rtapp_scenario.specs.ScenarioView.{TaskSpecView}
+use Rattle.dl_session.specs.declared.fault.SessionFault.{SessionFault}
+use Rattle.dl_session.specs.declared.fault.SessionFault.TheVariants as faults
 use Rattle.dl_session.specs.declared.refusal.Refusal.{Refusal}
 use Rattle.dl_session.specs.declared.finishing.Finished.{Finished}
 use Rattle.dl_session.specs.Admissions.{AreNew, AllAsked}
@@ -23,7 +27,7 @@ use Rattle.dl_session.specs.ScenarioAnswers.{advance_of, EndsWith}
 use Rattle.dl_session.specs.private.Entering.{IsNamed, pass_after}
 use Rattle.dl_session.specs.private.Parts.{AreNamed}
 use Rattle.dl_session.specs.private.Closing.{HaveEnded}
-use Rattle.dl_session.specs.private.Running.{MakesAll, IsEndBy, AllEnd, IsFirst, HaveAdvanced, IsFinished}
+use Rattle.dl_session.specs.private.Running.{MakesAll, IsEndBy, AllEnd, IsFirst, HaveAdvanced, IsFinished, IsOrMemory, IsStopped, IsFullAmong, IsFullWith}
 use Rattle.dl_session.proofs.Asked.{makes_at, makes_nothing}
 
 -- ---- one domain
@@ -166,6 +170,34 @@ ends_more n m duration books b there more before last = λ d x upto. by d x upto
         let other = eqb-false n d is in
         subst (λ (v : BookView). EndsWith duration v.history) (sym (get_or-set_other books n d b x (λ at. other (sym at)))) (before d x (omega (arith, upto, more, other)))
 
+-- ---- an advance that was not made
+
+-- what is said of a fault, said otherwise
+pub or_memory : (P Q : SessionFault → Type 0) (e : SessionFault) → (P e → Q e) → IsOrMemory P e → IsOrMemory Q e
+or_memory P Q faults.Memory f met = tt
+or_memory P Q (faults.Json g) f met = f met
+or_memory P Q (faults.Scenario g) f met = f met
+or_memory P Q (faults.Calls n) f met = f met
+or_memory P Q faults.Read f met = f met
+or_memory P Q (faults.Write n) f met = f met
+or_memory P Q faults.Start f met = f met
+or_memory P Q faults.Full f met = f met
+
+pub stopped_so : (P Q : Type 0) (e : SessionFault) → (P → Q) → IsStopped P e → IsStopped Q e
+stopped_so P Q e f met = or_memory (λ e. (e ≡ faults.Full) × P) (λ e. (e ≡ faults.Full) × Q) e (λ h. (h.0, f h.1)) met
+
+-- the book of this place is full, and the client has entered nothing in it
+pub full_among : (n duration : ℕ) (books : List BookView) (b : BookView) (a c c' : ClientView) → n < length books → n < length a.passes → 0 < duration
+    → MakesFirst n a c (all_ticks duration) → IsFull b → c' ≡ c → IsFullAmong duration (set books n b) a c'
+full_among n duration books b a c c' there inside some made full same = record {
+  advances = some;
+  domain = n;
+  place = omega (arith, there, length-set books n b);
+  full = λ x. subst IsFull (sym (get_or-set_same books n b x there)) full;
+  number = ap (λ (v : ClientView). v.number) same ∙ made.number;
+  kept = ap (λ (v : ClientView). pass_in v n) same ∙ made.rest n (omega arith) inside;
+}
+
 -- ---- the end
 
 -- no book in particular
@@ -196,3 +228,42 @@ is_finished id duration cs es books f advanced is ended count end = record {
   count = ended.states_count ∙ is.left.count;
   runs = λ d s x inside. (ended.each d (no_book id) s x inside).run;
 }
+
+-- what the clients have in a domain in which the first of them has entered nothing more
+kept_own : (d : ℕ) (history : List Entry) (cs : List ClientView) (b c : ClientView) → 0 < length cs → b ≡ get_or cs 0 b → c.number ≡ b.number → pass_in c d ≡ pass_in b d
+    → All (λ (v : ClientView). pass_in v d ≡ own_entries v.number history) (set cs 0 c) → All (λ (v : ClientView). pass_in v d ≡ own_entries v.number history) cs
+kept_own d history [] b c some first number kept own = absurd (omega (arith, some))
+kept_own d history (v ∷ cs) b c some first number kept own =
+    let is : pass_in c d ≡ own_entries c.number history = All-head (λ (v : ClientView). pass_in v d ≡ own_entries v.number history) c cs own in
+    All-cons (λ (v : ClientView). pass_in v d ≡ own_entries v.number history) v cs
+    (subst (λ (w : ClientView). pass_in w d ≡ own_entries w.number history) first (sym kept ∙ is ∙ ap (λ (n : ℕ). own_entries n history) number))
+    (All-tail (λ (v : ClientView). pass_in v d ≡ own_entries v.number history) c cs own)
+
+-- a full book is closed as it was found
+pub full_with : (id : SessionId) (duration : ℕ) (cs : List ClientView) (b c : ClientView) (books : List BookView) (f : Finished) → 0 < length cs → b ≡ get_or cs 0 b
+    → IsReport id (set cs 0 c) f.report → HaveEnded books f.report.histories.items f.states.items → length books ≡ length id.cpu_sets → AreNamed id books
+    → IsFullAmong duration books b c → IsFullWith id duration cs
+full_with id duration cs b c books f some first is ended count named met =
+    let d = met.domain in
+    let x = no_book id in
+    let s : SectionView = record { cpus = 0; limit = 0; entries = [] } in
+    let place : d < length id.cpu_sets = omega (arith, met.place, count) in
+    let h = get_or f.report.histories.items d s in
+    let left = is.left.histories d s place in
+    let last = ended.each d x s (opened 0 0) (omega (arith, place, is.left.count)) in
+    record {
+      advances = met.advances;
+      domain = d;
+      place = place;
+      history = h;
+      legal = record {
+        cpus = left.cpus;
+        limit = left.limit;
+        legal = left.legal;
+        numbered = left.numbered;
+        members = left.members;
+        spelled = left.spelled;
+        own = kept_own d h.entries cs b c some first met.number met.kept left.own;
+      };
+      full = ap length last.entries ∙ met.full x ∙ (named d x met.place).room;
+    }

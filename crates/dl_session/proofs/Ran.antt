@@ -27,54 +27,41 @@ use Rattle.dl_session.specs.Admissions.{AreNew, AllAsked}
 use Rattle.dl_session.specs.Report.{IsHistoryOf, IsLeft}
 use Rattle.dl_session.specs.Options.{AreOptions, IsSessionOf}
 use Rattle.dl_session.specs.ScenarioAnswers.{AnswersScenario}
+use Rattle.dl_session.specs.FullBook.{IsFullDomain}
 use Rattle.dl_session.specs.Answer.{Seen, IsInput, NothingWritten}
 use Rattle.dl_session.specs.RunAnswer.{IsJson, IsScenario, flagged, IsRun, printed, IsRunAnswer, IsRunFault}
 use Rattle.dl_session.specs.private.Replaying.{IsWritten, IsUnwritten}
-use Rattle.dl_session.specs.private.Running.{IsFirst, IsJsonTold, IsScenarioTold, IsFinished, IsRan, IsStopped}
-use Rattle.dl_session.proofs.ScenarioLaw.{answers_all}
+use Rattle.dl_session.specs.private.Running.{IsFirst, IsJsonTold, IsScenarioTold, IsFinished, IsRan, IsOrMemory, IsStopped, IsHalted, IsFullWith}
+use Rattle.dl_session.proofs.ScenarioLaw.{answers_all, answers_tasks}
 use Rattle.dl_session.proofs.OrderLaw.{in_order}
 use Rattle.dl_session.proofs.Replayable.{read_again, same_trace}
 use Rattle.dl_session.proofs.Opening.{length_sets}
 
 -- ---- faults of the input
 
+-- of this fault something was said, from which it is a fault of a run; or memory was refused
+faulted : (s : Seen) (o : Options) (e : SessionFault) (this : SessionFault → Type 0) → NothingWritten s → HasNoFault s.reader → HasNoFault s.writer
+    → (this e → IsRunFault s o e) → IsOrMemory this e → IsRunFault s o e
+faulted s o faults.Memory this unwritten reads writes f told = record { unwritten = unwritten; reads = reads; writes = writes }
+faulted s o (faults.Json g) this unwritten reads writes f told = f told
+faulted s o (faults.Scenario g) this unwritten reads writes f told = f told
+faulted s o (faults.Calls n) this unwritten reads writes f told = f told
+faulted s o faults.Read this unwritten reads writes f told = f told
+faulted s o (faults.Write n) this unwritten reads writes f told = f told
+faulted s o faults.Start this unwritten reads writes f told = f told
+faulted s o faults.Full this unwritten reads writes f told = f told
+
 pub json_faulted : (s : Seen) (o : Options) (text : List ℕ) (found : JsonFault) (e : SessionFault)
     → IsInput s text → json.IsFault text found.kind found.at → NothingWritten s → HasNoFault s.reader → HasNoFault s.writer → IsJsonTold found e → IsRunFault s o e
-json_faulted s o text found (faults.Json fault) input first unwritten reads writes told = record {
-  text = text;
-  input = input;
-  not_memory = told.1;
-  first = subst (λ (f : JsonFault). json.IsFault text f.kind f.at) told.0 first;
-  unwritten = unwritten;
-  reads = reads;
-  writes = writes;
-}
-json_faulted s o text found faults.Memory input first unwritten reads writes told = record { unwritten = unwritten; reads = reads; writes = writes }
-json_faulted s o text found (faults.Scenario f) input first unwritten reads writes told = absurd told
-json_faulted s o text found (faults.Calls n) input first unwritten reads writes told = absurd told
-json_faulted s o text found faults.Read input first unwritten reads writes told = absurd told
-json_faulted s o text found (faults.Write n) input first unwritten reads writes told = absurd told
-json_faulted s o text found faults.Start input first unwritten reads writes told = absurd told
-json_faulted s o text found faults.Full input first unwritten reads writes told = absurd told
+json_faulted s o text found e input first unwritten reads writes told =
+    faulted s o e (λ e. (e ≡ faults.Json found) × (found.kind ≢ kinds.Memory)) unwritten reads writes
+    (λ h. subst (IsRunFault s o) (sym h.0) (record { text = text; input = input; not_memory = h.1; first = first; unwritten = unwritten; reads = reads; writes = writes })) told
 
 pub scenario_faulted : (s : Seen) (o : Options) (value : Json) (found : ScenarioFault) (e : SessionFault)
     → IsJson s value → profile.IsFault (parsed value) found → NothingWritten s → HasNoFault s.reader → HasNoFault s.writer → IsScenarioTold found e → IsRunFault s o e
-scenario_faulted s o value found (faults.Scenario fault) is first unwritten reads writes told = record {
-  value = value;
-  json = is;
-  not_memory = told.1;
-  first = subst (profile.IsFault (parsed value)) told.0 first;
-  unwritten = unwritten;
-  reads = reads;
-  writes = writes;
-}
-scenario_faulted s o value found faults.Memory is first unwritten reads writes told = record { unwritten = unwritten; reads = reads; writes = writes }
-scenario_faulted s o value found (faults.Json f) is first unwritten reads writes told = absurd told
-scenario_faulted s o value found (faults.Calls n) is first unwritten reads writes told = absurd told
-scenario_faulted s o value found faults.Read is first unwritten reads writes told = absurd told
-scenario_faulted s o value found (faults.Write n) is first unwritten reads writes told = absurd told
-scenario_faulted s o value found faults.Start is first unwritten reads writes told = absurd told
-scenario_faulted s o value found faults.Full is first unwritten reads writes told = absurd told
+scenario_faulted s o value found e is first unwritten reads writes told =
+    faulted s o e (λ e. (e ≡ faults.Scenario found) × (found ≢ scenario_faults.Memory)) unwritten reads writes
+    (λ h. subst (IsRunFault s o) (sym h.0) (record { value = value; json = is; not_memory = h.1; first = first; unwritten = unwritten; reads = reads; writes = writes })) told
 
 -- a writer that nobody used
 pub keeps_itself : (bytes : Option (List ℕ)) → Keeps bytes bytes
@@ -124,6 +111,21 @@ is_ran id tasks duration cs es r s f g new asked finished is histories words hom
       count = rw (same_h, states) (finished.count ∙ sym left.count);
       runs = rw (same_h, states) finished.runs;
     }
+
+-- the domain that was full, once the tasks were asked
+pub full_domain : (id : SessionId) (tasks : List TaskSpecView) (duration : ℕ) (cs es : List ClientView) (refused : List (ℕ × Refusal))
+    → AreNew id cs → AllAsked id tasks cs es refused → IsFullWith id duration es → (0 < duration) × IsFullDomain id id.clients tasks
+full_domain id tasks duration cs es refused new asked met = (
+  met.advances,
+  record {
+    domain = met.domain;
+    place = met.place;
+    history = met.history;
+    legal = by_nobody id met.domain es met.history met.legal;
+    answers = answers_tasks id tasks cs es refused met.domain met.history new asked met.place met.legal;
+    full = met.full;
+  },
+)
 
 abbrev pub ran_answers : (o : Options) (scenario : ScenarioView) (duration : ℕ) (given tasks : List TaskSpecView) (id : SessionId) (f : Finished)
     → record { duration_us = duration; tasks = given } ≡ scenario → tasks ≡ map (flagged o.reclaim) given → IsSessionOf o id → IsRan id tasks duration f
@@ -186,3 +188,49 @@ run_faulted s o histories written refused (faults.Calls n) run same reads unwrit
 run_faulted s o histories written refused faults.Read run same reads unwritten = absurd unwritten
 run_faulted s o histories written refused faults.Start run same reads unwritten = absurd unwritten
 run_faulted s o histories written refused faults.Full run same reads unwritten = absurd unwritten
+
+-- a run had no room for an advance, or no memory
+pub run_stopped : (s : Seen) (o : Options) (scenario : ScenarioView) (duration : ℕ) (given tasks : List TaskSpecView) (id : SessionId) (e : SessionFault)
+    → IsScenario s scenario → record { duration_us = duration; tasks = given } ≡ scenario → tasks ≡ map (flagged o.reclaim) given → IsSessionOf o id
+    → NothingWritten s → HasNoFault s.reader → HasNoFault s.writer → IsStopped ((0 < duration) × IsFullDomain id id.clients tasks) e → IsRunFault s o e
+run_stopped s o scenario duration given tasks id e input view same session unwritten reads writes stopped =
+    faulted s o e (λ e. (e ≡ faults.Full) × ((0 < duration) × IsFullDomain id id.clients tasks)) unwritten reads writes
+    (λ met. subst (IsRunFault s o) (sym met.0)
+    (record {
+      scenario = scenario;
+      input = input;
+      advances = subst (λ (x : ScenarioView). 0 < x.duration_us) view met.1.0;
+      id = id;
+      session = session;
+      full =
+          subst (λ (x : ScenarioView). IsFullDomain id o.clients (map (flagged o.reclaim) x.tasks)) view
+          (subst (λ (ts : List TaskSpecView). IsFullDomain id o.clients ts) same
+          (subst (λ (n : ℕ). IsFullDomain id n tasks) session.clients met.1.1));
+      unwritten = unwritten;
+      reads = reads;
+      writes = writes;
+    })) stopped
+
+pub halted : (full : Type 0) (e : SessionFault) → IsStopped full e → IsHalted full e
+halted full faults.Start stopped = tt
+halted full (faults.Json f) stopped = stopped
+halted full (faults.Scenario f) stopped = stopped
+halted full (faults.Calls n) stopped = stopped
+halted full faults.Read stopped = stopped
+halted full (faults.Write n) stopped = stopped
+halted full faults.Full stopped = stopped
+halted full faults.Memory stopped = stopped
+
+-- or a client's thread was not started
+pub run_halted : (s : Seen) (o : Options) (scenario : ScenarioView) (duration : ℕ) (given tasks : List TaskSpecView) (id : SessionId) (e : SessionFault)
+    → IsScenario s scenario → record { duration_us = duration; tasks = given } ≡ scenario → tasks ≡ map (flagged o.reclaim) given → IsSessionOf o id
+    → NothingWritten s → HasNoFault s.reader → HasNoFault s.writer → IsHalted ((0 < duration) × IsFullDomain id id.clients tasks) e → IsRunFault s o e
+run_halted s o scenario duration given tasks id faults.Start input view same session unwritten reads writes met =
+    record { scenario = scenario; input = input; unwritten = unwritten; reads = reads; writes = writes }
+run_halted s o scenario duration given tasks id (faults.Json f) input view same session unwritten reads writes met = run_stopped s o scenario duration given tasks id (faults.Json f) input view same session unwritten reads writes met
+run_halted s o scenario duration given tasks id (faults.Scenario f) input view same session unwritten reads writes met = run_stopped s o scenario duration given tasks id (faults.Scenario f) input view same session unwritten reads writes met
+run_halted s o scenario duration given tasks id (faults.Calls n) input view same session unwritten reads writes met = run_stopped s o scenario duration given tasks id (faults.Calls n) input view same session unwritten reads writes met
+run_halted s o scenario duration given tasks id faults.Read input view same session unwritten reads writes met = run_stopped s o scenario duration given tasks id faults.Read input view same session unwritten reads writes met
+run_halted s o scenario duration given tasks id (faults.Write n) input view same session unwritten reads writes met = run_stopped s o scenario duration given tasks id (faults.Write n) input view same session unwritten reads writes met
+run_halted s o scenario duration given tasks id faults.Full input view same session unwritten reads writes met = run_stopped s o scenario duration given tasks id faults.Full input view same session unwritten reads writes met
+run_halted s o scenario duration given tasks id faults.Memory input view same session unwritten reads writes met = run_stopped s o scenario duration given tasks id faults.Memory input view same session unwritten reads writes met

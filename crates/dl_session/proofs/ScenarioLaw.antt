@@ -8,11 +8,12 @@ use Rattle.call_book.specs.declared.section.Entry.{Entry}
 use Rattle.call_book.specs.Book.{IsMember, own_entries}
 use Rattle.dl_session.specs.declared.refusal.Refusal.{Refusal}
 use Rattle.dl_session.specs.SessionId.{SessionId, IsPlace}
-use Rattle.dl_session.specs.Asks.{ClientView, Made, Makes, pass_in, made_in, entries_from}
+use Rattle.dl_session.specs.Asks.{ClientView, Asked, Made, Makes, pass_in, made_in, entries_from}
 use Rattle.dl_session.specs.Clients.{IsNew}
 use Rattle.dl_session.specs.Admissions.{AreNew, AllAsked}
 use Rattle.dl_session.specs.Report.{IsHistoryOf}
 use Rattle.dl_session.specs.ScenarioAnswers.{AnswersScenario, EndsWith, own_asked, advance_of, history_of}
+use Rattle.dl_session.specs.FullBook.{AnswersTasks}
 use Rattle.dl_session.specs.RunAnswer.{flagged}
 use Rattle.dl_session.specs.private.Running.{HaveAdvanced}
 
@@ -68,6 +69,38 @@ no_section = record { cpus = 0; limit = 0; entries = [] }
 history_is : (hs : List SectionView) (d : ℕ) → d < length hs → history_of (map (λ h. h.entries) hs) d ≡ (get_or hs d no_section).entries
 history_is hs d inside = get_or-map (λ (h : SectionView). h.entries) hs d no_section nothing inside
 
+no_client : ClientView
+no_client = record { number = 0; passes = []; hand = None }
+
+-- the client at a place, once all tasks were asked: it has entered those of its own tasks that were answered, and nothing else
+record HasAsked (id : SessionId) (asked : List Asked) (n i : ℕ) (e : ClientView) : Type 0 where
+  pub number : e.number ≡ i + 1
+  pub domains : length e.passes ≡ length id.cpu_sets
+  pub passes : (d : ℕ) → IsPlace id d → pass_in e d ≡ entries_from (i + 1) 0 (made_in id d (own_asked n i asked))
+
+has_asked : (id : SessionId) (tasks : List TaskSpecView) (cs es : List ClientView) (refused : List (ℕ × Refusal)) (new : AreNew id cs) (all : AllAsked id tasks cs es refused) (i : ℕ)
+    → i < id.clients → HasAsked id all.asked id.clients i (get_or es i no_client)
+has_asked id tasks cs es refused new all i below =
+    let c = get_or cs i no_client in
+    let e = get_or es i no_client in
+    let at : i < length cs = omega (arith, below, new.count) in
+    let is_new = new.each i no_client at in
+    let asks = (all.each i no_client at).made in
+    let of_c : length c.passes ≡ length id.cpu_sets = ap length is_new.passes ∙ length-replicate (length id.cpu_sets) nothing in
+    record {
+      number = asks.number ∙ is_new.numbered;
+      domains = asks.domains ∙ of_c;
+      passes = λ d place.
+          first_made c e (λ d. made_in id d (own_asked (length cs) i all.asked)) d (i + 1) asks (omega (arith, place, of_c)) (pass_of_new id (i + 1) c d is_new) is_new.numbered
+          ∙ ap (λ (n : ℕ). entries_from (i + 1) 0 (made_in id d (own_asked n i all.asked))) new.count;
+    }
+
+-- a client's entries in a history that shows what the clients have entered
+shown_own : (d i : ℕ) (history : List Entry) (fs : List ClientView) → i < length fs → (get_or fs i no_client).number ≡ i + 1
+    → All (λ (c : ClientView). pass_in c d ≡ own_entries c.number history) fs → own_entries (i + 1) history ≡ pass_in (get_or fs i no_client) d
+shown_own d i history fs inside number own =
+    sym (ap (λ (n : ℕ). own_entries n history) number) ∙ sym (All-get_or (λ (c : ClientView). pass_in c d ≡ own_entries c.number history) fs i no_client inside own)
+
 pub answers_all : (id : SessionId) (tasks : List TaskSpecView) (duration : ℕ) (cs es fs : List ClientView) (refused : List (ℕ × Refusal)) (hs : List SectionView)
     → AreNew id cs → AllAsked id tasks cs es refused → HaveAdvanced duration es fs
     → length hs ≡ length id.cpu_sets
@@ -93,27 +126,26 @@ answers_all id tasks duration cs es fs refused hs new asked advanced count histo
     own : (d i : ℕ) → d < length id.cpu_sets → i < id.clients
         → own_entries (i + 1) (get_or hs d no_section).entries ≡ entries_from (i + 1) 0 (made_in id d (own_asked id.clients i asked.asked) ++ advance_of duration (i + 1))
     own d i inside below =
-        let x : ClientView = record { number = 0; passes = []; hand = None } in
-        let c = get_or cs i x in
-        let e = get_or es i x in
-        let f = get_or fs i x in
-        let at : i < length cs = omega (arith, below, new.count) in
-        let at_e : i < length es = omega (arith, at, asked.places) in
+        let e = get_or es i no_client in
+        let f = get_or fs i no_client in
+        let at_e : i < length es = omega (arith, below, new.count, asked.places) in
         let at_f : i < length fs = omega (arith, at_e, advanced.places) in
-        let is_new = new.each i x at in
-        let asks = (asked.each i x at).made in
-        let adds = advanced.each i x at_e in
-        let of_c : d < length c.passes = let made = ap length is_new.passes ∙ length-replicate (length id.cpu_sets) nothing in omega (arith, inside, made) in
-        let of_e : d < length e.passes = omega (arith, of_c, asks.domains) in
-        let number_e : e.number ≡ i + 1 = asks.number ∙ is_new.numbered in
-        let number_f : f.number ≡ i + 1 = adds.number ∙ number_e in
-        let first : pass_in e d ≡ entries_from (i + 1) 0 (made_in id d (own_asked (length cs) i asked.asked)) =
-        first_made c e (λ d. made_in id d (own_asked (length cs) i asked.asked)) d (i + 1) asks of_c (pass_of_new id (i + 1) c d is_new) is_new.numbered in
-        let all = then_made e f (λ d. advance_of duration (i + 1)) (made_in id d (own_asked (length cs) i asked.asked)) d (i + 1) adds of_e first number_e in
-        let shown : pass_in f d ≡ own_entries f.number (get_or hs d no_section).entries =
-        All-get_or (λ (c : ClientView). pass_in c d ≡ own_entries c.number (get_or hs d no_section).entries) fs i x at_f (histories d no_section inside).own in
-        sym (ap (λ (n : ℕ). own_entries n (get_or hs d no_section).entries) number_f) ∙ sym shown ∙ all
-        ∙ ap (λ (n : ℕ). entries_from (i + 1) 0 (made_in id d (own_asked n i asked.asked) ++ advance_of duration (i + 1))) new.count
+        let has = has_asked id tasks cs es refused new asked i below in
+        let adds = advanced.each i no_client at_e in
+        shown_own d i (get_or hs d no_section).entries fs at_f (adds.number ∙ has.number) (histories d no_section inside).own
+        ∙ then_made e f (λ d. advance_of duration (i + 1)) (made_in id d (own_asked id.clients i asked.asked)) d (i + 1) adds (omega (arith, inside, has.domains)) (has.passes d inside) has.number
+
+-- the admissions alone, in the history of one domain that was not advanced
+pub answers_tasks : (id : SessionId) (tasks : List TaskSpecView) (cs es : List ClientView) (refused : List (ℕ × Refusal)) (d : ℕ) (h : SectionView)
+    → AreNew id cs → AllAsked id tasks cs es refused → IsPlace id d → IsHistoryOf id d es h → AnswersTasks id id.clients tasks d h.entries
+answers_tasks id tasks cs es refused d h new asked place is = record {
+  asked = asked.asked;
+  tasks_are = asked.tasks_are;
+  lawful = asked.lawful;
+  entries = λ i below.
+      let has = has_asked id tasks cs es refused new asked i below in
+      shown_own d i h.entries es (omega (arith, below, new.count, asked.places)) has.number is.own ∙ has.passes d place;
+}
 
 -- ---- flags
 

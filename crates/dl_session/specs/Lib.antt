@@ -10,6 +10,7 @@ pub mod Clients
 pub mod ScenarioAnswers
 pub mod Admissions
 pub mod Report
+pub mod FullBook
 pub mod RunAnswer
 pub mod private
 pub mod InOrder

@@ -31,3 +31,4 @@ pub record IsSessionOf (o : Options) (id : SessionId) : Type 0 where
   pub cpu_sets : id.cpu_sets ≡ cpu_sets_from 0 o.domains.items
   pub limit : id.limit ≡ o.limit
   pub clients : id.clients ≡ o.clients
+  pub room : id.room ≡ o.history

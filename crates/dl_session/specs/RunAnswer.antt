@@ -28,6 +28,7 @@ use Rattle.dl_session.specs.SessionId.{SessionId, IsPlace}
 use Rattle.dl_session.specs.Options.{IsSessionOf}
 use Rattle.dl_session.specs.Report.{IsHistoryOf, IsLeft}
 use Rattle.dl_session.specs.ScenarioAnswers.{AnswersScenario}
+use Rattle.dl_session.specs.FullBook.{IsFullDomain}
 use Rattle.dl_session.specs.InOrder.{sections_in_order}
 use Rattle.dl_session.specs.Replay.{trace_of_sections}
 use Rattle.dl_session.specs.Answer.{Seen, IsInput, NothingWritten, IsUnread, IsOutOfMemory}
@@ -108,11 +109,15 @@ pub record IsNoScenario (s : Seen) (fault : ScenarioFault) : Type 0 where
   pub reads : HasNoFault s.reader
   pub writes : HasNoFault s.writer
 
--- the scenario asks for an advance, and a history had no room for it; nothing was written
-pub record IsFullBook (s : Seen) : Type 0 where
+-- the scenario asks for an advance, and in a session of the options a domain had no room for it, once the tasks were asked: its history
+-- had as many entries as the options give it; nothing was written
+pub record IsFullBook (s : Seen) (o : Options) : Type 0 where
   pub scenario : ScenarioView
   pub input : IsScenario s scenario
   pub advances : 0 < scenario.duration_us
+  pub id : SessionId
+  pub session : IsSessionOf o id
+  pub full : IsFullDomain id o.clients (map (flagged o.reclaim) scenario.tasks)
   pub unwritten : NothingWritten s
   pub reads : HasNoFault s.reader
   pub writes : HasNoFault s.writer
@@ -142,5 +147,5 @@ IsRunFault s o (faults.Calls n) = ⊥
 IsRunFault s o faults.Read = IsUnread s
 IsRunFault s o (faults.Write written) = IsRunCutOff s o written
 IsRunFault s o faults.Start = IsUnstarted s
-IsRunFault s o faults.Full = IsFullBook s
+IsRunFault s o faults.Full = IsFullBook s o
 IsRunFault s o faults.Memory = IsOutOfMemory s

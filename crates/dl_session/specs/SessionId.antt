@@ -15,6 +15,8 @@ pub record SessionId : Type 0 where
   pub limit : ℕ
   -- its clients are 1 to so many
   pub clients : ℕ
+  -- how many calls the history of each domain has room for
+  pub room : ℕ
 
 -- no session in particular
 abbrev pub no_session : SessionId
@@ -27,6 +29,7 @@ no_session = record {
   cpu_sets = [];
   limit = 0;
   clients = 0;
+  room = 0;
 }
 
 -- the spine of a domain's book

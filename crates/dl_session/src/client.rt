@@ -4,7 +4,7 @@ ghost use Rattle.std.specs.Prelude.{◌≡◌, None, IfSome, IfOk, IfErr, OnOk, 
 ghost use Rattle.attr_check.specs.Accepted.{accepted, params_of};
 ghost use Rattle.domain_run.specs.declared.call.Call.TheVariants as calls;
 ghost use Rattle.call_book.specs.Limits.{IsCall};
-ghost use Rattle.call_book.specs.Book.{IsMember, admission, own_entries};
+ghost use Rattle.call_book.specs.Book.{IsMember, IsFull, admission, own_entries};
 ghost use Rattle.dl_session.specs.SessionId.{IsSession, IsPlace, cap_in, spine_of};
 ghost use Rattle.dl_session.specs.Asks.{Asks, call_of, pass_in, Makes, made_by, MakesRegrade, MakesAdvance, IsFullBook, IsFullOrMemory, IsLastFound};
 ghost use Rattle.dl_session.specs.Clients.{IsNew};
@@ -167,7 +167,7 @@ impl<N: Names> Client<N> {
         ensures domains { length self.old.passes ≡ length N.id.cpu_sets }
         ensures made { OnOk result (MakesAll self.old self.new place ticks) }
         ensures ends { OnOk result (IsEndBy self.old.number ticks domain.new.history) }
-        ensures err { IfErr result (IsStopped ticks) }
+        ensures err { IfErr result (IsStopped (IsFull domain.new × (self.new ≡ self.old))) }
     {
         match domain.advance(rt, &mut self.passes[place], gate, ticks) {
             Ok(Reply::Done { ticks: made }) if made == ticks => Ok(()),

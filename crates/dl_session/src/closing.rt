@@ -14,7 +14,7 @@ use crate::client::Client;
 use crate::finishing::Finished;
 use crate::named::Named;
 use crate::names::Names;
-use crate::parts::{Hand, PIECES, shut};
+use crate::parts::{Hand, PIECES};
 use crate::refusal::Refusal;
 use crate::report::Report;
 use crate::session::Books;
@@ -279,7 +279,7 @@ fn put_words(closed: &Words, words: &mut Vec<u64>)
 }
 
 /// A session whose domains stand behind no lock any more, with all room that its end needs. It is neither cloned nor dropped, but
-/// closed or shut.
+/// closed.
 pub(crate) struct Unlocked<N: Names> {
     pub(crate) gate: Gate,
     pub(crate) books: Vec<Domain>,
@@ -359,25 +359,5 @@ impl<N: Names> Unlocked<N> {
             home,
         };
         Finished { report, states }
-    }
-
-    /// Ends the books; what tickets they hold go back to the gate.
-    pub(crate) fn shut(self, alloc: Global) {
-        let Unlocked {
-            gate,
-            books,
-            blanks: _,
-            room,
-            of: _,
-        } = self;
-        let Room {
-            tickets,
-            histories: _,
-            states: _,
-            words: _,
-            refused: _,
-        } = room;
-        tickets.destroy_empty();
-        shut(alloc, &gate, books);
     }
 }

@@ -58,7 +58,9 @@ impl SessionFault {
     }
 
     /// What the program prints of it on standard error.
-    pub fn line(&self) -> FaultLine<'_> {
+    pub fn line(&self) -> FaultLine<'_>
+        ensures { result.fault.now ≡ self.now }
+    {
         FaultLine { fault: self }
     }
 }
@@ -66,7 +68,8 @@ impl SessionFault {
 /// The line by which the program tells a fault: `dlsim: ` and its text, without an LF.
 #[derive(Clone, Copy)]
 pub struct FaultLine<'a> {
-    fault: &'a SessionFault,
+    /// The fault that it tells.
+    pub fault: &'a SessionFault,
 }
 
 /// Writes a character of a key: a control character (below 0x20, or 0x7f) as `\u00` and its two digits, so that the line

@@ -4,7 +4,7 @@ ghost use Rattle.std.specs.Prelude.{◌≡◌, ◌<◌, ◌≤◌, length, IfOk,
 ghost use Rattle.dl_session.specs.Asks.{Makes};
 ghost use Rattle.dl_session.specs.ScenarioAnswers.{advance_of};
 ghost use Rattle.dl_session.specs.private.Parts.{AreNamed};
-ghost use Rattle.dl_session.specs.private.Running.{AllEnd, IsFirst, IsFinished, IsStopped};
+ghost use Rattle.dl_session.specs.private.Running.{AllEnd, IsFirst, IsFinished, IsStopped, IsFullAmong, IsFullWith};
 
 use crate::client::Client;
 use crate::closing::Unlocked;
@@ -45,7 +45,7 @@ fn advance_all<N: Names, R: Threads + Wait>(
     ensures count { length books.new.items ≡ length books.old.items }
     ensures made { OnOk result (Makes client.old client.new (λ d. advance_of duration 1)) }
     ensures ends { OnOk result (AllEnd duration books.new.items) }
-    ensures err { IfErr result (IsStopped duration) }
+    ensures err { IfErr result (IsStopped (IsFullAmong duration books.new.items client.old client.new)) }
 {
     for place in 0..books.len() {
         client.advance_book(rt, gate, &mut books[place], place, duration)?;
@@ -64,7 +64,8 @@ fn advance<N: Names, R: Threads + Wait>(
     requires most { duration ≤ 60000000 }
     ensures made { OnOk result (Makes client.old client.new (λ d. advance_of duration 1)) }
     ensures ends { OnOk result (AllEnd duration unlocked.new.books.items) }
-    ensures err { IfErr result (IsStopped duration) }
+    ensures err { let books = unlocked.new.books.items in
+        IfErr result (IsStopped (IsFullAmong duration books client.old client.new)) }
 {
     if duration == 0 {
         return Ok(());
@@ -73,8 +74,8 @@ fn advance<N: Names, R: Threads + Wait>(
 }
 
 /// Takes each domain out of its lock and lets client 1 advance it by the whole duration, in microseconds, as the last entry of its
-/// book; no call is made where the duration is 0. Then all books are closed. Where it stops, the session is gone, and its tickets
-/// were given back.
+/// book; no call is made where the duration is 0. Then all books are closed, also where an advance was not made: the pieces go
+/// home, and each pass is compared with its book.
 pub(crate) fn finish<N: Names, R: Threads + Wait>(
     rt: &R,
     alloc: Global,
@@ -86,16 +87,13 @@ pub(crate) fn finish<N: Names, R: Threads + Wait>(
     requires first { IsFirst clients.items }
     requires duration { duration ≤ 60000000 }
     ensures ok { IfOk result (IsFinished N.id duration clients.items) }
-    ensures err { IfErr result (IsStopped duration) }
+    ensures err { IfErr result (IsStopped (IsFullWith N.id duration clients.items)) }
 {
     let Ok(mut unlocked) = session.unlock(alloc) else {
         return Err(SessionFault::Memory);
     };
-    match advance(rt, &mut unlocked, &mut clients[0], duration) {
-        Ok(()) => Ok(unlocked.close(alloc, clients)),
-        Err(fault) => {
-            unlocked.shut(alloc);
-            Err(fault)
-        }
-    }
+    let advanced = advance(rt, &mut unlocked, &mut clients[0], duration);
+    let finished = unlocked.close(alloc, clients);
+    advanced?;
+    Ok(finished)
 }

@@ -7,7 +7,7 @@ ghost use Rattle.call_book.specs.Book.{IsPassOf, IsMember};
 ghost use Rattle.call_book.specs.Limits.{IsCall};
 ghost use Rattle.call_book.specs.Pieces.{IsTicketOf};
 ghost use Rattle.dl_session.specs.SessionId.{IsSession, spine_of};
-ghost use Rattle.dl_session.specs.private.Entering.{IsNamed, SameBook, IsAsk, IsDone, IsOffered, IsReplied, IsRegradedBy, IsAdvancedBy};
+ghost use Rattle.dl_session.specs.private.Entering.{IsNamed, SameBook, IsAsk, IsGivenBack, NoneIsKept, IsDone, IsOffered, IsReplied, IsRegradedBy, IsAdvancedBy};
 
 use crate::names::Names;
 use crate::refusal::{Answer, Refusal};
@@ -55,6 +55,7 @@ fn admit(
     ensures same { SameBook domain.old domain.new }
     ensures offered { let most = cap domain.old.cpus domain.old.limit in
         IsOffered most pass.old pass.new prepared result.answer }
+    ensures given { IsGivenBack ticket result.answer result.blank }
     ensures own { IfSome result.blank (λ b. b.gate ≡ gate.now) }
 {
     match domain.admit(pass, prepared, ticket) {
@@ -174,6 +175,7 @@ impl<N: Names, const D: usize> Named<N, D> {
         requires member { IsMember N.id.clients pass.old.client }
         requires ask { IsAsk N.id D ask }
         ensures done { IsDone N.id D pass.old pass.new ask result.answer }
+        ensures given { NoneIsKept ask result.answer result.blank }
         ensures own { IfSome result.blank (λ b. b.gate ≡ N.id.gate) }
     {
         let domain = &mut self.domain;

@@ -31,6 +31,7 @@ pub struct Parts {
     pub(crate) gate: Gate,
     pub(crate) cpu_sets: Vec<Vec<u32>>,
     pub(crate) limit: u64,
+    pub(crate) history: usize,
     pub(crate) books: Vec<Domain>,
     pub(crate) hands: Vec<Option<Hand>>,
     pub(crate) pool: Vec<Blank>,
@@ -44,10 +45,10 @@ impl Model for Parts {
     ghost Value = { SessionId };
 
     ghost view = { λ p.
-        id_of p.gate p.books.items (map (λ v. v.items) p.cpu_sets.items) p.limit (vec_len p.hands) };
+        id_of p.gate p.books.items (map (λ v. v.items) p.cpu_sets.items) p.limit (vec_len p.hands) p.history };
 
     ghost invariant = { λ p. AreParts
-        (id_of p.gate p.books.items (map (λ v. v.items) p.cpu_sets.items) p.limit (vec_len p.hands))
+        (id_of p.gate p.books.items (map (λ v. v.items) p.cpu_sets.items) p.limit (vec_len p.hands) p.history)
         p.books.items p.hands.items p.pool.items };
 }
 
@@ -153,7 +154,7 @@ fn books_of(
     requires room { HaveRoom (length options.now.domains.items) hands.old.items }
     ensures count { IfOk result (λ v. length v.items ≡ length options.now.domains.items) }
     ensures books { let o = options.now in
-        IfOk result (λ v. AreBooks gate.now o.domains.items o.limit o.clients v.items) }
+        IfOk result (λ v. AreBooks gate.now o.domains.items o.limit o.clients o.history v.items) }
     ensures hands { IfOk result (λ v.
         AreHands gate.now (map (λ b. b.spine) v.items) hands.new.items) }
     ensures some { OnOk result (map is_some hands.new.items ≡ replicate options.now.clients true) }
@@ -223,6 +224,7 @@ impl Parts {
             gate,
             cpu_sets,
             limit: options.limit,
+            history: options.history,
             books,
             hands,
             pool,

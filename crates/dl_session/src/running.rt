@@ -6,6 +6,7 @@ ghost use Rattle.dl_session.specs.declared.options.Options.{Options as OptionsVi
 ghost use Rattle.dl_session.specs.Options.{AreOptions};
 ghost use Rattle.dl_session.specs.Admissions.{AreNew};
 ghost use Rattle.dl_session.specs.Answer.{seen, NothingWritten};
+ghost use Rattle.dl_session.specs.FullBook.{IsFullDomain};
 ghost use Rattle.dl_session.specs.RunAnswer.{flagged, IsScenario, IsRunAnswer, IsRunFault};
 ghost use Rattle.dl_session.specs.private.Running.{IsJsonTold, IsScenarioTold, IsRan, IsHalted};
 
@@ -122,7 +123,7 @@ fn run_in<N: Names + Send + Sync, T: Turnstile, X: Threads + Wait + Sync>(
     requires some { 0 < many }
     requires duration { duration ≤ 60000000 }
     ensures ok { IfOk result (IsRan N.id tasks.now duration) }
-    ensures err { IfErr result (IsHalted duration) }
+    ensures err { IfErr result (IsHalted ((0 < duration) × IsFullDomain N.id N.id.clients tasks.now)) }
 {
     let mut session: Session<N> = Session::open(parts);
     let Ok(clients) = take_clients(alloc, &mut session, many) else {

@@ -107,6 +107,7 @@ impl<N: Names> Session<N> {
             gate,
             cpu_sets,
             limit: _,
+            history: _,
             mut books,
             hands,
             pool,

@@ -11,6 +11,7 @@ mod clients;
 mod crowds;
 mod opening;
 mod runs;
+mod sides;
 mod words;
 
 const THROTTLED: &[u8] =

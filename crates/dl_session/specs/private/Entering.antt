@@ -1,8 +1,9 @@
 -- What a call under a domain's lock comes to.
-use Rattle.std.specs.Prelude.{◌≡◌, ℕ, ◌+◌, ◌≤◌, ◌<◌, List, [], ◌∷◌, ◌++◌, length, Option, Some, None, IfSome, Result, Ok, Err, slice_index_or}
+use Rattle.std.specs.Prelude.{◌≡◌, ℕ, ◌+◌, ◌≤◌, ◌<◌, List, [], ◌∷◌, ◌++◌, length, Option, Some, None, IfSome, IsSome, Result, Ok, Err, slice_index_or}
 use Rattle.attr_check.specs.ParamsView.{ParamsView}
 use Rattle.pass_seats.specs.Lists.{PassView}
-use Rattle.bw_gate.specs.Pieces.{BlankView}
+use Rattle.bw_gate.specs.Pieces.{BlankView, TicketView}
+use Rattle.bw_gate.specs.Answers.{IsGive}
 use Rattle.domain_run.specs.declared.call.Call.{Call}
 use Rattle.domain_run.specs.declared.call.Call.TheVariants as calls
 use Rattle.domain_run.specs.declared.call.Reply.{Reply}
@@ -26,6 +27,7 @@ pub record IsNamed (id : SessionId) (d : ℕ) (b : BookView) : Type 0 where
   pub cpus : b.cpus ≡ length (cpus_of id d)
   pub limit : b.limit ≡ id.limit
   pub clients : b.clients ≡ id.clients
+  pub room : b.room ≡ id.room
   pub place : IsPlace id d
 
 -- a client's pass of a domain's book
@@ -80,6 +82,16 @@ pub record SameBook (old new : BookView) : Type 0 where
   pub cpus : new.cpus ≡ old.cpus
   pub limit : new.limit ≡ old.limit
   pub clients : new.clients ≡ old.clients
+  pub room : new.room ≡ old.room
+
+-- the ticket of a task that the book refused was given back by a step of its own, and its blank is there for the client
+abbrev pub IsGivenBack : TicketView → Answer → Option BlankView → Type 0
+IsGivenBack ticket (Ok replies.Admitted) blank = Unit {0}
+IsGivenBack ticket _ blank = IfSome blank (IsGive ticket) × IsSome blank
+
+abbrev pub NoneIsKept : Ask → Answer → Option BlankView → Type 0
+NoneIsKept (asks.Admit prepared ticket) answer blank = IsGivenBack ticket answer blank
+NoneIsKept _ answer blank = Unit {0}
 
 -- ---- what a call comes to, under the domain's lock
 

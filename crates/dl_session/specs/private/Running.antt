@@ -11,25 +11,26 @@ use Rattle.domain_run.specs.Run.{run_of}
 use Rattle.rtapp_scenario.specs.ScenarioView.{TaskSpecView}
 use Rattle.call_book.specs.SectionView.{SectionView}
 use Rattle.call_book.specs.declared.section.Entry.{Entry}
-use Rattle.call_book.specs.Book.{BookView, calls_of, IsLegal}
+use Rattle.call_book.specs.Book.{BookView, calls_of, IsLegal, IsFull}
 use Rattle.dl_session.specs.declared.fault.SessionFault.{SessionFault}
-use Rattle.dl_session.specs.declared.fault.SessionFault.TheVariants.{Json, Scenario, Calls, Read, Write, Start, Full, Memory}
+use Rattle.dl_session.specs.declared.fault.SessionFault.TheVariants.{Json, Scenario, Full, Memory}
 use Rattle.dl_session.specs.declared.finishing.Finished.{Finished}
-use Rattle.dl_session.specs.SessionId.{SessionId}
-use Rattle.dl_session.specs.Asks.{ClientView, Makes, made_by}
-use Rattle.dl_session.specs.Report.{IsReport, IsLeft}
+use Rattle.dl_session.specs.SessionId.{SessionId, IsPlace}
+use Rattle.dl_session.specs.Asks.{ClientView, Makes, made_by, pass_in}
+use Rattle.dl_session.specs.Report.{IsHistoryOf, IsReport, IsLeft}
 use Rattle.dl_session.specs.ScenarioAnswers.{EndsWith, advance_of, AnswersScenario}
+
+-- a fault is this one, of which something is said; or memory was refused
+abbrev pub IsOrMemory : (SessionFault → Type 0) → SessionFault → Type 0
+IsOrMemory this Memory = Unit {0}
+IsOrMemory this fault = this fault
 
 -- a fault of the input as a session tells it: want of memory is told as such
 abbrev pub IsJsonTold : JsonFault → SessionFault → Type 0
-IsJsonTold found (Json fault) = (found ≡ fault) × (fault.kind ≢ kinds.Memory)
-IsJsonTold found Memory = Unit {0}
-IsJsonTold found _ = ⊥
+IsJsonTold found = IsOrMemory (λ e. (e ≡ Json found) × (found.kind ≢ kinds.Memory))
 
 abbrev pub IsScenarioTold : ScenarioFault → SessionFault → Type 0
-IsScenarioTold found (Scenario fault) = (found ≡ fault) × (fault ≢ scenario_faults.Memory)
-IsScenarioTold found Memory = Unit {0}
-IsScenarioTold found _ = ⊥
+IsScenarioTold found = IsOrMemory (λ e. (e ≡ Scenario found) × (found ≢ scenario_faults.Memory))
 
 -- a client has entered one advance of so many ticks, all made, in a domain, and nothing else
 abbrev pub MakesAll : ClientView → ClientView → ℕ → ℕ → Type 0
@@ -81,13 +82,31 @@ pub record IsRan (id : SessionId) (tasks : List TaskSpecView) (duration : ℕ) (
   pub count : length f.states.items ≡ length f.report.histories.items
   pub runs : AreRuns f.report.histories.items f.states.items
 
--- why it did not come to its end: a history was full, or a growth was refused
-abbrev pub IsStopped : ℕ → SessionFault → Type 0
-IsStopped duration Full = 0 < duration
-IsStopped duration Memory = Unit {0}
-IsStopped duration _ = ⊥
+-- ---- why it did not come to its end
+
+-- a book was full, of which this is said; or memory was refused
+abbrev pub IsStopped : Type 0 → SessionFault → Type 0
+IsStopped full = IsOrMemory (λ e. (e ≡ Full) × full)
 
 -- or a client's thread was not started
-abbrev pub IsHalted : ℕ → SessionFault → Type 0
-IsHalted duration Start = Unit {0}
-IsHalted duration fault = IsStopped duration fault
+abbrev pub IsHalted : Type 0 → SessionFault → Type 0
+IsHalted full Start = Unit {0}
+IsHalted full fault = IsStopped full fault
+
+-- one of these books is full, and a client that was to advance it has entered nothing in it
+pub record IsFullAmong (duration : ℕ) (books : List BookView) (c c' : ClientView) : Type 0 where
+  pub advances : 0 < duration
+  pub domain : ℕ
+  pub place : domain < length books
+  pub full : (b : BookView) → IsFull (slice_index_or books domain b)
+  pub number : c'.number ≡ c.number
+  pub kept : pass_in c' domain ≡ pass_in c domain
+
+-- a domain that was to be advanced has no room for a call more, and the entries of each of these clients in it are the list of its pass
+pub record IsFullWith (id : SessionId) (duration : ℕ) (clients : List ClientView) : Type 0 where
+  pub advances : 0 < duration
+  pub domain : ℕ
+  pub place : IsPlace id domain
+  pub history : SectionView
+  pub legal : IsHistoryOf id domain clients history
+  pub full : length history.entries ≡ id.room

@@ -28,7 +28,7 @@ const MEMBER_ORDER: &[u8] =
     br#"{"tasks":{"p":{"policy":"SCHED_DEADLINE","dl-runtime":5,"dl-period":10,"phases":{"light":{"loop":2,"run0":3,"sleep1":7},"heavy":{"run0":4,"sleep1":2,"run2":1}}}},"global":{"duration":0}}"#;
 
 /// What a run says: how the program tells its fault, or a line for each refused task.
-fn said(alloc: Global, answer: &Result<Report, SessionFault>) -> Result<String, Fail> {
+pub(super) fn said(alloc: Global, answer: &Result<Report, SessionFault>) -> Result<String, Fail> {
     let mut said = String::new(alloc);
     match answer {
         Ok(report) => {

@@ -1,6 +1,9 @@
-use Rattle.std.proofs.Common.{◌≡◌, ◌≤◌, ◌<◌, ◌+◌, ◌∙◌, length, sym, refl, arith}
+use Rattle.std.proofs.Common.{◌≡◌, ◌≤◌, ◌<◌, ◌+◌, ◌∙◌, length, set, sym, refl, arith}
 use Rattle.std.proofs.lemmas.List.{length-set}
-use Rattle.dl_session.proofs.Advanced.{makes_everywhere, makes_more, named_set, ends_by, ends_more}
+use Rattle.std.proofs.lemmas.Result.{err_from_is_err_and}
+use Rattle.call_book.specs.Book.{IsFull}
+use Rattle.dl_session.specs.private.Running.{IsFullAmong}
+use Rattle.dl_session.proofs.Advanced.{makes_everywhere, makes_more, named_set, ends_by, ends_more, stopped_so, full_among}
 use Rattle.dl_session.proofs.finishing.advance_all.Goals as goal
 
 pub loop-place-preserved : goal.loop-place-preserved
@@ -30,3 +33,19 @@ returns-clause-made g c =
 
 pub returns-clause-ends : goal.returns-clause-ends
 returns-clause-ends g c = λ d b inside. c.loop-place.invariant.ends d b (omega (arith, inside, c.loop-place.invariant.count, c.loop-place-test.false, c.len-place-end.ensures, c.args.books.now.ok.0))
+
+pub returns-in_err-advance_book-clause-err : goal.returns-in_err-advance_book-clause-err
+returns-in_err-advance_book-clause-err g c =
+    let inv = c.loop-place.invariant in
+    let told = c.advance_book.ensures in
+    let books = c.loop-place.books.items in
+    let n = c.loop-place.place in
+    let b = c.advance_book.new.domain in
+    let a = c.args.client.now in
+    let inside : n < length books = omega (arith, c.loop-place-test.true, inv.count, c.len-place-end.ensures, c.args.books.now.ok.0) in
+    let there : n < length a.passes = omega (arith, inside, inv.count, c.requires.count, told.domains, inv.made.domains) in
+    let now = c.advance_book.new.self in
+    let p = err_from_is_err_and c.from_residual.result c.from_residual.ensures.1 in
+    rw (p.1, p.2) (stopped_so (IsFull b × (now ≡ c.loop-place.client)) (IsFullAmong c.args.duration (set books n b) a now) c.in_err-advance_book.field-0.0
+    (λ met. full_among n c.args.duration books b a c.loop-place.client now inside there c.requires.some inv.made met.0 met.1)
+    c.in_err-advance_book.ensures.err)

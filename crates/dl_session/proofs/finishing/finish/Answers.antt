@@ -1,10 +1,27 @@
 use Rattle.std.proofs.Common.{set}
-use Rattle.dl_session.proofs.Advanced.{have_advanced, is_finished}
+use Rattle.std.proofs.lemmas.Result.{err_from_is_err_and}
+use Rattle.dl_session.specs.private.Running.{IsFullAmong, IsFullWith}
+use Rattle.dl_session.proofs.Advanced.{have_advanced, is_finished, stopped_so, full_with}
 use Rattle.dl_session.proofs.finishing.finish.Goals as goal
 
-pub returns-in-Ok-advance-clause-ok : goal.returns-in-Ok-advance-clause-ok
-returns-in-Ok-advance-clause-ok g c =
+pub returns-clause-ok : goal.returns-clause-ok
+returns-clause-ok g c =
     let cs = c.args.clients.items in
-    let advanced = have_advanced c.args.duration cs c.index_mut.result.now c.advance.new.client c.requires.some c.index_mut.ensures.value c.in-Ok-advance.ensures.made in
-    is_finished g.N.Names.id c.args.duration cs (set cs 0 c.advance.new.client) c.advance.new.unlocked.books.items c.close.result
-    advanced c.close.ensures.report c.close.ensures.ended c.advance.new.unlocked.count c.in-Ok-advance.ensures.ends
+    let client = c.advance-advanced.new.client in
+    let left = c.advance-advanced.new.unlocked in
+    let closed = c.close-finished.ensures in
+    let advanced = have_advanced c.args.duration cs c.index_mut.result.now client c.requires.some c.index_mut.ensures.value c.in_ok-advanced.ensures.made in
+    is_finished g.N.Names.id c.args.duration cs (set cs 0 client) left.books.items c.close-finished.result advanced closed.report closed.ended left.count c.in_ok-advanced.ensures.ends
+
+pub returns-in_err-advanced-clause-err : goal.returns-in_err-advanced-clause-err
+returns-in_err-advanced-clause-err g c =
+    let id = g.N.Names.id in
+    let cs = c.args.clients.items in
+    let first = c.index_mut.result.now in
+    let client = c.advance-advanced.new.client in
+    let left = c.advance-advanced.new.unlocked in
+    let closed = c.close-finished.ensures in
+    let p = err_from_is_err_and c.from_residual.result c.from_residual.ensures.1 in
+    rw (p.1, p.2) (stopped_so (IsFullAmong c.args.duration left.books.items first client) (IsFullWith id c.args.duration cs) c.in_err-advanced.field-0.0
+    (full_with id c.args.duration cs first client left.books.items c.close-finished.result c.requires.some c.index_mut.ensures.value closed.report closed.ended left.count left.named)
+    c.in_err-advanced.ensures.err)

@@ -37,14 +37,15 @@ loop-d-preserved c =
       count = ap length items ∙ length_push was b ∙ ap (λ (k : ℕ). k + 1) inv.count;
       capacity = omega (arith, c.push_reserved.ensures.capacity, inv.capacity);
       books = λ e x inside.
-          subst (λ (bs : List BookView). e < length bs → IsBookOf gate e (slice_index o.domains.items e) o.limit o.clients (get_or bs e x)) (sym items)
-          (λ there. each_push (λ j y. IsBookOf gate j (slice_index o.domains.items j) o.limit o.clients y) was d e b x inv.count there
+          subst (λ (bs : List BookView). e < length bs → IsBookOf gate e (slice_index o.domains.items e) o.limit o.clients o.history (get_or bs e x)) (sym items)
+          (λ there. each_push (λ j y. IsBookOf gate j (slice_index o.domains.items j) o.limit o.clients o.history y) was d e b x inv.count there
           (record {
             of_gate = ap (λ (y : BookView). y.gate) told.book;
             of_domain = ap (λ (y : BookView). y.domain) told.book;
             has_cpus = ap (λ (y : BookView). y.cpus) told.book ∙ get_or_read o.domains.items d c.index-cpus.result.now here c.index-cpus.ensures 0;
             has_limit = ap (λ (y : BookView). y.limit) told.book;
             has_clients = ap (λ (y : BookView). y.clients) told.book;
+            has_room = ap (λ (y : BookView). y.room) told.book;
           })
           (λ front. inv.books e x front))
           inside;

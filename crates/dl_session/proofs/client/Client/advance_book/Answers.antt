@@ -1,7 +1,10 @@
-use Rattle.std.proofs.Common.{◌≡◌, ◌<◌, length, get_or, sym, refl, ap, ◌∙◌, arith}
+use Rattle.std.proofs.Common.{◌≡◌, ◌<◌, List, length, get_or, sym, refl, ap, subst, ◌∙◌, arith}
 use Rattle.std.proofs.lemmas.List.{length-map}
+use Rattle.std.proofs.Math.Seq.{map-set_same}
 use Rattle.pass_seats.specs.Lists.{PassView}
 use Rattle.call_book.specs.declared.section.Entry.{Entry}
+use Rattle.call_book.specs.Book.{IsFull}
+use Rattle.call_book.specs.BookAnswers.{IsNotAdvanced}
 use Rattle.dl_session.specs.Asks.{ClientView}
 use Rattle.dl_session.proofs.Advanced.{makes_all}
 use Rattle.dl_session.proofs.client.Client.advance_book.Goals.{in-Ok-Done, in-Err-Full, in_default}
@@ -23,5 +26,21 @@ returns-clause-made g c =
       | in-Ok-Done w ↦ rw w.result-is (makes_all c.args.self.now _ ps d c.args.ticks w.in-Ok-Done.made p c.advance.new.pass c.args.domain.now c.advance.new.self w.in-Ok-Done.field-0
           (sym (ap (λ (v : ClientView). v.passes) c.self.view_is)) refl (ap (λ (v : ClientView). v.number) c.self.view_is) inside c.index_mut.ensures.value owner w.in-Ok-Done.ensures.done w.in-Ok-Done.field-0-is w.if-made-ticks.true)
       | in-Err-Full w ↦ rw w.result-is tt
+      | in_default w ↦ rw w.result-is tt
+    ]
+
+pub returns-clause-err : goal.returns-clause-err
+returns-clause-err g c =
+    let ps = c.self.inside.passes.items in
+    let p = c.index_mut.result.now in
+    let q = c.advance.new.pass in
+    let entries : PassView Entry → List Entry = λ r. r.entries in
+    elim c.match-advance.branch [
+      | in-Ok-Done w ↦ rw w.result-is tt
+      | in-Err-Full w ↦
+          let met = subst (IsNotAdvanced c.args.domain.now c.advance.new.self p q) w.in-Err-Full.field-0-is w.in-Err-Full.ensures.stopped in
+          let same : entries q ≡ entries (get_or ps c.args.place p) = ap entries (met.stays.pass ∙ c.index_mut.ensures.value) in
+          let back = ap (λ (es : List (List Entry)). record { number = c.self.inside.number; passes = es; hand = c.self.inside.hand }) (map-set_same entries ps c.args.place q p same) in
+          rw w.result-is (refl, (subst IsFull (sym met.stays.book) met.full, back ∙ c.self.view_is))
       | in_default w ↦ rw w.result-is tt
     ]

@@ -28,4 +28,5 @@ returns c =
       cpu_sets = c.in_ok-cpu_sets.ensures;
       limit = refl;
       clients = hands.ok.0 ∙ count_hands hands.items o.clients c.in_ok-books.ensures.some;
+      room = refl;
     }
