@@ -145,7 +145,6 @@ pub(crate) fn middle(middles: &Middles, state: PrevState) -> &Piece
 }
 
 /// The texts of a task or of an idle CPU.
-#[cold]
 fn make(names: &IndexMap<u32, String>, who: Who, cpu: u32, task: Option<u32>) -> Slot
     requires cpu { cpu < 512 }
     requires name { IfSome task (HasName names.now) }
@@ -196,8 +195,31 @@ fn is_of(slot: &Slot, who: Who) -> bool
     slot.who == who
 }
 
+/// Puts the texts of a task of this run, or of the idle task of a CPU of the machine, to a place.
+#[cold]
+#[inline(never)]
+fn refill(
+    slots: &mut [Slot; SLOTS],
+    place: usize,
+    runs: &[Run<'_>],
+    run: usize,
+    cpu: u32,
+    task: Option<u32>,
+)
+    requires place { place < 640 }
+    requires run { run < length runs.now }
+    requires cpu { cpu < 512 }
+    requires name { (d : Run) → IfSome task (HasName (slice_index_or runs.now run d).names.now) }
+    requires right { All (IsSlot runs.now) slots.old }
+    ensures right { All (IsSlot runs.now) slots.new }
+    ensures texts { (d : Slot) → IsReady (names_at runs.now run) cpu task (slice_index_or slots.new place d) }
+{
+    let who = who_is(run, cpu, task);
+    slots[place] = make(runs[run].names, who, cpu, task);
+}
+
 /// Sees to it that the texts of a task of this run, or of the idle task of a CPU of the machine, are kept, and gives their place.
-#[inline]
+#[inline(always)]
 pub(crate) fn seat(
     slots: &mut [Slot; SLOTS],
     runs: &[Run<'_>],
@@ -215,9 +237,8 @@ pub(crate) fn seat(
     ensures texts { (d : Slot) → IsReady (names_at runs.now run) cpu task (slice_index_or slots.new result d) }
 {
     let place = place_for(run, cpu, task);
-    let who = who_is(run, cpu, task);
-    if !is_of(&slots[place], who) {
-        slots[place] = make(runs[run].names, who, cpu, task);
+    if !is_of(&slots[place], who_is(run, cpu, task)) {
+        refill(slots, place, runs, run, cpu, task);
     }
     place
 }
