@@ -13,12 +13,11 @@ use crate::piece::Piece;
 use std::io::Write;
 use std::marker::Model;
 
-/// Where so many bytes wait, they are written before the next line: 64 KiB, so that a long trace takes one write for some 400
-/// lines.
+/// How many bytes wait at most: 64 KiB, so that a long trace takes one write for some 400 lines.
 const SIZE: usize = 65536;
 
-/// Those, and a line that began below them.
-const ALL: usize = 66048;
+/// Where no more wait, a line has room.
+const LOW: usize = 65152;
 
 /// A line, up to the name of who comes.
 #[derive(Clone, Copy)]
@@ -34,7 +33,7 @@ pub(crate) struct Front<'a> {
 /// Bytes that wait to be written together.
 #[derive(Drop)]
 pub(crate) struct Batch {
-    bytes: [u8; ALL],
+    bytes: [u8; SIZE],
     len: usize,
 }
 
@@ -45,7 +44,7 @@ impl Model for Batch {
 
     ghost view = { λ b. take b.len b.bytes };
 
-    ghost invariant = { λ b. b.len ≤ 66048 };
+    ghost invariant = { λ b. b.len ≤ 65536 };
 }
 
 impl Batch {
@@ -53,20 +52,20 @@ impl Batch {
         ensures { result ≡ [] }
     {
         Batch {
-            bytes: [0; ALL],
+            bytes: [0; SIZE],
             len: 0,
         }
     }
 
     fn is_low(&self) -> bool
-        ensures { IsTrue result ↔ (length self.now ≤ 65536) }
+        ensures { IsTrue result ↔ (length self.now ≤ LOW) }
     {
-        self.len <= SIZE
+        self.len <= LOW
     }
 
     /// Adds a text that has room.
     pub(crate) fn append(&mut self, text: &[u8])
-        requires { length self.old + length text.now ≤ 65536 }
+        requires { length self.old + length text.now ≤ SIZE }
         ensures { self.new ≡ self.old ++ text.now }
     {
         let end = self.len + text.len();
@@ -94,13 +93,13 @@ impl Batch {
         }
     }
 
-    /// Makes room for a line: where 64 KiB wait, they are written. How many bytes went out, also where the writer failed.
+    /// Makes room for a line: where too much waits, all of it is written. How many bytes went out, also where the writer failed.
     #[inline]
     pub(crate) fn make_room<W: Write>(&mut self, writer: &mut Counted<W>) -> Result<usize, usize>
         requires faults { faults_of writer.old < 2 ^ 63 }
         ensures ok { IfOk result (λ n.
             Sends (W.contents (inner_of writer.old)) (W.contents (inner_of writer.new)) self.old n self.new) }
-        ensures room { OnOk result (length self.new ≤ 65536) }
+        ensures room { OnOk result (length self.new ≤ LOW) }
         ensures err { IfErr result
             (TakesFront (W.contents (inner_of writer.old)) (W.contents (inner_of writer.new)) self.old) }
         ensures faults { faults_of writer.new ≡ one_more_unless (is_ok result) (faults_of writer.old) }
@@ -114,7 +113,7 @@ impl Batch {
     /// Adds the front of a line, up to the name of who comes.
     #[inline(always)]
     pub(crate) fn append_front(&mut self, front: &Front<'_>)
-        requires room { length self.old ≤ 65536 }
+        requires room { length self.old ≤ LOW }
         requires cpu { front.now.cpu < 512 }
         requires micros { front.now.micros < 1000000 }
         ensures text { self.new ≡ self.old ++ front_text front.now }
@@ -133,7 +132,7 @@ impl Batch {
     /// Adds the end of a line, from the name of who comes.
     #[inline(always)]
     pub(crate) fn append_end(&mut self, coming: &Piece)
-        requires { length self.old ≤ 65536 + 320 }
+        requires { length self.old ≤ LOW + 320 }
         ensures text { self.new ≡ self.old ++ text_of coming.now }
         ensures short { length self.new ≤ length self.old + 64 }
     {

@@ -32,7 +32,7 @@ fn append_line(runs: &[Run<'_>], next: &Next<'_, '_>, texts: &mut Texts, batch: 
     requires printed { IsPrinted next.now }
     requires run { IsRunAt runs.now next.now }
     requires texts { IsTexts runs.now texts.old }
-    requires room { length batch.old ≤ 65536 }
+    requires room { length batch.old ≤ 65152 }
     ensures text { batch.new ≡ batch.old ++ (next_entry next.now).line }
     ensures short { length batch.new ≤ length batch.old + 384 }
     ensures texts { IsTexts runs.now texts.new }
