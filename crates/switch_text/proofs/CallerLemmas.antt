@@ -66,7 +66,7 @@ comm_of-same : (f g : ℕ → List ℕ) (cpu : ℕ) (task : Option ℕ) → IfSo
 comm_of-same f g cpu None h = refl
 comm_of-same f g cpu (Some n) h = h
 
-task_part-same : (f g : ℕ → List ℕ) (task : Option ℕ) → IfSome task (λ n. f n ≡ g n) → task_part f task ≡ task_part g task
+pub task_part-same : (f g : ℕ → List ℕ) (task : Option ℕ) → IfSome task (λ n. f n ≡ g n) → task_part f task ≡ task_part g task
 unfolding task_part
 task_part-same f g task h = rw (title_of-same f g task h) refl
 

@@ -2,8 +2,7 @@
 use Rattle.std.proofs.Common.{◌≡◌, ℕ, ◌+◌, ◌^◌, ◌<◌, ◌≤◌, true, false, List, [], ◌∷◌, ◌++◌, length, map, take, drop, get_or, Option, Some, None, sym, ap, subst, ◌∙◌, arith}
 use Rattle.std.specs.Prelude.{All, IsTrue}
 use Rattle.std.specs.List.{AllByRecursion}
-use Rattle.std.proofs.lemmas.Bool.Decides.{nat_tests}
-use Rattle.std.proofs.lemmas.List.{length-map, length-take-le, length-drop, get_or-map, get_or-drop, drop-map, drop_more, drop_all, map_more}
+use Rattle.std.proofs.lemmas.List.{length-map, length-take-le, length-drop, get_or-take, get_or-map, get_or-drop, drop-map, drop_more, drop_all, map_more}
 use Rattle.std.proofs.lemmas.List.Elements.{recursion_from_All}
 use Rattle.domain_run.specs.declared.switch.Switch.{Switch}
 use Rattle.switch_text.specs.declared.run.Run.{Run}
@@ -12,7 +11,7 @@ use Rattle.switch_text.specs.Names.{HasLine}
 use Rattle.switch_text.specs.Trace.{RunView, Entry, entry_of, entries_of, is_earlier, in_order}
 use Rattle.domain_run.specs.Switches.{is_before}
 use Rattle.switch_text.specs.Runs.{view_of, views, IsRun}
-use Rattle.switch_text.specs.private.Merging.{left_of, stepped, IsAhead, IsNextOf, IsFound, IsPrinted, next_entry, is_better}
+use Rattle.switch_text.specs.private.Merging.{left_of, stepped, IsAhead, IsRunAt, IsNextOf, IsFound, IsPrinted, next_entry, is_better}
 use Rattle.switch_text.proofs.Ahead.{left_of-done, IsAhead-new, IsAhead-kept, all_left-earlier, run_not_earlier}
 use Rattle.switch_text.proofs.CallerLemmas.{is_earlier-entry}
 use Rattle.switch_text.proofs.Order.{AllByRecursion-weaker, not_later-from_earlier, in_order-first}
@@ -64,6 +63,15 @@ in_places runs places i run here =
     let room : i < length places = here.room in
     omega (arith, length-views_take runs places i run here)
 
+-- the place of a run among the first runs is its place among one more
+IsRunAt-more : (runs : List Run) (i : ℕ) (n : Next) → i < length runs → IsRunAt (take i runs) n → IsRunAt (take (i + 1) runs) n
+IsRunAt-more runs i n inside h =
+    let seen : n.index < i = omega (arith, length-take-le i runs (omega arith), h.inside) in
+    record {
+      inside = omega (arith, length-take-le (i + 1) runs (omega arith));
+      is = h.is ∙ get_or-take i runs n.index n.run.now seen ∙ sym (get_or-take (i + 1) runs n.index n.run.now (omega arith));
+    }
+
 pub IsFound-done : (runs : List Run) (places : List ℕ) (i : ℕ) (run : Run) (best : Option Next) → IsHere runs places i run → length run.switches.now ≤ get_or places i 0
     → IsFound (take i runs) places best → IsFound (take (i + 1) runs) places best
 IsFound-done runs places i run None here past found =
@@ -79,6 +87,7 @@ IsFound-done runs places i run (Some n) here past found =
     record {
       ahead = subst (λ (vs : List RunView). IsAhead vs places n.index e) (sym (views_more runs places i run here)) kept;
       printed = found.printed;
+      run = IsRunAt-more runs i n here.inside found.run;
       place = found.place;
     }
 
@@ -116,6 +125,10 @@ found_there runs places n here there small earlier =
     record {
       ahead = subst (λ (vs : List RunView). IsAhead vs places n.index e) (sym (views_more runs places n.index run here)) at;
       printed = is_printed runs places n here there;
+      run = record {
+        inside = omega (arith, length-take-le (n.index + 1) runs (omega (arith, here.inside)));
+        is = here.is ∙ sym (get_or-take (n.index + 1) runs n.index n.run.now (omega arith));
+      };
       place = small;
     }
 
@@ -139,6 +152,7 @@ IsFound-kept runs places n (Some b) here there worse found =
     record {
       ahead = subst (λ (vs : List RunView). IsAhead vs places b.index e) (sym (views_more runs places n.index run here)) (IsAhead-kept seen (view_of run) places b.index e (in_places runs places n.index run here) found.ahead left);
       printed = found.printed;
+      run = IsRunAt-more runs n.index b here.inside found.run;
       place = found.place;
     }
 

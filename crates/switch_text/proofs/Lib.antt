@@ -1,6 +1,9 @@
 mod Known
 mod Joined
 mod Room
+mod Overhang
+mod Digits
+mod Kept
 mod Order
 mod Ahead
 mod Found

@@ -1,12 +1,14 @@
 -- No line has more than 256 bytes.
-use Rattle.std.proofs.Common.{ℕ, ◌-◌, ◌/◌, ◌%◌, ◌^◌, ◌<◌, ◌≤◌, List, ◌++◌, length, replicate, Option, Some, None, arith}
+use Rattle.std.proofs.Common.{ℕ, ◌+◌, sym, ap, ◌∙◌, append_assoc, [], ◌∷◌, ◌-◌, ◌/◌, ◌%◌, ◌^◌, ◌<◌, ◌≤◌, ◌≡◌, refl, List, ◌++◌, length, replicate, Option, Some, None, arith}
 use Rattle.std.specs.Prelude.{decimal, codes, IfSome}
 use Rattle.std.proofs.lemmas.Fmt.{length-decimal-le}
 use Rattle.std.proofs.lemmas.List.{length-append, length-replicate}
 use Rattle.domain_run.specs.declared.switch.PrevState.{PrevState}
 use Rattle.domain_run.specs.declared.switch.PrevState.TheVariants.{Running, Preempted, Sleeping, Dead}
 use Rattle.switch_text.specs.Names.{Names, named, HasName}
-use Rattle.switch_text.specs.Line.{right_in, left_in, digits_in, pid_of, prio_of, title_of, comm_of, letters_of, task_part, cpu_part, time_part, prev_part, next_part}
+use Rattle.switch_text.specs.Line.{right_in, left_in, digits_in, pid_of, prio_of, title_of, comm_of, letters_of, task_part, cpu_part}
+use Rattle.switch_text.proofs.Digits.{digits_three, length-digits_three}
+use Rattle.switch_text.specs.private.Parts.{second_part, event_part, leaving_part, state_part, coming_part}
 
 -- a task whose name has at most 15 bytes
 abbrev pub IsShort : (ℕ → List ℕ) → Option ℕ → Type 0
@@ -21,9 +23,6 @@ length-right_in width most text h k = omega (arith, length-append (replicate (wi
 
 length-left_in : (width most : ℕ) (text : List ℕ) → width ≤ most → length text ≤ most → length (left_in width text) ≤ most
 length-left_in width most text h k = omega (arith, length-append text (replicate (width - length text) 32), length-replicate {A = ℕ} (width - length text) 32)
-
-length-digits_in : (width most n : ℕ) → width ≤ most → length (decimal n) ≤ most → length (digits_in width n) ≤ most
-length-digits_in width most n h k = omega (arith, length-append (replicate (width - length (decimal n)) 48) (decimal n), length-replicate {A = ℕ} (width - length (decimal n)) 48)
 
 length-pid : (task : Option ℕ) → pid_of task < 2 ^ 33 → length (decimal (pid_of task)) ≤ 10
 length-pid task lt = length-decimal-le 10 (pid_of task) (omega arith) (omega arith) (omega arith)
@@ -53,31 +52,39 @@ length-task_part names prev h small =
     let number = left_in 7 (decimal (pid_of prev)) in
     omega (arith, length-append (title ++ codes "-") number, length-append title (codes "-"), length-right_in 16 16 (title_of names prev) (omega arith) (length-title names prev h), length-left_in 7 10 (decimal (pid_of prev)) (omega arith) (length-pid prev small))
 
-pub length-cpu_part : (cpu : ℕ) → cpu < 512 → length (cpu_part cpu) ≤ 13
+pub length-cpu_part : (cpu : ℕ) → cpu < 512 → length (cpu_part cpu) ≡ 13
 unfolding cpu_part
 length-cpu_part cpu lt =
     let number = digits_in 3 cpu in
-    omega (arith, length-append (codes " [" ++ number) (codes "] d..2. "), length-append (codes " [") number, length-digits_in 3 3 cpu (omega arith) (length-decimal-le 3 cpu (omega arith) (omega arith) (omega arith)))
+    omega (arith, length-append (codes " [" ++ number) (codes "] d..2. "), length-append (codes " [") number, length-digits_three cpu (omega arith))
 
-pub length-time_part : (time : ℕ) → time < 2 ^ 42 → length (time_part time) ≤ 14
-unfolding time_part
-length-time_part time lt =
-    let seconds = right_in 5 (decimal (time / 1000000)) in
-    let rest = digits_in 6 (time % 1000000) in
-    omega (arith, length-append (seconds ++ codes ".") rest, length-append seconds (codes "."), length-right_in 5 7 (decimal (time / 1000000)) (omega arith) (length-decimal-le 7 (time / 1000000) (omega arith) (omega arith) (omega arith)), length-digits_in 6 6 (time % 1000000) (omega arith) (length-decimal-le 6 (time % 1000000) (omega arith) (omega arith) (omega arith)))
+-- the CPU's three digits, put down as one and two
+pub cpu_text : (cpu n : ℕ) (two : List ℕ) → n ≡ cpu → cpu < 512 → two ≡ digits_in 2 (n % 100) → codes " [" ++ ((48 + n / 100) ∷ []) ++ two ++ codes "] d..2. " ≡ cpu_part cpu
+unfolding cpu_part
+cpu_text cpu n two e lt q =
+    rw (q, e) (ap (λ (ds : List ℕ). ds ++ codes "] d..2. ") (append_assoc (codes " [") ((48 + cpu / 100) ∷ []) (digits_in 2 (cpu % 100)) ∙ ap (λ (ds : List ℕ). codes " [" ++ ds) (sym (digits_three cpu (omega arith)))))
 
-pub length-prev_part : (names : ℕ → List ℕ) (cpu : ℕ) (prev : Option ℕ) (state : PrevState) → cpu < 512 → IsShort names prev → pid_of prev < 2 ^ 33 → length (prev_part names cpu prev state) ≤ 89
-unfolding prev_part
-length-prev_part names cpu prev state lt h small =
-    let a = codes ": sched_switch: prev_comm=" ++ comm_of names cpu prev in
-    let b = a ++ codes " prev_pid=" ++ decimal (pid_of prev) in
+pub length-second_part : (second : ℕ) → second < 10000000 → length (second_part second) ≤ 8
+length-second_part second lt =
+    omega (arith, length-append (right_in 5 (decimal second)) (codes "."), length-right_in 5 7 (decimal second) (omega arith) (length-decimal-le 7 second (omega arith) (omega arith) (omega arith)))
+
+pub length-event_part : length event_part ≡ 26
+unfolding event_part
+length-event_part = refl
+
+pub length-leaving_part : (names : ℕ → List ℕ) (cpu : ℕ) (prev : Option ℕ) → cpu < 512 → IsShort names prev → pid_of prev < 2 ^ 33 → length (leaving_part names cpu prev) ≤ 61
+unfolding leaving_part
+length-leaving_part names cpu prev lt h small =
+    let b = comm_of names cpu prev ++ codes " prev_pid=" ++ decimal (pid_of prev) in
     let c = b ++ codes " prev_prio=" ++ prio_of prev in
-    omega (arith, length-append (c ++ codes " prev_state=") (letters_of state), length-append c (codes " prev_state="), length-append (b ++ codes " prev_prio=") (prio_of prev), length-append b (codes " prev_prio="), length-append (a ++ codes " prev_pid=") (decimal (pid_of prev)), length-append a (codes " prev_pid="), length-append (codes ": sched_switch: prev_comm=") (comm_of names cpu prev), length-comm names cpu prev lt h, length-pid prev small, length-prio prev, length-letters state)
+    omega (arith, length-append c (codes " prev_state="), length-append (b ++ codes " prev_prio=") (prio_of prev), length-append b (codes " prev_prio="), length-append (comm_of names cpu prev ++ codes " prev_pid=") (decimal (pid_of prev)), length-append (comm_of names cpu prev) (codes " prev_pid="), length-comm names cpu prev lt h, length-pid prev small, length-prio prev)
 
-pub length-next_part : (names : ℕ → List ℕ) (cpu : ℕ) (next : Option ℕ) → cpu < 512 → IsShort names next → pid_of next < 2 ^ 33 → length (next_part names cpu next) ≤ 66
-unfolding next_part
-length-next_part names cpu next lt h small =
-    let a = codes " ==> next_comm=" ++ comm_of names cpu next in
-    let b = a ++ codes " next_pid=" ++ decimal (pid_of next) in
+pub length-state_part : (state : PrevState) → length (state_part state) ≤ 17
+length-state_part state = omega (arith, length-append (letters_of state) (codes " ==> next_comm="), length-letters state)
+
+pub length-coming_part : (names : ℕ → List ℕ) (cpu : ℕ) (next : Option ℕ) → cpu < 512 → IsShort names next → pid_of next < 2 ^ 33 → length (coming_part names cpu next) ≤ 50
+unfolding coming_part
+length-coming_part names cpu next lt h small =
+    let b = comm_of names cpu next ++ codes " next_pid=" ++ decimal (pid_of next) in
     let c = b ++ codes " next_prio=" ++ prio_of next in
-    omega (arith, length-append c (codes "\n"), length-append (b ++ codes " next_prio=") (prio_of next), length-append b (codes " next_prio="), length-append (a ++ codes " next_pid=") (decimal (pid_of next)), length-append a (codes " next_pid="), length-append (codes " ==> next_comm=") (comm_of names cpu next), length-comm names cpu next lt h, length-pid next small, length-prio next)
+    omega (arith, length-append c (codes "\n"), length-append (b ++ codes " next_prio=") (prio_of next), length-append b (codes " next_prio="), length-append (comm_of names cpu next ++ codes " next_pid=") (decimal (pid_of next)), length-append (comm_of names cpu next) (codes " next_pid="), length-comm names cpu next lt h, length-pid next small, length-prio next)

@@ -18,7 +18,7 @@ lines_left runs places = lines_of (in_order (left_of runs places))
 -- so many bytes of the trace went out, these wait, and the others are still to be made
 pub record IsUnderWay (before after : Option (List ℕ)) (runs : List RunView) (places : List ℕ) (sent : ℕ) (waiting : List ℕ) : Type 0 where
   pub sends : Sends before after (trace_of runs) sent (waiting ++ lines_left runs places)
-  pub bound : sent + length waiting + 256 * length (left_of runs places) ≤ 14 + 256 * length (flat_map entries_of runs)
+  pub bound : sent + length waiting + 512 * length (left_of runs places) ≤ 14 + 512 * length (flat_map entries_of runs)
 
 -- text ≡ gone ++ (waiting ++ line ++ rest), and of waiting ++ line some more goes out
 sends_on : (before mid after : Option (List ℕ)) (text waiting line rest left : List ℕ) (sent n : ℕ) → Sends before mid text sent (waiting ++ (line ++ rest)) → Sends mid after (waiting ++ line) n left
@@ -36,7 +36,7 @@ length-sent : (before after : Option (List ℕ)) (text left : List ℕ) (n : ℕ
 length-sent before after text left n s = ap length s.whole ∙ omega (arith, length-append s.gone left, s.count)
 
 pub IsUnderWay-next : (before mid after : Option (List ℕ)) (runs : List RunView) (places places' : List ℕ) (sent n : ℕ) (waiting left : List ℕ) (e : Entry) → IsUnderWay before mid runs places sent waiting
-    → in_order (left_of runs places) ≡ e ∷ in_order (left_of runs places') → Sends mid after (waiting ++ e.line) n left → length e.line ≤ 256
+    → in_order (left_of runs places) ≡ e ∷ in_order (left_of runs places') → Sends mid after (waiting ++ e.line) n left → length e.line ≤ 512
     → IsUnderWay before after runs places' (sent + n) left
 unfolding lines_left lines_of
 IsUnderWay-next before mid after runs places places' sent n waiting left e u next s short =
@@ -100,9 +100,21 @@ IsUnderWay-start before runs h =
 
 -- what is counted stays far below 2^64
 pub count_fits : (before after : Option (List ℕ)) (runs : List RunView) (places : List ℕ) (sent n : ℕ) (waiting : List ℕ) → IsUnderWay before after runs places sent waiting
-    → length (flat_map entries_of runs) ≤ 2 ^ 54 → n ≤ length waiting + 256 → sent + n < 2 ^ 64
+    → length (flat_map entries_of runs) ≤ 2 ^ 54 → n ≤ length waiting → sent + n < 2 ^ 64
 count_fits before after runs places sent n waiting u few le = let bound = u.bound in omega (arith, bound)
 
 -- no more goes out than there was
-pub sent_within : (before after : Option (List ℕ)) (waiting line left : List ℕ) (n : ℕ) → Sends before after (waiting ++ line) n left → length line ≤ 256 → n ≤ length waiting + 256
-sent_within before after waiting line left n s short = omega (arith, length-sent before after (waiting ++ line) left n s, length-append waiting line)
+pub sent_within : (before after : Option (List ℕ)) (waiting left : List ℕ) (n : ℕ) → Sends before after waiting n left → n ≤ length waiting
+sent_within before after waiting left n s = omega (arith, length-sent before after waiting left n s)
+
+-- what is added behind the text is left, too
+pub Sends-more : (before after : Option (List ℕ)) (text left more : List ℕ) (n : ℕ) → Sends before after text n left → Sends before after (text ++ more) n (left ++ more)
+Sends-more before after text left more n s = record {
+  gone = s.gone;
+  taken = s.taken;
+  count = s.count;
+  whole = ap (λ (xs : List ℕ). xs ++ more) s.whole ∙ append_assoc s.gone left more;
+}
+
+pub length_from_append : (xs ys zs : List ℕ) (n : ℕ) → zs ≡ xs ++ ys → length zs ≤ length xs + n → length ys ≤ n
+length_from_append xs ys zs n e le = omega (arith, ap length e, length-append xs ys, le)

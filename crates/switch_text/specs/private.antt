@@ -1,2 +1,6 @@
+pub mod Fronts
 pub mod Merging
+pub mod Parts
+pub mod Pieces
+pub mod Ready
 pub mod Sending

@@ -3,14 +3,32 @@
 ghost use Rattle.std.specs.Prelude.{◌≡◌, ◌+◌, ◌<◌, ◌≤◌, ◌^◌, [], ◌++◌, length, is_ok, IfOk, IfErr, OnOk, IsTrue, ◌↔◌};
 ghost use Rattle.switch_text.specs.Sides.{inner_of, faults_of};
 ghost use Rattle.switch_text.specs.Faults.{one_more_unless, TakesFront};
+ghost use Rattle.switch_text.specs.private.Pieces.{text_of};
+ghost use Rattle.switch_text.specs.private.Fronts.{front_text};
 ghost use Rattle.switch_text.specs.private.Sending.{Sends};
 
 use crate::counted::Counted;
+use crate::lines::{put_cpu, put_event, put_micros};
+use crate::piece::Piece;
 use std::io::Write;
 use std::marker::Model;
 
 /// How many bytes wait at most: 64 KiB, so that a long trace takes one write for some 400 lines.
 const SIZE: usize = 65536;
+
+/// Where no more wait, a line has room.
+const LOW: usize = 65152;
+
+/// A line, up to the name of who comes.
+#[derive(Clone, Copy)]
+pub(crate) struct Front<'a> {
+    pub(crate) head: &'a Piece,
+    pub(crate) cpu: u32,
+    pub(crate) second: &'a Piece,
+    pub(crate) micros: u64,
+    pub(crate) leaving: &'a Piece,
+    pub(crate) state: &'a Piece,
+}
 
 /// Bytes that wait to be written together.
 #[derive(Drop)]
@@ -39,11 +57,10 @@ impl Batch {
         }
     }
 
-    fn has_room(&self, more: usize) -> bool
-        requires { more ≤ SIZE }
-        ensures { IsTrue result ↔ (length self.now + more ≤ SIZE) }
+    fn is_low(&self) -> bool
+        ensures { IsTrue result ↔ (length self.now ≤ LOW) }
     {
-        self.len + more <= SIZE
+        self.len <= LOW
     }
 
     /// Adds a text that has room.
@@ -76,30 +93,49 @@ impl Batch {
         }
     }
 
-    /// Adds a text; where it has no room, all that waits is written first. How many bytes went out, also where the writer failed.
-    pub(crate) fn put<W: Write>(
-        &mut self,
-        text: &[u8],
-        writer: &mut Counted<W>,
-    ) -> Result<usize, usize>
-        requires short { length text.now ≤ 256 }
+    /// Makes room for a line: where too much waits, all of it is written. How many bytes went out, also where the writer failed.
+    #[inline]
+    pub(crate) fn make_room<W: Write>(&mut self, writer: &mut Counted<W>) -> Result<usize, usize>
         requires faults { faults_of writer.old < 2 ^ 63 }
-        ensures ok { IfOk result (λ n. Sends
-            (W.contents (inner_of writer.old)) (W.contents (inner_of writer.new)) (self.old ++ text.now) n self.new) }
+        ensures ok { IfOk result (λ n.
+            Sends (W.contents (inner_of writer.old)) (W.contents (inner_of writer.new)) self.old n self.new) }
+        ensures room { OnOk result (length self.new ≤ LOW) }
         ensures err { IfErr result
             (TakesFront (W.contents (inner_of writer.old)) (W.contents (inner_of writer.new)) self.old) }
         ensures faults { faults_of writer.new ≡ one_more_unless (is_ok result) (faults_of writer.old) }
     {
-        if self.has_room(text.len()) {
-            self.append(text);
+        if self.is_low() {
             return Ok(0);
         }
-        match self.flush(writer) {
-            Ok(n) => {
-                self.append(text);
-                Ok(n)
-            }
-            Err(n) => Err(n),
-        }
+        self.flush(writer)
+    }
+
+    /// Adds the front of a line, up to the name of who comes.
+    #[inline(always)]
+    pub(crate) fn append_front(&mut self, front: &Front<'_>)
+        requires room { length self.old ≤ LOW }
+        requires cpu { front.now.cpu < 512 }
+        requires micros { front.now.micros < 1000000 }
+        ensures text { self.new ≡ self.old ++ front_text front.now }
+        ensures short { length self.new ≤ length self.old + 320 }
+    {
+        let out = &mut self.bytes;
+        let at = front.head.put(out, self.len);
+        let at = put_cpu(out, at, front.cpu);
+        let at = front.second.put(out, at);
+        let at = put_micros(out, at, front.micros);
+        let at = put_event(out, at);
+        let at = front.leaving.put(out, at);
+        self.len = front.state.put(out, at);
+    }
+
+    /// Adds the end of a line, from the name of who comes.
+    #[inline(always)]
+    pub(crate) fn append_end(&mut self, coming: &Piece)
+        requires { length self.old ≤ LOW + 320 }
+        ensures text { self.new ≡ self.old ++ text_of coming.now }
+        ensures short { length self.new ≤ length self.old + 64 }
+    {
+        self.len = coming.put(&mut self.bytes, self.len);
     }
 }

@@ -14,6 +14,8 @@ mod counted;
 mod fault;
 mod lines;
 mod merge;
+mod piece;
+mod ready;
 mod run;
 mod writing;
 

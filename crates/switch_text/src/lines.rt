@@ -2,7 +2,8 @@
 
 ghost use Rattle.std.specs.Prelude.{ℕ, ◌≡◌, ◌+◌, ◌-◌, ◌<◌, ◌≤◌, ◌^◌, ◌++◌, length, take, replicate, decimal, IfSome};
 ghost use Rattle.switch_text.specs.Names.{named, HasName, HasLine};
-ghost use Rattle.switch_text.specs.Line.{right_in, left_in, digits_in, pid_of, prio_of, title_of, comm_of, letters_of, task_part, cpu_part, time_part, prev_part, next_part, line_of};
+ghost use Rattle.switch_text.specs.Line.{right_in, left_in, digits_in, pid_of, prio_of, title_of, comm_of, letters_of, task_part, cpu_part, line_of};
+ghost use Rattle.switch_text.specs.private.Parts.{second_part, event_part, leaving_part, state_part, coming_part};
 
 use domain_run::{PrevState, Switch};
 use indexmap::IndexMap;
@@ -10,8 +11,8 @@ use itoa::Buffer;
 
 /// Copies a text to a place of the line, and gives the place behind it. So do the others below.
 #[inline(always)]
-fn put(out: &mut [u8; 256], at: usize, text: &[u8]) -> usize
-    requires { at + length text.now ≤ 256 }
+pub(crate) fn put(out: &mut [u8], at: usize, text: &[u8]) -> usize
+    requires { at + length text.now ≤ length out.old }
     ensures place { result ≡ at + length text.now }
     ensures text { take result out.new ≡ take at out.old ++ text.now }
 {
@@ -21,8 +22,8 @@ fn put(out: &mut [u8; 256], at: usize, text: &[u8]) -> usize
 }
 
 #[inline(always)]
-fn put_times(out: &mut [u8; 256], at: usize, times: usize, byte: u8) -> usize
-    requires { at + times ≤ 256 }
+fn put_times(out: &mut [u8], at: usize, times: usize, byte: u8) -> usize
+    requires { at + times ≤ length out.old }
     ensures place { result ≡ at + times }
     ensures text { take result out.new ≡ take at out.old ++ replicate times byte }
 {
@@ -31,8 +32,8 @@ fn put_times(out: &mut [u8; 256], at: usize, times: usize, byte: u8) -> usize
     end
 }
 
-fn put_decimal(out: &mut [u8; 256], at: usize, n: u64) -> usize
-    requires { at + length (decimal n) ≤ 256 }
+fn put_decimal(out: &mut [u8], at: usize, n: u64) -> usize
+    requires { at + length (decimal n) ≤ length out.old }
     ensures place { result ≡ at + length (decimal n) }
     ensures text { take result out.new ≡ take at out.old ++ decimal n }
 {
@@ -41,8 +42,8 @@ fn put_decimal(out: &mut [u8; 256], at: usize, n: u64) -> usize
 }
 
 /// With spaces before it, where it is shorter than the width.
-fn put_right(out: &mut [u8; 256], at: usize, width: usize, text: &[u8]) -> usize
-    requires { at + length (right_in width text.now) ≤ 256 }
+fn put_right(out: &mut [u8], at: usize, width: usize, text: &[u8]) -> usize
+    requires { at + length (right_in width text.now) ≤ length out.old }
     ensures place { result ≡ at + length (right_in width text.now) }
     ensures text { take result out.new ≡ take at out.old ++ right_in width text.now }
 {
@@ -51,8 +52,8 @@ fn put_right(out: &mut [u8; 256], at: usize, width: usize, text: &[u8]) -> usize
 }
 
 /// With spaces behind it, where it is shorter than the width.
-fn put_left(out: &mut [u8; 256], at: usize, width: usize, text: &[u8]) -> usize
-    requires { at + length (left_in width text.now) ≤ 256 }
+fn put_left(out: &mut [u8], at: usize, width: usize, text: &[u8]) -> usize
+    requires { at + length (left_in width text.now) ≤ length out.old }
     ensures place { result ≡ at + length (left_in width text.now) }
     ensures text { take result out.new ≡ take at out.old ++ left_in width text.now }
 {
@@ -60,16 +61,26 @@ fn put_left(out: &mut [u8; 256], at: usize, width: usize, text: &[u8]) -> usize
     put_times(out, at, width.saturating_sub(text.len()), b' ')
 }
 
-/// With zeros before it, where it has fewer digits.
-fn put_digits(out: &mut [u8; 256], at: usize, width: usize, n: u64) -> usize
-    requires { at + length (digits_in width n) ≤ 256 }
-    ensures place { result ≡ at + length (digits_in width n) }
-    ensures text { take result out.new ≡ take at out.old ++ digits_in width n }
+/// The two digits of a number below 100.
+#[inline(always)]
+fn two_digits(n: u64) -> [u8; 2]
+    requires { n < 100 }
+    ensures { result ≡ digits_in 2 n }
 {
-    let mut buffer = Buffer::new();
-    let digits = buffer.format(n).as_bytes();
-    let at = put_times(out, at, width.saturating_sub(digits.len()), b'0');
-    put(out, at, digits)
+    [b'0' + (n / 10) as u8, b'0' + (n % 10) as u8]
+}
+
+/// The six digits of a number below a million.
+#[inline(always)]
+pub(crate) fn put_micros(out: &mut [u8], at: usize, n: u64) -> usize
+    requires small { n < 1000000 }
+    requires room { at + 6 ≤ length out.old }
+    ensures place { result ≡ at + 6 }
+    ensures text { take result out.new ≡ take at out.old ++ digits_in 6 n }
+{
+    let at = put(out, at, &two_digits(n / 10_000));
+    let at = put(out, at, &two_digits(n / 100 % 100));
+    put(out, at, &two_digits(n % 100))
 }
 
 fn name_of(names: &IndexMap<u32, String>, number: u32) -> &str
@@ -81,14 +92,14 @@ fn name_of(names: &IndexMap<u32, String>, number: u32) -> &str
 
 /// The name in the event's fields.
 fn put_comm(
-    out: &mut [u8; 256],
+    out: &mut [u8],
     at: usize,
     names: &IndexMap<u32, String>,
     cpu: u32,
     task: Option<u32>,
 ) -> usize
     requires name { IfSome task (HasName names.now) }
-    requires room { at + length (comm_of (named names.now) cpu task) ≤ 256 }
+    requires room { at + length (comm_of (named names.now) cpu task) ≤ length out.old }
     ensures place { result ≡ at + length (comm_of (named names.now) cpu task) }
     ensures text { take result out.new ≡ take at out.old ++ comm_of (named names.now) cpu task }
 {
@@ -102,7 +113,7 @@ fn put_comm(
 }
 
 /// The number that the trace shows: 1000 above the task's own (own), 0 for idle.
-fn pid_for(task: Option<u32>) -> u64
+pub(crate) fn pid_for(task: Option<u32>) -> u64
     ensures value { result ≡ pid_of task }
     ensures small { result < 2 ^ 33 }
 {
@@ -147,8 +158,8 @@ fn title(names: &IndexMap<u32, String>, task: Option<u32>) -> &str
 
 /// Whose place is taken.
 #[tactic(auto, unfolding(crate::specs::Line::task_part))]
-fn put_task(
-    out: &mut [u8; 256],
+pub(crate) fn put_task(
+    out: &mut [u8],
     at: usize,
     names: &IndexMap<u32, String>,
     prev: Option<u32>,
@@ -156,7 +167,7 @@ fn put_task(
 ) -> usize
     requires pid { pid ≡ pid_of prev }
     requires name { IfSome prev (HasName names.now) }
-    requires room { at + length (task_part (named names.now) prev) ≤ 256 }
+    requires room { at + length (task_part (named names.now) prev) ≤ length out.old }
     ensures place { result ≡ at + length (task_part (named names.now) prev) }
     ensures text { take result out.new ≡ take at out.old ++ task_part (named names.now) prev }
 {
@@ -167,61 +178,82 @@ fn put_task(
 }
 
 /// On which CPU of the machine.
+#[inline(always)]
 #[tactic(auto, unfolding(crate::specs::Line::cpu_part))]
-fn put_cpu(out: &mut [u8; 256], at: usize, cpu: u32) -> usize
-    requires { at + length (cpu_part cpu) ≤ 256 }
-    ensures place { result ≡ at + length (cpu_part cpu) }
+pub(crate) fn put_cpu(out: &mut [u8], at: usize, cpu: u32) -> usize
+    requires small { cpu < 512 }
+    requires room { at + 13 ≤ length out.old }
+    ensures place { result ≡ at + 13 }
+    ensures long { length (cpu_part cpu) ≡ 13 }
     ensures text { take result out.new ≡ take at out.old ++ cpu_part cpu }
 {
+    let n = u64::from(cpu);
     let at = put(out, at, b" [");
-    let at = put_digits(out, at, 3, u64::from(cpu));
+    let at = put(out, at, &[b'0' + (n / 100) as u8]);
+    let at = put(out, at, &two_digits(n % 100));
     put(out, at, b"] d..2. ")
 }
 
-/// When, in seconds and microseconds.
-#[tactic(auto, unfolding(crate::specs::Line::time_part))]
-fn put_time(out: &mut [u8; 256], at: usize, time: u64) -> usize
-    requires { at + length (time_part time) ≤ 256 }
-    ensures place { result ≡ at + length (time_part time) }
-    ensures text { take result out.new ≡ take at out.old ++ time_part time }
+/// The second, and the point behind it.
+pub(crate) fn put_second(out: &mut [u8], at: usize, second: u64) -> usize
+    requires { at + length (second_part second) ≤ length out.old }
+    ensures place { result ≡ at + length (second_part second) }
+    ensures text { take result out.new ≡ take at out.old ++ second_part second }
 {
     let mut buffer = Buffer::new();
-    let at = put_right(out, at, 5, buffer.format(time / 1_000_000).as_bytes());
-    let at = put(out, at, b".");
-    put_digits(out, at, 6, time % 1_000_000)
+    let at = put_right(out, at, 5, buffer.format(second).as_bytes());
+    put(out, at, b".")
 }
 
-/// The event's fields of who leaves.
-#[tactic(auto, unfolding(crate::specs::Line::prev_part))]
-fn put_prev(
-    out: &mut [u8; 256],
+/// The event's name, and what stands before the name of who leaves.
+#[inline(always)]
+#[tactic(auto, unfolding(crate::specs::private::Parts::event_part))]
+pub(crate) fn put_event(out: &mut [u8], at: usize) -> usize
+    requires { at + 26 ≤ length out.old }
+    ensures place { result ≡ at + 26 }
+    ensures text { take result out.new ≡ take at out.old ++ event_part }
+{
+    put(out, at, b": sched_switch: prev_comm=")
+}
+
+/// The event's fields of who leaves, from the name up to the state.
+#[tactic(auto, unfolding(crate::specs::private::Parts::leaving_part))]
+pub(crate) fn put_leaving(
+    out: &mut [u8],
     at: usize,
     names: &IndexMap<u32, String>,
     cpu: u32,
     prev: Option<u32>,
     pid: u64,
-    state: PrevState,
 ) -> usize
     requires pid { pid ≡ pid_of prev }
     requires name { IfSome prev (HasName names.now) }
-    requires room { at + length (prev_part (named names.now) cpu prev state) ≤ 256 }
-    ensures place { result ≡ at + length (prev_part (named names.now) cpu prev state) }
-    ensures text { take result out.new ≡ take at out.old ++ prev_part (named names.now) cpu prev state }
+    requires room { at + length (leaving_part (named names.now) cpu prev) ≤ length out.old }
+    ensures place { result ≡ at + length (leaving_part (named names.now) cpu prev) }
+    ensures text { take result out.new ≡ take at out.old ++ leaving_part (named names.now) cpu prev }
 {
-    let at = put(out, at, b": sched_switch: prev_comm=");
     let at = put_comm(out, at, names, cpu, prev);
     let at = put(out, at, b" prev_pid=");
     let at = put_decimal(out, at, pid);
     let at = put(out, at, b" prev_prio=");
     let at = put(out, at, prio(prev));
-    let at = put(out, at, b" prev_state=");
-    put(out, at, letters(state))
+    put(out, at, b" prev_state=")
 }
 
-/// The event's fields of who comes, and the end of the line.
-#[tactic(auto, unfolding(crate::specs::Line::next_part))]
-fn put_next(
-    out: &mut [u8; 256],
+/// The state in which a task leaves, and what stands before the name of who comes.
+pub(crate) fn put_state(out: &mut [u8], at: usize, state: PrevState) -> usize
+    requires { at + length (state_part state) ≤ length out.old }
+    ensures place { result ≡ at + length (state_part state) }
+    ensures text { take result out.new ≡ take at out.old ++ state_part state }
+{
+    let at = put(out, at, letters(state));
+    put(out, at, b" ==> next_comm=")
+}
+
+/// The event's fields of who comes, from the name to the end of the line.
+#[tactic(auto, unfolding(crate::specs::private::Parts::coming_part))]
+pub(crate) fn put_coming(
+    out: &mut [u8],
     at: usize,
     names: &IndexMap<u32, String>,
     cpu: u32,
@@ -230,11 +262,10 @@ fn put_next(
 ) -> usize
     requires pid { pid ≡ pid_of next }
     requires name { IfSome next (HasName names.now) }
-    requires room { at + length (next_part (named names.now) cpu next) ≤ 256 }
-    ensures place { result ≡ at + length (next_part (named names.now) cpu next) }
-    ensures text { take result out.new ≡ take at out.old ++ next_part (named names.now) cpu next }
+    requires room { at + length (coming_part (named names.now) cpu next) ≤ length out.old }
+    ensures place { result ≡ at + length (coming_part (named names.now) cpu next) }
+    ensures text { take result out.new ≡ take at out.old ++ coming_part (named names.now) cpu next }
 {
-    let at = put(out, at, b" ==> next_comm=");
     let at = put_comm(out, at, names, cpu, next);
     let at = put(out, at, b" next_pid=");
     let at = put_decimal(out, at, pid);
@@ -250,7 +281,6 @@ fn put_next(
 /// `base` is the CPU of the machine that is the domain's CPU 0; `names` has the tasks' names by number. The caller sees to
 /// it that the switch's time is below 2^42 us and its CPU of the machine below 512, and that each task of the switch has
 /// a name of 1 to 15 bytes.
-#[tactic(auto, unfolding(crate::specs::Line::line_of))]
 pub fn line(switch: &Switch, base: u32, names: &IndexMap<u32, String>, out: &mut [u8; 256]) -> usize
     requires { HasLine names.now base switch.now }
     ensures len { result ≡ length (line_of (named names.now) base switch.now) }
@@ -262,7 +292,10 @@ pub fn line(switch: &Switch, base: u32, names: &IndexMap<u32, String>, out: &mut
     let next_pid = pid_for(switch.next);
     let at = put_task(out, 0, names, switch.prev, prev_pid);
     let at = put_cpu(out, at, cpu);
-    let at = put_time(out, at, switch.time);
-    let at = put_prev(out, at, names, cpu, switch.prev, prev_pid, switch.state);
-    put_next(out, at, names, cpu, switch.next, next_pid)
+    let at = put_second(out, at, switch.time / 1_000_000);
+    let at = put_micros(out, at, switch.time % 1_000_000);
+    let at = put_event(out, at);
+    let at = put_leaving(out, at, names, cpu, switch.prev, prev_pid);
+    let at = put_state(out, at, switch.state);
+    put_coming(out, at, names, cpu, switch.next, next_pid)
 }

@@ -1,17 +1,19 @@
 //! The trace text of runs.
 
-ghost use Rattle.std.specs.Prelude.{◌≡◌, ◌+◌, ◌<◌, ◌≤◌, ◌^◌, length, is_ok, All, IfErr, OnOk};
+ghost use Rattle.std.specs.Prelude.{◌≡◌, ◌+◌, ◌<◌, ◌≤◌, ◌^◌, ◌++◌, length, is_ok, All, IfErr, OnOk};
 ghost use Rattle.std.specs.Io.KnownBytes.{Appends};
 ghost use Rattle.switch_text.specs.Trace.{header, trace_of};
 ghost use Rattle.switch_text.specs.Runs.{views, IsRun};
 ghost use Rattle.switch_text.specs.Sides.{inner_of, faults_of};
 ghost use Rattle.switch_text.specs.Faults.{one_more_unless, TakesFront};
+ghost use Rattle.switch_text.specs.private.Merging.{next_entry, IsPrinted, IsRunAt};
+ghost use Rattle.switch_text.specs.private.Ready.{IsTexts};
 
-use crate::batch::Batch;
+use crate::batch::{Batch, Front};
 use crate::counted::Counted;
 use crate::fault::WriteFault;
-use crate::lines::line;
-use crate::merge::earliest;
+use crate::merge::{Next, earliest};
+use crate::ready::{Texts, middle, no_texts, seat, set_second};
 use crate::run::Run;
 use std::io::Write;
 
@@ -21,6 +23,35 @@ fn header_text() -> &'static [u8]
     ensures short { length result.now ≤ 256 }
 {
     b"# tracer: nop\n"
+}
+
+/// Adds the line of the next switch.
+#[inline(always)]
+fn append_line(runs: &[Run<'_>], next: &Next<'_, '_>, texts: &mut Texts, batch: &mut Batch)
+    requires few { length runs.now ≤ 8 }
+    requires printed { IsPrinted next.now }
+    requires run { IsRunAt runs.now next.now }
+    requires texts { IsTexts runs.now texts.old }
+    requires room { length batch.old ≤ 65152 }
+    ensures text { batch.new ≡ batch.old ++ (next_entry next.now).line }
+    ensures short { length batch.new ≤ length batch.old + 384 }
+    ensures texts { IsTexts runs.now texts.new }
+{
+    let switch = next.switch;
+    let cpu = next.run.base + u32::from(switch.cpu);
+    set_second(&mut texts.clock, switch.time / 1_000_000);
+    let place = seat(&mut texts.slots, runs, next.index, cpu, switch.prev);
+    let prev = &texts.slots[place];
+    batch.append_front(&Front {
+        head: &prev.head,
+        cpu,
+        second: &texts.clock.text,
+        micros: switch.time % 1_000_000,
+        leaving: &prev.leaving,
+        state: middle(&texts.middles, switch.state),
+    });
+    let place = seat(&mut texts.slots, runs, next.index, cpu, switch.next);
+    batch.append_end(&texts.slots[place].coming);
 }
 
 fn stopped_after(written: usize, more: usize) -> WriteFault
@@ -53,14 +84,14 @@ pub fn write_trace<W: Write>(runs: &[Run<'_>], writer: &mut Counted<W>) -> Resul
     batch.append(header_text());
     let mut written = 0;
     let mut places = [0usize; 8];
-    let mut text = [0u8; 256];
+    let mut texts = no_texts(runs);
     while let Some(next) = earliest(runs, &places) {
         places[next.index] += 1;
-        let len = line(next.switch, next.run.base, next.run.names, &mut text);
-        match batch.put(&text[..len], writer) {
+        match batch.make_room(writer) {
             Ok(n) => written += n,
             Err(n) => return Err(stopped_after(written, n)),
         }
+        append_line(runs, &next, &mut texts, &mut batch);
     }
     match batch.flush(writer) {
         Ok(_) => Ok(()),

@@ -1,5 +1,5 @@
 -- Several runs at once: what is left of each, and which entry comes next. The trace text knows nothing of these words.
-use Rattle.std.specs.Prelude.{ℕ, ◌≡◌, ◌+◌, ◌<◌, ◌^◌, Bool, true, false, List, [], ◌∷◌, ◌++◌, length, drop, slice_index, slice_set, Option, Some, None}
+use Rattle.std.specs.Prelude.{ℕ, ◌≡◌, ◌+◌, ◌<◌, ◌^◌, Bool, true, false, List, [], ◌∷◌, ◌++◌, length, drop, slice_index, slice_index_or, slice_set, Option, Some, None}
 use Rattle.std.specs.List.{AllByRecursion}
 use Rattle.switch_text.specs.declared.run.Run.{Run}
 use Rattle.switch_text.specs.declared.merge.Next.{Next}
@@ -33,10 +33,16 @@ next_entry n = entry_of (view_of n.run.now) n.switch.now
 abbrev pub IsPrinted : Next → Type 0
 IsPrinted n = HasLine n.run.now.names.now n.run.now.base n.switch.now
 
+-- its run stands among the runs, at its place
+pub record IsRunAt (runs : List Run) (n : Next) : Type 0 where
+  pub inside : n.index < length runs
+  pub is : n.run.now ≡ slice_index_or runs n.index n.run.now
+
 -- the next of all, which has a line
 pub record IsNextOf (runs : List Run) (places : List ℕ) (n : Next) : Type 0 where
   pub ahead : IsAhead (views runs) places n.index (next_entry n)
   pub printed : IsPrinted n
+  pub run : IsRunAt runs n
   pub place : slice_index places n.index + 1 < 2 ^ 64
 
 -- nothing is left, or the next of all is found

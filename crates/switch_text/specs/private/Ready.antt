@@ -1,0 +1,55 @@
+-- What lines say of tasks, idle CPUs and states, put together once and kept.
+use Rattle.std.specs.Prelude.{ℕ, zero, suc, ◌≡◌, List, [], ◌∷◌, All, Option, Some, None}
+use Rattle.domain_run.specs.declared.switch.PrevState.TheVariants.{Running, Preempted, Sleeping, Dead}
+use Rattle.switch_text.specs.declared.run.Run.{Run}
+use Rattle.switch_text.specs.declared.ready.Who.{Who}
+use Rattle.switch_text.specs.declared.ready.Who.TheVariants.{Nobody, Idle, Task}
+use Rattle.switch_text.specs.declared.ready.Slot.{Slot}
+use Rattle.switch_text.specs.declared.ready.Middles.{Middles}
+use Rattle.switch_text.specs.declared.ready.Clock.{Clock}
+use Rattle.switch_text.specs.declared.ready.Texts.{Texts}
+use Rattle.switch_text.specs.Names.{named}
+use Rattle.switch_text.specs.Line.{task_part}
+use Rattle.switch_text.specs.private.Parts.{second_part, leaving_part, state_part, coming_part}
+use Rattle.switch_text.specs.private.Pieces.{text_of}
+
+-- the texts of a task, or of an idle CPU
+pub record IsReady (names : ℕ → List ℕ) (cpu : ℕ) (task : Option ℕ) (s : Slot) : Type 0 where
+  pub head : text_of s.head ≡ task_part names task
+  pub leaving : text_of s.leaving ≡ leaving_part names cpu task
+  pub coming : text_of s.coming ≡ coming_part names cpu task
+
+-- how the tasks of a run are named
+abbrev pub names_at : List Run → ℕ → ℕ → List ℕ
+names_at [] i = λ number. []
+names_at (r ∷ runs) zero = named r.names.now
+names_at (r ∷ runs) (suc i) = names_at runs i
+
+-- on this CPU of the machine, a task of this run, or the idle task
+abbrev pub who_of : ℕ → ℕ → Option ℕ → Who
+who_of run cpu None = Idle cpu
+who_of run cpu (Some number) = Task run number
+
+-- the texts are those of whom they name: an idle task has no name of a run, and a task's name is the same on each CPU
+abbrev pub IsFor : List Run → Who → Slot → Type 0
+IsFor runs Nobody s = Unit {0}
+IsFor runs (Idle cpu) s = (names : ℕ → List ℕ) → IsReady names cpu None s
+IsFor runs (Task run number) s = (cpu : ℕ) → IsReady (names_at runs run) cpu (Some number) s
+
+abbrev pub IsSlot : List Run → Slot → Type 0
+IsSlot runs s = IsFor runs s.who s
+
+abbrev pub IsClock : Clock → Type 0
+IsClock c = text_of c.text ≡ second_part c.second
+
+pub record IsMiddles (m : Middles) : Type 0 where
+  pub running : text_of m.running ≡ state_part Running
+  pub preempted : text_of m.preempted ≡ state_part Preempted
+  pub sleeping : text_of m.sleeping ≡ state_part Sleeping
+  pub dead : text_of m.dead ≡ state_part Dead
+
+-- all that is kept is right
+pub record IsTexts (runs : List Run) (t : Texts) : Type 0 where
+  pub slots : All (IsSlot runs) t.slots
+  pub clock : IsClock t.clock
+  pub middles : IsMiddles t.middles

@@ -1,0 +1,49 @@
+//! A short text that is kept ready, and copied at one width.
+
+ghost use Rattle.std.specs.Prelude.{◌≤◌};
+
+/// At most 64 bytes. They stand in front of a place for 64, so that all 64 are copied, without a look at the length.
+#[derive(Clone, Copy)]
+pub(crate) struct Piece {
+    bytes: [u8; 64],
+    len: usize,
+    ghost short: { len ≤ 64 },
+}
+
+impl Piece {
+    ghost use Rattle.std.specs.Prelude.{◌≡◌, ◌+◌, [], ◌++◌, length, take};
+    ghost use Rattle.switch_text.specs.private.Pieces.{text_of};
+
+    /// No byte.
+    pub(crate) fn empty() -> Piece
+        ensures { text_of result ≡ [] }
+    {
+        Piece {
+            bytes: [0; 64],
+            len: 0,
+        }
+    }
+
+    /// A copy of a text.
+    pub(crate) fn of(text: &[u8]) -> Piece
+        requires { length text.now ≤ 64 }
+        ensures { text_of result ≡ text.now }
+    {
+        let len = text.len();
+        let mut bytes = [0; 64];
+        bytes[..len].copy_from_slice(text);
+        Piece { bytes, len }
+    }
+
+    /// Copies it to a place that has room for 64 bytes, and gives the place behind the text.
+    #[inline(always)]
+    pub(crate) fn put(&self, out: &mut [u8], at: usize) -> usize
+        requires { at + 64 ≤ length out.old }
+        ensures place { result ≡ at + length (text_of self.now) }
+        ensures short { result ≤ at + 64 }
+        ensures text { take result out.new ≡ take at out.old ++ text_of self.now }
+    {
+        out[at..at + 64].copy_from_slice(&self.bytes);
+        at + self.len
+    }
+}
