@@ -1,11 +1,12 @@
-ghost use Rattle.std.specs.Prelude.{List, ◌≡◌, ◌<◌, ◌++◌, [], ◌∷◌, Ok, IfOk, OnOk, IfErr, map, string_bytes};
+ghost use Rattle.std.specs.Prelude.{List, ◌≡◌, ◌<◌, ◌++◌, [], ◌∷◌, Some, Ok, IfOk, OnOk, IfErr, map, string_bytes};
 ghost use Rattle.std.specs.Bool.{OnTrue, OnFalse};
 ghost use Rattle.json_order.specs.declared.fault.JsonKind.TheVariants.{Memory};
 ghost use Rattle.json_order.specs.Fault.{strict};
 ghost use Rattle.json_order.specs.Grammar as grammar;
 ghost use Rattle.json_order.specs.Json.{array, no_items, object, no_members};
-ghost use Rattle.json_order.specs.private.Machine.{Frame as StackFrame, IsFine, IsFinePlace, in_list, in_object, state, judged, step as machine_step, move, at_first_item, at_first_key, at_next_key, in_key, behind_key, in_string, in_number, in_word, value_move, next_move, behind_move};
-ghost use Rattle.json_order.specs.private.Places.{place_of, frames_of, state_of, entries_of, letters_from, value_of, Says};
+ghost use Rattle.json_order.specs.private.Machine as machine;
+ghost use Rattle.json_order.specs.private.Machine.{going, Frame as StackFrame, IsFine, IsFinePlace, in_list, in_object, state, judged, step as machine_step, move, at_first_item, at_first_key, at_next_key, in_key, behind_key, in_string, in_number, in_word, value_move, next_move, behind_move};
+ghost use Rattle.json_order.specs.private.Places.{place_of, frames_of, state_of, entries_of, letters_from, value_of, Misses, Says};
 ghost use Rattle.json_order.specs.Seen.{json_of, members_with};
 
 use crate::fault::JsonKind;
@@ -195,7 +196,12 @@ fn next_key_step(alloc: Global, members: Members, c: char) -> Result<Place, Json
 
 /// In a key.
 #[inline(always)]
-fn key_step(members: Members, text: String, escape: Escape, c: char) -> Result<Place, JsonKind>
+fn key_step(
+    members: Members,
+    mut text: String,
+    mut escape: Escape,
+    c: char,
+) -> Result<Place, JsonKind>
     requires fine { IsFine escape }
     ensures ok { IfOk result (λ p. (fs : List StackFrame)
         → judged strict (move (in_key (entries_of members.list.items)
@@ -203,13 +209,13 @@ fn key_step(members: Members, text: String, escape: Escape, c: char) -> Result<P
     ensures err { IfErr result (λ k. (fs : List StackFrame) → Says (judged strict
         (move (in_key (entries_of members.list.items) (string_bytes text) escape) fs c)) k) }
 {
-    match quote_step(text, escape, c)? {
-        Quote::Going(text, escape) => Ok(Place::Key(members, text, escape)),
-        Quote::Closed(key) => {
-            if members.has(key.as_str()) {
+    match quote_step(&mut text, &mut escape, c)? {
+        Quote::Going => Ok(Place::Key(members, text, escape)),
+        Quote::Closed => {
+            if members.has(text.as_str()) {
                 return Err(JsonKind::Duplicate);
             }
-            Ok(Place::Colon(members, key))
+            Ok(Place::Colon(members, text))
         }
     }
 }
@@ -238,7 +244,7 @@ fn colon_step(
 
 /// In a string.
 #[inline(always)]
-fn text_step(text: String, escape: Escape, c: char) -> Result<Place, JsonKind>
+fn text_step(mut text: String, mut escape: Escape, c: char) -> Result<Place, JsonKind>
     requires fine { IsFine escape }
     ensures ok { IfOk result (λ p. (fs : List StackFrame)
         → judged strict (move (in_string (string_bytes text) escape) fs c)
@@ -246,9 +252,9 @@ fn text_step(text: String, escape: Escape, c: char) -> Result<Place, JsonKind>
     ensures err { IfErr result (λ k. (fs : List StackFrame)
         → Says (judged strict (move (in_string (string_bytes text) escape) fs c)) k) }
 {
-    match quote_step(text, escape, c)? {
-        Quote::Going(text, escape) => Ok(Place::Text(text, escape)),
-        Quote::Closed(text) => Ok(Place::Behind(Tree::Text(text))),
+    match quote_step(&mut text, &mut escape, c)? {
+        Quote::Going => Ok(Place::Text(text, escape)),
+        Quote::Closed => Ok(Place::Behind(Tree::Text(text))),
     }
 }
 
@@ -324,27 +330,79 @@ fn step(alloc: Global, place: Place, stack: &mut Vec<Frame>, c: char) -> Result<
     }
 }
 
-/// In a string and in no escape, where c stands for itself: takes it in place and says so. Elsewhere nothing changes.
+/// Takes c into a string that goes on with it, and says so. At the quote that closes the string nothing changes.
 #[inline(always)]
-fn take_plain(place: &mut Place, c: char) -> Result<bool, JsonKind>
+fn take_quoted(text: &mut String, escape: &mut Escape, c: char) -> Result<bool, JsonKind>
+    requires fine { IsFine escape.old }
+    ensures taken { IfOk result (λ b. OnTrue b (machine.quote_step (string_bytes text.old) escape.old c
+        ≡ Some (going (string_bytes text.new) escape.new))) }
+    ensures not_taken { IfOk result (λ b. OnFalse b ((text.new ≡ text.old)
+        × (escape.new ≡ escape.old))) }
+    ensures err { IfErr result (Misses (machine.quote_step (string_bytes text.old) escape.old c)) }
+{
+    match quote_step(text, escape, c)? {
+        Quote::Going => Ok(true),
+        Quote::Closed => Ok(false),
+    }
+}
+
+/// Takes c into a number that goes on with it, and says so. Elsewhere nothing changes.
+#[inline(always)]
+fn take_digit(text: &mut String, part: &mut Part, c: char) -> Result<bool, JsonKind>
+    ensures taken { IfOk result (λ b. OnTrue b ((machine.part_step part.old c ≡ Some part.new)
+        × (string_bytes text.new ≡ string_bytes text.old ++ c ∷ []))) }
+    ensures not_taken { IfOk result (λ b. OnFalse b ((text.new ≡ text.old) × (part.new ≡ part.old))) }
+    ensures err { IfErr result (λ k. k ≡ Memory) }
+{
+    match part_step(*part, c) {
+        Some(next) => {
+            text.push(c)?;
+            *part = next;
+            Ok(true)
+        }
+        None => Ok(false),
+    }
+}
+
+/// Takes c into a word that goes on with it, and says so. Behind the word's last letter nothing changes.
+fn take_letter(word: Word, read: &mut usize, c: char) -> Result<bool, JsonKind>
+    ensures taken { IfOk result (λ b. OnTrue b (letters_from word read.old
+        ≡ c ∷ letters_from word read.new)) }
+    ensures not_taken { IfOk result (λ b. OnFalse b ((letters_from word read.old ≡ [])
+        × (read.new ≡ read.old))) }
+    ensures err { IfErr result (λ k. (fs : List StackFrame) → Says (judged strict
+        (move (in_word (letters_from word read.old) (value_of word)) fs c)) k) }
+{
+    match word.letter(*read) {
+        Some(letter) => {
+            if c != letter {
+                return Err(JsonKind::Syntax);
+            }
+            *read += 1;
+            Ok(true)
+        }
+        None => Ok(false),
+    }
+}
+
+/// Takes c in place and says so, where the reader goes on in what it reads: in a string, in an escape, in a number, in a
+/// word or in white space. Elsewhere nothing changes. On an error the place is left as it may be.
+#[inline(always)]
+fn take_inside(place: &mut Place, c: char) -> Result<bool, JsonKind>
+    requires fine { IsFinePlace (place_of place.old) }
     ensures taken { IfOk result (λ b. OnTrue b ((fs : List StackFrame)
         → machine_step strict (state (place_of place.old) fs) c
         ≡ Ok (state (place_of place.new) fs))) }
     ensures not_taken { IfOk result (λ b. OnFalse b (place.new ≡ place.old)) }
-    ensures err { IfErr result (λ k. k ≡ Memory) }
+    ensures err { IfErr result (λ k. (fs : List StackFrame)
+        → Says (machine_step strict (state (place_of place.old) fs) c) k) }
 {
-    if c < ' ' || c == '"' || c == '\\' {
-        return Ok(false);
-    }
     match place {
-        Place::Text(text, Escape::Outside) => {
-            text.push(c)?;
-            Ok(true)
-        }
-        Place::Key(_, text, Escape::Outside) => {
-            text.push(c)?;
-            Ok(true)
-        }
+        Place::Text(text, escape) => take_quoted(text, escape, c),
+        Place::Key(_, text, escape) => take_quoted(text, escape, c),
+        Place::Number(text, part) => take_digit(text, part, c),
+        Place::Word(word, read) => take_letter(*word, read, c),
+        Place::Value | Place::Behind(_) => Ok(is_space(c)),
         _ => Ok(false),
     }
 }
@@ -361,10 +419,13 @@ pub(crate) fn turn(
         ≡ Ok (state_of place.new stack.new.items)) }
     ensures err { IfErr result (Says (machine_step strict (state_of place.old stack.old.items) c)) }
 {
-    if take_plain(place, c)? {
-        return Ok(());
+    match take_inside(place, c) {
+        Ok(true) => Ok(()),
+        Ok(false) => {
+            let before = mem::replace(place, Place::Value);
+            *place = step(alloc, before, stack, c)?;
+            Ok(())
+        }
+        Err(kind) => Err(kind),
     }
-    let before = mem::replace(place, Place::Value);
-    *place = step(alloc, before, stack, c)?;
-    Ok(())
 }
