@@ -1,19 +1,24 @@
 -- Several characters taken at once: plain ones of a string, and those of a number.
 use Rattle.std.specs.Prelude.{option_and_then, ◌==◌, nat_le, encode_utf8, encode_utf8_all, slice_index}
-use Rattle.std.specs.Str.{IsUtf8, IsAscii}
+use Rattle.std.specs.Str.{IsUtf8, IsAscii, IsCharBoundary}
 use Rattle.std.specs.List.{All, AllByRecursion}
-use Rattle.std.proofs.Common.{ℕ, ◌+◌, ◌<◌, ◌≤◌, ◌≡◌, ◌⊎◌, inl, inr, Bool, true, false, not, ◌&&◌, List, [], ◌∷◌, ◌++◌, length, take, drop, refl, sym, ap, ◌∙◌, subst, arith, Option, Some, None, Ok, append-nil, append_assoc}
+use Rattle.std.proofs.Common.{ℕ, ◌+◌, ◌<◌, ◌≤◌, ◌≡◌, ◌⊎◌, inl, inr, Bool, true, false, not, ◌&&◌, List, [], ◌∷◌, ◌++◌, length, take, drop, refl, sym, ap, ◌∙◌, subst, arith, Option, Some, None, Result, Ok, Err, IfOk, append-nil, append_assoc}
 use Rattle.std.proofs.lemmas.Bool.{cases_lt}
 use Rattle.std.proofs.lemmas.Bool.Decides.{nat_tests}
-use Rattle.std.proofs.lemmas.Str.{encode_ascii, IsUtf8-take}
+use Rattle.std.proofs.lemmas.Str.{encode_ascii, encodes-append, encodes-IsAscii, IsUtf8-take, IsUtf8-from_ascii, IsCharBoundary-from_take}
+use Rattle.std.proofs.lemmas.Str.Ascii.{IsAscii-from_all}
 use Rattle.std.proofs.lemmas.List.{take-append-drop}
-use Rattle.std.proofs.lemmas.List.Elements.{recursion_from_All}
+use Rattle.std.proofs.lemmas.List.Elements.{recursion_from_All, All-from_recursion}
 use Rattle.json_order.specs.Grammar.{is_plain}
 use Rattle.json_order.specs.Fault.{strict}
-use Rattle.json_order.specs.private.Machine.{Entries, Frame, state, run, in_string, in_key, in_number, quote_step, going, part_step}
-use Rattle.json_order.specs.private.AtOnce.{MovesPlain, Takes, parts_after}
+use Rattle.json_order.specs.private.Machine.{Entries, Place, Frame, State, state, run_on, run, IsFine, in_string, in_key, in_number, quote_step, going, part_step}
+use Rattle.json_order.specs.private.AtOnce.{MovesPlain, Takes, TakesQuoted, parts_after}
+use Rattle.json_order.specs.declared.fault.JsonKind.{JsonKind}
+use Rattle.json_order.specs.declared.place.Escape.{Escape}
 use Rattle.json_order.specs.declared.place.Escape.TheVariants.{Outside}
 use Rattle.json_order.specs.declared.place.Part.{Part}
+use Rattle.json_order.proofs.Numbers.{IsInside, Goes, part_goes}
+use Rattle.json_order.proofs.Strings.{FineQuote, fine_quote}
 
 -- PLAIN CHARACTERS
 
@@ -71,11 +76,53 @@ moves_plain old new bytes after n u l low h e f =
       e ∙ ap (λ x. old ++ x) (sym v.1.1),
     )
 
-pub takes_string : (old new before after : List ℕ) → MovesPlain old new before after → Takes (in_string old Outside) (in_string new Outside) before after
+takes_string : (old new before after : List ℕ) → MovesPlain old new before after → Takes (in_string old Outside) (in_string new Outside) before after
 takes_string old new before after m = (m.0, m.1, λ fs. plain_string m.0 old fs m.2 ∙ ap (λ x. Ok (state (in_string x Outside) fs)) (sym m.3))
 
-pub takes_key : (es : Entries) (old new before after : List ℕ) → MovesPlain old new before after → Takes (in_key es old Outside) (in_key es new Outside) before after
+takes_key : (es : Entries) (old new before after : List ℕ) → MovesPlain old new before after → Takes (in_key es old Outside) (in_key es new Outside) before after
 takes_key es old new before after m = (m.0, m.1, λ fs. plain_key es m.0 old fs m.2 ∙ ap (λ x. Ok (state (in_key es x Outside) fs)) (sym m.3))
+
+-- a fact that follows where there is a result
+pub if_ok : {A E : Type 0} (r : Result A E) (P Q : A → Type 0) → ((a : A) → P a → Q a) → IfOk r P → IfOk r Q
+if_ok (Ok a) P Q f h = f a h
+if_ok (Err e) P Q f h = h
+
+-- ANY CHARACTERS OF A STRING
+
+pub takes_plain : (old new before after : List ℕ) → MovesPlain old new before after → TakesQuoted old Outside new Outside before after
+takes_plain old new before after m = (takes_string old new before after m, λ es. takes_key es old new before after m)
+
+takes_nothing : (p : Place) (before : List ℕ) → Takes p p before before
+takes_nothing p before = ([], refl, λ fs. refl)
+
+pub quoted_nothing : (text : List ℕ) (e : Escape) (before : List ℕ) → TakesQuoted text e text e before before
+quoted_nothing text e before = (takes_nothing (in_string text e) before, λ es. takes_nothing (in_key es text e) before)
+
+pub run_append : (o : Result State JsonKind) (xs ys : List ℕ) → run strict o (xs ++ ys) ≡ run strict (run strict o xs) ys
+run_append o [] ys = refl
+run_append o (x ∷ xs) ys = run_append (run_on strict o x) xs ys
+
+takes_more : (p q r : Place) (before mid after : List ℕ) → Takes p q before mid → Takes q r mid after → Takes p r before after
+takes_more p q r before mid after t u = (
+  t.0 ++ u.0,
+  t.1 ∙ ap (λ x. encode_utf8_all t.0 ++ x) u.1 ∙ sym (append_assoc (encode_utf8_all t.0) (encode_utf8_all u.0) after) ∙ ap (λ x. x ++ after) (sym (encodes-append t.0 u.0)),
+  λ fs. run_append (Ok (state p fs)) t.0 u.0 ∙ ap (λ o. run strict o u.0) (t.2 fs) ∙ u.2 fs,
+)
+
+pub quoted_more : (a b d : List ℕ) (e f g : Escape) (before mid after : List ℕ) → TakesQuoted a e b f before mid → TakesQuoted b f d g mid after → TakesQuoted a e d g before after
+quoted_more a b d e f g before mid after t u = (
+  takes_more (in_string a e) (in_string b f) (in_string d g) before mid after t.0 u.0,
+  λ es. takes_more (in_key es a e) (in_key es b f) (in_key es d g) before mid after (t.1 es) (u.1 es),
+)
+
+-- one character
+pub quoted_one : (old new : List ℕ) (e f : Escape) (c : ℕ) (before after : List ℕ) → quote_step old e c ≡ Some (going new f) → before ≡ encode_utf8 c ++ after → TakesQuoted old e new f before after
+quoted_one old new e f c before after h next =
+    let here = next ∙ ap (λ x. x ++ after) (sym (append-nil (encode_utf8 c))) in
+    ((c ∷ [], here, λ fs. rw h refl), λ es. (c ∷ [], here, λ fs. rw h refl))
+
+pub fine_going : (old new : List ℕ) (e f : Escape) (c : ℕ) → IsFine e → quote_step old e c ≡ Some (going new f) → IsFine f
+fine_going old new e f c h s = subst FineQuote s (fine_quote old e c h)
 
 -- NUMBERS
 
@@ -98,3 +145,33 @@ parts_more (x ∷ cs) c p q r h e = go (part_step p x) h (λ t g. parts_more cs 
     go : (o : Option Part) → option_and_then (λ t. parts_after t cs) o ≡ Some q → ((t : Part) → parts_after t cs ≡ Some q → parts_after t (cs ++ c ∷ []) ≡ Some r) → option_and_then (λ t. parts_after t (cs ++ c ∷ [])) o ≡ Some r
     go None h more = cc
     go (Some t) h more = more t h
+
+-- the characters of a number are bytes
+number_ascii : (cs : List ℕ) (p q : Part) → parts_after p cs ≡ Some q → AllByRecursion (λ c. c < 128) cs
+number_ascii [] p q h = tt
+number_ascii (c ∷ cs) p q h = go (part_step p c) (part_goes p c) h (λ r e. number_ascii cs r q e)
+  where
+    small : IsInside c → c < 128
+    small (inl a) = omega arith
+    small (inr (inl b)) = omega arith
+    small (inr (inr (inl d))) = omega arith
+    small (inr (inr (inr d))) = omega arith
+
+    go : (o : Option Part) → Goes c o → option_and_then (λ r. parts_after r cs) o ≡ Some q → ((r : Part) → parts_after r cs ≡ Some q → AllByRecursion (λ x. x < 128) cs) → (c < 128) × AllByRecursion (λ x. x < 128) cs
+    go None g e more = cc
+    go (Some r) g e more = (small g, more r e)
+
+ascii : (cs : List ℕ) (p q : Part) → parts_after p cs ≡ Some q → IsAscii cs
+ascii cs p q h = IsAscii-from_all cs (All-from_recursion (λ c. c < 128) cs (number_ascii cs p q h))
+
+pub takes_number : (old new bytes after : List ℕ) (n : ℕ) (p q : Part) → parts_after p (take n bytes) ≡ Some q → new ≡ old ++ take n bytes → after ≡ drop n bytes → Takes (in_number old p) (in_number new q) bytes after
+takes_number old new bytes after n p q h e f =
+    let small = encodes-IsAscii (take n bytes) (ascii (take n bytes) p q h) in (
+      take n bytes,
+      sym (take-append-drop n bytes) ∙ ap (λ x. take n bytes ++ x) (sym f) ∙ ap (λ x. x ++ after) (sym small),
+      λ fs. number_run (take n bytes) old p q fs h ∙ ap (λ x. Ok (state (in_number x q) fs)) (sym e),
+    )
+
+-- a text may be cut behind a number
+pub number_cut : (bytes : List ℕ) (n : ℕ) (p q : Part) → IsUtf8 bytes → n ≤ length bytes → parts_after p (take n bytes) ≡ Some q → IsCharBoundary bytes n
+number_cut bytes n p q u l h = IsCharBoundary-from_take bytes n u l (IsUtf8-from_ascii (take n bytes) (ascii (take n bytes) p q h))

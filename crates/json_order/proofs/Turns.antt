@@ -9,6 +9,7 @@ use Rattle.json_order.specs.private.Places.{Says}
 use Rattle.json_order.specs.declared.fault.JsonKind.{JsonKind}
 use Rattle.json_order.specs.declared.fault.JsonKind.TheVariants.{Syntax, End, Depth, Duplicate, Utf8, Memory}
 use Rattle.json_order.proofs.Runs.{sound_run, run_step}
+use Rattle.json_order.proofs.AtOnce.{run_append}
 use Rattle.json_order.proofs.Bytes.{AtEnd, fault_at}
 
 -- what is known of a fault that is told
@@ -59,10 +60,6 @@ stands_first text = ([], refl, refl)
 
 pub stands_more : (text rest z : List ℕ) (c : ℕ) (s u : State) → Stands text s rest → rest ≡ encode_utf8 c ++ z → step strict s c ≡ Ok u → Stands text u z
 stands_more text rest z c s u h next e = (h.0 ++ c ∷ [], seen_more text h.0 c rest z h.1 next, ran_more h.0 c s u h.2 e)
-
-run_append : (o : Result State JsonKind) (xs ys : List ℕ) → run strict o (xs ++ ys) ≡ run strict (run strict o xs) ys
-run_append o [] ys = refl
-run_append o (x ∷ xs) ys = run_append (run_on strict o x) xs ys
 
 pub stands_taken : (text before after : List ℕ) (p q : Place) (fs : List Frame) → Stands text (state p fs) before → Takes p q before after → Stands text (state q fs) after
 stands_taken text before after p q fs h t = (

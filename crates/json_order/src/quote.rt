@@ -1,6 +1,6 @@
 ghost use Rattle.std.specs.Prelude.{◌≡◌, ◌<◌, ◌≤◌, ◌++◌, ◌⊎◌, Some, None, Ok, IfOk, OnOk, IfErr, encode_utf8, string_bytes};
 ghost use Rattle.std.specs.Char.Utf16.{surrogate_pair_char};
-ghost use Rattle.json_order.specs.declared.fault.JsonKind.TheVariants.{Memory};
+ghost use Rattle.json_order.specs.declared.fault.JsonKind.TheVariants.{Syntax, Memory};
 ghost use Rattle.json_order.specs.declared.place.Escape.TheVariants.{Outside, Slash};
 ghost use Rattle.json_order.specs.declared.quote.Quote.TheVariants.{Going, Closed};
 ghost use Rattle.json_order.specs.Grammar as grammar;
@@ -79,12 +79,15 @@ fn second_unit(text: &mut String, escape: &mut Escape, high: u32, low: u32) -> R
 }
 
 /// A hexadecimal digit in an escape.
+#[inline(always)]
 fn digit_step(text: &mut String, escape: &mut Escape, digit: u32) -> Result<(), JsonKind>
     requires digit { digit < 16 }
     requires fine { IsFine escape.old }
     ensures ok { OnOk result (digit_quote (string_bytes text.old) escape.old digit
         ≡ Some (going (string_bytes text.new) escape.new)) }
     ensures err { IfErr result (Misses (digit_quote (string_bytes text.old) escape.old digit)) }
+    ensures kept { IfErr result (λ k. k ≡ Syntax → (text.new ≡ text.old) × (escape.new
+        ≡ escape.old)) }
 {
     match *escape {
         Escape::Unit0 => {
@@ -129,11 +132,14 @@ fn digit_step(text: &mut String, escape: &mut Escape, digit: u32) -> Result<(), 
 }
 
 /// A character that has to be a hexadecimal digit.
+#[inline(always)]
 fn hexed(text: &mut String, escape: &mut Escape, c: char) -> Result<(), JsonKind>
     requires fine { IsFine escape.old }
     ensures ok { OnOk result (hex_step (string_bytes text.old) escape.old c
         ≡ Some (going (string_bytes text.new) escape.new)) }
     ensures err { IfErr result (Misses (hex_step (string_bytes text.old) escape.old c)) }
+    ensures kept { IfErr result (λ k. k ≡ Syntax → (text.new ≡ text.old) × (escape.new
+        ≡ escape.old)) }
 {
     match c.to_digit(16) {
         Some(digit) => digit_step(text, escape, digit),
@@ -142,10 +148,13 @@ fn hexed(text: &mut String, escape: &mut Escape, c: char) -> Result<(), JsonKind
 }
 
 /// A character behind a backslash.
+#[inline(always)]
 fn slashed(text: &mut String, escape: &mut Escape, c: char) -> Result<(), JsonKind>
     ensures ok { OnOk result (machine.quote_step (string_bytes text.old) Slash c
         ≡ Some (going (string_bytes text.new) escape.new)) }
     ensures err { IfErr result (Misses (machine.quote_step (string_bytes text.old) Slash c)) }
+    ensures kept { IfErr result (λ k. k ≡ Syntax → (text.new ≡ text.old) × (escape.new
+        ≡ escape.old)) }
 {
     if c == 'u' {
         *escape = Escape::Unit0;
@@ -158,6 +167,7 @@ fn slashed(text: &mut String, escape: &mut Escape, c: char) -> Result<(), JsonKi
 }
 
 /// The string goes on, with this much of an escape.
+#[inline(always)]
 fn go_on(escape: &mut Escape, next: Escape) -> Result<Quote, JsonKind>
     ensures { (result ≡ Ok Going) × (escape.new ≡ next) }
 {
@@ -165,16 +175,19 @@ fn go_on(escape: &mut Escape, next: Escape) -> Result<Quote, JsonKind>
     Ok(Quote::Going)
 }
 
-/// The string once c follows, which it takes in place: it goes on or ends. Syntax where no string goes on with c; on an
-/// error the string is left as it may be.
+/// The string once c follows, which it takes in place: it goes on or ends. Syntax where no string goes on with c; where
+/// memory runs out the string is left as it may be.
 #[inline(always)]
 pub(crate) fn quote_step(text: &mut String, escape: &mut Escape, c: char) -> Result<Quote, JsonKind>
     requires fine { IsFine escape.old }
     ensures ok { IfOk result (λ q. machine.quote_step (string_bytes text.old) escape.old c
         ≡ Some (quote_of q text.new escape.new)) }
     ensures err { IfErr result (Misses (machine.quote_step (string_bytes text.old) escape.old c)) }
-    // A closed string is as it was.
-    ensures closed { IfOk result (λ q. q ≡ Closed → (text.new ≡ text.old) × (escape.new ≡ escape.old)) }
+    // A string that is closed, or does not go on, is as it was.
+    ensures closed { IfOk result (λ q. q ≡ Closed → (text.new ≡ text.old) × (escape.new
+        ≡ escape.old)) }
+    ensures kept { IfErr result (λ k. k ≡ Syntax → (text.new ≡ text.old) × (escape.new
+        ≡ escape.old)) }
 {
     match *escape {
         Escape::Outside => match c {

@@ -1,12 +1,11 @@
-ghost use Rattle.std.specs.Prelude.{List, ◌≡◌, ◌<◌, ◌++◌, [], ◌∷◌, Some, Ok, IfOk, OnOk, IfErr, map, string_bytes};
+ghost use Rattle.std.specs.Prelude.{List, ◌≡◌, ◌<◌, ◌++◌, [], ◌∷◌, Ok, IfOk, OnOk, IfErr, map, string_bytes};
 ghost use Rattle.std.specs.Bool.{OnTrue, OnFalse};
 ghost use Rattle.json_order.specs.declared.fault.JsonKind.TheVariants.{Memory};
 ghost use Rattle.json_order.specs.Fault.{strict};
 ghost use Rattle.json_order.specs.Grammar as grammar;
 ghost use Rattle.json_order.specs.Json.{array, no_items, object, no_members};
-ghost use Rattle.json_order.specs.private.Machine as machine;
-ghost use Rattle.json_order.specs.private.Machine.{going, Frame as StackFrame, IsFine, IsFinePlace, in_list, in_object, state, judged, step as machine_step, move, at_first_item, at_first_key, at_next_key, in_key, behind_key, in_string, in_number, in_word, value_move, next_move, behind_move};
-ghost use Rattle.json_order.specs.private.Places.{place_of, frames_of, state_of, entries_of, letters_from, value_of, Misses, Says};
+ghost use Rattle.json_order.specs.private.Machine.{Frame as StackFrame, IsFine, IsFinePlace, in_list, in_object, state, judged, step as machine_step, move, at_first_item, at_first_key, at_next_key, in_key, behind_key, in_string, in_number, in_word, value_move, next_move, behind_move};
+ghost use Rattle.json_order.specs.private.Places.{place_of, frames_of, state_of, entries_of, letters_from, value_of, Says};
 ghost use Rattle.json_order.specs.Seen.{json_of, members_with};
 
 use crate::fault::JsonKind;
@@ -330,40 +329,6 @@ fn step(alloc: Global, place: Place, stack: &mut Vec<Frame>, c: char) -> Result<
     }
 }
 
-/// Takes c into a string that goes on with it, and says so. At the quote that closes the string nothing changes.
-#[inline(always)]
-fn take_quoted(text: &mut String, escape: &mut Escape, c: char) -> Result<bool, JsonKind>
-    requires fine { IsFine escape.old }
-    ensures taken { IfOk result (λ b. OnTrue b (machine.quote_step (string_bytes text.old) escape.old c
-        ≡ Some (going (string_bytes text.new) escape.new))) }
-    ensures not_taken { IfOk result (λ b. OnFalse b ((text.new ≡ text.old)
-        × (escape.new ≡ escape.old))) }
-    ensures err { IfErr result (Misses (machine.quote_step (string_bytes text.old) escape.old c)) }
-{
-    match quote_step(text, escape, c)? {
-        Quote::Going => Ok(true),
-        Quote::Closed => Ok(false),
-    }
-}
-
-/// Takes c into a number that goes on with it, and says so. Elsewhere nothing changes.
-#[inline(always)]
-fn take_digit(text: &mut String, part: &mut Part, c: char) -> Result<bool, JsonKind>
-    ensures taken { IfOk result (λ b. OnTrue b ((machine.part_step part.old c ≡ Some part.new)
-        × (string_bytes text.new ≡ string_bytes text.old ++ c ∷ []))) }
-    ensures not_taken { IfOk result (λ b. OnFalse b ((text.new ≡ text.old) × (part.new ≡ part.old))) }
-    ensures err { IfErr result (λ k. k ≡ Memory) }
-{
-    match part_step(*part, c) {
-        Some(next) => {
-            text.push(c)?;
-            *part = next;
-            Ok(true)
-        }
-        None => Ok(false),
-    }
-}
-
 /// Takes c into a word that goes on with it, and says so. Behind the word's last letter nothing changes.
 fn take_letter(word: Word, read: &mut usize, c: char) -> Result<bool, JsonKind>
     ensures taken { IfOk result (λ b. OnTrue b (letters_from word read.old
@@ -385,11 +350,10 @@ fn take_letter(word: Word, read: &mut usize, c: char) -> Result<bool, JsonKind>
     }
 }
 
-/// Takes c in place and says so, where the reader goes on in what it reads: in a string, in an escape, in a number, in a
-/// word or in white space. Elsewhere nothing changes. On an error the place is left as it may be.
+/// Takes c in place and says so, where the reader goes on in a word or in white space. Elsewhere nothing changes. On an
+/// error the place is left as it may be.
 #[inline(always)]
 fn take_inside(place: &mut Place, c: char) -> Result<bool, JsonKind>
-    requires fine { IsFinePlace (place_of place.old) }
     ensures taken { IfOk result (λ b. OnTrue b ((fs : List StackFrame)
         → machine_step strict (state (place_of place.old) fs) c
         ≡ Ok (state (place_of place.new) fs))) }
@@ -398,9 +362,6 @@ fn take_inside(place: &mut Place, c: char) -> Result<bool, JsonKind>
         → Says (machine_step strict (state (place_of place.old) fs) c) k) }
 {
     match place {
-        Place::Text(text, escape) => take_quoted(text, escape, c),
-        Place::Key(_, text, escape) => take_quoted(text, escape, c),
-        Place::Number(text, part) => take_digit(text, part, c),
         Place::Word(word, read) => take_letter(*word, read, c),
         Place::Value | Place::Behind(_) => Ok(is_space(c)),
         _ => Ok(false),

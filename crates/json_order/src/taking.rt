@@ -3,11 +3,13 @@ ghost use Rattle.std.specs.List.{All};
 ghost use Rattle.json_order.specs.declared.fault.JsonKind.TheVariants.{Memory};
 ghost use Rattle.json_order.specs.Grammar as grammar;
 ghost use Rattle.json_order.specs.private.Places.{place_of};
-ghost use Rattle.json_order.specs.private.AtOnce.{Takes, MovesPlain, parts_after};
+ghost use Rattle.json_order.specs.private.AtOnce.{Takes, TakesQuoted, MovesPlain, parts_after};
+ghost use Rattle.json_order.specs.private.Machine.{IsFine, IsFinePlace, in_number};
 
 use crate::fault::JsonKind;
 use crate::number::part_step;
 use crate::place::{Escape, Part, Place};
+use crate::quote::{Quote, quote_step};
 
 /// A byte that stands for itself in a string: from the space on, and no quote or backslash.
 #[inline(always)]
@@ -44,6 +46,46 @@ fn move_plain<'a>(text: &mut String, rest: &'a str) -> Result<&'a str, JsonKind>
     Ok(after)
 }
 
+/// The same where the string is in no escape; in one, nothing changes.
+#[inline(always)]
+fn move_outside<'a>(text: &mut String, escape: Escape, rest: &'a str) -> Result<&'a str, JsonKind>
+    ensures ok { IfOk result (λ after. TakesQuoted (string_bytes text.old) escape
+        (string_bytes text.new) escape rest.now after.now) }
+    ensures err { IfErr result (λ k. k ≡ Memory) }
+{
+    match escape {
+        Escape::Outside => move_plain(text, rest),
+        _ => Ok(rest),
+    }
+}
+
+/// Takes the characters in front that a string goes on with, at once; what stands behind them.
+fn take_quoted<'a>(
+    text: &mut String,
+    escape: &mut Escape,
+    rest: &'a str,
+) -> Result<&'a str, JsonKind>
+    requires fine { IsFine escape.old }
+    ensures ok { IfOk result (λ after. TakesQuoted (string_bytes text.old) escape.old
+        (string_bytes text.new) escape.new rest.now after.now) }
+    ensures err { IfErr result (λ k. k ≡ Memory) }
+{
+    let mut chars = rest.chars();
+    loop {
+        let left = move_outside(text, *escape, chars.as_str())?;
+        chars = left.chars();
+        match chars.next() {
+            None => return Ok(left),
+            Some(c) => match quote_step(text, escape, c) {
+                Ok(Quote::Going) => {}
+                Ok(Quote::Closed) => return Ok(left),
+                Err(JsonKind::Syntax) => return Ok(left),
+                Err(kind) => return Err(kind),
+            },
+        }
+    }
+}
+
 /// How many bytes in front go on with a number, and how far it is read behind them.
 #[inline(always)]
 fn number_run(bytes: &[u8], part: Part) -> (usize, Part)
@@ -60,17 +102,32 @@ fn number_run(bytes: &[u8], part: Part) -> (usize, Part)
     (bytes.len(), read)
 }
 
-/// Takes at once what the reader goes on with, in a string or in a number; what stands behind it. On an error the place is
-/// left as it may be.
+/// Takes the characters in front that a number goes on with, at once; what stands behind them.
+fn take_number<'a>(text: &mut String, part: &mut Part, rest: &'a str) -> Result<&'a str, JsonKind>
+    ensures ok { IfOk result (λ after. Takes (in_number (string_bytes text.old) part.old)
+        (in_number (string_bytes text.new) part.new) rest.now after.now) }
+    ensures err { IfErr result (λ k. k ≡ Memory) }
+{
+    let (len, next) = number_run(rest.as_bytes(), *part);
+    let (front, after) = rest.split_at(len);
+    text.push_str(front)?;
+    *part = next;
+    Ok(after)
+}
+
+/// Takes at once the characters in front that a string or a number goes on with; what stands behind them. On an error the
+/// place is left as it may be.
 #[inline(always)]
 pub(crate) fn take_run<'a>(place: &mut Place, rest: &'a str) -> Result<&'a str, JsonKind>
+    requires fine { IsFinePlace (place_of place.old) }
     ensures ok { IfOk result (λ after. Takes (place_of place.old) (place_of place.new)
         rest.now after.now) }
     ensures err { IfErr result (λ k. k ≡ Memory) }
 {
     match place {
-        Place::Text(text, Escape::Outside) => move_plain(text, rest),
-        Place::Key(_, text, Escape::Outside) => move_plain(text, rest),
+        Place::Text(text, escape) => take_quoted(text, escape, rest),
+        Place::Key(_, text, escape) => take_quoted(text, escape, rest),
+        Place::Number(text, part) => take_number(text, part, rest),
         _ => Ok(rest),
     }
 }

@@ -3,8 +3,9 @@ use Rattle.std.specs.Prelude.{ℕ, ◌≡◌, true, List, [], ◌∷◌, ◌++�
 use Rattle.std.specs.List.{AllByRecursion}
 use Rattle.json_order.specs.Grammar.{is_plain}
 use Rattle.json_order.specs.Fault.{strict}
-use Rattle.json_order.specs.private.Machine.{Place, Frame, State, state, start, run, part_step}
+use Rattle.json_order.specs.private.Machine.{Entries, Place, in_string, in_key, Frame, State, state, start, run, part_step}
 use Rattle.json_order.specs.declared.place.Part.{Part}
+use Rattle.json_order.specs.declared.place.Escape.{Escape}
 
 -- from one place to the other, over the characters that stand before what is left
 abbrev pub Takes : Place → Place → List ℕ → List ℕ → Type 0
@@ -13,6 +14,11 @@ Takes p q before after = (cs : List ℕ) × (before ≡ encode_utf8_all cs ++ af
 -- plain characters stand before what is left, and have gone into the text
 abbrev pub MovesPlain : List ℕ → List ℕ → List ℕ → List ℕ → Type 0
 MovesPlain old new before after = (cs : List ℕ) × (before ≡ encode_utf8_all cs ++ after) × AllByRecursion (λ c. is_plain c ≡ true) cs × (new ≡ old ++ encode_utf8_all cs)
+
+-- a string, or a key behind any members, goes on from one text and escape to the other, over the characters that stand
+-- before what is left
+abbrev pub TakesQuoted : List ℕ → Escape → List ℕ → Escape → List ℕ → List ℕ → Type 0
+TakesQuoted old e new f before after = Takes (in_string old e) (in_string new f) before after × ((es : Entries) → Takes (in_key es old e) (in_key es new f) before after)
 
 -- how far a number is read behind these characters
 abbrev pub parts_after : Part → List ℕ → Option Part
