@@ -10,7 +10,7 @@ ghost use Rattle.json_order.specs.private.Places.{place_of, frames_of, state_of,
 ghost use Rattle.json_order.specs.Seen.{json_of, members_with};
 
 use crate::fault::JsonKind;
-use crate::members::{Members, with_member};
+use crate::members::{Members, add_last_member, with_member};
 use crate::number::{is_done, part_step};
 use crate::place::{Escape, Frame, Part, Place};
 use crate::quote::{Quote, quote_step};
@@ -127,11 +127,25 @@ fn add_last(items: &mut Vec<Tree>, value: Tree) -> Result<(), JsonKind>
 }
 
 /// The object of these members.
-fn object_of(members: Members) -> Tree
-    ensures { json_of result ≡ object (members_with (entries_of members.list.items) no_members) }
+fn object_of(list: Vec<(String, Tree)>) -> Tree
+    ensures { json_of result ≡ object (members_with (entries_of list.items) no_members) }
 {
-    let Members { list, keys: _ } = members;
     Tree::Object(list)
+}
+
+/// The object of these members and a last one.
+fn whole_object(members: Members, key: String, value: Tree) -> Result<Tree, JsonKind>
+    ensures ok { IfOk result (λ t. json_of t ≡ object (members_with
+        (entries_of (members.list.items ++ (key, value) ∷ [])) no_members)) }
+    ensures err { IfErr result (λ k. k ≡ Memory) }
+{
+    let Members {
+        mut list,
+        keys: _,
+        ascending: _,
+    } = members;
+    add_last_member(&mut list, key, value)?;
+    Ok(object_of(list))
 }
 
 /// Behind the value of a member of an object.
@@ -150,10 +164,7 @@ fn member_step(
 {
     match c {
         ',' => go_to(place, Place::NextKey(with_member(members, key, value)?)),
-        '}' => go_to(
-            place,
-            Place::Behind(object_of(with_member(members, key, value)?)),
-        ),
+        '}' => go_to(place, Place::Behind(whole_object(members, key, value)?)),
         _ => Err(JsonKind::Syntax),
     }
 }
