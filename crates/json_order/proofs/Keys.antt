@@ -3,9 +3,17 @@ use Rattle.std.specs.Str.{bytes_eq}
 use Rattle.std.specs.Prelude.{string_bytes}
 use Rattle.std.specs.declared.string.String.{String}
 use Rattle.std.specs.declared.alloc.Global.{Global}
-use Rattle.std.proofs.Common.{ℕ, ◌≡◌, Bool, true, false, cond, ◌||◌, List, [], ◌∷◌, ◌++◌, refl, ap, ◌∙◌}
+use Rattle.std.specs.Ordering.{nat_cmp, is_lt, is_eq}
+use Rattle.std.specs.Cmp.Lexicographic.{slice_cmp}
+use Rattle.std.proofs.lemmas.Cmp.{nat_list_cmp_total}
+use Rattle.std.proofs.lemmas.Map.Text.{is_eq-slice_cmp}
+use Rattle.std.proofs.lemmas.List.{take_all, take_more}
+use Rattle.std.specs.declared.cmp.Ordering.{Ordering}
+use Rattle.std.specs.declared.cmp.Ordering.TheVariants.{Less, Equal, Greater}
+use Rattle.std.proofs.Common.{not, length, get_or, take, sym, ◌+◌, ℕ, ◌<◌, ◌≤◌, ◌≡◌, Bool, true, false, cond, ◌||◌, ◌&&◌, nat_lt, arith, List, [], ◌∷◌, ◌++◌, refl, ap, ◌∙◌}
+use Rattle.json_order.proofs.Strings.{lt_from, lt_to}
 use Rattle.json_order.specs.Grammar.{has_key}
-use Rattle.json_order.specs.private.Entries.{keys_of}
+use Rattle.json_order.specs.private.Entries.{keys_of, all_below, last_below}
 use Rattle.json_order.specs.declared.tree.Tree.{Tree}
 
 pub has_push : (ms : List (String Global × Tree)) (k : String Global) (v : Tree) (key : List ℕ) → has_key (keys_of (ms ++ (k, v) ∷ [])) key ≡ cond (bytes_eq (string_bytes k) key) true (has_key (keys_of ms) key)
@@ -21,3 +29,89 @@ has_push (m ∷ ms) k v key = ap (λ b. bytes_eq (string_bytes m.0) key || b) (h
     go true false d = refl
     go false true d = refl
     go false false d = refl
+
+-- a key of the first members is one of all of them
+pub has_front : (xs ys : List (String Global × Tree)) (key : List ℕ) → has_key (keys_of xs) key ≡ true → has_key (keys_of (xs ++ ys)) key ≡ true
+has_front [] ys key h = cc
+has_front (m ∷ xs) ys key h = go (bytes_eq (string_bytes m.0) key) h (λ e. has_front xs ys key e)
+  where
+    go : (b : Bool) → (b || has_key (keys_of xs) key) ≡ true → (has_key (keys_of xs) key ≡ true → has_key (keys_of (xs ++ ys)) key ≡ true) → (b || has_key (keys_of (xs ++ ys)) key) ≡ true
+    go true h more = refl
+    go false h more = more h
+
+-- where the keys stand in order they are those of the members, and else there are none
+pub many : (n : ℕ) (a b : Bool) → 16 < n → a ≡ false → ((nat_lt 16 n && not a) && b) ≡ b
+many n a b h e = rw (lt_to 16 n h, e) refl
+
+pub ascends : (n : ℕ) (a b : Bool) → a ≡ true → ((nat_lt 16 n && not a) && b) ≡ false
+ascends n a b e = rw e (go (nat_lt 16 n))
+  where
+    go : (t : Bool) → ((t && false) && b) ≡ false
+    go true = refl
+    go false = refl
+
+pub few : (n : ℕ) (a b : Bool) → n ≤ 16 → ((nat_lt 16 n && not a) && b) ≡ false
+few n a b h = go (nat_lt 16 n) refl
+  where
+    go : (t : Bool) → nat_lt 16 n ≡ t → ((t && not a) && b) ≡ false
+    go true e = let l = lt_from 16 n e in absurd (omega arith)
+    go false e = refl
+
+-- KEYS THAT ASCEND
+
+less : (o : Ordering) → is_lt o ≡ true → o ≡ Less
+less Less h = refl
+less Equal h = cc
+less Greater h = cc
+
+less_trans : (x y z : List ℕ) → is_lt (slice_cmp nat_cmp x y) ≡ true → is_lt (slice_cmp nat_cmp y z) ≡ true → is_lt (slice_cmp nat_cmp x z) ≡ true
+less_trans x y z h g = ap is_lt (nat_list_cmp_total.trans x y z (less (slice_cmp nat_cmp x y) h) (less (slice_cmp nat_cmp y z) g))
+
+less_other : (x y : List ℕ) → is_lt (slice_cmp nat_cmp x y) ≡ true → bytes_eq x y ≡ false
+less_other x y h = sym (is_eq-slice_cmp x y) ∙ ap is_eq (less (slice_cmp nat_cmp x y) h)
+
+both : (a b : Bool) → (a && b) ≡ true → (a ≡ true) × (b ≡ true)
+both true true h = (refl, refl)
+both true false h = cc
+both false b h = cc
+
+-- a key that is greater than all is new
+pub below_new : (ks : List (List ℕ)) (key : List ℕ) → all_below ks key ≡ true → has_key ks key ≡ false
+below_new [] key h = refl
+below_new (k ∷ ks) key h =
+    let p = both (is_lt (slice_cmp nat_cmp k key)) (all_below ks key) h in
+    ap (λ b. b || has_key ks key) (less_other k key p.0) ∙ below_new ks key p.1
+
+below_trans : (ks : List (List ℕ)) (x key : List ℕ) → all_below ks x ≡ true → is_lt (slice_cmp nat_cmp x key) ≡ true → all_below ks key ≡ true
+below_trans [] x key h g = refl
+below_trans (k ∷ ks) x key h g =
+    let p = both (is_lt (slice_cmp nat_cmp k x)) (all_below ks x) h in
+    ap (λ b. b && all_below ks key) (less_trans k x key p.0 g) ∙ below_trans ks x key p.1 g
+
+below_push : (ks : List (List ℕ)) (x key : List ℕ) → all_below ks key ≡ true → is_lt (slice_cmp nat_cmp x key) ≡ true → all_below (ks ++ x ∷ []) key ≡ true
+below_push [] x key h g = ap (λ b. b && true) g
+below_push (k ∷ ks) x key h g =
+    let p = both (is_lt (slice_cmp nat_cmp k key)) (all_below ks key) h in
+    ap (λ b. b && all_below (ks ++ x ∷ []) key) p.0 ∙ below_push ks x key p.1 g
+
+last_push : (ks : List (List ℕ)) (x key : List ℕ) → last_below (ks ++ x ∷ []) key ≡ is_lt (slice_cmp nat_cmp x key)
+last_push [] x key = refl
+last_push (k ∷ []) x key = refl
+last_push (k ∷ l ∷ ks) x key = last_push (l ∷ ks) x key
+
+keys_push : (ms : List (String Global × Tree)) (k : String Global) (v : Tree) → keys_of (ms ++ (k, v) ∷ []) ≡ keys_of ms ++ string_bytes k ∷ []
+keys_push [] k v = refl
+keys_push (m ∷ ms) k v = ap (λ ks. string_bytes m.0 ∷ ks) (keys_push ms k v)
+
+-- the last of the members by its place
+pub last_at : (ms : List (String Global × Tree)) (i : ℕ) (m : String Global × Tree) (key : List ℕ) → i + 1 ≡ length ms → m ≡ get_or ms i m → last_below (keys_of ms) key ≡ is_lt (slice_cmp nat_cmp (string_bytes m.0) key)
+last_at ms i m key e g =
+    let whole : ms ≡ take i ms ++ m ∷ [] = sym (take_all (i + 1) ms (omega arith)) ∙ take_more ms i m (omega arith) ∙ ap (λ x. take i ms ++ x ∷ []) (sym g) in
+    ap (λ x. last_below (keys_of x) key) whole ∙ ap (λ ks. last_below ks key) (keys_push (take i ms) m.0 m.1) ∙ last_push (keys_of (take i ms)) (string_bytes m.0) key
+
+-- one key more, greater than the last
+pub ordered_more : (ms : List (String Global × Tree)) (k : String Global) (v : Tree) → ((key : List ℕ) → last_below (keys_of ms) key ≡ true → all_below (keys_of ms) key ≡ true) → last_below (keys_of ms) (string_bytes k) ≡ true → (key : List ℕ) → last_below (keys_of (ms ++ (k, v) ∷ [])) key ≡ true → all_below (keys_of (ms ++ (k, v) ∷ [])) key ≡ true
+ordered_more ms k v h g key l =
+    let x = string_bytes k in
+    let here : is_lt (slice_cmp nat_cmp x key) ≡ true = sym (last_push (keys_of ms) x key) ∙ sym (ap (λ ks. last_below ks key) (keys_push ms k v)) ∙ l in
+    ap (λ ks. all_below ks key) (keys_push ms k v) ∙ below_push (keys_of ms) x key (below_trans (keys_of ms) x key (h x g) here) here

@@ -11,5 +11,6 @@ pub mod Foreign
 pub mod Bytes
 pub mod Keys
 pub mod Trees
+pub mod AtOnce
 pub mod Turns
 pub mod Rows

@@ -1,3 +1,4 @@
 pub mod Machine
 pub mod Places
 pub mod Entries
+pub mod AtOnce

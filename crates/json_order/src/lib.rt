@@ -13,6 +13,7 @@ mod place;
 mod quote;
 mod reading;
 mod step;
+mod taking;
 mod tree;
 mod word;
 

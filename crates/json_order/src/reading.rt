@@ -10,6 +10,7 @@ use crate::fault::{JsonFault, JsonKind};
 use crate::number::is_done;
 use crate::place::{Frame, Place};
 use crate::step::{DEPTH, turn};
+use crate::taking::take_run;
 use crate::tree::Tree;
 use std::alloc::Global;
 use std::str;
@@ -92,16 +93,23 @@ fn read_text(alloc: Global, text: &str) -> Result<Tree, JsonFault>
         Err(_) => return Err(fault_at(JsonKind::Memory, 0)),
     };
     let mut place = Place::Value;
-    let mut at = 0;
-    for c in text.chars() {
+    let mut chars = text.chars();
+    while let Some(c) = chars.next() {
+        let rest = chars.as_str();
         match turn(alloc, &mut place, &mut stack, c) {
-            Ok(()) => at += c.len_utf8(),
-            Err(kind) => return Err(fault_at(kind, at)),
+            Ok(()) => match take_run(&mut place, rest) {
+                Ok(after) => chars = after.chars(),
+                Err(kind) => return Err(fault_at(kind, 0)),
+            },
+            Err(kind) => {
+                let at = text.len() - rest.len() - c.len_utf8();
+                return Err(fault_at(kind, at));
+            }
         }
     }
     match value_at_end(place, &stack) {
         Some(tree) => Ok(tree),
-        None => Err(fault_at(JsonKind::End, at)),
+        None => Err(fault_at(JsonKind::End, text.len())),
     }
 }
 

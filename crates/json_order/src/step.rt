@@ -1,6 +1,7 @@
-ghost use Rattle.std.specs.Prelude.{List, ◌≡◌, ◌<◌, ◌++◌, [], ◌∷◌, Ok, IfOk, OnOk, IfErr, map, string_bytes};
+ghost use Rattle.std.specs.Prelude.{List, ◌≡◌, ◌<◌, ◌++◌, [], ◌∷◌, Ok, IsOk, IfOk, OnOk, IfErr, map, string_bytes};
 ghost use Rattle.std.specs.Bool.{OnTrue, OnFalse};
 ghost use Rattle.json_order.specs.declared.fault.JsonKind.TheVariants.{Memory};
+ghost use Rattle.json_order.specs.declared.place.Escape.TheVariants.{Outside};
 ghost use Rattle.json_order.specs.Fault.{strict};
 ghost use Rattle.json_order.specs.Grammar as grammar;
 ghost use Rattle.json_order.specs.Json.{array, no_items, object, no_members};
@@ -9,7 +10,7 @@ ghost use Rattle.json_order.specs.private.Places.{place_of, frames_of, state_of,
 ghost use Rattle.json_order.specs.Seen.{json_of, members_with};
 
 use crate::fault::JsonKind;
-use crate::members::{Members, with_member};
+use crate::members::{Members, add_last_member, with_member};
 use crate::number::{is_done, part_step};
 use crate::place::{Escape, Frame, Part, Place};
 use crate::quote::{Quote, quote_step};
@@ -28,33 +29,58 @@ fn is_space(c: char) -> bool
     matches!(c, ' ' | '\t' | '\n' | '\r')
 }
 
-/// A text of one ASCII character.
+/// Room for so many bytes is taken at once for a number: few are longer, and a smaller block costs as much.
+const NUMBER_ROOM: usize = 24;
+
+/// A number's text, of one ASCII character so far.
 fn one(alloc: Global, c: char) -> Result<String, JsonKind>
     requires { c < 128 }
     ensures ok { IfOk result (λ s. string_bytes s ≡ c ∷ []) }
     ensures err { IfErr result (λ k. k ≡ Memory) }
 {
-    let mut text = String::new(alloc);
+    let mut text = String::with_capacity(alloc, NUMBER_ROOM)?;
     text.push(c)?;
     Ok(text)
 }
 
+/// The reader goes on there.
+#[inline(always)]
+fn go_to(place: &mut Place, next: Place) -> Result<(), JsonKind>
+    ensures { IsOk result × (place.new ≡ next) }
+{
+    *place = next;
+    Ok(())
+}
+
+/// Behind the quote of a key.
+#[inline(always)]
+fn begin_key(alloc: Global, place: &mut Place, members: Members) -> Result<(), JsonKind>
+    ensures ok { IsOk result }
+    ensures place { place_of place.new ≡ in_key (entries_of members.list.items) [] Outside }
+{
+    go_to(
+        place,
+        Place::Key(members, String::new(alloc), Escape::Outside),
+    )
+}
+
 /// A value's first character.
-fn value_step(alloc: Global, stack: &Vec<Frame>, c: char) -> Result<Place, JsonKind>
-    ensures ok { IfOk result (λ p. judged strict (value_move (frames_of stack.now.items) c)
-        ≡ Ok (state_of p stack.now.items)) }
+#[inline(always)]
+fn value_step(alloc: Global, place: &mut Place, stack: &Vec<Frame>, c: char) -> Result<(), JsonKind>
+    ensures ok { OnOk result (judged strict (value_move (frames_of stack.now.items) c)
+        ≡ Ok (state_of place.new stack.now.items)) }
     ensures err { IfErr result (Says (judged strict (value_move (frames_of stack.now.items) c))) }
 {
     match c {
-        'n' => Ok(Place::Word(Word::Null, 1)),
-        't' => Ok(Place::Word(Word::True, 1)),
-        'f' => Ok(Place::Word(Word::False, 1)),
-        '"' => Ok(Place::Text(String::new(alloc), Escape::Outside)),
-        '-' => Ok(Place::Number(one(alloc, c)?, Part::Minus)),
-        '0' => Ok(Place::Number(one(alloc, c)?, Part::Zero)),
-        '1'..='9' => Ok(Place::Number(one(alloc, c)?, Part::Whole)),
-        '[' if stack.len() < DEPTH => Ok(Place::FirstItem),
-        '{' if stack.len() < DEPTH => Ok(Place::FirstKey),
+        'n' => go_to(place, Place::Word(Word::Null, 1)),
+        't' => go_to(place, Place::Word(Word::True, 1)),
+        'f' => go_to(place, Place::Word(Word::False, 1)),
+        '"' => go_to(place, Place::Text(String::new(alloc), Escape::Outside)),
+        '-' => go_to(place, Place::Number(one(alloc, c)?, Part::Minus)),
+        '0' => go_to(place, Place::Number(one(alloc, c)?, Part::Zero)),
+        '1'..='9' => go_to(place, Place::Number(one(alloc, c)?, Part::Whole)),
+        '[' if stack.len() < DEPTH => go_to(place, Place::FirstItem),
+        '{' if stack.len() < DEPTH => go_to(place, Place::FirstKey),
         '[' | '{' => Err(JsonKind::Depth),
         _ => Err(JsonKind::Syntax),
     }
@@ -62,14 +88,15 @@ fn value_step(alloc: Global, stack: &Vec<Frame>, c: char) -> Result<Place, JsonK
 
 /// Behind an item of a list.
 fn item_step(
+    place: &mut Place,
     stack: &mut Vec<Frame>,
     mut items: Vec<Tree>,
     value: Tree,
     c: char,
-) -> Result<Place, JsonKind>
-    ensures ok { IfOk result
-        (λ p. judged strict (next_move (json_of value) (in_list (map json_of items.items)
-        ∷ frames_of stack.old.items) c) ≡ Ok (state_of p stack.new.items)) }
+) -> Result<(), JsonKind>
+    ensures ok { OnOk result (judged strict (next_move (json_of value)
+        (in_list (map json_of items.items) ∷ frames_of stack.old.items) c)
+        ≡ Ok (state_of place.new stack.new.items)) }
     ensures err { IfErr result (Says (judged strict (next_move (json_of value)
         (in_list (map json_of items.items) ∷ frames_of stack.old.items) c))) }
 {
@@ -77,66 +104,106 @@ fn item_step(
         ',' => {
             items.push(value)?;
             stack.push(Frame::List(items))?;
-            Ok(Place::Value)
+            go_to(place, Place::Value)
         }
         ']' => {
-            items.push(value)?;
-            Ok(Place::Behind(Tree::List(items)))
+            add_last(&mut items, value)?;
+            go_to(place, Place::Behind(Tree::List(items)))
         }
         _ => Err(JsonKind::Syntax),
     }
 }
 
-/// The object of these members.
-fn object_of(members: Members) -> Tree
-    ensures { json_of result ≡ object (members_with (entries_of members.list.items) no_members) }
+/// Adds a list's last item. Where it is the only one, room is taken for it alone.
+fn add_last(items: &mut Vec<Tree>, value: Tree) -> Result<(), JsonKind>
+    ensures ok { OnOk result (items.new.items ≡ items.old.items ++ value ∷ []) }
+    ensures err { IfErr result (λ k. k ≡ Memory) }
 {
-    let Members { list, keys: _ } = members;
+    if items.is_empty() {
+        items.reserve_exact(1)?;
+    }
+    items.push(value)?;
+    Ok(())
+}
+
+/// The object of these members.
+fn object_of(list: Vec<(String, Tree)>) -> Tree
+    ensures { json_of result ≡ object (members_with (entries_of list.items) no_members) }
+{
     Tree::Object(list)
 }
 
+/// The object of these members and a last one.
+fn whole_object(members: Members, key: String, value: Tree) -> Result<Tree, JsonKind>
+    ensures ok { IfOk result (λ t. json_of t ≡ object (members_with
+        (entries_of (members.list.items ++ (key, value) ∷ [])) no_members)) }
+    ensures err { IfErr result (λ k. k ≡ Memory) }
+{
+    let Members {
+        mut list,
+        keys: _,
+        ascending: _,
+    } = members;
+    add_last_member(&mut list, key, value)?;
+    Ok(object_of(list))
+}
+
 /// Behind the value of a member of an object.
-fn member_step(members: Members, key: String, value: Tree, c: char) -> Result<Place, JsonKind>
-    ensures ok { IfOk result (λ p. (fs : List StackFrame) → judged strict
+fn member_step(
+    place: &mut Place,
+    members: Members,
+    key: String,
+    value: Tree,
+    c: char,
+) -> Result<(), JsonKind>
+    ensures ok { OnOk result ((fs : List StackFrame) → judged strict
         (next_move (json_of value) (in_object (entries_of members.list.items)
-        (string_bytes key) ∷ fs) c) ≡ Ok (state (place_of p) fs)) }
+        (string_bytes key) ∷ fs) c) ≡ Ok (state (place_of place.new) fs)) }
     ensures err { IfErr result (λ k. (fs : List StackFrame) → Says (judged strict (next_move
         (json_of value) (in_object (entries_of members.list.items) (string_bytes key) ∷ fs) c)) k) }
 {
     match c {
-        ',' => Ok(Place::NextKey(with_member(members, key, value)?)),
-        '}' => Ok(Place::Behind(object_of(with_member(members, key, value)?))),
+        ',' => go_to(place, Place::NextKey(with_member(members, key, value)?)),
+        '}' => go_to(place, Place::Behind(whole_object(members, key, value)?)),
         _ => Err(JsonKind::Syntax),
     }
 }
 
 /// Behind a value and its white space.
-fn next_step(stack: &mut Vec<Frame>, value: Tree, c: char) -> Result<Place, JsonKind>
-    ensures ok { IfOk result
-        (λ p. judged strict (next_move (json_of value) (frames_of stack.old.items) c)
-        ≡ Ok (state_of p stack.new.items)) }
+fn next_step(
+    place: &mut Place,
+    stack: &mut Vec<Frame>,
+    value: Tree,
+    c: char,
+) -> Result<(), JsonKind>
+    ensures ok { OnOk result (judged strict (next_move (json_of value) (frames_of stack.old.items) c)
+        ≡ Ok (state_of place.new stack.new.items)) }
     ensures err { IfErr result
         (Says (judged strict (next_move (json_of value) (frames_of stack.old.items) c))) }
 {
     match stack.pop() {
         None => Err(JsonKind::Syntax),
-        Some(Frame::List(items)) => item_step(stack, items, value, c),
-        Some(Frame::Object(members, key)) => member_step(members, key, value, c),
+        Some(Frame::List(items)) => item_step(place, stack, items, value, c),
+        Some(Frame::Object(members, key)) => member_step(place, members, key, value, c),
     }
 }
 
 /// Behind a value.
-fn behind_step(stack: &mut Vec<Frame>, value: Tree, c: char) -> Result<Place, JsonKind>
-    ensures ok { IfOk result
-        (λ p. judged strict (behind_move (json_of value) (frames_of stack.old.items) c)
-        ≡ Ok (state_of p stack.new.items)) }
+fn behind_step(
+    place: &mut Place,
+    stack: &mut Vec<Frame>,
+    value: Tree,
+    c: char,
+) -> Result<(), JsonKind>
+    ensures ok { OnOk result (judged strict (behind_move (json_of value) (frames_of stack.old.items) c)
+        ≡ Ok (state_of place.new stack.new.items)) }
     ensures err { IfErr result
         (Says (judged strict (behind_move (json_of value) (frames_of stack.old.items) c))) }
 {
     if is_space(c) {
-        return Ok(Place::Behind(value));
+        return go_to(place, Place::Behind(value));
     }
-    next_step(stack, value, c)
+    next_step(place, stack, value, c)
 }
 
 /// A list without items.
@@ -147,90 +214,110 @@ fn empty_list(alloc: Global) -> Tree
 }
 
 /// Behind a `[`.
-fn first_item_step(alloc: Global, stack: &mut Vec<Frame>, c: char) -> Result<Place, JsonKind>
-    ensures ok { IfOk result (λ p. judged strict (move at_first_item (frames_of stack.old.items) c)
-        ≡ Ok (state_of p stack.new.items)) }
+fn first_item_step(
+    alloc: Global,
+    place: &mut Place,
+    stack: &mut Vec<Frame>,
+    c: char,
+) -> Result<(), JsonKind>
+    requires { place_of place.old ≡ at_first_item }
+    ensures ok { OnOk result (judged strict (move at_first_item (frames_of stack.old.items) c)
+        ≡ Ok (state_of place.new stack.new.items)) }
     ensures err { IfErr result
         (Says (judged strict (move at_first_item (frames_of stack.old.items) c))) }
 {
     if is_space(c) {
-        return Ok(Place::FirstItem);
+        return Ok(());
     }
     if c == ']' {
-        return Ok(Place::Behind(empty_list(alloc)));
+        return go_to(place, Place::Behind(empty_list(alloc)));
     }
     stack.push(Frame::List(Vec::new(alloc)))?;
-    value_step(alloc, stack, c)
+    value_step(alloc, place, stack, c)
 }
 
 /// Behind a `{`.
-fn first_key_step(alloc: Global, c: char) -> Result<Place, JsonKind>
-    ensures ok { IfOk result (λ p. (fs : List StackFrame) → judged strict (move at_first_key fs c)
-        ≡ Ok (state (place_of p) fs)) }
+fn first_key_step(alloc: Global, place: &mut Place, c: char) -> Result<(), JsonKind>
+    ensures ok { OnOk result ((fs : List StackFrame) → judged strict (move at_first_key fs c)
+        ≡ Ok (state (place_of place.new) fs)) }
     ensures err { IfErr result (λ k. (fs : List StackFrame)
         → Says (judged strict (move at_first_key fs c)) k) }
 {
     match c {
-        ' ' | '\t' | '\n' | '\r' => Ok(Place::FirstKey),
-        '"' => Ok(Place::Key(Members::new(alloc), String::new(alloc), Escape::Outside)),
-        '}' => Ok(Place::Behind(Tree::Object(Vec::new(alloc)))),
+        ' ' | '\t' | '\n' | '\r' => go_to(place, Place::FirstKey),
+        '"' => begin_key(alloc, place, Members::new(alloc)),
+        '}' => go_to(place, Place::Behind(Tree::Object(Vec::new(alloc)))),
         _ => Err(JsonKind::Syntax),
     }
 }
 
 /// Behind a comma in an object.
-fn next_key_step(alloc: Global, members: Members, c: char) -> Result<Place, JsonKind>
-    ensures ok { IfOk result (λ p. (fs : List StackFrame)
+fn next_key_step(
+    alloc: Global,
+    place: &mut Place,
+    members: Members,
+    c: char,
+) -> Result<(), JsonKind>
+    ensures ok { OnOk result ((fs : List StackFrame)
         → judged strict (move (at_next_key (entries_of members.list.items)) fs c)
-        ≡ Ok (state (place_of p) fs)) }
+        ≡ Ok (state (place_of place.new) fs)) }
     ensures err { IfErr result (λ k. (fs : List StackFrame)
         → Says (judged strict (move (at_next_key (entries_of members.list.items)) fs c)) k) }
 {
     match c {
-        ' ' | '\t' | '\n' | '\r' => Ok(Place::NextKey(members)),
-        '"' => Ok(Place::Key(members, String::new(alloc), Escape::Outside)),
+        ' ' | '\t' | '\n' | '\r' => go_to(place, Place::NextKey(members)),
+        '"' => begin_key(alloc, place, members),
         _ => Err(JsonKind::Syntax),
     }
 }
 
 /// In a key.
 #[inline(always)]
-fn key_step(members: Members, text: String, escape: Escape, c: char) -> Result<Place, JsonKind>
+fn key_step(
+    place: &mut Place,
+    members: Members,
+    mut text: String,
+    mut escape: Escape,
+    c: char,
+) -> Result<(), JsonKind>
     requires fine { IsFine escape }
-    ensures ok { IfOk result (λ p. (fs : List StackFrame)
+    ensures ok { OnOk result ((fs : List StackFrame)
         → judged strict (move (in_key (entries_of members.list.items)
-        (string_bytes text) escape) fs c) ≡ Ok (state (place_of p) fs)) }
+        (string_bytes text) escape) fs c) ≡ Ok (state (place_of place.new) fs)) }
     ensures err { IfErr result (λ k. (fs : List StackFrame) → Says (judged strict
         (move (in_key (entries_of members.list.items) (string_bytes text) escape) fs c)) k) }
 {
-    match quote_step(text, escape, c)? {
-        Quote::Going(text, escape) => Ok(Place::Key(members, text, escape)),
-        Quote::Closed(key) => {
-            if members.has(key.as_str()) {
+    match quote_step(&mut text, &mut escape, c)? {
+        Quote::Going => go_to(place, Place::Key(members, text, escape)),
+        Quote::Closed => {
+            if members.has(text.as_str()) {
                 return Err(JsonKind::Duplicate);
             }
-            Ok(Place::Colon(members, key))
+            *place = Place::Colon(members, text);
+            Ok(())
         }
     }
 }
 
 /// Behind a key.
 fn colon_step(
+    place: &mut Place,
     stack: &mut Vec<Frame>,
     members: Members,
     key: String,
     c: char,
-) -> Result<Place, JsonKind>
-    ensures ok { IfOk result (λ p. judged strict (move (behind_key (entries_of members.list.items)
-        (string_bytes key)) (frames_of stack.old.items) c) ≡ Ok (state_of p stack.new.items)) }
+) -> Result<(), JsonKind>
+    ensures ok { OnOk result (judged strict (move (behind_key (entries_of members.list.items)
+        (string_bytes key)) (frames_of stack.old.items) c)
+        ≡ Ok (state_of place.new stack.new.items)) }
     ensures err { IfErr result (Says (judged strict (move (behind_key
         (entries_of members.list.items) (string_bytes key)) (frames_of stack.old.items) c))) }
 {
     match c {
-        ' ' | '\t' | '\n' | '\r' => Ok(Place::Colon(members, key)),
+        ' ' | '\t' | '\n' | '\r' => go_to(place, Place::Colon(members, key)),
         ':' => {
             stack.push(Frame::Object(members, key))?;
-            Ok(Place::Value)
+            go_to(place, Place::Value)
         }
         _ => Err(JsonKind::Syntax),
     }
@@ -238,41 +325,47 @@ fn colon_step(
 
 /// In a string.
 #[inline(always)]
-fn text_step(text: String, escape: Escape, c: char) -> Result<Place, JsonKind>
+fn text_step(
+    place: &mut Place,
+    mut text: String,
+    mut escape: Escape,
+    c: char,
+) -> Result<(), JsonKind>
     requires fine { IsFine escape }
-    ensures ok { IfOk result (λ p. (fs : List StackFrame)
+    ensures ok { OnOk result ((fs : List StackFrame)
         → judged strict (move (in_string (string_bytes text) escape) fs c)
-        ≡ Ok (state (place_of p) fs)) }
+        ≡ Ok (state (place_of place.new) fs)) }
     ensures err { IfErr result (λ k. (fs : List StackFrame)
         → Says (judged strict (move (in_string (string_bytes text) escape) fs c)) k) }
 {
-    match quote_step(text, escape, c)? {
-        Quote::Going(text, escape) => Ok(Place::Text(text, escape)),
-        Quote::Closed(text) => Ok(Place::Behind(Tree::Text(text))),
+    match quote_step(&mut text, &mut escape, c)? {
+        Quote::Going => go_to(place, Place::Text(text, escape)),
+        Quote::Closed => go_to(place, Place::Behind(Tree::Text(text))),
     }
 }
 
 /// In a number, which ends where a character does not go on with it.
 #[inline(always)]
 fn number_step(
+    place: &mut Place,
     stack: &mut Vec<Frame>,
     mut text: String,
     part: Part,
     c: char,
-) -> Result<Place, JsonKind>
-    ensures ok { IfOk result (λ p. judged strict (move (in_number (string_bytes text) part)
-        (frames_of stack.old.items) c) ≡ Ok (state_of p stack.new.items)) }
+) -> Result<(), JsonKind>
+    ensures ok { OnOk result (judged strict (move (in_number (string_bytes text) part)
+        (frames_of stack.old.items) c) ≡ Ok (state_of place.new stack.new.items)) }
     ensures err { IfErr result (Says
         (judged strict (move (in_number (string_bytes text) part) (frames_of stack.old.items) c))) }
 {
     match part_step(part, c) {
         Some(next) => {
             text.push(c)?;
-            Ok(Place::Number(text, next))
+            go_to(place, Place::Number(text, next))
         }
         None => {
             if is_done(part) {
-                return behind_step(stack, Tree::Number(text), c);
+                return behind_step(place, stack, Tree::Number(text), c);
             }
             Err(JsonKind::Syntax)
         }
@@ -280,71 +373,119 @@ fn number_step(
 }
 
 /// In a word.
-fn word_step(stack: &mut Vec<Frame>, word: Word, read: usize, c: char) -> Result<Place, JsonKind>
-    ensures ok { IfOk result (λ p. judged strict (move (in_word (letters_from word read)
-        (value_of word)) (frames_of stack.old.items) c) ≡ Ok (state_of p stack.new.items)) }
+fn word_step(
+    place: &mut Place,
+    stack: &mut Vec<Frame>,
+    word: Word,
+    read: usize,
+    c: char,
+) -> Result<(), JsonKind>
+    ensures ok { OnOk result (judged strict (move (in_word (letters_from word read)
+        (value_of word)) (frames_of stack.old.items) c)
+        ≡ Ok (state_of place.new stack.new.items)) }
     ensures err { IfErr result (Says (judged strict
         (move (in_word (letters_from word read) (value_of word)) (frames_of stack.old.items) c))) }
 {
     match word.letter(read) {
         Some(letter) => {
             if c == letter {
-                return Ok(Place::Word(word, read + 1));
+                return go_to(place, Place::Word(word, read + 1));
             }
             Err(JsonKind::Syntax)
         }
-        None => behind_step(stack, word.tree(), c),
+        None => behind_step(place, stack, word.tree(), c),
     }
 }
 
-/// The place once c follows; the stack holds what is open around it. On an error the stack is left as it may be.
+/// The place and the stack once c follows. What the place holds is moved out of it field by field.
 #[inline(always)]
-fn step(alloc: Global, place: Place, stack: &mut Vec<Frame>, c: char) -> Result<Place, JsonKind>
-    requires fine { IsFinePlace (place_of place) }
-    ensures ok { IfOk result (λ p. machine_step strict (state_of place stack.old.items) c
-        ≡ Ok (state_of p stack.new.items)) }
-    ensures err { IfErr result (Says (machine_step strict (state_of place stack.old.items) c)) }
+fn step(alloc: Global, place: &mut Place, stack: &mut Vec<Frame>, c: char) -> Result<(), JsonKind>
+    requires fine { IsFinePlace (place_of place.old) }
+    ensures ok { OnOk result (machine_step strict (state_of place.old stack.old.items) c
+        ≡ Ok (state_of place.new stack.new.items)) }
+    ensures err { IfErr result (Says (machine_step strict (state_of place.old stack.old.items) c)) }
 {
     match place {
         Place::Value => {
             if is_space(c) {
-                return Ok(Place::Value);
+                return Ok(());
             }
-            value_step(alloc, stack, c)
+            value_step(alloc, place, stack, c)
         }
-        Place::FirstItem => first_item_step(alloc, stack, c),
-        Place::Behind(value) => behind_step(stack, value, c),
-        Place::FirstKey => first_key_step(alloc, c),
-        Place::NextKey(members) => next_key_step(alloc, members, c),
-        Place::Key(members, text, escape) => key_step(members, text, escape, c),
-        Place::Colon(members, key) => colon_step(stack, members, key, c),
-        Place::Text(text, escape) => text_step(text, escape, c),
-        Place::Number(text, part) => number_step(stack, text, part, c),
-        Place::Word(word, read) => word_step(stack, word, read, c),
+        Place::FirstItem => first_item_step(alloc, place, stack, c),
+        Place::Behind(value) => {
+            let value = mem::replace(value, Tree::Null);
+            behind_step(place, stack, value, c)
+        }
+        Place::FirstKey => first_key_step(alloc, place, c),
+        Place::NextKey(members) => {
+            let members = mem::replace(members, Members::new(alloc));
+            next_key_step(alloc, place, members, c)
+        }
+        Place::Key(members, text, escape) => {
+            let escape = *escape;
+            let members = mem::replace(members, Members::new(alloc));
+            let text = mem::replace(text, String::new(alloc));
+            key_step(place, members, text, escape, c)
+        }
+        Place::Colon(members, key) => {
+            let members = mem::replace(members, Members::new(alloc));
+            let key = mem::replace(key, String::new(alloc));
+            colon_step(place, stack, members, key, c)
+        }
+        Place::Text(text, escape) => {
+            let escape = *escape;
+            let text = mem::replace(text, String::new(alloc));
+            text_step(place, text, escape, c)
+        }
+        Place::Number(text, part) => {
+            let part = *part;
+            let text = mem::replace(text, String::new(alloc));
+            number_step(place, stack, text, part, c)
+        }
+        Place::Word(word, read) => {
+            let word = *word;
+            let read = *read;
+            word_step(place, stack, word, read, c)
+        }
     }
 }
 
-/// In a string and in no escape, where c stands for itself: takes it in place and says so. Elsewhere nothing changes.
+/// Takes c into a word that goes on with it, and says so. Behind the word's last letter nothing changes.
+fn take_letter(word: Word, read: &mut usize, c: char) -> Result<bool, JsonKind>
+    ensures taken { IfOk result (λ b. OnTrue b (letters_from word read.old
+        ≡ c ∷ letters_from word read.new)) }
+    ensures not_taken { IfOk result (λ b. OnFalse b ((letters_from word read.old ≡ [])
+        × (read.new ≡ read.old))) }
+    ensures err { IfErr result (λ k. (fs : List StackFrame) → Says (judged strict
+        (move (in_word (letters_from word read.old) (value_of word)) fs c)) k) }
+{
+    match word.letter(*read) {
+        Some(letter) => {
+            if c != letter {
+                return Err(JsonKind::Syntax);
+            }
+            *read += 1;
+            Ok(true)
+        }
+        None => Ok(false),
+    }
+}
+
+/// Takes c in place and says so, where the reader goes on in a word or in white space. Elsewhere nothing changes. On an
+/// error the place is left as it may be.
 #[inline(always)]
-fn take_plain(place: &mut Place, c: char) -> Result<bool, JsonKind>
+fn take_inside(place: &mut Place, c: char) -> Result<bool, JsonKind>
     ensures taken { IfOk result (λ b. OnTrue b ((fs : List StackFrame)
         → machine_step strict (state (place_of place.old) fs) c
         ≡ Ok (state (place_of place.new) fs))) }
     ensures not_taken { IfOk result (λ b. OnFalse b (place.new ≡ place.old)) }
-    ensures err { IfErr result (λ k. k ≡ Memory) }
+    ensures err { IfErr result (λ k. (fs : List StackFrame)
+        → Says (machine_step strict (state (place_of place.old) fs) c) k) }
 {
-    if c < ' ' || c == '"' || c == '\\' {
-        return Ok(false);
-    }
     match place {
-        Place::Text(text, Escape::Outside) => {
-            text.push(c)?;
-            Ok(true)
-        }
-        Place::Key(_, text, Escape::Outside) => {
-            text.push(c)?;
-            Ok(true)
-        }
+        Place::Word(word, read) => take_letter(*word, read, c),
+        Place::Value | Place::Behind(_) => Ok(is_space(c)),
         _ => Ok(false),
     }
 }
@@ -361,10 +502,9 @@ pub(crate) fn turn(
         ≡ Ok (state_of place.new stack.new.items)) }
     ensures err { IfErr result (Says (machine_step strict (state_of place.old stack.old.items) c)) }
 {
-    if take_plain(place, c)? {
-        return Ok(());
+    match take_inside(place, c) {
+        Ok(true) => Ok(()),
+        Ok(false) => step(alloc, place, stack, c),
+        Err(kind) => Err(kind),
     }
-    let before = mem::replace(place, Place::Value);
-    *place = step(alloc, before, stack, c)?;
-    Ok(())
 }

@@ -12,6 +12,7 @@ use Rattle.json_order.specs.declared.word.Word.{Word}
 use Rattle.json_order.specs.declared.word.Word.TheVariants.{Null, True, False}
 use Rattle.json_order.specs.declared.place.Place.{Place as CodePlace}
 use Rattle.json_order.specs.declared.place.Place.TheVariants.{Value, FirstItem, Behind, FirstKey, NextKey, Key, Colon, Text, Number, Word as WordPlace}
+use Rattle.json_order.specs.declared.place.Escape.{Escape}
 use Rattle.json_order.specs.declared.place.Frame.{Frame as CodeFrame}
 use Rattle.json_order.specs.declared.place.Frame.TheVariants.{List as ListFrame, Object as ObjectFrame}
 use Rattle.json_order.specs.declared.quote.Quote.{Quote as CodeQuote}
@@ -28,9 +29,10 @@ value_of Null = null
 value_of True = boolean true
 value_of False = boolean false
 
-abbrev pub quote_of : CodeQuote → Quote
-quote_of (Going s e) = going (string_bytes s) e
-quote_of (Closed s) = closed (string_bytes s)
+-- a string with this text and this much of an escape
+abbrev pub quote_of : CodeQuote → String Global → Escape → Quote
+quote_of Going s e = going (string_bytes s) e
+quote_of Closed s e = closed (string_bytes s)
 
 -- a kind where a string does not go on
 abbrev pub Misses : {A : Type 0} → Option A → JsonKind → Type 0

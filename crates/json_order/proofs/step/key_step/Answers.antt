@@ -7,12 +7,12 @@ use Rattle.json_order.proofs.step.key_step.Goals as goal
 
 pub returns-then-has-clause-err : goal.returns-then-has-clause-err
 returns-then-has-clause-err c = λ fs.
-    let e : quote_step (string_bytes c.args.text) c.args.escape c.args.c ≡ Some (closed (string_bytes c.in-Closed.key)) = search rules in
-    let h : has_key (keys_of c.args.members.list.items) (string_bytes c.in-Closed.key) ≡ true = search rules in
-    key_repeats c.args.members.list.items fs (quote_step (string_bytes c.args.text) c.args.escape c.args.c) (string_bytes c.in-Closed.key) e h
+    let e : quote_step (string_bytes c.args.text) c.args.escape c.args.c ≡ Some (closed (string_bytes c.quote_step.new.text)) = search rules in
+    let h : has_key (keys_of c.args.members.list.items) (string_bytes c.quote_step.new.text) ≡ true = search rules in
+    key_repeats c.args.members.list.items fs (quote_step (string_bytes c.args.text) c.args.escape c.args.c) (string_bytes c.quote_step.new.text) e h
 
 pub returns-else-has-clause-ok : goal.returns-else-has-clause-ok
 returns-else-has-clause-ok c = λ fs.
-    let e : quote_step (string_bytes c.args.text) c.args.escape c.args.c ≡ Some (closed (string_bytes c.in-Closed.key)) = search rules in
-    let h : has_key (keys_of c.args.members.list.items) (string_bytes c.in-Closed.key) ≡ false = search rules in
-    key_follows c.args.members.list.items fs (quote_step (string_bytes c.args.text) c.args.escape c.args.c) (string_bytes c.in-Closed.key) e h
+    let e : quote_step (string_bytes c.args.text) c.args.escape c.args.c ≡ Some (closed (string_bytes c.quote_step.new.text)) = search rules in
+    let h : has_key (keys_of c.args.members.list.items) (string_bytes c.quote_step.new.text) ≡ false = search rules in
+    key_follows c.args.members.list.items fs (quote_step (string_bytes c.args.text) c.args.escape c.args.c) (string_bytes c.quote_step.new.text) e h

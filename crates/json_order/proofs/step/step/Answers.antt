@@ -8,4 +8,6 @@ at_frames (Ok x) P fs h = h
 at_frames (Err k) P fs h = h fs
 
 pub returns-in-Key-clause-err : goal.returns-in-Key-clause-err
-returns-in-Key-clause-err c = rw c.in-Key.is (at_frames c.key_step.result _ (frames_of c.args.stack.now.items) c.key_step.ensures.err)
+returns-in-Key-clause-err c =
+    let h = rw (c.replace-members-in-Key.ensures.value, c.replace-text.ensures.value) at c.key_step.ensures.err in
+    rw c.in-Key.is (at_frames c.key_step.result _ (frames_of c.args.stack.now.items) h)

@@ -1,0 +1,133 @@
+ghost use Rattle.std.specs.Prelude.{◌≡◌, true, ◌<◌, ◌≤◌, Some, IfOk, IfErr, length, take, slice_index, string_bytes};
+ghost use Rattle.std.specs.List.{All};
+ghost use Rattle.json_order.specs.declared.fault.JsonKind.TheVariants.{Memory};
+ghost use Rattle.json_order.specs.Grammar as grammar;
+ghost use Rattle.json_order.specs.private.Places.{place_of};
+ghost use Rattle.json_order.specs.private.AtOnce.{Takes, TakesQuoted, MovesPlain, parts_after};
+ghost use Rattle.json_order.specs.private.Machine.{IsFine, IsFinePlace, in_number};
+
+use crate::fault::JsonKind;
+use crate::number::part_step;
+use crate::place::{Escape, Part, Place};
+use crate::quote::{Quote, quote_step};
+
+/// A byte that stands for itself in a string: from the space on, and no quote or backslash.
+#[inline(always)]
+fn is_plain(byte: u8) -> bool
+    ensures { result ≡ grammar.is_plain byte }
+{
+    byte >= b' ' && byte != b'"' && byte != b'\\'
+}
+
+/// How many bytes in front are plain.
+#[inline(always)]
+fn plain_len(bytes: &[u8]) -> usize
+    ensures within { result ≤ length bytes.now }
+    ensures plain { All (λ b. grammar.is_plain b ≡ true) (take result bytes.now) }
+    ensures ends { result < length bytes.now → slice_index bytes.now result < 128 }
+{
+    for (i, byte) in bytes.iter().enumerate() {
+        if !is_plain(*byte) {
+            return i;
+        }
+    }
+    bytes.len()
+}
+
+/// Moves the plain characters in front into the text, at once; what stands behind them.
+#[inline(always)]
+fn move_plain<'a>(text: &mut String, rest: &'a str) -> Result<&'a str, JsonKind>
+    ensures ok { IfOk result (λ after. MovesPlain (string_bytes text.old) (string_bytes text.new)
+        rest.now after.now) }
+    ensures err { IfErr result (λ k. k ≡ Memory) }
+{
+    let (front, after) = rest.split_at(plain_len(rest.as_bytes()));
+    text.push_str(front)?;
+    Ok(after)
+}
+
+/// The same where the string is in no escape; in one, nothing changes.
+#[inline(always)]
+fn move_outside<'a>(text: &mut String, escape: Escape, rest: &'a str) -> Result<&'a str, JsonKind>
+    ensures ok { IfOk result (λ after. TakesQuoted (string_bytes text.old) escape
+        (string_bytes text.new) escape rest.now after.now) }
+    ensures err { IfErr result (λ k. k ≡ Memory) }
+{
+    match escape {
+        Escape::Outside => move_plain(text, rest),
+        _ => Ok(rest),
+    }
+}
+
+/// Takes the characters in front that a string goes on with, at once; what stands behind them.
+fn take_quoted<'a>(
+    text: &mut String,
+    escape: &mut Escape,
+    rest: &'a str,
+) -> Result<&'a str, JsonKind>
+    requires fine { IsFine escape.old }
+    ensures ok { IfOk result (λ after. TakesQuoted (string_bytes text.old) escape.old
+        (string_bytes text.new) escape.new rest.now after.now) }
+    ensures err { IfErr result (λ k. k ≡ Memory) }
+{
+    let mut chars = rest.chars();
+    loop {
+        let left = move_outside(text, *escape, chars.as_str())?;
+        chars = left.chars();
+        match chars.next() {
+            None => return Ok(left),
+            Some(c) => match quote_step(text, escape, c) {
+                Ok(Quote::Going) => {}
+                Ok(Quote::Closed) => return Ok(left),
+                Err(JsonKind::Syntax) => return Ok(left),
+                Err(kind) => return Err(kind),
+            },
+        }
+    }
+}
+
+/// How many bytes in front go on with a number, and how far it is read behind them.
+#[inline(always)]
+fn number_run(bytes: &[u8], part: Part) -> (usize, Part)
+    ensures within { result.0 ≤ length bytes.now }
+    ensures read { parts_after part (take result.0 bytes.now) ≡ Some result.1 }
+{
+    let mut read = part;
+    for (i, byte) in bytes.iter().enumerate() {
+        match part_step(read, char::from(*byte)) {
+            Some(next) => read = next,
+            None => return (i, read),
+        }
+    }
+    (bytes.len(), read)
+}
+
+/// Takes the characters in front that a number goes on with, at once; what stands behind them.
+fn take_number<'a>(text: &mut String, part: &mut Part, rest: &'a str) -> Result<&'a str, JsonKind>
+    ensures ok { IfOk result (λ after. Takes (in_number (string_bytes text.old) part.old)
+        (in_number (string_bytes text.new) part.new) rest.now after.now) }
+    ensures err { IfErr result (λ k. k ≡ Memory) }
+{
+    let (len, next) = number_run(rest.as_bytes(), *part);
+    let (front, after) = rest.split_at(len);
+    text.push_str(front)?;
+    *part = next;
+    Ok(after)
+}
+
+/// Takes at once the characters in front that a string or a number goes on with; what stands behind them. On an error the
+/// place is left as it may be.
+#[inline(always)]
+pub(crate) fn take_run<'a>(place: &mut Place, rest: &'a str) -> Result<&'a str, JsonKind>
+    requires fine { IsFinePlace (place_of place.old) }
+    ensures ok { IfOk result (λ after. Takes (place_of place.old) (place_of place.new)
+        rest.now after.now) }
+    ensures err { IfErr result (λ k. k ≡ Memory) }
+{
+    match place {
+        Place::Text(text, escape) => take_quoted(text, escape, rest),
+        Place::Key(_, text, escape) => take_quoted(text, escape, rest),
+        Place::Number(text, part) => take_number(text, part, rest),
+        _ => Ok(rest),
+    }
+}
