@@ -20,3 +20,5 @@ pub mod Unturned
 pub mod Finding
 pub mod Homing
 pub mod Charged
+pub mod Due
+pub mod Sliding
