@@ -21,4 +21,5 @@ pub mod Finding
 pub mod Homing
 pub mod Charged
 pub mod Due
+pub mod Firsts
 pub mod Sliding

@@ -17,6 +17,8 @@ pub(crate) const NEVER: u64 = u64::MAX;
 #[derive(Drop)]
 pub(crate) struct Timers {
     due: Vec<u64>,
+    // The first of them.
+    first: u64,
 }
 
 impl Model for Timers {
@@ -27,7 +29,7 @@ impl Model for Timers {
 
     ghost view = { λ t. t.due.items };
 
-    ghost invariant = { λ t. AreTimers t.due.items (vec_capacity t.due) };
+    ghost invariant = { λ t. AreTimers t.due.items (vec_capacity t.due) t.first };
 }
 
 fn least_of(times: &[u64]) -> u64
@@ -40,6 +42,22 @@ fn least_of(times: &[u64]) -> u64
     least
 }
 
+// The first time, where one has changed. All are looked at only where it was the first, and is later now.
+fn first_after(due: &[u64], place: usize, before: u64, first: u64) -> u64
+    requires there { place < length due.now }
+    requires first { first ≡ min before (spec.others due.now place) }
+    ensures { result ≡ spec.least due.now }
+{
+    let now = due[place];
+    if now <= first {
+        return now;
+    }
+    if first < before {
+        return first;
+    }
+    least_of(due)
+}
+
 impl Timers {
     /// Of no tasks. No other call takes memory.
     pub(crate) fn open(alloc: Global) -> Result<Timers, NoMemory>
@@ -47,6 +65,7 @@ impl Timers {
     {
         Ok(Timers {
             due: Vec::with_capacity(alloc, MOST)?,
+            first: NEVER,
         })
     }
 
@@ -63,7 +82,9 @@ impl Timers {
         requires { place < length self.old }
         ensures { self.new ≡ slice_set self.old place due }
     {
+        let before = self.due[place];
         self.due[place] = due;
+        self.first = first_after(&self.due, place, before, self.first);
     }
 
     /// One task more at the end of the list.
@@ -72,6 +93,7 @@ impl Timers {
         ensures { self.new ≡ self.old ++ due ∷ [] }
     {
         self.due.push_reserved(due);
+        self.first = self.first.min(due);
     }
 
     /// Of no tasks.
@@ -79,13 +101,14 @@ impl Timers {
         ensures { self.new ≡ [] }
     {
         self.due.clear();
+        self.first = NEVER;
     }
 
     /// The first time at which a task is due.
     pub(crate) fn least(&self) -> u64
         ensures { result ≡ spec.least self.now }
     {
-        least_of(&self.due)
+        self.first
     }
 
     /// The ticks from a time to the first at which a task is due, at most 2^42 - 1.

@@ -1,5 +1,5 @@
 -- When something is to be done to a task before the choice, for the code's own contracts.
-use Rattle.std.specs.Prelude.{ℕ, ◌≡◌, ◌-◌, ◌^◌, ◌≤◌, min, List, [], ◌∷◌, length, slice_index_or, slice_set, Option, Some, None}
+use Rattle.std.specs.Prelude.{ℕ, zero, suc, ◌≡◌, ◌-◌, ◌^◌, ◌≤◌, min, List, [], ◌∷◌, length, slice_index_or, slice_set, Option, Some, None}
 use Rattle.domain_run.specs.declared.task.Task.{Task}
 use Rattle.domain_run.specs.Jump.{replenished_at, asks_at, gone_at}
 
@@ -17,10 +17,17 @@ abbrev pub least : List ℕ → ℕ
 least [] = 2 ^ 64 - 1
 least (due ∷ more) = min due (least more)
 
--- what the timers of a list keep: room for 256 tasks
-pub record AreTimers (due : List ℕ) (capacity : ℕ) : Type 0 where
+-- the first of those at all places but one
+abbrev pub others : List ℕ → ℕ → ℕ
+others [] place = 2 ^ 64 - 1
+others (due ∷ more) zero = least more
+others (due ∷ more) (suc place) = min due (others more place)
+
+-- what the timers of a list keep: room for 256 tasks, and the first time
+pub record AreTimers (due : List ℕ) (capacity first : ℕ) : Type 0 where
   pub few : length due ≤ 256
   pub room : 256 ≤ capacity
+  pub first_is : first ≡ least due
 
 -- the task at a place has changed, and no other
 pub record IsStep (f : Task → Task) (place : ℕ) (old new : List Task) : Type 0 where
