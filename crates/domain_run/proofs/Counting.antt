@@ -2,12 +2,13 @@
 use Rattle.std.proofs.Common.{◌≡◌, ◌≢◌, ℕ, ◌+◌, ◌*◌, ◌^◌, ◌<◌, ◌≤◌, Bool, true, false, cond, Option, Some, None, List, [], ◌∷◌, ◌++◌, length, take, drop, set, get_or, map, refl, sym, ap, subst, ◌∙◌, arith, inl, inr, length-append, not}
 use Rattle.std.specs.Prelude.{AllPairs, IfSome, filter, is_none, ◌&&◌}
 use Rattle.std.proofs.lemmas.Bool.{cases_eq}
-use Rattle.std.proofs.lemmas.List.{append-nil, map-append, length-map, length-take, length-drop, length-set, get_or-map, get_or_default, get_or-set_same, get_or-set_other}
+use Rattle.std.proofs.lemmas.List.{append-nil, map-append, length-map, length-take, length-drop, length-set, map-set, get_or-map, get_or_default, get_or-set_same, get_or-set_other}
 use Rattle.std.proofs.lemmas.List.Elements.{All-set, All-map, All-filter, filter-append}
 use Rattle.std.proofs.lemmas.List.Sums.{sum_by-le, get_or-le-sum_by}
 use Rattle.std.proofs.lemmas.List.Kept.{AllPairs-filter}
 use Rattle.grub_rules.specs.declared.share.Share.{Share}
 use Rattle.std.proofs.Math.Nat.{mul-le-mul}
+use Rattle.std.proofs.Math.Seq.{map-set_same}
 use Rattle.attr_check.specs.Ratio.{cap}
 use Rattle.grub_rules.specs.Sums.{total_bw, uinact}
 use Rattle.grub_rules.specs.Accounts.{AccountsView, AreAccounts, Exchanges, inactive_at}
@@ -19,6 +20,7 @@ use Rattle.domain_run.specs.declared.task.Task.{Task}
 use Rattle.domain_run.specs.declared.run_queue.RunQueue.{RunQueue}
 use Rattle.domain_run.specs.Conditions.{is_ready, is_contending, is_leaving}
 use Rattle.domain_run.specs.Tick.{share_of, shares, sum_of, candidate_of, candidates}
+use Rattle.domain_run.specs.private.Timers.{due_of}
 use Rattle.domain_run.specs.private.RunQueue.{ready_of, standing_of, Counts, IsRoster, IsCounted, with_ready, without_ready, MayTurn, HasTurned}
 use Rattle.edf_pick.specs.Places.{Places, placed}
 use Rattle.domain_run.specs.declared.task.Condition.{Condition}
@@ -140,7 +142,7 @@ same_fit cpus queue tasks i d y h same is = record {
 pub ended_same : (time : ℕ) (t : Task) → Same t (ended time t)
 ended_same time t = same_either (is_contending t.condition) t _ _ (record { number = refl; params = refl; cpu = refl }) (record { number = refl; params = refl; cpu = refl })
 
-pub may_turn : (cpus : ℕ) (queue : RunQueue) (tasks : List Task) (i : ℕ) (d y : Task) → i < length tasks → IsFit cpus (get_or tasks i d) y → IsCounted cpus queue tasks → MayTurn queue (standing_of (get_or tasks i d)) (standing_of y)
+pub may_turn : (cpus : ℕ) (queue : RunQueue) (tasks : List Task) (i : ℕ) (d y : Task) → i < length tasks → IsFit cpus (get_or tasks i d) y → IsCounted cpus queue tasks → MayTurn i queue (standing_of (get_or tasks i d)) (standing_of y)
 may_turn cpus queue tasks i d y h fit is =
     let short = fit.short in
     let s = split tasks i d y h fit.number is.roster in
@@ -148,7 +150,9 @@ may_turn cpus queue tasks i d y h fit is =
     let back = drop (i + 1) tasks in
     let order = is.counts.order ∙ ap ordered s.was in
     let rest : without_ready (ready_of (get_or tasks i d)) queue.ready ≡ ordered (candidates front ++ candidates back) = ap (without_ready (ready_of (get_or tasks i d))) order ∙ without_one (ready_of (get_or tasks i d)) (candidates front) (candidates back) s.numbered in
+    let timers : length (map due_of tasks) ≡ length tasks = simp length-map in
     record {
+      within = omega (arith, h, timers, ap (λ (ds : List ℕ). length ds) is.counts.due);
       held = held_at share_of queue.accounts tasks i d h is.counts.sums;
       home = subst (λ n. y.cpu < n) (sym is.wide) fit.home;
       fits = omega (arith, is.counts.sums.total, total_short tasks is.roster);
@@ -156,7 +160,7 @@ may_turn cpus queue tasks i d y h fit is =
       absent = rw rest (absent_one (ready_of y) (candidates front) (candidates back) s.turned);
     }
 
-pub turned : (cpus : ℕ) (queue new : RunQueue) (tasks : List Task) (i : ℕ) (d y : Task) → i < length tasks → IsFit cpus (get_or tasks i d) y → HasTurned (standing_of (get_or tasks i d)) (standing_of y) queue new → IsCounted cpus queue tasks → IsCounted cpus new (set tasks i y)
+pub turned : (cpus : ℕ) (queue new : RunQueue) (tasks : List Task) (i : ℕ) (d y : Task) → i < length tasks → IsFit cpus (get_or tasks i d) y → HasTurned i (standing_of (get_or tasks i d)) (standing_of y) queue new → IsCounted cpus queue tasks → IsCounted cpus new (set tasks i y)
 turned cpus queue new tasks i d y h fit has is =
     let t = get_or tasks i d in
     let s = split tasks i d y h fit.number is.roster in
@@ -173,6 +177,10 @@ turned cpus queue new tasks i d y h fit has is =
           | inr e ↦ e ∙ ap (λ q. with_ready (ready_of y) (without_ready (ready_of t) q)) order
               ∙ ap (with_ready (ready_of y)) (without_one (ready_of t) (candidates front) (candidates back) s.numbered)
               ∙ with_one (ready_of y) (candidates front) (candidates back) s.turned ∙ sym (ap ordered now)
+        ];
+        due = elim has.due [
+          | inl kept ↦ kept.1 ∙ is.counts.due ∙ sym (map-set_same due_of tasks i y d (sym kept.0))
+          | inr e ↦ e ∙ ap (λ (ds : List ℕ). set ds i (due_of y)) is.counts.due ∙ sym (map-set due_of tasks i y)
         ];
       };
       roster = roster_set tasks i d y fit.number fit.short is.roster;
@@ -214,10 +222,10 @@ candidates_listed (t ∷ tasks) =
     ] refl
 
 -- tasks that have left go off the list, and their bandwidth goes back
-pub counted_listed : (cpus : ℕ) (queue new : RunQueue) (tasks : List Task) → length new.accounts.all ≡ length queue.accounts.all → new.ready ≡ queue.ready → AreAccounts new.accounts (shares (filter is_listed tasks)) → IsCounted cpus queue tasks → IsCounted cpus new (filter is_listed tasks)
-counted_listed cpus queue new tasks wide ready sums is = record {
+pub counted_listed : (cpus : ℕ) (queue new : RunQueue) (tasks : List Task) → length new.accounts.all ≡ length queue.accounts.all → new.ready ≡ queue.ready → new.timers ≡ map due_of (filter is_listed tasks) → AreAccounts new.accounts (shares (filter is_listed tasks)) → IsCounted cpus queue tasks → IsCounted cpus new (filter is_listed tasks)
+counted_listed cpus queue new tasks wide ready due sums is = record {
   wide = wide ∙ is.wide;
-  counts = record { sums = sums; order = ready ∙ is.counts.order ∙ sym (ap ordered (candidates_listed tasks)) };
+  counts = record { sums = sums; order = ready ∙ is.counts.order ∙ sym (ap ordered (candidates_listed tasks)); due = due };
   roster = record {
     few = omega (arith, length-filter_least is_listed tasks, is.roster.few);
     short = All-filter is_listed (λ (t : Task). t.params.bw ≤ 2 ^ 26) tasks is.roster.short;
@@ -250,10 +258,11 @@ pub counted_all : (d : Domain) (queue : RunQueue) → IsDomain d → length queu
 counted_all d queue is wide counts = subst (λ n. IsCounted n queue d.tasks) (sym wide) (counted_in d queue is wide counts)
 
 -- a task at the end of the list that is not ready
-pub counts_push : (queue new : RunQueue) (tasks : List Task) (t : Task) → is_ready t.condition ≡ false → new.ready ≡ queue.ready → t.cpu < length queue.accounts.all → Exchanges queue.accounts new.accounts [] (share_of t ∷ []) → Counts queue tasks → Counts new (tasks ++ t ∷ [])
-counts_push queue new tasks t idle same home joins is =
+pub counts_push : (queue new : RunQueue) (tasks : List Task) (t : Task) → is_ready t.condition ≡ false → new.ready ≡ queue.ready → new.timers ≡ queue.timers ++ due_of t ∷ [] → t.cpu < length queue.accounts.all → Exchanges queue.accounts new.accounts [] (share_of t ∷ []) → Counts queue tasks → Counts new (tasks ++ t ∷ [])
+counts_push queue new tasks t idle same due home joins is =
     let none : candidates (t ∷ []) ≡ [] = candidates_first t [] ∙ rw idle refl in
     record {
       sums = joined_last share_of queue.accounts new.accounts tasks t home joins is.sums;
       order = same ∙ is.order ∙ sym (ap ordered (candidates_append tasks (t ∷ []) ∙ ap (λ cs. candidates tasks ++ cs) none ∙ append-nil (candidates tasks)));
+      due = due ∙ ap (λ (ds : List ℕ). ds ++ due_of t ∷ []) is.due ∙ sym (map-append due_of tasks (t ∷ []));
     }

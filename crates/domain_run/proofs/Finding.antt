@@ -92,15 +92,15 @@ pub record IsFound (cpus : ℕ) (queue : RunQueue) (tasks : List Task) (n p : �
   pub fit : IsFit cpus x (f x)
   pub counted : IsCounted cpus queue tasks
 
-pub found_may : (cpus : ℕ) (queue : RunQueue) (tasks : List Task) (n p : ℕ) (x : Task) (f : Task → Task) → IsFound cpus queue tasks n p x f → MayTurn queue (standing_of x) (standing_of (f x))
+pub found_may : (cpus : ℕ) (queue : RunQueue) (tasks : List Task) (n p : ℕ) (x : Task) (f : Task → Task) → IsFound cpus queue tasks n p x f → MayTurn p queue (standing_of x) (standing_of (f x))
 found_may cpus queue tasks n p x f is =
     let fit : IsFit cpus (get_or tasks p x) (f x) = subst (λ u. IsFit cpus u (f x)) is.read is.fit in
-    subst (λ u. MayTurn queue (standing_of u) (standing_of (f x))) (sym is.read) (may_turn cpus queue tasks p x (f x) is.at.within fit is.counted)
+    subst (λ u. MayTurn p queue (standing_of u) (standing_of (f x))) (sym is.read) (may_turn cpus queue tasks p x (f x) is.at.within fit is.counted)
 
-pub found_turned : (cpus : ℕ) (queue new : RunQueue) (tasks : List Task) (n p : ℕ) (x y : Task) (f : Task → Task) → y ≡ f x → HasTurned (standing_of x) (standing_of y) queue new → IsFound cpus queue tasks n p x f → IsCounted cpus new (set tasks p y)
+pub found_turned : (cpus : ℕ) (queue new : RunQueue) (tasks : List Task) (n p : ℕ) (x y : Task) (f : Task → Task) → y ≡ f x → HasTurned p (standing_of x) (standing_of y) queue new → IsFound cpus queue tasks n p x f → IsCounted cpus new (set tasks p y)
 found_turned cpus queue new tasks n p x y f same has is =
     let fit : IsFit cpus (get_or tasks p x) y = subst (λ u. IsFit cpus u y) is.read (subst (IsFit cpus x) (sym same) is.fit) in
-    turned cpus queue new tasks p x y is.at.within fit (subst (λ u. HasTurned (standing_of u) (standing_of y) queue new) is.read has) is.counted
+    turned cpus queue new tasks p x y is.at.within fit (subst (λ u. HasTurned p (standing_of u) (standing_of y) queue new) is.read has) is.counted
 
 pub found_set : (cpus : ℕ) (queue : RunQueue) (tasks : List Task) (n p : ℕ) (x y : Task) (f : Task → Task) → y ≡ f x → IsFound cpus queue tasks n p x f → set tasks p y ≡ map (of_number n f) tasks
 found_set cpus queue tasks n p x y f same is = ap (set tasks p) (same ∙ ap f is.read) ∙ sym (map_at f n tasks p x is.counted.roster.numbered is.at)

@@ -87,13 +87,13 @@ map_twice g f h (x ∷ xs) all =
     let more = map_twice g f h xs rest in
     λ i. first i ∷ more i
 
-filter_whole : {X : Type 0} (p : X → Bool) (xs : List X) → All (λ x. p x ≡ true) xs → filter p xs ≡ xs
+pub filter_whole : {X : Type 0} (p : X → Bool) (xs : List X) → All (λ x. p x ≡ true) xs → filter p xs ≡ xs
 filter_whole p [] all = refl
 filter_whole p (x ∷ xs) all =
     let rest : All (λ y. p y ≡ true) xs = λ k d h. all (suc k) d (omega arith) in
     ap (λ b. cond b (x ∷ filter p xs) (filter p xs)) (all zero x (omega arith)) ∙ ap (λ ys. x ∷ ys) (filter_whole p xs rest)
 
-prepared_still : (time : ℕ) (tasks : List Task) → All (IsStill time) tasks → prepared time tasks ≡ tasks
+pub prepared_still : (time : ℕ) (tasks : List Task) → All (IsStill time) tasks → prepared time tasks ≡ tasks
 prepared_still time tasks still =
     let due : map (replenish_due time) tasks ≡ tasks = map_itself (replenish_due time) tasks (λ k d h. let t = get_or tasks k d in rw (still k d h).due refl) in
     let lag : map (settled time) tasks ≡ tasks = map_itself (settled time) tasks (λ k d h. let t = get_or tasks k d in rw (still k d h).lag refl) in

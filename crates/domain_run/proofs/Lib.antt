@@ -20,3 +20,6 @@ pub mod Unturned
 pub mod Finding
 pub mod Homing
 pub mod Charged
+pub mod Due
+pub mod Firsts
+pub mod Sliding

@@ -82,7 +82,7 @@ running_there e k i d numbered h at =
     let t = get_or e.tasks k d in
     ap (running_if e) (there e.places t.number i at).at ∙ ap (option_map (running_of e)) (find_here e.tasks k d numbered h)
 
-is_Ready : (c : Condition) → IsTrue (is_ready c) → c ≡ Ready
+pub is_Ready : (c : Condition) → IsTrue (is_ready c) → c ≡ Ready
 is_Ready Ready h = refl
 is_Ready Throttled h = absurd cc
 is_Ready (Blocked u) h = absurd cc

@@ -2,3 +2,4 @@ pub mod Numbers
 pub mod RunQueue
 pub mod Paying
 pub mod Index
+pub mod Timers

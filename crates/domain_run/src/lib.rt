@@ -19,6 +19,7 @@ mod state;
 mod sweep;
 mod switch;
 mod task;
+mod timers;
 mod turning;
 
 pub use call::{Call, Refused, Reply};

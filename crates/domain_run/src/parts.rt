@@ -10,6 +10,7 @@ ghost use Rattle.domain_run.specs.Calls as calls;
 ghost use Rattle.domain_run.specs.Domain.{Domain};
 ghost use Rattle.domain_run.specs.Parts as parts;
 ghost use Rattle.domain_run.specs.private.Paying.{ran_until};
+ghost use Rattle.domain_run.specs.private.Timers as timers;
 ghost use Rattle.domain_run.specs.Jump as jump;
 ghost use Rattle.domain_run.specs.script.Segments.{IsSegment, next_ask};
 ghost use Rattle.domain_run.specs.Bounds.{IsServed};
@@ -21,6 +22,7 @@ use crate::running::Running;
 use crate::script::{Script, Segment};
 use crate::switch::PrevState;
 use crate::task::{Condition, Task, TaskView};
+use crate::timers::NEVER;
 use attr_check::Params;
 use cbs_rules::Server;
 use edf_pick::Candidate;
@@ -34,12 +36,12 @@ pub(crate) fn has_come(time: u64, moment: Option<u64>) -> bool
     }
 }
 
-fn ticks_to(time: u64, moment: Option<u64>) -> u64
-    ensures { result ≡ jump.ticks_to time moment }
+fn moment_of(moment: Option<u64>) -> u64
+    ensures { result ≡ timers.moment_of moment }
 {
     match moment {
-        None => (1 << 42) - 1,
-        Some(moment) => moment.saturating_sub(time),
+        None => NEVER,
+        Some(moment) => moment,
     }
 }
 
@@ -288,9 +290,9 @@ pub(crate) fn run_until(task: &mut Task, time: u64, ticks: u64, left: i128)
     after_charge(task, time);
 }
 
-/// The ticks from a time to the first at which something is to be done to a task before the choice.
-pub(crate) fn rest_of(task: &Task, time: u64) -> u64
-    ensures { result ≡ jump.rest_of time task.now }
+/// The first time at which something is to be done to a task before the choice.
+pub(crate) fn due_of(task: &Task) -> u64
+    ensures { result ≡ timers.due_of task.now }
 {
     let replenished = if task.condition.is_throttled() {
         task.server.deadline
@@ -298,8 +300,8 @@ pub(crate) fn rest_of(task: &Task, time: u64) -> u64
         None
     };
     let gone = if is_listed(task) { None } else { Some(0) };
-    let served = ticks_to(time, replenished).min(ticks_to(time, task.zero_lag));
-    served.min(ticks_to(time, task.condition.asks_at()).min(ticks_to(time, gone)))
+    let served = moment_of(replenished).min(moment_of(task.zero_lag));
+    served.min(moment_of(task.condition.asks_at()).min(moment_of(gone)))
 }
 
 /// A running task as a jump sees it.

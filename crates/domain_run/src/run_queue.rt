@@ -1,5 +1,5 @@
-//! What a domain keeps of its tasks beside their list: the running sums of their bandwidth, and the ready ones in the order of the
-//! choice. So a tick neither sums nor sorts.
+//! What a domain keeps of its tasks beside their list: the running sums of their bandwidth, the ready ones in the order of the
+//! choice, and when each is due. So a tick neither sums nor sorts, and looks at those alone that are due.
 
 ghost use Rattle.std.specs.Prelude.{◌≡◌, ◌<◌, [], length, IfOk, IfSome, false};
 ghost use Rattle.edf_pick.specs.Order.{has_candidate};
@@ -9,15 +9,18 @@ ghost use Rattle.domain_run.specs.Tick as tick_spec;
 use crate::memory::NoMemory;
 use crate::parts;
 use crate::task::Task;
+use crate::timers::Timers;
 use edf_pick::{Candidate, Queue};
 use grub_rules::{Accounts, Share};
 use std::alloc::Global;
 
-/// A task as the sums see it, and as the choice does where it is ready.
+/// A task as the sums see it, as the choice does where it is ready, and when it is due.
 #[derive(Clone, Copy, Debug, PartialEq, Eq)]
 pub(crate) struct Standing {
     pub(crate) share: Share,
     pub(crate) ready: Option<Candidate>,
+    /// The first time at which something is to be done to it before the choice, in microseconds.
+    pub(crate) due: u64,
 }
 
 /// A task as the sums see it.
@@ -38,14 +41,16 @@ pub(crate) fn standing_of(task: &Task) -> Standing
     Standing {
         share: share_of(task),
         ready: task.condition.is_ready().then(|| parts::candidate_of(task)),
+        due: parts::due_of(task),
     }
 }
 
-/// The running sums and the ordered queue of a domain.
+/// The running sums, the ordered queue and the timers of a domain.
 #[derive(Drop)]
 pub(crate) struct RunQueue {
     pub(crate) accounts: Accounts,
     pub(crate) ready: Queue,
+    pub(crate) timers: Timers,
 }
 
 fn replace(queue: &mut Queue, before: Option<Candidate>, after: Option<Candidate>)
@@ -70,17 +75,21 @@ impl RunQueue {
         Ok(RunQueue {
             accounts: Accounts::open(alloc, cpus)?,
             ready: Queue::open(alloc)?,
+            timers: Timers::open(alloc)?,
         })
     }
 
-    /// A task that is counted stood as `before`, and stands as `after` now.
-    pub(crate) fn turn(&mut self, before: Standing, after: Standing)
-        requires { spec.MayTurn self.old before after }
-        ensures { spec.HasTurned before after self.old self.new }
+    /// The task at a place of the list stood as `before`, and stands as `after` now.
+    pub(crate) fn turn(&mut self, place: usize, before: Standing, after: Standing)
+        requires { spec.MayTurn place self.old before after }
+        ensures { spec.HasTurned place before after self.old self.new }
     {
         self.accounts.track(&before.share, &after.share);
         if before.ready != after.ready {
             replace(&mut self.ready, before.ready, after.ready);
+        }
+        if before.due != after.due {
+            self.timers.set(place, after.due);
         }
     }
 }

@@ -183,6 +183,17 @@ impl Script {
     }
 }
 
+// The remainder; nearly all places are in the first round, and need no division.
+fn remainder(place: u128, round: u128) -> u128
+    requires { 0 < round }
+    ensures { result ≡ place % round }
+{
+    if place < round {
+        return place;
+    }
+    place % round
+}
+
 fn phase_len_of(phase: &Phase) -> u128
     requires { IsPhase phase.now }
     ensures len { result ≡ phase_len phase.now }
@@ -197,7 +208,7 @@ fn event_in_phase(phase: &Phase, place: u128) -> Option<Event>
     ensures value { result ≡ slice_get phase.now.events (place % length phase.now.events) }
     ensures event { IfSome result IsEvent }
 {
-    let index = (place % (phase.events.len() as u128)) as usize;
+    let index = remainder(place, phase.events.len() as u128) as usize;
     Some(phase.events[index])
 }
 
@@ -251,7 +262,7 @@ fn event_of(script: &Script, place: u128) -> Option<Event>
     {
         return None;
     }
-    event_in_round(&script.phases, place % round)
+    event_in_round(&script.phases, remainder(place, round))
 }
 
 #[tactic(auto, using(crate::proofs::Unrolling::behind_within, crate::proofs::Unrolling::behind_place))]
@@ -264,7 +275,7 @@ fn place_behind(script: &Script, place: u128) -> u128
 {
     let round = round_len_of(&script.phases);
     match script.rounds {
-        None => (place + 1) % round,
+        None => remainder(place + 1, round),
         Some(_) => place + 1,
     }
 }

@@ -45,7 +45,7 @@ pub struct State {
     used: Numbers,
     places: Placement,
     switches: Vec<Switch>,
-    // The running sums of the listed tasks, and the ready ones in order.
+    // The running sums of the listed tasks, the ready ones in order, and when each is due.
     queue: RunQueue,
     // Where the tasks of the list are, by their numbers.
     index: Index,
@@ -186,6 +186,7 @@ impl State {
         let task = parts::new_task(number, name, params, self.time + delay, script, self.cpus);
         self.used.insert(number);
         self.queue.accounts.join(&share_of(&task));
+        self.queue.timers.push(parts::due_of(&task));
         self.index.note(number, self.tasks.len());
         self.tasks.push_reserved(task);
     }

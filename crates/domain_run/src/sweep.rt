@@ -10,16 +10,37 @@ ghost use Rattle.domain_run.specs.Tick as tick_spec;
 ghost use Rattle.domain_run.specs.Calls as calls;
 ghost use Rattle.domain_run.specs.private.RunQueue.{IsCounted};
 ghost use Rattle.domain_run.specs.private.Paying.{MayPay, MayPayIf, paid, ran_until};
+ghost use Rattle.domain_run.specs.private.Timers.{IsStep};
+ghost use Rattle.domain_run.specs.private.Timers as timers_spec;
 ghost use Rattle.domain_run.specs.Jump as jump;
 
 use crate::index::Index;
 use crate::run_queue::{RunQueue, share_of};
 use crate::switch::Switch;
 use crate::task::Task;
+use crate::timers::Timers;
 use crate::{parts, turning};
 use attr_check::Params;
 use edf_pick::Placement;
 use grub_rules::Accounts;
+
+/// Part 1, of the task at a place: one that is not due is not looked at.
+fn replenish_at(tasks: &mut Vec<Task>, queue: &mut RunQueue, place: usize, time: u64)
+    requires there { place < length tasks.old.items }
+    requires early { time < 2 ^ 42 }
+    requires sound { All (IsSound time) tasks.old.items }
+    requires counted { IsCounted (length queue.old.accounts.all) queue.old tasks.old.items }
+    ensures step { IsStep (parts_spec.replenish_due time) place tasks.old.items tasks.new.items }
+    ensures sound { All (IsSound time) tasks.new.items }
+    ensures counted { IsCounted (length queue.old.accounts.all) queue.new tasks.new.items }
+    ensures len { vec_len tasks.new ≡ vec_len tasks.old }
+    ensures room { vec_capacity tasks.new ≡ vec_capacity tasks.old }
+{
+    if !queue.timers.is_due(place, time) {
+        return;
+    }
+    turning::replenish(&mut tasks[place], queue, place, time);
+}
 
 /// Part 1: replenishment.
 fn replenish_all(tasks: &mut Vec<Task>, queue: &mut RunQueue, time: u64)
@@ -32,9 +53,26 @@ fn replenish_all(tasks: &mut Vec<Task>, queue: &mut RunQueue, time: u64)
     ensures len { vec_len tasks.new ≡ vec_len tasks.old }
     ensures room { vec_capacity tasks.new ≡ vec_capacity tasks.old }
 {
-    for task in tasks.iter_mut() {
-        turning::replenish(task, queue, time);
+    for place in 0..tasks.len() {
+        replenish_at(tasks, queue, place, time);
     }
+}
+
+/// Part 2, of the task at a place.
+fn settle_at(tasks: &mut Vec<Task>, queue: &mut RunQueue, place: usize, time: u64)
+    requires there { place < length tasks.old.items }
+    requires sound { All (IsSound time) tasks.old.items }
+    requires counted { IsCounted (length queue.old.accounts.all) queue.old tasks.old.items }
+    ensures step { IsStep (parts_spec.settled time) place tasks.old.items tasks.new.items }
+    ensures sound { All (IsSound time) tasks.new.items }
+    ensures counted { IsCounted (length queue.old.accounts.all) queue.new tasks.new.items }
+    ensures len { vec_len tasks.new ≡ vec_len tasks.old }
+    ensures room { vec_capacity tasks.new ≡ vec_capacity tasks.old }
+{
+    if !queue.timers.is_due(place, time) {
+        return;
+    }
+    turning::settle(&mut tasks[place], queue, place, time);
 }
 
 /// Part 2: zero-lag times that have come.
@@ -47,8 +85,8 @@ fn settle_all(tasks: &mut Vec<Task>, queue: &mut RunQueue, time: u64)
     ensures len { vec_len tasks.new ≡ vec_len tasks.old }
     ensures room { vec_capacity tasks.new ≡ vec_capacity tasks.old }
 {
-    for task in tasks.iter_mut() {
-        turning::settle(task, queue, time);
+    for place in 0..tasks.len() {
+        settle_at(tasks, queue, place, time);
     }
 }
 
@@ -75,7 +113,18 @@ fn note_left(index: &mut Index, tasks: &[Task], before: usize) {
     }
 }
 
-/// Part 2: tasks that have left go off the list.
+// When each task of a list is due.
+fn set_timers(timers: &mut Timers, tasks: &[Task])
+    requires { length tasks.now ≤ 256 }
+    ensures { timers.new ≡ map timers_spec.due_of tasks.now }
+{
+    timers.clear();
+    for task in tasks {
+        timers.push(parts::due_of(task));
+    }
+}
+
+/// Part 2: tasks that have left go off the list. They are due at once.
 fn drop_left(tasks: &mut Vec<Task>, queue: &mut RunQueue, index: &mut Index)
     requires { IsCounted (length queue.old.accounts.all) queue.old tasks.old.items }
     ensures tasks { tasks.new.items ≡ filter parts_spec.is_listed tasks.old.items }
@@ -83,10 +132,32 @@ fn drop_left(tasks: &mut Vec<Task>, queue: &mut RunQueue, index: &mut Index)
     ensures few { vec_len tasks.new ≤ vec_len tasks.old }
     ensures room { vec_capacity tasks.new ≡ vec_capacity tasks.old }
 {
+    if queue.timers.least() > 0 {
+        return;
+    }
     let before = tasks.len();
     part_left(&mut queue.accounts, tasks);
     tasks.retain(|task| parts::is_listed(task));
+    set_timers(&mut queue.timers, tasks);
     note_left(index, tasks, before);
+}
+
+/// Part 3, of the task at a place.
+fn unblock_at(tasks: &mut Vec<Task>, queue: &mut RunQueue, place: usize, time: u64)
+    requires there { place < length tasks.old.items }
+    requires early { time < 2 ^ 42 }
+    requires sound { All (IsSound time) tasks.old.items }
+    requires counted { IsCounted (length queue.old.accounts.all) queue.old tasks.old.items }
+    ensures step { IsStep (parts_spec.unblocked time) place tasks.old.items tasks.new.items }
+    ensures sound { All (IsSound time) tasks.new.items }
+    ensures counted { IsCounted (length queue.old.accounts.all) queue.new tasks.new.items }
+    ensures len { vec_len tasks.new ≡ vec_len tasks.old }
+    ensures room { vec_capacity tasks.new ≡ vec_capacity tasks.old }
+{
+    if !queue.timers.is_due(place, time) {
+        return;
+    }
+    turning::unblock(&mut tasks[place], queue, place, time);
 }
 
 /// Part 3: tasks whose time of blocking is over.
@@ -100,12 +171,12 @@ fn unblock_all(tasks: &mut Vec<Task>, queue: &mut RunQueue, time: u64)
     ensures len { vec_len tasks.new ≡ vec_len tasks.old }
     ensures room { vec_capacity tasks.new ≡ vec_capacity tasks.old }
 {
-    for task in tasks.iter_mut() {
-        turning::unblock(task, queue, time);
+    for place in 0..tasks.len() {
+        unblock_at(tasks, queue, place, time);
     }
 }
 
-/// Parts 1 to 3.
+/// Parts 1 to 3. Mostly no task is due, and then they have nothing to do.
 fn wake_all(tasks: &mut Vec<Task>, queue: &mut RunQueue, index: &mut Index, time: u64)
     requires early { time < 2 ^ 42 }
     requires sound { All (IsSound time) tasks.old.items }
@@ -116,6 +187,9 @@ fn wake_all(tasks: &mut Vec<Task>, queue: &mut RunQueue, index: &mut Index, time
     ensures few { vec_len tasks.new ≤ vec_len tasks.old }
     ensures room { vec_capacity tasks.new ≡ vec_capacity tasks.old }
 {
+    if queue.timers.least() > time {
+        return;
+    }
     replenish_all(tasks, queue, time);
     settle_all(tasks, queue, time);
     drop_left(tasks, queue, index);
@@ -132,7 +206,7 @@ fn home_one(tasks: &mut Vec<Task>, queue: &mut RunQueue, index: &Index, number: 
     ensures room { vec_capacity tasks.new ≡ vec_capacity tasks.old }
 {
     if let Some(place) = index.place(tasks, number) {
-        turning::home(&mut tasks[place], queue, cpu);
+        turning::home(&mut tasks[place], queue, place, cpu);
     }
 }
 
@@ -267,7 +341,7 @@ fn pay_one(
     ensures room { vec_capacity tasks.new ≡ vec_capacity tasks.old }
 {
     if let Some(place) = index.place(tasks, number) {
-        turning::pay(&mut tasks[place], queue, i, budgets, ticks, time);
+        turning::pay(&mut tasks[place], queue, place, i, budgets, ticks, time);
     }
 }
 
@@ -296,18 +370,6 @@ pub(crate) fn pay_all(
     }
 }
 
-/// The ticks from a time to the first at which something is to be done to any task before the choice.
-pub(crate) fn rest(tasks: &[Task], time: u64) -> u64
-    ensures rest { result ≡ jump.rest time tasks.now }
-    ensures most { result ≤ 2 ^ 42 - 1 }
-{
-    let mut rest = (1 << 42) - 1;
-    for task in tasks {
-        rest = parts::rest_of(task, time).min(rest);
-    }
-    rest
-}
-
 /// A regrade of the task of a number.
 pub(crate) fn regrade_one(
     tasks: &mut Vec<Task>,
@@ -324,7 +386,7 @@ pub(crate) fn regrade_one(
     ensures room { vec_capacity tasks.new ≡ vec_capacity tasks.old }
 {
     if let Some(place) = index.place(tasks, number) {
-        turning::regrade(&mut tasks[place], queue, params);
+        turning::regrade(&mut tasks[place], queue, place, params);
     }
 }
 
@@ -343,7 +405,7 @@ pub(crate) fn release_one(
     ensures room { vec_capacity tasks.new ≡ vec_capacity tasks.old }
 {
     if let Some(place) = index.place(tasks, number) {
-        turning::release(&mut tasks[place], queue, time);
+        turning::release(&mut tasks[place], queue, place, time);
     }
 }
 
@@ -364,6 +426,6 @@ pub(crate) fn end_one(
     ensures room { vec_capacity tasks.new ≡ vec_capacity tasks.old }
 {
     if let Some(place) = index.place(tasks, number) {
-        turning::end(&mut tasks[place], queue, time);
+        turning::end(&mut tasks[place], queue, place, time);
     }
 }

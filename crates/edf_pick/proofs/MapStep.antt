@@ -7,7 +7,7 @@ use Rattle.std.proofs.lemmas.List.Edits.{map_over_more}
 length_kept : {X : Type 0} (f : X → X) (xs ys : List X) (i : ℕ) → i < length xs → ys ≡ map f (take i xs) ++ drop i xs → i < length ys
 length_kept f xs ys i h e = rw e (simp (length-append, length-map, length-take, length-drop) (omega arith))
 
-same_rest : {X : Type 0} (f : X → X) (xs ys : List X) (i : ℕ) (x : X) → i < length xs → ys ≡ map f (take i xs) ++ drop i xs → get_or ys i x ≡ get_or xs i x
+pub same_rest : {X : Type 0} (f : X → X) (xs ys : List X) (i : ℕ) (x : X) → i < length xs → ys ≡ map f (take i xs) ++ drop i xs → get_or ys i x ≡ get_or xs i x
 same_rest f xs ys i x h e =
     let a : length (map f (take i xs)) ≡ i = simp (length-map, length-take) (omega arith) in
     let b : i ≤ i = omega arith in

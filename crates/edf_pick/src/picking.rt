@@ -1,13 +1,13 @@
 //! The choice and the placement, read off a queue: its first tasks are the chosen ones.
 
-ghost use Rattle.std.specs.Prelude.{◌≡◌, ◌==◌, map, take, vec_len};
+ghost use Rattle.std.specs.Prelude.{◌≡◌, ◌==◌, ◌≤◌, map, take, vec_len, length, IsTrue};
 ghost use Rattle.std.specs.List.{list_any};
 ghost use Rattle.edf_pick.specs.private.First as spec;
 ghost use Rattle.edf_pick.specs.Order.{IsRising};
 ghost use Rattle.edf_pick.specs.Places.{placed};
 
 use crate::candidate::Candidate;
-use crate::seats::seat;
+use crate::seats::{is_at_home, seat};
 
 fn first_of(queue: &[Candidate], cpus: usize) -> &[Candidate]
     ensures { result.now ≡ take cpus queue.now }
@@ -30,12 +30,39 @@ fn staying(chosen: &[Candidate], occupant: Option<u32>) -> Option<u32>
     }
 }
 
+// The CPUs on which a chosen task stands and to which it belongs, which are nearly all: one look for each task.
+fn marks_of(places: &[Option<u32>], chosen: &[Candidate]) -> [bool; 64]
+    requires { length places.now ≤ 64 }
+    ensures { spec.AreStaying chosen.now places.now result }
+{
+    let mut marks = [false; 64];
+    for c in chosen {
+        if is_at_home(places, c) {
+            marks[c.home] = true;
+        }
+    }
+    marks
+}
+
+// As `staying`; where the occupant is known to stay, without a look at the chosen tasks.
+fn staying_at(chosen: &[Candidate], occupant: Option<u32>, is_marked: bool) -> Option<u32>
+    requires { IsTrue is_marked → spec.staying chosen.now occupant ≡ occupant }
+    ensures { result ≡ spec.staying chosen.now occupant }
+{
+    if is_marked {
+        return occupant;
+    }
+    staying(chosen, occupant)
+}
+
 fn keep(places: &mut Vec<Option<u32>>, chosen: &[Candidate])
+    requires { vec_len places.old ≤ 64 }
     ensures places { places.new.items ≡ map (spec.staying chosen.now) places.old.items }
     ensures len { vec_len places.new ≡ vec_len places.old }
 {
-    for occupant in places.iter_mut() {
-        *occupant = staying(chosen, *occupant);
+    let marks = marks_of(places, chosen);
+    for cpu in 0..places.len() {
+        places[cpu] = staying_at(chosen, places[cpu], marks[cpu]);
     }
 }
 
@@ -49,7 +76,8 @@ fn seat_all(places: &mut Vec<Option<u32>>, chosen: &[Candidate])
 }
 
 pub(crate) fn pick_from(places: &mut Vec<Option<u32>>, queue: &[Candidate])
-    requires { IsRising queue.now }
+    requires rising { IsRising queue.now }
+    requires few { vec_len places.old ≤ 64 }
     ensures places { places.new.items ≡ placed (vec_len places.old) queue.now places.old.items }
     ensures len { vec_len places.new ≡ vec_len places.old }
 {

@@ -1,7 +1,7 @@
-//! A seat for a task: it stays where it stands, else it goes to the CPU to which it belongs where that is free, else to the lowest
+//! A seat for a task: it stays where it stands, which is mostly where it belongs, else it goes to the CPU to which it belongs where that is free, else to the lowest
 //! free one.
 
-ghost use Rattle.std.specs.Prelude.{◌≡◌, map, vec_len, vec_capacity, is_none, slice_get, position};
+ghost use Rattle.std.specs.Prelude.{◌≡◌, map, vec_len, vec_capacity, is_none, slice_get, position, IsTrue, true, Some, None, length, slice_index_or, ◌<◌};
 ghost use Rattle.edf_pick.specs.Places as spec;
 
 use crate::candidate::Candidate;
@@ -11,6 +11,15 @@ pub fn stands(number: u32, places: &[Option<u32>]) -> bool
     ensures { result ≡ spec.stands number places.now }
 {
     places.iter().any(|occupant| *occupant == Some(number))
+}
+
+/// Whether a task stands on the CPU to which it belongs.
+pub(crate) fn is_at_home(places: &[Option<u32>], c: &Candidate) -> bool
+    ensures within { IsTrue result → c.now.home < length places.now }
+    ensures at { IsTrue result → slice_index_or places.now c.now.home None ≡ Some c.now.number }
+    ensures stands { IsTrue result → spec.stands c.now.number places.now ≡ true }
+{
+    c.home < places.len() && places[c.home] == Some(c.number)
 }
 
 fn is_free(places: &[Option<u32>], cpu: usize) -> bool
@@ -39,7 +48,7 @@ pub(crate) fn seat(places: &mut Vec<Option<u32>>, c: &Candidate)
     ensures len { vec_len places.new ≡ vec_len places.old }
     ensures room { vec_capacity places.new ≡ vec_capacity places.old }
 {
-    if stands(c.number, places) {
+    if is_at_home(places, c) || stands(c.number, places) {
         return;
     }
     if let Some(cpu) = seat_of(places, c)

@@ -4,9 +4,9 @@ ghost use Rattle.std.specs.Prelude.{◌≡◌, ◌<◌, ◌≤◌, ◌^◌, ◌*
 ghost use Rattle.domain_run.specs.Jump as jump;
 ghost use Rattle.jump_run.specs.Plan.{AreGathered};
 
-use crate::plan::{Room, Span, plan_of};
+use crate::plan::{Room, Span};
 use domain_run::{Running, State};
-use tick_split::{Plan, Slice, Turn};
+use tick_split::{Slice, Turn};
 
 /// What is left of a running task's budget, which is above 0.
 fn left_of(runner: &Running) -> u64
@@ -19,19 +19,34 @@ fn left_of(runner: &Running) -> u64
     runner.left as u64
 }
 
-/// The plan of a running task, worked out.
-fn planned(state: &State, runner: &Running) -> Plan
+/// The rate at which a running task uses its budget up.
+fn rate_of(state: &State, runner: &Running) -> u64
     requires short { runner.now.uinact ≤ 2 ^ 26 }
-    requires lifted { pos 0 <ℤ runner.now.left }
-    requires high { runner.now.left ≤ℤ pos (2 ^ 52) }
-    ensures rate { result.rate ≡ jump.rate_for state.now runner.now }
-    ensures slow { result.rate ≤ 2 ^ 27 }
-    ensures some { 0 < result.spent }
-    ensures lasted { pos (result.rate * (result.spent - 1)) <ℤ runner.now.left }
+    ensures rate { result ≡ jump.rate_for state.now runner.now }
+    ensures some { 0 < result }
+    ensures slow { result ≤ 2 ^ 27 }
 {
-    let mut task = plan_of(state, runner);
-    tick_split::plan(&mut task);
-    task
+    let sum = state.sum();
+    let cpus = u64::from(state.cpus());
+    grub_rules::rate(&runner.params, runner.uinact, sum, cpus, state.limit())
+}
+
+/// For how many ticks, at most so many, a budget lasts, the last of them included: a division only where it ends before.
+fn lasting(left: u64, rate: u64, most: u64) -> u64
+    requires left { 0 < left }
+    requires slow { rate ≤ 2 ^ 27 }
+    requires turns { 0 < rate }
+    requires some { 0 < most }
+    requires short { most ≤ 2 ^ 42 }
+    ensures some { 0 < result }
+    ensures most { result ≤ most }
+    ensures lasted { rate * (result - 1) < left }
+{
+    let used = u128::from(rate) * u128::from(most - 1);
+    if used < u128::from(left) {
+        return most;
+    }
+    left.div_ceil(rate)
 }
 
 /// What so many ticks of running at a rate leave of a budget.
@@ -82,10 +97,11 @@ fn gather<G: Turn>(state: &State, most: u64, room: &mut Room, turn: &G) -> Span
             return Span { ticks, count: i };
         };
         begin(turn, i == 0);
-        let task = planned(state, &runner);
-        room.lefts[i] = left_of(&runner);
-        room.rates[i] = task.rate;
-        ticks = ticks.min(runner.work).min(task.spent);
+        let left = left_of(&runner);
+        let rate = rate_of(state, &runner);
+        room.lefts[i] = left;
+        room.rates[i] = rate;
+        ticks = lasting(left, rate, ticks.min(runner.work));
     }
     Span { ticks, count: 64 }
 }

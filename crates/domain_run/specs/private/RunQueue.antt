@@ -1,5 +1,5 @@
 -- What a domain keeps of its tasks beside their list, for the code's own contracts.
-use Rattle.std.specs.Prelude.{ℕ, ◌+◌, ◌-◌, ◌<◌, ◌≤◌, ◌^◌, ◌≡◌, ◌≢◌, ◌⊎◌, false, if◌then◌else◌, List, [], ◌∷◌, length, All, AllPairs, Option, Some, None, IfSome}
+use Rattle.std.specs.Prelude.{ℕ, ◌+◌, ◌-◌, ◌<◌, ◌≤◌, ◌^◌, ◌≡◌, ◌≢◌, ◌⊎◌, false, if◌then◌else◌, List, [], ◌∷◌, length, map, slice_set, All, AllPairs, Option, Some, None, IfSome}
 use Rattle.grub_rules.specs.Accounts.{AreAccounts, Holds, Exchanges}
 use Rattle.edf_pick.specs.declared.candidate.Candidate.{Candidate}
 use Rattle.edf_pick.specs.Order.{ordered, has_candidate, with_candidate, without_candidate}
@@ -11,19 +11,21 @@ use Rattle.domain_run.specs.Domain.{Domain}
 use Rattle.domain_run.specs.Sound.{IsDomain}
 use Rattle.domain_run.specs.Jump.{standing}
 use Rattle.domain_run.specs.Tick.{share_of, shares, candidate_of, candidates}
+use Rattle.domain_run.specs.private.Timers.{due_of}
 
 -- a ready task as the choice sees it
 abbrev pub ready_of : Task → Option Candidate
 ready_of t = if is_ready t.condition then Some (candidate_of t) else None
 
--- a task as the sums see it, and as the choice does
+-- a task as the sums see it, and as the choice does, and when it is due
 abbrev pub standing_of : Task → Standing
-standing_of t = record { share = share_of t; ready = ready_of t }
+standing_of t = record { share = share_of t; ready = ready_of t; due = due_of t }
 
--- THE INVARIANT: the sums are those of the list, and the queue has its ready tasks in order
+-- THE INVARIANT: the sums are those of the list, the queue has its ready tasks in order, and the timers tell when each is due
 pub record Counts (queue : RunQueue) (tasks : List Task) : Type 0 where
   pub sums : AreAccounts queue.accounts (shares tasks)
   pub order : queue.ready ≡ ordered (candidates tasks)
+  pub due : queue.timers ≡ map due_of tasks
 
 -- what a list of tasks keeps so that the sums fit, and the queue has each task once
 pub record IsRoster (tasks : List Task) : Type 0 where
@@ -46,8 +48,9 @@ abbrev pub without_ready : Option Candidate → List Candidate → List Candidat
 without_ready None queue = queue
 without_ready (Some c) queue = without_candidate c queue
 
--- one of the tasks that are counted may turn from `before` to `after`
-pub record MayTurn (queue : RunQueue) (before after : Standing) : Type 0 where
+-- the task at a place of those that are counted may turn from `before` to `after`
+pub record MayTurn (place : ℕ) (queue : RunQueue) (before after : Standing) : Type 0 where
+  pub within : place < length queue.timers
   pub held : Holds queue.accounts before.share
   pub home : after.share.cpu < length queue.accounts.all
   pub fits : queue.accounts.total - before.share.bw + after.share.bw < 2 ^ 64
@@ -55,9 +58,10 @@ pub record MayTurn (queue : RunQueue) (before after : Standing) : Type 0 where
   pub absent : IfSome after.ready (λ c. has_candidate c (without_ready before.ready queue.ready) ≡ false)
 
 -- it has
-pub record HasTurned (before after : Standing) (old new : RunQueue) : Type 0 where
+pub record HasTurned (place : ℕ) (before after : Standing) (old new : RunQueue) : Type 0 where
   pub sums : Exchanges old.accounts new.accounts (before.share ∷ []) (after.share ∷ [])
   pub order : ((before.ready ≡ after.ready) × (new.ready ≡ old.ready)) ⊎ (new.ready ≡ with_ready after.ready (without_ready before.ready old.ready))
+  pub due : ((before.due ≡ after.due) × (new.timers ≡ old.timers)) ⊎ (new.timers ≡ slice_set old.timers place after.due)
 
 -- what a state keeps: a domain, a run queue that counts its tasks, who stands on its CPUs, room for 256 tasks, and a place for
 -- each CPU

@@ -66,7 +66,7 @@ impl State {
         ensures some { 0 < result }
         ensures most { result ≤ 2 ^ 42 }
     {
-        1 + sweep::rest(&self.tasks, self.time)
+        1 + self.queue.timers.rest(self.time)
     }
 
     /// Ends the tick that has begun, and so many ticks in all: every running task has run in each, and what is left of its budget

@@ -1,5 +1,5 @@
 -- The placement, where the chosen tasks stand in a list of their own, in the order of the choice.
-use Rattle.std.specs.Prelude.{ℕ, ◌==◌, if◌then◌else◌, List, fold, Option, Some, None}
+use Rattle.std.specs.Prelude.{ℕ, ◌≡◌, ◌==◌, Bool, true, false, if◌then◌else◌, List, fold, slice_index_or, Option, Some, None}
 use Rattle.std.specs.List.{list_any}
 use Rattle.edf_pick.specs.declared.candidate.Candidate.{Candidate}
 use Rattle.edf_pick.specs.Places.{Places, seated}
@@ -8,6 +8,10 @@ use Rattle.edf_pick.specs.Places.{Places, seated}
 abbrev pub staying : List Candidate → Option ℕ → Option ℕ
 staying chosen None = None
 staying chosen (Some n) = if list_any (λ c. c.number == n) chosen then Some n else None
+
+-- whose CPU is marked stays
+abbrev pub AreStaying : List Candidate → Places → List Bool → Type 0
+AreStaying chosen places marks = (cpu : ℕ) → slice_index_or marks cpu false ≡ true → staying chosen (slice_index_or places cpu None) ≡ slice_index_or places cpu None
 
 -- the chosen tasks, seated one after another
 abbrev pub seated_all : List Candidate → Places → Places

@@ -1,12 +1,15 @@
 use Rattle.std.proofs.Common.{◌≡◌, map, take, drop, ◌++◌, length, All}
+use Rattle.std.specs.Prelude.{vec_len, vec_capacity}
 use Rattle.domain_run.specs.Parts.{settled}
 use Rattle.domain_run.specs.Sound.{IsSound}
 use Rattle.domain_run.specs.private.RunQueue.{IsCounted}
 use Rattle.domain_run.proofs.sweep.settle_all.Given as goal
 
-abbrev pub invariant-loop-task : goal.invariant-loop-task
-invariant-loop-task l = record {
-  written : l.task-items ≡ map (settled l.time) (take l.task-index l.initial.task-items) ++ drop l.task-index l.initial.task-items;
-  sound : All (IsSound l.time) l.task-items;
-  counted : IsCounted (length l.fn.queue.accounts.all) l.queue l.task-items;
+abbrev pub invariant-loop-place : goal.invariant-loop-place
+invariant-loop-place l = record {
+  written : l.tasks.items ≡ map (settled l.time) (take l.place l.fn.tasks.items) ++ drop l.place l.fn.tasks.items;
+  sound : All (IsSound l.time) l.tasks.items;
+  counted : IsCounted (length l.fn.queue.accounts.all) l.queue l.tasks.items;
+  len : vec_len l.tasks ≡ vec_len l.fn.tasks;
+  room : vec_capacity l.tasks ≡ vec_capacity l.fn.tasks;
 }

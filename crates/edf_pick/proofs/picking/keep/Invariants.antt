@@ -1,6 +1,9 @@
-use Rattle.std.proofs.Common.{◌≡◌, map, take, drop, ◌++◌}
+use Rattle.std.proofs.Common.{◌≡◌, map, take, drop, ◌++◌, vec_len}
 use Rattle.edf_pick.specs.private.First.{staying}
 use Rattle.edf_pick.proofs.picking.keep.Given as goal
 
-abbrev pub invariant-loop-occupant : goal.invariant-loop-occupant
-invariant-loop-occupant l = l.occupant-items ≡ map (staying l.chosen) (take l.occupant-index l.initial.occupant-items) ++ drop l.occupant-index l.initial.occupant-items
+abbrev pub invariant-loop-cpu : goal.invariant-loop-cpu
+invariant-loop-cpu l = record {
+  written : l.places.items ≡ map (staying l.chosen) (take l.cpu l.fn.places.items) ++ drop l.cpu l.fn.places.items;
+  len : vec_len l.places ≡ vec_len l.fn.places;
+}

@@ -13,4 +13,4 @@ returns-clause-places c =
     let chosen = c.first_of-chosen.result.now in
     let first : chosen ≡ take cpus queue = c.first_of-chosen.ensures ∙ ap (λ (k : ℕ). take k queue) c.len.ensures in
     c.seat_all.ensures.places ∙ ap (λ (ps : Places). seated_all chosen ps) c.keep.ensures.places
-    ∙ ap (λ (xs : List Candidate). seated_all xs (map (staying xs) before)) first ∙ picked cpus queue before c.requires
+    ∙ ap (λ (xs : List Candidate). seated_all xs (map (staying xs) before)) first ∙ picked cpus queue before c.requires.rising

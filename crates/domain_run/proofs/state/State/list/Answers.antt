@@ -1,4 +1,4 @@
-use Rattle.std.proofs.Common.{◌≡◌, ◌<◌, ◌%◌, [], ◌∷◌, refl, sym, ap, subst, ◌∙◌, arith}
+use Rattle.std.proofs.Common.{◌≡◌, ◌<◌, ◌%◌, ℕ, [], ◌∷◌, ◌++◌, refl, sym, ap, subst, ◌∙◌, arith}
 use Rattle.domain_run.specs.Domain.{Domain}
 use Rattle.domain_run.specs.Calls.{new_task, listed}
 use Rattle.domain_run.specs.Sound.{IsDomain}
@@ -42,9 +42,9 @@ invariant_of-self c = record {
       let s = c.self.inside in
       let home : c.args.number % s.cpus < s.cpus = omega (arith, c.self.invariant.domain.steady.cpus.0) in
       let same : t.cpu ≡ c.args.number % s.cpus = ap (λ (x : Task). x.cpu) (new_is c) in
-      let new : RunQueue = record { accounts = c.join.new.self; ready = s.queue.ready } in
+      let new : RunQueue = record { accounts = c.join.new.self; ready = s.queue.ready; timers = c.push.new.self } in
       subst (Counts new) (sym c.push_reserved.ensures.items)
-      (counts_push s.queue new s.tasks.items t (ap (λ (x : Task). is_ready x.condition) (new_is c)) refl (rw (same, c.self.invariant.wide) home) (subst (λ x. Exchanges s.queue.accounts new.accounts [] (x ∷ [])) c.share_of.ensures c.join.ensures) c.self.invariant.counts);
+      (counts_push s.queue new s.tasks.items t (ap (λ (x : Task). is_ready x.condition) (new_is c)) refl (c.push.ensures ∙ ap (λ (n : ℕ). s.queue.timers ++ n ∷ []) c.due_of.ensures) (rw (same, c.self.invariant.wide) home) (subst (λ x. Exchanges s.queue.accounts new.accounts [] (x ∷ [])) c.share_of.ensures c.join.ensures) c.self.invariant.counts);
   tasks_room = omega (arith, c.push_reserved.ensures.capacity, c.self.invariant.tasks_room);
   before_len = c.self.invariant.before_len;
   running_is = c.self.invariant.running_is;

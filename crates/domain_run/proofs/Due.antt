@@ -1,0 +1,137 @@
+-- Which tasks are due, and what parts 1 to 3 do to the others: nothing.
+use Rattle.std.proofs.Common.{◌≡◌, ℕ, ◌+◌, ◌-◌, ◌^◌, ◌<◌, ◌≤◌, min, true, false, cond, leb, ◌&&◌, Option, Some, None, List, [], ◌∷◌, ◌++◌, length, map, get_or, set, take, drop, refl, sym, ap, ◌∙◌, arith}
+use Rattle.std.specs.Prelude.{All, filter}
+use Rattle.std.proofs.lemmas.Bool.{lt-leb, leb-false}
+use Rattle.std.proofs.lemmas.List.{get_or-map, get_or_default, set-get_or}
+use Rattle.std.proofs.lemmas.List.Elements.{All-cons, All-weaker}
+use Rattle.edf_pick.proofs.MapStep.{map_step}
+use Rattle.domain_run.specs.declared.task.Task.{Task}
+use Rattle.domain_run.specs.declared.task.Condition.{Condition}
+use Rattle.domain_run.specs.declared.task.Condition.TheVariants.{Ready, Throttled, Blocked, Waiting, Leaving}
+use Rattle.domain_run.specs.declared.run_queue.RunQueue.{RunQueue}
+use Rattle.domain_run.specs.Conditions.{is_throttled, is_over, has_come}
+use Rattle.domain_run.specs.Parts.{is_listed}
+use Rattle.domain_run.specs.Tick.{prepared}
+use Rattle.domain_run.specs.Jump.{replenished_at, asks_at, gone_at, ticks_to, rest_of, rest}
+use Rattle.domain_run.specs.private.Index.{IsAt}
+use Rattle.domain_run.specs.private.Timers.{moment_of, due_of, least, IsStep}
+use Rattle.domain_run.specs.private.RunQueue.{standing_of, IsCounted, MayTurn, HasTurned}
+use Rattle.domain_run.proofs.Keeping.{Same}
+use Rattle.domain_run.proofs.Jumping.{IsStill, prepared_still, filter_whole}
+use Rattle.domain_run.proofs.Finding.{IsFound, same_found, found_may, found_turned}
+
+-- ---- before its time nothing is to be done to a task
+
+not_come : (time : ℕ) (moment : Option ℕ) → time < moment_of moment → has_come time moment ≡ false
+not_come time None h = refl
+not_come time (Some u) h = lt-leb u time (omega (arith, h))
+
+pub still_at : (time : ℕ) (t : Task) → time < due_of t → IsStill time t
+still_at time t h =
+    let a : time < moment_of (replenished_at t) = omega (arith, h) in
+    let b : time < moment_of t.zero_lag = omega (arith, h) in
+    let c : time < moment_of (asks_at t.condition) = omega (arith, h) in
+    let e : time < moment_of (gone_at t) = omega (arith, h) in
+    record {
+      due = elim (is_throttled t.condition) as (λ x. time < moment_of (cond x t.server.deadline None) → (x && has_come time t.server.deadline) ≡ false) [
+        | true ↦ λ k. not_come time t.server.deadline k
+        | false ↦ λ k. refl
+      ] a;
+      lag = not_come time t.zero_lag b;
+      listed = elim (is_listed t) as (λ x. time < moment_of (cond x None (Some 0)) → x ≡ true) [ true ↦ λ k. refl | false ↦ λ k. absurd (omega (arith, k)) ] e;
+      over = asks t.condition c;
+    }
+  where
+    asks : (k : Condition) → time < moment_of (asks_at k) → is_over time k ≡ false
+    asks Ready h = refl
+    asks Throttled h = refl
+    asks (Blocked u) h = not_come time (Some u) h
+    asks Waiting h = refl
+    asks Leaving h = refl
+
+least_each : (time : ℕ) (tasks : List Task) → time < least (map due_of tasks) → All (λ t. time < due_of t) tasks
+least_each time [] h = λ k d within. absurd (omega (arith, within))
+least_each time (t ∷ tasks) h = All-cons (λ u. time < due_of u) t tasks (omega (arith, h)) (least_each time tasks (omega (arith, h)))
+
+still_each : (time : ℕ) (tasks : List Task) → time < least (map due_of tasks) → All (IsStill time) tasks
+still_each time tasks h = All-weaker (λ t. time < due_of t) (IsStill time) (λ t k. still_at time t k) tasks (least_each time tasks h)
+
+-- no task is due
+pub none_due : (time : ℕ) (tasks : List Task) → time < least (map due_of tasks) → prepared time tasks ≡ tasks
+none_due time tasks h = prepared_still time tasks (still_each time tasks h)
+
+-- no task has left
+pub none_gone : (tasks : List Task) → 0 < least (map due_of tasks) → filter is_listed tasks ≡ tasks
+none_gone tasks h = filter_whole is_listed tasks (λ k d within. (still_each 0 tasks h k d within).listed)
+
+-- ---- the ticks to the first time
+
+min_each : (k a b : ℕ) → min k (min a b) ≡ min (min k a) (min k b)
+min_each k a b = omega arith
+
+min_less : (x y t : ℕ) → min x y - t ≡ min (x - t) (y - t)
+min_less x y t = omega arith
+
+either : (k t a b x y : ℕ) → min k a ≡ min k (x - t) → min k b ≡ min k (y - t) → min k (min a b) ≡ min k (min x y - t)
+either k t a b x y p q = min_each k a b ∙ (λ i. min (p i) (q i)) ∙ sym (min_each k (x - t) (y - t)) ∙ ap (λ n. min k n) (sym (min_less x y t))
+
+ticks_due : (time : ℕ) (moment : Option ℕ) → time ≤ 2 ^ 42 → min (2 ^ 42 - 1) (ticks_to time moment) ≡ min (2 ^ 42 - 1) (moment_of moment - time)
+ticks_due time None early = omega (arith, early)
+ticks_due time (Some u) early = refl
+
+rest_due : (time : ℕ) (t : Task) → time ≤ 2 ^ 42 → min (2 ^ 42 - 1) (rest_of time t) ≡ min (2 ^ 42 - 1) (due_of t - time)
+rest_due time t early =
+    let a = replenished_at t in
+    let c = asks_at t.condition in
+    let e = gone_at t in
+    either (2 ^ 42 - 1) time (min (ticks_to time a) (ticks_to time t.zero_lag)) (min (ticks_to time c) (ticks_to time e)) (min (moment_of a) (moment_of t.zero_lag)) (min (moment_of c) (moment_of e))
+    (either (2 ^ 42 - 1) time (ticks_to time a) (ticks_to time t.zero_lag) (moment_of a) (moment_of t.zero_lag) (ticks_due time a early) (ticks_due time t.zero_lag early))
+    (either (2 ^ 42 - 1) time (ticks_to time c) (ticks_to time e) (moment_of c) (moment_of e) (ticks_due time c early) (ticks_due time e early))
+
+rest_capped : (time : ℕ) (tasks : List Task) → time ≤ 2 ^ 42 → min (2 ^ 42 - 1) (rest time tasks) ≡ min (2 ^ 42 - 1) (least (map due_of tasks) - time)
+rest_capped time [] early = omega (arith, early)
+rest_capped time (t ∷ tasks) early = either (2 ^ 42 - 1) time (rest_of time t) (rest time tasks) (due_of t) (least (map due_of tasks)) (rest_due time t early) (rest_capped time tasks early)
+
+rest_most : (time : ℕ) (tasks : List Task) → rest time tasks ≤ 2 ^ 42 - 1
+rest_most time [] = omega arith
+rest_most time (t ∷ tasks) = omega (arith, rest_most time tasks)
+
+pub rest_least : (time : ℕ) (tasks : List Task) → time ≤ 2 ^ 42 → min (least (map due_of tasks) - time) (2 ^ 42 - 1) ≡ rest time tasks
+rest_least time tasks early = omega (arith, rest_capped time tasks early, rest_most time tasks)
+
+-- ---- ONE PLACE, where its task is due
+
+at_place : (tasks : List Task) (p : ℕ) (x : Task) → p < length tasks → x ≡ get_or tasks p x → IsAt tasks x.number p
+at_place tasks p x h read = record { within = h; is = λ d. ap (λ (t : Task). t.number) (get_or_default tasks p d x h ∙ sym read) }
+
+step_found : (cpus : ℕ) (queue : RunQueue) (tasks : List Task) (p : ℕ) (x : Task) (f : Task → Task) → p < length tasks → x ≡ get_or tasks p x → Same x (f x) → IsCounted cpus queue tasks → IsFound cpus queue tasks x.number p x f
+step_found cpus queue tasks p x f h read same counted = same_found cpus queue tasks x.number p x f (at_place tasks p x h read) read same counted
+
+pub step_may : (cpus : ℕ) (queue : RunQueue) (tasks : List Task) (p : ℕ) (x : Task) (f : Task → Task) → p < length tasks → x ≡ get_or tasks p x → Same x (f x) → IsCounted cpus queue tasks → MayTurn p queue (standing_of x) (standing_of (f x))
+step_may cpus queue tasks p x f h read same counted = found_may cpus queue tasks x.number p x f (step_found cpus queue tasks p x f h read same counted)
+
+pub step_counted : (cpus : ℕ) (queue new : RunQueue) (tasks : List Task) (p : ℕ) (x y : Task) (f : Task → Task) → p < length tasks → x ≡ get_or tasks p x → Same x (f x) → y ≡ f x → HasTurned p (standing_of x) (standing_of y) queue new → IsCounted cpus queue tasks → IsCounted cpus new (set tasks p y)
+step_counted cpus queue new tasks p x y f h read same is has counted = found_turned cpus queue new tasks x.number p x y f is has (step_found cpus queue tasks p x f h read same counted)
+
+pub step_is : (tasks : List Task) (p : ℕ) (x y : Task) (f : Task → Task) → p < length tasks → x ≡ get_or tasks p x → y ≡ f x → IsStep f p tasks (set tasks p y)
+step_is tasks p x y f h read is = record { is = λ d. ap (set tasks p) (is ∙ ap f (read ∙ get_or_default tasks p x d h)) }
+
+-- where it is not, nothing is to be done
+pub not_due : (cpus time : ℕ) (queue : RunQueue) (tasks : List Task) (p : ℕ) (d : Task) → p < length tasks → leb (get_or queue.timers p 0) time ≡ false → IsCounted cpus queue tasks → IsStill time (get_or tasks p d)
+not_due cpus time queue tasks p d h not counted =
+    let at : get_or queue.timers p 0 ≡ due_of (get_or tasks p d) = ap (λ (ds : List ℕ). get_or ds p 0) counted.counts.due ∙ get_or-map due_of tasks p d 0 h in
+    still_at time (get_or tasks p d) (omega (arith, at, leb-false (get_or queue.timers p 0) time not))
+
+pub step_none : (tasks : List Task) (p : ℕ) (f : Task → Task) → ((d : Task) → f (get_or tasks p d) ≡ get_or tasks p d) → IsStep f p tasks tasks
+step_none tasks p f still = record { is = λ d. sym (ap (set tasks p) (still d) ∙ set-get_or tasks p d) }
+
+-- ---- ALL PLACES one after another
+
+some_task : (tasks : List Task) (p : ℕ) → p < length tasks → Task
+some_task [] p h = absurd (omega (arith, h))
+some_task (t ∷ tasks) p h = t
+
+pub step_more : (f : Task → Task) (first now new : List Task) (p : ℕ) → p < length first → now ≡ map f (take p first) ++ drop p first → IsStep f p now new → new ≡ map f (take (p + 1) first) ++ drop (p + 1) first
+step_more f first now new p h written step =
+    let d = some_task first p h in
+    step.is d ∙ map_step f first now p d (f (get_or now p d)) h written refl
