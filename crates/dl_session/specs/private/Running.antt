@@ -13,7 +13,7 @@ use Rattle.call_book.specs.SectionView.{SectionView}
 use Rattle.call_book.specs.declared.section.Entry.{Entry}
 use Rattle.call_book.specs.Book.{BookView, calls_of, IsLegal, IsFull}
 use Rattle.dl_session.specs.declared.fault.SessionFault.{SessionFault}
-use Rattle.dl_session.specs.declared.fault.SessionFault.TheVariants.{Json, Scenario, Full, Memory}
+use Rattle.dl_session.specs.declared.fault.SessionFault.TheVariants.{Json, Scenario, Start, Full, Memory}
 use Rattle.dl_session.specs.declared.finishing.Finished.{Finished}
 use Rattle.dl_session.specs.SessionId.{SessionId, IsPlace}
 use Rattle.dl_session.specs.Asks.{ClientView, Makes, made_by, pass_in}
