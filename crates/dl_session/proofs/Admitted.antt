@@ -284,8 +284,8 @@ pub all_seated : (id : SessionId) (tasks : List TaskSpecView) (before : List Cli
 all_seated id tasks before seats after shares refused some seated asked union =
     all_asked id tasks before after shares refused some (asked.count ∙ seated.count) (asked.shared ∙ seated.count)
     (λ i x inside.
-        let s : SeatView = record { client = x; place = i; many = 0; room = 0 } in
-        seated_asks id tasks (length before) i (get_or before i x) (get_or after i x) (get_or seats i s) (get_or shares i []) (seated.each i x s inside) (asked.each i s x (omega (arith, inside, seated.count))))
+    let s : SeatView = record { client = x; place = i; many = 0; room = 0 } in
+    seated_asks id tasks (length before) i (get_or before i x) (get_or after i x) (get_or seats i s) (get_or shares i []) (seated.each i x s inside) (asked.each i s x (omega (arith, inside, seated.count))))
     union
 
 -- before the last task of its own a client has had fewer

@@ -226,9 +226,7 @@ fn start_all<
         return Err(SessionFault::Memory);
     };
     for seat in seats {
-        handles.push_reserved(start_one(
-            scope, rt, alloc, hall, tasks, turnstile, seat,
-        )?);
+        handles.push_reserved(start_one(scope, rt, alloc, hall, tasks, turnstile, seat)?);
     }
     Ok(handles)
 }
@@ -325,8 +323,9 @@ fn ask_apart<N: Names + Send + Sync, A: Agenda, T: Turnstile, R: Threads + Wait 
                 j.clients.items (map (λ q. q.items) j.shares.items)) }
             ensures err { IfErr result IsUnasked }
         {
-            let handles: Vec<PromisedHandle<Share<N>, Asking<N, A>>> =
-                start_all(scope, rt, alloc, hall, tasks, turnstile, seats)?;
+            let handles: Vec<PromisedHandle<Share<N>, Asking<N, A>>> = start_all(
+                scope, rt, alloc, hall, tasks, turnstile, seats,
+            )?;
             Ok(join_all(rt, handles, joined))
         },
     )
@@ -357,7 +356,13 @@ pub fn admit_all<N: Names + Send + Sync, T: Turnstile, R: Threads + Wait + Sync>
     let Ok(seats) = seat_all(alloc, clients, tasks) else {
         return Err(SessionFault::Memory);
     };
-    let Joined { clients, shares } =
-        ask_apart::<N, Brand, T, R>(rt, alloc, &session.hall, tasks, turnstile, seats)?;
+    let Joined { clients, shares } = ask_apart::<N, Brand, T, R>(
+        rt,
+        alloc,
+        &session.hall,
+        tasks,
+        turnstile,
+        seats,
+    )?;
     Ok((clients, gather(tasks, shares, refused)))
 }

@@ -161,7 +161,11 @@ fn admission_race(rt: HostRuntime) -> Result<(), Fail> {
         let (said, written, report) = ran(&rt, rt.alloc(), RACE, &options)?;
         assert_eq!(rt; written.as_str(), "# tracer: nop\n");
         assert_eq!(rt; said.as_str().lines().count(), 5);
-        assert!(rt; said.as_str().lines().all(|l| l.ends_with(" EBUSY 16 seen 1572864")));
+        assert!(rt;
+            said.as_str()
+                .lines()
+                .all(|l| l.ends_with(" EBUSY 16 seen 1572864"))
+        );
         assert!(rt;
             report.is_some_and(|r| r.words.as_slice() == [1572864].as_slice()
                 && r.home == 256 + 8
