@@ -7,8 +7,8 @@ pub enum Print {
     Calls,
 }
 
-/// With what a scenario is to be run. A session is opened from its domains, limit, clients and history; a run reads `reclaim` and
-/// `print` too. `workers` is within its limits and is read by nothing yet.
+/// With what a scenario is to be run. A session is opened from its domains, limit, clients, workers and history; a run reads
+/// `reclaim` and `print` too. No answer depends on `workers`.
 #[derive(Clone, Debug, Drop)]
 pub struct Options {
     /// How many CPUs each root domain has, 1 to 64; 1 to 8 domains. The first has the first CPUs of the machine, the second the
@@ -16,9 +16,9 @@ pub struct Options {
     pub domains: Vec<u32>,
     /// What deadline tasks may take of each CPU, 10485 to 1048576 in 1/2^20 (sched-deadline.rst, "Bandwidth management").
     pub limit: u64,
-    /// How many clients admit tasks, 1 to 64.
+    /// How many clients admit tasks, each in a thread of its own, 1 to 64.
     pub clients: u32,
-    /// How many workers are to reckon in each domain, 1 to 8.
+    /// How many workers reckon in each domain, 1 to 8.
     pub workers: usize,
     /// How many calls the history of each domain has room for, 1 to 65536.
     pub history: usize,
