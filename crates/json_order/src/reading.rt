@@ -18,8 +18,9 @@ use std::str;
 /// Reads a JSON text (RFC 8259, narrower as the page on formats says: UTF-8 alone, at most 16 lists and objects inside one
 /// another, no key twice in one object, no lone surrogate). The members of an object keep the order of the text.
 ///
-/// Memory is taken for the tree, for a second copy of the keys of objects that are open, and for a stack of at most 17
-/// frames. The time is linear in the input but for the keys of an object, which cost the logarithm of their number.
+/// Memory is taken for the tree, for a stack of at most 17 frames, and for a second copy of the keys of an open object that
+/// has more than 16 of them, not in rising order. The time is linear in the input but for these keys, which cost the
+/// logarithm of their number, and for the first 16, which are compared one by one.
 ///
 /// An Err tells the kind and the place of the first fault; see [`JsonKind`] and [`JsonFault`]. Utf8 is tested first, over
 /// the whole input. Memory may come before any other fault.
