@@ -2,16 +2,16 @@
 
 use crate::{SessionFault, replay};
 use std::alloc::Global;
-use std::io;
-use std::io::{ErrorKind, Read};
 use std::test::Fail;
 use switch_text::Counted;
 
 mod clients;
 mod crowds;
+mod hostile;
 mod opening;
 mod runs;
 mod sides;
+mod storm;
 mod words;
 
 const THROTTLED: &[u8] =
@@ -214,28 +214,6 @@ fn failing_writer(rt: HostRuntime) -> Result<(), Fail> {
     let said = said_within(rt.alloc(), &mut room)?;
     assert_eq!(rt; said.as_str(), "dlsim: write failed after 100");
     assert_eq!(rt; room.as_slice(), &THROTTLED_TRACE[..100]);
-    Ok(())
-}
-
-/// A reader that fails.
-#[derive(Drop)]
-struct Failing;
-
-impl Read for Failing {
-    fn read(&mut self, _buf: &mut [u8]) -> io::Result<usize> {
-        Err(io::Error::from(ErrorKind::Interrupted))
-    }
-}
-
-#[test]
-fn failing_reader(rt: HostRuntime) -> Result<(), Fail> {
-    for bad in [0, 30, THROTTLED.len()] {
-        let mut reader = Counted::new((&THROTTLED[..bad]).chain(Failing));
-        let mut writer = Counted::new(Vec::new(rt.alloc()));
-        let answer = replay(rt.alloc(), &mut reader, &mut writer);
-        assert_eq!(rt; told(rt.alloc(), answer)?.as_str(), "dlsim: read failed");
-        assert!(rt; writer.into_inner().is_empty());
-    }
     Ok(())
 }
 

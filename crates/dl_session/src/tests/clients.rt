@@ -24,7 +24,7 @@ fn attr_of(params: &Params) -> SchedAttr {
     }
 }
 
-fn make<N: Names, R: Threads + Wait>(
+pub(super) fn make<N: Names, R: Threads + Wait>(
     rt: &R,
     alloc: Global,
     session: &Session<N>,
@@ -213,6 +213,24 @@ fn full_book(rt: HostRuntime) -> Result<(), Fail> {
     let (said, report) = ran(&rt, rt.alloc(), text, 1)?;
     assert_eq!(rt; said.as_str(), "Admitted; Full 40; Full 40; Full 40; ");
     assert_eq!(rt; report.words.as_slice(), [262144].as_slice());
+    assert_eq!(rt; report.home, 257);
+    Ok(())
+}
+
+// 256 tasks that want two millionths of a CPU each are listed. There is a piece for one more, and room at the word, but no place in
+// the list: its ticket goes back.
+#[test]
+fn number_257_is_full(rt: HostRuntime) -> Result<(), Fail> {
+    let mut text = String::from_str(rt.alloc(), "dlcalls 1\ndomain 1 996147\n")?;
+    for k in 1..258 {
+        write!(text, "admit 1 {k} t 2 1000000 1000000 - 0 -1:1{{r1,s9}}\n")?;
+    }
+    let (said, report) = ran(&rt, rt.alloc(), text.as_bytes(), 1024)?;
+    let listed = said.as_str().split("; ").filter(|answer| *answer == "Admitted").count();
+    assert_eq!(rt; listed, 256);
+    assert!(rt; said.as_str().ends_with("Admitted; Full 40; "));
+    assert_eq!(rt; entered(&report), 256);
+    assert_eq!(rt; report.words.as_slice(), [512].as_slice());
     assert_eq!(rt; report.home, 257);
     Ok(())
 }

@@ -24,7 +24,7 @@ admit 1 3 t-2 500 1000 1000 - 0 -1:1{r100,s900}
 pub(super) const TWO_DOMAINS: &[u8] =
     br#"{"tasks":{"a":{"instance":3,"cpus":[0],"policy":"SCHED_DEADLINE","dl-runtime":100,"dl-period":1000,"run":50,"timer":{"ref":"unique","period":1000}},"b":{"instance":3,"cpus":[1],"policy":"SCHED_DEADLINE","dl-runtime":100,"dl-period":1000,"run":50,"timer":{"ref":"unique","period":1000}}},"global":{"duration":1}}"#;
 
-const MEMBER_ORDER: &[u8] =
+pub(super) const MEMBER_ORDER: &[u8] =
     br#"{"tasks":{"p":{"policy":"SCHED_DEADLINE","dl-runtime":5,"dl-period":10,"phases":{"light":{"loop":2,"run0":3,"sleep1":7},"heavy":{"run0":4,"sleep1":2,"run2":1}}}},"global":{"duration":0}}"#;
 
 /// What a run says: how the program tells its fault, or a line for each refused task.
@@ -76,7 +76,7 @@ pub(super) fn ran<R: Threads + Wait + Sync>(
 }
 
 /// With one client on one domain.
-fn ran_on<R: Threads + Wait + Sync>(
+pub(super) fn ran_on<R: Threads + Wait + Sync>(
     rt: &R,
     alloc: Global,
     text: &[u8],
@@ -99,7 +99,7 @@ fn ran_on<R: Threads + Wait + Sync>(
     ran(rt, alloc, text, &options)
 }
 
-const HEADER: &str = "# tracer: nop\n";
+pub(super) const HEADER: &str = "# tracer: nop\n";
 
 #[test]
 fn no_tasks(rt: HostRuntime) -> Result<(), Fail> {
@@ -202,5 +202,21 @@ fn cpus_of_no_domain(rt: HostRuntime) -> Result<(), Fail> {
     let (said, written, _) = ran_on(&rt, rt.alloc(), text, 2, 1024, Print::Trace)?;
     assert_eq!(rt; said.as_str(), "task 1 EPERM 1\n");
     assert_eq!(rt; written.as_str(), HEADER);
+    Ok(())
+}
+
+const ONE_MINUTE: &[u8] =
+    br#"{"tasks":{"t":{"policy":"SCHED_DEADLINE","dl-runtime":1000,"dl-period":1000000,"run":500,"timer":{"ref":"unique","period":1000000}}},"global":{"duration":60}}"#;
+
+const LAST_OF_THE_MINUTE: &str =
+    "\n               t-1001    [000] d..2.    59.000500: sched_switch: prev_comm=t prev_pid=1001 prev_prio=-1 prev_state=S ==> next_comm=swapper/0 next_pid=0 next_prio=120\n";
+
+// The longest run: in each second the task comes and goes.
+#[test]
+fn one_minute(rt: HostRuntime) -> Result<(), Fail> {
+    let (said, written, _) = ran_on(&rt, rt.alloc(), ONE_MINUTE, 1, 1024, Print::Trace)?;
+    assert_eq!(rt; said.as_str(), "");
+    assert_eq!(rt; written.as_str().lines().count(), 121);
+    assert!(rt; written.as_str().ends_with(LAST_OF_THE_MINUTE));
     Ok(())
 }

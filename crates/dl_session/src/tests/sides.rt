@@ -1,13 +1,13 @@
-// Runs of a scenario between readers and writers that fail, or give and take one byte a call.
+// Readers and writers that stop short, and that fail in one of their calls, each in turn.
 ghost use Rattle.std.specs.Prelude.{◌<◌, ◌^◌};
 ghost use Rattle.switch_text.specs.Sides.{faults_of};
 
-use super::runs::said;
-use super::{Failing, THROTTLED_TRACE};
-use crate::{AllPass, Options, Print, run};
+use super::runs::{MEMBER_ORDER, said};
+use super::{THROTTLED, THROTTLED_TRACE};
+use crate::{AllPass, Options, Print, SessionFault, replay, run};
 use std::alloc::Global;
 use std::io;
-use std::io::{Read, Write};
+use std::io::{ErrorKind, Read, Write};
 use std::sync::Wait;
 use std::test::Fail;
 use std::thread::Threads;
@@ -16,29 +16,59 @@ use switch_text::Counted;
 const THROTTLED_TASK: &[u8] =
     br#"{"tasks":{"a":{"policy":"SCHED_DEADLINE","dl-runtime":2,"dl-period":5,"loop":1,"run":4}},"global":{"duration":1}}"#;
 
-/// A reader or a writer of one byte a call.
+/// A reader or a writer of at most `step` bytes a call, whose call `bad`, counted from 0, fails. The calls behind it go on where it
+/// stopped, so that a fault which is tried again is no fault.
 #[derive(Drop)]
-struct OneByte<T>(T);
+struct Stumbler<T> {
+    inner: T,
+    step: usize,
+    calls: usize,
+    bad: usize,
+}
 
-impl<R: Read> Read for OneByte<R> {
-    fn read(&mut self, buf: &mut [u8]) -> io::Result<usize> {
-        let n = buf.len().min(1);
-        self.0.read(&mut buf[..n])
+impl<T> Stumbler<T> {
+    fn new(inner: T, step: usize, bad: usize) -> Stumbler<T> {
+        Stumbler {
+            inner,
+            step,
+            calls: 0,
+            bad,
+        }
+    }
+
+    /// Whether a call fails.
+    fn stumbles(&mut self) -> bool {
+        let call = self.calls;
+        self.calls = call.saturating_add(1);
+        call == self.bad
     }
 }
 
-impl<W: Write> Write for OneByte<W> {
+impl<R: Read> Read for Stumbler<R> {
+    fn read(&mut self, buf: &mut [u8]) -> io::Result<usize> {
+        if self.stumbles() {
+            return Err(io::Error::from(ErrorKind::Interrupted));
+        }
+        let n = buf.len().min(self.step);
+        self.inner.read(&mut buf[..n])
+    }
+}
+
+impl<W: Write> Write for Stumbler<W> {
     fn write(&mut self, buf: &[u8]) -> io::Result<usize> {
-        let n = buf.len().min(1);
-        self.0.write(&buf[..n])
+        if self.stumbles() {
+            return Err(io::Error::from(ErrorKind::Interrupted));
+        }
+        let n = buf.len().min(self.step);
+        self.inner.write(&buf[..n])
     }
 
     fn flush(&mut self) -> io::Result<()> {
-        self.0.flush()
+        self.inner.flush()
     }
 }
 
-/// What a run of the task says, on one CPU, between this reader and this writer.
+/// What a run of this scenario says, on one CPU, between this reader and this writer.
 fn told<X: Threads + Wait + Sync, R: Read + Drop, W: Write>(
     rt: &X,
     alloc: Global,
@@ -61,57 +91,93 @@ fn told<X: Threads + Wait + Sync, R: Read + Drop, W: Write>(
     said(alloc, &answer)
 }
 
+// Where no call fails, it does not matter how far each goes.
 #[test]
-fn one_byte_a_call(rt: HostRuntime) -> Result<(), Fail> {
-    let mut writer = Counted::new(OneByte(Vec::new(rt.alloc())));
-    let told = told(&rt, rt.alloc(), OneByte(THROTTLED_TASK), &mut writer)?;
-    assert_eq!(rt; told.as_str(), "");
-    assert_eq!(rt; writer.into_inner().0.as_slice(), THROTTLED_TRACE);
+fn short_calls(rt: HostRuntime) -> Result<(), Fail> {
+    for step in [1, 7, 300] {
+        let reader = Stumbler::new(THROTTLED_TASK, step, usize::MAX);
+        let mut writer = Counted::new(Stumbler::new(Vec::new(rt.alloc()), step, usize::MAX));
+        assert_eq!(rt; told(&rt, rt.alloc(), reader, &mut writer)?.as_str(), "");
+        assert_eq!(rt; writer.into_inner().inner.as_slice(), THROTTLED_TRACE);
+        let mut reader = Counted::new(Stumbler::new(THROTTLED, step, usize::MAX));
+        let mut writer = Counted::new(Stumbler::new(Vec::new(rt.alloc()), step, usize::MAX));
+        assert!(rt; replay(rt.alloc(), &mut reader, &mut writer).is_ok());
+        assert_eq!(rt; writer.into_inner().inner.as_slice(), THROTTLED_TRACE);
+    }
     Ok(())
 }
 
-// At once; behind the header; inside a line.
-const CUTS: [(usize, &str); 3] = [
-    (0, "dlsim: write failed after 0"),
-    (14, "dlsim: write failed after 14"),
-    (100, "dlsim: write failed after 100"),
+// At once; behind the header, where a trace without a switch ends; inside a line.
+const CUTS: [(&[u8], usize, &str); 4] = [
+    (THROTTLED_TASK, 0, "dlsim: write failed after 0"),
+    (THROTTLED_TASK, 14, "dlsim: write failed after 14"),
+    (MEMBER_ORDER, 14, ""),
+    (THROTTLED_TASK, 100, "dlsim: write failed after 100"),
 ];
 
+// The writer takes what it has room for, and then nothing any more.
 #[test]
 fn failing_writer(rt: HostRuntime) -> Result<(), Fail> {
-    for (count, wanted) in CUTS {
+    for (text, count, wanted) in CUTS {
         let mut room = [0u8; 100];
         let mut writer = Counted::new(&mut room[..count]);
-        let told = told(&rt, rt.alloc(), THROTTLED_TASK, &mut writer)?;
+        let told = told(&rt, rt.alloc(), text, &mut writer)?;
         assert_eq!(rt; told.as_str(), wanted);
         assert_eq!(rt; &room[..count], &THROTTLED_TRACE[..count]);
     }
     Ok(())
 }
 
+// A byte a call, and each call fails in turn.
 #[test]
-fn failing_writer_of_one_byte_a_call(rt: HostRuntime) -> Result<(), Fail> {
-    for (count, wanted) in CUTS {
-        let mut room = [0u8; 100];
-        let mut writer = Counted::new(OneByte(&mut room[..count]));
+fn writer_fails_in_each_call(rt: HostRuntime) -> Result<(), Fail> {
+    for call in 0..THROTTLED_TRACE.len() {
+        let mut writer = Counted::new(Stumbler::new(Vec::new(rt.alloc()), 1, call));
         let told = told(&rt, rt.alloc(), THROTTLED_TASK, &mut writer)?;
-        assert_eq!(rt; told.as_str(), wanted);
-        assert_eq!(rt; &room[..count], &THROTTLED_TRACE[..count]);
+        let wanted = format!(in rt.alloc(); "dlsim: write failed after {call}")?;
+        assert_eq!(rt; told.as_str(), wanted.as_str());
+        let taken = writer.into_inner().inner;
+        assert_eq!(rt; taken.as_slice(), &THROTTLED_TRACE[..call]);
     }
     Ok(())
 }
 
-// In the first call, inside the text, at its last byte, and where it should end.
 #[test]
-fn failing_reader(rt: HostRuntime) -> Result<(), Fail> {
-    let end = THROTTLED_TASK.len();
-    for call in [0, 1, 30, end - 1, end] {
+fn replay_writer_fails_in_each_call(rt: HostRuntime) -> Result<(), Fail> {
+    for call in 0..THROTTLED_TRACE.len() {
+        let mut writer = Counted::new(Stumbler::new(Vec::new(rt.alloc()), 1, call));
+        let answer = replay(rt.alloc(), &mut Counted::new(THROTTLED), &mut writer);
+        let written = match answer {
+            Err(SessionFault::Write { written }) => written,
+            _ => u64::MAX,
+        };
+        assert_eq!(rt; written, call as u64);
+        let taken = writer.into_inner().inner;
+        assert_eq!(rt; taken.as_slice(), &THROTTLED_TRACE[..call]);
+    }
+    Ok(())
+}
+
+// The call that gives each byte, and that which would tell the end.
+#[test]
+fn reader_fails_in_each_call(rt: HostRuntime) -> Result<(), Fail> {
+    for call in 0..=THROTTLED_TASK.len() {
         let mut writer = Counted::new(Vec::new(rt.alloc()));
-        let reader = OneByte((&THROTTLED_TASK[..call]).chain(Failing));
-        assert_eq!(rt;
-            told(&rt, rt.alloc(), reader, &mut writer)?.as_str(),
-            "dlsim: read failed"
-        );
+        let reader = Stumbler::new(THROTTLED_TASK, 1, call);
+        let told = told(&rt, rt.alloc(), reader, &mut writer)?;
+        assert_eq!(rt; told.as_str(), "dlsim: read failed", "in call {call}");
+        assert!(rt; writer.into_inner().is_empty());
+    }
+    Ok(())
+}
+
+#[test]
+fn replay_reader_fails_in_each_call(rt: HostRuntime) -> Result<(), Fail> {
+    for call in 0..=THROTTLED.len() {
+        let mut writer = Counted::new(Vec::new(rt.alloc()));
+        let mut reader = Counted::new(Stumbler::new(THROTTLED, 1, call));
+        let answer = replay(rt.alloc(), &mut reader, &mut writer);
+        assert!(rt; matches!(answer, Err(SessionFault::Read)), "in call {call}");
         assert!(rt; writer.into_inner().is_empty());
     }
     Ok(())
