@@ -1,4 +1,5 @@
 mod bad_lines;
+mod hostile;
 mod written;
 
 use super::*;

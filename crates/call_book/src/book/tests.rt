@@ -12,6 +12,7 @@ use std::sync::Wait;
 use std::test::Fail;
 use std::thread::Threads;
 
+mod memory;
 mod rates;
 mod shared;
 mod threads;
@@ -359,5 +360,40 @@ fn refused_growth_of_prepare(rt: HostRuntime) -> Result<(), Fail> {
         None => prepared_of(rt.alloc(), text),
     };
     assert_eq!(rt; prepared.map(|prepared| prepared.bw()), Some(419430));
+    Ok(())
+}
+
+// full_domain_and_no_bandwidth: 500 of 1000 fills the domain, 2 of 100 is refused at the word and stands nowhere, and 2 us of 4 s,
+// which is no bandwidth, is admitted still.
+#[test]
+fn full_domain_and_no_bandwidth(rt: HostRuntime) -> Result<(), Fail> {
+    let mut desk = opened(&rt, rt.alloc(), 524288, 9)?;
+    let text =
+        b"dlcalls 1\ndomain 1 524288\nadmit 1 1 a 500 1000 1000 - 0 1:1{r1}\nadmit 1 2 b 2 100 100 - 0 1:1{r1}\nadmit 1 3 c 2 4000000 4000000 - 0 1:1{r1}\n";
+    let got = replies(&rt, rt.alloc(), &mut desk, text);
+    let ends = end(rt.alloc(), desk);
+    let busy = Reply::Busy { seen: 524288 };
+    assert_eq!(rt;
+        got?.as_slice(),
+        [Reply::Admitted, busy, Reply::Admitted].as_slice()
+    );
+    assert_eq!(rt; ends, (524288, 524288, 2));
+    Ok(())
+}
+
+// refused_then_given_back: two thirds of a CPU leave no room for as much again, until the task has left and its bandwidth is back.
+#[test]
+fn refused_then_given_back(rt: HostRuntime) -> Result<(), Fail> {
+    let mut desk = opened_with(&rt, rt.alloc(), 1, 1048576, 9, 2)?;
+    let text =
+        b"dlcalls 1\ndomain 1 1048576\nadmit 1 1 a 10000 15000 15000 - 0 1:1{r1}\nadmit 1 2 b 10000 15000 15000 - 0 1:1{r1}\nleave 1 1\nadvance 1 1\nadmit 1 2 b 10000 15000 15000 - 0 1:1{r1}\n";
+    let got = replies(&rt, rt.alloc(), &mut desk, text);
+    let ends = end(rt.alloc(), desk);
+    let (busy, done) = (Reply::Busy { seen: 699050 }, Reply::Done { ticks: 1 });
+    assert_eq!(rt;
+        got?.as_slice(),
+        [Reply::Admitted, busy, Reply::Left, done, Reply::Admitted].as_slice()
+    );
+    assert_eq!(rt; ends, (699050, 699050, 4));
     Ok(())
 }
