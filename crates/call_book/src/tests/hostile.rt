@@ -9,11 +9,17 @@ const HOSTILE: [(&[u8], u64); 10] = [
     (b"dlcalls 1\r\ndomain 1 1048576\r\nadvance 1 1\r\n", 1),
     (b"dlcalls 1\ndomain 1 1048576\r\nadvance 1 1\n", 2),
     (b"dlcalls 1\ndomain 1 1048576\nadvance 1 1\n\r\n", 4),
-    (b"dlcalls 1\ndomain 1 1048576\nadmit 1 1 a\0b 2 5 5 - 0 1:1{r4}\n", 3),
+    (
+        b"dlcalls 1\ndomain 1 1048576\nadmit 1 1 a\0b 2 5 5 - 0 1:1{r4}\n",
+        3,
+    ),
     (b"dlcalls 1\ndomain 1 1048576\nadvance 1 1\0\n", 3),
     (b"dlcalls 1\ndomain 1 1048576\nadvance 1 1\0", 3),
     (b"dlcalls 1\ndomain 1 1048576\nadvance 1 1\n\0", 4),
-    (b"dlcalls 1\ndomain 1 1048576\nadmit 1 1 \xff 2 5 5 - 0 1:1{r4}\n", 3),
+    (
+        b"dlcalls 1\ndomain 1 1048576\nadmit 1 1 \xff 2 5 5 - 0 1:1{r4}\n",
+        3,
+    ),
     (b"\xef\xbb\xbfdlcalls 1\ndomain 1 1048576\n", 1),
     (b"\0", 1),
 ];

@@ -226,7 +226,11 @@ fn number_257_is_full(rt: HostRuntime) -> Result<(), Fail> {
         write!(text, "admit 1 {k} t 2 1000000 1000000 - 0 -1:1{{r1,s9}}\n")?;
     }
     let (said, report) = ran(&rt, rt.alloc(), text.as_bytes(), 1024)?;
-    let listed = said.as_str().split("; ").filter(|answer| *answer == "Admitted").count();
+    let listed = said
+        .as_str()
+        .split("; ")
+        .filter(|answer| *answer == "Admitted")
+        .count();
     assert_eq!(rt; listed, 256);
     assert!(rt; said.as_str().ends_with("Admitted; Full 40; "));
     assert_eq!(rt; entered(&report), 256);

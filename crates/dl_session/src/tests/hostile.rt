@@ -43,7 +43,10 @@ fn cut_and_hostile_bytes(rt: HostRuntime) -> Result<(), Fail> {
     }
     let deep = vec![in rt.alloc(); b'['; 1048576]?;
     let (said, written) = told(&rt, rt.alloc(), deep.as_slice())?;
-    assert_eq!(rt; (said.as_str(), written.as_str()), ("dlsim: json 12 at 16", ""));
+    assert_eq!(rt;
+        (said.as_str(), written.as_str()),
+        ("dlsim: json 12 at 16", "")
+    );
     Ok(())
 }
 
@@ -128,7 +131,11 @@ fn hostile_calls(rt: HostRuntime) -> Result<(), Fail> {
         assert_eq!(rt; said.as_str(), wanted);
         assert!(rt; written.is_empty());
     }
-    let lines: [&[u8]; 3] = [b"admit 1 1 a", b"advance 1 1", b"admit 1 1 a 2 5 5 - 0 1:1{r4"];
+    let lines: [&[u8]; 3] = [
+        b"admit 1 1 a",
+        b"advance 1 1",
+        b"admit 1 1 a 2 5 5 - 0 1:1{r4",
+    ];
     for line in lines {
         let text = stretched(rt.alloc(), line, 16777216)?;
         let (said, written) = replayed(rt.alloc(), text.as_slice())?;

@@ -1,6 +1,5 @@
 // Calls for which no memory is left. Under `prlimit --as=500000000` each test takes what there is before every call, and prints that
 // it is gone; else it takes a gigabyte of addresses at most, and the calls have memory.
-ghost use Rattle.std.specs.Prelude.{◌≡◌};
 
 use super::{Desk, Prepared, admit, end, entries_of, opened, prepare};
 use domain_run::{Call, Reply};
@@ -65,13 +64,13 @@ fn admit_all(
     mut ready: Vec<Prepared>,
     replies: &mut Vec<Reply>,
     blocks: &mut Vec<Vec<u8>>,
-) -> bool
-    ensures { desk.new.gate ≡ desk.old.gate }
-{
+) -> bool {
     let mut gone = true;
-    while let Some(prepared) = ready.pop() {
-        gone = hoard(alloc, blocks) && gone;
-        let _ = replies.push(admit(rt, desk, prepared));
+    for _ in 0..ready.len() {
+        if let Some(prepared) = ready.pop() {
+            gone = hoard(alloc, blocks) && gone;
+            let _ = replies.push(admit(rt, desk, prepared));
+        }
     }
     gone
 }
