@@ -356,7 +356,24 @@ impl<N: Names> Client<N> {
         ensures made { MakesRegrade self.old self.new domain number params result }
         ensures full { IsFullBook result }
     {
-        self.enter_at(rt, &session.hall, domain, Ask::Regrade { number, params })
+        self.regrade_in(rt, &session.hall, domain, number, params)
+    }
+
+    /// The same, with what the clients share of the session.
+    pub(crate) fn regrade_in<R: Wait>(
+        &mut self,
+        rt: &R,
+        hall: &Hall<N>,
+        domain: usize,
+        number: u32,
+        params: Params,
+    ) -> Answer
+        requires domain { IsPlace N.id domain }
+        requires call { IsCall (calls.Regrade number params None) }
+        ensures made { MakesRegrade self.old self.new domain number params result }
+        ensures full { IsFullBook result }
+    {
+        self.enter_at(rt, hall, domain, Ask::Regrade { number, params })
     }
 
     /// Wakes a task of a domain that waits, as [`Domain::wake`](call_book::Domain::wake) does. `Full` where the book is full.
@@ -388,7 +405,23 @@ impl<N: Names> Client<N> {
         ensures made { Makes self.old self.new (made_by domain (calls.Leave number) result) }
         ensures full { IsFullBook result }
     {
-        self.enter_at(rt, &session.hall, domain, Ask::Leave { number })
+        self.leave_in(rt, &session.hall, domain, number)
+    }
+
+    /// The same, with what the clients share of the session.
+    pub(crate) fn leave_in<R: Wait>(
+        &mut self,
+        rt: &R,
+        hall: &Hall<N>,
+        domain: usize,
+        number: u32,
+    ) -> Answer
+        requires domain { IsPlace N.id domain }
+        requires call { IsCall (calls.Leave number) }
+        ensures made { Makes self.old self.new (made_by domain (calls.Leave number) result) }
+        ensures full { IsFullBook result }
+    {
+        self.enter_at(rt, hall, domain, Ask::Leave { number })
     }
 
     /// Makes up to `ticks` ticks of a domain, 1 to 60000000, as [`Domain::advance`](call_book::Domain::advance) does. `Full` where
@@ -405,8 +438,24 @@ impl<N: Names> Client<N> {
         ensures made { MakesAdvance self.old self.new domain ticks result }
         ensures full { IsFullOrMemory result }
     {
-        let gate = &session.hall.gate;
-        let books = &session.hall.books;
+        self.advance_at(rt, &session.hall, domain, ticks)
+    }
+
+    /// The same, with what the clients share of the session.
+    pub(crate) fn advance_at<R: Threads + Wait>(
+        &mut self,
+        rt: &R,
+        hall: &Hall<N>,
+        domain: usize,
+        ticks: u64,
+    ) -> Answer
+        requires domain { IsPlace N.id domain }
+        requires call { IsCall (calls.Advance ticks) }
+        ensures made { MakesAdvance self.old self.new domain ticks result }
+        ensures full { IsFullOrMemory result }
+    {
+        let gate = &hall.gate;
+        let books = &hall.books;
         match domain {
             0 => self.advance_in(rt, &books.book0, gate, ticks),
             1 => self.advance_in(rt, &books.book1, gate, ticks),

@@ -14,7 +14,7 @@ use std::sync::Wait;
 use std::test::Fail;
 use std::thread::Threads;
 
-fn attr_of(params: &Params) -> SchedAttr {
+pub(super) fn attr_of(params: &Params) -> SchedAttr {
     SchedAttr {
         policy: 6,
         flags: if params.reclaim { 2 } else { 0 },
@@ -24,7 +24,7 @@ fn attr_of(params: &Params) -> SchedAttr {
     }
 }
 
-pub(super) fn make<N: Names, R: Threads + Wait>(
+fn make<N: Names, R: Threads + Wait>(
     rt: &R,
     alloc: Global,
     session: &Session<N>,

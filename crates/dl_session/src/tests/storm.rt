@@ -1,14 +1,16 @@
 // A storm: 64 clients at once, each in a thread of its own, on one domain.
 ghost use Rattle.std.specs.Prelude.{◌≡◌, ◌<◌, length, All, IfSome};
-ghost use Rattle.call_book.specs.Limits.{IsEntry};
+ghost use Rattle.call_book.specs.Limits.{IsCall, IsEntry};
 
-use super::clients::make;
+use super::clients::attr_of;
 use super::runs::options_on;
+use crate::refusal::Refusal;
+use crate::session::Hall;
 use crate::{Answer, Client, Names, Parts, Print, Report, Session};
-use call_book::{Entry, NoMemory, Reply, Section, read_calls};
+use call_book::{Call, Entry, NoMemory, Reply, Section, read_calls};
+use rtapp_scenario::TaskSpec;
 use std::alloc::Global;
 use std::marker::Brand;
-use std::process::Abort;
 use std::sync::Wait;
 use std::sync::atomic::{AtomicUsize, Ordering};
 use std::test::Fail;
@@ -35,9 +37,7 @@ fn arrive(here: &AtomicUsize) {
 }
 
 // A client's calls: an admission of half a CPU and a regrade to a quarter, and where it leaves, a tick and the task's end.
-fn entries_of(alloc: Global, client: u32, leaves: bool) -> Option<Vec<Entry>>
-    ensures { IfSome result (λ v. All IsEntry v.items) }
-{
+fn text_of(alloc: Global, client: u32, leaves: bool) -> Option<String> {
     let mut text = format!(in alloc;
         "dlcalls 1\ndomain 64 1048576\nadmit {client} {client} t 4 8 8 - 0 -1:1{{r2,s6}}\nregrade {client} {client} 2 8 8 -\n"
     ).ok()?;
@@ -45,7 +45,13 @@ fn entries_of(alloc: Global, client: u32, leaves: bool) -> Option<Vec<Entry>>
         let end = format!(in alloc; "advance {client} 1\nleave {client} {client}\n").ok()?;
         text.push_str(end.as_str()).ok()?;
     }
-    let mut sections = read_calls(alloc, text.as_bytes()).ok()?;
+    Some(text)
+}
+
+fn entries_of(alloc: Global, text: &[u8]) -> Option<Vec<Entry>>
+    ensures { IfSome result (λ v. All IsEntry v.items) }
+{
+    let mut sections = read_calls(alloc, text).ok()?;
     let Section {
         cpus: _,
         limit: _,
@@ -61,22 +67,66 @@ fn is_granted(answer: &Answer) -> bool {
     )
 }
 
+// Makes a call on the domain with what the clients share, as threads have it. No client wakes a task.
+fn make<N: Names, R: Threads + Wait>(
+    rt: &R,
+    alloc: Global,
+    hall: &Hall<N>,
+    client: &mut Client<N>,
+    call: Call,
+) -> Answer
+    requires call { IsCall call }
+    requires place { 0 < length N.id.cpu_sets }
+{
+    match call {
+        Call::Admit {
+            number,
+            name,
+            params,
+            delay,
+            script,
+        } => {
+            let task = TaskSpec {
+                number,
+                name,
+                attr: attr_of(&params),
+                cpus: None,
+                delay,
+                script,
+            };
+            client.admit_in(rt, alloc, hall, &task)
+        }
+        Call::Regrade {
+            number,
+            params,
+            word: _,
+        } => client.regrade_in(rt, hall, 0, number, params),
+        Call::Wake { number: _ } => Err(Refusal::Eperm),
+        Call::Leave { number } => client.leave_in(rt, hall, 0, number),
+        Call::Advance { ticks } => client.advance_at(rt, hall, 0, ticks),
+    }
+}
+
 // Lets a client make its calls, when all are here.
 fn play<N: Names, R: Threads + Wait>(
     rt: &R,
     alloc: Global,
-    session: &Session<N>,
+    hall: &Hall<N>,
     crowd: &Crowd,
     mut client: Client<N>,
-) -> Client<N> {
-    session.domains();
-    let Some(mut entries) = entries_of(alloc, client.number(), crowd.leaves) else {
+) -> Client<N>
+    requires { 0 < length N.id.cpu_sets }
+{
+    let Some(text) = text_of(alloc, client.number(), crowd.leaves) else {
+        return client;
+    };
+    let Some(mut entries) = entries_of(alloc, text.as_bytes()) else {
         return client;
     };
     entries.reverse();
     arrive(&crowd.here);
     while let Some(entry) = entries.pop() {
-        if is_granted(&make(rt, alloc, session, &mut client, entry.call)) {
+        if is_granted(&make(rt, alloc, hall, &mut client, entry.call)) {
             crowd.granted.fetch_add(1, Ordering::SeqCst);
         }
     }
@@ -99,20 +149,31 @@ fn rage<N: Names + Send + Sync, R: Threads + Wait + Sync>(
             let _ = clients.push(client);
         }
     }
-    let shared = &session;
+    session.domains();
+    let hall = &session.hall;
     let played = map_vec(
         rt,
         clients,
-        &|client: Client<N>| -> Client<N> { play(rt, alloc, shared, crowd, client) },
+        &|client: Client<N>| -> Client<N>
+            requires { 0 < length N.id.cpu_sets }
+        { play(rt, alloc, hall, crowd, client) },
     );
     let mut clients = played.unwrap_or(Vec::new(alloc));
-    session.domains();
     if let Some(first) = clients.first_mut()
         && crowd.leaves
     {
         let _ = first.advance(rt, &session, 0, 16);
     }
     session.close(alloc, clients)
+}
+
+fn rage_in<R: Threads + Wait + Sync>(
+    rt: &R,
+    alloc: Global,
+    parts: Parts,
+    crowd: &Crowd,
+) -> Result<Report, NoMemory> {
+    rage::<Brand, R>(rt, alloc, parts, crowd)
 }
 
 // How many calls were granted in a storm, the words that it left, and how many pieces came home.
@@ -129,7 +190,7 @@ fn left_by<R: Threads + Wait + Sync>(
         here: AtomicUsize::new(0),
         granted: AtomicUsize::new(0),
     };
-    let report = rage::<Brand, R>(rt, alloc, parts, &crowd)?;
+    let report = rage_in(rt, alloc, parts, &crowd)?;
     Ok((
         crowd.granted.load(Ordering::SeqCst),
         report.words,
