@@ -10,6 +10,7 @@ pub mod Runs
 pub mod Foreign
 pub mod Bytes
 pub mod Keys
+pub mod KeySets
 pub mod Trees
 pub mod AtOnce
 pub mod Turns

@@ -139,11 +139,7 @@ fn whole_object(members: Members, key: String, value: Tree) -> Result<Tree, Json
         (entries_of (members.list.items ++ (key, value) ∷ [])) no_members)) }
     ensures err { IfErr result (λ k. k ≡ Memory) }
 {
-    let Members {
-        mut list,
-        keys: _,
-        ascending: _,
-    } = members;
+    let Members { mut list, sets: _ } = members;
     add_last_member(&mut list, key, value)?;
     Ok(object_of(list))
 }
