@@ -12,6 +12,7 @@ pub mod Bytes
 pub mod Keys
 pub mod KeySets
 pub mod Trees
+pub mod Frames
 pub mod AtOnce
 pub mod Turns
 pub mod Rows

@@ -98,6 +98,7 @@ fn set_of(alloc: Global, members: &[(String, Tree)]) -> Result<KeySet, JsonKind>
 }
 
 /// Adds a member to a list of them. Where it is the first, room is taken for so many.
+#[inline(always)]
 fn add_member(
     list: &mut Vec<(String, Tree)>,
     room: usize,
@@ -115,6 +116,7 @@ fn add_member(
 }
 
 /// Adds a list's last member. Where it is the only one, room is taken for it alone.
+#[inline(always)]
 pub(crate) fn add_last_member(
     list: &mut Vec<(String, Tree)>,
     key: String,
@@ -163,6 +165,7 @@ fn with_greater(members: Members, key: String, value: Tree) -> Result<Members, J
 }
 
 /// The members with one more behind them, where they are few.
+#[inline(always)]
 fn with_few(members: Members, key: String, value: Tree) -> Result<Members, JsonKind>
     requires none { members.sets.items ≡ [] }
     ensures ok { IfOk result (λ m. m.list.items ≡ members.list.items ++ (key, value) ∷ []) }
@@ -177,6 +180,7 @@ fn with_few(members: Members, key: String, value: Tree) -> Result<Members, JsonK
 }
 
 /// The members with one more behind them.
+#[inline(always)]
 pub(crate) fn with_member(members: Members, key: String, value: Tree) -> Result<Members, JsonKind>
     ensures ok { IfOk result (λ m. m.list.items ≡ members.list.items ++ (key, value) ∷ []) }
     ensures err { IfErr result (λ k. k ≡ Memory) }
