@@ -179,6 +179,16 @@ fn with_few(members: Members, key: String, value: Tree) -> Result<Members, JsonK
     with_set(list)
 }
 
+/// The members with one more behind them, and a set of their keys.
+fn with_scattered(members: Members, key: String, value: Tree) -> Result<Members, JsonKind>
+    ensures ok { IfOk result (λ m. m.list.items ≡ members.list.items ++ (key, value) ∷ []) }
+    ensures err { IfErr result (λ k. k ≡ Memory) }
+{
+    let Members { mut list, sets: _ } = members;
+    add_member(&mut list, 2, key, value)?;
+    with_set(list)
+}
+
 /// The members with one more behind them.
 #[inline(always)]
 pub(crate) fn with_member(members: Members, key: String, value: Tree) -> Result<Members, JsonKind>
@@ -195,14 +205,4 @@ pub(crate) fn with_member(members: Members, key: String, value: Tree) -> Result<
         return with_greater(members, key, value);
     }
     with_scattered(members, key, value)
-}
-
-/// The members with one more behind them, and a set of their keys.
-fn with_scattered(members: Members, key: String, value: Tree) -> Result<Members, JsonKind>
-    ensures ok { IfOk result (λ m. m.list.items ≡ members.list.items ++ (key, value) ∷ []) }
-    ensures err { IfErr result (λ k. k ≡ Memory) }
-{
-    let Members { mut list, sets: _ } = members;
-    add_member(&mut list, 2, key, value)?;
-    with_set(list)
 }

@@ -117,7 +117,7 @@ fn whole_object(members: Members, key: String, value: Tree) -> Result<Tree, Json
     Ok(object_of(list))
 }
 
-/// Behind an item, where an object is not open: the list goes on.
+/// A comma behind a value: the list goes on, into which the value is put where it stands, or the object does.
 #[inline(always)]
 fn push_item(place: &mut Place, stack: &mut Vec<Frame>, value: Tree) -> Result<(), JsonKind>
     ensures ok { OnOk result (judged strict (next_move (json_of value) (frames_of stack.old.items) 44)
@@ -138,7 +138,7 @@ fn push_item(place: &mut Place, stack: &mut Vec<Frame>, value: Tree) -> Result<(
     }
 }
 
-/// Behind the value of a member: the object goes on.
+/// A comma behind the value of a member.
 #[inline(always)]
 fn push_member(place: &mut Place, stack: &mut Vec<Frame>, value: Tree) -> Result<(), JsonKind>
     requires { IsInObject (frames_of stack.old.items) }
@@ -155,7 +155,7 @@ fn push_member(place: &mut Place, stack: &mut Vec<Frame>, value: Tree) -> Result
     }
 }
 
-/// Behind the last item of a list.
+/// The list of these items and a last one.
 #[inline(always)]
 fn whole_list(mut items: Vec<Tree>, value: Tree) -> Result<Tree, JsonKind>
     ensures ok { IfOk result (λ t. json_of t ≡ array (items_with
