@@ -2,6 +2,8 @@ ghost use Rattle.std.specs.Prelude.{◌≡◌};
 ghost use Rattle.std.specs.Option.{option_map};
 ghost use Rattle.call_book.specs.private.Reading.{cut_at};
 
+use memchr::memchr;
+
 /// What stands before and after the first byte of this code, or nothing where there is none.
 pub(crate) fn cut(text: &[u8], at: u8) -> Option<(&[u8], &[u8])>
     ensures { option_map (λ p. (p.0.now, p.1.now)) result ≡ cut_at at text.now }
@@ -12,4 +14,15 @@ pub(crate) fn cut(text: &[u8], at: u8) -> Option<(&[u8], &[u8])>
         }
     }
     None
+}
+
+/// The first line, without its line break, and what follows, or nothing where no line ends. Lines are long enough to be searched
+/// by many bytes at a time.
+pub(crate) fn cut_line(text: &[u8]) -> Option<(&[u8], &[u8])>
+    ensures { option_map (λ p. (p.0.now, p.1.now)) result ≡ cut_at 10 text.now }
+{
+    match memchr(b'\n', text) {
+        Some(i) => Some((&text[..i], &text[i + 1..])),
+        None => None,
+    }
 }

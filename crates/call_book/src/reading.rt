@@ -5,7 +5,7 @@ ghost use Rattle.call_book.specs.Limits.{IsClient, AreRead};
 ghost use Rattle.call_book.specs.BadLine.{IsBadLine, IsReadFault};
 ghost use Rattle.call_book.specs.private.Reading.{Fails, fault_from, call_at, IsNext, AreEntries, IsFirstSection, IsNoSection, AreSectionsOf, IsSectionsFault};
 
-use crate::cut::cut;
+use crate::cut::cut_line;
 use crate::fault::{CallsFault, PartFault};
 use crate::line_text::{call_of, domain_of};
 use crate::section::{Entry, Section};
@@ -64,7 +64,7 @@ fn entries_of(alloc: Global, text: &[u8]) -> Result<(Vec<Entry>, &[u8]), PartFau
     let mut made = [0u64; 64];
     let mut rest = text;
     for _ in 0..MOST_CALLS {
-        let Some((line, after)) = cut(rest, b'\n') else {
+        let Some((line, after)) = cut_line(rest) else {
             return Ok((entries, rest));
         };
         let entry = match entry_of(alloc, line, &mut made) {
@@ -83,7 +83,7 @@ fn section_of(alloc: Global, text: &[u8]) -> Result<(Section, &[u8]), PartFault>
     ensures found { IfOk result (λ p. IsFirstSection text.now p.1.now p.0) }
     ensures fault { IfErr result (IsNoSection text.now) }
 {
-    let Some((line, rest)) = cut(text, b'\n') else {
+    let Some((line, rest)) = cut_line(text) else {
         return Err(PartFault::Bad);
     };
     let (cpus, limit) = domain_of(line)?;
@@ -134,7 +134,7 @@ fn whole_text(alloc: Global, text: &[u8]) -> Result<Vec<Section>, CallsFault>
     ensures found { IfOk result (λ v. AreRead v.items × (text.now ≡ spelling v.items)) }
     ensures fault { IfErr result (IsReadFault text.now) }
 {
-    let Some((header, rest)) = cut(text, b'\n') else {
+    let Some((header, rest)) = cut_line(text) else {
         return Err(CallsFault::BadLine { n: 1 });
     };
     if header != b"dlcalls 1".as_slice() {

@@ -13,6 +13,8 @@ use std::alloc::Global;
 const MOST: u64 = 1_000_000_000;
 /// The most events of a phase, and the most phases of a script.
 const MOST_ITEMS: u64 = 64;
+/// Room for so many events, and so many phases, is taken at first: most have no more.
+const ROOM: usize = 2;
 
 /// `rN`, `sN`, `tN` or `w`.
 #[tactic(auto, unfolding(crate::specs::private::Reading::event_at))]
@@ -43,7 +45,7 @@ fn event_first(text: &[u8]) -> Result<(Event, Option<&[u8]>), PartFault>
 fn events_of(alloc: Global, text: &[u8]) -> Result<Vec<Event>, PartFault>
     ensures { Gives (λ v. v.items) result (events_at text.now) }
 {
-    let mut events = Vec::new(alloc);
+    let mut events = Vec::with_capacity(alloc, ROOM)?;
     let mut rest = text;
     for _ in 0..MOST_ITEMS {
         let (event, after) = event_first(rest)?;
@@ -89,7 +91,7 @@ fn phase_first(alloc: Global, text: &[u8]) -> Result<(Phase, Option<&[u8]>), Par
 fn phases_of(alloc: Global, text: &[u8]) -> Result<Vec<Phase>, PartFault>
     ensures { Gives (λ v. v.items) result (phases_at text.now) }
 {
-    let mut phases = Vec::new(alloc);
+    let mut phases = Vec::with_capacity(alloc, ROOM)?;
     let mut rest = text;
     for _ in 0..MOST_ITEMS {
         let (phase, after) = phase_first(alloc, rest)?;

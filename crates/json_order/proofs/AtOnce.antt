@@ -2,21 +2,25 @@
 use Rattle.std.specs.Prelude.{option_and_then, ◌==◌, nat_le, encode_utf8, encode_utf8_all, slice_index}
 use Rattle.std.specs.Str.{IsUtf8, IsAscii, IsCharBoundary}
 use Rattle.std.specs.List.{All, AllByRecursion}
-use Rattle.std.proofs.Common.{ℕ, ◌+◌, ◌<◌, ◌≤◌, ◌≡◌, ◌⊎◌, inl, inr, Bool, true, false, not, ◌&&◌, List, [], ◌∷◌, ◌++◌, length, take, drop, refl, sym, ap, ◌∙◌, subst, arith, Option, Some, None, Result, Ok, Err, IfOk, append-nil, append_assoc}
-use Rattle.std.proofs.lemmas.Bool.{cases_lt}
+use Rattle.std.proofs.Common.{ℕ, ◌<◌, ◌≤◌, ◌≡◌, inl, inr, Bool, true, false, not, ◌&&◌, List, [], ◌∷◌, ◌++◌, length, take, drop, refl, sym, ap, ◌∙◌, subst, arith, Option, Some, None, Result, Ok, Err, IfOk, append-nil, append_assoc}
+use Rattle.std.proofs.lemmas.Bool.{cases_lt, eq-eqb}
 use Rattle.std.proofs.lemmas.Bool.Decides.{nat_tests}
 use Rattle.std.proofs.lemmas.Str.{encode_ascii, encodes-append, encodes-IsAscii, IsUtf8-take, IsUtf8-from_ascii, IsCharBoundary-from_take}
 use Rattle.std.proofs.lemmas.Str.Ascii.{IsAscii-from_all}
 use Rattle.std.proofs.lemmas.List.{take-append-drop}
 use Rattle.std.proofs.lemmas.List.Elements.{recursion_from_All, All-from_recursion}
+use Rattle.json_order.specs.Json.{Json}
 use Rattle.json_order.specs.Grammar.{is_plain}
 use Rattle.json_order.specs.Fault.{strict}
-use Rattle.json_order.specs.private.Machine.{Entries, Place, Frame, State, state, run_on, run, IsFine, in_string, in_key, in_number, quote_step, going, part_step}
+use Rattle.json_order.specs.private.Machine.{Entries, Place, Frame, State, state, run_on, run, IsFine, in_string, in_key, in_number, in_word, quote_step, going, part_step}
 use Rattle.json_order.specs.private.AtOnce.{MovesPlain, Takes, TakesQuoted, parts_after}
 use Rattle.json_order.specs.declared.fault.JsonKind.{JsonKind}
 use Rattle.json_order.specs.declared.place.Escape.{Escape}
 use Rattle.json_order.specs.declared.place.Escape.TheVariants.{Outside}
 use Rattle.json_order.specs.declared.place.Part.{Part}
+use Rattle.json_order.specs.declared.word.Word.{Word}
+use Rattle.json_order.specs.declared.word.Word.TheVariants.{Null, True, False}
+use Rattle.json_order.specs.private.Places.{letters_from, value_of}
 use Rattle.json_order.proofs.Numbers.{IsInside, Goes, part_goes}
 use Rattle.json_order.proofs.Strings.{FineQuote, fine_quote}
 
@@ -175,3 +179,20 @@ takes_number old new bytes after n p q h e f =
 -- a text may be cut behind a number
 pub number_cut : (bytes : List ℕ) (n : ℕ) (p q : Part) → IsUtf8 bytes → n ≤ length bytes → parts_after p (take n bytes) ≡ Some q → IsCharBoundary bytes n
 number_cut bytes n p q u l h = IsCharBoundary-from_take bytes n u l (IsUtf8-from_ascii (take n bytes) (ascii (take n bytes) p q h))
+
+-- WORDS
+
+pub word_run : (ls : List ℕ) (v : Json) (fs : List Frame) → run strict (Ok (state (in_word ls v) fs)) ls ≡ Ok (state (in_word [] v) fs)
+word_run [] v fs = refl
+word_run (l ∷ ls) v fs = rw (eq-eqb l l refl) (word_run ls v fs)
+
+word_ascii : (w : Word) → encode_utf8_all (letters_from w 1) ≡ letters_from w 1
+unfolding lib.Utf8.encode
+word_ascii Null = refl
+word_ascii True = refl
+word_ascii False = refl
+
+-- the letters behind the first, all of them
+pub takes_word : (w : Word) (read new : ℕ) (tail rest after : List ℕ) → read ≡ 1 → tail ≡ letters_from w 1 → letters_from w new ≡ [] → rest ≡ tail ++ after → Takes (in_word (letters_from w read) (value_of w)) (in_word (letters_from w new) (value_of w)) rest after
+takes_word w read new tail rest after one e done split =
+    (letters_from w 1, split ∙ ap (λ x. x ++ after) (e ∙ sym (word_ascii w)), λ fs. rw (one, done) (word_run (letters_from w 1) (value_of w) fs))

@@ -39,24 +39,6 @@ has_front (m ∷ xs) ys key h = go (bytes_eq (string_bytes m.0) key) h (λ e. ha
     go true h more = refl
     go false h more = more h
 
--- where the keys stand in order they are those of the members, and else there are none
-pub many : (n : ℕ) (a b : Bool) → 16 < n → a ≡ false → ((nat_lt 16 n && not a) && b) ≡ b
-many n a b h e = rw (lt_to 16 n h, e) refl
-
-pub ascends : (n : ℕ) (a b : Bool) → a ≡ true → ((nat_lt 16 n && not a) && b) ≡ false
-ascends n a b e = rw e (go (nat_lt 16 n))
-  where
-    go : (t : Bool) → ((t && false) && b) ≡ false
-    go true = refl
-    go false = refl
-
-pub few : (n : ℕ) (a b : Bool) → n ≤ 16 → ((nat_lt 16 n && not a) && b) ≡ false
-few n a b h = go (nat_lt 16 n) refl
-  where
-    go : (t : Bool) → nat_lt 16 n ≡ t → ((t && not a) && b) ≡ false
-    go true e = let l = lt_from 16 n e in absurd (omega arith)
-    go false e = refl
-
 -- KEYS THAT ASCEND
 
 less : (o : Ordering) → is_lt o ≡ true → o ≡ Less

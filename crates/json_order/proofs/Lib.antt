@@ -10,7 +10,9 @@ pub mod Runs
 pub mod Foreign
 pub mod Bytes
 pub mod Keys
+pub mod KeySets
 pub mod Trees
+pub mod Frames
 pub mod AtOnce
 pub mod Turns
 pub mod Rows

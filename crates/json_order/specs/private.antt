@@ -2,3 +2,5 @@ pub mod Machine
 pub mod Places
 pub mod Entries
 pub mod AtOnce
+pub mod Marks
+pub mod KeySets

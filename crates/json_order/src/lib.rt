@@ -7,6 +7,7 @@
 #![tactic(auto)]
 
 mod fault;
+mod key_set;
 mod members;
 mod number;
 mod place;

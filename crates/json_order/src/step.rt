@@ -6,8 +6,8 @@ ghost use Rattle.json_order.specs.Fault.{strict};
 ghost use Rattle.json_order.specs.Grammar as grammar;
 ghost use Rattle.json_order.specs.Json.{array, no_items, object, no_members};
 ghost use Rattle.json_order.specs.private.Machine.{Frame as StackFrame, IsFine, IsFinePlace, in_list, in_object, state, judged, step as machine_step, move, at_first_item, at_first_key, at_next_key, in_key, behind_key, in_string, in_number, in_word, value_move, next_move, behind_move};
-ghost use Rattle.json_order.specs.private.Places.{place_of, frames_of, state_of, entries_of, letters_from, value_of, Says};
-ghost use Rattle.json_order.specs.Seen.{json_of, members_with};
+ghost use Rattle.json_order.specs.private.Places.{place_of, frames_of, state_of, entries_of, letters_from, value_of, Says, IsInObject};
+ghost use Rattle.json_order.specs.Seen.{json_of, items_with, members_with};
 
 use crate::fault::JsonKind;
 use crate::members::{Members, add_last_member, with_member};
@@ -86,34 +86,6 @@ fn value_step(alloc: Global, place: &mut Place, stack: &Vec<Frame>, c: char) -> 
     }
 }
 
-/// Behind an item of a list.
-fn item_step(
-    place: &mut Place,
-    stack: &mut Vec<Frame>,
-    mut items: Vec<Tree>,
-    value: Tree,
-    c: char,
-) -> Result<(), JsonKind>
-    ensures ok { OnOk result (judged strict (next_move (json_of value)
-        (in_list (map json_of items.items) ∷ frames_of stack.old.items) c)
-        ≡ Ok (state_of place.new stack.new.items)) }
-    ensures err { IfErr result (Says (judged strict (next_move (json_of value)
-        (in_list (map json_of items.items) ∷ frames_of stack.old.items) c))) }
-{
-    match c {
-        ',' => {
-            items.push(value)?;
-            stack.push(Frame::List(items))?;
-            go_to(place, Place::Value)
-        }
-        ']' => {
-            add_last(&mut items, value)?;
-            go_to(place, Place::Behind(Tree::List(items)))
-        }
-        _ => Err(JsonKind::Syntax),
-    }
-}
-
 /// Adds a list's last item. Where it is the only one, room is taken for it alone.
 fn add_last(items: &mut Vec<Tree>, value: Tree) -> Result<(), JsonKind>
     ensures ok { OnOk result (items.new.items ≡ items.old.items ++ value ∷ []) }
@@ -134,42 +106,68 @@ fn object_of(list: Vec<(String, Tree)>) -> Tree
 }
 
 /// The object of these members and a last one.
+#[inline(always)]
 fn whole_object(members: Members, key: String, value: Tree) -> Result<Tree, JsonKind>
     ensures ok { IfOk result (λ t. json_of t ≡ object (members_with
         (entries_of (members.list.items ++ (key, value) ∷ [])) no_members)) }
     ensures err { IfErr result (λ k. k ≡ Memory) }
 {
-    let Members {
-        mut list,
-        keys: _,
-        ascending: _,
-    } = members;
+    let Members { mut list, sets: _ } = members;
     add_last_member(&mut list, key, value)?;
     Ok(object_of(list))
 }
 
-/// Behind the value of a member of an object.
-fn member_step(
-    place: &mut Place,
-    members: Members,
-    key: String,
-    value: Tree,
-    c: char,
-) -> Result<(), JsonKind>
-    ensures ok { OnOk result ((fs : List StackFrame) → judged strict
-        (next_move (json_of value) (in_object (entries_of members.list.items)
-        (string_bytes key) ∷ fs) c) ≡ Ok (state (place_of place.new) fs)) }
-    ensures err { IfErr result (λ k. (fs : List StackFrame) → Says (judged strict (next_move
-        (json_of value) (in_object (entries_of members.list.items) (string_bytes key) ∷ fs) c)) k) }
+/// A comma behind a value: the list goes on, into which the value is put where it stands, or the object does.
+#[inline(always)]
+fn push_item(place: &mut Place, stack: &mut Vec<Frame>, value: Tree) -> Result<(), JsonKind>
+    ensures ok { OnOk result (judged strict (next_move (json_of value) (frames_of stack.old.items) 44)
+        ≡ Ok (state_of place.new stack.new.items)) }
+    ensures err { IfErr result
+        (Says (judged strict (next_move (json_of value) (frames_of stack.old.items) 44))) }
 {
-    match c {
-        ',' => go_to(place, Place::NextKey(with_member(members, key, value)?)),
-        '}' => go_to(place, Place::Behind(whole_object(members, key, value)?)),
-        _ => Err(JsonKind::Syntax),
+    let open = stack.len();
+    if open == 0 {
+        return Err(JsonKind::Syntax);
+    }
+    match &mut stack[open - 1] {
+        Frame::List(items) => {
+            items.push(value)?;
+            go_to(place, Place::Value)
+        }
+        Frame::Object(_, _) => push_member(place, stack, value),
     }
 }
 
+/// A comma behind the value of a member.
+#[inline(always)]
+fn push_member(place: &mut Place, stack: &mut Vec<Frame>, value: Tree) -> Result<(), JsonKind>
+    requires { IsInObject (frames_of stack.old.items) }
+    ensures ok { OnOk result (judged strict (next_move (json_of value) (frames_of stack.old.items) 44)
+        ≡ Ok (state_of place.new stack.new.items)) }
+    ensures err { IfErr result
+        (Says (judged strict (next_move (json_of value) (frames_of stack.old.items) 44))) }
+{
+    match stack.pop() {
+        Some(Frame::Object(members, key)) => {
+            go_to(place, Place::NextKey(with_member(members, key, value)?))
+        }
+        _ => unreachable!(),
+    }
+}
+
+/// The list of these items and a last one.
+#[inline(always)]
+fn whole_list(mut items: Vec<Tree>, value: Tree) -> Result<Tree, JsonKind>
+    ensures ok { IfOk result (λ t. json_of t ≡ array (items_with
+        (map json_of items.items ++ json_of value ∷ []) no_items)) }
+    ensures err { IfErr result (λ k. k ≡ Memory) }
+{
+    add_last(&mut items, value)?;
+    Ok(Tree::List(items))
+}
+
 /// Behind a value and its white space.
+#[inline(always)]
 fn next_step(
     place: &mut Place,
     stack: &mut Vec<Frame>,
@@ -181,10 +179,19 @@ fn next_step(
     ensures err { IfErr result
         (Says (judged strict (next_move (json_of value) (frames_of stack.old.items) c))) }
 {
-    match stack.pop() {
-        None => Err(JsonKind::Syntax),
-        Some(Frame::List(items)) => item_step(place, stack, items, value, c),
-        Some(Frame::Object(members, key)) => member_step(place, members, key, value, c),
+    match c {
+        ',' => push_item(place, stack, value),
+        ']' => match stack.pop() {
+            Some(Frame::List(items)) => go_to(place, Place::Behind(whole_list(items, value)?)),
+            _ => Err(JsonKind::Syntax),
+        },
+        '}' => match stack.pop() {
+            Some(Frame::Object(members, key)) => {
+                go_to(place, Place::Behind(whole_object(members, key, value)?))
+            }
+            _ => Err(JsonKind::Syntax),
+        },
+        _ => Err(JsonKind::Syntax),
     }
 }
 
@@ -220,14 +227,13 @@ fn first_item_step(
     stack: &mut Vec<Frame>,
     c: char,
 ) -> Result<(), JsonKind>
-    requires { place_of place.old ≡ at_first_item }
     ensures ok { OnOk result (judged strict (move at_first_item (frames_of stack.old.items) c)
         ≡ Ok (state_of place.new stack.new.items)) }
     ensures err { IfErr result
         (Says (judged strict (move at_first_item (frames_of stack.old.items) c))) }
 {
     if is_space(c) {
-        return Ok(());
+        return go_to(place, Place::FirstItem);
     }
     if c == ']' {
         return go_to(place, Place::Behind(empty_list(alloc)));
@@ -397,100 +403,8 @@ fn word_step(
     }
 }
 
-/// The place and the stack once c follows. What the place holds is moved out of it field by field.
-#[inline(always)]
-fn step(alloc: Global, place: &mut Place, stack: &mut Vec<Frame>, c: char) -> Result<(), JsonKind>
-    requires fine { IsFinePlace (place_of place.old) }
-    ensures ok { OnOk result (machine_step strict (state_of place.old stack.old.items) c
-        ≡ Ok (state_of place.new stack.new.items)) }
-    ensures err { IfErr result (Says (machine_step strict (state_of place.old stack.old.items) c)) }
-{
-    match place {
-        Place::Value => {
-            if is_space(c) {
-                return Ok(());
-            }
-            value_step(alloc, place, stack, c)
-        }
-        Place::FirstItem => first_item_step(alloc, place, stack, c),
-        Place::Behind(value) => {
-            let value = mem::replace(value, Tree::Null);
-            behind_step(place, stack, value, c)
-        }
-        Place::FirstKey => first_key_step(alloc, place, c),
-        Place::NextKey(members) => {
-            let members = mem::replace(members, Members::new(alloc));
-            next_key_step(alloc, place, members, c)
-        }
-        Place::Key(members, text, escape) => {
-            let escape = *escape;
-            let members = mem::replace(members, Members::new(alloc));
-            let text = mem::replace(text, String::new(alloc));
-            key_step(place, members, text, escape, c)
-        }
-        Place::Colon(members, key) => {
-            let members = mem::replace(members, Members::new(alloc));
-            let key = mem::replace(key, String::new(alloc));
-            colon_step(place, stack, members, key, c)
-        }
-        Place::Text(text, escape) => {
-            let escape = *escape;
-            let text = mem::replace(text, String::new(alloc));
-            text_step(place, text, escape, c)
-        }
-        Place::Number(text, part) => {
-            let part = *part;
-            let text = mem::replace(text, String::new(alloc));
-            number_step(place, stack, text, part, c)
-        }
-        Place::Word(word, read) => {
-            let word = *word;
-            let read = *read;
-            word_step(place, stack, word, read, c)
-        }
-    }
-}
-
-/// Takes c into a word that goes on with it, and says so. Behind the word's last letter nothing changes.
-fn take_letter(word: Word, read: &mut usize, c: char) -> Result<bool, JsonKind>
-    ensures taken { IfOk result (λ b. OnTrue b (letters_from word read.old
-        ≡ c ∷ letters_from word read.new)) }
-    ensures not_taken { IfOk result (λ b. OnFalse b ((letters_from word read.old ≡ [])
-        × (read.new ≡ read.old))) }
-    ensures err { IfErr result (λ k. (fs : List StackFrame) → Says (judged strict
-        (move (in_word (letters_from word read.old) (value_of word)) fs c)) k) }
-{
-    match word.letter(*read) {
-        Some(letter) => {
-            if c != letter {
-                return Err(JsonKind::Syntax);
-            }
-            *read += 1;
-            Ok(true)
-        }
-        None => Ok(false),
-    }
-}
-
-/// Takes c in place and says so, where the reader goes on in a word or in white space. Elsewhere nothing changes. On an
-/// error the place is left as it may be.
-#[inline(always)]
-fn take_inside(place: &mut Place, c: char) -> Result<bool, JsonKind>
-    ensures taken { IfOk result (λ b. OnTrue b ((fs : List StackFrame)
-        → machine_step strict (state (place_of place.old) fs) c
-        ≡ Ok (state (place_of place.new) fs))) }
-    ensures not_taken { IfOk result (λ b. OnFalse b (place.new ≡ place.old)) }
-    ensures err { IfErr result (λ k. (fs : List StackFrame)
-        → Says (machine_step strict (state (place_of place.old) fs) c) k) }
-{
-    match place {
-        Place::Word(word, read) => take_letter(*word, read, c),
-        Place::Value | Place::Behind(_) => Ok(is_space(c)),
-        _ => Ok(false),
-    }
-}
-
 /// The place and the stack once c follows. On an error they are left as they may be.
+#[inline(always)]
 pub(crate) fn turn(
     alloc: Global,
     place: &mut Place,
@@ -502,9 +416,21 @@ pub(crate) fn turn(
         ≡ Ok (state_of place.new stack.new.items)) }
     ensures err { IfErr result (Says (machine_step strict (state_of place.old stack.old.items) c)) }
 {
-    match take_inside(place, c) {
-        Ok(true) => Ok(()),
-        Ok(false) => step(alloc, place, stack, c),
-        Err(kind) => Err(kind),
+    match mem::replace(place, Place::Value) {
+        Place::Value => {
+            if is_space(c) {
+                return Ok(());
+            }
+            value_step(alloc, place, stack, c)
+        }
+        Place::FirstItem => first_item_step(alloc, place, stack, c),
+        Place::Behind(value) => behind_step(place, stack, value, c),
+        Place::FirstKey => first_key_step(alloc, place, c),
+        Place::NextKey(members) => next_key_step(alloc, place, members, c),
+        Place::Key(members, text, escape) => key_step(place, members, text, escape, c),
+        Place::Colon(members, key) => colon_step(place, stack, members, key, c),
+        Place::Text(text, escape) => text_step(place, text, escape, c),
+        Place::Number(text, part) => number_step(place, stack, text, part, c),
+        Place::Word(word, read) => word_step(place, stack, word, read, c),
     }
 }

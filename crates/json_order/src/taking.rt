@@ -2,14 +2,15 @@ ghost use Rattle.std.specs.Prelude.{◌≡◌, true, ◌<◌, ◌≤◌, Some, I
 ghost use Rattle.std.specs.List.{All};
 ghost use Rattle.json_order.specs.declared.fault.JsonKind.TheVariants.{Memory};
 ghost use Rattle.json_order.specs.Grammar as grammar;
-ghost use Rattle.json_order.specs.private.Places.{place_of};
+ghost use Rattle.json_order.specs.private.Places.{place_of, letters_from, value_of};
 ghost use Rattle.json_order.specs.private.AtOnce.{Takes, TakesQuoted, MovesPlain, parts_after};
-ghost use Rattle.json_order.specs.private.Machine.{IsFine, IsFinePlace, in_number};
+ghost use Rattle.json_order.specs.private.Machine.{IsFine, IsFinePlace, in_number, in_word};
 
 use crate::fault::JsonKind;
 use crate::number::part_step;
 use crate::place::{Escape, Part, Place};
 use crate::quote::{Quote, quote_step};
+use crate::word::Word;
 
 /// A byte that stands for itself in a string: from the space on, and no quote or backslash.
 #[inline(always)]
@@ -115,7 +116,24 @@ fn take_number<'a>(text: &mut String, part: &mut Part, rest: &'a str) -> Result<
     Ok(after)
 }
 
-/// Takes at once the characters in front that a string or a number goes on with; what stands behind them. On an error the
+/// Takes the letters behind a word's first at once, where they all stand in front; what stands behind them.
+fn take_word<'a>(word: Word, read: &mut usize, rest: &'a str) -> &'a str
+    ensures { Takes (in_word (letters_from word read.old) (value_of word))
+        (in_word (letters_from word read.new) (value_of word)) rest.now result.now }
+{
+    if *read != 1 {
+        return rest;
+    }
+    match rest.strip_prefix(word.tail()) {
+        Some(after) => {
+            *read = word.len();
+            after
+        }
+        None => rest,
+    }
+}
+
+/// Takes at once the characters in front that a string, a number or a word goes on with; what stands behind them. On an error the
 /// place is left as it may be.
 #[inline(always)]
 pub(crate) fn take_run<'a>(place: &mut Place, rest: &'a str) -> Result<&'a str, JsonKind>
@@ -128,6 +146,7 @@ pub(crate) fn take_run<'a>(place: &mut Place, rest: &'a str) -> Result<&'a str, 
         Place::Text(text, escape) => take_quoted(text, escape, rest),
         Place::Key(_, text, escape) => take_quoted(text, escape, rest),
         Place::Number(text, part) => take_number(text, part, rest),
+        Place::Word(word, read) => Ok(take_word(*word, read, rest)),
         _ => Ok(rest),
     }
 }

@@ -37,6 +37,27 @@ impl Word {
         }
     }
 
+    /// The letters behind the first.
+    pub(crate) fn tail(self) -> &'static str
+        ensures { result.now ≡ letters_from self 1 }
+    {
+        match self {
+            Word::Null => "ull",
+            Word::True => "rue",
+            Word::False => "alse",
+        }
+    }
+
+    /// How many letters it has.
+    pub(crate) fn len(self) -> usize
+        ensures { letters_from self result ≡ [] }
+    {
+        match self {
+            Word::Null | Word::True => 4,
+            Word::False => 5,
+        }
+    }
+
     pub(crate) fn tree(self) -> Tree
         ensures { json_of result ≡ value_of self }
     {

@@ -48,6 +48,7 @@ impl Model for Batch {
 }
 
 impl Batch {
+    #[inline(always)]
     pub(crate) fn new() -> Batch
         ensures { result ≡ [] }
     {

@@ -15,6 +15,7 @@ impl Piece {
     ghost use Rattle.switch_text.specs.private.Pieces.{text_of};
 
     /// No byte.
+    #[inline(always)]
     pub(crate) fn empty() -> Piece
         ensures { text_of result ≡ [] }
     {

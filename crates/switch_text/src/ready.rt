@@ -65,6 +65,7 @@ pub(crate) struct Texts {
     pub(crate) middles: Middles,
 }
 
+#[inline(always)]
 fn no_slot() -> Slot
     ensures { result.who ≡ Who.Nobody }
 {
@@ -108,7 +109,8 @@ fn clock_at(second: u64) -> Clock
     }
 }
 
-/// Nothing but the states and the first second.
+/// Nothing but the states and the first second. Put together where it stands, since it is large.
+#[inline(always)]
 pub(crate) fn no_texts(runs: &[Run<'_>]) -> Texts
     ensures { IsTexts runs.now result }
 {

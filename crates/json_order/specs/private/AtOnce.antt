@@ -1,5 +1,5 @@
 -- What the reader takes at once: several characters in front of what is left.
-use Rattle.std.specs.Prelude.{ℕ, ◌≡◌, true, List, [], ◌∷◌, ◌++◌, Option, Some, None, Ok, option_and_then, encode_utf8_all}
+use Rattle.std.specs.Prelude.{ℕ, ◌≡◌, true, List, [], ◌∷◌, ◌++◌, Option, Some, Ok, option_and_then, encode_utf8_all}
 use Rattle.std.specs.List.{AllByRecursion}
 use Rattle.json_order.specs.Grammar.{is_plain}
 use Rattle.json_order.specs.Fault.{strict}

@@ -1,5 +1,5 @@
 -- The keys of an object's members, and their order.
-use Rattle.std.specs.Prelude.{ℕ, Bool, true, ◌&&◌, List, [], ◌∷◌, map, string_bytes}
+use Rattle.std.specs.Prelude.{ℕ, ◌≡◌, Bool, true, ◌&&◌, List, [], ◌∷◌, map, string_bytes}
 use Rattle.std.specs.Ordering.{nat_cmp, is_lt}
 use Rattle.std.specs.Cmp.Lexicographic.{slice_cmp}
 use Rattle.std.specs.declared.string.String.{String}
@@ -20,3 +20,7 @@ abbrev pub last_below : List (List ℕ) → List ℕ → Bool
 last_below [] key = true
 last_below (k ∷ []) key = is_lt (slice_cmp nat_cmp k key)
 last_below (k ∷ l ∷ ks) key = last_below (l ∷ ks) key
+
+-- a key that is greater than the last is greater than all
+abbrev pub Ascend : List (List ℕ) → Type 0
+Ascend ks = (key : List ℕ) → last_below ks key ≡ true → all_below ks key ≡ true

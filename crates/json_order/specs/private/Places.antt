@@ -1,5 +1,5 @@
 -- What the reader's own types stand for. Private contracts cite these.
-use Rattle.std.specs.Prelude.{ℕ, ◌≡◌, true, false, List, map, reverse, drop, Option, None, Result, Err, codes, string_bytes}
+use Rattle.std.specs.Prelude.{ℕ, ◌≡◌, true, false, List, [], ◌∷◌, map, reverse, drop, Option, None, Result, Err, codes, string_bytes}
 use Rattle.std.specs.declared.string.String.{String}
 use Rattle.std.specs.declared.alloc.Global.{Global}
 use Rattle.json_order.specs.Json.{Json, null, boolean}
@@ -78,3 +78,9 @@ Says o End = o ≡ Err End
 Says o Depth = o ≡ Err Depth
 Says o Duplicate = o ≡ Err Duplicate
 Says o Utf8 = o ≡ Err Utf8
+
+-- the innermost frame is that of an object
+abbrev pub IsInObject : List Frame → Type 0
+IsInObject [] = ⊥
+IsInObject (in_list vs ∷ fs) = ⊥
+IsInObject (in_object es key ∷ fs) = Unit {0}

@@ -5,7 +5,7 @@ use Rattle.call_book.proofs.script_text.phases_of.Goals as goal
 
 pub returns-in_err-phase : goal.returns-in_err-phase
 returns-in_err-phase c =
-    let p = err_from_is_err_and c.from_residual.result c.from_residual.ensures.1 in
+    let p = err_from_is_err_and c.from_residual-in_err-phase.result c.from_residual-in_err-phase.ensures.1 in
     rw (p.1, p.2) (stops phase_first_at c.in_err-phase.field-0.0 c.loop.phases.items 64 c.loop.counter c.loop.rest.now (many_at phase_first_at 64 c.args.text.now) c.loop-test.true c.in_err-phase.ensures c.loop.invariant)
 
 pub returns-in-None : goal.returns-in-None

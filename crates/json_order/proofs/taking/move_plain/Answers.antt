@@ -1,4 +1,4 @@
-use Rattle.std.proofs.Common.{◌≡◌, ◌<◌, ◌≤◌, ◌++◌, true, length, take, drop, slice_index, string_bytes, rules, arith}
+use Rattle.std.proofs.Common.{◌≡◌, ◌<◌, ◌≤◌, ◌++◌, true, length, take, slice_index, string_bytes, rules}
 use Rattle.std.specs.List.{All}
 use Rattle.json_order.specs.Grammar.{is_plain}
 use Rattle.json_order.proofs.AtOnce.{moves_plain}

@@ -1,4 +1,4 @@
-use Rattle.std.proofs.Common.{◌≡◌, Some, refl, length, take, slice_index_or, sym, ap, ◌∙◌, subst, arith, rules}
+use Rattle.std.proofs.Common.{◌≡◌, Some, refl, length, take, slice_index_or, ap, ◌∙◌, subst, arith, rules}
 use Rattle.std.proofs.lemmas.List.{take_more}
 use Rattle.json_order.specs.private.AtOnce.{parts_after}
 use Rattle.json_order.specs.private.Machine.{part_step}

@@ -1,8 +1,8 @@
 use Rattle.std.specs.Str.Iter.{chars_rest}
-use Rattle.std.proofs.Common.{◌≡◌, Some, string_bytes, refl, sym, ◌∙◌, subst}
+use Rattle.std.proofs.Common.{◌≡◌, Some, string_bytes, sym, ◌∙◌, subst}
 use Rattle.json_order.specs.private.AtOnce.{TakesQuoted}
 use Rattle.json_order.specs.private.Machine.{quote_step, going}
-use Rattle.json_order.proofs.AtOnce.{quoted_nothing, quoted_more, quoted_one, fine_going}
+use Rattle.json_order.proofs.AtOnce.{quoted_more, quoted_one, fine_going}
 use Rattle.json_order.proofs.taking.take_quoted.Goals as goal
 
 pub returns-in-None-clause-ok : goal.returns-in-None-clause-ok

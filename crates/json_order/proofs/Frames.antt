@@ -1,0 +1,36 @@
+-- The stack with another innermost frame.
+use Rattle.std.specs.declared.vec.Vec.{Vec}
+use Rattle.std.specs.declared.alloc.Global.{Global}
+use Rattle.std.proofs.Common.{ℕ, ◌+◌, ◌≡◌, List, [], ◌∷◌, ◌++◌, length, get_or, set, take, map, reverse, Result, Ok, Err, OnOk, refl, sym, ap, ◌∙◌, arith}
+use Rattle.std.proofs.lemmas.List.{take_all, take_more, take_more_set, length-set, map_push, reverse-append}
+use Rattle.json_order.specs.Seen.{json_of}
+use Rattle.json_order.specs.Fault.{strict}
+use Rattle.json_order.specs.private.Machine.{state, at_value, judged, next_move}
+use Rattle.json_order.specs.private.Places.{frame_of, frames_of}
+use Rattle.json_order.specs.declared.tree.Tree.{Tree}
+use Rattle.json_order.specs.declared.place.Frame.{Frame as CodeFrame}
+use Rattle.json_order.specs.declared.place.Frame.TheVariants.{List as ListFrame}
+
+frames_push : (fs : List CodeFrame) (f : CodeFrame) → frames_of (fs ++ f ∷ []) ≡ frame_of f ∷ frames_of fs
+frames_push fs f = ap reverse (map_push frame_of fs f) ∙ reverse-append (map frame_of fs) (frame_of f ∷ [])
+
+-- the innermost frame by its place
+last_frame : (fs : List CodeFrame) (i : ℕ) (f : CodeFrame) → i + 1 ≡ length fs → get_or fs i f ≡ f → frames_of fs ≡ frame_of f ∷ frames_of (take i fs)
+last_frame fs i f e here =
+    ap frames_of (sym (take_all (i + 1) fs (omega arith)) ∙ take_more fs i f (omega arith) ∙ ap (λ x. take i fs ++ x ∷ []) here)
+    ∙ frames_push (take i fs) f
+
+frames_set : (fs : List CodeFrame) (i : ℕ) (f : CodeFrame) → i + 1 ≡ length fs → frames_of (set fs i f) ≡ frame_of f ∷ frames_of (take i fs)
+frames_set fs i f e =
+    let long = length-set fs i f in
+    ap frames_of (sym (take_all (i + 1) (set fs i f) (omega arith)) ∙ take_more_set fs i f (omega arith))
+    ∙ frames_push (take i fs) f
+
+-- an item more, and a comma
+pub item_pushed : (fs : List CodeFrame) (i : ℕ) (old new : Vec Tree Global) (value : Tree) → i + 1 ≡ length fs → get_or fs i (ListFrame old) ≡ ListFrame old → new.items ≡ old.items ++ value ∷ [] → judged strict (next_move (json_of value) (frames_of fs) 44) ≡ Ok (state at_value (frames_of (set fs i (ListFrame new))))
+item_pushed fs i old new value e here more =
+    rw (last_frame fs i (ListFrame old) e here, frames_set fs i (ListFrame new) e, more, map_push json_of old.items value) refl
+
+pub on_ok : {A E P : Type 0} (r : Result A E) → P → OnOk r P
+on_ok (Ok a) h = h
+on_ok (Err e) h = tt

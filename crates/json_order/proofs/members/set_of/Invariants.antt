@@ -1,0 +1,7 @@
+use Rattle.std.proofs.Common.{take}
+use Rattle.json_order.specs.private.Entries.{keys_of}
+use Rattle.json_order.specs.private.KeySets.{HasKeys}
+use Rattle.json_order.proofs.members.set_of.Given as goal
+
+abbrev pub invariant-loop-name : goal.invariant-loop-name
+invariant-loop-name l = HasKeys l.set (keys_of (take l.name-index l.members))
