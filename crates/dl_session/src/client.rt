@@ -119,7 +119,7 @@ impl<N: Names> Client<N> {
         named.advance(rt, gate, &mut self.passes[D], ticks)
     }
 
-    fn advance_in<const D: usize, R: Threads + Wait>(
+    fn advance_here<const D: usize, R: Threads + Wait>(
         &mut self,
         rt: &R,
         book: &Option<Mutex<Named<N, D>>>,
@@ -322,8 +322,8 @@ impl<N: Names> Client<N> {
         self.admit_in(rt, alloc, &session.hall, task)
     }
 
-    /// The same, with what the clients share of the session.
-    pub(crate) fn admit_in<R: Wait>(
+    /// As [`Client::admit`], from a thread, with what all clients share of the session.
+    pub fn admit_in<R: Wait>(
         &mut self,
         rt: &R,
         alloc: Global,
@@ -359,8 +359,8 @@ impl<N: Names> Client<N> {
         self.regrade_in(rt, &session.hall, domain, number, params)
     }
 
-    /// The same, with what the clients share of the session.
-    pub(crate) fn regrade_in<R: Wait>(
+    /// As [`Client::regrade`], from a thread, with what all clients share of the session.
+    pub fn regrade_in<R: Wait>(
         &mut self,
         rt: &R,
         hall: &Hall<N>,
@@ -389,7 +389,23 @@ impl<N: Names> Client<N> {
         ensures made { Makes self.old self.new (made_by domain (calls.Wake number) result) }
         ensures full { IsFullBook result }
     {
-        self.enter_at(rt, &session.hall, domain, Ask::Wake { number })
+        self.wake_in(rt, &session.hall, domain, number)
+    }
+
+    /// As [`Client::wake`], from a thread, with what all clients share of the session.
+    pub fn wake_in<R: Wait>(
+        &mut self,
+        rt: &R,
+        hall: &Hall<N>,
+        domain: usize,
+        number: u32,
+    ) -> Answer
+        requires domain { IsPlace N.id domain }
+        requires call { IsCall (calls.Wake number) }
+        ensures made { Makes self.old self.new (made_by domain (calls.Wake number) result) }
+        ensures full { IsFullBook result }
+    {
+        self.enter_at(rt, hall, domain, Ask::Wake { number })
     }
 
     /// Ends a task of a domain, as [`Domain::leave`](call_book::Domain::leave) does. `Full` where the book is full.
@@ -408,8 +424,8 @@ impl<N: Names> Client<N> {
         self.leave_in(rt, &session.hall, domain, number)
     }
 
-    /// The same, with what the clients share of the session.
-    pub(crate) fn leave_in<R: Wait>(
+    /// As [`Client::leave`], from a thread, with what all clients share of the session.
+    pub fn leave_in<R: Wait>(
         &mut self,
         rt: &R,
         hall: &Hall<N>,
@@ -438,11 +454,11 @@ impl<N: Names> Client<N> {
         ensures made { MakesAdvance self.old self.new domain ticks result }
         ensures full { IsFullOrMemory result }
     {
-        self.advance_at(rt, &session.hall, domain, ticks)
+        self.advance_in(rt, &session.hall, domain, ticks)
     }
 
-    /// The same, with what the clients share of the session.
-    pub(crate) fn advance_at<R: Threads + Wait>(
+    /// As [`Client::advance`], from a thread, with what all clients share of the session.
+    pub fn advance_in<R: Threads + Wait>(
         &mut self,
         rt: &R,
         hall: &Hall<N>,
@@ -457,14 +473,14 @@ impl<N: Names> Client<N> {
         let gate = &hall.gate;
         let books = &hall.books;
         match domain {
-            0 => self.advance_in(rt, &books.book0, gate, ticks),
-            1 => self.advance_in(rt, &books.book1, gate, ticks),
-            2 => self.advance_in(rt, &books.book2, gate, ticks),
-            3 => self.advance_in(rt, &books.book3, gate, ticks),
-            4 => self.advance_in(rt, &books.book4, gate, ticks),
-            5 => self.advance_in(rt, &books.book5, gate, ticks),
-            6 => self.advance_in(rt, &books.book6, gate, ticks),
-            _ => self.advance_in(rt, &books.book7, gate, ticks),
+            0 => self.advance_here(rt, &books.book0, gate, ticks),
+            1 => self.advance_here(rt, &books.book1, gate, ticks),
+            2 => self.advance_here(rt, &books.book2, gate, ticks),
+            3 => self.advance_here(rt, &books.book3, gate, ticks),
+            4 => self.advance_here(rt, &books.book4, gate, ticks),
+            5 => self.advance_here(rt, &books.book5, gate, ticks),
+            6 => self.advance_here(rt, &books.book6, gate, ticks),
+            _ => self.advance_here(rt, &books.book7, gate, ticks),
         }
     }
 }

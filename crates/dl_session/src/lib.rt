@@ -54,7 +54,7 @@ pub use refusal::{Answer, Refusal};
 pub use replaying::replay;
 pub use report::Report;
 pub use running::run;
-pub use session::Session;
+pub use session::{Hall, Session};
 pub use turnstile::{AllPass, Turnstile};
 pub use words::{Words, WordsFault, read_limit, read_list, read_options};
 

@@ -49,8 +49,9 @@ pub(crate) struct Books<N: Names> {
 }
 
 /// What all clients of a session share: one gate with the domains that it admits to, each behind its own lock, and a pool of pieces.
-/// To a contract it is its gate.
-pub(crate) struct Hall<N: Names> {
+/// Threads may borrow it side by side, each with a client of its own, while the session itself, which keeps the clients that wait,
+/// stays with one. To a contract it is its gate.
+pub struct Hall<N: Names> {
     pub(crate) gate: Gate,
     pub(crate) cpu_sets: Vec<Vec<u32>>,
     pub(crate) books: Books<N>,
@@ -130,6 +131,15 @@ impl<N: Names> Session<N> {
         ensures { result.now ≡ N.id.gate }
     {
         &self.hall.gate
+    }
+
+    /// What its clients share, for threads that make their calls at once.
+    pub fn hall(&self) -> &Hall<N>
+        ensures { result.now ≡ N.id.gate }
+    {
+        let hall = &self.hall;
+        let _gate = &hall.gate;
+        hall
     }
 
     /// How many domains it has, 1 to 8.

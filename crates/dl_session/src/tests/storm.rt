@@ -4,9 +4,7 @@ ghost use Rattle.call_book.specs.Limits.{IsCall, IsEntry};
 
 use super::clients::attr_of;
 use super::runs::options_on;
-use crate::refusal::Refusal;
-use crate::session::Hall;
-use crate::{Answer, Client, Names, Parts, Print, Report, Session};
+use crate::{Answer, Client, Hall, Names, Parts, Print, Report, Session};
 use call_book::{Call, Entry, NoMemory, Reply, Section, read_calls};
 use rtapp_scenario::TaskSpec;
 use std::alloc::Global;
@@ -67,7 +65,7 @@ fn is_granted(answer: &Answer) -> bool {
     )
 }
 
-// Makes a call on the domain with what the clients share, as threads have it. No client wakes a task.
+// Makes a call on the domain with what the clients share, as threads have it.
 fn make<N: Names, R: Threads + Wait>(
     rt: &R,
     alloc: Global,
@@ -101,9 +99,9 @@ fn make<N: Names, R: Threads + Wait>(
             params,
             word: _,
         } => client.regrade_in(rt, hall, 0, number, params),
-        Call::Wake { number: _ } => Err(Refusal::Eperm),
+        Call::Wake { number } => client.wake_in(rt, hall, 0, number),
         Call::Leave { number } => client.leave_in(rt, hall, 0, number),
-        Call::Advance { ticks } => client.advance_at(rt, hall, 0, ticks),
+        Call::Advance { ticks } => client.advance_in(rt, hall, 0, ticks),
     }
 }
 
@@ -150,7 +148,7 @@ fn rage<N: Names + Send + Sync, R: Threads + Wait + Sync>(
         }
     }
     session.domains();
-    let hall = &session.hall;
+    let hall = session.hall();
     let played = map_vec(
         rt,
         clients,
