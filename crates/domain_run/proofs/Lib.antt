@@ -16,7 +16,7 @@ pub mod Staying
 pub mod Jumping
 pub mod Paying
 pub mod Runners
-pub mod Unturned
+pub mod Making
 pub mod Finding
 pub mod Homing
 pub mod Charged
