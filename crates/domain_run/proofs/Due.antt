@@ -1,8 +1,8 @@
 -- Which tasks are due, and what parts 1 to 3 do to the others: nothing.
-use Rattle.std.proofs.Common.{◌≡◌, ℕ, ◌+◌, ◌-◌, ◌^◌, ◌<◌, ◌≤◌, min, true, false, cond, ◌&&◌, Option, Some, None, List, [], ◌∷◌, ◌++◌, length, map, get_or, set, take, drop, refl, sym, ap, ◌∙◌, arith}
+use Rattle.std.proofs.Common.{◌≡◌, ℕ, ◌+◌, ◌-◌, ◌^◌, ◌<◌, ◌≤◌, min, true, false, cond, ◌&&◌, Option, Some, None, List, [], ◌∷◌, ◌++◌, length, map, get_or, set, take, drop, refl, sym, ap, subst, ◌∙◌, arith}
 use Rattle.std.specs.Prelude.{All, filter}
 use Rattle.std.proofs.lemmas.Bool.{lt-leb}
-use Rattle.std.proofs.lemmas.List.{get_or_default, set-get_or, length-set}
+use Rattle.std.proofs.lemmas.List.{get_or-map, get_or_default, get_or-take, get_or-drop, set-get_or, length-set, length-map, length-take-le, length-drop, take-append-drop, map-append}
 use Rattle.std.proofs.lemmas.List.Elements.{All-cons, All-weaker}
 use Rattle.edf_pick.proofs.MapStep.{map_step}
 use Rattle.domain_run.specs.declared.task.Task.{Task}
@@ -12,7 +12,8 @@ use Rattle.domain_run.specs.Conditions.{is_throttled, is_over, has_come}
 use Rattle.domain_run.specs.Parts.{is_listed}
 use Rattle.domain_run.specs.Tick.{prepared}
 use Rattle.domain_run.specs.Jump.{replenished_at, asks_at, gone_at, ticks_to, rest_of, rest}
-use Rattle.domain_run.specs.private.Timers.{moment_of, due_of, least, IsStep}
+use Rattle.domain_run.specs.private.Timers.{moment_of, due_of, least, IsStep, IsSpan}
+use Rattle.domain_run.proofs.Staying.{map_itself}
 use Rattle.domain_run.proofs.Jumping.{IsStill, prepared_still, filter_whole}
 
 -- ---- before its time nothing is to be done to a task
@@ -118,3 +119,51 @@ pub step_len : (f : Task → Task) (tasks new : List Task) (p : ℕ) → p < len
 step_len f tasks new p h step =
     let d = some_task tasks p h in
     ap (λ (ts : List Task). length ts) (step.is d) ∙ length-set tasks p (f (get_or tasks p d))
+
+-- ---- A SPAN, outside of which no task is due
+
+-- a map that passes by the tasks that are not due
+abbrev pub Passes : ℕ → (Task → Task) → Type 0
+Passes time f = (t : Task) → time < due_of t → f t ≡ t
+
+pub span_first : (time from to : ℕ) (f : Task → Task) (tasks : List Task) → Passes time f → IsSpan time from to tasks → tasks ≡ map f (take from tasks) ++ drop from tasks
+span_first time from to f tasks passes is =
+    let len : length (take from tasks) ≡ from = length-take-le from tasks (omega (arith, is.order, is.within)) in
+    let same : map f (take from tasks) ≡ take from tasks = map_itself f (take from tasks) (λ k d h.
+    let less : k < from = omega (arith, h, len) in
+    passes (get_or (take from tasks) k d) (subst (λ (t : Task). time < due_of t) (sym (get_or-take from tasks k d less)) (is.before k d less))) in
+    sym (ap (λ (ts : List Task). ts ++ drop from tasks) same ∙ take-append-drop from tasks)
+
+pub span_last : (time from to : ℕ) (f : Task → Task) (tasks : List Task) → Passes time f → IsSpan time from to tasks → map f (take to tasks) ++ drop to tasks ≡ map f tasks
+span_last time from to f tasks passes is =
+    let len : length (drop to tasks) ≡ length tasks - to = length-drop to tasks in
+    let same : map f (drop to tasks) ≡ drop to tasks = map_itself f (drop to tasks) (λ k d h.
+    let less : to + k < length tasks = omega (arith, h, len) in
+    passes (get_or (drop to tasks) k d) (subst (λ (t : Task). time < due_of t) (sym (get_or-drop to tasks k d)) (is.behind (to + k) d (omega arith) less))) in
+    ap (λ (ts : List Task). map f (take to tasks) ++ ts) (sym same) ∙ sym (map-append f (take to tasks) (drop to tasks)) ∙ ap (map f) (take-append-drop to tasks)
+
+pub span_after : (time from to : ℕ) (f : Task → Task) (tasks now : List Task) → Passes time f → now ≡ map f tasks → IsSpan time from to tasks → IsSpan time from to now
+span_after time from to f tasks now passes written is =
+    let len : length (map f tasks) ≡ length tasks = simp length-map in
+    let many : length now ≡ length tasks = ap (λ (ts : List Task). length ts) written ∙ len in
+    let read : (k : ℕ) (d : Task) → k < length tasks → time < due_of (get_or tasks k d) → get_or tasks k d ≡ get_or now k d =
+    λ k d h due. sym (ap (λ (ts : List Task). get_or ts k d) written ∙ get_or-map f tasks k d d h ∙ passes (get_or tasks k d) due) in
+    record {
+      order = is.order;
+      within = omega (arith, is.within, many);
+      before = λ k d h. let due = is.before k d h in subst (λ (t : Task). time < due_of t) (read k d (omega (arith, h, is.order, is.within)) due) due;
+      behind = λ k d h inside. let due = is.behind k d h (omega (arith, inside, many)) in subst (λ (t : Task). time < due_of t) (read k d (omega (arith, inside, many)) due) due;
+    }
+
+-- as the timers tell it
+pub span_of : (time from to : ℕ) (times : List ℕ) (tasks : List Task) → times ≡ map due_of tasks → from ≤ to → to ≤ length times → ((k : ℕ) → k < from → time < get_or times k 0) → ((k : ℕ) → to ≤ k → k < length times → time < get_or times k 0) → IsSpan time from to tasks
+span_of time from to times tasks is order within before behind =
+    let len : length (map due_of tasks) ≡ length tasks = simp length-map in
+    let many : length times ≡ length tasks = ap (λ (ns : List ℕ). length ns) is ∙ len in
+    let read : (k : ℕ) (d : Task) → k < length tasks → get_or times k 0 ≡ due_of (get_or tasks k d) = λ k d h. ap (λ (ns : List ℕ). get_or ns k 0) is ∙ get_or-map due_of tasks k d 0 h in
+    record {
+      order = order;
+      within = omega (arith, within, many);
+      before = λ k d h. subst (λ (n : ℕ). time < n) (read k d (omega (arith, h, order, within, many))) (before k h);
+      behind = λ k d h inside. subst (λ (n : ℕ). time < n) (read k d inside) (behind k h (omega (arith, inside, many)));
+    }

@@ -10,7 +10,7 @@ ghost use Rattle.domain_run.specs.Tick as tick;
 ghost use Rattle.domain_run.specs.Calls.{of_number};
 ghost use Rattle.domain_run.specs.private.Index.{IsAt, IsAbsent};
 ghost use Rattle.domain_run.specs.private.Roster.{made, MayMake, Fits};
-ghost use Rattle.domain_run.specs.private.Timers.{IsStep, due_of, least};
+ghost use Rattle.domain_run.specs.private.Timers.{IsStep, IsSpan, due_of, least};
 ghost use Rattle.edf_pick.specs.Order.{ordered};
 ghost use Rattle.grub_rules.specs.Sums as sums;
 
@@ -22,6 +22,7 @@ use crate::index::Index;
 use crate::memory::NoMemory;
 use crate::run_queue::RunQueue;
 use crate::task::Task;
+use crate::timers::Span;
 use edf_pick::Queue;
 use std::alloc::Global;
 use std::marker::Model;
@@ -127,6 +128,13 @@ impl Roster {
         ensures { (d : Task) → result ≡ nat_le (due_of (slice_index_or self.now.tasks place d)) time }
     {
         self.queue.timers.is_due(place, time)
+    }
+
+    /// The places of all tasks that are due, and what is between them.
+    pub(crate) fn span(&self, time: u64) -> Span
+        ensures { IsSpan time result.from result.to self.now.tasks }
+    {
+        self.queue.timers.span(time)
     }
 
     /// The first time at which a task is due, in microseconds.

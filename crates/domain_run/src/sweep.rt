@@ -8,13 +8,14 @@ ghost use Rattle.domain_run.specs.Switches as switches_spec;
 ghost use Rattle.domain_run.specs.Tick as tick_spec;
 ghost use Rattle.domain_run.specs.private.Paying.{MayPayIf, paid};
 ghost use Rattle.domain_run.specs.private.Roster.{made, IsPart};
-ghost use Rattle.domain_run.specs.private.Timers.{IsStep};
+ghost use Rattle.domain_run.specs.private.Timers.{IsStep, IsSpan};
 ghost use Rattle.domain_run.specs.Jump as jump;
 
 use crate::change::Change;
 use crate::parts;
 use crate::roster::Roster;
 use crate::switch::Switch;
+use crate::timers::Span;
 use edf_pick::Placement;
 
 // Of the task at a place: one that is not due is passed by.
@@ -32,17 +33,34 @@ fn turn_at(roster: &mut Roster, place: usize, time: u64, change: &Change)
     }
 }
 
-/// One of parts 1 to 3, of all tasks.
-fn turn_due(roster: &mut Roster, time: u64, change: &Change)
+/// One of parts 1 to 3. Only the tasks at the places of a span are looked at: no other is due.
+fn turn_due(roster: &mut Roster, span: Span, time: u64, change: &Change)
     requires part { IsPart time change.now }
     requires sound { All (IsSound time) roster.old.tasks }
+    requires span { IsSpan time span.from span.to roster.old.tasks }
     ensures cpus { roster.new.cpus ≡ roster.old.cpus }
     ensures tasks { roster.new.tasks ≡ map (made time change.now) roster.old.tasks }
     ensures sound { All (IsSound time) roster.new.tasks }
+    ensures span { IsSpan time span.from span.to roster.new.tasks }
 {
-    for place in 0..roster.len() {
+    for place in span.from..span.to {
         turn_at(roster, place, time, change);
     }
+}
+
+/// Parts 1 and 2 but for the tasks that have left.
+fn settle_due(roster: &mut Roster, span: Span, time: u64)
+    requires early { time < 2 ^ 42 }
+    requires sound { All (IsSound time) roster.old.tasks }
+    requires span { IsSpan time span.from span.to roster.old.tasks }
+    ensures cpus { roster.new.cpus ≡ roster.old.cpus }
+    ensures tasks { roster.new.tasks
+        ≡ map (parts_spec.settled time) (map (parts_spec.replenish_due time) roster.old.tasks) }
+    ensures sound { All (IsSound time) roster.new.tasks }
+    ensures span { IsSpan time span.from span.to roster.new.tasks }
+{
+    turn_due(roster, span, time, &Change::Replenish);
+    turn_due(roster, span, time, &Change::Settle);
 }
 
 /// Parts 1 to 3. Mostly no task is due, and then they have nothing to do.
@@ -56,10 +74,15 @@ fn wake_all(roster: &mut Roster, time: u64)
     if roster.first_due() > time {
         return;
     }
-    turn_due(roster, time, &Change::Replenish);
-    turn_due(roster, time, &Change::Settle);
+    let span = roster.span(time);
+    settle_due(roster, span, time);
+    if roster.first_due() > 0 {
+        turn_due(roster, span, time, &Change::Unblock);
+        return;
+    }
     roster.drop_left();
-    turn_due(roster, time, &Change::Unblock);
+    let span = roster.span(time);
+    turn_due(roster, span, time, &Change::Unblock);
 }
 
 /// Part 4: a placed task belongs to its CPU.

@@ -1,6 +1,6 @@
 //! When something is next to be done to each listed task before the choice. So a tick looks only at the tasks that are due.
 
-ghost use Rattle.std.specs.Prelude.{◌≡◌, ◌<◌, ◌≤◌, ◌-◌, ◌+◌, ◌^◌, ◌∷◌, ◌++◌, [], length, min, nat_le, slice_index, slice_set, IfOk};
+ghost use Rattle.std.specs.Prelude.{ℕ, ◌≡◌, ◌<◌, ◌≤◌, ◌-◌, ◌+◌, ◌^◌, ◌∷◌, ◌++◌, [], length, min, nat_le, slice_index, slice_set, IfOk};
 ghost use Rattle.domain_run.specs.private.Timers as spec;
 
 use crate::memory::NoMemory;
@@ -42,6 +42,44 @@ fn least_of(times: &[u64]) -> u64
     least
 }
 
+/// Some places of the list, one after another.
+#[derive(Clone, Copy, Debug)]
+pub(crate) struct Span {
+    pub(crate) from: usize,
+    /// One past the last of them.
+    pub(crate) to: usize,
+}
+
+// The first place that is due, or the end.
+fn first_due(due: &[u64], time: u64) -> usize
+    ensures within { result ≤ length due.now }
+    ensures before { (k : ℕ) → k < result → time < slice_index due.now k }
+{
+    for place in 0..due.len() {
+        if due[place] <= time {
+            return place;
+        }
+    }
+    due.len()
+}
+
+// One past the last place that is due, from a place on.
+fn end_of_due(due: &[u64], from: usize, time: u64) -> usize
+    requires { from ≤ length due.now }
+    ensures order { from ≤ result }
+    ensures within { result ≤ length due.now }
+    ensures behind { (k : ℕ) → result ≤ k → k < length due.now → time < slice_index due.now k }
+{
+    let len = due.len();
+    for back in 0..len - from {
+        let place = len - 1 - back;
+        if due[place] <= time {
+            return place + 1;
+        }
+    }
+    from
+}
+
 // The first time, where one has changed. All are looked at only where it was the first, and is later now.
 fn first_after(due: &[u64], place: usize, before: u64, first: u64) -> u64
     requires there { place < length due.now }
@@ -75,6 +113,18 @@ impl Timers {
         ensures { result ≡ nat_le (slice_index self.now place) time }
     {
         self.due[place] <= time
+    }
+
+    /// All places that are due, and what is between them.
+    pub(crate) fn span(&self, time: u64) -> Span
+        ensures order { result.from ≤ result.to }
+        ensures within { result.to ≤ length self.now }
+        ensures before { (k : ℕ) → k < result.from → time < slice_index self.now k }
+        ensures behind { (k : ℕ) → result.to ≤ k → k < length self.now → time < slice_index self.now k }
+    {
+        let from = first_due(&self.due, time);
+        let to = end_of_due(&self.due, from, time);
+        Span { from, to }
     }
 
     /// The task at a place is due at another time.

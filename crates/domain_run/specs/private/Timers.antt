@@ -1,5 +1,5 @@
 -- When something is to be done to a task before the choice, for the code's own contracts.
-use Rattle.std.specs.Prelude.{ℕ, zero, suc, ◌≡◌, ◌-◌, ◌^◌, ◌≤◌, min, List, [], ◌∷◌, length, slice_index_or, slice_set, Option, Some, None}
+use Rattle.std.specs.Prelude.{ℕ, zero, suc, ◌≡◌, ◌-◌, ◌^◌, ◌≤◌, ◌<◌, min, List, [], ◌∷◌, length, slice_index_or, slice_set, Option, Some, None}
 use Rattle.domain_run.specs.declared.task.Task.{Task}
 use Rattle.domain_run.specs.Jump.{replenished_at, asks_at, gone_at}
 
@@ -32,3 +32,10 @@ pub record AreTimers (due : List ℕ) (capacity first : ℕ) : Type 0 where
 -- the task at a place has changed, and no other
 pub record IsStep (f : Task → Task) (place : ℕ) (old new : List Task) : Type 0 where
   pub is : (d : Task) → new ≡ slice_set old place (f (slice_index_or old place d))
+
+-- no task is due but those at the places of a span
+pub record IsSpan (time from to : ℕ) (tasks : List Task) : Type 0 where
+  pub order : from ≤ to
+  pub within : to ≤ length tasks
+  pub before : (k : ℕ) (d : Task) → k < from → time < due_of (slice_index_or tasks k d)
+  pub behind : (k : ℕ) (d : Task) → to ≤ k → k < length tasks → time < due_of (slice_index_or tasks k d)
