@@ -109,17 +109,19 @@ list_keeps d e number name params delay script same is short granted =
     }
 
 -- what the list needs of a new task
-pub record IsNew (tasks : List Task) (number : ℕ) (params : ParamsView) : Type 0 where
+pub record IsNew (tasks : List Task) (used : List ℕ) (number : ℕ) (params : ParamsView) : Type 0 where
   pub few : length tasks < 256
   pub short : params.bw ≤ 2 ^ 26
   pub absent : All (λ t. t.number ≢ number) tasks
+  pub fresh : list_any (λ n. eqb n number) used ≡ false
 
-pub new_is : (d e : Domain) (number : ℕ) (params : ParamsView) → d ≡ e → IsDomain d → admit_reply e number params ≡ Admitted → IsNew d.tasks number params
+pub new_is : (d e : Domain) (number : ℕ) (params : ParamsView) → d ≡ e → IsDomain d → admit_reply e number params ≡ Admitted → IsNew d.tasks d.used number params
 new_is d e number params same is granted =
     let g : IsGranted d number params = subst (λ (x : Domain). IsGranted x number params) (sym same) (granted_is e number params granted) in
     let most : cap d.cpus d.limit ≤ 64 * 1048576 = mul-le-mul is.steady.cpus.1 is.steady.limit.1 in
     record {
       few = g.room;
       short = omega (arith, g.fits, most);
+      fresh = g.fresh;
       absent = λ k t h e. let no : true ≡ false = sym (is.steady.known k t h) ∙ ap (λ m. list_any (λ n. eqb n m) d.used) e ∙ g.fresh in absurd cc;
     }

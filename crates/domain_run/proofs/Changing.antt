@@ -13,14 +13,14 @@ use Rattle.domain_run.specs.declared.task.Task.{Task}
 use Rattle.domain_run.specs.declared.task.Condition.{Condition}
 use Rattle.domain_run.specs.declared.task.Condition.TheVariants.{Ready, Throttled, Blocked, Waiting, Leaving}
 use Rattle.domain_run.specs.declared.call.Reply.TheVariants.{Changed, Woken, Busy, NotWaiting}
-use Rattle.domain_run.specs.Conditions.{is_leaving, is_waiting, is_contending}
+use Rattle.domain_run.specs.Conditions.{is_leaving, is_waiting}
 use Rattle.domain_run.specs.Domain.{Domain}
 use Rattle.domain_run.specs.Tick.{share_of, shares, sum_of}
 use Rattle.domain_run.specs.Calls.{task_of, of_number, changed, regrade_reply, regraded, wake_reply, released, ended}
 use Rattle.domain_run.specs.Sound.{IsSound, IsTimed, IsSteady, IsDomain}
-use Rattle.domain_run.specs.Parts.{stopped}
 use Rattle.domain_run.proofs.Keeping.{AllPairs-map, sum-map}
 use Rattle.domain_run.proofs.Tracing.{listed_traced}
+use Rattle.domain_run.proofs.Counting.{ended_same}
 
 abbrev Differ : List Task → Type 0
 Differ tasks = AllPairs (λ a b. a.number ≢ b.number) tasks
@@ -123,7 +123,7 @@ pub record IsChange (f : Task → Task) : Type 0 where
   pub number : (t : Task) → (f t).number ≡ t.number
   pub cpu : (t : Task) → (f t).cpu ≡ t.cpu
 
-one_change : (number : ℕ) (f : Task → Task) → IsChange f → IsChange (of_number number f)
+pub one_change : (number : ℕ) (f : Task → Task) → IsChange f → IsChange (of_number number f)
 one_change number f is = record {
   number = λ t. elim (eqb t.number number) as (λ b. (cond b (f t) t).number ≡ t.number) [ true ↦ is.number t | false ↦ refl ];
   cpu = λ t. elim (eqb t.number number) as (λ b. (cond b (f t) t).cpu ≡ t.cpu) [ true ↦ is.cpu t | false ↦ refl ];
@@ -181,8 +181,9 @@ pub wake_keeps : (d : Domain) (number : ℕ) → IsDomain d → All (IsSound d.t
 wake_keeps d number is sound =
     changed_is d number (released d.time) (record { number = λ t. refl; cpu = λ t. refl }) is (rw (sum_kept (released d.time) (λ t. refl) number d.tasks) is.steady.within) sound
 
+pub ended_change : (time : ℕ) → IsChange (ended time)
+ended_change time = record { number = λ t. (ended_same time t).number; cpu = λ t. (ended_same time t).cpu }
+
 pub leave_keeps : (d : Domain) (number : ℕ) → IsDomain d → All (IsSound d.time) (map (of_number number (ended d.time)) d.tasks) → IsDomain (changed d number (ended d.time))
 leave_keeps d number is sound =
-    let same : (t : Task) → ((ended d.time t).number ≡ t.number) × ((ended d.time t).cpu ≡ t.cpu) × ((ended d.time t).params ≡ t.params) =
-    λ t. elim (is_contending t.condition) as (λ b. ((cond b (stopped d.time Leaving t) (record t { condition = Leaving })).number ≡ t.number) × ((cond b (stopped d.time Leaving t) (record t { condition = Leaving })).cpu ≡ t.cpu) × ((cond b (stopped d.time Leaving t) (record t { condition = Leaving })).params ≡ t.params)) [ true ↦ (refl, refl, refl) | false ↦ (refl, refl, refl) ] in
-    changed_is d number (ended d.time) (record { number = λ t. (same t).0; cpu = λ t. (same t).1 }) is (rw (sum_kept (ended d.time) (λ t. (same t).2) number d.tasks) is.steady.within) sound
+    changed_is d number (ended d.time) (ended_change d.time) is (rw (sum_kept (ended d.time) (λ t. (ended_same d.time t).params) number d.tasks) is.steady.within) sound

@@ -19,6 +19,7 @@ pub mod Runners
 pub mod Making
 pub mod Finding
 pub mod Homing
+pub mod AtHome
 pub mod Charged
 pub mod Due
 pub mod Firsts

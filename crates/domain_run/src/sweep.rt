@@ -1,13 +1,14 @@
 //! The parts of a tick, on all tasks of a domain.
 
-ghost use Rattle.std.specs.Prelude.{◌≡◌, ◌≢◌, ◌<◌, ◌≤◌, ◌^◌, ◌+◌, map, All, AllPairs, ◌++◌, length, vec_len, vec_capacity};
+ghost use Rattle.std.specs.Prelude.{IsTrue, ◌≡◌, ◌≢◌, ◌<◌, ◌≤◌, ◌^◌, ◌+◌, map, All, AllPairs, ◌++◌, length, vec_len, vec_capacity};
 ghost use Rattle.domain_run.specs.Parts as parts_spec;
 ghost use Rattle.edf_pick.specs.Places as places_spec;
 ghost use Rattle.domain_run.specs.Sound.{IsSound, IsApart};
 ghost use Rattle.domain_run.specs.Switches as switches_spec;
 ghost use Rattle.domain_run.specs.Tick as tick_spec;
 ghost use Rattle.domain_run.specs.private.Paying.{MayPayIf, paid};
-ghost use Rattle.domain_run.specs.private.Roster.{made, IsPart};
+ghost use Rattle.domain_run.specs.private.Roster.{made, homed_here, IsPart};
+ghost use Rattle.domain_run.specs.private.RunQueue.{AreHomed};
 ghost use Rattle.domain_run.specs.private.Timers.{IsStep, IsSpan};
 ghost use Rattle.domain_run.specs.Jump as jump;
 
@@ -85,17 +86,39 @@ fn wake_all(roster: &mut Roster, time: u64)
     turn_due(roster, span, time, &Change::Unblock);
 }
 
-/// Part 4: a placed task belongs to its CPU.
-fn home_all(roster: &mut Roster, places: &[Option<u32>], time: u64)
+/// Part 4: the task that stands on a CPU, if one does, belongs to it.
+fn home_at(roster: &mut Roster, occupant: Option<u32>, cpu: usize, time: u64)
+    requires fits { cpu < roster.old.cpus }
+    requires sound { All (IsSound time) roster.old.tasks }
+    ensures cpus { roster.new.cpus ≡ roster.old.cpus }
+    ensures tasks { roster.new.tasks ≡ map (homed_here occupant cpu) roster.old.tasks }
+    ensures sound { All (IsSound time) roster.new.tasks }
+{
+    if let Some(number) = occupant {
+        roster.turn_number(number, time, Change::Home { cpu });
+    }
+}
+
+fn is_same(prev: Option<u32>, next: Option<u32>) -> bool
+    ensures { IsTrue result → prev ≡ next }
+{
+    prev == next
+}
+
+/// Part 4: a placed task belongs to its CPU. One that stands where it stood does already.
+fn home_all(roster: &mut Roster, before: &[Option<u32>], places: &[Option<u32>], time: u64)
+    requires same { length before.now ≡ length places.now }
+    requires stood { IsApart before.now }
     requires apart { IsApart places.now }
     requires wide { length places.now ≡ roster.old.cpus }
     requires sound { All (IsSound time) roster.old.tasks }
+    requires homed { AreHomed before.now roster.old.tasks }
     ensures cpus { roster.new.cpus ≡ roster.old.cpus }
     ensures tasks { roster.new.tasks ≡ map (parts_spec.homed places.now) roster.old.tasks }
 {
     for cpu in 0..places.len() {
-        if let Some(number) = places[cpu] {
-            roster.turn_number(number, time, Change::Home { cpu });
+        if !is_same(before[cpu], places[cpu]) {
+            home_at(roster, places[cpu], cpu, time);
         }
     }
 }
@@ -165,12 +188,14 @@ pub(crate) fn begin(
     requires early { time < 2 ^ 42 }
     requires sound { All (IsSound time) roster.old.tasks }
     requires cpus { length places.old ≡ roster.old.cpus }
+    requires homed { AreHomed places.old roster.old.tasks }
     requires wide { vec_len before.old ≡ length places.old }
     requires apart { IsApart places.old }
     requires room { vec_len switches.old + length places.old ≤ vec_capacity switches.old }
     ensures cpus { roster.new.cpus ≡ roster.old.cpus }
     ensures tasks { roster.new.tasks
         ≡ map (parts_spec.homed places.new) (tick_spec.prepared time roster.old.tasks) }
+    ensures homed { AreHomed places.new roster.new.tasks }
     ensures prepared { All (IsSound time) (tick_spec.prepared time roster.old.tasks) }
     ensures places { places.new ≡ places_spec.placed (length places.old)
         (tick_spec.candidates (tick_spec.prepared time roster.old.tasks)) places.old }
@@ -185,7 +210,7 @@ pub(crate) fn begin(
     edf_pick::pick(places, roster.ready());
     list_running(running, places.occupants());
     add_switches(switches, time, roster, before, places.occupants());
-    home_all(roster, places.occupants(), time);
+    home_all(roster, before, places.occupants(), time);
 }
 
 /// Part 6 of so many ticks at once, up to a time: every running task has its budget, and its work has fallen.

@@ -7,7 +7,7 @@ use Rattle.domain_run.specs.declared.run_queue.RunQueue.{RunQueue}
 use Rattle.domain_run.specs.declared.standing.Standing.{Standing}
 use Rattle.domain_run.specs.Conditions.{is_ready, is_waiting}
 use Rattle.domain_run.specs.Parts.{replenish_due, settled, unblocked, homed_at}
-use Rattle.domain_run.specs.Calls.{regraded, released, ended}
+use Rattle.domain_run.specs.Calls.{of_number, regraded, released, ended}
 use Rattle.domain_run.specs.private.Paying.{ran_until}
 use Rattle.domain_run.specs.private.RunQueue.{IsCounted, standing_of}
 use Rattle.domain_run.specs.private.Timers.{due_of}
@@ -74,3 +74,8 @@ pub record IsPart (time : ℕ) (change : Change) : Type 0 where
   pub fits : (cpus : ℕ) → Fits cpus change
   pub may : (t : Task) → MayMake time change t
   pub passes : (t : Task) → time < due_of t → made time change t ≡ t
+
+-- the task that stands on a CPU, if one does, belongs to it
+abbrev pub homed_here : Option ℕ → ℕ → Task → Task
+homed_here None cpu t = t
+homed_here (Some number) cpu t = of_number number (homed_at (Some cpu)) t

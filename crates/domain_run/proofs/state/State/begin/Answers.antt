@@ -24,6 +24,7 @@ invariant_of-self-2 c =
       domain = subst IsDomain (sym (ap (λ (x : Domain). record x { time = d.time + 1 }) m.begun_is)) is.0;
       wide = c.begin.ensures.cpus ∙ c.self.invariant.wide;
       before_len = c.begin.ensures.before_len ∙ c.self.invariant.before_len;
+      homed = c.begin.ensures.homed;
       running_is = c.begin.ensures.running;
       runners_room = omega (arith, c.begin.ensures.runners, c.self.invariant.runners_room);
     }

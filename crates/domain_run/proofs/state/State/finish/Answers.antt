@@ -5,6 +5,8 @@ use Rattle.domain_run.specs.Domain.{Domain}
 use Rattle.domain_run.specs.Jump.{under_way, quiet, AreCharged}
 use Rattle.domain_run.specs.Sound.{IsDomain, IsPlacement}
 use Rattle.domain_run.specs.private.Paying.{paid}
+use Rattle.domain_run.specs.private.RunQueue.{AreHomed}
+use Rattle.domain_run.proofs.AtHome.{homed_map}
 use Rattle.domain_run.proofs.Paying.{sound_later, may_pay, later_is, same_paid, paid_is}
 use Rattle.domain_run.proofs.state.State.finish.Goals as goal
 
@@ -43,6 +45,9 @@ invariant_of-self c =
       domain = later_is d (paid end (standing c.self.inside.places) c.args.ticks c.args.budgets.now) end c.pay_all.new.roster.tasks c.self.invariant.domain (same_paid end (standing c.self.inside.places) c.args.ticks c.args.budgets.now) (omega arith) early tasks_are c.pay_all.ensures.sound;
       wide = c.pay_all.ensures.cpus ∙ c.self.invariant.wide;
       before_len = c.self.invariant.before_len;
+      homed =
+          let same = same_paid end (standing s.places) c.args.ticks c.args.budgets.now in
+          subst (AreHomed s.places) (sym tasks_are) (homed_map s.places (paid end (standing s.places) c.args.ticks c.args.budgets.now) s.roster.tasks (λ t. (same t).number) (λ t. (same t).cpu) c.self.invariant.homed);
       running_is = c.self.invariant.running_is;
       runners_room = c.self.invariant.runners_room;
     }

@@ -1,10 +1,15 @@
-use Rattle.std.proofs.Common.{◌≡◌, ◌<◌, ◌%◌, ℕ, refl, sym, ap, subst, ◌∙◌, arith}
+use Rattle.std.proofs.Common.{◌≡◌, ◌<◌, ◌%◌, ℕ, refl, sym, ap, subst, ◌∙◌, arith, eqb, false}
 use Rattle.domain_run.specs.Domain.{Domain}
 use Rattle.domain_run.specs.Calls.{new_task, listed}
 use Rattle.domain_run.specs.Sound.{IsDomain}
 use Rattle.domain_run.specs.declared.task.Task.{Task}
 use Rattle.domain_run.specs.Conditions.{is_ready}
 use Rattle.domain_run.specs.private.Index.{IsAbsent}
+use Rattle.std.specs.List.{list_any}
+use Rattle.std.proofs.lemmas.List.Elements.{All-push}
+use Rattle.domain_run.specs.Parts.{homed}
+use Rattle.domain_run.specs.private.RunQueue.{AreHomed}
+use Rattle.domain_run.proofs.AtHome.{homed_stranger}
 use Rattle.domain_run.proofs.Admitting.{new_is, listed_as, list_keeps}
 use Rattle.domain_run.proofs.state.State.list.Goals as goal
 
@@ -57,6 +62,13 @@ invariant_of-self c = record {
   domain = subst IsDomain (sym (after_is c)) (list_keeps (before c) c.args.self.now c.args.number c.args.name c.args.params c.args.delay c.args.script c.self.view_is c.self.invariant.domain c.requires.delay c.requires.granted);
   wide = c.push.ensures.cpus ∙ c.self.invariant.wide;
   before_len = c.self.invariant.before_len;
+  homed =
+      let d = before c in
+      let t = c.new_task-task.result in
+      let is : t ≡ new_task d c.args.number c.args.name c.args.params c.args.delay c.args.script = c.new_task-task.ensures d c.args.delay refl refl in
+      let new = new_is d c.args.self.now c.args.number c.args.params c.self.view_is c.self.invariant.domain c.requires.granted in
+      let fresh : list_any (λ n. eqb n t.number) d.used ≡ false = ap (λ (x : Task). list_any (λ n. eqb n x.number) d.used) is ∙ new.fresh in
+      subst (AreHomed d.places) (sym c.push.ensures.tasks) (All-push (λ u. homed d.places u ≡ u) d.tasks t c.self.invariant.homed (homed_stranger d.places d.used t c.self.invariant.domain.traced.standing fresh));
   running_is = c.self.invariant.running_is;
   runners_room = c.self.invariant.runners_room;
 }

@@ -1,10 +1,12 @@
-use Rattle.std.proofs.Common.{◌≡◌, sym, subst, ap, ◌∙◌, List}
+use Rattle.std.proofs.Common.{◌≡◌, refl, sym, subst, ap, ◌∙◌, List}
 use Rattle.domain_run.specs.declared.task.Task.{Task}
 use Rattle.domain_run.specs.declared.call.Reply.TheVariants.{Woken}
 use Rattle.domain_run.specs.Domain.{Domain}
-use Rattle.domain_run.specs.Calls.{wake_reply, task_of, changed, released}
+use Rattle.domain_run.specs.Calls.{of_number, wake_reply, task_of, changed, released}
 use Rattle.domain_run.specs.Sound.{IsDomain}
-use Rattle.domain_run.proofs.Changing.{woken_may, wake_keeps}
+use Rattle.domain_run.specs.private.RunQueue.{AreHomed}
+use Rattle.domain_run.proofs.AtHome.{homed_map}
+use Rattle.domain_run.proofs.Changing.{one_change, woken_may, wake_keeps}
 use Rattle.domain_run.proofs.state.State.release.Goals as goal
 
 abbrev before : goal.After-turn_number → Domain
@@ -24,6 +26,9 @@ invariant_of-self c = record {
   domain = subst IsDomain (sym (after_is c)) (wake_keeps (before c) c.args.number c.self.invariant.domain (rw (← c.turn_number.ensures.tasks) c.turn_number.ensures.sound));
   wide = c.turn_number.ensures.cpus ∙ c.self.invariant.wide;
   before_len = c.self.invariant.before_len;
+  homed =
+      let is = one_change c.args.number (released c.self.inside.time) (record { number = λ t. refl; cpu = λ t. refl }) in
+      subst (AreHomed c.self.inside.places) (sym c.turn_number.ensures.tasks) (homed_map c.self.inside.places (of_number c.args.number (released c.self.inside.time)) c.self.inside.roster.tasks is.number is.cpu c.self.invariant.homed);
   running_is = c.self.invariant.running_is;
   runners_room = c.self.invariant.runners_room;
 }
