@@ -1,5 +1,5 @@
 -- Which tasks are due, and what parts 1 to 3 do to the others: nothing.
-use Rattle.std.proofs.Common.{◌≡◌, ℕ, ◌+◌, ◌-◌, ◌^◌, ◌<◌, ◌≤◌, min, true, false, cond, ◌&&◌, Option, Some, None, List, [], ◌∷◌, ◌++◌, length, map, get_or, set, take, drop, refl, sym, ap, subst, ◌∙◌, arith}
+use Rattle.std.proofs.Common.{◌≡◌, ℕ, zero, suc, ◌+◌, ◌-◌, ◌^◌, ◌<◌, ◌≤◌, min, true, false, cond, ◌&&◌, Option, Some, None, List, [], ◌∷◌, ◌++◌, length, map, get_or, set, take, drop, refl, sym, ap, subst, ◌∙◌, arith}
 use Rattle.std.specs.Prelude.{All, filter}
 use Rattle.std.proofs.lemmas.Bool.{lt-leb}
 use Rattle.std.proofs.lemmas.List.{get_or-map, get_or_default, get_or-take, get_or-drop, set-get_or, length-set, length-map, length-take-le, length-drop, take-append-drop, map-append}
@@ -12,8 +12,7 @@ use Rattle.domain_run.specs.Conditions.{is_throttled, is_over, has_come}
 use Rattle.domain_run.specs.Parts.{is_listed}
 use Rattle.domain_run.specs.Tick.{prepared}
 use Rattle.domain_run.specs.Jump.{replenished_at, asks_at, gone_at, ticks_to, rest_of, rest}
-use Rattle.domain_run.specs.private.Timers.{moment_of, due_of, least, IsStep, IsSpan}
-use Rattle.domain_run.proofs.Staying.{map_itself}
+use Rattle.domain_run.specs.private.Timers.{moment_of, due_of, least, IsStep, AreLater, AreNotDue}
 use Rattle.domain_run.proofs.Jumping.{IsStill, prepared_still, filter_whole}
 
 -- ---- before its time nothing is to be done to a task
@@ -120,50 +119,30 @@ step_len f tasks new p h step =
     let d = some_task tasks p h in
     ap (λ (ts : List Task). length ts) (step.is d) ∙ length-set tasks p (f (get_or tasks p d))
 
--- ---- A SPAN, outside of which no task is due
+-- ---- PLACES at which no task is due
 
 -- a map that passes by the tasks that are not due
 abbrev pub Passes : ℕ → (Task → Task) → Type 0
 Passes time f = (t : Task) → time < due_of t → f t ≡ t
 
-pub span_first : (time from to : ℕ) (f : Task → Task) (tasks : List Task) → Passes time f → IsSpan time from to tasks → tasks ≡ map f (take from tasks) ++ drop from tasks
-span_first time from to f tasks passes is =
-    let len : length (take from tasks) ≡ from = length-take-le from tasks (omega (arith, is.order, is.within)) in
-    let same : map f (take from tasks) ≡ take from tasks = map_itself f (take from tasks) (λ k d h.
-    let less : k < from = omega (arith, h, len) in
-    passes (get_or (take from tasks) k d) (subst (λ (t : Task). time < due_of t) (sym (get_or-take from tasks k d less)) (is.before k d less))) in
-    sym (ap (λ (ts : List Task). ts ++ drop from tasks) same ∙ take-append-drop from tasks)
-
-pub span_last : (time from to : ℕ) (f : Task → Task) (tasks : List Task) → Passes time f → IsSpan time from to tasks → map f (take to tasks) ++ drop to tasks ≡ map f tasks
-span_last time from to f tasks passes is =
-    let len : length (drop to tasks) ≡ length tasks - to = length-drop to tasks in
-    let same : map f (drop to tasks) ≡ drop to tasks = map_itself f (drop to tasks) (λ k d h.
-    let less : to + k < length tasks = omega (arith, h, len) in
-    passes (get_or (drop to tasks) k d) (subst (λ (t : Task). time < due_of t) (sym (get_or-drop to tasks k d)) (is.behind (to + k) d (omega arith) less))) in
-    ap (λ (ts : List Task). map f (take to tasks) ++ ts) (sym same) ∙ sym (map-append f (take to tasks) (drop to tasks)) ∙ ap (map f) (take-append-drop to tasks)
-
-pub span_after : (time from to : ℕ) (f : Task → Task) (tasks now : List Task) → Passes time f → now ≡ map f tasks → IsSpan time from to tasks → IsSpan time from to now
-span_after time from to f tasks now passes written is =
-    let len : length (map f tasks) ≡ length tasks = simp length-map in
-    let many : length now ≡ length tasks = ap (λ (ts : List Task). length ts) written ∙ len in
-    let read : (k : ℕ) (d : Task) → k < length tasks → time < due_of (get_or tasks k d) → get_or tasks k d ≡ get_or now k d =
-    λ k d h due. sym (ap (λ (ts : List Task). get_or ts k d) written ∙ get_or-map f tasks k d d h ∙ passes (get_or tasks k d) due) in
-    record {
-      order = is.order;
-      within = omega (arith, is.within, many);
-      before = λ k d h. let due = is.before k d h in subst (λ (t : Task). time < due_of t) (read k d (omega (arith, h, is.order, is.within)) due) due;
-      behind = λ k d h inside. let due = is.behind k d h (omega (arith, inside, many)) in subst (λ (t : Task). time < due_of t) (read k d (omega (arith, inside, many)) due) due;
-    }
-
 -- as the timers tell it
-pub span_of : (time from to : ℕ) (times : List ℕ) (tasks : List Task) → times ≡ map due_of tasks → from ≤ to → to ≤ length times → ((k : ℕ) → k < from → time < get_or times k 0) → ((k : ℕ) → to ≤ k → k < length times → time < get_or times k 0) → IsSpan time from to tasks
-span_of time from to times tasks is order within before behind =
+pub none_due_at : (time from to : ℕ) (times : List ℕ) (tasks : List Task) → times ≡ map due_of tasks → AreLater times time from to → AreNotDue tasks time from to
+none_due_at time from to times tasks is later place d a b within =
     let len : length (map due_of tasks) ≡ length tasks = simp length-map in
     let many : length times ≡ length tasks = ap (λ (ns : List ℕ). length ns) is ∙ len in
-    let read : (k : ℕ) (d : Task) → k < length tasks → get_or times k 0 ≡ due_of (get_or tasks k d) = λ k d h. ap (λ (ns : List ℕ). get_or ns k 0) is ∙ get_or-map due_of tasks k d 0 h in
-    record {
-      order = order;
-      within = omega (arith, within, many);
-      before = λ k d h. subst (λ (n : ℕ). time < n) (read k d (omega (arith, h, order, within, many))) (before k h);
-      behind = λ k d h inside. subst (λ (n : ℕ). time < n) (read k d inside) (behind k h (omega (arith, inside, many)));
-    }
+    let read : get_or times place 0 ≡ due_of (get_or tasks place d) = ap (λ (ns : List ℕ). get_or ns place 0) is ∙ get_or-map due_of tasks place d 0 within in
+    subst (λ (n : ℕ). time < n) read (later place a b (omega (arith, within, many)))
+
+-- they are passed by
+pass_by : (f : Task → Task) (first now : List Task) (n p : ℕ) → p + n ≤ length first → now ≡ map f (take p first) ++ drop p first → ((q : ℕ) (d : Task) → p ≤ q → q < p + n → f (get_or now q d) ≡ get_or now q d) → now ≡ map f (take (p + n) first) ++ drop (p + n) first
+pass_by f first now zero p h written still = subst (λ m. now ≡ map f (take m first) ++ drop m first) (omega arith) written
+pass_by f first now (suc n) p h written still =
+    let here = step_more f first now now p (omega (arith, h)) written (step_none now p f (λ d. still p d (omega arith) (omega arith))) in
+    subst (λ m. now ≡ map f (take m first) ++ drop m first) (omega arith)
+    (pass_by f first now n (p + 1) (omega (arith, h)) here (λ q d a b. still q d (omega (arith, a)) (omega (arith, b))))
+
+pub step_by : (time : ℕ) (f : Task → Task) (first now : List Task) (p r : ℕ) → Passes time f → p ≤ r → r ≤ length first → length now ≡ length first → AreNotDue now time p r → now ≡ map f (take p first) ++ drop p first → now ≡ map f (take r first) ++ drop r first
+step_by time f first now p r passes from most same later written =
+    let whole : p + (r - p) ≡ r = omega (arith, from) in
+    subst (λ m. now ≡ map f (take m first) ++ drop m first) whole
+    (pass_by f first now (r - p) p (omega (arith, whole, most)) written (λ q d a b. passes (get_or now q d) (later q d a (omega (arith, b, whole)) (omega (arith, b, whole, most, same)))))

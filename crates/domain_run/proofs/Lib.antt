@@ -23,4 +23,5 @@ pub mod AtHome
 pub mod Charged
 pub mod Due
 pub mod Firsts
+pub mod Blocks
 pub mod Sliding

@@ -10,7 +10,7 @@ ghost use Rattle.domain_run.specs.Tick as tick;
 ghost use Rattle.domain_run.specs.Calls.{of_number};
 ghost use Rattle.domain_run.specs.private.Index.{IsAt, IsAbsent};
 ghost use Rattle.domain_run.specs.private.Roster.{made, MayMake, Fits};
-ghost use Rattle.domain_run.specs.private.Timers.{IsStep, IsSpan, due_of, least};
+ghost use Rattle.domain_run.specs.private.Timers.{IsStep, AreNotDue, due_of, least};
 ghost use Rattle.edf_pick.specs.Order.{ordered};
 ghost use Rattle.grub_rules.specs.Sums as sums;
 
@@ -22,7 +22,6 @@ use crate::index::Index;
 use crate::memory::NoMemory;
 use crate::run_queue::RunQueue;
 use crate::task::Task;
-use crate::timers::Span;
 use edf_pick::Queue;
 use std::alloc::Global;
 use std::marker::Model;
@@ -122,26 +121,28 @@ impl Roster {
         &self.queue.ready
     }
 
-    /// Whether the task at a place is due.
-    pub(crate) fn is_due(&self, place: usize, time: u64) -> bool
-        requires { place < length self.now.tasks }
-        ensures { (d : Task) → result ≡ nat_le (due_of (slice_index_or self.now.tasks place d)) time }
+    /// The first place, from this one on, whose task is due at a time; where there is none, how many places there are.
+    pub(crate) fn next_due(&self, from: usize, time: u64) -> usize
+        requires { from ≤ length self.now.tasks }
+        ensures from { from ≤ result }
+        ensures most { result ≤ length self.now.tasks }
+        ensures others { AreNotDue self.now.tasks time from result }
     {
-        self.queue.timers.is_due(place, time)
+        self.queue.timers.next_due(from, time)
     }
 
-    /// The places of all tasks that are due, and what is between them.
-    pub(crate) fn span(&self, time: u64) -> Span
-        ensures { IsSpan time result.from result.to self.now.tasks }
+    /// Whether a task may be due at a time. Where it says no, none is.
+    pub(crate) fn may_be_due(&self, time: u64) -> bool
+        ensures { result ≡ false → time < least (map due_of self.now.tasks) }
     {
-        self.queue.timers.span(time)
+        self.queue.timers.may_be_due(time)
     }
 
-    /// The first time at which a task is due, in microseconds.
-    pub(crate) fn first_due(&self) -> u64
-        ensures { result ≡ least (map due_of self.now.tasks) }
+    /// Looks all timers through, so that the next questions about them take no look at each: nothing changes.
+    pub(crate) fn look_through(&mut self)
+        ensures { self.new ≡ self.old }
     {
-        self.queue.timers.least()
+        self.queue.timers.look_through();
     }
 
     /// The ticks from a time to the first at which a task is due, at most 2^42 - 1.

@@ -9,59 +9,28 @@ ghost use Rattle.domain_run.specs.Tick as tick_spec;
 ghost use Rattle.domain_run.specs.private.Paying.{MayPayIf, paid};
 ghost use Rattle.domain_run.specs.private.Roster.{made, homed_here, IsPart};
 ghost use Rattle.domain_run.specs.private.RunQueue.{AreHomed};
-ghost use Rattle.domain_run.specs.private.Timers.{IsStep, IsSpan};
+ghost use Rattle.domain_run.specs.private.Timers.{IsStep};
 ghost use Rattle.domain_run.specs.Jump as jump;
 
 use crate::change::Change;
 use crate::parts;
 use crate::roster::Roster;
 use crate::switch::Switch;
-use crate::timers::Span;
 use edf_pick::Placement;
 
-// Of the task at a place: one that is not due is passed by.
-fn turn_at(roster: &mut Roster, place: usize, time: u64, change: &Change)
-    requires there { place < length roster.old.tasks }
+/// One of parts 1 to 3. It goes from one task that is due to the next.
+fn turn_due(roster: &mut Roster, time: u64, change: &Change)
     requires part { IsPart time change.now }
     requires sound { All (IsSound time) roster.old.tasks }
-    ensures cpus { roster.new.cpus ≡ roster.old.cpus }
-    ensures step { IsStep (made time change.now) place roster.old.tasks roster.new.tasks }
-    ensures len { length roster.new.tasks ≡ length roster.old.tasks }
-    ensures sound { All (IsSound time) roster.new.tasks }
-{
-    if roster.is_due(place, time) {
-        roster.turn(place, time, *change);
-    }
-}
-
-/// One of parts 1 to 3. Only the tasks at the places of a span are looked at: no other is due.
-fn turn_due(roster: &mut Roster, span: Span, time: u64, change: &Change)
-    requires part { IsPart time change.now }
-    requires sound { All (IsSound time) roster.old.tasks }
-    requires span { IsSpan time span.from span.to roster.old.tasks }
     ensures cpus { roster.new.cpus ≡ roster.old.cpus }
     ensures tasks { roster.new.tasks ≡ map (made time change.now) roster.old.tasks }
     ensures sound { All (IsSound time) roster.new.tasks }
-    ensures span { IsSpan time span.from span.to roster.new.tasks }
 {
-    for place in span.from..span.to {
-        turn_at(roster, place, time, change);
+    let mut place = roster.next_due(0, time);
+    while place < roster.len() {
+        roster.turn(place, time, *change);
+        place = roster.next_due(place + 1, time);
     }
-}
-
-/// Parts 1 and 2 but for the tasks that have left.
-fn settle_due(roster: &mut Roster, span: Span, time: u64)
-    requires early { time < 2 ^ 42 }
-    requires sound { All (IsSound time) roster.old.tasks }
-    requires span { IsSpan time span.from span.to roster.old.tasks }
-    ensures cpus { roster.new.cpus ≡ roster.old.cpus }
-    ensures tasks { roster.new.tasks
-        ≡ map (parts_spec.settled time) (map (parts_spec.replenish_due time) roster.old.tasks) }
-    ensures sound { All (IsSound time) roster.new.tasks }
-    ensures span { IsSpan time span.from span.to roster.new.tasks }
-{
-    turn_due(roster, span, time, &Change::Replenish);
-    turn_due(roster, span, time, &Change::Settle);
 }
 
 /// Parts 1 to 3. Mostly no task is due, and then they have nothing to do.
@@ -72,18 +41,14 @@ fn wake_all(roster: &mut Roster, time: u64)
     ensures tasks { roster.new.tasks ≡ tick_spec.prepared time roster.old.tasks }
     ensures sound { All (IsSound time) roster.new.tasks }
 {
-    if roster.first_due() > time {
+    if !roster.may_be_due(time) {
         return;
     }
-    let span = roster.span(time);
-    settle_due(roster, span, time);
-    if roster.first_due() > 0 {
-        turn_due(roster, span, time, &Change::Unblock);
-        return;
-    }
+    turn_due(roster, time, &Change::Replenish);
+    turn_due(roster, time, &Change::Settle);
     roster.drop_left();
-    let span = roster.span(time);
-    turn_due(roster, span, time, &Change::Unblock);
+    turn_due(roster, time, &Change::Unblock);
+    roster.look_through();
 }
 
 /// Part 4: the task that stands on a CPU, if one does, belongs to it.

@@ -77,7 +77,7 @@ pub(super) fn drop_left(tasks: &mut Vec<Task>, queue: &mut RunQueue, index: &mut
     ensures few { vec_len tasks.new ≤ vec_len tasks.old }
     ensures room { vec_capacity tasks.new ≡ vec_capacity tasks.old }
 {
-    if queue.timers.least() > 0 {
+    if !queue.timers.may_be_due(0) {
         return;
     }
     let before = tasks.len();

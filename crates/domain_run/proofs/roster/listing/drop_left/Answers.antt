@@ -27,5 +27,5 @@ returns-clause-counted c =
     let left : c.retain.new.self.items ≡ filter is_listed tasks = filter_same _ _ _ (λ x b f' k. search rules) _ _ c.retain.ensures.filtered in
     subst (IsCounted (length queue.accounts.all) new) (sym left) (counted_listed (length queue.accounts.all) queue new tasks c.part_left.ensures.wide refl (c.set_timers.ensures ∙ ap (map due_of) (c.deref-2.ensures.value ∙ left)) sums c.requires)
 
-pub returns-then-least-gt0-clause-tasks : goal.returns-then-least-gt0-clause-tasks
-returns-then-least-gt0-clause-tasks c = sym (none_gone c.args.tasks.now.items (subst (λ (n : ℕ). 0 < n) (c.least.ensures ∙ ap least c.requires.counts.due) c.if-least-gt0.true))
+pub returns-then-not-may_be_due-clause-tasks : goal.returns-then-not-may_be_due-clause-tasks
+returns-then-not-may_be_due-clause-tasks c = sym (none_gone c.args.tasks.now.items (subst (λ (n : ℕ). 0 < n) (ap least c.requires.counts.due) (c.may_be_due.ensures c.if-not-may_be_due.true)))
