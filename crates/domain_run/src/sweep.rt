@@ -30,7 +30,7 @@ fn turn_at(roster: &mut Roster, place: usize, time: u64, change: &Change)
     ensures sound { All (IsSound time) roster.new.tasks }
 {
     if roster.is_due(place, time) {
-        roster.turn(place, time, *change);
+        roster.turn(place, time, change);
     }
 }
 
@@ -95,7 +95,7 @@ fn home_at(roster: &mut Roster, occupant: Option<u32>, cpu: usize, time: u64)
     ensures sound { All (IsSound time) roster.new.tasks }
 {
     if let Some(number) = occupant {
-        roster.turn_number(number, time, Change::Home { cpu });
+        roster.turn_number(number, time, &Change::Home { cpu });
     }
 }
 
@@ -226,6 +226,6 @@ pub(crate) fn pay_all(roster: &mut Roster, running: &[u32], budgets: &[i128], ti
 {
     for i in 0..running.len() {
         let left = budgets[i];
-        roster.turn_number(running[i], time, Change::Run { ticks, left });
+        roster.turn_number(running[i], time, &Change::Run { ticks, left });
     }
 }
