@@ -35,14 +35,14 @@ pub(crate) enum Change {
 }
 
 /// Whether a look at a task tells that a change does nothing to it.
-fn does_nothing(task: &Task, time: u64, change: Change) -> bool
-    ensures { IsTrue result → made time change task.now ≡ task.now }
+fn does_nothing(task: &Task, time: u64, change: &Change) -> bool
+    ensures { IsTrue result → made time change.now task.now ≡ task.now }
 {
     match change {
         Change::Replenish => !task.condition.is_throttled(),
         Change::Settle => !parts::has_come(time, task.zero_lag),
         Change::Unblock => !task.condition.is_over(time),
-        Change::Home { cpu } => task.cpu == cpu,
+        Change::Home { cpu } => task.cpu == *cpu,
         _ => false,
     }
 }
@@ -62,10 +62,11 @@ fn slide(task: &mut Task, time: u64, ticks: u64, left: i128)
     task.work -= ticks;
 }
 
-fn act(task: &mut Task, time: u64, change: Change)
+#[inline(never)]
+fn act(task: &mut Task, time: u64, change: &Change)
     requires sound { IsSound time task.old }
-    requires may { MayMake time change task.old }
-    ensures task { task.new ≡ made time change task.old }
+    requires may { MayMake time change.now task.old }
+    ensures task { task.new ≡ made time change.now task.old }
     ensures sound { IsSound time task.new }
 {
     let _bw = bw_within(&task.params);
@@ -73,26 +74,27 @@ fn act(task: &mut Task, time: u64, change: Change)
         Change::Replenish => parts::replenish_due(task, time),
         Change::Settle => parts::settle(task, time),
         Change::Unblock => parts::unblock(task, time),
-        Change::Home { cpu } => task.cpu = cpu,
-        Change::Run { ticks, left } => parts::run_until(task, time, ticks, left),
-        Change::Regrade { params } => calls::regrade(task, &params),
+        Change::Home { cpu } => task.cpu = *cpu,
+        Change::Run { ticks, left } => parts::run_until(task, time, *ticks, *left),
+        Change::Regrade { params } => calls::regrade(task, params),
         Change::Release => calls::release(task, time),
         Change::End => calls::end(task, time),
     }
 }
 
 /// Makes a change, and answers how the task stood before where it may stand otherwise now.
-pub(crate) fn make(task: &mut Task, time: u64, change: Change) -> Option<Standing>
+#[inline]
+pub(crate) fn make(task: &mut Task, time: u64, change: &Change) -> Option<Standing>
     requires sound { IsSound time task.old }
-    requires may { MayMake time change task.old }
-    ensures task { task.new ≡ made time change task.old }
+    requires may { MayMake time change.now task.old }
+    ensures task { task.new ≡ made time change.now task.old }
     ensures sound { IsSound time task.new }
     ensures stood { HasStood result task.old task.new }
 {
     if does_nothing(task, time, change) {
         return None;
     }
-    if let Change::Run { ticks, left } = &change
+    if let Change::Run { ticks, left } = change
         && *left > 0
         && *ticks < task.work
     {

@@ -155,25 +155,27 @@ impl Roster {
 
 impl Roster {
     /// Changes the task at a place: the one place where a task of the list changes.
-    pub(crate) fn turn(&mut self, place: usize, time: u64, change: Change)
+    #[inline]
+    pub(crate) fn turn(&mut self, place: usize, time: u64, change: &Change)
         requires there { place < length self.old.tasks }
-        requires fits { Fits self.old.cpus change }
+        requires fits { Fits self.old.cpus change.now }
         requires sound { All (IsSound time) self.old.tasks }
-        requires may { (d : Task) → MayMake time change (slice_index_or self.old.tasks place d) }
+        requires may { (d : Task) → MayMake time change.now (slice_index_or self.old.tasks place d) }
         ensures cpus { self.new.cpus ≡ self.old.cpus }
-        ensures step { IsStep (made time change) place self.old.tasks self.new.tasks }
+        ensures step { IsStep (made time change.now) place self.old.tasks self.new.tasks }
         ensures sound { All (IsSound time) self.new.tasks }
     {
         turning::turn_task(&mut self.tasks, &mut self.queue, place, time, change);
     }
 
     /// Changes the task of a number, where it is listed.
-    pub(crate) fn turn_number(&mut self, number: u32, time: u64, change: Change)
-        requires fits { Fits self.old.cpus change }
+    #[inline]
+    pub(crate) fn turn_number(&mut self, number: u32, time: u64, change: &Change)
+        requires fits { Fits self.old.cpus change.now }
         requires sound { All (IsSound time) self.old.tasks }
-        requires may { All (λ t. t.number ≡ number → MayMake time change t) self.old.tasks }
+        requires may { All (λ t. t.number ≡ number → MayMake time change.now t) self.old.tasks }
         ensures cpus { self.new.cpus ≡ self.old.cpus }
-        ensures tasks { self.new.tasks ≡ map (of_number number (made time change)) self.old.tasks }
+        ensures tasks { self.new.tasks ≡ map (of_number number (made time change.now)) self.old.tasks }
         ensures sound { All (IsSound time) self.new.tasks }
     {
         if let Some(place) = self.place(number) {

@@ -47,6 +47,7 @@ impl RunQueue {
     }
 
     /// The task at a place of the list stood as `before`, and stands as `after` now.
+    #[inline(never)]
     pub(crate) fn turn(&mut self, place: usize, before: Standing, after: Standing)
         requires { spec.MayTurn place self.old before after }
         ensures { spec.HasTurned place before after self.old self.new }

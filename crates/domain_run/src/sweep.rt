@@ -28,7 +28,7 @@ fn turn_due(roster: &mut Roster, time: u64, change: &Change)
 {
     let mut place = roster.next_due(0, time);
     while place < roster.len() {
-        roster.turn(place, time, *change);
+        roster.turn(place, time, change);
         place = roster.next_due(place + 1, time);
     }
 }
@@ -60,7 +60,7 @@ fn home_at(roster: &mut Roster, occupant: Option<u32>, cpu: usize, time: u64)
     ensures sound { All (IsSound time) roster.new.tasks }
 {
     if let Some(number) = occupant {
-        roster.turn_number(number, time, Change::Home { cpu });
+        roster.turn_number(number, time, &Change::Home { cpu });
     }
 }
 
@@ -191,6 +191,6 @@ pub(crate) fn pay_all(roster: &mut Roster, running: &[u32], budgets: &[i128], ti
 {
     for i in 0..running.len() {
         let left = budgets[i];
-        roster.turn_number(running[i], time, Change::Run { ticks, left });
+        roster.turn_number(running[i], time, &Change::Run { ticks, left });
     }
 }

@@ -49,7 +49,7 @@ impl State {
         ensures { self.new ≡ calls.changed self.old number (calls.regraded params.now) }
     {
         let change = Change::Regrade { params: *params };
-        self.roster.turn_number(number, self.time, change);
+        self.roster.turn_number(number, self.time, &change);
     }
 
     /// Gives a listed task new parameters at the time now, at once; its deadline, its budget and a zero-lag time ahead stay. Tested
@@ -83,7 +83,7 @@ impl State {
         requires { calls.wake_reply (calls.task_of self.old number) ≡ Reply.Woken }
         ensures { self.new ≡ calls.changed self.old number (calls.released self.old.time) }
     {
-        self.roster.turn_number(number, self.time, Change::Release);
+        self.roster.turn_number(number, self.time, &Change::Release);
     }
 
     /// Wakes a task that waits: in the next tick it asks its script. [`Reply::NotListed`] where no task of this number is listed, or
@@ -112,7 +112,7 @@ impl State {
     fn end(&mut self, number: u32)
         ensures { self.new ≡ calls.changed self.old number (calls.ended self.old.time) }
     {
-        self.roster.turn_number(number, self.time, Change::End);
+        self.roster.turn_number(number, self.time, &Change::End);
     }
 
     /// Ends a task: it stays listed until its zero-lag time, which is told from now where it contends, and its bandwidth with it.

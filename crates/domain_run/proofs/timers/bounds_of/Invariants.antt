@@ -1,4 +1,4 @@
-use Rattle.std.proofs.Common.{◌≡◌, ◌<◌, ◌≤◌, ◌/◌, ℕ, length, get_or}
+use Rattle.std.proofs.Common.{◌<◌, ◌≤◌, ◌/◌, ℕ, get_or}
 use Rattle.domain_run.proofs.timers.bounds_of.Given as goal
 
 abbrev pub invariant-loop-place : goal.invariant-loop-place

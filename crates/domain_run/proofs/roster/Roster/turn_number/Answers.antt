@@ -10,7 +10,7 @@ returns-in-Some-clause-tasks c =
     let p = c.in-Some.place in
     let at = c.in-Some.ensures.there in
     let d = some_task tasks p at.within in
-    c.turn.ensures.step.is d ∙ sym (map_at (made c.args.time c.args.change) c.args.number tasks p d c.place.ensures.numbered at)
+    c.turn.ensures.step.is d ∙ sym (map_at (made c.args.time c.args.change.now) c.args.number tasks p d c.place.ensures.numbered at)
 
 pub returns-in_default-clause-tasks : goal.returns-in_default-clause-tasks
-returns-in_default-clause-tasks c = sym (map_others (made c.args.time c.args.change) c.args.number c.args.self.now.tasks c.in_default.ensures.absent)
+returns-in_default-clause-tasks c = sym (map_others (made c.args.time c.args.change.now) c.args.number c.args.self.now.tasks c.in_default.ensures.absent)

@@ -1,4 +1,4 @@
-use Rattle.std.proofs.Common.{◌-◌, ◌≡◌, ◌≤◌, ℕ}
+use Rattle.std.proofs.Common.{◌-◌, ◌≤◌}
 use Rattle.domain_run.specs.private.Timers.{AreLater}
 use Rattle.domain_run.proofs.timers.Timers.next_due.Given as goal
 

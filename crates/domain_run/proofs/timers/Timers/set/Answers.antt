@@ -1,7 +1,7 @@
-use Rattle.std.proofs.Common.{◌≡◌, ◌<◌, ◌≤◌, ℕ, List, length, get_or, set, sym, ap, ◌∙◌, subst, arith}
+use Rattle.std.proofs.Common.{◌≡◌, ◌<◌, ℕ, List, length, get_or, set, sym, ap, ◌∙◌, subst, arith}
 use Rattle.std.proofs.lemmas.Bool.{false≢true}
 use Rattle.std.proofs.lemmas.List.{get_or_default, length-set}
-use Rattle.domain_run.specs.private.Timers.{least, others, lowered, AreBounds}
+use Rattle.domain_run.specs.private.Timers.{AreBounds}
 use Rattle.domain_run.proofs.Firsts.{least_at, least_set}
 use Rattle.domain_run.proofs.Blocks.{bounds_set}
 use Rattle.domain_run.proofs.timers.Timers.set.Goals as goal
