@@ -35,6 +35,7 @@ pub(crate) enum Change {
 }
 
 /// Whether a look at a task tells that a change does nothing to it.
+#[inline(always)]
 fn does_nothing(task: &Task, time: u64, change: &Change) -> bool
     ensures { IsTrue result → made time change.now task.now ≡ task.now }
 {
@@ -83,7 +84,7 @@ fn act(task: &mut Task, time: u64, change: &Change)
 }
 
 /// Makes a change, and answers how the task stood before where it may stand otherwise now.
-#[inline]
+#[inline(always)]
 pub(crate) fn make(task: &mut Task, time: u64, change: &Change) -> Option<Standing>
     requires sound { IsSound time task.old }
     requires may { MayMake time change.now task.old }

@@ -155,7 +155,7 @@ impl Roster {
 
 impl Roster {
     /// Changes the task at a place: the one place where a task of the list changes.
-    #[inline]
+    #[inline(always)]
     pub(crate) fn turn(&mut self, place: usize, time: u64, change: &Change)
         requires there { place < length self.old.tasks }
         requires fits { Fits self.old.cpus change.now }
@@ -169,7 +169,7 @@ impl Roster {
     }
 
     /// Changes the task of a number, where it is listed.
-    #[inline]
+    #[inline(always)]
     pub(crate) fn turn_number(&mut self, number: u32, time: u64, change: &Change)
         requires fits { Fits self.old.cpus change.now }
         requires sound { All (IsSound time) self.old.tasks }

@@ -12,7 +12,7 @@ use crate::run_queue::RunQueue;
 use crate::standing::standing_of;
 use crate::task::Task;
 
-#[inline]
+#[inline(always)]
 fn turn_one(task: &mut Task, queue: &mut RunQueue, place: usize, time: u64, change: &Change)
     requires sound { IsSound time task.old }
     requires may { MayMake time change.now task.old }
@@ -29,7 +29,7 @@ fn turn_one(task: &mut Task, queue: &mut RunQueue, place: usize, time: u64, chan
 }
 
 /// Changes the task at a place of the list.
-#[inline]
+#[inline(always)]
 pub(super) fn turn_task(
     tasks: &mut Vec<Task>,
     queue: &mut RunQueue,
