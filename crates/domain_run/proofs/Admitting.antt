@@ -1,6 +1,6 @@
 -- A domain with one more task keeps what every domain keeps.
-use Rattle.std.proofs.Common.{◌≡◌, ℕ, ◌+◌, ◌^◌, ◌<◌, ◌≤◌, Bool, true, false, cond, eqb, ltb, leb, ◌||◌, List, [], ◌∷◌, ◌++◌, length, refl, sym, ap, ◌∙◌, subst, arith, length-append, eq-eqb}
-use Rattle.std.specs.Prelude.{IsTrue, ◌≢◌, sum_by}
+use Rattle.std.proofs.Common.{◌≡◌, ℕ, ◌+◌, ◌*◌, ◌^◌, ◌<◌, ◌≤◌, Bool, true, false, cond, eqb, ltb, leb, ◌||◌, List, [], ◌∷◌, ◌++◌, length, refl, sym, ap, ◌∙◌, subst, arith, length-append, eq-eqb}
+use Rattle.std.specs.Prelude.{All, IsTrue, ◌≢◌, sum_by}
 use Rattle.std.specs.List.{list_any}
 use Rattle.std.proofs.lemmas.Bool.{ltb-false, leb-false}
 use Rattle.std.proofs.lemmas.Int.{ints}
@@ -8,6 +8,7 @@ use Rattle.std.proofs.lemmas.List.Elements.{All-push, All-weaker}
 use Rattle.std.proofs.lemmas.List.Quantifiers.{all_pairs_push}
 use Rattle.std.proofs.lemmas.List.Sums.{sum_by-append}
 use Rattle.std.proofs.lemmas.List.{map-append}
+use Rattle.std.proofs.Math.Nat.{mul-le-mul}
 use Rattle.attr_check.specs.Ratio.{cap}
 use Rattle.attr_check.specs.ParamsView.{ParamsView}
 use Rattle.domain_run.specs.script.ScriptView.{ScriptView}
@@ -105,4 +106,22 @@ list_keeps d e number name params delay script same is short granted =
     record {
       steady = listed_is e number name params delay script is_e.steady short g.room g.fresh g.fits;
       traced = listed_traced e (listed e (new_task e number name params delay script)) refl refl refl refl (λ n h. with_number_contains number n e.used ∙ or_right (eqb number n) (list_any (λ m. eqb m n) e.used) h) is_e.traced;
+    }
+
+-- what the list needs of a new task
+pub record IsNew (tasks : List Task) (used : List ℕ) (number : ℕ) (params : ParamsView) : Type 0 where
+  pub few : length tasks < 256
+  pub short : params.bw ≤ 2 ^ 26
+  pub absent : All (λ t. t.number ≢ number) tasks
+  pub fresh : list_any (λ n. eqb n number) used ≡ false
+
+pub new_is : (d e : Domain) (number : ℕ) (params : ParamsView) → d ≡ e → IsDomain d → admit_reply e number params ≡ Admitted → IsNew d.tasks d.used number params
+new_is d e number params same is granted =
+    let g : IsGranted d number params = subst (λ (x : Domain). IsGranted x number params) (sym same) (granted_is e number params granted) in
+    let most : cap d.cpus d.limit ≤ 64 * 1048576 = mul-le-mul is.steady.cpus.1 is.steady.limit.1 in
+    record {
+      few = g.room;
+      short = omega (arith, g.fits, most);
+      fresh = g.fresh;
+      absent = λ k t h e. let no : true ≡ false = sym (is.steady.known k t h) ∙ ap (λ m. list_any (λ n. eqb n m) d.used) e ∙ g.fresh in absurd cc;
     }

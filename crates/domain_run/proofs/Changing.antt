@@ -1,5 +1,5 @@
 -- A call on one listed task keeps what every domain keeps.
-use Rattle.std.proofs.Common.{◌≡◌, ℕ, zero, suc, ◌+◌, ◌-◌, ◌^◌, ◌<◌, ◌≤◌, Bool, true, false, cond, eqb, ltb, ◌&&◌, Option, Some, None, List, [], ◌∷◌, length, map, refl, sym, ap, ◌∙◌, subst, arith}
+use Rattle.std.proofs.Common.{◌≡◌, ℕ, zero, suc, ◌+◌, ◌-◌, ◌^◌, ◌<◌, ◌≤◌, Bool, true, false, cond, eqb, ltb, ◌&&◌, Option, Some, None, List, [], ◌∷◌, length, map, refl, sym, ap, ◌∙◌, subst, arith, eq-eqb}
 use Rattle.std.specs.Prelude.{All, AllPairs, IsTrue, ◌≢◌, find, not}
 use Rattle.std.specs.List.{list_any}
 use Rattle.std.proofs.lemmas.Bool.{ltb-false, eqb-true}
@@ -13,14 +13,14 @@ use Rattle.domain_run.specs.declared.task.Task.{Task}
 use Rattle.domain_run.specs.declared.task.Condition.{Condition}
 use Rattle.domain_run.specs.declared.task.Condition.TheVariants.{Ready, Throttled, Blocked, Waiting, Leaving}
 use Rattle.domain_run.specs.declared.call.Reply.TheVariants.{Changed, Woken, Busy, NotWaiting}
-use Rattle.domain_run.specs.Conditions.{is_leaving, is_waiting, is_contending}
+use Rattle.domain_run.specs.Conditions.{is_leaving, is_waiting}
 use Rattle.domain_run.specs.Domain.{Domain}
 use Rattle.domain_run.specs.Tick.{share_of, shares, sum_of}
 use Rattle.domain_run.specs.Calls.{task_of, of_number, changed, regrade_reply, regraded, wake_reply, released, ended}
 use Rattle.domain_run.specs.Sound.{IsSound, IsTimed, IsSteady, IsDomain}
-use Rattle.domain_run.specs.Parts.{stopped}
 use Rattle.domain_run.proofs.Keeping.{AllPairs-map, sum-map}
 use Rattle.domain_run.proofs.Tracing.{listed_traced}
+use Rattle.domain_run.proofs.Counting.{ended_same}
 
 abbrev Differ : List Task → Type 0
 Differ tasks = AllPairs (λ a b. a.number ≢ b.number) tasks
@@ -63,19 +63,17 @@ map_none f number (u ∷ tasks) none =
     let e : of_number number f u ≡ u = rw (not_equal u.number number (none_first number u tasks none)) refl in
     rw (e, map_none f number tasks (none_rest number u tasks none)) refl
 
--- a change of the one live task of a number
-changed_one : (P : Task → Type 0) (f : Task → Task) (number : ℕ) (tasks : List Task) (t : Task) → Differ tasks → find (is_live number) tasks ≡ Some t → (P t → P (f t)) → All P tasks → All P (map (of_number number f) tasks)
-changed_one P f number [] t differ e step all = absurd cc
-changed_one P f number (u ∷ tasks) t differ e step all =
-    let head : P u = all zero u (omega arith) in
-    let rest : All P tasks = λ k d h. all (suc k) d (omega arith) in
-    let more = map (of_number number f) tasks in
-    elim (eqb u.number number) as (λ b. eqb u.number number ≡ b → cond (b && not (is_leaving u.condition)) (Some u) (find (is_live number) tasks) ≡ Some t → All P (cond b (f u) u ∷ more)) [
-      | true ↦ λ here found. let none = none_left number u tasks differ here in elim (not (is_leaving u.condition)) as (λ b. cond b (Some u) (find (is_live number) tasks) ≡ Some t → All P (f u ∷ more)) [
-        | true ↦ λ is. let same : u ≡ t = cc in All-cons P (f u) more (subst (λ x. P (f x)) (sym same) (step (subst P same head))) (rw (map_none f number tasks none) rest)
+-- what holds of the one live task of a number holds of all of that number
+only_one : (P : Task → Type 0) (number : ℕ) (tasks : List Task) (t : Task) → Differ tasks → find (is_live number) tasks ≡ Some t → P t → All (λ u. u.number ≡ number → P u) tasks
+only_one P number [] t differ e holds = absurd cc
+only_one P number (u ∷ tasks) t differ e holds =
+    let Q : Task → Type 0 = λ v. v.number ≡ number → P v in
+    elim (eqb u.number number) as (λ b. eqb u.number number ≡ b → cond (b && not (is_leaving u.condition)) (Some u) (find (is_live number) tasks) ≡ Some t → All Q (u ∷ tasks)) [
+      | true ↦ λ here found. let none = none_left number u tasks differ here in elim (not (is_leaving u.condition)) as (λ b. cond b (Some u) (find (is_live number) tasks) ≡ Some t → All Q (u ∷ tasks)) [
+        | true ↦ λ is. let same : u ≡ t = cc in All-cons Q u tasks (λ n. subst P (sym same) holds) (All-weaker (λ v. v.number ≢ number) Q (λ v h k. absurd (h k)) tasks none)
         | false ↦ λ is. absurd (find_none number tasks t none is)
       ] found
-      | false ↦ λ here found. All-cons P u more head (changed_one P f number tasks t (rest_differ u tasks differ) found step rest)
+      | false ↦ λ here found. All-cons Q u tasks (λ n. let no : true ≡ false = sym (eq-eqb u.number number n) ∙ here in absurd cc) (only_one P number tasks t (rest_differ u tasks differ) found holds)
     ] refl e
 
 -- ---- sums
@@ -103,7 +101,7 @@ sum_kept f keeps number tasks = sum-map (of_number number f) (λ t. elim (eqb t.
 
 -- ---- each change keeps a task sound
 
-regraded_sound : (time : ℕ) (p : ParamsView) (t : Task) → IsSound time t → IsSound time (regraded p t)
+pub regraded_sound : (time : ℕ) (p : ParamsView) (t : Task) → IsSound time t → IsSound time (regraded p t)
 regraded_sound time p t h = record { served = h.served; spent = h.spent; lifted = h.lifted; dated = h.dated; busy = h.busy; timed = h.timed }
 
 waiting_timed : (time reference : ℕ) (c : Condition) → is_waiting c ≡ true → IsTimed time c reference → reference ≤ time
@@ -113,7 +111,7 @@ waiting_timed time reference (Blocked u) e h = absurd cc
 waiting_timed time reference Waiting e h = h
 waiting_timed time reference Leaving e h = absurd cc
 
-released_sound : (time : ℕ) (t : Task) → time ≤ 2 ^ 42 → is_waiting t.condition ≡ true → IsSound time t → IsSound time (released time t)
+pub released_sound : (time : ℕ) (t : Task) → time ≤ 2 ^ 42 → is_waiting t.condition ≡ true → IsSound time t → IsSound time (released time t)
 released_sound time t early e h =
     let behind = waiting_timed time t.cursor.reference t.condition e h.timed in
     record { served = h.served; spent = λ x. absurd cc; lifted = λ x. absurd cc; dated = λ x. absurd cc; busy = λ x. absurd cc; timed = (omega arith, omega arith) }
@@ -125,7 +123,7 @@ pub record IsChange (f : Task → Task) : Type 0 where
   pub number : (t : Task) → (f t).number ≡ t.number
   pub cpu : (t : Task) → (f t).cpu ≡ t.cpu
 
-one_change : (number : ℕ) (f : Task → Task) → IsChange f → IsChange (of_number number f)
+pub one_change : (number : ℕ) (f : Task → Task) → IsChange f → IsChange (of_number number f)
 one_change number f is = record {
   number = λ t. elim (eqb t.number number) as (λ b. (cond b (f t) t).number ≡ t.number) [ true ↦ is.number t | false ↦ refl ];
   cpu = λ t. elim (eqb t.number number) as (λ b. (cond b (f t) t).cpu ≡ t.cpu) [ true ↦ is.cpu t | false ↦ refl ];
@@ -163,27 +161,29 @@ may_change : (d : Domain) (p : ParamsView) (o : Option Task) → regrade_reply d
 may_change d p None e = absurd cc
 may_change d p (Some t) e = (t, refl, ltb-false (cap d.cpus d.limit) (sum_of d.tasks - t.params.bw + p.bw) (not_busy (ltb (cap d.cpus d.limit) (sum_of d.tasks - t.params.bw + p.bw)) (sum_of d.tasks) e))
 
-pub regrade_keeps : (d : Domain) (number : ℕ) (p : ParamsView) → IsDomain d → regrade_reply d p None (task_of d number) ≡ Changed → IsDomain (changed d number (regraded p))
-regrade_keeps d number p is reply =
+pub regrade_keeps : (d : Domain) (number : ℕ) (p : ParamsView) → IsDomain d → regrade_reply d p None (task_of d number) ≡ Changed → All (IsSound d.time) (map (of_number number (regraded p)) d.tasks) → IsDomain (changed d number (regraded p))
+regrade_keeps d number p is reply sound =
     let g = may_change d p (task_of d number) reply in
     let sum = sum_regraded number p d.tasks g.0 is.steady.numbered g.1 in
-    let sound : All (IsSound d.time) (map (of_number number (regraded p)) d.tasks) =
-    changed_one (IsSound d.time) (regraded p) number d.tasks g.0 is.steady.numbered g.1 (regraded_sound d.time p g.0) is.steady.sound in
     changed_is d number (regraded p) (record { number = λ t. refl; cpu = λ t. refl }) is (omega (arith, sum, g.2)) sound
 
 woken_waits : (o : Option Task) → wake_reply o ≡ Woken → (t : Task) × (o ≡ Some t) × (is_waiting t.condition ≡ true)
 woken_waits None e = absurd cc
 woken_waits (Some t) e = (t, refl, elim (is_waiting t.condition) as (λ b. cond b Woken NotWaiting ≡ Woken → b ≡ true) [ true ↦ λ h. refl | false ↦ λ h. absurd cc ] e)
 
-pub wake_keeps : (d : Domain) (number : ℕ) → IsDomain d → wake_reply (task_of d number) ≡ Woken → IsDomain (changed d number (released d.time))
-wake_keeps d number is reply =
+-- where a wake is granted, the task of the number waits
+pub woken_may : (d : Domain) (number : ℕ) → IsSteady d → wake_reply (task_of d number) ≡ Woken → All (λ t. t.number ≡ number → IsTrue (is_waiting t.condition) × (d.time ≤ 2 ^ 42)) d.tasks
+woken_may d number is reply =
     let g = woken_waits (task_of d number) reply in
-    let sound : All (IsSound d.time) (map (of_number number (released d.time)) d.tasks) =
-    changed_one (IsSound d.time) (released d.time) number d.tasks g.0 is.steady.numbered g.1 (released_sound d.time g.0 is.steady.early g.2) is.steady.sound in
+    only_one (λ t. IsTrue (is_waiting t.condition) × (d.time ≤ 2 ^ 42)) number d.tasks g.0 is.numbered g.1 (g.2, is.early)
+
+pub wake_keeps : (d : Domain) (number : ℕ) → IsDomain d → All (IsSound d.time) (map (of_number number (released d.time)) d.tasks) → IsDomain (changed d number (released d.time))
+wake_keeps d number is sound =
     changed_is d number (released d.time) (record { number = λ t. refl; cpu = λ t. refl }) is (rw (sum_kept (released d.time) (λ t. refl) number d.tasks) is.steady.within) sound
+
+pub ended_change : (time : ℕ) → IsChange (ended time)
+ended_change time = record { number = λ t. (ended_same time t).number; cpu = λ t. (ended_same time t).cpu }
 
 pub leave_keeps : (d : Domain) (number : ℕ) → IsDomain d → All (IsSound d.time) (map (of_number number (ended d.time)) d.tasks) → IsDomain (changed d number (ended d.time))
 leave_keeps d number is sound =
-    let same : (t : Task) → ((ended d.time t).number ≡ t.number) × ((ended d.time t).cpu ≡ t.cpu) × ((ended d.time t).params ≡ t.params) =
-    λ t. elim (is_contending t.condition) as (λ b. ((cond b (stopped d.time Leaving t) (record t { condition = Leaving })).number ≡ t.number) × ((cond b (stopped d.time Leaving t) (record t { condition = Leaving })).cpu ≡ t.cpu) × ((cond b (stopped d.time Leaving t) (record t { condition = Leaving })).params ≡ t.params)) [ true ↦ (refl, refl, refl) | false ↦ (refl, refl, refl) ] in
-    changed_is d number (ended d.time) (record { number = λ t. (same t).0; cpu = λ t. (same t).1 }) is (rw (sum_kept (ended d.time) (λ t. (same t).2) number d.tasks) is.steady.within) sound
+    changed_is d number (ended d.time) (ended_change d.time) is (rw (sum_kept (ended d.time) (λ t. (ended_same d.time t).params) number d.tasks) is.steady.within) sound

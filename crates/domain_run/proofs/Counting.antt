@@ -1,15 +1,14 @@
 -- A run queue that counts a list of tasks, and one task of it that turns.
-use Rattle.std.proofs.Common.{◌≡◌, ◌≢◌, ℕ, ◌+◌, ◌*◌, ◌^◌, ◌<◌, ◌≤◌, Bool, true, false, cond, Option, Some, None, List, [], ◌∷◌, ◌++◌, length, take, drop, set, get_or, map, refl, sym, ap, subst, ◌∙◌, arith, inl, inr, length-append, not}
-use Rattle.std.specs.Prelude.{AllPairs, IfSome, filter, is_none, ◌&&◌}
+use Rattle.std.proofs.Common.{◌≡◌, ◌≢◌, ℕ, ◌+◌, ◌^◌, ◌<◌, ◌≤◌, Bool, true, false, cond, Option, Some, None, List, [], ◌∷◌, ◌++◌, length, take, drop, set, get_or, map, refl, sym, ap, subst, ◌∙◌, arith, inl, inr, length-append, not}
+use Rattle.std.specs.Prelude.{All, AllPairs, IfSome, filter, is_none, ◌&&◌}
 use Rattle.std.proofs.lemmas.Bool.{cases_eq}
-use Rattle.std.proofs.lemmas.List.{append-nil, map-append, length-map, length-take, length-drop, length-set, map-set, get_or-map, get_or_default, get_or-set_same, get_or-set_other}
-use Rattle.std.proofs.lemmas.List.Elements.{All-set, All-map, All-filter, filter-append}
-use Rattle.std.proofs.lemmas.List.Sums.{sum_by-le, get_or-le-sum_by}
+use Rattle.std.proofs.lemmas.List.{append-nil, map-append, length-map, length-take, length-drop, length-set, map-set, get_or_default, get_or-set_same, get_or-set_other}
+use Rattle.std.proofs.lemmas.List.Elements.{All-set, All-map, All-filter, All-push, filter-append}
+use Rattle.std.proofs.lemmas.List.Quantifiers.{all_pairs_push}
+use Rattle.std.proofs.lemmas.List.Sums.{sum_by-le}
 use Rattle.std.proofs.lemmas.List.Kept.{AllPairs-filter}
 use Rattle.grub_rules.specs.declared.share.Share.{Share}
-use Rattle.std.proofs.Math.Nat.{mul-le-mul}
 use Rattle.std.proofs.Math.Seq.{map-set_same}
-use Rattle.attr_check.specs.Ratio.{cap}
 use Rattle.grub_rules.specs.Sums.{total_bw, uinact}
 use Rattle.grub_rules.specs.Accounts.{AccountsView, AreAccounts, Exchanges, inactive_at}
 use Rattle.grub_rules.proofs.LoopLemmas.{at, set_at, held_at, turned_at, joined_last}
@@ -19,7 +18,7 @@ use Rattle.edf_pick.proofs.CallerLemmas.{IsNumbered, numbered_map, length_ordere
 use Rattle.domain_run.specs.declared.task.Task.{Task}
 use Rattle.domain_run.specs.declared.run_queue.RunQueue.{RunQueue}
 use Rattle.domain_run.specs.Conditions.{is_ready, is_contending, is_leaving}
-use Rattle.domain_run.specs.Tick.{share_of, shares, sum_of, candidate_of, candidates}
+use Rattle.domain_run.specs.Tick.{share_of, shares, candidate_of, candidates}
 use Rattle.domain_run.specs.private.Timers.{due_of}
 use Rattle.domain_run.specs.private.RunQueue.{ready_of, standing_of, Counts, IsRoster, IsCounted, with_ready, without_ready, MayTurn, HasTurned}
 use Rattle.edf_pick.specs.Places.{Places, placed}
@@ -28,8 +27,7 @@ use Rattle.domain_run.specs.declared.task.Condition.TheVariants.{Ready, Throttle
 use Rattle.domain_run.specs.Parts.{is_listed}
 use Rattle.domain_run.specs.Calls.{ended}
 use Rattle.domain_run.proofs.Placing.{not_true}
-use Rattle.domain_run.specs.Domain.{Domain}
-use Rattle.domain_run.specs.Sound.{IsApart, IsDomain}
+use Rattle.domain_run.specs.Sound.{IsApart}
 use Rattle.domain_run.proofs.Seating.{IsSeating, placed_is}
 use Rattle.domain_run.proofs.Keeping.{Same, same_either, length-filter_least}
 use Rattle.attr_check.specs.ParamsView.{ParamsView}
@@ -116,7 +114,7 @@ split tasks i d y h same is =
 
 -- ---- ONE TASK TURNS
 
-total_short : (tasks : List Task) → IsRoster tasks → total_bw (shares tasks) ≤ 2 ^ 34
+pub total_short : (tasks : List Task) → IsRoster tasks → total_bw (shares tasks) ≤ 2 ^ 34
 total_short tasks is =
     let e : length (shares tasks) ≡ length tasks = simp length-map in
     omega (arith, sum_by-le (λ (s : Share). s.bw) (2 ^ 26) (shares tasks) (All-map (λ (s : Share). s.bw ≤ 2 ^ 26) share_of tasks is.short), is.few)
@@ -131,11 +129,11 @@ pub home_at : (cpus : ℕ) (queue : RunQueue) (tasks : List Task) (i : ℕ) (d :
 home_at cpus queue tasks i d h is = subst (λ n. (get_or tasks i d).cpu < n) is.wide (held_at share_of queue.accounts tasks i d h is.counts.sums).home
 
 -- the same parameters and the same CPU
-pub same_fit : (cpus : ℕ) (queue : RunQueue) (tasks : List Task) (i : ℕ) (d y : Task) → i < length tasks → Same (get_or tasks i d) y → IsCounted cpus queue tasks → IsFit cpus (get_or tasks i d) y
-same_fit cpus queue tasks i d y h same is = record {
+pub same_fit : (cpus : ℕ) (t y : Task) → Same t y → t.params.bw ≤ 2 ^ 26 → t.cpu < cpus → IsFit cpus t y
+same_fit cpus t y same short home = record {
   number = same.number;
-  short = subst (λ (p : ParamsView). p.bw ≤ 2 ^ 26) (sym same.params) (is.roster.short i d h);
-  home = subst (λ n. n < cpus) (sym same.cpu) (home_at cpus queue tasks i d h is);
+  short = subst (λ (p : ParamsView). p.bw ≤ 2 ^ 26) (sym same.params) short;
+  home = subst (λ n. n < cpus) (sym same.cpu) home;
 }
 
 -- the same, after a call
@@ -188,18 +186,12 @@ turned cpus queue new tasks i d y h fit has is =
 
 -- ---- lists
 
-pub roster_of : (tasks : List Task) → length tasks ≤ 256 → sum_of tasks ≤ 2 ^ 26 → AllPairs (λ a b. a.number ≢ b.number) tasks → IsRoster tasks
-roster_of tasks few within numbered = record {
-  few = few;
-  short = λ k d h. omega (arith, bw_at tasks k d h);
-  numbered = numbered;
+pub roster_push : (tasks : List Task) (t : Task) → length tasks < 256 → t.params.bw ≤ 2 ^ 26 → All (λ u. u.number ≢ t.number) tasks → IsRoster tasks → IsRoster (tasks ++ t ∷ [])
+roster_push tasks t few short absent is = record {
+  few = omega (arith, few, length-append tasks (t ∷ []));
+  short = All-push (λ (u : Task). u.params.bw ≤ 2 ^ 26) tasks t is.short short;
+  numbered = all_pairs_push (λ a b. a.number ≢ b.number) tasks t is.numbered absent;
 }
-  where
-    bw_at : (tasks : List Task) (k : ℕ) (d : Task) → k < length tasks → (get_or tasks k d).params.bw ≤ sum_of tasks
-    bw_at tasks k d h =
-        let e : get_or (shares tasks) k (share_of d) ≡ share_of (get_or tasks k d) = get_or-map share_of tasks k d (share_of d) h in
-        let n : length (shares tasks) ≡ length tasks = simp length-map in
-        omega (arith, get_or-le-sum_by (λ (s : Share). s.bw) (shares tasks) k (share_of d) (omega arith), ap (λ (s : Share). s.bw) e)
 
 -- a task that has left is not ready
 ready_listed : (c : Condition) (z : Bool) → is_ready c ≡ true → not (is_leaving c && z) ≡ true
@@ -234,28 +226,16 @@ counted_listed cpus queue new tasks wide ready due sums is = record {
 }
 
 -- the placement over the queue is that of the list
-pub placed_counted : (cpus n : ℕ) (queue : RunQueue) (tasks : List Task) (before : Places) → IsCounted cpus queue tasks → placed n queue.ready before ≡ placed n (candidates tasks) before
-placed_counted cpus n queue tasks before is = ap (λ q. placed n q before) is.counts.order ∙ placed_ordered n (candidates tasks) before (numbered_candidates tasks is.roster.numbered)
+pub placed_counted : (n : ℕ) (ready : List Candidate) (tasks : List Task) (before : Places) → ready ≡ ordered (candidates tasks) → AllPairs (λ a b. a.number ≢ b.number) tasks → placed n ready before ≡ placed n (candidates tasks) before
+placed_counted n ready tasks before is numbered = ap (λ q. placed n q before) is ∙ placed_ordered n (candidates tasks) before (numbered_candidates tasks numbered)
 
-pub placed_seating : (cpus : ℕ) (queue : RunQueue) (tasks : List Task) (before new : Places) → IsCounted cpus queue tasks → IsApart before → new ≡ placed (length before) queue.ready before → IsSeating (candidates tasks) (length before) new
-placed_seating cpus queue tasks before new is apart e =
-    subst (IsSeating (candidates tasks) (length before)) (sym (e ∙ placed_counted cpus (length before) queue tasks before is)) (placed_is (length before) (candidates tasks) before refl apart)
-
-pub placed_wide : (cpus : ℕ) (queue : RunQueue) (tasks : List Task) (before new : Places) → IsCounted cpus queue tasks → IsApart before → new ≡ placed (length before) queue.ready before → length new ≡ length before
-placed_wide cpus queue tasks before new is apart e = (placed_seating cpus queue tasks before new is apart e).wide
+pub placed_seating : (ready : List Candidate) (tasks : List Task) (before new : Places) → ready ≡ ordered (candidates tasks) → AllPairs (λ a b. a.number ≢ b.number) tasks → IsApart before → new ≡ placed (length before) ready before → IsSeating (candidates tasks) (length before) new
+placed_seating ready tasks before new is numbered apart e =
+    subst (IsSeating (candidates tasks) (length before)) (sym (e ∙ placed_counted (length before) ready tasks before is numbered)) (placed_is (length before) (candidates tasks) before refl apart)
 
 -- what the sums say of their list
 pub inactive_is : (a : AccountsView) (xs : List Share) (cpu : ℕ) → AreAccounts a xs → inactive_at cpu a ≡ uinact cpu xs
 inactive_is a xs cpu is = omega (arith, is.all cpu, is.active cpu)
-
--- a domain's run queue
-pub counted_in : (d : Domain) (queue : RunQueue) → IsDomain d → length queue.accounts.all ≡ d.cpus → Counts queue d.tasks → IsCounted d.cpus queue d.tasks
-counted_in d queue is wide counts =
-    let most : cap d.cpus d.limit ≤ 64 * 1048576 = mul-le-mul is.steady.cpus.1 is.steady.limit.1 in
-    record { wide = wide; counts = counts; roster = roster_of d.tasks is.steady.listed (omega (arith, is.steady.within, most)) is.steady.numbered }
-
-pub counted_all : (d : Domain) (queue : RunQueue) → IsDomain d → length queue.accounts.all ≡ d.cpus → Counts queue d.tasks → IsCounted (length queue.accounts.all) queue d.tasks
-counted_all d queue is wide counts = subst (λ n. IsCounted n queue d.tasks) (sym wide) (counted_in d queue is wide counts)
 
 -- a task at the end of the list that is not ready
 pub counts_push : (queue new : RunQueue) (tasks : List Task) (t : Task) → is_ready t.condition ≡ false → new.ready ≡ queue.ready → new.timers ≡ queue.timers ++ due_of t ∷ [] → t.cpu < length queue.accounts.all → Exchanges queue.accounts new.accounts [] (share_of t ∷ []) → Counts queue tasks → Counts new (tasks ++ t ∷ [])

@@ -1,24 +1,19 @@
 -- Which tasks are due, and what parts 1 to 3 do to the others: nothing.
-use Rattle.std.proofs.Common.{◌≡◌, ℕ, ◌+◌, ◌-◌, ◌^◌, ◌<◌, ◌≤◌, min, true, false, cond, leb, ◌&&◌, Option, Some, None, List, [], ◌∷◌, ◌++◌, length, map, get_or, set, take, drop, refl, sym, ap, ◌∙◌, arith}
+use Rattle.std.proofs.Common.{◌≡◌, ℕ, zero, suc, ◌+◌, ◌-◌, ◌^◌, ◌<◌, ◌≤◌, min, true, false, cond, ◌&&◌, Option, Some, None, List, [], ◌∷◌, ◌++◌, length, map, get_or, set, take, drop, refl, sym, ap, subst, ◌∙◌, arith}
 use Rattle.std.specs.Prelude.{All, filter}
-use Rattle.std.proofs.lemmas.Bool.{lt-leb, leb-false}
-use Rattle.std.proofs.lemmas.List.{get_or-map, get_or_default, set-get_or}
+use Rattle.std.proofs.lemmas.Bool.{lt-leb}
+use Rattle.std.proofs.lemmas.List.{get_or-map, get_or_default, set-get_or, length-set, length-map}
 use Rattle.std.proofs.lemmas.List.Elements.{All-cons, All-weaker}
 use Rattle.edf_pick.proofs.MapStep.{map_step}
 use Rattle.domain_run.specs.declared.task.Task.{Task}
 use Rattle.domain_run.specs.declared.task.Condition.{Condition}
 use Rattle.domain_run.specs.declared.task.Condition.TheVariants.{Ready, Throttled, Blocked, Waiting, Leaving}
-use Rattle.domain_run.specs.declared.run_queue.RunQueue.{RunQueue}
 use Rattle.domain_run.specs.Conditions.{is_throttled, is_over, has_come}
 use Rattle.domain_run.specs.Parts.{is_listed}
 use Rattle.domain_run.specs.Tick.{prepared}
 use Rattle.domain_run.specs.Jump.{replenished_at, asks_at, gone_at, ticks_to, rest_of, rest}
-use Rattle.domain_run.specs.private.Index.{IsAt}
-use Rattle.domain_run.specs.private.Timers.{moment_of, due_of, least, IsStep}
-use Rattle.domain_run.specs.private.RunQueue.{standing_of, IsCounted, MayTurn, HasTurned}
-use Rattle.domain_run.proofs.Keeping.{Same}
+use Rattle.domain_run.specs.private.Timers.{moment_of, due_of, least, IsStep, AreLater, AreNotDue}
 use Rattle.domain_run.proofs.Jumping.{IsStill, prepared_still, filter_whole}
-use Rattle.domain_run.proofs.Finding.{IsFound, same_found, found_may, found_turned}
 
 -- ---- before its time nothing is to be done to a task
 
@@ -101,33 +96,16 @@ rest_least time tasks early = omega (arith, rest_capped time tasks early, rest_m
 
 -- ---- ONE PLACE, where its task is due
 
-at_place : (tasks : List Task) (p : ℕ) (x : Task) → p < length tasks → x ≡ get_or tasks p x → IsAt tasks x.number p
-at_place tasks p x h read = record { within = h; is = λ d. ap (λ (t : Task). t.number) (get_or_default tasks p d x h ∙ sym read) }
-
-step_found : (cpus : ℕ) (queue : RunQueue) (tasks : List Task) (p : ℕ) (x : Task) (f : Task → Task) → p < length tasks → x ≡ get_or tasks p x → Same x (f x) → IsCounted cpus queue tasks → IsFound cpus queue tasks x.number p x f
-step_found cpus queue tasks p x f h read same counted = same_found cpus queue tasks x.number p x f (at_place tasks p x h read) read same counted
-
-pub step_may : (cpus : ℕ) (queue : RunQueue) (tasks : List Task) (p : ℕ) (x : Task) (f : Task → Task) → p < length tasks → x ≡ get_or tasks p x → Same x (f x) → IsCounted cpus queue tasks → MayTurn p queue (standing_of x) (standing_of (f x))
-step_may cpus queue tasks p x f h read same counted = found_may cpus queue tasks x.number p x f (step_found cpus queue tasks p x f h read same counted)
-
-pub step_counted : (cpus : ℕ) (queue new : RunQueue) (tasks : List Task) (p : ℕ) (x y : Task) (f : Task → Task) → p < length tasks → x ≡ get_or tasks p x → Same x (f x) → y ≡ f x → HasTurned p (standing_of x) (standing_of y) queue new → IsCounted cpus queue tasks → IsCounted cpus new (set tasks p y)
-step_counted cpus queue new tasks p x y f h read same is has counted = found_turned cpus queue new tasks x.number p x y f is has (step_found cpus queue tasks p x f h read same counted)
-
 pub step_is : (tasks : List Task) (p : ℕ) (x y : Task) (f : Task → Task) → p < length tasks → x ≡ get_or tasks p x → y ≡ f x → IsStep f p tasks (set tasks p y)
 step_is tasks p x y f h read is = record { is = λ d. ap (set tasks p) (is ∙ ap f (read ∙ get_or_default tasks p x d h)) }
 
 -- where it is not, nothing is to be done
-pub not_due : (cpus time : ℕ) (queue : RunQueue) (tasks : List Task) (p : ℕ) (d : Task) → p < length tasks → leb (get_or queue.timers p 0) time ≡ false → IsCounted cpus queue tasks → IsStill time (get_or tasks p d)
-not_due cpus time queue tasks p d h not counted =
-    let at : get_or queue.timers p 0 ≡ due_of (get_or tasks p d) = ap (λ (ds : List ℕ). get_or ds p 0) counted.counts.due ∙ get_or-map due_of tasks p d 0 h in
-    still_at time (get_or tasks p d) (omega (arith, at, leb-false (get_or queue.timers p 0) time not))
-
 pub step_none : (tasks : List Task) (p : ℕ) (f : Task → Task) → ((d : Task) → f (get_or tasks p d) ≡ get_or tasks p d) → IsStep f p tasks tasks
 step_none tasks p f still = record { is = λ d. sym (ap (set tasks p) (still d) ∙ set-get_or tasks p d) }
 
 -- ---- ALL PLACES one after another
 
-some_task : (tasks : List Task) (p : ℕ) → p < length tasks → Task
+pub some_task : (tasks : List Task) (p : ℕ) → p < length tasks → Task
 some_task [] p h = absurd (omega (arith, h))
 some_task (t ∷ tasks) p h = t
 
@@ -135,3 +113,36 @@ pub step_more : (f : Task → Task) (first now new : List Task) (p : ℕ) → p 
 step_more f first now new p h written step =
     let d = some_task first p h in
     step.is d ∙ map_step f first now p d (f (get_or now p d)) h written refl
+
+pub step_len : (f : Task → Task) (tasks new : List Task) (p : ℕ) → p < length tasks → IsStep f p tasks new → length new ≡ length tasks
+step_len f tasks new p h step =
+    let d = some_task tasks p h in
+    ap (λ (ts : List Task). length ts) (step.is d) ∙ length-set tasks p (f (get_or tasks p d))
+
+-- ---- PLACES at which no task is due
+
+-- a map that passes by the tasks that are not due
+abbrev pub Passes : ℕ → (Task → Task) → Type 0
+Passes time f = (t : Task) → time < due_of t → f t ≡ t
+
+-- as the timers tell it
+pub none_due_at : (time from to : ℕ) (times : List ℕ) (tasks : List Task) → times ≡ map due_of tasks → AreLater times time from to → AreNotDue tasks time from to
+none_due_at time from to times tasks is later place d a b within =
+    let len : length (map due_of tasks) ≡ length tasks = simp length-map in
+    let many : length times ≡ length tasks = ap (λ (ns : List ℕ). length ns) is ∙ len in
+    let read : get_or times place 0 ≡ due_of (get_or tasks place d) = ap (λ (ns : List ℕ). get_or ns place 0) is ∙ get_or-map due_of tasks place d 0 within in
+    subst (λ (n : ℕ). time < n) read (later place a b (omega (arith, within, many)))
+
+-- they are passed by
+pass_by : (f : Task → Task) (first now : List Task) (n p : ℕ) → p + n ≤ length first → now ≡ map f (take p first) ++ drop p first → ((q : ℕ) (d : Task) → p ≤ q → q < p + n → f (get_or now q d) ≡ get_or now q d) → now ≡ map f (take (p + n) first) ++ drop (p + n) first
+pass_by f first now zero p h written still = subst (λ m. now ≡ map f (take m first) ++ drop m first) (omega arith) written
+pass_by f first now (suc n) p h written still =
+    let here = step_more f first now now p (omega (arith, h)) written (step_none now p f (λ d. still p d (omega arith) (omega arith))) in
+    subst (λ m. now ≡ map f (take m first) ++ drop m first) (omega arith)
+    (pass_by f first now n (p + 1) (omega (arith, h)) here (λ q d a b. still q d (omega (arith, a)) (omega (arith, b))))
+
+pub step_by : (time : ℕ) (f : Task → Task) (first now : List Task) (p r : ℕ) → Passes time f → p ≤ r → r ≤ length first → length now ≡ length first → AreNotDue now time p r → now ≡ map f (take p first) ++ drop p first → now ≡ map f (take r first) ++ drop r first
+step_by time f first now p r passes from most same later written =
+    let whole : p + (r - p) ≡ r = omega (arith, from) in
+    subst (λ m. now ≡ map f (take m first) ++ drop m first) whole
+    (pass_by f first now (r - p) p (omega (arith, whole, most)) written (λ q d a b. passes (get_or now q d) (later q d a (omega (arith, b, whole)) (omega (arith, b, whole, most, same)))))

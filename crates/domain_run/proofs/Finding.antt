@@ -1,18 +1,12 @@
 -- The task of a number, and a map that changes this task alone.
-use Rattle.std.proofs.Common.{◌≡◌, ◌≢◌, ℕ, zero, suc, ◌<◌, ◌≤◌, ◌^◌, Bool, true, false, cond, eqb, ◌&&◌, not, Option, Some, None, List, [], ◌∷◌, length, get_or, set, map, refl, sym, ap, subst, ◌∙◌, arith, eq-eqb}
+use Rattle.std.proofs.Common.{◌≡◌, ◌≢◌, ℕ, zero, suc, ◌<◌, Bool, true, false, cond, eqb, ◌&&◌, not, Option, Some, None, List, [], ◌∷◌, length, get_or, set, map, refl, sym, ap, ◌∙◌, arith, eq-eqb}
 use Rattle.std.specs.Prelude.{AllPairs, find}
 use Rattle.std.proofs.lemmas.Bool.{ne_eqb, eqb-true}
 use Rattle.std.proofs.lemmas.List.{get_or-map}
-use Rattle.attr_check.specs.ParamsView.{ParamsView}
 use Rattle.domain_run.specs.declared.task.Task.{Task}
 use Rattle.domain_run.specs.Conditions.{is_leaving}
 use Rattle.domain_run.specs.private.Index.{IsAt, IsAbsent}
-use Rattle.domain_run.specs.declared.run_queue.RunQueue.{RunQueue}
-use Rattle.domain_run.specs.Parts.{homed_at}
-use Rattle.domain_run.specs.Calls.{of_number, regraded}
-use Rattle.domain_run.specs.private.RunQueue.{standing_of, IsCounted, MayTurn, HasTurned}
-use Rattle.domain_run.proofs.Keeping.{Same}
-use Rattle.domain_run.proofs.Counting.{IsFit, home_at, same_fit, may_turn, turned}
+use Rattle.domain_run.specs.Calls.{of_number}
 use Rattle.domain_run.proofs.Paying.{find_here}
 
 abbrev pub AreNumbered : List Task → Type 0
@@ -82,50 +76,3 @@ map_at f n (t ∷ tasks) (suc p) d numbered is =
 -- what a map left at a place
 pub read_before : (f : Task → Task) (tasks now : List Task) (p : ℕ) (d : Task) → p < length tasks → now ≡ map f tasks → get_or now p d ≡ f (get_or tasks p d)
 read_before f tasks now p d h is = ap (λ (ts : List Task). get_or ts p d) is ∙ get_or-map f tasks p d d h
-
--- ---- ONE TASK that was found turns, and the queue is told
-
--- what is found, as a place of the list has it
-pub record IsFound (cpus : ℕ) (queue : RunQueue) (tasks : List Task) (n p : ℕ) (x : Task) (f : Task → Task) : Type 0 where
-  pub at : IsAt tasks n p
-  pub read : x ≡ get_or tasks p x
-  pub fit : IsFit cpus x (f x)
-  pub counted : IsCounted cpus queue tasks
-
-pub found_may : (cpus : ℕ) (queue : RunQueue) (tasks : List Task) (n p : ℕ) (x : Task) (f : Task → Task) → IsFound cpus queue tasks n p x f → MayTurn p queue (standing_of x) (standing_of (f x))
-found_may cpus queue tasks n p x f is =
-    let fit : IsFit cpus (get_or tasks p x) (f x) = subst (λ u. IsFit cpus u (f x)) is.read is.fit in
-    subst (λ u. MayTurn p queue (standing_of u) (standing_of (f x))) (sym is.read) (may_turn cpus queue tasks p x (f x) is.at.within fit is.counted)
-
-pub found_turned : (cpus : ℕ) (queue new : RunQueue) (tasks : List Task) (n p : ℕ) (x y : Task) (f : Task → Task) → y ≡ f x → HasTurned p (standing_of x) (standing_of y) queue new → IsFound cpus queue tasks n p x f → IsCounted cpus new (set tasks p y)
-found_turned cpus queue new tasks n p x y f same has is =
-    let fit : IsFit cpus (get_or tasks p x) y = subst (λ u. IsFit cpus u y) is.read (subst (IsFit cpus x) (sym same) is.fit) in
-    turned cpus queue new tasks p x y is.at.within fit (subst (λ u. HasTurned p (standing_of u) (standing_of y) queue new) is.read has) is.counted
-
-pub found_set : (cpus : ℕ) (queue : RunQueue) (tasks : List Task) (n p : ℕ) (x y : Task) (f : Task → Task) → y ≡ f x → IsFound cpus queue tasks n p x f → set tasks p y ≡ map (of_number n f) tasks
-found_set cpus queue tasks n p x y f same is = ap (set tasks p) (same ∙ ap f is.read) ∙ sym (map_at f n tasks p x is.counted.roster.numbered is.at)
-
--- what was in range stays so where number, parameters and CPU stay
-pub same_found : (cpus : ℕ) (queue : RunQueue) (tasks : List Task) (n p : ℕ) (x : Task) (f : Task → Task) → IsAt tasks n p → x ≡ get_or tasks p x → Same x (f x) → IsCounted cpus queue tasks → IsFound cpus queue tasks n p x f
-same_found cpus queue tasks n p x f at read same counted = record {
-  at = at;
-  read = read;
-  fit = subst (λ u. IsFit cpus u (f x)) (sym read) (same_fit cpus queue tasks p x (f x) at.within (subst (λ u. Same u (f x)) read same) counted);
-  counted = counted;
-}
-
-pub home_found : (cpus : ℕ) (queue : RunQueue) (tasks : List Task) (n p cpu : ℕ) (x : Task) → IsAt tasks n p → x ≡ get_or tasks p x → cpu < cpus → IsCounted cpus queue tasks → IsFound cpus queue tasks n p x (homed_at (Some cpu))
-home_found cpus queue tasks n p cpu x at read there counted = record {
-  at = at;
-  read = read;
-  fit = record { number = refl; short = subst (λ (u : Task). u.params.bw ≤ 2 ^ 26) (sym read) (counted.roster.short p x at.within); home = there };
-  counted = counted;
-}
-
-pub regrade_found : (cpus : ℕ) (queue : RunQueue) (tasks : List Task) (n p : ℕ) (x : Task) (q : ParamsView) → IsAt tasks n p → x ≡ get_or tasks p x → q.bw ≤ 2 ^ 26 → IsCounted cpus queue tasks → IsFound cpus queue tasks n p x (regraded q)
-regrade_found cpus queue tasks n p x q at read short counted = record {
-  at = at;
-  read = read;
-  fit = record { number = refl; short = short; home = subst (λ (u : Task). u.cpu < cpus) (sym read) (home_at cpus queue tasks p x at.within counted) };
-  counted = counted;
-}

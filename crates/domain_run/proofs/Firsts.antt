@@ -3,7 +3,7 @@ use Rattle.std.proofs.Common.{◌≡◌, ℕ, zero, suc, ◌<◌, min, List, [],
 use Rattle.std.proofs.lemmas.List.{set-get_or}
 use Rattle.domain_run.specs.private.Timers.{least, others}
 
-least_set : (times : List ℕ) (p v : ℕ) → p < length times → least (set times p v) ≡ min v (others times p)
+pub least_set : (times : List ℕ) (p v : ℕ) → p < length times → least (set times p v) ≡ min v (others times p)
 least_set [] p v h = absurd (omega (arith, h))
 least_set (t ∷ times) zero v h = refl
 least_set (t ∷ times) (suc p) v h = omega (arith, least_set times p v (omega (arith, h)))
@@ -11,11 +11,6 @@ least_set (t ∷ times) (suc p) v h = omega (arith, least_set times p v (omega (
 -- all of them, by the one at a place
 pub least_at : (times : List ℕ) (p : ℕ) → p < length times → least times ≡ min (get_or times p 0) (others times p)
 least_at times p h = ap least (sym (set-get_or times p 0)) ∙ least_set times p (get_or times p 0) h
-
-pub others_set : (times : List ℕ) (p v : ℕ) → others (set times p v) p ≡ others times p
-others_set [] p v = refl
-others_set (t ∷ times) zero v = refl
-others_set (t ∷ times) (suc p) v = ap (λ n. min t n) (others_set times p v)
 
 pub least_push : (times : List ℕ) (v : ℕ) → least (times ++ v ∷ []) ≡ min (least times) v
 least_push [] v = omega arith

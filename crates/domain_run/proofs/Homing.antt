@@ -52,7 +52,7 @@ map_same f g tasks same = λ i. map (λ t. same t i) tasks
 
 -- ---- HOMES
 
-apart_take : (places : Places) (k : ℕ) → k ≤ length places → IsApart places → IsApart (take k places)
+pub apart_take : (places : Places) (k : ℕ) → k ≤ length places → IsApart places → IsApart (take k places)
 apart_take places k h apart = record {
   once = λ i j n a b. apart.once i j n (whole i n a) (whole j n b);
 }

@@ -16,10 +16,12 @@ pub mod Staying
 pub mod Jumping
 pub mod Paying
 pub mod Runners
-pub mod Unturned
+pub mod Making
 pub mod Finding
 pub mod Homing
+pub mod AtHome
 pub mod Charged
 pub mod Due
 pub mod Firsts
+pub mod Blocks
 pub mod Sliding

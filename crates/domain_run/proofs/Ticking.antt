@@ -71,7 +71,7 @@ listed_prepared d is =
     let c = listed_filter d is_listed (map (settled d.time) (map (replenish_due d.time) d.tasks)) b in
     listed_map d (unblocked d.time) (filter is_listed (map (settled d.time) (map (replenish_due d.time) d.tasks))) (same_unblocked d.time) c
 
-homed_sound : (time : ℕ) (o : Option ℕ) (t : Task) → IsSound time t → IsSound time (homed_at o t)
+pub homed_sound : (time : ℕ) (o : Option ℕ) (t : Task) → IsSound time t → IsSound time (homed_at o t)
 homed_sound time None t h = h
 homed_sound time (Some cpu) t h = record { served = h.served; spent = h.spent; lifted = h.lifted; dated = h.dated; busy = h.busy; timed = h.timed }
 

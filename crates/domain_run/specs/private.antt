@@ -3,3 +3,4 @@ pub mod RunQueue
 pub mod Paying
 pub mod Index
 pub mod Timers
+pub mod Roster

@@ -6,21 +6,24 @@
 #![tactic(auto)]
 
 mod call;
+mod calls;
+mod change;
 mod charging;
 mod index;
 mod memory;
 mod name;
 mod numbers;
 mod parts;
+mod roster;
 mod run_queue;
 mod running;
 mod script;
+mod standing;
 mod state;
 mod sweep;
 mod switch;
 mod task;
 mod timers;
-mod turning;
 
 pub use call::{Call, Refused, Reply};
 pub use memory::NoMemory;

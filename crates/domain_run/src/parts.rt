@@ -1,29 +1,20 @@
 //! The parts of a tick, on one task.
 
-ghost use Rattle.std.specs.Prelude.{◌≡◌, ◌<◌, ◌≤◌, ◌^◌, ◌+◌, ◌-◌, ℕ, IsTrue, IsSome, false, ◌≢◌, AllPairs, pos, neg_ℤ, ◌≤ℤ◌, ◌<ℤ◌};
+ghost use Rattle.std.specs.Prelude.{◌≡◌, ◌<◌, ◌≤◌, ◌^◌, ◌+◌, ◌-◌, IsTrue, IsSome, false, pos, neg_ℤ, ◌≤ℤ◌, ◌<ℤ◌};
 ghost use Rattle.domain_run.specs.Conditions as conditions;
 ghost use Rattle.cbs_rules.specs.Serving as serving;
 ghost use Rattle.domain_run.specs.Tick as tick_spec;
 ghost use Rattle.domain_run.specs.Switches as switches_spec;
-ghost use Rattle.domain_run.specs.Views as views;
-ghost use Rattle.domain_run.specs.Calls as calls;
-ghost use Rattle.domain_run.specs.Domain.{Domain};
 ghost use Rattle.domain_run.specs.Parts as parts;
 ghost use Rattle.domain_run.specs.private.Paying.{ran_until};
-ghost use Rattle.domain_run.specs.private.Timers as timers;
-ghost use Rattle.domain_run.specs.Jump as jump;
 ghost use Rattle.domain_run.specs.script.Segments.{IsSegment, next_ask};
 ghost use Rattle.domain_run.specs.Bounds.{IsServed};
 ghost use Rattle.domain_run.specs.Sound.{IsTimed, IsSound};
 
-use crate::index::Index;
-use crate::name::Name;
-use crate::running::Running;
-use crate::script::{Script, Segment};
+use crate::roster::Roster;
+use crate::script::Segment;
 use crate::switch::PrevState;
-use crate::task::{Condition, Task, TaskView};
-use crate::timers::NEVER;
-use attr_check::Params;
+use crate::task::{Condition, Task};
 use cbs_rules::Server;
 use edf_pick::Candidate;
 
@@ -33,65 +24,6 @@ pub(crate) fn has_come(time: u64, moment: Option<u64>) -> bool
     match moment {
         None => false,
         Some(moment) => moment <= time,
-    }
-}
-
-fn moment_of(moment: Option<u64>) -> u64
-    ensures { result ≡ timers.moment_of moment }
-{
-    match moment {
-        None => NEVER,
-        Some(moment) => moment,
-    }
-}
-
-impl Condition {
-    pub(crate) fn is_ready(self) -> bool
-        ensures { result ≡ conditions.is_ready self }
-    {
-        matches!(self, Condition::Ready)
-    }
-
-    pub(crate) fn is_throttled(self) -> bool
-        ensures { result ≡ conditions.is_throttled self }
-    {
-        matches!(self, Condition::Throttled)
-    }
-
-    pub(crate) fn is_contending(self) -> bool
-        ensures { result ≡ conditions.is_contending self }
-    {
-        matches!(self, Condition::Ready | Condition::Throttled)
-    }
-
-    pub(crate) fn is_waiting(self) -> bool
-        ensures { result ≡ conditions.is_waiting self }
-    {
-        matches!(self, Condition::Waiting)
-    }
-
-    pub(crate) fn is_leaving(self) -> bool
-        ensures { result ≡ conditions.is_leaving self }
-    {
-        matches!(self, Condition::Leaving)
-    }
-
-    pub(crate) fn is_over(self, time: u64) -> bool
-        ensures { result ≡ conditions.is_over time self }
-    {
-        match self {
-            Condition::Blocked(until) => until <= time,
-            _ => false,
-        }
-    }
-
-    fn asks_at(self) -> Option<u64>
-        ensures { result ≡ jump.asks_at self }
-    {
-        match self {
-            Condition::Blocked(until) => Some(until),
-            _ => None,
-        }
     }
 }
 
@@ -213,6 +145,40 @@ pub(crate) fn unblock(task: &mut Task, time: u64)
     }
 }
 
+/// Part 4: a ready task as the choice sees it.
+pub(crate) fn candidate_of(task: &Task) -> Candidate
+    ensures { result ≡ tick_spec.candidate_of task.now }
+{
+    Candidate {
+        deadline: task.server.deadline.unwrap_or(0),
+        number: task.number,
+        home: task.cpu,
+    }
+}
+
+fn left_in(condition: Condition) -> PrevState
+    ensures { result ≡ switches_spec.left_in condition }
+{
+    match condition {
+        Condition::Ready | Condition::Throttled => PrevState::Preempted,
+        Condition::Blocked(_) | Condition::Waiting => PrevState::Sleeping,
+        Condition::Leaving => PrevState::Dead,
+    }
+}
+
+/// Part 5: the state in which an occupant leaves its CPU.
+pub(crate) fn state_of(roster: &Roster, occupant: Option<u32>) -> PrevState
+    ensures { result ≡ switches_spec.state_of roster.now.tasks occupant }
+{
+    match occupant {
+        None => PrevState::Running,
+        Some(number) => match roster.find(number) {
+            None => PrevState::Dead,
+            Some(task) => left_in(task.condition),
+        },
+    }
+}
+
 fn run_on(task: &mut Task, time: u64)
     requires served { IsServed time task.old.server }
     requires dated { IsSome task.old.server.deadline }
@@ -228,7 +194,7 @@ fn run_on(task: &mut Task, time: u64)
     };
 }
 
-fn stop(task: &mut Task, condition: Condition, time: u64)
+pub(crate) fn stop(task: &mut Task, condition: Condition, time: u64)
     requires served { IsServed time task.old.server }
     requires resting { conditions.is_contending condition ≡ false }
     requires timed { IsTimed time condition task.old.cursor.reference }
@@ -288,148 +254,4 @@ pub(crate) fn run_until(task: &mut Task, time: u64, ticks: u64, left: i128)
     task.server.left = left;
     task.work -= ticks;
     after_charge(task, time);
-}
-
-/// The first time at which something is to be done to a task before the choice.
-pub(crate) fn due_of(task: &Task) -> u64
-    ensures { result ≡ timers.due_of task.now }
-{
-    let replenished = if task.condition.is_throttled() {
-        task.server.deadline
-    } else {
-        None
-    };
-    let gone = if is_listed(task) { None } else { Some(0) };
-    let served = moment_of(replenished).min(moment_of(task.zero_lag));
-    served.min(moment_of(task.condition.asks_at()).min(moment_of(gone)))
-}
-
-/// A running task as a jump sees it.
-pub(crate) fn running_of(task: &Task, uinact: u64) -> Running
-    ensures { result ≡ record {
-      number = task.now.number;
-      params = task.now.params;
-      uinact = uinact;
-      left = task.now.server.left;
-      work = task.now.work;
-    } }
-{
-    Running {
-        number: task.number,
-        params: task.params,
-        uinact,
-        left: task.server.left,
-        work: task.work,
-    }
-}
-
-/// Part 4: a ready task as the choice sees it.
-pub(crate) fn candidate_of(task: &Task) -> Candidate
-    ensures { result ≡ tick_spec.candidate_of task.now }
-{
-    Candidate {
-        deadline: task.server.deadline.unwrap_or(0),
-        number: task.number,
-        home: task.cpu,
-    }
-}
-
-/// Whether a task's bandwidth is active: it contends, or has a zero-lag time ahead.
-pub(crate) fn is_active(task: &Task) -> bool
-    ensures { result ≡ (tick_spec.share_of task.now).active }
-{
-    task.condition.is_contending() || task.zero_lag.is_some()
-}
-
-fn left_in(condition: Condition) -> PrevState
-    ensures { result ≡ switches_spec.left_in condition }
-{
-    match condition {
-        Condition::Ready | Condition::Throttled => PrevState::Preempted,
-        Condition::Blocked(_) | Condition::Waiting => PrevState::Sleeping,
-        Condition::Leaving => PrevState::Dead,
-    }
-}
-
-/// Part 5: the state in which an occupant leaves its CPU.
-pub(crate) fn state_of(tasks: &[Task], index: &Index, occupant: Option<u32>) -> PrevState
-    requires { AllPairs (λ a b. a.number ≢ b.number) tasks.now }
-    ensures { result ≡ switches_spec.state_of tasks.now occupant }
-{
-    match occupant {
-        None => PrevState::Running,
-        Some(number) => match index.find(tasks, number) {
-            None => PrevState::Dead,
-            Some(task) => left_in(task.condition),
-        },
-    }
-}
-
-/// What a caller may see of a task.
-pub(crate) fn view_of(task: &Task) -> TaskView
-    ensures { result ≡ views.view_of task.now }
-{
-    TaskView {
-        server: task.server,
-        condition: task.condition,
-        zero_lag: task.zero_lag,
-        cpu: task.cpu,
-        params: task.params,
-    }
-}
-
-/// A task that is admitted at a time: blocked until its start, without deadline and budget.
-pub(crate) fn new_task(
-    number: u32,
-    name: Name,
-    params: Params,
-    start: u64,
-    script: Script,
-    cpus: usize,
-) -> Task
-    requires some { 0 < cpus }
-    ensures { (d : Domain) (delay : ℕ) → d.cpus ≡ cpus → d.time + delay ≡ start
-        → result ≡ calls.new_task d number name params delay script }
-{
-    Task {
-        number,
-        name,
-        params,
-        server: Server {
-            deadline: None,
-            left: 0,
-        },
-        zero_lag: None,
-        cpu: number as usize % cpus,
-        condition: Condition::Blocked(start),
-        work: 0,
-        cursor: script.cursor(start),
-    }
-}
-
-/// A regrade: new parameters.
-pub(crate) fn regrade(task: &mut Task, params: &Params)
-    ensures { task.new ≡ calls.regraded params.now task.old }
-{
-    task.params = *params;
-}
-
-/// A wake: it asks its script in the next tick.
-pub(crate) fn release(task: &mut Task, time: u64)
-    ensures { task.new ≡ calls.released time task.old }
-{
-    task.condition = Condition::Blocked(time);
-}
-
-/// The end of a task: where it contends, its zero-lag time is told from now.
-pub(crate) fn end(task: &mut Task, time: u64)
-    requires { IsSound time task.old }
-    ensures task { task.new ≡ calls.ended time task.old }
-    ensures sound { IsSound time task.new }
-{
-    if task.condition.is_contending() {
-        stop(task, Condition::Leaving, time);
-    } else {
-        task.condition = Condition::Leaving;
-    }
 }

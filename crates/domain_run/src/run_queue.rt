@@ -4,46 +4,13 @@
 ghost use Rattle.std.specs.Prelude.{◌≡◌, ◌<◌, [], length, IfOk, IfSome, false};
 ghost use Rattle.edf_pick.specs.Order.{has_candidate};
 ghost use Rattle.domain_run.specs.private.RunQueue as spec;
-ghost use Rattle.domain_run.specs.Tick as tick_spec;
 
 use crate::memory::NoMemory;
-use crate::parts;
-use crate::task::Task;
+use crate::standing::Standing;
 use crate::timers::Timers;
 use edf_pick::{Candidate, Queue};
-use grub_rules::{Accounts, Share};
+use grub_rules::Accounts;
 use std::alloc::Global;
-
-/// A task as the sums see it, as the choice does where it is ready, and when it is due.
-#[derive(Clone, Copy, Debug, PartialEq, Eq)]
-pub(crate) struct Standing {
-    pub(crate) share: Share,
-    pub(crate) ready: Option<Candidate>,
-    /// The first time at which something is to be done to it before the choice, in microseconds.
-    pub(crate) due: u64,
-}
-
-/// A task as the sums see it.
-pub(crate) fn share_of(task: &Task) -> Share
-    ensures { result ≡ tick_spec.share_of task.now }
-{
-    Share {
-        cpu: task.cpu,
-        bw: task.params.bw,
-        active: parts::is_active(task),
-    }
-}
-
-/// How a task stands now.
-pub(crate) fn standing_of(task: &Task) -> Standing
-    ensures { result ≡ spec.standing_of task.now }
-{
-    Standing {
-        share: share_of(task),
-        ready: task.condition.is_ready().then(|| parts::candidate_of(task)),
-        due: parts::due_of(task),
-    }
-}
 
 /// The running sums, the ordered queue and the timers of a domain.
 #[derive(Drop)]
@@ -80,6 +47,7 @@ impl RunQueue {
     }
 
     /// The task at a place of the list stood as `before`, and stands as `after` now.
+    #[inline(never)]
     pub(crate) fn turn(&mut self, place: usize, before: Standing, after: Standing)
         requires { spec.MayTurn place self.old before after }
         ensures { spec.HasTurned place before after self.old self.new }

@@ -2,6 +2,7 @@
 
 ghost use Rattle.std.specs.Prelude.{◌≡◌, slice_get};
 
+use crate::task::Task;
 use attr_check::Params;
 
 /// A running task in the middle of a tick: what its rate depends on, and for how long it may run.
@@ -24,5 +25,24 @@ pub(crate) fn standing_at(running: &[u32], i: usize) -> Option<u32>
     match running.get(i) {
         None => None,
         Some(number) => Some(*number),
+    }
+}
+
+/// A running task as a jump sees it.
+pub(crate) fn running_of(task: &Task, uinact: u64) -> Running
+    ensures { result ≡ record {
+      number = task.now.number;
+      params = task.now.params;
+      uinact = uinact;
+      left = task.now.server.left;
+      work = task.now.work;
+    } }
+{
+    Running {
+        number: task.number,
+        params: task.params,
+        uinact,
+        left: task.server.left,
+        work: task.work,
     }
 }

@@ -21,15 +21,15 @@ mod machine;
 mod tests;
 
 use crate::call::{Refused, Reply};
-use crate::index::Index;
+use crate::calls::new_task;
+use crate::charging;
 use crate::memory::NoMemory;
 use crate::name::Name;
 use crate::numbers::Numbers;
-use crate::run_queue::{RunQueue, share_of};
+use crate::roster::Roster;
 use crate::script::Script;
 use crate::switch::Switch;
-use crate::task::{Task, TaskView};
-use crate::{charging, parts};
+use crate::task::{TaskView, view_of};
 use attr_check::Params;
 use edf_pick::Placement;
 use std::alloc::Global;
@@ -41,14 +41,10 @@ pub struct State {
     cpus: usize,
     limit: u64,
     time: u64,
-    tasks: Vec<Task>,
+    roster: Roster,
     used: Numbers,
     places: Placement,
     switches: Vec<Switch>,
-    // The running sums of the listed tasks, the ready ones in order, and when each is due.
-    queue: RunQueue,
-    // Where the tasks of the list are, by their numbers.
-    index: Index,
     // Who stands on the CPUs, one after another.
     running: Vec<u32>,
     // Room for a tick; between two ticks it means nothing.
@@ -62,9 +58,9 @@ impl Model for State {
 
     ghost Value = { Domain };
 
-    ghost view = { λ s. record { cpus = s.cpus; limit = s.limit; time = s.time; tasks = s.tasks.items; used = s.used; places = s.places; switches = s.switches.items } };
+    ghost view = { λ s. record { cpus = s.cpus; limit = s.limit; time = s.time; tasks = s.roster.tasks; used = s.used; places = s.places; switches = s.switches.items } };
 
-    ghost invariant = { λ s. IsState (record { cpus = s.cpus; limit = s.limit; time = s.time; tasks = s.tasks.items; used = s.used; places = s.places; switches = s.switches.items }) s.queue s.running.items (vec_capacity s.tasks) (vec_len s.before) (vec_capacity s.running) };
+    ghost invariant = { λ s. IsState (record { cpus = s.cpus; limit = s.limit; time = s.time; tasks = s.roster.tasks; used = s.used; places = s.places; switches = s.switches.items }) s.roster.cpus s.running.items (vec_len s.before) (vec_capacity s.running) };
 }
 
 impl State {
@@ -81,12 +77,10 @@ impl State {
             cpus,
             limit,
             time: 0,
-            tasks: Vec::with_capacity(alloc, 256)?,
+            roster: Roster::open(alloc, cpus)?,
             used: Numbers::open(alloc)?,
             places: Placement::open(alloc, cpus)?,
             switches: Vec::new(alloc),
-            queue: RunQueue::open(alloc, cpus)?,
-            index: Index::open(alloc)?,
             running: Vec::with_capacity(alloc, cpus)?,
             before: vec![in alloc; None; cpus]?,
         })
@@ -115,16 +109,16 @@ impl State {
         ensures sum { result ≡ tick.sum_of self.now.tasks }
         ensures within { result ≤ cap self.now.cpus self.now.limit }
     {
-        self.queue.accounts.total()
+        self.roster.sum()
     }
 
     /// The task of a number, where it is listed.
     pub fn view(&self, number: u32) -> Option<TaskView>
         ensures { result ≡ view_in self.now number }
     {
-        match self.index.find(&self.tasks, number) {
+        match self.roster.find(number) {
             None => None,
-            Some(task) => Some(parts::view_of(task)),
+            Some(task) => Some(view_of(task)),
         }
     }
 }
@@ -165,7 +159,7 @@ impl State {
         ensures busy { IfBusy result (LacksRoomFor self.now params.now.bw) }
     {
         let sum = self.sum();
-        if self.tasks.len() >= 256 {
+        if self.roster.len() >= 256 {
             Reply::Full
         } else if self.used.contains(number) {
             Reply::Twice
@@ -183,12 +177,9 @@ impl State {
         ensures { self.new ≡ calls.listed self.old
             (calls.new_task self.old number name params delay script) }
     {
-        let task = parts::new_task(number, name, params, self.time + delay, script, self.cpus);
+        let task = new_task(number, name, params, self.time + delay, script, self.cpus);
         self.used.insert(number);
-        self.queue.accounts.join(&share_of(&task));
-        self.queue.timers.push(parts::due_of(&task));
-        self.index.note(number, self.tasks.len());
-        self.tasks.push_reserved(task);
+        self.roster.push(task);
     }
 
     /// Admits a task at the time now: tested in this order, `Full` where 256 tasks are listed, `Twice` where the number was ever

@@ -1,226 +1,89 @@
 //! The parts of a tick, on all tasks of a domain.
 
-ghost use Rattle.std.specs.Prelude.{◌≡◌, ◌≢◌, ◌<◌, ◌≤◌, ◌^◌, ◌+◌, ◌-◌, map, filter, All, AllPairs, ◌++◌, length, pos, slice_index_or, Some, vec_len, vec_capacity};
+ghost use Rattle.std.specs.Prelude.{IsTrue, ◌≡◌, ◌≢◌, ◌<◌, ◌≤◌, ◌^◌, ◌+◌, map, All, AllPairs, ◌++◌, length, vec_len, vec_capacity};
 ghost use Rattle.domain_run.specs.Parts as parts_spec;
 ghost use Rattle.edf_pick.specs.Places as places_spec;
 ghost use Rattle.domain_run.specs.Sound.{IsSound, IsApart};
 ghost use Rattle.domain_run.specs.Switches as switches_spec;
-ghost use Rattle.grub_rules.specs.Accounts.{AreAccounts};
 ghost use Rattle.domain_run.specs.Tick as tick_spec;
-ghost use Rattle.domain_run.specs.Calls as calls;
-ghost use Rattle.domain_run.specs.private.RunQueue.{IsCounted};
-ghost use Rattle.domain_run.specs.private.Paying.{MayPay, MayPayIf, paid, ran_until};
+ghost use Rattle.domain_run.specs.private.Paying.{MayPayIf, paid};
+ghost use Rattle.domain_run.specs.private.Roster.{made, homed_here, IsPart};
+ghost use Rattle.domain_run.specs.private.RunQueue.{AreHomed};
 ghost use Rattle.domain_run.specs.private.Timers.{IsStep};
-ghost use Rattle.domain_run.specs.private.Timers as timers_spec;
 ghost use Rattle.domain_run.specs.Jump as jump;
 
-use crate::index::Index;
-use crate::run_queue::{RunQueue, share_of};
+use crate::change::Change;
+use crate::parts;
+use crate::roster::Roster;
 use crate::switch::Switch;
-use crate::task::Task;
-use crate::timers::Timers;
-use crate::{parts, turning};
-use attr_check::Params;
 use edf_pick::Placement;
-use grub_rules::Accounts;
 
-/// Part 1, of the task at a place: one that is not due is not looked at.
-fn replenish_at(tasks: &mut Vec<Task>, queue: &mut RunQueue, place: usize, time: u64)
-    requires there { place < length tasks.old.items }
-    requires early { time < 2 ^ 42 }
-    requires sound { All (IsSound time) tasks.old.items }
-    requires counted { IsCounted (length queue.old.accounts.all) queue.old tasks.old.items }
-    ensures step { IsStep (parts_spec.replenish_due time) place tasks.old.items tasks.new.items }
-    ensures sound { All (IsSound time) tasks.new.items }
-    ensures counted { IsCounted (length queue.old.accounts.all) queue.new tasks.new.items }
-    ensures len { vec_len tasks.new ≡ vec_len tasks.old }
-    ensures room { vec_capacity tasks.new ≡ vec_capacity tasks.old }
+/// One of parts 1 to 3. It goes from one task that is due to the next.
+fn turn_due(roster: &mut Roster, time: u64, change: &Change)
+    requires part { IsPart time change.now }
+    requires sound { All (IsSound time) roster.old.tasks }
+    ensures cpus { roster.new.cpus ≡ roster.old.cpus }
+    ensures tasks { roster.new.tasks ≡ map (made time change.now) roster.old.tasks }
+    ensures sound { All (IsSound time) roster.new.tasks }
 {
-    if !queue.timers.is_due(place, time) {
-        return;
-    }
-    turning::replenish(&mut tasks[place], queue, place, time);
-}
-
-/// Part 1: replenishment.
-fn replenish_all(tasks: &mut Vec<Task>, queue: &mut RunQueue, time: u64)
-    requires early { time < 2 ^ 42 }
-    requires sound { All (IsSound time) tasks.old.items }
-    requires counted { IsCounted (length queue.old.accounts.all) queue.old tasks.old.items }
-    ensures tasks { tasks.new.items ≡ map (parts_spec.replenish_due time) tasks.old.items }
-    ensures sound { All (IsSound time) tasks.new.items }
-    ensures counted { IsCounted (length queue.old.accounts.all) queue.new tasks.new.items }
-    ensures len { vec_len tasks.new ≡ vec_len tasks.old }
-    ensures room { vec_capacity tasks.new ≡ vec_capacity tasks.old }
-{
-    for place in 0..tasks.len() {
-        replenish_at(tasks, queue, place, time);
-    }
-}
-
-/// Part 2, of the task at a place.
-fn settle_at(tasks: &mut Vec<Task>, queue: &mut RunQueue, place: usize, time: u64)
-    requires there { place < length tasks.old.items }
-    requires sound { All (IsSound time) tasks.old.items }
-    requires counted { IsCounted (length queue.old.accounts.all) queue.old tasks.old.items }
-    ensures step { IsStep (parts_spec.settled time) place tasks.old.items tasks.new.items }
-    ensures sound { All (IsSound time) tasks.new.items }
-    ensures counted { IsCounted (length queue.old.accounts.all) queue.new tasks.new.items }
-    ensures len { vec_len tasks.new ≡ vec_len tasks.old }
-    ensures room { vec_capacity tasks.new ≡ vec_capacity tasks.old }
-{
-    if !queue.timers.is_due(place, time) {
-        return;
-    }
-    turning::settle(&mut tasks[place], queue, place, time);
-}
-
-/// Part 2: zero-lag times that have come.
-fn settle_all(tasks: &mut Vec<Task>, queue: &mut RunQueue, time: u64)
-    requires sound { All (IsSound time) tasks.old.items }
-    requires counted { IsCounted (length queue.old.accounts.all) queue.old tasks.old.items }
-    ensures tasks { tasks.new.items ≡ map (parts_spec.settled time) tasks.old.items }
-    ensures sound { All (IsSound time) tasks.new.items }
-    ensures counted { IsCounted (length queue.old.accounts.all) queue.new tasks.new.items }
-    ensures len { vec_len tasks.new ≡ vec_len tasks.old }
-    ensures room { vec_capacity tasks.new ≡ vec_capacity tasks.old }
-{
-    for place in 0..tasks.len() {
-        settle_at(tasks, queue, place, time);
-    }
-}
-
-// The bandwidth of tasks that have left goes back.
-fn part_left(accounts: &mut Accounts, tasks: &[Task])
-    requires { AreAccounts accounts.old (tick_spec.shares tasks.now) }
-    ensures sums { AreAccounts accounts.new
-        (tick_spec.shares (filter parts_spec.is_listed tasks.now)) }
-    ensures wide { length accounts.new.all ≡ length accounts.old.all }
-{
-    for task in tasks {
-        if !parts::is_listed(task) {
-            accounts.part(&share_of(task));
-        }
-    }
-}
-
-// Where fewer tasks are listed than before, each is at another place.
-fn note_left(index: &mut Index, tasks: &[Task], before: usize) {
-    if tasks.len() < before {
-        for place in 0..tasks.len() {
-            index.note(tasks[place].number, place);
-        }
-    }
-}
-
-// When each task of a list is due.
-fn set_timers(timers: &mut Timers, tasks: &[Task])
-    requires { length tasks.now ≤ 256 }
-    ensures { timers.new ≡ map timers_spec.due_of tasks.now }
-{
-    timers.clear();
-    for task in tasks {
-        timers.push(parts::due_of(task));
-    }
-}
-
-/// Part 2: tasks that have left go off the list. They are due at once.
-fn drop_left(tasks: &mut Vec<Task>, queue: &mut RunQueue, index: &mut Index)
-    requires { IsCounted (length queue.old.accounts.all) queue.old tasks.old.items }
-    ensures tasks { tasks.new.items ≡ filter parts_spec.is_listed tasks.old.items }
-    ensures counted { IsCounted (length queue.old.accounts.all) queue.new tasks.new.items }
-    ensures few { vec_len tasks.new ≤ vec_len tasks.old }
-    ensures room { vec_capacity tasks.new ≡ vec_capacity tasks.old }
-{
-    if queue.timers.least() > 0 {
-        return;
-    }
-    let before = tasks.len();
-    part_left(&mut queue.accounts, tasks);
-    tasks.retain(|task| parts::is_listed(task));
-    set_timers(&mut queue.timers, tasks);
-    note_left(index, tasks, before);
-}
-
-/// Part 3, of the task at a place.
-fn unblock_at(tasks: &mut Vec<Task>, queue: &mut RunQueue, place: usize, time: u64)
-    requires there { place < length tasks.old.items }
-    requires early { time < 2 ^ 42 }
-    requires sound { All (IsSound time) tasks.old.items }
-    requires counted { IsCounted (length queue.old.accounts.all) queue.old tasks.old.items }
-    ensures step { IsStep (parts_spec.unblocked time) place tasks.old.items tasks.new.items }
-    ensures sound { All (IsSound time) tasks.new.items }
-    ensures counted { IsCounted (length queue.old.accounts.all) queue.new tasks.new.items }
-    ensures len { vec_len tasks.new ≡ vec_len tasks.old }
-    ensures room { vec_capacity tasks.new ≡ vec_capacity tasks.old }
-{
-    if !queue.timers.is_due(place, time) {
-        return;
-    }
-    turning::unblock(&mut tasks[place], queue, place, time);
-}
-
-/// Part 3: tasks whose time of blocking is over.
-fn unblock_all(tasks: &mut Vec<Task>, queue: &mut RunQueue, time: u64)
-    requires early { time < 2 ^ 42 }
-    requires sound { All (IsSound time) tasks.old.items }
-    requires counted { IsCounted (length queue.old.accounts.all) queue.old tasks.old.items }
-    ensures tasks { tasks.new.items ≡ map (parts_spec.unblocked time) tasks.old.items }
-    ensures sound { All (IsSound time) tasks.new.items }
-    ensures counted { IsCounted (length queue.old.accounts.all) queue.new tasks.new.items }
-    ensures len { vec_len tasks.new ≡ vec_len tasks.old }
-    ensures room { vec_capacity tasks.new ≡ vec_capacity tasks.old }
-{
-    for place in 0..tasks.len() {
-        unblock_at(tasks, queue, place, time);
+    let mut place = roster.next_due(0, time);
+    while place < roster.len() {
+        roster.turn(place, time, change);
+        place = roster.next_due(place + 1, time);
     }
 }
 
 /// Parts 1 to 3. Mostly no task is due, and then they have nothing to do.
-fn wake_all(tasks: &mut Vec<Task>, queue: &mut RunQueue, index: &mut Index, time: u64)
+fn wake_all(roster: &mut Roster, time: u64)
     requires early { time < 2 ^ 42 }
-    requires sound { All (IsSound time) tasks.old.items }
-    requires counted { IsCounted (length queue.old.accounts.all) queue.old tasks.old.items }
-    ensures tasks { tasks.new.items ≡ tick_spec.prepared time tasks.old.items }
-    ensures sound { All (IsSound time) tasks.new.items }
-    ensures counted { IsCounted (length queue.old.accounts.all) queue.new tasks.new.items }
-    ensures few { vec_len tasks.new ≤ vec_len tasks.old }
-    ensures room { vec_capacity tasks.new ≡ vec_capacity tasks.old }
+    requires sound { All (IsSound time) roster.old.tasks }
+    ensures cpus { roster.new.cpus ≡ roster.old.cpus }
+    ensures tasks { roster.new.tasks ≡ tick_spec.prepared time roster.old.tasks }
+    ensures sound { All (IsSound time) roster.new.tasks }
 {
-    if queue.timers.least() > time {
+    if !roster.may_be_due(time) {
         return;
     }
-    replenish_all(tasks, queue, time);
-    settle_all(tasks, queue, time);
-    drop_left(tasks, queue, index);
-    unblock_all(tasks, queue, time);
+    turn_due(roster, time, &Change::Replenish);
+    turn_due(roster, time, &Change::Settle);
+    roster.drop_left();
+    turn_due(roster, time, &Change::Unblock);
+    roster.look_through();
 }
 
-/// Part 4: the task of a number belongs to a CPU.
-fn home_one(tasks: &mut Vec<Task>, queue: &mut RunQueue, index: &Index, number: u32, cpu: usize)
-    requires there { cpu < length queue.old.accounts.all }
-    requires counted { IsCounted (length queue.old.accounts.all) queue.old tasks.old.items }
-    ensures tasks { tasks.new.items
-        ≡ map (calls.of_number number (parts_spec.homed_at (Some cpu))) tasks.old.items }
-    ensures counted { IsCounted (length queue.old.accounts.all) queue.new tasks.new.items }
-    ensures room { vec_capacity tasks.new ≡ vec_capacity tasks.old }
+/// Part 4: the task that stands on a CPU, if one does, belongs to it.
+fn home_at(roster: &mut Roster, occupant: Option<u32>, cpu: usize, time: u64)
+    requires fits { cpu < roster.old.cpus }
+    requires sound { All (IsSound time) roster.old.tasks }
+    ensures cpus { roster.new.cpus ≡ roster.old.cpus }
+    ensures tasks { roster.new.tasks ≡ map (homed_here occupant cpu) roster.old.tasks }
+    ensures sound { All (IsSound time) roster.new.tasks }
 {
-    if let Some(place) = index.place(tasks, number) {
-        turning::home(&mut tasks[place], queue, place, cpu);
+    if let Some(number) = occupant {
+        roster.turn_number(number, time, &Change::Home { cpu });
     }
 }
 
-/// Part 4: a placed task belongs to its CPU.
-fn home_all(tasks: &mut Vec<Task>, queue: &mut RunQueue, index: &Index, places: &[Option<u32>])
+fn is_same(prev: Option<u32>, next: Option<u32>) -> bool
+    ensures { IsTrue result → prev ≡ next }
+{
+    prev == next
+}
+
+/// Part 4: a placed task belongs to its CPU. One that stands where it stood does already.
+fn home_all(roster: &mut Roster, before: &[Option<u32>], places: &[Option<u32>], time: u64)
+    requires same { length before.now ≡ length places.now }
+    requires stood { IsApart before.now }
     requires apart { IsApart places.now }
-    requires counted { IsCounted (length places.now) queue.old tasks.old.items }
-    ensures tasks { tasks.new.items ≡ map (parts_spec.homed places.now) tasks.old.items }
-    ensures counted { IsCounted (length places.now) queue.new tasks.new.items }
-    ensures room { vec_capacity tasks.new ≡ vec_capacity tasks.old }
+    requires wide { length places.now ≡ roster.old.cpus }
+    requires sound { All (IsSound time) roster.old.tasks }
+    requires homed { AreHomed before.now roster.old.tasks }
+    ensures cpus { roster.new.cpus ≡ roster.old.cpus }
+    ensures tasks { roster.new.tasks ≡ map (parts_spec.homed places.now) roster.old.tasks }
 {
     for cpu in 0..places.len() {
-        if let Some(number) = places[cpu] {
-            home_one(tasks, queue, index, number, cpu);
+        if !is_same(before[cpu], places[cpu]) {
+            home_at(roster, places[cpu], cpu, time);
         }
     }
 }
@@ -229,17 +92,15 @@ fn home_all(tasks: &mut Vec<Task>, queue: &mut RunQueue, index: &Index, places: 
 fn add_switches(
     switches: &mut Vec<Switch>,
     time: u64,
-    tasks: &[Task],
-    index: &Index,
+    roster: &Roster,
     before: &[Option<u32>],
     after: &[Option<u32>],
 )
-    requires numbered { AllPairs (λ a b. a.number ≢ b.number) tasks.now }
     requires few { length before.now ≤ 64 }
     requires same { length after.now ≡ length before.now }
     requires room { vec_len switches.old + length before.now ≤ vec_capacity switches.old }
     ensures switches { switches.new.items
-        ≡ switches.old.items ++ switches_spec.switches_from time tasks.now 0 before.now after.now }
+        ≡ switches.old.items ++ switches_spec.switches_from time roster.now.tasks 0 before.now after.now }
     ensures room { vec_capacity switches.new ≡ vec_capacity switches.old }
 {
     for cpu in 0..before.len() {
@@ -251,7 +112,7 @@ fn add_switches(
                 prev,
                 next,
                 cpu: cpu as u16,
-                state: parts::state_of(tasks, index, prev),
+                state: parts::state_of(roster, prev),
             });
         }
     }
@@ -282,9 +143,7 @@ fn list_running(running: &mut Vec<u32>, places: &[Option<u32>])
 /// Parts 1 to 5: replenishment, zero-lag times, wake-ups, placement and the switches. `before` is room.
 pub(crate) fn begin(
     time: u64,
-    tasks: &mut Vec<Task>,
-    queue: &mut RunQueue,
-    index: &mut Index,
+    roster: &mut Roster,
     places: &mut Placement,
     running: &mut Vec<u32>,
     switches: &mut Vec<Switch>,
@@ -292,140 +151,46 @@ pub(crate) fn begin(
 )
     requires runners { length places.old ≤ vec_capacity running.old }
     requires early { time < 2 ^ 42 }
-    requires sound { All (IsSound time) tasks.old.items }
-    requires counted { IsCounted (length places.old) queue.old tasks.old.items }
+    requires sound { All (IsSound time) roster.old.tasks }
+    requires cpus { length places.old ≡ roster.old.cpus }
+    requires homed { AreHomed places.old roster.old.tasks }
     requires wide { vec_len before.old ≡ length places.old }
     requires apart { IsApart places.old }
     requires room { vec_len switches.old + length places.old ≤ vec_capacity switches.old }
-    ensures tasks { tasks.new.items
-        ≡ map (parts_spec.homed places.new) (tick_spec.prepared time tasks.old.items) }
-    ensures prepared { All (IsSound time) (tick_spec.prepared time tasks.old.items) }
-    ensures counted { IsCounted (length places.old) queue.new tasks.new.items }
+    ensures cpus { roster.new.cpus ≡ roster.old.cpus }
+    ensures tasks { roster.new.tasks
+        ≡ map (parts_spec.homed places.new) (tick_spec.prepared time roster.old.tasks) }
+    ensures homed { AreHomed places.new roster.new.tasks }
+    ensures prepared { All (IsSound time) (tick_spec.prepared time roster.old.tasks) }
     ensures places { places.new ≡ places_spec.placed (length places.old)
-        (tick_spec.candidates (tick_spec.prepared time tasks.old.items)) places.old }
+        (tick_spec.candidates (tick_spec.prepared time roster.old.tasks)) places.old }
     ensures switches { switches.new.items ≡ switches.old.items
-        ++ switches_spec.switches_from time (tick_spec.prepared time tasks.old.items) 0 places.old places.new }
-    ensures tasks_room { vec_capacity tasks.new ≡ vec_capacity tasks.old }
+        ++ switches_spec.switches_from time (tick_spec.prepared time roster.old.tasks) 0 places.old places.new }
     ensures before_len { vec_len before.new ≡ vec_len before.old }
     ensures running { running.new.items ≡ jump.standing places.new }
     ensures runners { vec_capacity running.new ≡ vec_capacity running.old }
 {
-    wake_all(tasks, queue, index, time);
+    wake_all(roster, time);
     copy_places(before, places.occupants());
-    edf_pick::pick(places, &queue.ready);
+    edf_pick::pick(places, roster.ready());
     list_running(running, places.occupants());
-    add_switches(switches, time, tasks, index, before, places.occupants());
-    home_all(tasks, queue, index, places.occupants());
-}
-
-/// Part 6 of so many ticks at once, up to a time: the i-th running task, which has this number, has its budget, and its work has
-/// fallen.
-fn pay_one(
-    tasks: &mut Vec<Task>,
-    queue: &mut RunQueue,
-    index: &Index,
-    number: u32,
-    i: usize,
-    budgets: &[i128],
-    ticks: u64,
-    time: u64,
-)
-    requires early { time < 2 ^ 43 }
-    requires sound { All (IsSound time) tasks.old.items }
-    requires may { All (λ t. t.number ≡ number → MayPay ticks budgets.now t i) tasks.old.items }
-    requires counted { IsCounted (length queue.old.accounts.all) queue.old tasks.old.items }
-    ensures tasks { tasks.new.items ≡ map (calls.of_number number
-        (ran_until time ticks (slice_index_or budgets.now i (pos 0)))) tasks.old.items }
-    ensures sound { All (IsSound time) tasks.new.items }
-    ensures counted { IsCounted (length queue.old.accounts.all) queue.new tasks.new.items }
-    ensures room { vec_capacity tasks.new ≡ vec_capacity tasks.old }
-{
-    if let Some(place) = index.place(tasks, number) {
-        turning::pay(&mut tasks[place], queue, place, i, budgets, ticks, time);
-    }
+    add_switches(switches, time, roster, before, places.occupants());
+    home_all(roster, before, places.occupants(), time);
 }
 
 /// Part 6 of so many ticks at once, up to a time: every running task has its budget, and its work has fallen.
-pub(crate) fn pay_all(
-    tasks: &mut Vec<Task>,
-    queue: &mut RunQueue,
-    index: &Index,
-    running: &[u32],
-    budgets: &[i128],
-    ticks: u64,
-    time: u64,
-)
+pub(crate) fn pay_all(roster: &mut Roster, running: &[u32], budgets: &[i128], ticks: u64, time: u64)
     requires early { time < 2 ^ 43 }
     requires apart { AllPairs (λ m n. m ≢ n) running.now }
-    requires sound { All (IsSound time) tasks.old.items }
-    requires may { All (MayPayIf running.now ticks budgets.now) tasks.old.items }
-    requires counted { IsCounted (length queue.old.accounts.all) queue.old tasks.old.items }
-    ensures tasks { tasks.new.items ≡ map (paid time running.now ticks budgets.now) tasks.old.items }
-    ensures sound { All (IsSound time) tasks.new.items }
-    ensures counted { IsCounted (length queue.old.accounts.all) queue.new tasks.new.items }
-    ensures room { vec_capacity tasks.new ≡ vec_capacity tasks.old }
+    requires many { length budgets.now ≡ length running.now }
+    requires sound { All (IsSound time) roster.old.tasks }
+    requires may { All (MayPayIf running.now ticks budgets.now) roster.old.tasks }
+    ensures cpus { roster.new.cpus ≡ roster.old.cpus }
+    ensures tasks { roster.new.tasks ≡ map (paid time running.now ticks budgets.now) roster.old.tasks }
+    ensures sound { All (IsSound time) roster.new.tasks }
 {
     for i in 0..running.len() {
-        pay_one(tasks, queue, index, running[i], i, budgets, ticks, time);
-    }
-}
-
-/// A regrade of the task of a number.
-pub(crate) fn regrade_one(
-    tasks: &mut Vec<Task>,
-    queue: &mut RunQueue,
-    index: &Index,
-    number: u32,
-    params: &Params,
-)
-    requires short { params.now.bw ≤ 2 ^ 26 }
-    requires counted { IsCounted (length queue.old.accounts.all) queue.old tasks.old.items }
-    ensures tasks { tasks.new.items
-        ≡ map (calls.of_number number (calls.regraded params.now)) tasks.old.items }
-    ensures counted { IsCounted (length queue.old.accounts.all) queue.new tasks.new.items }
-    ensures room { vec_capacity tasks.new ≡ vec_capacity tasks.old }
-{
-    if let Some(place) = index.place(tasks, number) {
-        turning::regrade(&mut tasks[place], queue, place, params);
-    }
-}
-
-/// A wake of the task of a number.
-pub(crate) fn release_one(
-    tasks: &mut Vec<Task>,
-    queue: &mut RunQueue,
-    index: &Index,
-    number: u32,
-    time: u64,
-)
-    requires { IsCounted (length queue.old.accounts.all) queue.old tasks.old.items }
-    ensures tasks { tasks.new.items
-        ≡ map (calls.of_number number (calls.released time)) tasks.old.items }
-    ensures counted { IsCounted (length queue.old.accounts.all) queue.new tasks.new.items }
-    ensures room { vec_capacity tasks.new ≡ vec_capacity tasks.old }
-{
-    if let Some(place) = index.place(tasks, number) {
-        turning::release(&mut tasks[place], queue, place, time);
-    }
-}
-
-/// The end of the task of a number.
-pub(crate) fn end_one(
-    tasks: &mut Vec<Task>,
-    queue: &mut RunQueue,
-    index: &Index,
-    number: u32,
-    time: u64,
-)
-    requires sound { All (IsSound time) tasks.old.items }
-    requires counted { IsCounted (length queue.old.accounts.all) queue.old tasks.old.items }
-    ensures tasks { tasks.new.items
-        ≡ map (calls.of_number number (calls.ended time)) tasks.old.items }
-    ensures sound { All (IsSound time) tasks.new.items }
-    ensures counted { IsCounted (length queue.old.accounts.all) queue.new tasks.new.items }
-    ensures room { vec_capacity tasks.new ≡ vec_capacity tasks.old }
-{
-    if let Some(place) = index.place(tasks, number) {
-        turning::end(&mut tasks[place], queue, place, time);
+        let left = budgets[i];
+        roster.turn_number(running[i], time, &Change::Run { ticks, left });
     }
 }

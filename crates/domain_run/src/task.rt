@@ -1,5 +1,10 @@
 //! A listed task.
 
+ghost use Rattle.std.specs.Prelude.{◌≡◌};
+ghost use Rattle.domain_run.specs.Conditions as conditions;
+ghost use Rattle.domain_run.specs.Jump as jump;
+ghost use Rattle.domain_run.specs.Views as views;
+
 use crate::name::Name;
 use crate::script::Cursor;
 use attr_check::Params;
@@ -18,6 +23,56 @@ pub enum Condition {
     Waiting,
     /// It has ended, and stays listed until its zero-lag time.
     Leaving,
+}
+
+impl Condition {
+    pub(crate) fn is_ready(self) -> bool
+        ensures { result ≡ conditions.is_ready self }
+    {
+        matches!(self, Condition::Ready)
+    }
+
+    pub(crate) fn is_throttled(self) -> bool
+        ensures { result ≡ conditions.is_throttled self }
+    {
+        matches!(self, Condition::Throttled)
+    }
+
+    pub(crate) fn is_contending(self) -> bool
+        ensures { result ≡ conditions.is_contending self }
+    {
+        matches!(self, Condition::Ready | Condition::Throttled)
+    }
+
+    pub(crate) fn is_waiting(self) -> bool
+        ensures { result ≡ conditions.is_waiting self }
+    {
+        matches!(self, Condition::Waiting)
+    }
+
+    pub(crate) fn is_leaving(self) -> bool
+        ensures { result ≡ conditions.is_leaving self }
+    {
+        matches!(self, Condition::Leaving)
+    }
+
+    pub(crate) fn is_over(self, time: u64) -> bool
+        ensures { result ≡ conditions.is_over time self }
+    {
+        match self {
+            Condition::Blocked(until) => until <= time,
+            _ => false,
+        }
+    }
+
+    pub(crate) fn asks_at(self) -> Option<u64>
+        ensures { result ≡ jump.asks_at self }
+    {
+        match self {
+            Condition::Blocked(until) => Some(until),
+            _ => None,
+        }
+    }
 }
 
 /// A task of a domain.
@@ -48,4 +103,17 @@ pub struct TaskView {
     /// The CPU of the domain to which it belongs, from 0.
     pub cpu: usize,
     pub params: Params,
+}
+
+/// What a caller may see of a task.
+pub(crate) fn view_of(task: &Task) -> TaskView
+    ensures { result ≡ views.view_of task.now }
+{
+    TaskView {
+        server: task.server,
+        condition: task.condition,
+        zero_lag: task.zero_lag,
+        cpu: task.cpu,
+        params: task.params,
+    }
 }

@@ -1,6 +1,6 @@
 //! When something is next to be done to each listed task before the choice. So a tick looks only at the tasks that are due.
 
-ghost use Rattle.std.specs.Prelude.{◌≡◌, ◌<◌, ◌≤◌, ◌-◌, ◌+◌, ◌^◌, ◌∷◌, ◌++◌, [], length, min, nat_le, slice_index, slice_set, IfOk};
+ghost use Rattle.std.specs.Prelude.{◌≡◌, ◌<◌, ◌≤◌, ◌-◌, ◌+◌, ◌^◌, ◌∷◌, ◌++◌, [], length, min, false, slice_index_or, slice_set, IfOk};
 ghost use Rattle.domain_run.specs.private.Timers as spec;
 
 use crate::memory::NoMemory;
@@ -13,12 +13,18 @@ const MOST: usize = 256;
 /// A time that never comes.
 pub(crate) const NEVER: u64 = u64::MAX;
 
+/// So many places of the list, one behind the other, have a bound in common.
+const BLOCK: usize = 16;
+
 /// For each place of the list of tasks the time at which its task is due, in microseconds.
 #[derive(Drop)]
 pub(crate) struct Timers {
     due: Vec<u64>,
-    // The first of them.
+    // For each block of places a time that is not after any of theirs.
+    bounds: [u64; 16],
+    // A time that is not after any of them; and whether it is known to be the first.
     first: u64,
+    known: bool,
 }
 
 impl Model for Timers {
@@ -29,7 +35,7 @@ impl Model for Timers {
 
     ghost view = { λ t. t.due.items };
 
-    ghost invariant = { λ t. AreTimers t.due.items (vec_capacity t.due) t.first };
+    ghost invariant = { λ t. AreTimers t.due.items (vec_capacity t.due) t.bounds t.first t.known };
 }
 
 fn least_of(times: &[u64]) -> u64
@@ -42,20 +48,40 @@ fn least_of(times: &[u64]) -> u64
     least
 }
 
-// The first time, where one has changed. All are looked at only where it was the first, and is later now.
-fn first_after(due: &[u64], place: usize, before: u64, first: u64) -> u64
-    requires there { place < length due.now }
-    requires first { first ≡ min before (spec.others due.now place) }
-    ensures { result ≡ spec.least due.now }
+// The block of a place has a time that is not after this one either.
+fn lower(bounds: &mut [u64; 16], place: usize, due: u64)
+    requires { place < 256 }
+    ensures { bounds.new ≡ spec.lowered bounds.old place due }
 {
-    let now = due[place];
-    if now <= first {
-        return now;
+    let block = place / BLOCK;
+    bounds[block] = bounds[block].min(due);
+}
+
+// For each block of places the first of their times.
+fn bounds_of(times: &[u64]) -> [u64; 16]
+    requires { length times.now ≤ 256 }
+    ensures { spec.AreBounds result times.now }
+{
+    let mut bounds = [NEVER; 16];
+    for place in 0..times.len() {
+        lower(&mut bounds, place, times[place]);
     }
-    if first < before {
-        return first;
+    bounds
+}
+
+// The first place, from this one on, whose time has come or whose block has none that has: where nothing else stands between.
+fn pass(due: &[u64], bounds: &[u64; 16], place: usize, time: u64) -> usize
+    requires there { place < length due.now }
+    requires few { length due.now ≤ 256 }
+    requires bounds { spec.AreBounds bounds.now due.now }
+    requires later { time < slice_index_or due.now place 0 }
+    ensures next { place < result }
+    ensures others { spec.AreLater due.now time place result }
+{
+    if bounds[place / BLOCK] > time {
+        return place + (BLOCK - place % BLOCK);
     }
-    least_of(due)
+    place + 1
 }
 
 impl Timers {
@@ -65,16 +91,25 @@ impl Timers {
     {
         Ok(Timers {
             due: Vec::with_capacity(alloc, MOST)?,
+            bounds: [NEVER; 16],
             first: NEVER,
+            known: true,
         })
     }
 
-    /// Whether the task at a place is due.
-    pub(crate) fn is_due(&self, place: usize, time: u64) -> bool
-        requires { place < length self.now }
-        ensures { result ≡ nat_le (slice_index self.now place) time }
+    /// The first place, from this one on, whose task is due at a time; where there is none, how many places there are.
+    pub(crate) fn next_due(&self, from: usize, time: u64) -> usize
+        requires { from ≤ length self.now }
+        ensures from { from ≤ result }
+        ensures most { result ≤ length self.now }
+        ensures others { spec.AreLater self.now time from result }
     {
-        self.due[place] <= time
+        let count = self.due.len();
+        let mut place = from;
+        while place < count && self.due[place] > time {
+            place = pass(&self.due, &self.bounds, place, time);
+        }
+        place.min(count)
     }
 
     /// The task at a place is due at another time.
@@ -84,7 +119,13 @@ impl Timers {
     {
         let before = self.due[place];
         self.due[place] = due;
-        self.first = first_after(&self.due, place, before, self.first);
+        lower(&mut self.bounds, place, due);
+        if due <= self.first {
+            self.first = due;
+            self.known = true;
+        } else if before == self.first {
+            self.known = false;
+        }
     }
 
     /// One task more at the end of the list.
@@ -92,7 +133,9 @@ impl Timers {
         requires { length self.old < 256 }
         ensures { self.new ≡ self.old ++ due ∷ [] }
     {
+        let place = self.due.len();
         self.due.push_reserved(due);
+        lower(&mut self.bounds, place, due);
         self.first = self.first.min(due);
     }
 
@@ -101,14 +144,36 @@ impl Timers {
         ensures { self.new ≡ [] }
     {
         self.due.clear();
+        self.bounds = [NEVER; 16];
         self.first = NEVER;
+        self.known = true;
+    }
+
+    /// Looks all of them through, so that what is asked next is known: nothing changes.
+    pub(crate) fn look_through(&mut self)
+        ensures { self.new ≡ self.old }
+    {
+        self.bounds = bounds_of(&self.due);
+        self.first = least_of(&self.due);
+        self.known = true;
+    }
+
+    /// Whether a task may be due at a time. Where it says no, none is.
+    pub(crate) fn may_be_due(&self, time: u64) -> bool
+        ensures { result ≡ false → time < spec.least self.now }
+    {
+        self.first <= time
     }
 
     /// The first time at which a task is due.
     pub(crate) fn least(&self) -> u64
         ensures { result ≡ spec.least self.now }
     {
-        self.first
+        if self.known {
+            self.first
+        } else {
+            least_of(&self.due)
+        }
     }
 
     /// The ticks from a time to the first at which a task is due, at most 2^42 - 1.

@@ -4,9 +4,11 @@ use Rattle.grub_rules.specs.Accounts.{AreAccounts, Holds, Exchanges}
 use Rattle.edf_pick.specs.declared.candidate.Candidate.{Candidate}
 use Rattle.edf_pick.specs.Order.{ordered, has_candidate, with_candidate, without_candidate}
 use Rattle.domain_run.specs.declared.task.Task.{Task}
-use Rattle.domain_run.specs.declared.run_queue.Standing.{Standing}
+use Rattle.domain_run.specs.declared.standing.Standing.{Standing}
 use Rattle.domain_run.specs.declared.run_queue.RunQueue.{RunQueue}
+use Rattle.edf_pick.specs.Places.{Places}
 use Rattle.domain_run.specs.Conditions.{is_ready}
+use Rattle.domain_run.specs.Parts.{homed}
 use Rattle.domain_run.specs.Domain.{Domain}
 use Rattle.domain_run.specs.Sound.{IsDomain}
 use Rattle.domain_run.specs.Jump.{standing}
@@ -63,13 +65,15 @@ pub record HasTurned (place : ℕ) (before after : Standing) (old new : RunQueue
   pub order : ((before.ready ≡ after.ready) × (new.ready ≡ old.ready)) ⊎ (new.ready ≡ with_ready after.ready (without_ready before.ready old.ready))
   pub due : ((before.due ≡ after.due) × (new.timers ≡ old.timers)) ⊎ (new.timers ≡ slice_set old.timers place after.due)
 
--- what a state keeps: a domain, a run queue that counts its tasks, who stands on its CPUs, room for 256 tasks, and a place for
--- each CPU
-pub record IsState (d : Domain) (queue : RunQueue) (running : List ℕ) (tasks before runners : ℕ) : Type 0 where
+-- who stands on a CPU belongs to it
+abbrev pub AreHomed : Places → List Task → Type 0
+AreHomed places tasks = All (λ t. homed places t ≡ t) tasks
+
+-- what a state keeps: a domain, whose CPUs its roster has too, who stands on its CPUs, and a place for each CPU
+pub record IsState (d : Domain) (cpus : ℕ) (running : List ℕ) (before runners : ℕ) : Type 0 where
   pub domain : IsDomain d
-  pub wide : length queue.accounts.all ≡ d.cpus
-  pub counts : Counts queue d.tasks
-  pub tasks_room : 256 ≤ tasks
+  pub wide : cpus ≡ d.cpus
+  pub homed : AreHomed d.places d.tasks
   pub running_is : running ≡ standing d.places
   pub before_len : before ≡ d.cpus
   pub runners_room : d.cpus ≤ runners

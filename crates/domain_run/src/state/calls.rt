@@ -9,7 +9,7 @@ ghost use Rattle.domain_run.specs.Busy.{IfBusy, LacksRoomToChange};
 
 use super::{State, bw_within};
 use crate::call::Reply;
-use crate::sweep;
+use crate::change::Change;
 use attr_check::Params;
 
 impl State {
@@ -20,7 +20,7 @@ impl State {
         ensures busy { IfNone word
             (IfBusy result (LacksRoomToChange self.now number params.now.bw)) }
     {
-        let Some(task) = self.index.live(&self.tasks, number) else {
+        let Some(task) = self.roster.live(number) else {
             return Reply::NotListed;
         };
         let sum = self.sum();
@@ -39,7 +39,7 @@ impl State {
         ensures room { IsTrue result ↔ (calls.regrade_reply self.now params.now None (calls.task_of self.now number) ≡ Reply.Changed) }
         ensures domain { IsDomain self.now }
     {
-        let _ = &self.tasks;
+        let _ = &self.roster;
         self.regrade_reply(number, params, None) == Reply::Changed
     }
 
@@ -48,13 +48,8 @@ impl State {
             ≡ Reply.Changed }
         ensures { self.new ≡ calls.changed self.old number (calls.regraded params.now) }
     {
-        sweep::regrade_one(
-            &mut self.tasks,
-            &mut self.queue,
-            &self.index,
-            number,
-            params,
-        );
+        let change = Change::Regrade { params: *params };
+        self.roster.turn_number(number, self.time, &change);
     }
 
     /// Gives a listed task new parameters at the time now, at once; its deadline, its budget and a zero-lag time ahead stay. Tested
@@ -77,7 +72,7 @@ impl State {
     fn wake_reply(&self, number: u32) -> Reply
         ensures { result ≡ calls.wake_reply (calls.task_of self.now number) }
     {
-        match self.index.live(&self.tasks, number) {
+        match self.roster.live(number) {
             None => Reply::NotListed,
             Some(task) if task.condition.is_waiting() => Reply::Woken,
             Some(_) => Reply::NotWaiting,
@@ -88,13 +83,7 @@ impl State {
         requires { calls.wake_reply (calls.task_of self.old number) ≡ Reply.Woken }
         ensures { self.new ≡ calls.changed self.old number (calls.released self.old.time) }
     {
-        sweep::release_one(
-            &mut self.tasks,
-            &mut self.queue,
-            &self.index,
-            number,
-            self.time,
-        );
+        self.roster.turn_number(number, self.time, &Change::Release);
     }
 
     /// Wakes a task that waits: in the next tick it asks its script. [`Reply::NotListed`] where no task of this number is listed, or
@@ -114,7 +103,7 @@ impl State {
     fn leave_reply(&self, number: u32) -> Reply
         ensures { result ≡ calls.leave_reply (calls.task_of self.now number) }
     {
-        match self.index.live(&self.tasks, number) {
+        match self.roster.live(number) {
             None => Reply::NotListed,
             Some(_) => Reply::Left,
         }
@@ -123,13 +112,7 @@ impl State {
     fn end(&mut self, number: u32)
         ensures { self.new ≡ calls.changed self.old number (calls.ended self.old.time) }
     {
-        sweep::end_one(
-            &mut self.tasks,
-            &mut self.queue,
-            &self.index,
-            number,
-            self.time,
-        );
+        self.roster.turn_number(number, self.time, &Change::End);
     }
 
     /// Ends a task: it stays listed until its zero-lag time, which is told from now where it contends, and its bandwidth with it.

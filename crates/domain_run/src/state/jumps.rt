@@ -8,8 +8,8 @@ ghost use Rattle.domain_run.specs.Sound.{IsDomain};
 
 use super::State;
 use crate::memory::NoMemory;
-use crate::running::{Running, standing_at};
-use crate::{parts, sweep};
+use crate::running::{Running, running_of, standing_at};
+use crate::sweep;
 
 impl State {
     /// Begins a tick: throttled tasks whose deadline has come are replenished, zero-lag times that have come are dropped, blocked
@@ -26,9 +26,7 @@ impl State {
         self.switches.try_reserve(self.cpus)?;
         sweep::begin(
             self.time,
-            &mut self.tasks,
-            &mut self.queue,
-            &mut self.index,
+            &mut self.roster,
             &mut self.places,
             &mut self.running,
             &mut self.switches,
@@ -52,10 +50,10 @@ impl State {
         let Some(number) = standing_at(&self.running, i) else {
             return None;
         };
-        let Some(task) = self.index.find(&self.tasks, number) else {
+        let Some(task) = self.roster.find(number) else {
             return None;
         };
-        Some(parts::running_of(task, self.queue.accounts.uinact(task.cpu)))
+        Some(running_of(task, self.roster.uinact(task.cpu)))
     }
 
     /// The number of ticks from the beginning of the tick that has begun to the next in which something is to be done before the
@@ -66,7 +64,7 @@ impl State {
         ensures some { 0 < result }
         ensures most { result ≤ 2 ^ 42 }
     {
-        1 + self.queue.timers.rest(self.time)
+        1 + self.roster.rest(self.time)
     }
 
     /// Ends the tick that has begun, and so many ticks in all: every running task has run in each, and what is left of its budget
@@ -81,15 +79,7 @@ impl State {
         ensures { (d : Domain) → self.old ≡ jump.under_way d → self.new ≡ tick.ticks ticks d }
     {
         let time = self.time + (ticks - 1);
-        sweep::pay_all(
-            &mut self.tasks,
-            &mut self.queue,
-            &self.index,
-            &self.running,
-            budgets,
-            ticks,
-            time,
-        );
+        sweep::pay_all(&mut self.roster, &self.running, budgets, ticks, time);
         self.time = time;
     }
 }

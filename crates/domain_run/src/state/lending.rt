@@ -16,7 +16,7 @@ impl State {
     pub fn name(&self, number: u32) -> Option<&Name>
         ensures { option_copied result ≡ name_in self.now number }
     {
-        match self.index.find(&self.tasks, number) {
+        match self.roster.find(number) {
             None => None,
             Some(task) => Some(&task.name),
         }
@@ -27,7 +27,7 @@ impl State {
     pub fn script(&self, number: u32) -> Option<&Script>
         ensures { option_copied result ≡ script_in self.now number }
     {
-        match self.index.find(&self.tasks, number) {
+        match self.roster.find(number) {
             None => None,
             Some(task) => Some(task.cursor.script()),
         }
@@ -38,7 +38,7 @@ impl State {
     pub fn number_at(&self, place: usize) -> Option<u32>
         ensures { result ≡ number_in self.now place }
     {
-        match self.tasks.get(place) {
+        match self.roster.tasks().get(place) {
             None => None,
             Some(task) => Some(task.number),
         }

@@ -31,7 +31,7 @@ fn params() -> Result<Params, Fail> {
 /// The room of each vector of a state.
 fn rooms(state: &State) -> [usize; 4] {
     [
-        state.tasks.capacity(),
+        state.roster.capacity(),
         state.switches.capacity(),
         state.running.capacity(),
         state.before.capacity(),

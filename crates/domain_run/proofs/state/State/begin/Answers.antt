@@ -2,17 +2,12 @@ use Rattle.std.proofs.Common.{◌+◌, ◌<◌, ◌^◌, refl, sym, ap, ◌∙�
 use Rattle.domain_run.specs.Domain.{Domain}
 use Rattle.domain_run.specs.Jump.{under_way}
 use Rattle.domain_run.specs.Sound.{IsDomain, IsPlacement}
-use Rattle.domain_run.specs.private.RunQueue.{IsCounted}
-use Rattle.domain_run.proofs.Counting.{counted_in}
 use Rattle.domain_run.proofs.Ticking.{middle}
 use Rattle.domain_run.proofs.Paying.{under_way_is}
 use Rattle.domain_run.proofs.state.State.begin.Goals as goal
 
-pub begin-requires-clause-counted : goal.begin-requires-clause-counted
-begin-requires-clause-counted c =
-    let s = c.self.inside in
-    let d : Domain = record { cpus = s.cpus; limit = s.limit; time = s.time; tasks = s.tasks.items; used = s.used; places = s.places; switches = s.switches.items } in
-    subst (λ n. IsCounted n s.queue d.tasks) (sym c.self.invariant.domain.steady.wide) (counted_in d s.queue c.self.invariant.domain c.self.invariant.wide c.self.invariant.counts)
+pub begin-requires-clause-cpus : goal.begin-requires-clause-cpus
+begin-requires-clause-cpus c = c.self.invariant.domain.steady.wide ∙ sym c.self.invariant.wide
 
 pub begin-requires-clause-runners : goal.begin-requires-clause-runners
 begin-requires-clause-runners c = omega (arith, c.self.invariant.domain.steady.wide, c.self.invariant.runners_room)
@@ -20,19 +15,16 @@ begin-requires-clause-runners c = omega (arith, c.self.invariant.domain.steady.w
 pub invariant_of-self-2 : goal.invariant_of-self-2
 invariant_of-self-2 c =
     let s = c.self.inside in
-    let d : Domain = record { cpus = s.cpus; limit = s.limit; time = s.time; tasks = s.tasks.items; used = s.used; places = s.places; switches = s.switches.items } in
+    let d : Domain = record { cpus = s.cpus; limit = s.limit; time = s.time; tasks = s.roster.tasks; used = s.used; places = s.places; switches = s.switches.items } in
     let b = c.begin.new in
-    let e : Domain = record d { tasks = b.tasks.items; places = b.places; switches = b.switches.items } in
-    let m = middle d b.tasks.items b.places b.switches.items c.self.invariant.domain c.begin.ensures.prepared c.begin.ensures.tasks c.begin.ensures.places (c.begin.ensures.switches ∙ rw c.try_reserve.ensures.items refl) in
-    let counted : IsCounted d.cpus b.queue e.tasks = subst (λ n. IsCounted n b.queue e.tasks) c.self.invariant.domain.steady.wide c.begin.ensures.counted in
+    let m = middle d b.roster.tasks b.places b.switches.items c.self.invariant.domain c.begin.ensures.prepared c.begin.ensures.tasks c.begin.ensures.places (c.begin.ensures.switches ∙ rw c.try_reserve.ensures.items refl) in
     let early : d.time < 2 ^ 42 = subst (λ (x : Domain). x.time < 2 ^ 42) (sym c.self.view_is) c.requires in
     let is = under_way_is d c.self.invariant.domain early c.begin.ensures.prepared in
     record {
       domain = subst IsDomain (sym (ap (λ (x : Domain). record x { time = d.time + 1 }) m.begun_is)) is.0;
-      wide = counted.wide;
-      counts = counted.counts;
-      tasks_room = omega (arith, c.begin.ensures.tasks_room, c.self.invariant.tasks_room);
+      wide = c.begin.ensures.cpus ∙ c.self.invariant.wide;
       before_len = c.begin.ensures.before_len ∙ c.self.invariant.before_len;
+      homed = c.begin.ensures.homed;
       running_is = c.begin.ensures.running;
       runners_room = omega (arith, c.begin.ensures.runners, c.self.invariant.runners_room);
     }
@@ -40,15 +32,15 @@ invariant_of-self-2 c =
 pub returns-clause-ok : goal.returns-clause-ok
 returns-clause-ok c =
     let s = c.self.inside in
-    let d : Domain = record { cpus = s.cpus; limit = s.limit; time = s.time; tasks = s.tasks.items; used = s.used; places = s.places; switches = s.switches.items } in
+    let d : Domain = record { cpus = s.cpus; limit = s.limit; time = s.time; tasks = s.roster.tasks; used = s.used; places = s.places; switches = s.switches.items } in
     let b = c.begin.new in
-    let m = middle d b.tasks.items b.places b.switches.items c.self.invariant.domain c.begin.ensures.prepared c.begin.ensures.tasks c.begin.ensures.places (c.begin.ensures.switches ∙ rw c.try_reserve.ensures.items refl) in
+    let m = middle d b.roster.tasks b.places b.switches.items c.self.invariant.domain c.begin.ensures.prepared c.begin.ensures.tasks c.begin.ensures.places (c.begin.ensures.switches ∙ rw c.try_reserve.ensures.items refl) in
     ap (λ (x : Domain). record x { time = d.time + 1 }) m.begun_is ∙ ap under_way c.self.view_is
 
 pub returns-clause-begun : goal.returns-clause-begun
 returns-clause-begun c =
     let s = c.self.inside in
-    let d : Domain = record { cpus = s.cpus; limit = s.limit; time = s.time; tasks = s.tasks.items; used = s.used; places = s.places; switches = s.switches.items } in
+    let d : Domain = record { cpus = s.cpus; limit = s.limit; time = s.time; tasks = s.roster.tasks; used = s.used; places = s.places; switches = s.switches.items } in
     let early : d.time < 2 ^ 42 = subst (λ (x : Domain). x.time < 2 ^ 42) (sym c.self.view_is) c.requires in
     let placed : IsPlacement (under_way d) = (under_way_is d c.self.invariant.domain early c.begin.ensures.prepared).1 in
     let same = returns-clause-ok c in

@@ -1,30 +1,30 @@
-use Rattle.std.proofs.Common.{◌≡◌, sym, subst, ap, ◌∙◌, arith, List}
+use Rattle.std.proofs.Common.{◌≡◌, sym, subst, ap, ◌∙◌, List}
 use Rattle.domain_run.specs.declared.task.Task.{Task}
 use Rattle.domain_run.specs.Domain.{Domain}
-use Rattle.domain_run.specs.Calls.{changed, ended}
+use Rattle.domain_run.specs.Calls.{of_number, changed, ended}
 use Rattle.domain_run.specs.Sound.{IsDomain}
-use Rattle.domain_run.proofs.Counting.{counted_all}
-use Rattle.domain_run.proofs.Changing.{leave_keeps}
+use Rattle.domain_run.specs.private.RunQueue.{AreHomed}
+use Rattle.domain_run.proofs.AtHome.{homed_map}
+use Rattle.domain_run.proofs.Changing.{one_change, ended_change, leave_keeps}
 use Rattle.domain_run.proofs.state.State.end.Goals as goal
 
-abbrev before : goal.After-end_one → Domain
-before c = let s = c.self.inside in record { cpus = s.cpus; limit = s.limit; time = s.time; tasks = s.tasks.items; used = s.used; places = s.places; switches = s.switches.items }
+abbrev before : goal.After-turn_number → Domain
+before c = let s = c.self.inside in record { cpus = s.cpus; limit = s.limit; time = s.time; tasks = s.roster.tasks; used = s.used; places = s.places; switches = s.switches.items }
 
-after_is : (c : goal.After-end_one) → record (before c) { tasks = c.end_one.new.tasks.items } ≡ changed (before c) c.args.number (ended c.self.inside.time)
-after_is c = ap (λ (ts : List Task). record (before c) { tasks = ts }) c.end_one.ensures.tasks
+after_is : (c : goal.After-turn_number) → record (before c) { tasks = c.turn_number.new.self.tasks } ≡ changed (before c) c.args.number (ended c.self.inside.time)
+after_is c = ap (λ (ts : List Task). record (before c) { tasks = ts }) c.turn_number.ensures.tasks
+
+pub turn_number-requires-clause-may : goal.turn_number-requires-clause-may
+turn_number-requires-clause-may c k d h same = tt
 
 pub invariant_of-self : goal.invariant_of-self
 invariant_of-self c = record {
-  domain = subst IsDomain (sym (after_is c)) (leave_keeps (before c) c.args.number c.self.invariant.domain (rw (← c.end_one.ensures.tasks) c.end_one.ensures.sound));
-  wide = c.end_one.ensures.counted.wide ∙ c.self.invariant.wide;
-  counts = c.end_one.ensures.counted.counts;
-  tasks_room = omega (arith, c.end_one.ensures.room, c.self.invariant.tasks_room);
+  domain = subst IsDomain (sym (after_is c)) (leave_keeps (before c) c.args.number c.self.invariant.domain (rw (← c.turn_number.ensures.tasks) c.turn_number.ensures.sound));
+  wide = c.turn_number.ensures.cpus ∙ c.self.invariant.wide;
   before_len = c.self.invariant.before_len;
+  homed =
+      let is = one_change c.args.number (ended c.self.inside.time) (ended_change c.self.inside.time) in
+      subst (AreHomed c.self.inside.places) (sym c.turn_number.ensures.tasks) (homed_map c.self.inside.places (of_number c.args.number (ended c.self.inside.time)) c.self.inside.roster.tasks is.number is.cpu c.self.invariant.homed);
   running_is = c.self.invariant.running_is;
   runners_room = c.self.invariant.runners_room;
 }
-
-pub end_one-requires-clause-counted : goal.end_one-requires-clause-counted
-end_one-requires-clause-counted c =
-    let s = c.self.inside in
-    counted_all (record { cpus = s.cpus; limit = s.limit; time = s.time; tasks = s.tasks.items; used = s.used; places = s.places; switches = s.switches.items }) s.queue c.self.invariant.domain c.self.invariant.wide c.self.invariant.counts

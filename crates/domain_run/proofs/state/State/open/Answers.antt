@@ -1,15 +1,16 @@
-use Rattle.std.proofs.Common.{arith, sym}
+use Rattle.std.proofs.Common.{ap, arith, sym}
+use Rattle.std.proofs.lemmas.List.Elements.{All-nil}
+use Rattle.domain_run.specs.private.Roster.{RosterView}
 use Rattle.domain_run.proofs.Homing.{standing_opened}
 use Rattle.domain_run.proofs.Opening.{opened_is}
 use Rattle.domain_run.proofs.state.State.open.Goals as goal
 
 pub invariant_of-result : goal.invariant_of-result
 invariant_of-result c = record {
-  domain = rw (c.in_ok-with_capacity.ensures.items, c.in_ok-open.ensures, c.in_ok-open-2.ensures, c.new.ensures.items) (opened_is c.args.cpus c.args.limit c.requires.cpus.0 c.requires.cpus.1 c.requires.limit.0 c.requires.limit.1);
-  wide = c.in_ok-open-3.ensures.wide;
-  counts = rw c.in_ok-with_capacity.ensures.items c.in_ok-open-3.ensures.counts;
-  tasks_room = omega (arith, c.in_ok-with_capacity.ensures.exact);
-  running_is = rw (c.in_ok-with_capacity-2.ensures.items, c.in_ok-open-2.ensures) (sym (standing_opened c.args.cpus));
+  domain = rw (c.in_ok-open.ensures, c.in_ok-open-2.ensures, c.in_ok-open-3.ensures, c.new.ensures.items) (opened_is c.args.cpus c.args.limit c.requires.cpus.0 c.requires.cpus.1 c.requires.limit.0 c.requires.limit.1);
+  wide = ap (λ (r : RosterView). r.cpus) c.in_ok-open.ensures;
+  homed = rw c.in_ok-open.ensures (All-nil _);
+  running_is = rw (c.in_ok-with_capacity.ensures.items, c.in_ok-open-3.ensures) (sym (standing_opened c.args.cpus));
   before_len = c.in_ok-vec.ensures.len;
-  runners_room = omega (arith, c.in_ok-with_capacity-2.ensures.exact);
+  runners_room = omega (arith, c.in_ok-with_capacity.ensures.exact);
 }

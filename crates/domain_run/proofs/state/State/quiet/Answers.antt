@@ -1,7 +1,6 @@
-use Rattle.std.proofs.Common.{ℕ, List, ◌+◌, ◌-◌, ◌^◌, min, ap, ◌∙◌}
+use Rattle.std.proofs.Common.{ℕ, ◌+◌, ap, ◌∙◌}
 use Rattle.domain_run.specs.Domain.{Domain}
 use Rattle.domain_run.specs.Jump.{quiet}
-use Rattle.domain_run.specs.private.Timers.{least}
 use Rattle.domain_run.proofs.Due.{rest_least}
 use Rattle.domain_run.proofs.state.State.quiet.Goals as goal
 
@@ -10,6 +9,5 @@ returns-clause-quiet c =
     let s = c.self.inside in
     ap (λ (n : ℕ). 1 + n)
     (c.rest.ensures
-    ∙ ap (λ (ds : List ℕ). min (least ds - s.time) (2 ^ 42 - 1)) c.self.invariant.counts.due
-    ∙ rest_least s.time s.tasks.items c.self.invariant.domain.steady.early)
+    ∙ rest_least s.time s.roster.tasks c.self.invariant.domain.steady.early)
     ∙ ap (λ (d : Domain). quiet d) c.self.view_is

@@ -1,0 +1,50 @@
+-- Changes of one task: when one does nothing, what it keeps, and what it is to the list and its run queue.
+use Rattle.std.proofs.Common.{◌≡◌, ℕ, ◌^◌, ◌<◌, ◌≤◌, List, length, get_or, set, refl, sym, ap, subst, ◌∙◌}
+use Rattle.domain_run.specs.declared.task.Task.{Task}
+use Rattle.domain_run.specs.declared.change.Change.{Change}
+use Rattle.domain_run.specs.declared.change.Change.TheVariants.{Replenish, Settle, Unblock, Home, Run, Regrade, Release, End}
+use Rattle.domain_run.specs.declared.run_queue.RunQueue.{RunQueue}
+use Rattle.domain_run.specs.Parts.{replenish_due, settled, unblocked}
+use Rattle.domain_run.specs.private.RunQueue.{standing_of, IsCounted, MayTurn, HasTurned}
+use Rattle.domain_run.specs.private.Roster.{made, Fits, IsPart}
+use Rattle.domain_run.proofs.Keeping.{same_replenished, same_settled, same_unblocked}
+use Rattle.domain_run.proofs.Counting.{IsFit, same_fit, home_at, ended_same, may_turn, turned}
+use Rattle.domain_run.proofs.Paying.{same_ran_until}
+use Rattle.domain_run.proofs.Due.{still_at}
+
+-- ---- what a change keeps
+
+made_fit : (cpus time : ℕ) (change : Change) (t : Task) → Fits cpus change → t.params.bw ≤ 2 ^ 26 → t.cpu < cpus → IsFit cpus t (made time change t)
+made_fit cpus time Replenish t fits short home = same_fit cpus t (replenish_due time t) (same_replenished time t) short home
+made_fit cpus time Settle t fits short home = same_fit cpus t (settled time t) (same_settled time t) short home
+made_fit cpus time Unblock t fits short home = same_fit cpus t (unblocked time t) (same_unblocked time t) short home
+made_fit cpus time (Home cpu) t fits short home = record { number = refl; short = short; home = fits }
+made_fit cpus time (Run ticks left) t fits short home = same_fit cpus t (made time (Run ticks left) t) (same_ran_until time ticks left t) short home
+made_fit cpus time (Regrade params) t fits short home = record { number = refl; short = fits; home = home }
+made_fit cpus time Release t fits short home = record { number = refl; short = short; home = home }
+made_fit cpus time End t fits short home = same_fit cpus t (made time End t) (ended_same time t) short home
+
+place_fit : (cpus : ℕ) (queue : RunQueue) (tasks : List Task) (p time : ℕ) (change : Change) (d : Task) → p < length tasks → Fits cpus change → IsCounted cpus queue tasks → IsFit cpus (get_or tasks p d) (made time change (get_or tasks p d))
+place_fit cpus queue tasks p time change d h fits is = made_fit cpus time change (get_or tasks p d) fits (is.roster.short p d h) (home_at cpus queue tasks p d h is)
+
+-- ---- the task at a place
+
+pub place_may : (cpus : ℕ) (queue : RunQueue) (tasks : List Task) (p time : ℕ) (change : Change) (x : Task) → p < length tasks → x ≡ get_or tasks p x → Fits cpus change → IsCounted cpus queue tasks → MayTurn p queue (standing_of x) (standing_of (made time change x))
+place_may cpus queue tasks p time change x h read fits is =
+    subst (λ u. MayTurn p queue (standing_of u) (standing_of (made time change u))) (sym read) (may_turn cpus queue tasks p x (made time change (get_or tasks p x)) h (place_fit cpus queue tasks p time change x h fits is) is)
+
+pub place_counted : (cpus : ℕ) (queue new : RunQueue) (tasks : List Task) (p time : ℕ) (change : Change) (x y : Task) → p < length tasks → x ≡ get_or tasks p x → Fits cpus change → y ≡ made time change x → HasTurned p (standing_of x) (standing_of y) queue new → IsCounted cpus queue tasks → IsCounted cpus new (set tasks p y)
+place_counted cpus queue new tasks p time change x y h read fits is has counted =
+    let fit : IsFit cpus (get_or tasks p x) y = subst (IsFit cpus (get_or tasks p x)) (sym (is ∙ ap (made time change) read)) (place_fit cpus queue tasks p time change x h fits counted) in
+    turned cpus queue new tasks p x y h fit (subst (λ u. HasTurned p (standing_of u) (standing_of y) queue new) read has) counted
+
+-- ---- parts 1 to 3
+
+pub replenish_part : (time : ℕ) → time < 2 ^ 42 → IsPart time Replenish
+replenish_part time early = record { fits = λ cpus. tt; may = λ t. early; passes = λ t h. rw (still_at time t h).due refl }
+
+pub settle_part : (time : ℕ) → IsPart time Settle
+settle_part time = record { fits = λ cpus. tt; may = λ t. tt; passes = λ t h. rw (still_at time t h).lag refl }
+
+pub unblock_part : (time : ℕ) → time < 2 ^ 42 → IsPart time Unblock
+unblock_part time early = record { fits = λ cpus. tt; may = λ t. early; passes = λ t h. rw (still_at time t h).over refl }

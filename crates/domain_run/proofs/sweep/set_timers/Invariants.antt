@@ -1,6 +1,0 @@
-use Rattle.std.proofs.Common.{◌≡◌, map, take}
-use Rattle.domain_run.specs.private.Timers.{due_of}
-use Rattle.domain_run.proofs.sweep.set_timers.Given as goal
-
-abbrev pub invariant-loop-task : goal.invariant-loop-task
-invariant-loop-task l = l.timers ≡ map due_of (take l.task-index l.tasks)

@@ -1,0 +1,16 @@
+use Rattle.std.proofs.Common.{◌≡◌, ◌≤◌, ◌-◌, map, take, drop, ◌++◌, length, All}
+use Rattle.domain_run.specs.Sound.{IsSound}
+use Rattle.domain_run.specs.private.Roster.{made}
+use Rattle.domain_run.proofs.sweep.turn_due.Given as goal
+
+abbrev pub invariant-loop-place : goal.invariant-loop-place
+invariant-loop-place l = record {
+  cpus : l.roster.cpus ≡ l.fn.roster.cpus;
+  written : l.roster.tasks ≡ map (made l.time l.change) (take l.place l.fn.roster.tasks) ++ drop l.place l.fn.roster.tasks;
+  len : length l.roster.tasks ≡ length l.fn.roster.tasks;
+  within : l.place ≤ length l.fn.roster.tasks;
+  sound : All (IsSound l.time) l.roster.tasks;
+}
+
+abbrev pub decreases-loop-place : goal.decreases-loop-place
+decreases-loop-place l = length l.fn.roster.tasks - l.place

@@ -1,0 +1,81 @@
+-- The list of tasks with what is kept beside it, and what changes one task of it, for the code's own contracts.
+use Rattle.std.specs.Prelude.{ℕ, ℤ, pos, neg_ℤ, ◌<◌, ◌≤◌, ◌^◌, ◌≤ℤ◌, ◌≡◌, List, length, Option, Some, None, IsTrue}
+use Rattle.domain_run.specs.declared.task.Task.{Task}
+use Rattle.domain_run.specs.declared.change.Change.{Change}
+use Rattle.domain_run.specs.declared.change.Change.TheVariants.{Replenish, Settle, Unblock, Home, Run, Regrade, Release, End}
+use Rattle.domain_run.specs.declared.run_queue.RunQueue.{RunQueue}
+use Rattle.domain_run.specs.declared.standing.Standing.{Standing}
+use Rattle.domain_run.specs.Conditions.{is_ready, is_waiting}
+use Rattle.domain_run.specs.Parts.{replenish_due, settled, unblocked, homed_at}
+use Rattle.domain_run.specs.Calls.{of_number, regraded, released, ended}
+use Rattle.domain_run.specs.private.Paying.{ran_until}
+use Rattle.domain_run.specs.private.RunQueue.{IsCounted, standing_of}
+use Rattle.domain_run.specs.private.Timers.{due_of}
+
+-- the listed tasks of a domain of so many CPUs
+pub record RosterView : Type 0 where
+  pub cpus : ℕ
+  pub tasks : List Task
+
+-- what a roster keeps: its run queue counts its list, and there is room for 256 tasks
+pub record IsKept (queue : RunQueue) (tasks : List Task) (capacity : ℕ) : Type 0 where
+  pub counted : IsCounted (length queue.accounts.all) queue tasks
+  pub room : 256 ≤ capacity
+
+-- CHANGES of one task at a time: what a part of a tick does to it, or a call
+abbrev pub made : ℕ → Change → Task → Task
+made time Replenish t = replenish_due time t
+made time Settle t = settled time t
+made time Unblock t = unblocked time t
+made time (Home cpu) t = homed_at (Some cpu) t
+made time (Run ticks left) t = ran_until time ticks left t
+made time (Regrade params) t = regraded params t
+made time Release t = released time t
+made time End t = ended time t
+
+-- what so many ticks of running need, up to a time, with what they leave of the budget
+pub record MayRun (time ticks : ℕ) (left : ℤ) (t : Task) : Type 0 where
+  pub early : time < 2 ^ 43
+  pub ready : IsTrue (is_ready t.condition)
+  pub worked : ticks ≤ t.work
+  -- the rate of a task of at most one CPU is at most 2^32
+  pub low : t.params.bw ≤ 2 ^ 20 → neg_ℤ (pos (2 ^ 32)) ≤ℤ left
+  pub high : left ≤ℤ pos (2 ^ 52)
+
+-- what a change needs of its task
+abbrev pub MayMake : ℕ → Change → Task → Type 0
+MayMake time Replenish t = time < 2 ^ 42
+MayMake time Settle t = Unit {0}
+MayMake time Unblock t = time < 2 ^ 42
+MayMake time (Home cpu) t = Unit {0}
+MayMake time (Run ticks left) t = MayRun time ticks left t
+MayMake time (Regrade params) t = Unit {0}
+MayMake time Release t = IsTrue (is_waiting t.condition) × (time ≤ 2 ^ 42)
+MayMake time End t = Unit {0}
+
+-- what it needs of the domain
+abbrev pub Fits : ℕ → Change → Type 0
+Fits cpus Replenish = Unit {0}
+Fits cpus Settle = Unit {0}
+Fits cpus Unblock = Unit {0}
+Fits cpus (Home cpu) = cpu < cpus
+Fits cpus (Run ticks left) = Unit {0}
+Fits cpus (Regrade params) = params.bw ≤ 2 ^ 26
+Fits cpus Release = Unit {0}
+Fits cpus End = Unit {0}
+
+-- how a task stood before a change, where it may stand otherwise behind it
+abbrev pub HasStood : Option Standing → Task → Task → Type 0
+HasStood None before after = standing_of before ≡ standing_of after
+HasStood (Some s) before after = s ≡ standing_of before
+
+-- parts 1 to 3: may be made of each task, and pass by those that are not due
+pub record IsPart (time : ℕ) (change : Change) : Type 0 where
+  pub fits : (cpus : ℕ) → Fits cpus change
+  pub may : (t : Task) → MayMake time change t
+  pub passes : (t : Task) → time < due_of t → made time change t ≡ t
+
+-- the task that stands on a CPU, if one does, belongs to it
+abbrev pub homed_here : Option ℕ → ℕ → Task → Task
+homed_here None cpu t = t
+homed_here (Some number) cpu t = of_number number (homed_at (Some cpu)) t

@@ -1,0 +1,213 @@
+//! The listed tasks of a domain, with what is kept of them beside their list: the run queue, and where each number is. A task of the
+//! list changes at one place, [`Roster::turn`], which tells the run queue.
+
+ghost use Rattle.std.specs.Prelude.{◌≡◌, ◌≢◌, ◌==◌, ◌<◌, ◌≤◌, ◌^◌, ◌-◌, ◌&&◌, ◌++◌, ◌∷◌, [], not, nat_le, min, All, AllPairs, IfOk, IfSome, IfNone, false, find, map, filter, length, option_copied, slice_index_or};
+ghost use Rattle.domain_run.specs.declared.task.Task.{Task};
+ghost use Rattle.domain_run.specs.Conditions.{is_ready, is_leaving};
+ghost use Rattle.domain_run.specs.Parts.{is_listed};
+ghost use Rattle.domain_run.specs.Sound.{IsSound};
+ghost use Rattle.domain_run.specs.Tick as tick;
+ghost use Rattle.domain_run.specs.Calls.{of_number};
+ghost use Rattle.domain_run.specs.private.Index.{IsAt, IsAbsent};
+ghost use Rattle.domain_run.specs.private.Roster.{made, MayMake, Fits};
+ghost use Rattle.domain_run.specs.private.Timers.{IsStep, AreNotDue, due_of, least};
+ghost use Rattle.edf_pick.specs.Order.{ordered};
+ghost use Rattle.grub_rules.specs.Sums as sums;
+
+mod listing;
+mod turning;
+
+use crate::change::Change;
+use crate::index::Index;
+use crate::memory::NoMemory;
+use crate::run_queue::RunQueue;
+use crate::task::Task;
+use edf_pick::Queue;
+use std::alloc::Global;
+use std::marker::Model;
+
+/// The listed tasks of a domain in the order of their admission, at most 256.
+#[derive(Drop)]
+pub(crate) struct Roster {
+    tasks: Vec<Task>,
+    // The running sums of the listed tasks, the ready ones in order, and when each is due.
+    queue: RunQueue,
+    // Where the tasks of the list are, by their numbers.
+    index: Index,
+}
+
+impl Model for Roster {
+    ghost use Rattle.std.specs.Prelude.{length, vec_capacity};
+    ghost use Rattle.domain_run.specs.private.Roster.{RosterView, IsKept};
+
+    ghost Value = { RosterView };
+
+    ghost view = { λ r. record { cpus = length r.queue.accounts.all; tasks = r.tasks.items } };
+
+    ghost invariant = { λ r. IsKept r.queue r.tasks.items (vec_capacity r.tasks) };
+}
+
+impl Roster {
+    /// Of no tasks, with room for 256. No other call takes memory.
+    pub(crate) fn open(alloc: Global, cpus: usize) -> Result<Roster, NoMemory>
+        ensures { IfOk result (λ roster. roster ≡ record { cpus = cpus; tasks = [] }) }
+    {
+        Ok(Roster {
+            tasks: Vec::with_capacity(alloc, 256)?,
+            queue: RunQueue::open(alloc, cpus)?,
+            index: Index::open(alloc)?,
+        })
+    }
+
+    /// The listed tasks.
+    pub(crate) fn tasks(&self) -> &[Task]
+        ensures tasks { result.now ≡ self.now.tasks }
+    {
+        &self.tasks
+    }
+
+    /// How many they are.
+    pub(crate) fn len(&self) -> usize
+        ensures len { result ≡ length self.now.tasks }
+        ensures few { result ≤ 256 }
+    {
+        self.tasks.len()
+    }
+
+    /// The place of the task of a number, where it is listed.
+    fn place(&self, number: u32) -> Option<usize>
+        ensures there { IfSome result (IsAt self.now.tasks number) }
+        ensures absent { IfNone result (IsAbsent self.now.tasks number) }
+        ensures numbered { AllPairs (λ a b. a.number ≢ b.number) self.now.tasks }
+    {
+        self.index.place(&self.tasks, number)
+    }
+
+    /// The task of a number, where it is listed.
+    pub(crate) fn find(&self, number: u32) -> Option<&Task>
+        ensures { option_copied result ≡ find (λ t. t.number == number) self.now.tasks }
+    {
+        self.index.find(&self.tasks, number)
+    }
+
+    /// The task of a number, where it is listed and has not ended.
+    pub(crate) fn live(&self, number: u32) -> Option<&Task>
+        ensures { option_copied result
+            ≡ find (λ t. t.number == number && not (is_leaving t.condition)) self.now.tasks }
+    {
+        self.index.live(&self.tasks, number)
+    }
+
+    /// The bandwidth of all listed tasks, in 1/2^20 of a CPU.
+    pub(crate) fn sum(&self) -> u64
+        ensures { result ≡ tick.sum_of self.now.tasks }
+    {
+        self.queue.accounts.total()
+    }
+
+    /// The bandwidth of the inactive tasks of a CPU, in 1/2^20 of a CPU.
+    pub(crate) fn uinact(&self, cpu: usize) -> u64
+        requires { cpu < self.now.cpus }
+        ensures { result ≡ sums.uinact cpu (tick.shares self.now.tasks) }
+    {
+        self.queue.accounts.uinact(cpu)
+    }
+
+    /// The ready tasks in the order of the choice.
+    pub(crate) fn ready(&self) -> &Queue
+        ensures ready { result.now ≡ ordered (tick.candidates self.now.tasks) }
+        ensures numbered { AllPairs (λ a b. a.number ≢ b.number) self.now.tasks }
+    {
+        &self.queue.ready
+    }
+
+    /// The first place, from this one on, whose task is due at a time; where there is none, how many places there are.
+    pub(crate) fn next_due(&self, from: usize, time: u64) -> usize
+        requires { from ≤ length self.now.tasks }
+        ensures from { from ≤ result }
+        ensures most { result ≤ length self.now.tasks }
+        ensures others { AreNotDue self.now.tasks time from result }
+    {
+        self.queue.timers.next_due(from, time)
+    }
+
+    /// Whether a task may be due at a time. Where it says no, none is.
+    pub(crate) fn may_be_due(&self, time: u64) -> bool
+        ensures { result ≡ false → time < least (map due_of self.now.tasks) }
+    {
+        self.queue.timers.may_be_due(time)
+    }
+
+    /// Looks all timers through, so that the next questions about them take no look at each: nothing changes.
+    pub(crate) fn look_through(&mut self)
+        ensures { self.new ≡ self.old }
+    {
+        self.queue.timers.look_through();
+    }
+
+    /// The ticks from a time to the first at which a task is due, at most 2^42 - 1.
+    pub(crate) fn rest(&self, time: u64) -> u64
+        ensures { result ≡ min (least (map due_of self.now.tasks) - time) (2 ^ 42 - 1) }
+    {
+        self.queue.timers.rest(time)
+    }
+}
+
+impl Roster {
+    /// Changes the task at a place: the one place where a task of the list changes.
+    #[inline(always)]
+    pub(crate) fn turn(&mut self, place: usize, time: u64, change: &Change)
+        requires there { place < length self.old.tasks }
+        requires fits { Fits self.old.cpus change.now }
+        requires sound { All (IsSound time) self.old.tasks }
+        requires may { (d : Task) → MayMake time change.now (slice_index_or self.old.tasks place d) }
+        ensures cpus { self.new.cpus ≡ self.old.cpus }
+        ensures step { IsStep (made time change.now) place self.old.tasks self.new.tasks }
+        ensures sound { All (IsSound time) self.new.tasks }
+    {
+        turning::turn_task(&mut self.tasks, &mut self.queue, place, time, change);
+    }
+
+    /// Changes the task of a number, where it is listed.
+    #[inline(always)]
+    pub(crate) fn turn_number(&mut self, number: u32, time: u64, change: &Change)
+        requires fits { Fits self.old.cpus change.now }
+        requires sound { All (IsSound time) self.old.tasks }
+        requires may { All (λ t. t.number ≡ number → MayMake time change.now t) self.old.tasks }
+        ensures cpus { self.new.cpus ≡ self.old.cpus }
+        ensures tasks { self.new.tasks ≡ map (of_number number (made time change.now)) self.old.tasks }
+        ensures sound { All (IsSound time) self.new.tasks }
+    {
+        if let Some(place) = self.place(number) {
+            self.turn(place, time, change);
+        }
+    }
+
+    /// One task more, which is not ready. Where its number is, is noted.
+    pub(crate) fn push(&mut self, task: Task)
+        requires few { length self.old.tasks < 256 }
+        requires idle { is_ready task.condition ≡ false }
+        requires home { task.cpu < self.old.cpus }
+        requires short { task.params.bw ≤ 2 ^ 26 }
+        requires absent { IsAbsent self.old.tasks task.number }
+        ensures cpus { self.new.cpus ≡ self.old.cpus }
+        ensures tasks { self.new.tasks ≡ self.old.tasks ++ task ∷ [] }
+    {
+        self.index.note(task.number, self.tasks.len());
+        listing::push_task(&mut self.tasks, &mut self.queue, task);
+    }
+
+    /// Tasks that have left go off the list.
+    pub(crate) fn drop_left(&mut self)
+        ensures cpus { self.new.cpus ≡ self.old.cpus }
+        ensures tasks { self.new.tasks ≡ filter is_listed self.old.tasks }
+    {
+        listing::drop_left(&mut self.tasks, &mut self.queue, &mut self.index);
+    }
+
+    /// The room for tasks.
+    #[cfg(test)]
+    pub(crate) fn capacity(&self) -> usize {
+        self.tasks.capacity()
+    }
+}

@@ -1,0 +1,88 @@
+//! A task comes onto the list; tasks that have left go off it.
+
+ghost use Rattle.std.specs.Prelude.{◌≡◌, ◌≢◌, ◌<◌, ◌≤◌, ◌^◌, ◌++◌, ◌∷◌, [], All, map, filter, false, length, vec_len, vec_capacity};
+ghost use Rattle.grub_rules.specs.Accounts.{AreAccounts};
+ghost use Rattle.domain_run.specs.Conditions.{is_ready};
+ghost use Rattle.domain_run.specs.Parts as parts_spec;
+ghost use Rattle.domain_run.specs.Tick as tick_spec;
+ghost use Rattle.domain_run.specs.private.Index.{IsAbsent};
+ghost use Rattle.domain_run.specs.private.RunQueue.{IsCounted};
+ghost use Rattle.domain_run.specs.private.Timers as timers_spec;
+
+use crate::index::Index;
+use crate::parts;
+use crate::run_queue::RunQueue;
+use crate::standing::{due_of, share_of};
+use crate::task::Task;
+use crate::timers::Timers;
+use grub_rules::Accounts;
+
+/// One task more, which is not ready.
+pub(super) fn push_task(tasks: &mut Vec<Task>, queue: &mut RunQueue, task: Task)
+    requires few { length tasks.old.items < 256 }
+    requires room { 256 ≤ vec_capacity tasks.old }
+    requires idle { is_ready task.condition ≡ false }
+    requires home { task.cpu < length queue.old.accounts.all }
+    requires short { task.params.bw ≤ 2 ^ 26 }
+    requires absent { IsAbsent tasks.old.items task.number }
+    requires counted { IsCounted (length queue.old.accounts.all) queue.old tasks.old.items }
+    ensures tasks { tasks.new.items ≡ tasks.old.items ++ task ∷ [] }
+    ensures counted { IsCounted (length queue.old.accounts.all) queue.new tasks.new.items }
+    ensures room { vec_capacity tasks.new ≡ vec_capacity tasks.old }
+{
+    queue.accounts.join(&share_of(&task));
+    queue.timers.push(due_of(&task));
+    tasks.push_reserved(task);
+}
+
+// The bandwidth of tasks that have left goes back.
+fn part_left(accounts: &mut Accounts, tasks: &[Task])
+    requires { AreAccounts accounts.old (tick_spec.shares tasks.now) }
+    ensures sums { AreAccounts accounts.new
+        (tick_spec.shares (filter parts_spec.is_listed tasks.now)) }
+    ensures wide { length accounts.new.all ≡ length accounts.old.all }
+{
+    for task in tasks {
+        if !parts::is_listed(task) {
+            accounts.part(&share_of(task));
+        }
+    }
+}
+
+// Where fewer tasks are listed than before, each is at another place.
+fn note_left(index: &mut Index, tasks: &[Task], before: usize) {
+    if tasks.len() < before {
+        for place in 0..tasks.len() {
+            index.note(tasks[place].number, place);
+        }
+    }
+}
+
+// When each task of a list is due.
+fn set_timers(timers: &mut Timers, tasks: &[Task])
+    requires { length tasks.now ≤ 256 }
+    ensures { timers.new ≡ map timers_spec.due_of tasks.now }
+{
+    timers.clear();
+    for task in tasks {
+        timers.push(due_of(task));
+    }
+}
+
+/// Tasks that have left go off the list. They are due at once.
+pub(super) fn drop_left(tasks: &mut Vec<Task>, queue: &mut RunQueue, index: &mut Index)
+    requires { IsCounted (length queue.old.accounts.all) queue.old tasks.old.items }
+    ensures tasks { tasks.new.items ≡ filter parts_spec.is_listed tasks.old.items }
+    ensures counted { IsCounted (length queue.old.accounts.all) queue.new tasks.new.items }
+    ensures few { vec_len tasks.new ≤ vec_len tasks.old }
+    ensures room { vec_capacity tasks.new ≡ vec_capacity tasks.old }
+{
+    if !queue.timers.may_be_due(0) {
+        return;
+    }
+    let before = tasks.len();
+    part_left(&mut queue.accounts, tasks);
+    tasks.retain(|task| parts::is_listed(task));
+    set_timers(&mut queue.timers, tasks);
+    note_left(index, tasks, before);
+}
