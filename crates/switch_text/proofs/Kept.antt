@@ -1,15 +1,17 @@
 -- The texts that are kept, and the lines that are made of them.
 use Rattle.std.proofs.Common.{◌≡◌, ℕ, zero, suc, ◌+◌, ◌/◌, ◌%◌, ◌<◌, List, [], ◌∷◌, ◌++◌, length, get_or, Option, Some, None, refl, sym, ap, ◌∙◌, subst, append_assoc, arith}
-use Rattle.std.specs.Prelude.{codes, decimal}
+use Rattle.std.specs.Prelude.{codes, decimal, All}
+use Rattle.std.proofs.lemmas.List.Elements.{All-weaker}
 use Rattle.domain_run.specs.declared.switch.Switch.{Switch}
 use Rattle.switch_text.specs.declared.run.Run.{Run}
 use Rattle.switch_text.specs.declared.ready.Who.{Who}
+use Rattle.switch_text.specs.declared.ready.Who.TheVariants.{Nobody}
 use Rattle.switch_text.specs.declared.ready.Slot.{Slot}
 use Rattle.switch_text.specs.Names.{named}
 use Rattle.switch_text.specs.Line.{digits_in, pid_of, prio_of, comm_of, letters_of, task_part, cpu_part, time_part, prev_part, next_part, line_of}
 use Rattle.switch_text.specs.private.Parts.{second_part, event_part, leaving_part, state_part, coming_part}
 use Rattle.switch_text.specs.private.Pieces.{text_of}
-use Rattle.switch_text.specs.private.Ready.{IsReady, names_at, who_of, IsFor, IsSlot}
+use Rattle.switch_text.specs.private.Ready.{IsReady, names_at, who_of, AreNobodys, IsFor, IsSlot}
 use Rattle.switch_text.proofs.CallerLemmas.{task_part-same}
 
 pub names_at-is : (runs : List Run) (i : ℕ) (r : Run) → i < length runs → r ≡ get_or runs i r → names_at runs i ≡ named r.names.now
@@ -34,6 +36,10 @@ task_anywhere f a b number s h = record { head = h.head; leaving = h.leaving; co
 pub IsSlot-made : (runs : List Run) (run cpu : ℕ) (task : Option ℕ) (s : Slot) → s.who ≡ who_of run cpu task → IsReady (names_at runs run) cpu task s → IsSlot runs s
 IsSlot-made runs run cpu None s is h = subst (λ (w : Who). IsFor runs w s) (sym is) (λ names. idle_anywhere (names_at runs run) names cpu s h)
 IsSlot-made runs run cpu (Some number) s is h = subst (λ (w : Who). IsFor runs w s) (sym is) (λ b. task_anywhere (names_at runs run) cpu b number s h)
+
+-- nobody's texts are nobody's in whatever runs
+pub nobody_is_slot : (runs : List Run) (slots : List Slot) → AreNobodys slots → All (IsSlot runs) slots
+nobody_is_slot runs slots h = All-weaker (λ s. s.who ≡ Nobody) (IsSlot runs) (λ s e. subst (λ (w : Who). IsFor runs w s) (sym e) tt) slots h
 
 pub IsReady-kept : (runs : List Run) (run cpu : ℕ) (task : Option ℕ) (s : Slot) → s.who ≡ who_of run cpu task → IsSlot runs s → IsReady (names_at runs run) cpu task s
 IsReady-kept runs run cpu None s is h = let all = subst (λ (w : Who). IsFor runs w s) is h in all (names_at runs run)

@@ -22,8 +22,9 @@ mod writing;
 pub use counted::Counted;
 pub use fault::{ReadFault, WriteFault};
 pub use lines::line;
+pub use ready::TraceRoom;
 pub use run::Run;
-pub use writing::{write_text, write_trace};
+pub use writing::{write_text, write_trace, write_trace_in};
 
 #[cfg(test)]
 mod tests;

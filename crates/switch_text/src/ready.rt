@@ -4,13 +4,14 @@ ghost use Rattle.std.specs.Prelude.{ℕ, ◌≡◌, ◌+◌, ◌<◌, ◌≤◌,
 ghost use Rattle.switch_text.specs.Names.{named, HasName};
 ghost use Rattle.switch_text.specs.private.Parts.{second_part, state_part};
 ghost use Rattle.switch_text.specs.private.Pieces.{text_of};
-ghost use Rattle.switch_text.specs.private.Ready.{IsReady, names_at, who_of, IsSlot, IsClock, IsMiddles, IsTexts};
+ghost use Rattle.switch_text.specs.private.Ready.{IsReady, names_at, who_of, AreNobodys, IsSlot, IsClock, IsMiddles, IsTexts};
 
 use crate::lines::{pid_for, put_coming, put_leaving, put_second, put_state, put_task};
 use crate::piece::Piece;
 use crate::run::Run;
 use domain_run::PrevState;
 use indexmap::IndexMap;
+use std::alloc::{AllocError, Global};
 
 /// So many places for idle CPUs, of which each CPU has one; and for tasks.
 const IDLE: usize = 128;
@@ -57,12 +58,28 @@ pub(crate) struct Clock {
     pub(crate) text: Piece,
 }
 
-/// All that is kept.
+/// What is kept beside the texts of tasks.
 #[derive(Clone, Copy)]
 pub(crate) struct Texts {
-    pub(crate) slots: [Slot; SLOTS],
     pub(crate) clock: Clock,
     pub(crate) middles: Middles,
+}
+
+/// Room for what lines say of tasks and idle CPUs while one trace is written: some 150 KiB.
+#[derive(Drop)]
+pub struct TraceRoom {
+    pub(crate) slots: Vec<Slot>,
+    ghost many: { length slots.items ≡ 640 },
+    ghost empty: { AreNobodys slots.items },
+}
+
+impl TraceRoom {
+    /// Room in memory. `Err` where it was refused.
+    pub fn open(alloc: Global) -> Result<TraceRoom, AllocError> {
+        Ok(TraceRoom {
+            slots: vec![in alloc; no_slot(); SLOTS]?,
+        })
+    }
 }
 
 #[inline(always)]
@@ -109,16 +126,22 @@ fn clock_at(second: u64) -> Clock
     }
 }
 
-/// Nothing but the states and the first second. Put together where it stands, since it is large.
-#[inline(always)]
-pub(crate) fn no_texts(runs: &[Run<'_>]) -> Texts
-    ensures { IsTexts runs.now result }
+/// The states and the first second.
+pub(crate) fn no_texts() -> Texts
+    ensures { IsTexts result }
 {
     Texts {
-        slots: [no_slot(); SLOTS],
         clock: clock_at(0),
         middles: all_middles(),
     }
+}
+
+/// Nobody's texts.
+#[inline(always)]
+pub(crate) fn no_slots() -> [Slot; SLOTS]
+    ensures { AreNobodys result }
+{
+    [no_slot(); SLOTS]
 }
 
 /// Lets the clock show this second.
@@ -201,7 +224,7 @@ fn is_of(slot: &Slot, who: Who) -> bool
 #[cold]
 #[inline(never)]
 fn refill(
-    slots: &mut [Slot; SLOTS],
+    slots: &mut [Slot],
     place: usize,
     runs: &[Run<'_>],
     run: usize,
@@ -209,10 +232,12 @@ fn refill(
     task: Option<u32>,
 )
     requires place { place < 640 }
+    requires many { length slots.old ≡ 640 }
     requires run { run < length runs.now }
     requires cpu { cpu < 512 }
     requires name { (d : Run) → IfSome task (HasName (slice_index_or runs.now run d).names.now) }
     requires right { All (IsSlot runs.now) slots.old }
+    ensures many { length slots.new ≡ 640 }
     ensures right { All (IsSlot runs.now) slots.new }
     ensures texts { (d : Slot) → IsReady (names_at runs.now run) cpu task (slice_index_or slots.new place d) }
 {
@@ -223,18 +248,20 @@ fn refill(
 /// Sees to it that the texts of a task of this run, or of the idle task of a CPU of the machine, are kept, and gives their place.
 #[inline(always)]
 pub(crate) fn seat(
-    slots: &mut [Slot; SLOTS],
+    slots: &mut [Slot],
     runs: &[Run<'_>],
     run: usize,
     cpu: u32,
     task: Option<u32>,
 ) -> usize
     requires few { length runs.now ≤ 8 }
+    requires many { length slots.old ≡ 640 }
     requires run { run < length runs.now }
     requires cpu { cpu < 512 }
     requires name { (d : Run) → IfSome task (HasName (slice_index_or runs.now run d).names.now) }
     requires right { All (IsSlot runs.now) slots.old }
     ensures inside { result < 640 }
+    ensures many { length slots.new ≡ 640 }
     ensures right { All (IsSlot runs.now) slots.new }
     ensures texts { (d : Slot) → IsReady (names_at runs.now run) cpu task (slice_index_or slots.new result d) }
 {

@@ -1,7 +1,7 @@
 mod conditions;
 mod fakes;
 
-use crate::{Counted, ReadFault, Run, WriteFault, line, write_trace};
+use crate::{Counted, ReadFault, Run, TraceRoom, WriteFault, line, write_trace, write_trace_in};
 use conditions::{are_runs, has_line};
 use domain_run::{PrevState, Switch};
 use fakes::{Giver, Taker};
@@ -70,6 +70,22 @@ fn written(alloc: Global, switches: &[Switch], taker: Taker) -> Result<Option<Ou
     }))
 }
 
+/// The trace of these switches, with room for texts in memory.
+fn written_in_room(alloc: Global, switches: &[Switch]) -> Result<Option<Vec<u8>>, Fail> {
+    let names = named(alloc, 1, "a")?;
+    let runs = [Run {
+        base: 0,
+        names: &names,
+        switches,
+    }];
+    if !are_runs(&runs) {
+        return Ok(None);
+    }
+    let mut writer = Counted::new(Vec::new(alloc));
+    let _ = write_trace_in(&runs, TraceRoom::open(alloc)?, &mut writer);
+    Ok(Some(writer.into_inner()))
+}
+
 /// Whether a writer that takes so many bytes a call gets this text whole, without a fault.
 fn is_written(alloc: Global, switches: &[Switch], text: &[u8], step: usize) -> Result<bool, Fail> {
     let taker = Taker::new(alloc, step, usize::MAX, None);
@@ -107,6 +123,13 @@ fn throttled_inside_a_job(rt: HostRuntime) -> Result<(), Fail> {
             "{step} a call"
         );
     }
+    Ok(())
+}
+
+#[test]
+fn with_room_in_memory(rt: HostRuntime) -> Result<(), Fail> {
+    let text = written_in_room(rt.alloc(), &throttled())?;
+    assert!(rt; text.is_some_and(|it| it.as_slice() == THROTTLED));
     Ok(())
 }
 

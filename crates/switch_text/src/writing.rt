@@ -7,13 +7,13 @@ ghost use Rattle.switch_text.specs.Runs.{views, IsRun};
 ghost use Rattle.switch_text.specs.Sides.{inner_of, faults_of};
 ghost use Rattle.switch_text.specs.Faults.{one_more_unless, TakesFront};
 ghost use Rattle.switch_text.specs.private.Merging.{next_entry, IsPrinted, IsRunAt};
-ghost use Rattle.switch_text.specs.private.Ready.{IsTexts};
+ghost use Rattle.switch_text.specs.private.Ready.{AreNobodys, IsSlot, IsTexts};
 
 use crate::batch::{Batch, Front};
 use crate::counted::Counted;
 use crate::fault::WriteFault;
 use crate::merge::{Next, earliest};
-use crate::ready::{Texts, middle, no_texts, seat, set_second};
+use crate::ready::{Slot, Texts, TraceRoom, middle, no_slots, no_texts, seat, set_second};
 use crate::run::Run;
 use std::io::Write;
 
@@ -27,21 +27,31 @@ fn header_text() -> &'static [u8]
 
 /// Adds the line of the next switch.
 #[inline(always)]
-fn append_line(runs: &[Run<'_>], next: &Next<'_, '_>, texts: &mut Texts, batch: &mut Batch)
+fn append_line(
+    runs: &[Run<'_>],
+    next: &Next<'_, '_>,
+    slots: &mut [Slot],
+    texts: &mut Texts,
+    batch: &mut Batch,
+)
     requires few { length runs.now ≤ 8 }
     requires printed { IsPrinted next.now }
     requires run { IsRunAt runs.now next.now }
-    requires texts { IsTexts runs.now texts.old }
+    requires many { length slots.old ≡ 640 }
+    requires slots { All (IsSlot runs.now) slots.old }
+    requires texts { IsTexts texts.old }
     requires room { length batch.old ≤ 65152 }
     ensures text { batch.new ≡ batch.old ++ (next_entry next.now).line }
     ensures short { length batch.new ≤ length batch.old + 384 }
-    ensures texts { IsTexts runs.now texts.new }
+    ensures many { length slots.new ≡ 640 }
+    ensures slots { All (IsSlot runs.now) slots.new }
+    ensures texts { IsTexts texts.new }
 {
     let switch = next.switch;
     let cpu = next.run.base + u32::from(switch.cpu);
     set_second(&mut texts.clock, switch.time / 1_000_000);
-    let place = seat(&mut texts.slots, runs, next.index, cpu, switch.prev);
-    let prev = &texts.slots[place];
+    let place = seat(slots, runs, next.index, cpu, switch.prev);
+    let prev = slots[place];
     batch.append_front(&Front {
         head: &prev.head,
         cpu,
@@ -50,8 +60,9 @@ fn append_line(runs: &[Run<'_>], next: &Next<'_, '_>, texts: &mut Texts, batch: 
         leaving: &prev.leaving,
         state: middle(&texts.middles, switch.state),
     });
-    let place = seat(&mut texts.slots, runs, next.index, cpu, switch.next);
-    batch.append_end(&texts.slots[place].coming);
+    let place = seat(slots, runs, next.index, cpu, switch.next);
+    let coming = slots[place].coming;
+    batch.append_end(&coming);
 }
 
 fn stopped_after(written: usize, more: usize) -> WriteFault
@@ -60,6 +71,43 @@ fn stopped_after(written: usize, more: usize) -> WriteFault
 {
     WriteFault {
         written: (written + more) as u64,
+    }
+}
+
+// The trace text, with room for the texts of tasks that holds none yet.
+#[inline(always)]
+fn write_with<W: Write>(
+    runs: &[Run<'_>],
+    slots: &mut [Slot],
+    writer: &mut Counted<W>,
+) -> Result<(), WriteFault>
+    requires few { length runs.now ≤ 8 }
+    requires runs { All IsRun runs.now }
+    requires many { length slots.old ≡ 640 }
+    requires empty { AreNobodys slots.old }
+    requires faults { faults_of writer.old < 2 ^ 63 }
+    ensures ok { OnOk result (Appends
+        (W.contents (inner_of writer.old)) (W.contents (inner_of writer.new)) (trace_of (views runs.now))) }
+    ensures err { IfErr result (λ f. TakesFront
+        (W.contents (inner_of writer.old)) (W.contents (inner_of writer.new)) (trace_of (views runs.now)) f.written) }
+    ensures faults { faults_of writer.new ≡ one_more_unless (is_ok result) (faults_of writer.old) }
+{
+    let mut batch = Batch::new();
+    batch.append(header_text());
+    let mut written = 0;
+    let mut places = [0usize; 8];
+    let mut texts = no_texts();
+    while let Some(next) = earliest(runs, &places) {
+        places[next.index] += 1;
+        match batch.make_room(writer) {
+            Ok(n) => written += n,
+            Err(n) => return Err(stopped_after(written, n)),
+        }
+        append_line(runs, &next, slots, &mut texts, &mut batch);
+    }
+    match batch.flush(writer) {
+        Ok(_) => Ok(()),
+        Err(n) => Err(stopped_after(written, n)),
     }
 }
 
@@ -80,23 +128,29 @@ pub fn write_trace<W: Write>(runs: &[Run<'_>], writer: &mut Counted<W>) -> Resul
         (W.contents (inner_of writer.old)) (W.contents (inner_of writer.new)) (trace_of (views runs.now)) f.written) }
     ensures faults { faults_of writer.new ≡ one_more_unless (is_ok result) (faults_of writer.old) }
 {
-    let mut batch = Batch::new();
-    batch.append(header_text());
-    let mut written = 0;
-    let mut places = [0usize; 8];
-    let mut texts = no_texts(runs);
-    while let Some(next) = earliest(runs, &places) {
-        places[next.index] += 1;
-        match batch.make_room(writer) {
-            Ok(n) => written += n,
-            Err(n) => return Err(stopped_after(written, n)),
-        }
-        append_line(runs, &next, &mut texts, &mut batch);
-    }
-    match batch.flush(writer) {
-        Ok(_) => Ok(()),
-        Err(n) => Err(stopped_after(written, n)),
-    }
+    let mut slots = no_slots();
+    write_with(runs, &mut slots, writer)
+}
+
+/// As [`write_trace`], where the 150 KiB for the texts of tasks stand in memory and not on the stack, which may find no room to grow.
+///
+/// # Errors
+/// As [`write_trace`].
+pub fn write_trace_in<W: Write>(
+    runs: &[Run<'_>],
+    mut room: TraceRoom,
+    writer: &mut Counted<W>,
+) -> Result<(), WriteFault>
+    requires few { length runs.now ≤ 8 }
+    requires runs { All IsRun runs.now }
+    requires faults { faults_of writer.old < 2 ^ 63 }
+    ensures ok { OnOk result (Appends
+        (W.contents (inner_of writer.old)) (W.contents (inner_of writer.new)) (trace_of (views runs.now))) }
+    ensures err { IfErr result (λ f. TakesFront
+        (W.contents (inner_of writer.old)) (W.contents (inner_of writer.new)) (trace_of (views runs.now)) f.written) }
+    ensures faults { faults_of writer.new ≡ one_more_unless (is_ok result) (faults_of writer.old) }
+{
+    write_with(runs, room.slots.as_mut_slice(), writer)
 }
 
 /// Writes a text that stands in memory, from its front; a writer that takes all at once is called once, and for an empty text not

@@ -36,6 +36,10 @@ IsFor runs Nobody s = Unit {0}
 IsFor runs (Idle cpu) s = (names : ℕ → List ℕ) → IsReady names cpu None s
 IsFor runs (Task run number) s = (cpu : ℕ) → IsReady (names_at runs run) cpu (Some number) s
 
+-- none names anybody
+abbrev pub AreNobodys : List Slot → Type 0
+AreNobodys slots = All (λ s. s.who ≡ Nobody) slots
+
 abbrev pub IsSlot : List Run → Slot → Type 0
 IsSlot runs s = IsFor runs s.who s
 
@@ -48,8 +52,7 @@ pub record IsMiddles (m : Middles) : Type 0 where
   pub sleeping : text_of m.sleeping ≡ state_part Sleeping
   pub dead : text_of m.dead ≡ state_part Dead
 
--- all that is kept is right
-pub record IsTexts (runs : List Run) (t : Texts) : Type 0 where
-  pub slots : All (IsSlot runs) t.slots
+-- what is kept beside them is right
+pub record IsTexts (t : Texts) : Type 0 where
   pub clock : IsClock t.clock
   pub middles : IsMiddles t.middles

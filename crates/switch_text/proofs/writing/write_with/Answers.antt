@@ -5,9 +5,10 @@ use Rattle.switch_text.specs.Runs.{view_of, views}
 use Rattle.switch_text.specs.Faults.{TakesFront}
 use Rattle.switch_text.specs.private.Merging.{next_entry, stepped}
 use Rattle.switch_text.proofs.Few.{few}
+use Rattle.switch_text.proofs.Kept.{nobody_is_slot}
 use Rattle.switch_text.proofs.Found.{in_order-next}
 use Rattle.switch_text.proofs.UnderWay.{IsUnderWay, IsUnderWay-start, IsUnderWay-next, IsUnderWay-stops, IsUnderWay-ends, count_fits, sent_within, Sends-more, length_from_append}
-use Rattle.switch_text.proofs.writing.write_trace.Goals as goal
+use Rattle.switch_text.proofs.writing.write_with.Goals as goal
 
 pub loop-next-init : goal.loop-next-init
 loop-next-init g c =
@@ -16,6 +17,8 @@ loop-next-init g c =
     let waiting : c.append.new.self ≡ header = rw (c.append.ensures, c.new-batch.ensures) c.header_text.ensures.text in
     record {
       under_way = subst (λ text. IsUnderWay before before runs (replicate 8 0) 0 text) (sym waiting) (IsUnderWay-start before runs (omega (arith, length-map c.args.runs.now view_of, c.requires.few)));
+      many = c.requires.many;
+      slots = nobody_is_slot c.args.runs.now c.args.slots.now c.requires.empty;
       texts = c.no_texts-texts.ensures;
       faults = refl;
     }
@@ -40,6 +43,8 @@ loop-next-preserved g c =
     c.loop-next.invariant.under_way (in_order-next c.args.runs.now c.loop-next.places c.in-Some.next c.in-Some.ensures) sends (omega (arith, short)) in
     record {
       under_way = subst (λ text. IsUnderWay (g.W.Write.contents c.args.writer.now.inner) after (views c.args.runs.now) (stepped c.loop-next.places c.in-Some.next.index) (c.loop-next.written + c.in-Ok.n) text) (sym c.append_line.ensures.text) next;
+      many = c.append_line.ensures.many;
+      slots = c.append_line.ensures.slots;
       texts = c.append_line.ensures.texts;
       faults = c.in-Ok.ensures.faults ∙ c.loop-next.invariant.faults;
     }

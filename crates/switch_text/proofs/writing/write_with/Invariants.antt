@@ -1,14 +1,16 @@
-use Rattle.std.proofs.Common.{length, ◌≡◌}
+use Rattle.std.proofs.Common.{length, ◌≡◌, All}
 use Rattle.switch_text.specs.Runs.{views}
 use Rattle.switch_text.specs.private.Merging.{left_of}
-use Rattle.switch_text.specs.private.Ready.{IsTexts}
+use Rattle.switch_text.specs.private.Ready.{IsSlot, IsTexts}
 use Rattle.switch_text.proofs.UnderWay.{IsUnderWay}
-use Rattle.switch_text.proofs.writing.write_trace.Given as goal
+use Rattle.switch_text.proofs.writing.write_with.Given as goal
 
 abbrev pub invariant-loop-next : goal.invariant-loop-next
 invariant-loop-next g l = record {
   under_way : IsUnderWay (g.W.Write.contents l.fn.writer.inner) (g.W.Write.contents l.writer.inner) (views l.runs) l.places l.written l.batch;
-  texts : IsTexts l.runs l.texts;
+  many : length l.slots ≡ 640;
+  slots : All (IsSlot l.runs) l.slots;
+  texts : IsTexts l.texts;
   faults : l.writer.faults ≡ l.fn.writer.faults;
 }
 
