@@ -393,13 +393,7 @@ impl<N: Names> Client<N> {
     }
 
     /// As [`Client::wake`], from a thread, with what all clients share of the session.
-    pub fn wake_in<R: Wait>(
-        &mut self,
-        rt: &R,
-        hall: &Hall<N>,
-        domain: usize,
-        number: u32,
-    ) -> Answer
+    pub fn wake_in<R: Wait>(&mut self, rt: &R, hall: &Hall<N>, domain: usize, number: u32) -> Answer
         requires domain { IsPlace N.id domain }
         requires call { IsCall (calls.Wake number) }
         ensures made { Makes self.old self.new (made_by domain (calls.Wake number) result) }

@@ -9,7 +9,7 @@ use crate::fault::SessionFault;
 use crate::placed_run::PlacedRun;
 use std::alloc::Global;
 use std::io::Write;
-use switch_text::{Counted, Run, write_trace};
+use switch_text::{Counted, Run, TraceRoom, write_trace_in};
 
 /// A run as it is written.
 fn as_written(placed: &PlacedRun) -> Run<'_>
@@ -40,6 +40,13 @@ fn all_as_written(alloc: Global, placed: &[PlacedRun]) -> Result<Vec<Run<'_>>, S
     Ok(written)
 }
 
+// Room for the texts of tasks: in memory, whose want is told, and not on the stack, whose want is not.
+fn room_in(alloc: Global) -> Result<TraceRoom, SessionFault>
+    ensures err { IfErr result (λ e. e ≡ SessionFault.Memory) }
+{
+    TraceRoom::open(alloc).map_err(|_| SessionFault::Memory)
+}
+
 /// Writes the runs of 1 to 8 domains as one trace, by time and CPU of the machine.
 ///
 /// # Errors
@@ -59,7 +66,8 @@ pub(crate) fn write_runs<W: Write>(
         (IsUnwritten (side W.contents writer.old writer.new) (trace_of_runs placed.now)) }
 {
     let written = all_as_written(alloc, placed)?;
-    match write_trace(&written, writer) {
+    let room = room_in(alloc)?;
+    match write_trace_in(&written, room, writer) {
         Ok(()) => Ok(()),
         Err(fault) => Err(SessionFault::Write {
             written: fault.written,
