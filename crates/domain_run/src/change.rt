@@ -63,7 +63,7 @@ fn slide(task: &mut Task, time: u64, ticks: u64, left: i128)
     task.work -= ticks;
 }
 
-#[inline(never)]
+#[inline(always)]
 fn act(task: &mut Task, time: u64, change: &Change)
     requires sound { IsSound time task.old }
     requires may { MayMake time change.now task.old }

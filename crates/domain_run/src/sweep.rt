@@ -19,6 +19,7 @@ use crate::switch::Switch;
 use edf_pick::Placement;
 
 /// One of parts 1 to 3. It goes from one task that is due to the next.
+#[inline(always)]
 fn turn_due(roster: &mut Roster, time: u64, change: &Change)
     requires part { IsPart time change.now }
     requires sound { All (IsSound time) roster.old.tasks }
