@@ -1,4 +1,5 @@
 // A book that advances by several workers.
+ghost use Rattle.std.specs.Prelude.{◌<◌, ◌≤◌};
 
 use super::{closed, opened_with, replies};
 use domain_run::{PrevState, Switch};
@@ -11,6 +12,9 @@ use std::thread::Threads;
 const TWO_CPUS: &[u8] =
     b"dlcalls 1\ndomain 2 1048576\nadmit 1 1 T1 4 8 8 - 0 -1:1{r4,t8}\nadmit 1 2 T2 4 8 8 - 0 -1:1{r4,t8}\nadmit 1 3 T3 4 8 8 - 0 -1:1{r4,t8}\nadvance 1 5\n";
 
+const FRACTION: &[u8] =
+    b"dlcalls 1\ndomain 1 996147\nadmit 1 1 T1 4 8 8 R 0 1:1{r1000}\nadvance 1 25\n";
+
 fn switch(time: u64, cpu: u16, prev: Option<u32>, state: PrevState, next: Option<u32>) -> Switch {
     Switch {
         time,
@@ -21,14 +25,22 @@ fn switch(time: u64, cpu: u16, prev: Option<u32>, state: PrevState, next: Option
     }
 }
 
-// The calls are made with two workers: the switches, and how many calls were entered.
-fn two_cpus_by_two<R: Abort + Threads + Wait>(
+// The calls of a text are made with so many workers: the switches, and how many calls were entered.
+fn made_by<R: Abort + Threads + Wait>(
     rt: &R,
     alloc: Global,
-) -> Result<(Vec<Switch>, usize), Fail> {
-    let mut desk = opened_with(rt, alloc, 2, 1048576, 8, 8)?;
-    desk.domain.set_workers(2);
-    let made = replies(rt, alloc, &mut desk, TWO_CPUS);
+    workers: usize,
+    cpus: u32,
+    limit: u64,
+    text: &[u8],
+) -> Result<(Vec<Switch>, usize), Fail>
+    requires workers { (1 ≤ workers) × (workers ≤ 8) }
+    requires cpus { (0 < cpus) × (cpus ≤ 64) }
+    requires limit { (10485 ≤ limit) × (limit ≤ 1048576) }
+{
+    let mut desk = opened_with(rt, alloc, cpus, limit, 8, 8)?;
+    desk.domain.set_workers(workers);
+    let made = replies(rt, alloc, &mut desk, text);
     let (state, _, calls) = closed(alloc, desk);
     made?;
     Ok((state.switches().to_vec(alloc)?, calls))
@@ -38,7 +50,7 @@ fn two_cpus_by_two<R: Abort + Threads + Wait>(
 // start the switches are the same.
 #[test]
 fn two_cpus(rt: HostRuntime) -> Result<(), Fail> {
-    let (switches, calls) = two_cpus_by_two(&rt, rt.alloc())?;
+    let (switches, calls) = made_by(&rt, rt.alloc(), 2, 2, 1048576, TWO_CPUS)?;
     let wanted = [
         switch(0, 0, None, PrevState::Running, Some(2)),
         switch(0, 1, None, PrevState::Running, Some(1)),
@@ -47,5 +59,32 @@ fn two_cpus(rt: HostRuntime) -> Result<(), Fail> {
     ];
     assert_eq!(rt; switches.as_slice(), wanted.as_slice());
     assert_eq!(rt; calls, 4);
+    Ok(())
+}
+
+// No number of workers changes a switch.
+#[test]
+fn two_cpus_by_one_and_eight(rt: HostRuntime) -> Result<(), Fail> {
+    let two = made_by(&rt, rt.alloc(), 2, 2, 1048576, TWO_CPUS)?;
+    let one = made_by(&rt, rt.alloc(), 1, 2, 1048576, TWO_CPUS)?;
+    let eight = made_by(&rt, rt.alloc(), 8, 2, 1048576, TWO_CPUS)?;
+    assert_eq!(rt; one.0.as_slice(), two.0.as_slice());
+    assert_eq!(rt; eight.0.as_slice(), two.0.as_slice());
+    Ok(())
+}
+
+#[test]
+fn fraction_and_carry(rt: HostRuntime) -> Result<(), Fail> {
+    let one = made_by(&rt, rt.alloc(), 1, 1, 996147, FRACTION)?;
+    let two = made_by(&rt, rt.alloc(), 2, 1, 996147, FRACTION)?;
+    let eight = made_by(&rt, rt.alloc(), 8, 1, 996147, FRACTION)?;
+    let wanted = [
+        switch(0, 0, None, PrevState::Running, Some(1)),
+        switch(23, 0, Some(1), PrevState::Preempted, None),
+        switch(24, 0, None, PrevState::Running, Some(1)),
+    ];
+    for made in [one, two, eight] {
+        assert_eq!(rt; made.0.as_slice(), wanted.as_slice());
+    }
     Ok(())
 }
