@@ -1,10 +1,10 @@
 //! The words of the command line.
 
-ghost use Rattle.std.specs.Prelude.{◌<◌, ◌≤◌, ◌^◌, IfOk};
-ghost use Rattle.clap.specs.Matches.{found_of};
+ghost use Rattle.std.specs.Prelude.{◌<◌, ◌≤◌, IfOk};
+ghost use Rattle.clap.specs.Matches.{found_of, subcommand_name_of};
 ghost use Rattle.dl_session.specs.Options.{AreOptions};
 ghost use Rattle.dlsim.specs.Found.{IsNumberAt, IsPrintAt, AreFound, AreMeantBy};
-ghost use Rattle.dlsim.specs.Tasks.{IsFit};
+ghost use Rattle.dlsim.specs.Tasks.{IsFit, IsTaskOf};
 
 use clap::builder::ValueParser;
 use clap::error::ErrorKind;
@@ -212,8 +212,7 @@ fn not_utf8(alloc: Global) -> Result<Error, AllocError> {
 
 /// The number at an option, from 1 on. Clap has tested it, and knows its default.
 fn number(found: &ArgMatches<'_>, name: &str, most: u64) -> u64
-    requires some_most { 1 ≤ most }
-    requires wide { most < 2 ^ 64 }
+    requires { 1 ≤ most }
     ensures some { 0 < result }
     ensures most { result ≤ most }
     ensures found { IsNumberAt (found_of found.now) name.now most result }
@@ -257,6 +256,17 @@ fn options_of(alloc: Global, found: &ArgMatches<'_>) -> Result<Options, WordsFau
     read_options(alloc, &words_of(found))
 }
 
+/// What the matches ask for: `run` with its options, or `replay`.
+fn task_of(alloc: Global, matches: &ArgMatches<'_>) -> Result<Task, WordsFault>
+    ensures fit { IfOk result IsFit }
+    ensures named { IfOk result (IsTaskOf (subcommand_name_of matches.now)) }
+{
+    match matches.subcommand() {
+        Some(("run", found)) => Ok(Task::Run(options_of(alloc, found)?)),
+        _ => Ok(Task::Replay),
+    }
+}
+
 /// What the words ask for, or what is wrong with them: first what clap says of them, then the list of domains, then the
 /// limit.
 pub(crate) fn read_words(rt: &(impl Env + Alloc<A = Global>)) -> Result<Task, Wrong>
@@ -271,8 +281,5 @@ pub(crate) fn read_words(rt: &(impl Env + Alloc<A = Global>)) -> Result<Task, Wr
         Err(_) => return Err(Wrong::Options(WordsFault::Memory)),
     };
     let matches = command(alloc)?.try_get_matches_from(&words)?;
-    match matches.subcommand() {
-        Some(("run", found)) => Ok(Task::Run(options_of(alloc, found)?)),
-        _ => Ok(Task::Replay),
-    }
+    Ok(task_of(alloc, &matches)?)
 }
