@@ -1,16 +1,16 @@
 -- The admissions of several clients, and their union.
-use Rattle.std.proofs.Common.{◌≡◌, ◌≢◌, ℕ, zero, suc, ◌+◌, ◌-◌, ◌%◌, ◌≤◌, ◌<◌, Bool, true, false, cond, eqb, List, [], ◌∷◌, ◌++◌, length, map, set, get_or, filter, filter_map, take, drop, Option, Some, None, option_map, All, refl, sym, ap, subst, ◌∙◌, arith, mod-lt, add-zero, eq-eqb}
+use Rattle.std.proofs.Common.{◌≡◌, ◌≢◌, ℕ, suc, ◌+◌, ◌-◌, ◌%◌, ◌≤◌, ◌<◌, Bool, true, false, cond, eqb, List, [], ◌∷◌, ◌++◌, length, map, set, get_or, take, drop, Option, Some, None, option_map, All, refl, sym, ap, subst, ◌∙◌, arith, mod-lt, add-zero, eq-eqb}
 use Rattle.std.specs.Prelude.{slice_index_or}
 use Rattle.std.specs.List.{cons_option}
 use Rattle.std.proofs.lemmas.Bool.{eqb-true, eqb-false}
-use Rattle.std.proofs.lemmas.List.{append_assoc, append-nil, length-append, map-append, get_or-set_same, get_or-set_other, length-set, length_push, length-map, get_or_default, get_or-map, get_or_push, get_or_append_left, take-append-drop}
+use Rattle.std.proofs.lemmas.List.{append_assoc, append-nil, length-append, map-append, get_or-set_same, get_or-set_other, length-set, length-map, get_or_default, get_or-map, get_or_push, get_or_append_left, take-append-drop}
 use Rattle.std.proofs.lemmas.List.Elements.{All-append, All-nil, All-cons, All-head, All-tail, filter-append, filter_map-append}
 use Rattle.std.proofs.lemmas.List.Filters.{length-filter_more}
 use Rattle.rtapp_scenario.specs.ScenarioView.{TaskSpecView}
 use Rattle.call_book.specs.declared.section.Entry.{Entry}
 use Rattle.dl_session.specs.declared.refusal.Refusal.{Refusal}
 use Rattle.dl_session.specs.SessionId.{SessionId}
-use Rattle.dl_session.specs.Asks.{Answer, IsLawful, Asked, Made, made_in, made_at, call_of, domain_of, entries_from, ClientView, pass_in, followed_by, Makes, Asks}
+use Rattle.dl_session.specs.Asks.{Answer, IsLawful, Asked, Made, made_in, made_at, call_of, domain_of, entries_from, ClientView, pass_in, followed_by, Asks}
 use Rattle.dl_session.specs.ScenarioAnswers.{is_own, own_asked, refusal_of, refused_in}
 use Rattle.dl_session.specs.Admissions.{AllAsked}
 use Rattle.dl_session.proofs.Closed.{by_place_more}

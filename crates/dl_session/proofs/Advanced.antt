@@ -14,12 +14,9 @@ use Rattle.call_book.specs.declared.section.Entry.{Entry}
 use Rattle.call_book.specs.Book.{BookView, IsFull, own_entries}
 use Rattle.call_book.specs.BookAnswers.{IsAdvanced}
 use Rattle.call_book.specs.SectionView.{SectionView}
-use Rattle.rtapp_scenario.specs.ScenarioView.{TaskSpecView}
 use Rattle.dl_session.specs.declared.fault.SessionFault.{SessionFault}
 use Rattle.dl_session.specs.declared.fault.SessionFault.TheVariants as faults
-use Rattle.dl_session.specs.declared.refusal.Refusal.{Refusal}
 use Rattle.dl_session.specs.declared.finishing.Finished.{Finished}
-use Rattle.dl_session.specs.Admissions.{AreNew, AllAsked}
 use Rattle.dl_session.specs.SessionId.{SessionId}
 use Rattle.dl_session.specs.Asks.{ClientView, Makes, Made, entries_from, pass_in, followed_by}
 use Rattle.dl_session.specs.Report.{IsReport}
@@ -27,7 +24,7 @@ use Rattle.dl_session.specs.ScenarioAnswers.{advance_of, EndsWith}
 use Rattle.dl_session.specs.private.Entering.{IsNamed, pass_after}
 use Rattle.dl_session.specs.private.Parts.{AreNamed}
 use Rattle.dl_session.specs.private.Closing.{HaveEnded}
-use Rattle.dl_session.specs.private.Running.{MakesAll, IsEndBy, AllEnd, IsFirst, HaveAdvanced, IsFinished, IsOrMemory, IsStopped, IsFullAmong, IsFullWith}
+use Rattle.dl_session.specs.private.Running.{MakesAll, IsEndBy, AllEnd, HaveAdvanced, IsFinished, IsOrMemory, IsStopped, IsFullAmong, IsFullWith}
 use Rattle.dl_session.proofs.Asked.{makes_at, makes_nothing}
 
 -- ---- one domain

@@ -1,5 +1,5 @@
 -- What a client is answered, and what its passes have then.
-use Rattle.std.proofs.Common.{◌≡◌, ◌≢◌, ℕ, ◌+◌, ◌*◌, ◌/◌, ◌%◌, ◌^◌, ◌≤◌, ◌<◌, ◌==◌, Bool, true, false, not, cond, eqb, List, [], ◌∷◌, ◌++◌, length, map, set, get_or, Option, Some, None, Result, Ok, Err, All, refl, sym, ap, subst, ◌∙◌, arith}
+use Rattle.std.proofs.Common.{◌≡◌, ◌≢◌, ℕ, ◌+◌, ◌<◌, Bool, true, false, not, cond, eqb, List, [], ◌∷◌, ◌++◌, length, map, set, get_or, Option, Some, None, Ok, Err, refl, sym, ap, subst, ◌∙◌, arith}
 use Rattle.std.specs.Prelude.{slice_index_or, position, nat_lt}
 use Rattle.std.specs.List.{position_or_len, prefix_len, cons_option}
 use Rattle.std.proofs.lemmas.Bool.{ltb-true, eqb-true, eqb-false}
@@ -11,7 +11,6 @@ use Rattle.attr_check.specs.declared.refusal.AttrRefusal.{AttrRefusal}
 use Rattle.attr_check.specs.ParamsView.{ParamsView}
 use Rattle.attr_check.specs.Accepted.{accepted, unless_refused, first_refusal, params_of}
 use Rattle.domain_run.specs.declared.call.Call.{Call}
-use Rattle.domain_run.specs.declared.call.Reply.{Reply}
 use Rattle.domain_run.specs.declared.call.Reply.TheVariants as replies
 use Rattle.rtapp_scenario.specs.ScenarioView.{TaskSpecView}
 use Rattle.pass_seats.specs.Lists.{PassView}
@@ -22,7 +21,7 @@ use Rattle.call_book.specs.declared.section.Entry.{Entry}
 use Rattle.dl_session.specs.declared.refusal.Refusal.{Refusal}
 use Rattle.dl_session.specs.declared.refusal.Refusal.TheVariants as refusals
 use Rattle.dl_session.specs.SessionId.{SessionId, IsSession, IsPlace, cap_in}
-use Rattle.dl_session.specs.Asks.{Answer, IsLawful, Goes, IsOver, domain_of, same_cpus, call_of, ClientView, Asks, Makes, made_by, made_in, made_of, made_at, Made, entries_from, pass_in}
+use Rattle.dl_session.specs.Asks.{Answer, IsLawful, Goes, domain_of, same_cpus, call_of, ClientView, Asks, Makes, made_by, made_in, made_of, made_at, Made, entries_from, pass_in}
 use Rattle.call_book.specs.Book.{admission}
 use Rattle.domain_run.specs.declared.call.Call.TheVariants as calls
 use Rattle.dl_session.specs.declared.named.Ask.{Ask}

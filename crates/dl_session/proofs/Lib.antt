@@ -22,3 +22,4 @@ pub mod OrderEntries
 pub mod OrderVerdicts
 pub mod OrderSplit
 pub mod OrderLaw
+pub mod Endings

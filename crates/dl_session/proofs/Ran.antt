@@ -1,5 +1,5 @@
 -- What a run answers, from what its parts answered.
-use Rattle.std.proofs.Common.{◌≡◌, ◌≢◌, ℕ, ◌≤◌, ◌<◌, arith, List, [], Option, Some, None, length, map, refl, sym, ap, subst, ◌∙◌}
+use Rattle.std.proofs.Common.{◌≡◌, ◌≢◌, ℕ, ◌<◌, arith, List, [], Option, Some, None, length, map, refl, sym, ap, subst, ◌∙◌}
 use Rattle.std.proofs.lemmas.List.Elements.{All-nil}
 use Rattle.std.specs.Io.KnownBytes.{Appends, Keeps}
 use Rattle.json_order.specs.Json.{Json}
@@ -21,10 +21,10 @@ use Rattle.dl_session.specs.declared.options.Options.{Options}
 use Rattle.dl_session.specs.declared.refusal.Refusal.{Refusal}
 use Rattle.dl_session.specs.declared.report.Report.{Report}
 use Rattle.dl_session.specs.declared.finishing.Finished.{Finished}
-use Rattle.dl_session.specs.SessionId.{SessionId, IsPlace}
+use Rattle.dl_session.specs.SessionId.{SessionId}
 use Rattle.dl_session.specs.Asks.{ClientView, pass_in}
 use Rattle.dl_session.specs.Admissions.{AreNew, AllAsked}
-use Rattle.dl_session.specs.Report.{IsHistoryOf, IsLeft}
+use Rattle.dl_session.specs.Report.{IsHistoryOf}
 use Rattle.dl_session.specs.Options.{AreOptions, IsSessionOf}
 use Rattle.dl_session.specs.ScenarioAnswers.{AnswersScenario}
 use Rattle.dl_session.specs.FullBook.{IsFullDomain}

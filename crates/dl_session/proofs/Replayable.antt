@@ -1,5 +1,5 @@
 -- The calls text of a run's histories can be replayed, to the same trace.
-use Rattle.std.proofs.Common.{◌≡◌, ℕ, eqb, cond, ◌+◌, ◌≤◌, ◌<◌, Option, None, List, [], ◌∷◌, ◌++◌, length, map, get_or, All, refl, sym, ap, subst, ◌∙◌, arith}
+use Rattle.std.proofs.Common.{◌≡◌, ℕ, eqb, cond, ◌+◌, ◌≤◌, ◌<◌, None, List, [], ◌∷◌, ◌++◌, length, map, get_or, All, refl, sym, ap, subst, ◌∙◌, arith}
 use Rattle.std.proofs.lemmas.List.{map-append, length-map}
 use Rattle.std.proofs.lemmas.List.Sums.{sum_by-cons}
 use Rattle.std.proofs.lemmas.List.Elements.{All-nil, All-cons, All-head, All-tail, All-from_get_or}
@@ -9,10 +9,10 @@ use Rattle.domain_run.specs.Run.{run_of}
 use Rattle.call_book.specs.declared.section.Entry.{Entry}
 use Rattle.call_book.specs.SectionView.{SectionView}
 use Rattle.call_book.specs.OwnCalls.{made_by, IsNumberedAfter}
-use Rattle.call_book.specs.Limits.{IsEntry, IsSection, AreSections, AreRead}
+use Rattle.call_book.specs.Limits.{IsEntry, IsSection, AreRead}
 use Rattle.call_book.specs.RoundTrip.{bare, unanswered}
 use Rattle.switch_text.specs.Trace.{RunView, trace_of}
-use Rattle.dl_session.specs.Replay.{calls_of, names_of, no_names, run_view, runs_from, trace_of_sections}
+use Rattle.dl_session.specs.Replay.{names_of, no_names, run_view, runs_from, trace_of_sections}
 
 -- ---- entries without their replies
 

@@ -1,11 +1,11 @@
 -- From the steps of a run to the answers of a scenario.
-use Rattle.std.proofs.Common.{◌≡◌, ℕ, false, Option, Some, None, zero, suc, ◌+◌, ◌<◌, List, [], ◌∷◌, ◌++◌, length, map, replicate, get_or, All, refl, sym, ap, subst, ◌∙◌, arith}
-use Rattle.std.proofs.lemmas.List.{append_assoc, append-nil, get_or-map, length-map, length-replicate}
-use Rattle.std.proofs.lemmas.List.Elements.{All-nil, All-get_or, All-weaker}
+use Rattle.std.proofs.Common.{◌≡◌, ℕ, false, Some, None, zero, suc, ◌+◌, ◌<◌, List, [], ◌∷◌, ◌++◌, length, map, replicate, get_or, All, refl, sym, ap, ◌∙◌, arith}
+use Rattle.std.proofs.lemmas.List.{get_or-map, length-map, length-replicate}
+use Rattle.std.proofs.lemmas.List.Elements.{All-get_or}
 use Rattle.rtapp_scenario.specs.ScenarioView.{TaskSpecView}
 use Rattle.call_book.specs.SectionView.{SectionView}
 use Rattle.call_book.specs.declared.section.Entry.{Entry}
-use Rattle.call_book.specs.Book.{IsMember, own_entries}
+use Rattle.call_book.specs.Book.{own_entries}
 use Rattle.dl_session.specs.declared.refusal.Refusal.{Refusal}
 use Rattle.dl_session.specs.SessionId.{SessionId, IsPlace}
 use Rattle.dl_session.specs.Asks.{ClientView, Asked, Made, Makes, pass_in, made_in, entries_from}

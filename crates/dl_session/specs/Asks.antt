@@ -1,5 +1,5 @@
 -- What a client is answered, and what it leaves in the books (own).
-use Rattle.std.specs.Prelude.{◌≡◌, ℕ, ◌+◌, ◌≤◌, ◌<◌, ◌==◌, Bool, ◌&&◌, List, [], ◌∷◌, ◌++◌, length, map, position, filter_map, Option, Some, None, IfSome, IsSome, Result, Ok, Err, All, slice_index_or, if◌then◌else◌}
+use Rattle.std.specs.Prelude.{◌≡◌, ℕ, ◌+◌, ◌≤◌, ◌<◌, ◌==◌, Bool, ◌&&◌, List, [], ◌∷◌, ◌++◌, length, position, filter_map, Option, Some, None, IfSome, IsSome, Result, Ok, Err, All, slice_index_or, if◌then◌else◌}
 use Rattle.std.specs.List.{list_all, list_any, cons_option}
 use Rattle.attr_check.specs.ParamsView.{ParamsView}
 use Rattle.attr_check.specs.Accepted.{accepted, params_of}

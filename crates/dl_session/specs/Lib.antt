@@ -3,6 +3,7 @@ pub mod Answer
 pub mod Status
 pub mod Lines
 pub mod Words
+pub mod Ending
 pub mod Options
 pub mod SessionId
 pub mod Asks

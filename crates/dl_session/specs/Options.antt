@@ -1,5 +1,5 @@
 -- Within which limits a scenario is run (own).
-use Rattle.std.specs.Prelude.{◌≡◌, ℕ, ◌+◌, ◌*◌, ◌≤◌, ◌<◌, length, map, All}
+use Rattle.std.specs.Prelude.{◌≡◌, ◌+◌, ◌*◌, ◌≤◌, ◌<◌, length, map, All}
 use Rattle.attr_check.specs.Ratio.{cap}
 use Rattle.bw_gate.specs.Terms.{TermsView}
 use Rattle.domain_run.specs.Domain.{IsCpus, IsLimit}

@@ -1,5 +1,5 @@
 -- What a session leaves at its end (own).
-use Rattle.std.specs.Prelude.{◌≡◌, ℕ, ◌≤◌, ◌<◌, List, [], length, All, slice_index, slice_index_or}
+use Rattle.std.specs.Prelude.{◌≡◌, ℕ, ◌≤◌, List, [], length, All, slice_index, slice_index_or}
 use Rattle.domain_run.specs.Tick.{sum_of}
 use Rattle.domain_run.specs.Run.{run_of}
 use Rattle.call_book.specs.SectionView.{SectionView}

@@ -1,5 +1,5 @@
 -- What a run of a scenario answers, and what it leaves (own).
-use Rattle.std.specs.Prelude.{◌≡◌, ◌≢◌, ℕ, ◌<◌, Bool, if◌then◌else◌, List, [], length, map, Result, Ok, slice_index_or}
+use Rattle.std.specs.Prelude.{◌≡◌, ◌≢◌, ℕ, ◌<◌, Bool, if◌then◌else◌, List, [], length, map, Ok, slice_index_or}
 use Rattle.std.specs.Io.KnownBytes.{Appends}
 use Rattle.json_order.specs.Json.{Json}
 use Rattle.json_order.specs.Fault.{strict, Spells}

@@ -1,5 +1,5 @@
 -- What the words of a command line mean (own).
-use Rattle.std.specs.Prelude.{◌≡◌, ℕ, ◌*◌, ◌<◌, ◌≤◌, ◌==◌, ◌&&◌, nat_lt, nat_le, Bool, if◌then◌else◌, List, [], length, map, All, Option, Some, None, codes, decimal}
+use Rattle.std.specs.Prelude.{◌≡◌, ℕ, ◌*◌, ◌<◌, ◌≤◌, ◌==◌, ◌&&◌, nat_lt, nat_le, Bool, if◌then◌else◌, List, length, map, All, Option, Some, None, codes, decimal}
 use Rattle.std.specs.List.{slice_split}
 use Rattle.attr_check.specs.Ratio.{ratio}
 use Rattle.domain_run.specs.Domain.{IsCpus}

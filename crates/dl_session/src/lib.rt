@@ -25,6 +25,7 @@
 mod admitting;
 mod client;
 mod closing;
+mod ending;
 mod fault;
 mod finishing;
 mod named;
@@ -46,6 +47,7 @@ mod words;
 
 pub use admitting::admit_all;
 pub use client::Client;
+pub use ending::Ending;
 pub use fault::{FaultLine, RefusedLine, SessionFault};
 pub use names::Names;
 pub use options::{Options, Print};

@@ -1,7 +1,9 @@
 //! The words of the command line.
 
-ghost use Rattle.std.specs.Prelude.{◌<◌, ◌≤◌, IfOk};
+ghost use Rattle.std.specs.Prelude.{◌<◌, ◌≤◌, ◌^◌, IfOk};
+ghost use Rattle.clap.specs.Matches.{found_of};
 ghost use Rattle.dl_session.specs.Options.{AreOptions};
+ghost use Rattle.dlsim.specs.Found.{IsNumberAt, IsPrintAt, AreFound, AreMeantBy};
 ghost use Rattle.dlsim.specs.Tasks.{IsFit};
 
 use clap::builder::ValueParser;
@@ -210,31 +212,49 @@ fn not_utf8(alloc: Global) -> Result<Error, AllocError> {
 
 /// The number at an option, from 1 on. Clap has tested it, and knows its default.
 fn number(found: &ArgMatches<'_>, name: &str, most: u64) -> u64
-    requires { 1 ≤ most }
+    requires some_most { 1 ≤ most }
+    requires wide { most < 2 ^ 64 }
     ensures some { 0 < result }
     ensures most { result ≤ most }
+    ensures found { IsNumberAt (found_of found.now) name.now most result }
 {
     found.get_one::<u64>(name).unwrap_or(1).clamp(1, most)
 }
 
-/// The options of a run.
-fn options_of(alloc: Global, found: &ArgMatches<'_>) -> Result<Options, WordsFault>
-    ensures sound { IfOk result AreOptions }
+/// What is printed: the calls where the words say so, else the trace.
+fn print_of(found: &ArgMatches<'_>) -> Print
+    ensures { IsPrintAt (found_of found.now) result }
 {
-    let words = Words {
+    if found.get_str("print") == Some("calls") {
+        Print::Calls
+    } else {
+        Print::Trace
+    }
+}
+
+/// The words of a run, each by its option.
+fn words_of<'a>(found: &ArgMatches<'a>) -> Words<'a>
+    ensures found { AreFound (found_of found.now) result }
+    ensures clients { (0 < result.clients) × (result.clients ≤ 64) }
+    ensures workers { (0 < result.workers) × (result.workers ≤ 8) }
+{
+    Words {
         domains: found.get_str("domains").unwrap_or(""),
         rt_runtime: number(found, "rt-runtime", MOST_TIME),
         rt_period: number(found, "rt-period", MOST_TIME),
         clients: number(found, "clients", MOST_CLIENTS) as u32,
         workers: number(found, "workers", MOST_WORKERS) as usize,
         reclaim: found.get_flag("reclaim"),
-        print: if found.get_str("print") == Some("calls") {
-            Print::Calls
-        } else {
-            Print::Trace
-        },
-    };
-    read_options(alloc, &words)
+        print: print_of(found),
+    }
+}
+
+/// The options of a run: what the words at each option mean.
+fn options_of(alloc: Global, found: &ArgMatches<'_>) -> Result<Options, WordsFault>
+    ensures sound { IfOk result AreOptions }
+    ensures meant { IfOk result (AreMeantBy (found_of found.now)) }
+{
+    read_options(alloc, &words_of(found))
 }
 
 /// What the words ask for, or what is wrong with them: first what clap says of them, then the list of domains, then the

@@ -1,18 +1,16 @@
 -- What a call under a domain's lock comes to.
-use Rattle.std.specs.Prelude.{◌≡◌, ℕ, ◌+◌, ◌≤◌, ◌<◌, List, [], ◌∷◌, ◌++◌, length, Option, Some, None, IfSome, IsSome, Result, Ok, Err, slice_index_or}
+use Rattle.std.specs.Prelude.{◌≡◌, ℕ, ◌+◌, ◌≤◌, ◌<◌, List, length, Option, None, IfSome, IsSome, Ok, Err, slice_index_or}
 use Rattle.attr_check.specs.ParamsView.{ParamsView}
 use Rattle.pass_seats.specs.Lists.{PassView}
 use Rattle.bw_gate.specs.Pieces.{BlankView, TicketView}
 use Rattle.bw_gate.specs.Answers.{IsGive}
 use Rattle.domain_run.specs.declared.call.Call.{Call}
 use Rattle.domain_run.specs.declared.call.Call.TheVariants as calls
-use Rattle.domain_run.specs.declared.call.Reply.{Reply}
 use Rattle.domain_run.specs.declared.call.Reply.TheVariants as replies
 use Rattle.call_book.specs.declared.section.Entry.{Entry}
 use Rattle.call_book.specs.Pieces.{IsTicketOf}
 use Rattle.call_book.specs.Limits.{IsCall}
 use Rattle.call_book.specs.Book.{BookView, IsMember, AdmissionView, admission, with_entry}
-use Rattle.dl_session.specs.declared.refusal.Refusal.{Refusal}
 use Rattle.dl_session.specs.declared.refusal.Refusal.TheVariants as refusals
 use Rattle.dl_session.specs.declared.named.Ask.{Ask}
 use Rattle.dl_session.specs.declared.named.Ask.TheVariants as asks

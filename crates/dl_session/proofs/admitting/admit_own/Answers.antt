@@ -1,4 +1,4 @@
-use Rattle.std.proofs.Common.{◌≡◌, ℕ, ◌+◌, ◌-◌, ◌%◌, ◌<◌, eq-eqb, ne_eqb, true, false, List, [], ◌∷◌, ◌++◌, length, take, get_or, deque_capacity, sym, ap, subst, ◌∙◌, arith}
+use Rattle.std.proofs.Common.{◌≡◌, ℕ, ◌+◌, ◌-◌, ◌%◌, eq-eqb, ne_eqb, true, false, List, [], ◌∷◌, ◌++◌, length, take, deque_capacity, sym, ap, subst, ◌∙◌, arith}
 use Rattle.std.proofs.lemmas.List.{take_more}
 use Rattle.rtapp_scenario.specs.ScenarioView.{TaskSpecView}
 use Rattle.dl_session.specs.Asks.{Answer, ClientView}

@@ -1,7 +1,6 @@
-use Rattle.std.proofs.Common.{◌≡◌, ℕ, ◌+◌, ◌-◌, ◌%◌, ◌<◌, List, [], ◌∷◌, ◌++◌, length, get_or, set, drop, vec_capacity, sym, ap, subst, ◌∙◌, arith}
-use Rattle.std.proofs.lemmas.List.{drop_more, at_drop_all, length_push}
+use Rattle.std.proofs.Common.{◌≡◌, ℕ, ◌+◌, ◌-◌, ◌%◌, List, [], ◌∷◌, ◌++◌, length, get_or, set, drop, vec_capacity, sym, ap, subst, ◌∙◌, arith}
+use Rattle.std.proofs.lemmas.List.{drop_more, at_drop_all}
 use Rattle.rtapp_scenario.specs.ScenarioView.{TaskSpecView}
-use Rattle.dl_session.specs.Asks.{Answer}
 use Rattle.dl_session.specs.ScenarioAnswers.{refused_in}
 use Rattle.dl_session.proofs.Admitted.{IsLeft, left_next, some_left, told_few, union_of}
 use Rattle.dl_session.proofs.admitting.gather.Goals as goal

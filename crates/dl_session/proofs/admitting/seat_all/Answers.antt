@@ -1,4 +1,4 @@
-use Rattle.std.proofs.Common.{◌≡◌, ℕ, ◌+◌, ◌<◌, List, [], ◌∷◌, ◌++◌, length, get_or, vec_len, sym, ap, subst, ◌∙◌, arith, rules}
+use Rattle.std.proofs.Common.{◌≡◌, ℕ, ◌+◌, List, length, get_or, vec_len, sym, ap, subst, ◌∙◌, arith, rules}
 use Rattle.dl_session.specs.Asks.{ClientView}
 use Rattle.dl_session.specs.private.Admitting.{SeatView, IsSeat}
 use Rattle.dl_session.proofs.Closed.{by_place_more}

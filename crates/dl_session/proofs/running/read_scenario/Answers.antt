@@ -1,4 +1,4 @@
-use Rattle.std.proofs.Common.{◌≡◌, sym, subst, ◌∙◌}
+use Rattle.std.proofs.Common.{subst}
 use Rattle.json_order.specs.Fault.{strict, Spells, IsFault}
 use Rattle.json_order.specs.Seen.{json_of}
 use Rattle.switch_text.specs.Sides.{side}

@@ -1,4 +1,4 @@
-use Rattle.std.proofs.Common.{ap, subst, sym, refl, arith, ◌≡◌, ℕ, List, get_or, decimal}
+use Rattle.std.proofs.Common.{subst, sym, refl, arith, ℕ, List, get_or}
 use Rattle.std.specs.Int.{IsInRange}
 use Rattle.dl_session.proofs.CpuLists.{first_digit, parsed_decimal, same_number, unread}
 use Rattle.dl_session.proofs.words.read_cpus.Goals as goal

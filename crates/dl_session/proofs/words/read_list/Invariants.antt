@@ -1,4 +1,4 @@
-use Rattle.std.proofs.Common.{◌≡◌, ◌≤◌, ℕ, List, All, decimal, map, length, take}
+use Rattle.std.proofs.Common.{◌≡◌, ◌≤◌, All, decimal, map, length, take}
 use Rattle.std.specs.List.{slice_split}
 use Rattle.std.specs.Vec.{vec_capacity}
 use Rattle.domain_run.specs.Domain.{IsCpus}

@@ -1,8 +1,7 @@
-use Rattle.std.proofs.Common.{◌≡◌, ◌<◌, ℕ, List, length, map, set, get_or, sym, refl, ap, subst, ◌∙◌, arith}
+use Rattle.std.proofs.Common.{◌≡◌, ◌<◌, length, map, set, get_or, sym, ap, subst, ◌∙◌, arith}
 use Rattle.pass_seats.specs.Lists.{PassView}
 use Rattle.call_book.specs.declared.section.Entry.{Entry}
-use Rattle.domain_run.specs.declared.call.Call.{Call}
-use Rattle.dl_session.specs.Asks.{Answer, ClientView}
+use Rattle.dl_session.specs.Asks.{ClientView}
 use Rattle.dl_session.specs.private.Entering.{pass_after}
 use Rattle.dl_session.proofs.Asked.{makes_at, done_for}
 use Rattle.dl_session.proofs.client.Client.enter.Goals.{in-Some+in-Some-1, in-Some+in-None-1, in_default}

@@ -1,4 +1,4 @@
-use Rattle.std.proofs.Common.{◌≡◌, length, map, sym, subst, ◌∙◌}
+use Rattle.std.proofs.Common.{map, sym, subst, ◌∙◌}
 use Rattle.dl_session.specs.private.Admitting.{AreAsked}
 use Rattle.dl_session.proofs.Admitted.{threads_asked}
 use Rattle.dl_session.proofs.admitting.fn.ask_apart.scope.Goals as goal
