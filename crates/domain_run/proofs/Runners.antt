@@ -15,6 +15,7 @@ use Rattle.domain_run.specs.Tick.{shares}
 use Rattle.domain_run.specs.Sound.{occupant, IsSound, IsSteady, IsPlacement}
 use Rattle.std.proofs.lemmas.Option.{same_Some, slice_get_within}
 use Rattle.domain_run.specs.Jump.{running_numbers, running_of, running_if, running}
+use Rattle.domain_run.specs.private.Runner.{IsRunning}
 use Rattle.domain_run.proofs.Paying.{find_here}
 
 pub standing_few : (places : Places) → length (running_numbers places) ≤ length places
@@ -63,19 +64,10 @@ runner e i n steady placed at =
         }
 
 -- what is inactive on a CPU is within the cap
-pub inactive_short : (e : Domain) (cpu : ℕ) → IsSteady e → uinact cpu (shares e.tasks) ≤ 2 ^ 26
+inactive_short : (e : Domain) (cpu : ℕ) → IsSteady e → uinact cpu (shares e.tasks) ≤ 2 ^ 26
 inactive_short e cpu steady =
     let most : cap e.cpus e.limit ≤ 64 * 1048576 = mul-le-mul steady.cpus.1 steady.limit.1 in
     omega (arith, uinact-le-total_bw cpu (shares e.tasks), steady.within, most)
-
--- the i-th running task, as it was found
-pub record IsRunning (e : Domain) (i : ℕ) (t : Task) : Type 0 where
-  pub is : running e i ≡ Some (running_of e t)
-  pub there : i < length (running_numbers e.curr)
-  pub home : t.cpu < e.cpus
-  pub busy : 0 < t.work
-  pub lifted : pos 0 <ℤ t.server.left
-  pub high : t.server.left ≤ℤ pos (2 ^ 52)
 
 pub found_running : (e : Domain) (i n : ℕ) (t : Task) → IsSteady e → IsPlacement e → Some n ≡ slice_get (running_numbers e.curr) i → Some t ≡ find (λ u. eqb u.number n) e.tasks → IsRunning e i t
 found_running e i n t steady placed at found =
@@ -88,6 +80,7 @@ found_running e i n t steady placed at found =
       busy = subst (λ (x : Task). 0 < x.work) same r.busy;
       lifted = subst (λ (x : Task). pos 0 <ℤ x.server.left) same r.lifted;
       high = subst (λ (x : Task). x.server.left ≤ℤ pos (2 ^ 52)) same r.high;
+      short = inactive_short e t.cpu steady;
     }
 
 pub never_lost : (e : Domain) (i n : ℕ) → IsSteady e → IsPlacement e → Some n ≡ slice_get (running_numbers e.curr) i → None ≡ find (λ u. eqb u.number n) e.tasks → ⊥

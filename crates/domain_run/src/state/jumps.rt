@@ -1,14 +1,17 @@
 //! Many ticks at once: a tick begins, and so many end as pass before something else is to be done.
 
-ghost use Rattle.std.specs.Prelude.{◌≡◌, ◌<◌, ◌≤◌, ◌^◌, ◌+◌, ◌<ℤ◌, ◌≤ℤ◌, ◌↔◌, pos, OnOk, OnErr, IfSome, IsTrue, is_some, length};
+ghost use Rattle.std.specs.Prelude.{◌≡◌, ◌<◌, ◌≤◌, ◌^◌, ◌+◌, ◌<ℤ◌, ◌≤ℤ◌, ◌↔◌, pos, OnOk, OnErr, None, IfSome, IfNone, IsTrue, is_some, length};
+ghost use Rattle.std.specs.Option.{option_copied};
 ghost use Rattle.domain_run.specs.Domain.{Domain};
 ghost use Rattle.domain_run.specs.Tick as tick;
 ghost use Rattle.domain_run.specs.Jump as jump;
 ghost use Rattle.domain_run.specs.Sound.{IsDomain};
+ghost use Rattle.domain_run.specs.private.Runner.{IsRunning};
 
 use super::State;
 use crate::running::{Running, running_of, standing_at};
 use crate::sweep;
+use crate::task::Task;
 use no_memory::NoMemory;
 
 impl State {
@@ -36,6 +39,20 @@ impl State {
         Ok(())
     }
 
+    /// The i-th of the tasks that run, by CPU, in the list.
+    fn runner(&self, i: usize) -> Option<&Task>
+        requires { jump.IsUnderWay self.now }
+        ensures some { IfSome (option_copied result) (IsRunning self.now i) }
+        ensures none { IfNone result (jump.running self.now i ≡ None) }
+        ensures past { IfNone result (length (jump.running_numbers self.now.curr) ≤ i) }
+        ensures few { length (jump.running_numbers self.now.curr) ≤ 64 }
+    {
+        let Some(number) = standing_at(&self.running, i) else {
+            return None;
+        };
+        self.roster.find(number)
+    }
+
     /// The i-th running task of the tick that has begun, by CPU, from 0: it has budget and work left. None past the last.
     pub fn running(&self, i: usize) -> Option<Running>
         requires { jump.IsUnderWay self.now }
@@ -47,10 +64,7 @@ impl State {
         ensures short { IfSome result (λ r. r.uinact ≤ 2 ^ 26) }
         ensures high { IfSome result (λ r. r.left ≤ℤ pos (2 ^ 52)) }
     {
-        let Some(number) = standing_at(&self.running, i) else {
-            return None;
-        };
-        let Some(task) = self.roster.find(number) else {
+        let Some(task) = self.runner(i) else {
             return None;
         };
         Some(running_of(task, self.roster.uinact(task.cpu)))
