@@ -2,15 +2,10 @@ pub mod Replay
 pub mod Answer
 pub mod Status
 pub mod Lines
+pub mod Upward
 pub mod Words
-pub mod Options
-pub mod SessionId
-pub mod Asks
-pub mod Clients
 pub mod ScenarioAnswers
-pub mod Admissions
-pub mod Report
 pub mod FullBook
+pub mod InOrder
 pub mod RunAnswer
 pub mod private
-pub mod InOrder
