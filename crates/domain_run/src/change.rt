@@ -8,7 +8,6 @@ ghost use Rattle.domain_run.specs.private.RunQueue as spec;
 ghost use Rattle.domain_run.specs.private.Roster.{made, MayMake, HasStood};
 
 use crate::standing::{Standing, standing_of};
-use crate::state::bw_within;
 use crate::task::Task;
 use crate::{calls, parts};
 use attr_check::Params;
@@ -70,7 +69,7 @@ fn act(task: &mut Task, time: u64, change: &Change)
     ensures task { task.new ≡ made time change.now task.old }
     ensures sound { IsSound time task.new }
 {
-    let _bw = bw_within(&task.params);
+    let _bw = task.params.bandwidth();
     match change {
         Change::Replenish => parts::replenish_due(task, time),
         Change::Settle => parts::settle(task, time),

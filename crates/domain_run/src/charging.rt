@@ -1,27 +1,14 @@
 //! What one tick takes of the budgets of the running tasks.
 
-ghost use Rattle.std.specs.Prelude.{◌≡◌, ◌<◌, ◌≤◌, ◌^◌, ◌<ℤ◌, ◌≤ℤ◌, ◌-ℤ◌, pos, take};
+ghost use Rattle.std.specs.Prelude.{◌≡◌, ◌≤◌, ◌^◌, ◌<ℤ◌, ◌≤ℤ◌, ◌-ℤ◌, pos, take};
 ghost use Rattle.domain_run.specs.Jump as jump;
 
 use crate::running::Running;
 use crate::state::State;
 
-fn rate_of(state: &State, runner: &Running) -> u64
-    requires { runner.now.uinact ≤ 2 ^ 26 }
-    ensures rate { result ≡ jump.rate_for state.now runner.now }
-    ensures slow { result ≤ 2 ^ 32 }
-{
-    grub_rules::rate(
-        &runner.params,
-        runner.uinact,
-        state.sum(),
-        u64::from(state.cpus()),
-        state.limit(),
-    )
-}
-
+/// What one tick of running at a rate leaves of a budget.
 fn left_after(runner: &Running, rate: u64) -> i128
-    requires slow { rate ≤ 2 ^ 32 }
+    requires slow { rate ≤ 2 ^ 27 }
     requires lifted { pos 0 <ℤ runner.now.left }
     requires high { runner.now.left ≤ℤ pos (2 ^ 52) }
     ensures { result ≡ runner.now.left -ℤ pos rate }
@@ -39,7 +26,7 @@ pub(crate) fn charge(state: &State, budgets: &mut [i128; 64]) -> usize
         let Some(runner) = state.running(i) else {
             return i;
         };
-        budgets[i] = left_after(&runner, rate_of(state, &runner));
+        budgets[i] = left_after(&runner, state.rate(&runner));
     }
     64
 }

@@ -11,7 +11,6 @@ ghost use Rattle.domain_run.specs.script.Segments.{IsSegment, next_ask};
 ghost use Rattle.domain_run.specs.Bounds.{IsServed};
 ghost use Rattle.domain_run.specs.Sound.{IsTimed, IsSound};
 
-use crate::roster::Roster;
 use crate::script::Segment;
 use crate::switch::PrevState;
 use crate::task::{Condition, Task};
@@ -156,26 +155,14 @@ pub(crate) fn candidate_of(task: &Task) -> Candidate
     }
 }
 
-fn left_in(condition: Condition) -> PrevState
+/// Part 5: the state in which a listed task leaves its CPU.
+pub(crate) fn left_in(condition: Condition) -> PrevState
     ensures { result ≡ switches_spec.left_in condition }
 {
     match condition {
         Condition::Ready | Condition::Throttled => PrevState::Preempted,
         Condition::Blocked(_) | Condition::Waiting => PrevState::Sleeping,
         Condition::Leaving => PrevState::Dead,
-    }
-}
-
-/// Part 5: the state in which an occupant leaves its CPU.
-pub(crate) fn state_of(roster: &Roster, occupant: Option<u32>) -> PrevState
-    ensures { result ≡ switches_spec.state_of roster.now.tasks occupant }
-{
-    match occupant {
-        None => PrevState::Running,
-        Some(number) => match roster.find(number) {
-            None => PrevState::Dead,
-            Some(task) => left_in(task.condition),
-        },
     }
 }
 

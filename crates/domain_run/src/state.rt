@@ -19,10 +19,10 @@ mod lending;
 mod machine;
 #[cfg(test)]
 mod tests;
+mod ticking;
 
 use crate::call::{Refused, Reply};
 use crate::calls::new_task;
-use crate::charging;
 use crate::memory::NoMemory;
 use crate::name::Name;
 use crate::numbers::Numbers;
@@ -123,34 +123,6 @@ impl State {
     }
 }
 
-// The bandwidth, with the bound that its type keeps, for the sums in which it stands.
-pub(crate) fn bw_within(params: &Params) -> u64
-    ensures value { result ≡ params.now.bw }
-    ensures most { result ≤ 2 ^ 20 }
-{
-    params.bw
-}
-
-impl State {
-    /// One tick, from the time now to the next microsecond: throttled tasks whose deadline has come are replenished, zero-lag times
-    /// that have come are dropped, blocked tasks whose time has come ask their scripts, the ready tasks with the earliest deadlines
-    /// are placed, the switches are added, and every running task is charged. Tasks that have left may go off the list; nobody comes,
-    /// and the others keep number, bandwidth and order. Room for the switches is made first: on `Err` nothing has changed.
-    pub fn tick(&mut self) -> Result<(), NoMemory>
-        requires { self.old.time < 2 ^ 42 }
-        ensures ok { OnOk result (self.new ≡ tick.ticked self.old) }
-        ensures placed { OnOk result (IsPlacement (tick.begun self.old)) }
-        ensures keys { OnOk result (AreKept self.old.tasks self.new.tasks) }
-        ensures err { OnErr result (self.new ≡ self.old) }
-    {
-        self.begin()?;
-        let mut budgets = [0; 64];
-        let count = charging::charge(self, &mut budgets);
-        self.finish(1, &budgets[..count]);
-        Ok(())
-    }
-}
-
 impl State {
     /// The reply to an admission, by the tests in their order.
     fn admit_reply(&self, number: u32, params: &Params) -> Reply
@@ -163,7 +135,7 @@ impl State {
             Reply::Full
         } else if self.used.contains(number) {
             Reply::Twice
-        } else if sum + bw_within(params) > self.cpus as u64 * self.limit {
+        } else if sum + params.bandwidth() > self.cpus as u64 * self.limit {
             Reply::Busy { seen: sum }
         } else {
             Reply::Admitted

@@ -15,7 +15,7 @@ ghost use Rattle.domain_run.specs.Jump as jump;
 use crate::change::Change;
 use crate::parts;
 use crate::roster::Roster;
-use crate::switch::Switch;
+use crate::switch::{PrevState, Switch};
 use edf_pick::Placement;
 
 /// One of parts 1 to 3. It goes from one task that is due to the next.
@@ -89,6 +89,19 @@ fn home_all(roster: &mut Roster, before: &[Option<u32>], places: &[Option<u32>],
     }
 }
 
+/// Part 5: the state in which an occupant leaves its CPU.
+fn state_of(roster: &Roster, occupant: Option<u32>) -> PrevState
+    ensures { result ≡ switches_spec.state_of roster.now.tasks occupant }
+{
+    match occupant {
+        None => PrevState::Running,
+        Some(number) => match roster.find(number) {
+            None => PrevState::Dead,
+            Some(task) => parts::left_in(task.condition),
+        },
+    }
+}
+
 /// Part 5: a switch for each CPU whose occupant differs.
 fn add_switches(
     switches: &mut Vec<Switch>,
@@ -113,7 +126,7 @@ fn add_switches(
                 prev,
                 next,
                 cpu: cpu as u16,
-                state: parts::state_of(roster, prev),
+                state: state_of(roster, prev),
             });
         }
     }

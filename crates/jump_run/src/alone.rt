@@ -19,18 +19,6 @@ fn left_of(runner: &Running) -> u64
     runner.left as u64
 }
 
-/// The rate at which a running task uses its budget up.
-fn rate_of(state: &State, runner: &Running) -> u64
-    requires short { runner.now.uinact ≤ 2 ^ 26 }
-    ensures rate { result ≡ jump.rate_for state.now runner.now }
-    ensures some { 0 < result }
-    ensures slow { result ≤ 2 ^ 27 }
-{
-    let sum = state.sum();
-    let cpus = u64::from(state.cpus());
-    grub_rules::rate(&runner.params, runner.uinact, sum, cpus, state.limit())
-}
-
 /// For how many ticks, at most so many, a budget lasts, the last of them included: a division only where it ends before.
 fn lasting(left: u64, rate: u64, most: u64) -> u64
     requires left { 0 < left }
@@ -98,7 +86,7 @@ fn gather<G: Turn>(state: &State, most: u64, room: &mut Room, turn: &G) -> Span
         };
         begin(turn, i == 0);
         let left = left_of(&runner);
-        let rate = rate_of(state, &runner);
+        let rate = state.rate(&runner);
         room.lefts[i] = left;
         room.rates[i] = rate;
         ticks = lasting(left, rate, ticks.min(runner.work));

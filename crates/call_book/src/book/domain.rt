@@ -399,14 +399,7 @@ fn ask_word<R: Wait>(
     if !state.may_regrade(number, params) {
         return None;
     }
-    stock.regrade(rt, gate, number, bw_within(params))
-}
-
-fn bw_within(params: &Params) -> u64
-    ensures value { result ≡ params.now.bw }
-    ensures most { result ≤ 2 ^ 20 }
-{
-    params.bw
+    stock.regrade(rt, gate, number, params.bandwidth())
 }
 
 /// How many of so many ticks were made: fewer only where a growth was refused.

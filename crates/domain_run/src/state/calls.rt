@@ -7,7 +7,7 @@ ghost use Rattle.domain_run.specs.Calls as calls;
 ghost use Rattle.domain_run.specs.Sound.{IsDomain};
 ghost use Rattle.domain_run.specs.Busy.{IfBusy, LacksRoomToChange};
 
-use super::{State, bw_within};
+use super::State;
 use crate::call::Reply;
 use crate::change::Change;
 use attr_check::Params;
@@ -24,7 +24,7 @@ impl State {
             return Reply::NotListed;
         };
         let sum = self.sum();
-        if sum.saturating_sub(task.params.bw) + bw_within(params) > self.cpus as u64 * self.limit {
+        if sum.saturating_sub(task.params.bw) + params.bandwidth() > self.cpus as u64 * self.limit {
             return Reply::Busy { seen: sum };
         }
         match word {

@@ -56,6 +56,19 @@ impl State {
         Some(running_of(task, self.roster.uinact(task.cpu)))
     }
 
+    /// The rate at which a running task uses its budget up, in 1/2^20: one where it does not reclaim, else by the GRUB rule, from the
+    /// sums as they are once all are placed.
+    pub fn rate(&self, runner: &Running) -> u64
+        requires short { runner.now.uinact ≤ 2 ^ 26 }
+        ensures rate { result ≡ jump.rate_for self.now runner.now }
+        ensures some { 0 < result }
+        ensures slow { result ≤ 2 ^ 27 }
+    {
+        let sum = self.sum();
+        let cpus = u64::from(self.cpus());
+        grub_rules::rate(&runner.params, runner.uinact, sum, cpus, self.limit())
+    }
+
     /// The number of ticks from the beginning of the tick that has begun to the next in which something is to be done before the
     /// choice: a task is replenished, its zero-lag time comes, it asks its script, or it goes off the list. 2^42 where there is
     /// none. Until then every tick does the same to every task, while no work ends and no budget is spent.

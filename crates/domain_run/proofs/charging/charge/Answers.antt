@@ -8,7 +8,7 @@ use Rattle.domain_run.proofs.Charged.{one_tick, charged_push, charged_whole, cha
 use Rattle.domain_run.proofs.charging.charge.Goals as goal
 
 -- what is left is within 127 bits
-short : (z left : ℤ) (rate : ℕ) → z ≡ left -ℤ pos rate → pos 0 <ℤ left → left ≤ℤ pos (2 ^ 52) → rate ≤ 2 ^ 32 → unsigned_abs z < 2 ^ 127
+short : (z left : ℤ) (rate : ℕ) → z ≡ left -ℤ pos rate → pos 0 <ℤ left → left ≤ℤ pos (2 ^ 52) → rate ≤ 2 ^ 27 → unsigned_abs z < 2 ^ 127
 short (pos n) left rate e some high slow = omega (arith, ints, e, some, high, slow)
 short (negsuc n) left rate e some high slow = omega (arith, ints, e, some, high, slow)
 
@@ -18,12 +18,12 @@ loop-i-preserved c =
     let d = c.args.state.now in
     let r = c.in-Some.runner in
     let z = c.left_after.result in
-    let value : to_z w128 (of_z w128 z) ≡ z = to_z-of_z {w = w128} {z = z} (fits_signed_from_abs w128 z (short z r.left c.rate_of.result c.left_after.ensures c.in-Some.ensures.lifted c.in-Some.ensures.high c.rate_of.ensures.slow)) in
+    let value : to_z w128 (of_z w128 z) ≡ z = to_z-of_z {w = w128} {z = z} (fits_signed_from_abs w128 z (short z r.left c.rate.result c.left_after.ensures c.in-Some.ensures.lifted c.in-Some.ensures.high c.rate.ensures.slow)) in
     record {
       within = let there = c.in-Some.ensures.there.0 refl in omega (arith, there);
       few = λ some. c.in-Some.ensures.few;
       len = length-set l.budgets l.i _ ∙ l.invariant.len;
-      each = charged_push d l.i l.budgets r _ (omega (arith, l.invariant.len, c.loop-i-test.true)) (sym c.in-Some.ensures.running) (one_tick d r c.rate_of.result _ c.in-Some.ensures.some c.in-Some.ensures.lifted c.rate_of.ensures.rate (value ∙ c.left_after.ensures)) l.invariant.each;
+      each = charged_push d l.i l.budgets r _ (omega (arith, l.invariant.len, c.loop-i-test.true)) (sym c.in-Some.ensures.running) (one_tick d r c.rate.result _ c.in-Some.ensures.some c.in-Some.ensures.lifted c.rate.ensures.rate (value ∙ c.left_after.ensures)) l.invariant.each;
     }
 
 pub returns-in_default-clause-charged : goal.returns-in_default-clause-charged

@@ -10,19 +10,19 @@ loop-i-preserved g c =
     let next = c.lasting-ticks.result in
     let r = c.in-Some.runner in
     let left = c.left_of-left.result in
-    let rate = c.rate_of-rate.result in
+    let rate = c.rate-rate.result in
     let lasting = c.lasting-ticks.ensures in
     let work_is = c.min.ensures in
     let gathered : IsGathered c.args.state.now next r left rate = record {
       left_is = c.left_of-left.ensures.left;
-      rate_is = c.rate_of-rate.ensures.rate;
+      rate_is = c.rate-rate.ensures.rate;
       worked = omega (arith, lasting.most, work_is);
       lasted = lasting.lasted;
     } in
     let at : IsNext c.args.state.now next l.i r left rate = record {
       is = sym c.in-Some.ensures.running;
       gathered = gathered;
-      slow = c.rate_of-rate.ensures.slow;
+      slow = c.rate-rate.ensures.slow;
       high = c.left_of-left.ensures.high;
     } in
     record {
