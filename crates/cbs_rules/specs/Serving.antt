@@ -11,13 +11,13 @@ renewed p time = record { deadline = Some (time + p.deadline); left = pos (budge
 
 -- the deadline has passed, or what is left, spent until the deadline, would be more than the task's share of a CPU:
 -- left / (deadline - time) > runtime / period, multiplied out
-abbrev pub is_outlived : ParamsView → ℕ → ℕ → ℤ → Bool
-is_outlived p time deadline left = nat_lt deadline time || int_lt (pos (budget p * (deadline - time))) (left *ℤ pos p.period)
+abbrev pub overflows : ParamsView → ℕ → ℕ → ℤ → Bool
+overflows p time deadline left = nat_lt deadline time || int_lt (pos (budget p * (deadline - time))) (left *ℤ pos p.period)
 
 abbrev pub woken_at : ParamsView → ℕ → Option ℕ → ℤ → Server
 -- the first wake (own)
 woken_at p time None left = renewed p time
-woken_at p time (Some d) left = if is_outlived p time d left then renewed p time else record { deadline = Some d; left = left }
+woken_at p time (Some d) left = if overflows p time d left then renewed p time else record { deadline = Some d; left = left }
 
 -- deadline and budget after a wake: new ones where the old ones are outlived, else they stay
 abbrev pub woken : ParamsView → ℕ → Server → Server

@@ -2,7 +2,7 @@
 
 ghost use Rattle.std.specs.Prelude.{◌≡◌, ◌<◌, ◌≤◌, ◌^◌, ◌+◌, ◌*◌, pos, neg_ℤ, ◌≤ℤ◌, ◌<ℤ◌, ◌-ℤ◌, ◌+ℤ◌, ◌/◌, IsSome, IsSomeAnd, IfSome, ◌↔◌, IsTrue};
 ghost use Rattle.std.specs.Option.{option_map};
-ghost use Rattle.cbs_rules.specs.Serving.{renewed, is_outlived, woken, charged, is_spent, replenished};
+ghost use Rattle.cbs_rules.specs.Serving.{renewed, overflows, woken, charged, is_spent, replenished};
 ghost use Rattle.attr_check.specs.ParamsView.{IsOrdered};
 ghost use Rattle.cbs_rules.specs.Budget.{budget, below_zero};
 
@@ -33,7 +33,7 @@ fn is_outlived_at(params: &Params, time: u64, deadline: u64, left: i128) -> bool
     requires early { (time < 2 ^ 48) × (deadline < 2 ^ 48) }
     requires high { left ≤ℤ pos (2 ^ 63) }
     requires low { neg_ℤ (pos (2 ^ 63)) ≤ℤ left }
-    ensures value { result ≡ is_outlived params.now time deadline left }
+    ensures value { result ≡ overflows params.now time deadline left }
     ensures ordered { IsOrdered params.now }
 {
     let budget = i128::from(budget_of(params));

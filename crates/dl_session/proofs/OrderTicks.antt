@@ -13,7 +13,7 @@ use Rattle.edf_pick.proofs.CallerLemmas.{IsNumbered, numbered_map, ordered_inser
 use Rattle.domain_run.specs.declared.task.Task.{Task}
 use Rattle.domain_run.specs.declared.switch.Switch.{Switch}
 use Rattle.domain_run.specs.Conditions.{is_ready}
-use Rattle.domain_run.specs.Parts.{replenish_due, settled, is_listed, unblocked, homed, ran}
+use Rattle.domain_run.specs.Parts.{replenish_due, settled, is_listed, unblocked, with_last_cpu, ran}
 use Rattle.domain_run.specs.Switches.{same_occupant, left_by, state_of, switches_from}
 use Rattle.domain_run.specs.Domain.{Domain}
 use Rattle.domain_run.specs.Tick.{share_of, shares, sum_of, candidate_of, candidates, prepared, begun, rate_of, ran_if, finished, ticks}
@@ -111,7 +111,7 @@ same_rate d ts us r t =
     ∙ ap (λ (n : ℕ). reclaiming.rate t.params (uinact t.cpu (shares ts)) n d.cpus d.limit) (same_sum_of d.tasks ts r)
 
 same_ran : (d : Domain) (ts : List Task) (us : List ℕ) → Reordered d.tasks ts → (t : Task) → ran_if d t ≡ ran_if (relisted d ts us) t
-same_ran d ts us r t = ap (λ (rate : ℕ). cond (stands t.number d.places) (ran d.time rate t) t) (same_rate d ts us r t)
+same_ran d ts us r t = ap (λ (rate : ℕ). cond (stands t.number d.curr) (ran d.time rate t) t) (same_rate d ts us r t)
 
 finished_relisted : (d : Domain) (ts : List Task) (us : List ℕ) → Reordered d.tasks ts → Reordered d.used us → Alike (finished d) (finished (relisted d ts us))
 finished_relisted d ts us r s = record {
@@ -126,15 +126,15 @@ begun_relisted d ts us r s apart =
     let q = prepared d.time ts in
     let more = prepared_reordered d.time d.tasks ts r in
     let numbered = prepared_apart d.time d.tasks apart in
-    let places : placed d.cpus (candidates p) d.places ≡ placed d.cpus (candidates q) d.places =
-    same_placed d.cpus (candidates p) (candidates q) d.places (candidates_reordered p q more) (candidates_apart p numbered) in
-    let new = placed d.cpus (candidates q) d.places in
-    let switches : switches_from d.time p 0 d.places (placed d.cpus (candidates p) d.places) ≡ switches_from d.time q 0 d.places new =
-    ap (λ (ps : Places). switches_from d.time p 0 d.places ps) places ∙ same_switches d.time p q 0 d.places new more numbered in
-    let made : Places → List Switch → Domain = λ ps ss. record d { tasks = map (homed new) q; used = us; places = ps; switches = d.switches ++ ss } in
+    let places : placed d.cpus (candidates p) d.curr ≡ placed d.cpus (candidates q) d.curr =
+    same_placed d.cpus (candidates p) (candidates q) d.curr (candidates_reordered p q more) (candidates_apart p numbered) in
+    let new = placed d.cpus (candidates q) d.curr in
+    let switches : switches_from d.time p 0 d.curr (placed d.cpus (candidates p) d.curr) ≡ switches_from d.time q 0 d.curr new =
+    ap (λ (ps : Places). switches_from d.time p 0 d.curr ps) places ∙ same_switches d.time p q 0 d.curr new more numbered in
+    let made : Places → List Switch → Domain = λ ps ss. record d { tasks = map (with_last_cpu new) q; used = us; curr = ps; switches = d.switches ++ ss } in
     record {
-      same = ap (λ (ps : Places). made ps (switches_from d.time q 0 d.places new)) (sym places) ∙ ap (made (placed d.cpus (candidates p) d.places)) (sym switches);
-      tasks = subst (λ (ps : Places). Reordered (map (homed (placed d.cpus (candidates p) d.places)) p) (map (homed ps) q)) places (mapped (homed (placed d.cpus (candidates p) d.places)) p q more);
+      same = ap (λ (ps : Places). made ps (switches_from d.time q 0 d.curr new)) (sym places) ∙ ap (made (placed d.cpus (candidates p) d.curr)) (sym switches);
+      tasks = subst (λ (ps : Places). Reordered (map (with_last_cpu (placed d.cpus (candidates p) d.curr)) p) (map (with_last_cpu ps) q)) places (mapped (with_last_cpu (placed d.cpus (candidates p) d.curr)) p q more);
       used = s;
     }
 

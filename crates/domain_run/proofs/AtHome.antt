@@ -8,7 +8,7 @@ use Rattle.std.proofs.lemmas.List.Elements.{All-map, All-weaker, All-filter}
 use Rattle.std.proofs.lemmas.List.Folds.{Any-from_list_any}
 use Rattle.edf_pick.specs.Places.{Places, is_task, stands}
 use Rattle.domain_run.specs.declared.task.Task.{Task}
-use Rattle.domain_run.specs.Parts.{replenish_due, settled, is_listed, unblocked, homed_at, homed}
+use Rattle.domain_run.specs.Parts.{replenish_due, settled, is_listed, unblocked, with_cpu, with_last_cpu}
 use Rattle.domain_run.specs.Tick.{prepared}
 use Rattle.domain_run.specs.Sound.{occupant, IsApart}
 use Rattle.domain_run.specs.private.Roster.{homed_here}
@@ -19,15 +19,15 @@ use Rattle.domain_run.proofs.Homing.{homed_next, homed_idle}
 use Rattle.domain_run.proofs.Tracing.{AreStanding}
 
 -- the same number and the same CPU
-at_home : (o : Option ℕ) (t u : Task) → u.cpu ≡ t.cpu → homed_at o t ≡ t → homed_at o u ≡ u
+at_home : (o : Option ℕ) (t u : Task) → u.cpu ≡ t.cpu → with_cpu o t ≡ t → with_cpu o u ≡ u
 at_home None t u same h = refl
 at_home (Some cpu) t u same h = ap (λ (n : ℕ). record u { cpu = n }) (ap (λ (x : Task). x.cpu) h ∙ sym same)
 
-still_homed : (places : Places) (t u : Task) → u.number ≡ t.number → u.cpu ≡ t.cpu → homed places t ≡ t → homed places u ≡ u
-still_homed places t u number cpu h = at_home (position (is_task u.number) places) t u cpu (ap (λ n. homed_at (position (is_task n) places) t) number ∙ h)
+still_homed : (places : Places) (t u : Task) → u.number ≡ t.number → u.cpu ≡ t.cpu → with_last_cpu places t ≡ t → with_last_cpu places u ≡ u
+still_homed places t u number cpu h = at_home (position (is_task u.number) places) t u cpu (ap (λ n. with_cpu (position (is_task n) places) t) number ∙ h)
 
 pub homed_map : (places : Places) (f : Task → Task) (tasks : List Task) → ((t : Task) → (f t).number ≡ t.number) → ((t : Task) → (f t).cpu ≡ t.cpu) → AreHomed places tasks → AreHomed places (map f tasks)
-homed_map places f tasks number cpu all = All-map (λ t. homed places t ≡ t) f tasks (All-weaker (λ t. homed places t ≡ t) (λ t. homed places (f t) ≡ f t) (λ t h. still_homed places t (f t) (number t) (cpu t) h) tasks all)
+homed_map places f tasks number cpu all = All-map (λ t. with_last_cpu places t ≡ t) f tasks (All-weaker (λ t. with_last_cpu places t ≡ t) (λ t. with_last_cpu places (f t) ≡ f t) (λ t h. still_homed places t (f t) (number t) (cpu t) h) tasks all)
 
 homed_same : (places : Places) (f : Task → Task) (tasks : List Task) → ((t : Task) → Same t (f t)) → AreHomed places tasks → AreHomed places (map f tasks)
 homed_same places f tasks same all = homed_map places f tasks (λ t. (same t).number) (λ t. (same t).cpu) all
@@ -37,22 +37,22 @@ pub homed_prepared : (places : Places) (time : ℕ) (tasks : List Task) → AreH
 homed_prepared places time tasks all =
     let a = homed_same places (replenish_due time) tasks (same_replenished time) all in
     let b = homed_same places (settled time) (map (replenish_due time) tasks) (same_settled time) a in
-    let c = All-filter is_listed (λ t. homed places t ≡ t) (map (settled time) (map (replenish_due time) tasks)) b in
+    let c = All-filter is_listed (λ t. with_last_cpu places t ≡ t) (map (settled time) (map (replenish_due time) tasks)) b in
     homed_same places (unblocked time) (filter is_listed (map (settled time) (map (replenish_due time) tasks))) (same_unblocked time) c
 
 -- part 4
-twice : (o : Option ℕ) (t : Task) → homed_at o (homed_at o t) ≡ homed_at o t
+twice : (o : Option ℕ) (t : Task) → with_cpu o (with_cpu o t) ≡ with_cpu o t
 twice None t = refl
 twice (Some cpu) t = refl
 
-pub homed_placed : (places : Places) (tasks : List Task) → AreHomed places (map (homed places) tasks)
-homed_placed places tasks = All-map (λ t. homed places t ≡ t) (homed places) tasks (λ k d h.
+pub homed_placed : (places : Places) (tasks : List Task) → AreHomed places (map (with_last_cpu places) tasks)
+homed_placed places tasks = All-map (λ t. with_last_cpu places t ≡ t) (with_last_cpu places) tasks (λ k d h.
     let t = get_or tasks k d in
     let o = position (is_task t.number) places in
-    ap (λ n. homed_at (position (is_task n) places) (homed places t)) (homed_number o t) ∙ twice o t)
+    ap (λ n. with_cpu (position (is_task n) places) (with_last_cpu places t)) (homed_number o t) ∙ twice o t)
 
 -- a task that stands nowhere
-pub homed_stranger : (places : Places) (used : List ℕ) (t : Task) → AreStanding used places → list_any (λ n. eqb n t.number) used ≡ false → homed places t ≡ t
+pub homed_stranger : (places : Places) (used : List ℕ) (t : Task) → AreStanding used places → list_any (λ n. eqb n t.number) used ≡ false → with_last_cpu places t ≡ t
 homed_stranger places used t all fresh = homed_nowhere places t (not_there (stands t.number places) refl)
   where
     not_there : (b : Bool) → stands t.number places ≡ b → b ≡ false
@@ -63,10 +63,10 @@ homed_stranger places used t all fresh = homed_nowhere places t (not_there (stan
 
 -- ---- ONE CPU MORE
 
-pub homed_step : (places : Places) (cpu : ℕ) (t : Task) → cpu < length places → IsApart places → homed_here (occupant places cpu) cpu (homed (take cpu places) t) ≡ homed (take (cpu + 1) places) t
+pub homed_step : (places : Places) (cpu : ℕ) (t : Task) → cpu < length places → IsApart places → homed_here (occupant places cpu) cpu (with_last_cpu (take cpu places) t) ≡ with_last_cpu (take (cpu + 1) places) t
 homed_step places cpu t h apart = by_occupant (occupant places cpu) refl
   where
-    by_occupant : (o : Option ℕ) → occupant places cpu ≡ o → homed_here o cpu (homed (take cpu places) t) ≡ homed (take (cpu + 1) places) t
+    by_occupant : (o : Option ℕ) → occupant places cpu ≡ o → homed_here o cpu (with_last_cpu (take cpu places) t) ≡ with_last_cpu (take (cpu + 1) places) t
     by_occupant None e = sym (homed_idle places cpu t h e)
     by_occupant (Some n) e = homed_next places cpu n t h apart e
 
@@ -85,23 +85,23 @@ not_before places cpu n h apart e = by_test (stands n (take cpu places)) refl
     by_test false is = refl
 
 -- where the same task stands as before, nothing is to be done
-pub homed_kept : (before places : Places) (cpu : ℕ) (t : Task) → cpu < length places → IsApart before → IsApart places → occupant before cpu ≡ occupant places cpu → homed before t ≡ t → homed (take cpu places) t ≡ homed (take (cpu + 1) places) t
+pub homed_kept : (before places : Places) (cpu : ℕ) (t : Task) → cpu < length places → IsApart before → IsApart places → occupant before cpu ≡ occupant places cpu → with_last_cpu before t ≡ t → with_last_cpu (take cpu places) t ≡ with_last_cpu (take (cpu + 1) places) t
 homed_kept before places cpu t h stood apart same home = by_occupant (occupant places cpu) refl
   where
-    by_occupant : (o : Option ℕ) → occupant places cpu ≡ o → homed (take cpu places) t ≡ homed (take (cpu + 1) places) t
+    by_occupant : (o : Option ℕ) → occupant places cpu ≡ o → with_last_cpu (take cpu places) t ≡ with_last_cpu (take (cpu + 1) places) t
     by_occupant None e = sym (homed_idle places cpu t h e)
     by_occupant (Some n) e =
         elim (cases_eq t.number n) [
           | inl is ↦
               let here : occupant places cpu ≡ Some t.number = e ∙ ap (λ m. Some m) (sym is) in
-              let first : homed (take cpu places) t ≡ t = homed_nowhere (take cpu places) t (not_before places cpu t.number (omega (arith, h)) apart here) in
+              let first : with_last_cpu (take cpu places) t ≡ t = homed_nowhere (take cpu places) t (not_before places cpu t.number (omega (arith, h)) apart here) in
               let found = position_at before cpu t.number stood (same ∙ here) in
-              let mine : homed_at (Some cpu) t ≡ t = ap (λ o. homed_at o t) (sym found) ∙ home in
+              let mine : with_cpu (Some cpu) t ≡ t = ap (λ o. with_cpu o t) (sym found) ∙ home in
               let more = homed_next places cpu n t h apart e in
-              let named : eqb (homed (take cpu places) t).number n ≡ true = eq-eqb (homed (take cpu places) t).number n (ap (λ (x : Task). x.number) first ∙ is) in
-              first ∙ sym mine ∙ sym (ap (homed_at (Some cpu)) first)
-              ∙ sym (ap (λ b. cond b (homed_at (Some cpu) (homed (take cpu places) t)) (homed (take cpu places) t)) named) ∙ more
+              let named : eqb (with_last_cpu (take cpu places) t).number n ≡ true = eq-eqb (with_last_cpu (take cpu places) t).number n (ap (λ (x : Task). x.number) first ∙ is) in
+              first ∙ sym mine ∙ sym (ap (with_cpu (Some cpu)) first)
+              ∙ sym (ap (λ b. cond b (with_cpu (Some cpu) (with_last_cpu (take cpu places) t)) (with_last_cpu (take cpu places) t)) named) ∙ more
           | inr other ↦
-              let named : eqb (homed (take cpu places) t).number n ≡ false = ne_eqb (homed (take cpu places) t).number n (λ x. other (sym (homed_number (position (is_task t.number) (take cpu places)) t) ∙ x)) in
-              sym (ap (λ b. cond b (homed_at (Some cpu) (homed (take cpu places) t)) (homed (take cpu places) t)) named) ∙ homed_next places cpu n t h apart e
+              let named : eqb (with_last_cpu (take cpu places) t).number n ≡ false = ne_eqb (with_last_cpu (take cpu places) t).number n (λ x. other (sym (homed_number (position (is_task t.number) (take cpu places)) t) ∙ x)) in
+              sym (ap (λ b. cond b (with_cpu (Some cpu) (with_last_cpu (take cpu places) t)) (with_last_cpu (take cpu places) t)) named) ∙ homed_next places cpu n t h apart e
         ]

@@ -24,7 +24,7 @@ use Rattle.domain_run.specs.Tick.{share_of, shares, sum_of, ticked, ticks}
 use Rattle.domain_run.specs.Calls.{admit_reply, new_task, listed, task_of, of_number, changed, regraded, regrade_reply, wake_reply, released, leave_reply, ended, reply_to, is_refusal, granted, after_call}
 use Rattle.domain_run.specs.Views.{view_of, view_in, name_in}
 use Rattle.domain_run.specs.Busy.{LacksRoomFor, LacksRoomToChange}
-use Rattle.domain_run.specs.Keys.{key_of, keys, has_task, left_of, AreKept, with_bw}
+use Rattle.domain_run.specs.Keys.{key_of, keys, has_task, listed_keys, AreKept, with_bw}
 use Rattle.domain_run.proofs.KeptKeys as kept
 
 and_left : (a b : Bool) → (a && b) ≡ true → a ≡ true
@@ -264,14 +264,14 @@ beside_listed {X = X} key xs tasks number same = any_by xs ∙ ap (λ ks. list_a
 
 -- after ticks: the items of the tasks that have a view still
 pub beside_kept : {X : Type 0} (key : X → ℕ × ℕ) (xs : List X) (before : List Task) (d : Domain) → map key xs ≡ keys before → AreKept before d.tasks → map key (filter (λ x. is_some (view_in d (key x).0)) xs) ≡ keys d.tasks
-beside_kept {X = X} key xs before d same is = left xs ∙ ap (λ ks. left_of ks d.tasks) same ∙ sym is
+beside_kept {X = X} key xs before d same is = left xs ∙ ap (λ ks. listed_keys ks d.tasks) same ∙ sym is
   where
-    left : (ys : List X) → map key (filter (λ x. is_some (view_in d (key x).0)) ys) ≡ left_of (map key ys) d.tasks
+    left : (ys : List X) → map key (filter (λ x. is_some (view_in d (key x).0)) ys) ≡ listed_keys (map key ys) d.tasks
     left [] = refl
     left (y ∷ ys) =
         let there = filter (λ x. is_some (view_in d (key x).0)) ys in
         ap (λ b. map key (cond b (y ∷ there) there)) (view_where_listed d (key y).0)
-        ∙ elim (has_task d.tasks (key y).0) as (λ b. map key (cond b (y ∷ there) there) ≡ cond b (key y ∷ left_of (map key ys) d.tasks) (left_of (map key ys) d.tasks)) [ true ↦ ap (λ ks. key y ∷ ks) (left ys) | false ↦ left ys ]
+        ∙ elim (has_task d.tasks (key y).0) as (λ b. map key (cond b (y ∷ there) there) ≡ cond b (key y ∷ listed_keys (map key ys) d.tasks) (listed_keys (map key ys) d.tasks)) [ true ↦ ap (λ ks. key y ∷ ks) (left ys) | false ↦ left ys ]
 
 -- the first of some keys is not that of another
 first_apart : (k : ℕ × ℕ) (front back : List (ℕ × ℕ)) (number bw : ℕ) → AllPairs (λ l m. l.0 ≢ m.0) (k ∷ (front ++ (number, bw) ∷ back)) → k.0 ≢ number

@@ -6,7 +6,7 @@ use Rattle.std.proofs.lemmas.List.{get_or-set_same, get_or-set_other, get_or-tak
 use Rattle.std.proofs.lemmas.Option.{same_Some, slice_get_past}
 use Rattle.domain_run.specs.Domain.{Domain}
 use Rattle.domain_run.specs.declared.running.Running.{Running}
-use Rattle.domain_run.specs.Jump.{standing, running_if, running, rate_for, IsCharged, AreCharged}
+use Rattle.domain_run.specs.Jump.{running_numbers, running_if, running, rate_for, IsCharged, AreCharged}
 
 -- the first so many are charged
 abbrev pub AreFirst : Domain → ℕ → List ℤ → Type 0
@@ -33,14 +33,14 @@ charged_push d i budgets r left inside at is are k q within at-k =
           subst (IsCharged d 1 q) (sym here) (subst (λ (x : Running). IsCharged d 1 x left) task is)
     ]
 
-running_within : (d : Domain) (i : ℕ) (r : Running) → running d i ≡ Some r → i < length (standing d.places)
+running_within : (d : Domain) (i : ℕ) (r : Running) → running d i ≡ Some r → i < length (running_numbers d.curr)
 running_within d i r e =
-    elim (cases_lt i (length (standing d.places))) [
+    elim (cases_lt i (length (running_numbers d.curr))) [
       | inl h ↦ h
-      | inr past ↦ let none : None ≡ Some r = sym (ap (running_if d) (slice_get_past (standing d.places) i past)) ∙ e in absurd cc
+      | inr past ↦ let none : None ≡ Some r = sym (ap (running_if d) (slice_get_past (running_numbers d.curr) i past)) ∙ e in absurd cc
     ]
 
-pub charged_whole : (d : Domain) (count : ℕ) (budgets : List ℤ) → AreFirst d count budgets → count ≡ length (standing d.places) → count ≤ length budgets → AreCharged d 1 (take count budgets)
+pub charged_whole : (d : Domain) (count : ℕ) (budgets : List ℤ) → AreFirst d count budgets → count ≡ length (running_numbers d.curr) → count ≤ length budgets → AreCharged d 1 (take count budgets)
 charged_whole d count budgets are many room = record {
   many = length-take-le count budgets room ∙ many;
   each = λ i r is.
@@ -49,9 +49,9 @@ charged_whole d count budgets are many room = record {
 }
 
 -- the next is nobody, so these are all
-pub charged_all_now : (d : Domain) (count : ℕ) (budgets : List ℤ) → AreFirst d count budgets → count ≤ length (standing d.places) → (count < length (standing d.places) → ⊥) → count ≤ length budgets → AreCharged d 1 (take count budgets)
-charged_all_now d count budgets are few past room = charged_whole d count budgets are (by_cases (cases_lt count (length (standing d.places)))) room
+pub charged_all_now : (d : Domain) (count : ℕ) (budgets : List ℤ) → AreFirst d count budgets → count ≤ length (running_numbers d.curr) → (count < length (running_numbers d.curr) → ⊥) → count ≤ length budgets → AreCharged d 1 (take count budgets)
+charged_all_now d count budgets are few past room = charged_whole d count budgets are (by_cases (cases_lt count (length (running_numbers d.curr)))) room
   where
-    by_cases : (count < length (standing d.places)) ⊎ (length (standing d.places) ≤ count) → count ≡ length (standing d.places)
+    by_cases : (count < length (running_numbers d.curr)) ⊎ (length (running_numbers d.curr) ≤ count) → count ≡ length (running_numbers d.curr)
     by_cases (inl less) = absurd (past less)
     by_cases (inr most) = omega (arith, few, most)

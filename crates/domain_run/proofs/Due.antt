@@ -11,7 +11,7 @@ use Rattle.domain_run.specs.declared.task.Condition.TheVariants.{Ready, Throttle
 use Rattle.domain_run.specs.Conditions.{is_throttled, is_over, has_come}
 use Rattle.domain_run.specs.Parts.{is_listed}
 use Rattle.domain_run.specs.Tick.{prepared}
-use Rattle.domain_run.specs.Jump.{replenished_at, asks_at, gone_at, ticks_to, rest_of, rest}
+use Rattle.domain_run.specs.Jump.{replenished_at, asks_at, gone_at, ticks_to, ticks_to_due_of, ticks_to_due}
 use Rattle.domain_run.specs.private.Timers.{moment_of, due_of, least, IsStep, AreLater, AreNotDue}
 use Rattle.domain_run.proofs.Jumping.{IsStill, prepared_still, filter_whole}
 
@@ -74,7 +74,7 @@ ticks_due : (time : ℕ) (moment : Option ℕ) → time ≤ 2 ^ 42 → min (2 ^ 
 ticks_due time None early = omega (arith, early)
 ticks_due time (Some u) early = refl
 
-rest_due : (time : ℕ) (t : Task) → time ≤ 2 ^ 42 → min (2 ^ 42 - 1) (rest_of time t) ≡ min (2 ^ 42 - 1) (due_of t - time)
+rest_due : (time : ℕ) (t : Task) → time ≤ 2 ^ 42 → min (2 ^ 42 - 1) (ticks_to_due_of time t) ≡ min (2 ^ 42 - 1) (due_of t - time)
 rest_due time t early =
     let a = replenished_at t in
     let c = asks_at t.condition in
@@ -83,15 +83,15 @@ rest_due time t early =
     (either (2 ^ 42 - 1) time (ticks_to time a) (ticks_to time t.zero_lag) (moment_of a) (moment_of t.zero_lag) (ticks_due time a early) (ticks_due time t.zero_lag early))
     (either (2 ^ 42 - 1) time (ticks_to time c) (ticks_to time e) (moment_of c) (moment_of e) (ticks_due time c early) (ticks_due time e early))
 
-rest_capped : (time : ℕ) (tasks : List Task) → time ≤ 2 ^ 42 → min (2 ^ 42 - 1) (rest time tasks) ≡ min (2 ^ 42 - 1) (least (map due_of tasks) - time)
+rest_capped : (time : ℕ) (tasks : List Task) → time ≤ 2 ^ 42 → min (2 ^ 42 - 1) (ticks_to_due time tasks) ≡ min (2 ^ 42 - 1) (least (map due_of tasks) - time)
 rest_capped time [] early = omega (arith, early)
-rest_capped time (t ∷ tasks) early = either (2 ^ 42 - 1) time (rest_of time t) (rest time tasks) (due_of t) (least (map due_of tasks)) (rest_due time t early) (rest_capped time tasks early)
+rest_capped time (t ∷ tasks) early = either (2 ^ 42 - 1) time (ticks_to_due_of time t) (ticks_to_due time tasks) (due_of t) (least (map due_of tasks)) (rest_due time t early) (rest_capped time tasks early)
 
-rest_most : (time : ℕ) (tasks : List Task) → rest time tasks ≤ 2 ^ 42 - 1
+rest_most : (time : ℕ) (tasks : List Task) → ticks_to_due time tasks ≤ 2 ^ 42 - 1
 rest_most time [] = omega arith
 rest_most time (t ∷ tasks) = omega (arith, rest_most time tasks)
 
-pub rest_least : (time : ℕ) (tasks : List Task) → time ≤ 2 ^ 42 → min (least (map due_of tasks) - time) (2 ^ 42 - 1) ≡ rest time tasks
+pub rest_least : (time : ℕ) (tasks : List Task) → time ≤ 2 ^ 42 → min (least (map due_of tasks) - time) (2 ^ 42 - 1) ≡ ticks_to_due time tasks
 rest_least time tasks early = omega (arith, rest_capped time tasks early, rest_most time tasks)
 
 -- ---- ONE PLACE, where its task is due

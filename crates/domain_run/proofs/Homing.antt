@@ -8,9 +8,9 @@ use Rattle.std.proofs.lemmas.List.Sums.{position_or_len_is}
 use Rattle.std.proofs.lemmas.Option.{slice_get-get_or}
 use Rattle.edf_pick.specs.Places.{Places, is_task}
 use Rattle.domain_run.specs.declared.task.Task.{Task}
-use Rattle.domain_run.specs.Parts.{homed_at, homed}
+use Rattle.domain_run.specs.Parts.{with_cpu, with_last_cpu}
 use Rattle.domain_run.specs.Calls.{of_number}
-use Rattle.domain_run.specs.Jump.{standing}
+use Rattle.domain_run.specs.Jump.{running_numbers}
 use Rattle.domain_run.specs.Sound.{occupant, IsApart}
 use Rattle.domain_run.specs.private.Paying.{ran_until, index_of, paid_at, paid, MayPay, MayPayIf}
 use Rattle.domain_run.proofs.Placing.{position_at, there, homed_number}
@@ -64,34 +64,34 @@ apart_take places k h apart = record {
         sym (get_or-take k places i None inside) ∙ e
 
 -- a map of homes keeps the numbers
-pub homed_keeps : (places : Places) (t : Task) → (homed places t).number ≡ t.number
+pub homed_keeps : (places : Places) (t : Task) → (with_last_cpu places t).number ≡ t.number
 homed_keeps places t = homed_number (position (is_task t.number) places) t
 
-again : (o : Option ℕ) (cpu : ℕ) (t : Task) → homed_at (Some cpu) (homed_at o t) ≡ homed_at (Some cpu) t
+again : (o : Option ℕ) (cpu : ℕ) (t : Task) → with_cpu (Some cpu) (with_cpu o t) ≡ with_cpu (Some cpu) t
 again None cpu t = refl
 again (Some k) cpu t = refl
 
 -- the next CPU is idle
-pub homed_idle : (places : Places) (cpu : ℕ) (t : Task) → cpu < length places → occupant places cpu ≡ None → homed (take (cpu + 1) places) t ≡ homed (take cpu places) t
+pub homed_idle : (places : Places) (cpu : ℕ) (t : Task) → cpu < length places → occupant places cpu ≡ None → with_last_cpu (take (cpu + 1) places) t ≡ with_last_cpu (take cpu places) t
 homed_idle places cpu t h idle =
-    ap (λ (ps : Places). homed ps t) (take_more places cpu None h)
-    ∙ ap (λ o. homed_at o t) (position_push_no (is_task t.number) (take cpu places) (occupant places cpu) (ap (is_task t.number) idle))
+    ap (λ (ps : Places). with_last_cpu ps t) (take_more places cpu None h)
+    ∙ ap (λ o. with_cpu o t) (position_push_no (is_task t.number) (take cpu places) (occupant places cpu) (ap (is_task t.number) idle))
 
 -- on the next CPU stands a task
-pub homed_next : (places : Places) (cpu n : ℕ) (t : Task) → cpu < length places → IsApart places → occupant places cpu ≡ Some n → of_number n (homed_at (Some cpu)) (homed (take cpu places) t) ≡ homed (take (cpu + 1) places) t
+pub homed_next : (places : Places) (cpu n : ℕ) (t : Task) → cpu < length places → IsApart places → occupant places cpu ≡ Some n → of_number n (with_cpu (Some cpu)) (with_last_cpu (take cpu places) t) ≡ with_last_cpu (take (cpu + 1) places) t
 homed_next places cpu n t h apart at =
     elim (cases_eq t.number n) [
       | inl same ↦
           let len : length (take (cpu + 1) places) ≡ cpu + 1 = length-take-le (cpu + 1) places (omega (arith, h)) in
           let here : occupant (take (cpu + 1) places) cpu ≡ Some t.number = get_or-take (cpu + 1) places cpu None (omega arith) ∙ at ∙ ap (λ m. Some m) (sym same) in
           let found = position_at (take (cpu + 1) places) cpu t.number (apart_take places (cpu + 1) (omega (arith, h)) apart) here in
-          ap (λ b. cond b (homed_at (Some cpu) (homed (take cpu places) t)) (homed (take cpu places) t)) (eq-eqb (homed (take cpu places) t).number n (homed_keeps (take cpu places) t ∙ same))
+          ap (λ b. cond b (with_cpu (Some cpu) (with_last_cpu (take cpu places) t)) (with_last_cpu (take cpu places) t)) (eq-eqb (with_last_cpu (take cpu places) t).number n (homed_keeps (take cpu places) t ∙ same))
           ∙ again (position (is_task t.number) (take cpu places)) cpu t
-          ∙ sym (ap (λ o. homed_at o t) found)
+          ∙ sym (ap (λ o. with_cpu o t) found)
       | inr other ↦
           let another : is_task t.number (occupant places cpu) ≡ false = ap (is_task t.number) at ∙ ne_eqb n t.number (λ e. other (sym e)) in
-          ap (λ b. cond b (homed_at (Some cpu) (homed (take cpu places) t)) (homed (take cpu places) t)) (ne_eqb (homed (take cpu places) t).number n (λ e. other (sym (homed_keeps (take cpu places) t) ∙ e)))
-          ∙ sym (ap (λ (ps : Places). homed ps t) (take_more places cpu None h) ∙ ap (λ o. homed_at o t) (position_push_no (is_task t.number) (take cpu places) (occupant places cpu) another))
+          ap (λ b. cond b (with_cpu (Some cpu) (with_last_cpu (take cpu places) t)) (with_last_cpu (take cpu places) t)) (ne_eqb (with_last_cpu (take cpu places) t).number n (λ e. other (sym (homed_keeps (take cpu places) t) ∙ e)))
+          ∙ sym (ap (λ (ps : Places). with_last_cpu ps t) (take_more places cpu None h) ∙ ap (λ o. with_cpu o t) (position_push_no (is_task t.number) (take cpu places) (occupant places cpu) another))
     ]
 
 -- ---- WHO STANDS
@@ -99,35 +99,35 @@ homed_next places cpu n t h apart at =
 abbrev pub AreDistinct : List ℕ → Type 0
 AreDistinct numbers = AllPairs (λ m n. m ≢ n) numbers
 
-pub standing_distinct : (places : Places) → IsApart places → AreDistinct (standing places)
+pub standing_distinct : (places : Places) → IsApart places → AreDistinct (running_numbers places)
 standing_distinct [] apart = λ i j d less within. absurd (omega (arith, within))
 standing_distinct (None ∷ places) apart = standing_distinct places (record { once = λ i j n a b. let same : suc i ≡ suc j = apart.once (suc i) (suc j) n a b in omega (arith, same) })
 standing_distinct (Some n ∷ places) apart =
     let rest : IsApart places = record { once = λ i j m a b. let same : suc i ≡ suc j = apart.once (suc i) (suc j) m a b in omega (arith, same) } in
-    let first : All (λ m. n ≢ m) (standing places) = λ k d h same.
-    let at = standing_occupies places k (get_or (standing places) k d) (slice_get-get_or (standing places) k d h) in
+    let first : All (λ m. n ≢ m) (running_numbers places) = λ k d h same.
+    let at = standing_occupies places k (get_or (running_numbers places) k d) (slice_get-get_or (running_numbers places) k d h) in
     let two : zero ≡ suc at.0 = apart.once zero (suc at.0) n refl (at.1 ∙ ap (λ m. Some m) (sym same)) in
     absurd (omega (arith, two)) in
-    AllPairs-cons (λ m k. m ≢ k) n (standing places) first (standing_distinct places rest)
+    AllPairs-cons (λ m k. m ≢ k) n (running_numbers places) first (standing_distinct places rest)
 
 -- what is listed of them, one CPU more
-pub standing_push : (places : Places) (o : Option ℕ) → standing (places ++ o ∷ []) ≡ standing places ++ standing (o ∷ [])
+pub standing_push : (places : Places) (o : Option ℕ) → running_numbers (places ++ o ∷ []) ≡ running_numbers places ++ running_numbers (o ∷ [])
 standing_push [] o = refl
 standing_push (None ∷ places) o = standing_push places o
 standing_push (Some n ∷ places) o = ap (λ ns. n ∷ ns) (standing_push places o)
 
 -- nobody
-pub standing_opened : (cpus : ℕ) → standing (replicate cpus None) ≡ []
+pub standing_opened : (cpus : ℕ) → running_numbers (replicate cpus None) ≡ []
 standing_opened zero = refl
 standing_opened (suc cpus) = standing_opened cpus
 
-pub standing_one : (places : Places) (i n : ℕ) → i < length places → occupant places i ≡ Some n → standing (take i places) ++ n ∷ [] ≡ standing (take (i + 1) places)
+pub standing_one : (places : Places) (i n : ℕ) → i < length places → occupant places i ≡ Some n → running_numbers (take i places) ++ n ∷ [] ≡ running_numbers (take (i + 1) places)
 standing_one places i n h is =
-    sym (standing_push (take i places) (Some n)) ∙ ap (λ o. standing (take i places ++ o ∷ [])) (sym is) ∙ ap standing (sym (take_more places i None h))
+    sym (standing_push (take i places) (Some n)) ∙ ap (λ o. running_numbers (take i places ++ o ∷ [])) (sym is) ∙ ap running_numbers (sym (take_more places i None h))
 
-pub standing_idle : (places : Places) (i : ℕ) → i < length places → occupant places i ≡ None → standing (take i places) ≡ standing (take (i + 1) places)
+pub standing_idle : (places : Places) (i : ℕ) → i < length places → occupant places i ≡ None → running_numbers (take i places) ≡ running_numbers (take (i + 1) places)
 standing_idle places i h is =
-    sym (append-nil (standing (take i places))) ∙ sym (standing_push (take i places) None) ∙ ap (λ o. standing (take i places ++ o ∷ [])) (sym is) ∙ ap standing (sym (take_more places i None h))
+    sym (append-nil (running_numbers (take i places))) ∙ sym (standing_push (take i places) None) ∙ ap (λ o. running_numbers (take i places ++ o ∷ [])) (sym is) ∙ ap running_numbers (sym (take_more places i None h))
 
 -- ---- WHO IS PAID, one running task after another
 

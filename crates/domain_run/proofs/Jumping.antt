@@ -18,11 +18,11 @@ use Rattle.domain_run.specs.declared.task.Condition.TheVariants.{Ready, Throttle
 use Rattle.domain_run.specs.declared.switch.Switch.{Switch}
 use Rattle.domain_run.specs.Conditions.{is_ready, is_throttled, is_contending, is_leaving, is_over, has_come}
 use Rattle.domain_run.specs.script.Segments.{asked}
-use Rattle.domain_run.specs.Parts.{replenish_due, settled, is_listed, unblocked, homed, homed_at, running_on, goes_on, after_charge, ran}
+use Rattle.domain_run.specs.Parts.{replenish_due, settled, is_listed, unblocked, with_last_cpu, with_cpu, running_on, goes_on, after_charge, ran}
 use Rattle.domain_run.specs.Switches.{same_occupant, state_of, switches_from}
 use Rattle.domain_run.specs.Domain.{Domain}
 use Rattle.domain_run.specs.Tick.{share_of, shares, candidate_of, candidates, prepared, with_places, with_prepared, begun, rate_of, ran_if, finished, ticked, ticks}
-use Rattle.domain_run.specs.Jump.{replenished_at, asks_at, gone_at, ticks_to, rest_of, rest}
+use Rattle.domain_run.specs.Jump.{replenished_at, asks_at, gone_at, ticks_to, ticks_to_due_of, ticks_to_due}
 use Rattle.domain_run.specs.private.RunQueue.{ready_of}
 use Rattle.domain_run.specs.private.Paying.{ran_until}
 use Rattle.domain_run.proofs.Counting.{one, candidates_first}
@@ -59,7 +59,7 @@ candidates_alike f same (t ∷ tasks) =
     let more = candidates_alike f same tasks in
     candidates_first (f t) (map f tasks) ∙ (λ i. one (first i) ++ more i) ∙ sym (candidates_first t tasks)
 
-rest_alike : (time : ℕ) (t u : Task) → Alike t u → rest_of time u ≡ rest_of time t
+rest_alike : (time : ℕ) (t u : Task) → Alike t u → ticks_to_due_of time u ≡ ticks_to_due_of time t
 rest_alike time t u same =
     λ i. min (min (ticks_to time (cond (is_throttled (same.condition i)) (same.deadline i) None)) (ticks_to time (same.zero_lag i))) (min (ticks_to time (asks_at (same.condition i))) (ticks_to time (cond (not (is_leaving (same.condition i) && is_none (same.zero_lag i))) None (Some 0))))
 
@@ -109,7 +109,7 @@ not_yet time j None some h = refl
 not_yet time j (Some u) some h = lt-leb u (time + j) (omega (arith, some, h))
 
 -- before the first time at which something is to be done
-still_before : (time j : ℕ) (t : Task) → 0 < j → j ≤ rest_of (time + 1) t → IsStill (time + j) t
+still_before : (time j : ℕ) (t : Task) → 0 < j → j ≤ ticks_to_due_of (time + 1) t → IsStill (time + j) t
 still_before time j t some h =
     let clock = time + 1 in
     let a : j ≤ ticks_to clock (replenished_at t) = omega (arith, h) in
@@ -133,28 +133,28 @@ still_before time j t some h =
     asks Waiting h = refl
     asks Leaving h = refl
 
-rest_each : (time j : ℕ) (tasks : List Task) → j ≤ rest time tasks → All (λ t. j ≤ rest_of time t) tasks
+rest_each : (time j : ℕ) (tasks : List Task) → j ≤ ticks_to_due time tasks → All (λ t. j ≤ ticks_to_due_of time t) tasks
 rest_each time j [] h = λ k d within. absurd (omega (arith, within))
-rest_each time j (t ∷ tasks) h = All-cons (λ u. j ≤ rest_of time u) t tasks (omega (arith, h)) (rest_each time j tasks (omega (arith, h)))
+rest_each time j (t ∷ tasks) h = All-cons (λ u. j ≤ ticks_to_due_of time u) t tasks (omega (arith, h)) (rest_each time j tasks (omega (arith, h)))
 
 -- ---- A NUMBER OF TICKS OF RUNNING, none of which is the last of anything
 
 abbrev pub slid : Domain → ℕ → Task → Task
-slid b j t = cond (stands t.number b.places) (record t { server = charged (rate_of b t) j t.server; work = t.work - j }) t
+slid b j t = cond (stands t.number b.curr) (record t { server = charged (rate_of b t) j t.server; work = t.work - j }) t
 
 abbrev pub slid_all : Domain → ℕ → Domain
 slid_all b j = record b { time = b.time + j; tasks = map (slid b j) b.tasks }
 
 alike_slid : (b : Domain) (j : ℕ) (t : Task) → Alike t (slid b j t)
 alike_slid b j t =
-    elim (stands t.number b.places) as (λ x. Alike t (cond x (record t { server = charged (rate_of b t) j t.server; work = t.work - j }) t)) [
+    elim (stands t.number b.curr) as (λ x. Alike t (cond x (record t { server = charged (rate_of b t) j t.server; work = t.work - j }) t)) [
       | true ↦ record { number = refl; params = refl; cpu = refl; condition = refl; zero_lag = refl; deadline = refl }
       | false ↦ record { number = refl; params = refl; cpu = refl; condition = refl; zero_lag = refl; deadline = refl }
     ]
 
 -- ---- what begins in each of these ticks is nothing
 
-homed_ready : (o : Option ℕ) (places : Places) (t : Task) → position (is_task t.number) places ≡ o → ready_of (homed_at o t) ≡ option_map (rehomed places) (ready_of t)
+homed_ready : (o : Option ℕ) (places : Places) (t : Task) → position (is_task t.number) places ≡ o → ready_of (with_cpu o t) ≡ option_map (rehomed places) (ready_of t)
 homed_ready None places t e =
     elim (is_ready t.condition) as (λ b. cond b (Some (candidate_of t)) None ≡ option_map (rehomed places) (cond b (Some (candidate_of t)) None)) [
       | true ↦ ap (λ (at : Option ℕ). Some (record (candidate_of t) { home = unwrap_or at t.cpu })) (sym e)
@@ -170,33 +170,33 @@ one_map : (f : Candidate → Candidate) (o : Option Candidate) → one (option_m
 one_map f None = refl
 one_map f (Some c) = refl
 
-candidates_homed : (places : Places) (tasks : List Task) → candidates (map (homed places) tasks) ≡ map (rehomed places) (candidates tasks)
+candidates_homed : (places : Places) (tasks : List Task) → candidates (map (with_last_cpu places) tasks) ≡ map (rehomed places) (candidates tasks)
 candidates_homed places [] = refl
 candidates_homed places (t ∷ tasks) =
-    let first : one (ready_of (homed places t)) ≡ map (rehomed places) (one (ready_of t)) = ap one (homed_ready (position (is_task t.number) places) places t refl) ∙ one_map (rehomed places) (ready_of t) in
+    let first : one (ready_of (with_last_cpu places t)) ≡ map (rehomed places) (one (ready_of t)) = ap one (homed_ready (position (is_task t.number) places) places t refl) ∙ one_map (rehomed places) (ready_of t) in
     let more = candidates_homed places tasks in
-    candidates_first (homed places t) (map (homed places) tasks)
+    candidates_first (with_last_cpu places t) (map (with_last_cpu places) tasks)
     ∙ (λ i. first i ++ more i)
     ∙ sym (map-append (rehomed places) (one (ready_of t)) (candidates tasks))
     ∙ ap (map (rehomed places)) (sym (candidates_first t tasks))
 
-homed_again : (o : Option ℕ) (t u : Task) → u.cpu ≡ (homed_at o t).cpu → homed_at o u ≡ u
+homed_again : (o : Option ℕ) (t u : Task) → u.cpu ≡ (with_cpu o t).cpu → with_cpu o u ≡ u
 homed_again None t u e = refl
 homed_again (Some cpu) t u e = ap (λ (c : ℕ). record u { cpu = c }) (sym e)
 
-homed_number : (o : Option ℕ) (t : Task) → (homed_at o t).number ≡ t.number
+homed_number : (o : Option ℕ) (t : Task) → (with_cpu o t).number ≡ t.number
 homed_number None t = refl
 homed_number (Some cpu) t = refl
 
 -- who is at home stays there
-homed_slid : (places : Places) (f : Task → Task) → ((t : Task) → Alike t (f t)) → (tasks : List Task) → map (homed places) (map f (map (homed places) tasks)) ≡ map f (map (homed places) tasks)
+homed_slid : (places : Places) (f : Task → Task) → ((t : Task) → Alike t (f t)) → (tasks : List Task) → map (with_last_cpu places) (map f (map (with_last_cpu places) tasks)) ≡ map f (map (with_last_cpu places) tasks)
 homed_slid places f same [] = refl
 homed_slid places f same (t ∷ tasks) =
     let o = position (is_task t.number) places in
-    let h = homed places t in
+    let h = with_last_cpu places t in
     let u = f h in
     let number : u.number ≡ t.number = (same h).number ∙ homed_number o t in
-    let first : homed places u ≡ u = ap (λ n. homed_at (position (is_task n) places) u) number ∙ homed_again o t u (same h).cpu in
+    let first : with_last_cpu places u ≡ u = ap (λ n. with_cpu (position (is_task n) places) u) number ∙ homed_again o t u (same h).cpu in
     let more = homed_slid places f same tasks in
     λ i. first i ∷ more i
 
@@ -210,7 +210,7 @@ no_switches time tasks cpu (o ∷ places) =
     let s : Switch = record { time = time; prev = o; next = o; cpu = cpu; state = state_of tasks o } in
     ap (λ b. cond b (switches_from time tasks (cpu + 1) places places) (s ∷ switches_from time tasks (cpu + 1) places places)) (same_itself o) ∙ no_switches time tasks (cpu + 1) places
 
-begun_still : (d : Domain) (j : ℕ) → 0 < j → j ≤ rest (d.time + 1) (begun d).tasks → begun (slid_all (begun d) j) ≡ slid_all (begun d) j
+begun_still : (d : Domain) (j : ℕ) → 0 < j → j ≤ ticks_to_due (d.time + 1) (begun d).tasks → begun (slid_all (begun d) j) ≡ slid_all (begun d) j
 begun_still d j some h =
     let b = begun d in
     let w = prepared d.time d.tasks in
@@ -219,11 +219,11 @@ begun_still d j some h =
     let c = slid_all b j in
     let still : All (IsStill c.time) c.tasks =
     All-map (IsStill c.time) f b.tasks
-    (All-weaker (λ t. j ≤ rest_of (d.time + 1) t) (λ t. IsStill c.time (f t)) (λ t k. still_before d.time j (f t) some (rw (rest_alike (d.time + 1) t (f t) (same t)) k)) b.tasks (rest_each (d.time + 1) j b.tasks h)) in
-    let ready : candidates c.tasks ≡ map (rehomed b.places) (candidates w) = candidates_alike f same b.tasks ∙ candidates_homed b.places w in
-    let seats : placed c.cpus (candidates c.tasks) c.places ≡ c.places = ap (λ cs. placed c.cpus cs c.places) ready ∙ stays d.cpus (candidates w) d.places b.places in
-    let home : map (homed c.places) c.tasks ≡ c.tasks = homed_slid b.places f same w in
-    let none : c.switches ++ switches_from c.time c.tasks 0 c.places c.places ≡ c.switches = ap (λ (ss : List Switch). c.switches ++ ss) (no_switches c.time c.tasks 0 c.places) ∙ append-nil c.switches in
+    (All-weaker (λ t. j ≤ ticks_to_due_of (d.time + 1) t) (λ t. IsStill c.time (f t)) (λ t k. still_before d.time j (f t) some (rw (rest_alike (d.time + 1) t (f t) (same t)) k)) b.tasks (rest_each (d.time + 1) j b.tasks h)) in
+    let ready : candidates c.tasks ≡ map (rehomed b.curr) (candidates w) = candidates_alike f same b.tasks ∙ candidates_homed b.curr w in
+    let seats : placed c.cpus (candidates c.tasks) c.curr ≡ c.curr = ap (λ cs. placed c.cpus cs c.curr) ready ∙ stays d.cpus (candidates w) d.curr b.curr in
+    let home : map (with_last_cpu c.curr) c.tasks ≡ c.tasks = homed_slid b.curr f same w in
+    let none : c.switches ++ switches_from c.time c.tasks 0 c.curr c.curr ≡ c.switches = ap (λ (ss : List Switch). c.switches ++ ss) (no_switches c.time c.tasks 0 c.curr) ∙ append-nil c.switches in
     ap (with_prepared c) (prepared_still c.time c.tasks still)
     ∙ ap (with_places c c.tasks) seats
     ∙ (λ i. record c { tasks = home i; switches = none i })
@@ -237,7 +237,7 @@ pub record Runs (b : Domain) (ticks : ℕ) (t : Task) : Type 0 where
   pub lasted : pos (rate_of b t * (ticks - 1)) <ℤ t.server.left
 
 abbrev pub RunsIf : Domain → ℕ → Task → Type 0
-RunsIf b ticks t = stands t.number b.places ≡ true → Runs b ticks t
+RunsIf b ticks t = stands t.number b.curr ≡ true → Runs b ticks t
 
 rate_slid : (b : Domain) (j : ℕ) (t u : Task) → u.params ≡ t.params → u.cpu ≡ t.cpu → rate_of (slid_all b j) u ≡ rate_of b t
 rate_slid b j t u params cpu =
@@ -257,13 +257,13 @@ less_twice left rate j =
 abbrev pub run_by : ℕ → ℤ → ℕ → Task → Task
 run_by time left work t = after_charge time (record t { server = record t.server { left = left }; work = work })
 
-ran_slid : (b : Domain) (j : ℕ) (t : Task) → ran_if (slid_all b j) (slid b j t) ≡ cond (stands t.number b.places) (run_by (b.time + suc j) (t.server.left -ℤ pos (rate_of b t * suc j)) (t.work - suc j) t) t
-ran_slid b j t = by_stands (stands t.number b.places) refl
+ran_slid : (b : Domain) (j : ℕ) (t : Task) → ran_if (slid_all b j) (slid b j t) ≡ cond (stands t.number b.curr) (run_by (b.time + suc j) (t.server.left -ℤ pos (rate_of b t * suc j)) (t.work - suc j) t) t
+ran_slid b j t = by_stands (stands t.number b.curr) refl
   where
     x : Task
     x = record t { server = charged (rate_of b t) j t.server; work = t.work - j }
 
-    by_stands : (s : Bool) → stands t.number b.places ≡ s → ran_if (slid_all b j) (cond s x t) ≡ cond s (run_by (b.time + suc j) (t.server.left -ℤ pos (rate_of b t * suc j)) (t.work - suc j) t) t
+    by_stands : (s : Bool) → stands t.number b.curr ≡ s → ran_if (slid_all b j) (cond s x t) ≡ cond s (run_by (b.time + suc j) (t.server.left -ℤ pos (rate_of b t * suc j)) (t.work - suc j) t) t
     by_stands true e =
         let rate = rate_slid b j t x refl refl in
         let time : b.time + j + 1 ≡ b.time + suc j = omega arith in
@@ -292,7 +292,7 @@ run_on b j k t less runs =
 slid_more : (b : Domain) (j k : ℕ) (t : Task) → suc j < k → RunsIf b k t → ran_if (slid_all b j) (slid b j t) ≡ slid b (suc j) t
 slid_more b j k t less runs =
     ran_slid b j t
-    ∙ elim (stands t.number b.places) as (λ s. (s ≡ true → Runs b k t) → cond s (run_by (b.time + suc j) (t.server.left -ℤ pos (rate_of b t * suc j)) (t.work - suc j) t) t ≡ cond s (record t { server = charged (rate_of b t) (suc j) t.server; work = t.work - suc j }) t) [
+    ∙ elim (stands t.number b.curr) as (λ s. (s ≡ true → Runs b k t) → cond s (run_by (b.time + suc j) (t.server.left -ℤ pos (rate_of b t * suc j)) (t.work - suc j) t) t ≡ cond s (record t { server = charged (rate_of b t) (suc j) t.server; work = t.work - suc j }) t) [
       | true ↦ λ r. run_on b j k t less (r refl)
       | false ↦ λ r. refl
     ] runs
@@ -317,7 +317,7 @@ slid_none b =
         let nought : rate * 0 ≡ 0 = omega arith in
         let left : t.server.left -ℤ pos (rate * 0) ≡ t.server.left = omega (arith, ints, nought) in
         let work : t.work - 0 ≡ t.work = omega arith in
-        elim (stands t.number b.places) as (λ s. cond s (record t { server = charged rate 0 t.server; work = t.work - 0 }) t ≡ t) [
+        elim (stands t.number b.curr) as (λ s. cond s (record t { server = charged rate 0 t.server; work = t.work - 0 }) t ≡ t) [
           | true ↦ λ i. record t { server = record t.server { left = left i }; work = work i }
           | false ↦ refl
         ]
@@ -325,7 +325,7 @@ slid_none b =
 -- ---- THE JUMP
 
 -- before its last tick nothing ends
-ticks_slid : (d : Domain) (k j : ℕ) → j < k → k - 1 ≤ rest (d.time + 1) (begun d).tasks → All (RunsIf (begun d) k) (begun d).tasks → ticks (suc j) d ≡ finished (slid_all (begun d) j)
+ticks_slid : (d : Domain) (k j : ℕ) → j < k → k - 1 ≤ ticks_to_due (d.time + 1) (begun d).tasks → All (RunsIf (begun d) k) (begun d).tasks → ticks (suc j) d ≡ finished (slid_all (begun d) j)
 ticks_slid d k zero h quiet runs = ap finished (sym (slid_none (begun d)))
 ticks_slid d k (suc j) h quiet runs =
     ap ticked (ticks_slid d k j (omega (arith, h)) quiet runs ∙ finished_slid (begun d) j k h runs)
@@ -333,9 +333,9 @@ ticks_slid d k (suc j) h quiet runs =
 
 -- a task that stands has run in all of them
 abbrev pub jumped : Domain → ℕ → Task → Task
-jumped b k t = cond (stands t.number b.places) (ran_until (b.time + k) k (t.server.left -ℤ pos (rate_of b t * k)) t) t
+jumped b k t = cond (stands t.number b.curr) (ran_until (b.time + k) k (t.server.left -ℤ pos (rate_of b t * k)) t) t
 
-pub jump_is : (d : Domain) (k : ℕ) → 0 < k → k - 1 ≤ rest (d.time + 1) (begun d).tasks → All (RunsIf (begun d) k) (begun d).tasks → ticks k d ≡ record (begun d) { time = d.time + k; tasks = map (jumped (begun d) k) (begun d).tasks }
+pub jump_is : (d : Domain) (k : ℕ) → 0 < k → k - 1 ≤ ticks_to_due (d.time + 1) (begun d).tasks → All (RunsIf (begun d) k) (begun d).tasks → ticks k d ≡ record (begun d) { time = d.time + k; tasks = map (jumped (begun d) k) (begun d).tasks }
 jump_is d zero some quiet runs = absurd (omega (arith, some))
 jump_is d (suc j) some quiet runs =
     let b = begun d in

@@ -11,7 +11,7 @@ use Rattle.domain_run.specs.declared.script.Segment.TheVariants.{Run as RunFor, 
 use Rattle.domain_run.specs.Conditions.{is_over, has_come}
 use Rattle.cbs_rules.specs.Serving.{is_spent, woken}
 use Rattle.domain_run.specs.script.Segments.{asked}
-use Rattle.domain_run.specs.Parts.{replenish_due, settled, contending, started, unblocked, went_on, ran}
+use Rattle.domain_run.specs.Parts.{replenish_due, settled, enqueued, started, unblocked, went_on, ran}
 use Rattle.domain_run.specs.Tick.{share_of, shares, sum_of}
 
 -- the same task: its number, its parameters and the CPU to which it belongs
@@ -33,7 +33,7 @@ same_replenished time t = same_either _ t _ t (record { number = refl; params = 
 pub same_settled : (time : ℕ) (t : Task) → Same t (settled time t)
 same_settled time t = same_either _ t _ t (record { number = refl; params = refl; cpu = refl }) (same_itself t)
 
-same_contending : (time : ℕ) (s : Server) (t : Task) → Same t (contending time s t)
+same_contending : (time : ℕ) (s : Server) (t : Task) → Same t (enqueued time s t)
 same_contending time s t =
     let same : (u : Task) → u.number ≡ t.number → u.params ≡ t.params → u.cpu ≡ t.cpu → Same t u = λ u a b c. record { number = a; params = b; cpu = c } in
     same_either (is_spent s) t _ _ (same_either (has_come time s.deadline) t _ _ (same _ refl refl refl) (same _ refl refl refl)) (same _ refl refl refl)

@@ -8,10 +8,10 @@ use Rattle.std.proofs.lemmas.List.Elements.{All-filter, All-weaker}
 use Rattle.std.proofs.lemmas.List.Kept.{AllPairs-filter}
 use Rattle.edf_pick.specs.Places.{is_task}
 use Rattle.domain_run.specs.declared.task.Task.{Task}
-use Rattle.domain_run.specs.Parts.{replenish_due, settled, is_listed, unblocked, homed}
+use Rattle.domain_run.specs.Parts.{replenish_due, settled, is_listed, unblocked, with_last_cpu}
 use Rattle.domain_run.specs.Domain.{Domain}
 use Rattle.domain_run.specs.Tick.{begun, ran_if, ticked, ticks}
-use Rattle.domain_run.specs.Keys.{key_of, keys, has_task, left_of, AreKept}
+use Rattle.domain_run.specs.Keys.{key_of, keys, has_task, listed_keys, AreKept}
 use Rattle.domain_run.proofs.Keeping.{Same, same_replenished, same_settled, same_unblocked, AllPairs-map}
 use Rattle.domain_run.proofs.Placing.{homed_number, homed_params}
 use Rattle.domain_run.proofs.Ticking.{same_ran_if}
@@ -79,7 +79,7 @@ kept_listed before after number kept e =
 
 pub kept_more : (first then last : List Task) → AreKept first then → AreKept then last → AreKept first last
 kept_more first then last one two =
-    two ∙ ap (λ ks. left_of ks last) one ∙ filter_twice (λ k. has_task then k.0) (λ k. has_task last k.0) (λ k h. kept_listed then last k.0 two h) (keys first)
+    two ∙ ap (λ ks. listed_keys ks last) one ∙ filter_twice (λ k. has_task then k.0) (λ k. has_task last k.0) (λ k h. kept_listed then last k.0 two h) (keys first)
 
 -- ---- a change that keeps number and bandwidth
 
@@ -95,7 +95,7 @@ keys_same f same tasks = keys_map f (λ t. (same t).number) (λ t. (same t).para
 kept_by_keys : (before after before' after' : List Task) → keys before ≡ keys before' → keys after ≡ keys after' → AreKept before after → AreKept before' after'
 kept_by_keys before after before' after' b a kept =
     let test : (k : ℕ × ℕ) → has_task after k.0 ≡ has_task after' k.0 = λ k. has_key after k.0 ∙ ap (λ ks. list_any (λ l. eqb l.0 k.0) ks) a ∙ sym (has_key after' k.0) in
-    sym a ∙ kept ∙ ap (λ ks. left_of ks after) b ∙ filter_alike (λ k. has_task after k.0) (λ k. has_task after' k.0) (keys before') (λ i d h. test (get_or (keys before') i d))
+    sym a ∙ kept ∙ ap (λ ks. listed_keys ks after) b ∙ filter_alike (λ k. has_task after k.0) (λ k. has_task after' k.0) (keys before') (λ i d h. test (get_or (keys before') i d))
 
 -- ---- tasks that go off the list
 
@@ -147,7 +147,7 @@ ticked_kept d numbered =
     let before : keys c ≡ keys d.tasks = keys_same (settled d.time) (same_settled d.time) b ∙ keys_same (replenish_due d.time) (same_replenished d.time) d.tasks in
     let after : keys (ticked d).tasks ≡ keys s =
     keys_same (ran_if (begun d)) (same_ran_if (begun d)) h
-    ∙ keys_map (homed (begun d).places) (λ t. homed_number (position (is_task t.number) (begun d).places) t) (λ t. homed_params (position (is_task t.number) (begun d).places) t) w
+    ∙ keys_map (with_last_cpu (begun d).curr) (λ t. homed_number (position (is_task t.number) (begun d).curr) t) (λ t. homed_params (position (is_task t.number) (begun d).curr) t) w
     ∙ keys_same (unblocked d.time) (same_unblocked d.time) s in
     kept_by_keys c s d.tasks (ticked d).tasks before (sym after) (kept_filter is_listed c (numbered_due d numbered))
 
@@ -156,7 +156,7 @@ ticked_numbered d numbered =
     let s = filter is_listed (map (settled d.time) (map (replenish_due d.time) d.tasks)) in
     let w = map (unblocked d.time) s in
     numbered_map (ran_if (begun d)) (λ t. (same_ran_if (begun d) t).number) (begun d).tasks
-    (numbered_map (homed (begun d).places) (λ t. homed_number (position (is_task t.number) (begun d).places) t) w
+    (numbered_map (with_last_cpu (begun d).curr) (λ t. homed_number (position (is_task t.number) (begun d).curr) t) w
     (numbered_map (unblocked d.time) (λ t. (same_unblocked d.time t).number) s
     (AllPairs-filter (λ a b. a.number ≢ b.number) is_listed (map (settled d.time) (map (replenish_due d.time) d.tasks)) (numbered_due d numbered))))
 

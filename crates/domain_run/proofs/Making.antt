@@ -6,7 +6,7 @@ use Rattle.domain_run.specs.declared.change.Change.TheVariants.{Replenish, Settl
 use Rattle.domain_run.specs.declared.run_queue.RunQueue.{RunQueue}
 use Rattle.domain_run.specs.Parts.{replenish_due, settled, unblocked}
 use Rattle.domain_run.specs.private.RunQueue.{standing_of, IsCounted, MayTurn, HasTurned}
-use Rattle.domain_run.specs.private.Roster.{made, Fits, IsPart}
+use Rattle.domain_run.specs.private.Roster.{after_change, Fits, IsPart}
 use Rattle.domain_run.proofs.Keeping.{same_replenished, same_settled, same_unblocked}
 use Rattle.domain_run.proofs.Counting.{IsFit, same_fit, home_at, ended_same, may_turn, turned}
 use Rattle.domain_run.proofs.Paying.{same_ran_until}
@@ -14,28 +14,28 @@ use Rattle.domain_run.proofs.Due.{still_at}
 
 -- ---- what a change keeps
 
-made_fit : (cpus time : ℕ) (change : Change) (t : Task) → Fits cpus change → t.params.bw ≤ 2 ^ 26 → t.cpu < cpus → IsFit cpus t (made time change t)
+made_fit : (cpus time : ℕ) (change : Change) (t : Task) → Fits cpus change → t.params.bw ≤ 2 ^ 26 → t.cpu < cpus → IsFit cpus t (after_change time change t)
 made_fit cpus time Replenish t fits short home = same_fit cpus t (replenish_due time t) (same_replenished time t) short home
 made_fit cpus time Settle t fits short home = same_fit cpus t (settled time t) (same_settled time t) short home
 made_fit cpus time Unblock t fits short home = same_fit cpus t (unblocked time t) (same_unblocked time t) short home
 made_fit cpus time (Home cpu) t fits short home = record { number = refl; short = short; home = fits }
-made_fit cpus time (Run ticks left) t fits short home = same_fit cpus t (made time (Run ticks left) t) (same_ran_until time ticks left t) short home
+made_fit cpus time (Run ticks left) t fits short home = same_fit cpus t (after_change time (Run ticks left) t) (same_ran_until time ticks left t) short home
 made_fit cpus time (Regrade params) t fits short home = record { number = refl; short = fits; home = home }
 made_fit cpus time Release t fits short home = record { number = refl; short = short; home = home }
-made_fit cpus time End t fits short home = same_fit cpus t (made time End t) (ended_same time t) short home
+made_fit cpus time End t fits short home = same_fit cpus t (after_change time End t) (ended_same time t) short home
 
-place_fit : (cpus : ℕ) (queue : RunQueue) (tasks : List Task) (p time : ℕ) (change : Change) (d : Task) → p < length tasks → Fits cpus change → IsCounted cpus queue tasks → IsFit cpus (get_or tasks p d) (made time change (get_or tasks p d))
+place_fit : (cpus : ℕ) (queue : RunQueue) (tasks : List Task) (p time : ℕ) (change : Change) (d : Task) → p < length tasks → Fits cpus change → IsCounted cpus queue tasks → IsFit cpus (get_or tasks p d) (after_change time change (get_or tasks p d))
 place_fit cpus queue tasks p time change d h fits is = made_fit cpus time change (get_or tasks p d) fits (is.roster.short p d h) (home_at cpus queue tasks p d h is)
 
 -- ---- the task at a place
 
-pub place_may : (cpus : ℕ) (queue : RunQueue) (tasks : List Task) (p time : ℕ) (change : Change) (x : Task) → p < length tasks → x ≡ get_or tasks p x → Fits cpus change → IsCounted cpus queue tasks → MayTurn p queue (standing_of x) (standing_of (made time change x))
+pub place_may : (cpus : ℕ) (queue : RunQueue) (tasks : List Task) (p time : ℕ) (change : Change) (x : Task) → p < length tasks → x ≡ get_or tasks p x → Fits cpus change → IsCounted cpus queue tasks → MayTurn p queue (standing_of x) (standing_of (after_change time change x))
 place_may cpus queue tasks p time change x h read fits is =
-    subst (λ u. MayTurn p queue (standing_of u) (standing_of (made time change u))) (sym read) (may_turn cpus queue tasks p x (made time change (get_or tasks p x)) h (place_fit cpus queue tasks p time change x h fits is) is)
+    subst (λ u. MayTurn p queue (standing_of u) (standing_of (after_change time change u))) (sym read) (may_turn cpus queue tasks p x (after_change time change (get_or tasks p x)) h (place_fit cpus queue tasks p time change x h fits is) is)
 
-pub place_counted : (cpus : ℕ) (queue new : RunQueue) (tasks : List Task) (p time : ℕ) (change : Change) (x y : Task) → p < length tasks → x ≡ get_or tasks p x → Fits cpus change → y ≡ made time change x → HasTurned p (standing_of x) (standing_of y) queue new → IsCounted cpus queue tasks → IsCounted cpus new (set tasks p y)
+pub place_counted : (cpus : ℕ) (queue new : RunQueue) (tasks : List Task) (p time : ℕ) (change : Change) (x y : Task) → p < length tasks → x ≡ get_or tasks p x → Fits cpus change → y ≡ after_change time change x → HasTurned p (standing_of x) (standing_of y) queue new → IsCounted cpus queue tasks → IsCounted cpus new (set tasks p y)
 place_counted cpus queue new tasks p time change x y h read fits is has counted =
-    let fit : IsFit cpus (get_or tasks p x) y = subst (IsFit cpus (get_or tasks p x)) (sym (is ∙ ap (made time change) read)) (place_fit cpus queue tasks p time change x h fits counted) in
+    let fit : IsFit cpus (get_or tasks p x) y = subst (IsFit cpus (get_or tasks p x)) (sym (is ∙ ap (after_change time change) read)) (place_fit cpus queue tasks p time change x h fits counted) in
     turned cpus queue new tasks p x y h fit (subst (λ u. HasTurned p (standing_of u) (standing_of y) queue new) read has) counted
 
 -- ---- parts 1 to 3

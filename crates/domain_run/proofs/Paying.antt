@@ -10,7 +10,7 @@ use Rattle.std.proofs.lemmas.Option.{slice_get_within}
 use Rattle.std.proofs.Math.Nat.{div-le_of_le-mul}
 use Rattle.attr_check.specs.ParamsView.{ParamsView}
 use Rattle.attr_check.specs.Ratio.{unit, cap}
-use Rattle.grub_rules.specs.Rate.{div_up, taken}
+use Rattle.grub_rules.specs.Rate.{div_up, charged_bw}
 use Rattle.grub_rules.specs.Rate as reclaiming
 use Rattle.grub_rules.proofs.Rating.{taken_is, used_most}
 use Rattle.edf_pick.specs.Places.{Places, stands}
@@ -25,7 +25,7 @@ use Rattle.domain_run.specs.Bounds.{IsNear}
 use Rattle.domain_run.specs.Parts.{went_on}
 use Rattle.domain_run.specs.Tick.{sum_of, rate_of, prepared, begun, ticks}
 use Rattle.domain_run.specs.Sound.{IsTimed, IsSound, IsSteady, IsPlacement, IsDomain, IsSwitch, IsAdmitted}
-use Rattle.domain_run.specs.Jump.{under_way, standing, running_of, running_if, running, quiet, IsCharged, AreCharged}
+use Rattle.domain_run.specs.Jump.{under_way, running_numbers, running_of, running_if, running, ticks_to_event, IsCharged, AreCharged}
 use Rattle.domain_run.specs.private.Paying.{ran_until, index_of, paid_at, paid, MayPay, MayPayIf}
 use Rattle.domain_run.proofs.Keeping.{Same, same_itself, same_either, AllPairs-map, sum-map}
 use Rattle.domain_run.proofs.Placing.{running_ready}
@@ -37,23 +37,23 @@ use Rattle.domain_run.proofs.Tracing.{AreStanding, tick_traced}
 -- ---- who runs
 
 -- a task stands on a CPU where it is among those that stand
-stands_among : (number : ℕ) (places : Places) → stands number places ≡ list_any (λ n. eqb n number) (standing places)
+stands_among : (number : ℕ) (places : Places) → stands number places ≡ list_any (λ n. eqb n number) (running_numbers places)
 stands_among number [] = refl
 stands_among number (None ∷ places) = stands_among number places
 stands_among number (Some n ∷ places) = ap (λ b. eqb n number || b) (stands_among number places)
 
 -- the i-th of those that stand
 record IsThere (places : Places) (number i : ℕ) : Type 0 where
-  pub at : slice_get (standing places) i ≡ Some number
+  pub at : slice_get (running_numbers places) i ≡ Some number
   pub stands_there : stands number places ≡ true
 
-there : (places : Places) (number i : ℕ) → position (λ n. eqb n number) (standing places) ≡ Some i → IsThere places number i
+there : (places : Places) (number i : ℕ) → position (λ n. eqb n number) (running_numbers places) ≡ Some i → IsThere places number i
 there places number i e =
     let p : ℕ → Bool = λ n. eqb n number in
-    let at = first_passes p (standing places) i (sym (first_is p (standing places)) ∙ e) in
+    let at = first_passes p (running_numbers places) i (sym (first_is p (running_numbers places)) ∙ e) in
     record {
       at = at.1 ∙ ap (λ n. Some n) (eqb-true at.0 number at.2);
-      stands_there = stands_among number places ∙ found p (standing places) i at.0 at.1 at.2;
+      stands_there = stands_among number places ∙ found p (running_numbers places) i at.0 at.1 at.2;
     }
   where
     found : (p : ℕ → Bool) (xs : List ℕ) (i x : ℕ) → slice_get xs i ≡ Some x → p x ≡ true → list_any p xs ≡ true
@@ -61,10 +61,10 @@ there places number i e =
     found p (y ∷ xs) zero x e is = let same : y ≡ x = cc in rw (ap p same ∙ is) refl
     found p (y ∷ xs) (suc i) x e is = elim (p y) as (λ b. (b || list_any p xs) ≡ true) [ true ↦ refl | false ↦ found p xs i x e is ]
 
-nowhere : (places : Places) (number : ℕ) → position (λ n. eqb n number) (standing places) ≡ None → stands number places ≡ false
+nowhere : (places : Places) (number : ℕ) → position (λ n. eqb n number) (running_numbers places) ≡ None → stands number places ≡ false
 nowhere places number e =
     let p : ℕ → Bool = λ n. eqb n number in
-    stands_among number places ∙ first_none p (standing places) (sym (first_is p (standing places)) ∙ e)
+    stands_among number places ∙ first_none p (running_numbers places) (sym (first_is p (running_numbers places)) ∙ e)
 
 -- a number finds its task
 pub find_here : (tasks : List Task) (k : ℕ) (d : Task) → AllPairs (λ a b. a.number ≢ b.number) tasks → k < length tasks → find (λ t. eqb t.number (get_or tasks k d).number) tasks ≡ Some (get_or tasks k d)
@@ -77,10 +77,10 @@ find_here (t ∷ tasks) (suc k) d numbered h =
     ap (λ b. cond b (Some t) (find (λ v. eqb v.number u.number) tasks)) other ∙ find_here tasks k d rest (omega (arith, h))
 
 -- the i-th running task is that task
-running_there : (e : Domain) (k i : ℕ) (d : Task) → AllPairs (λ a b. a.number ≢ b.number) e.tasks → k < length e.tasks → index_of (standing e.places) (get_or e.tasks k d) ≡ Some i → running e i ≡ Some (running_of e (get_or e.tasks k d))
+running_there : (e : Domain) (k i : ℕ) (d : Task) → AllPairs (λ a b. a.number ≢ b.number) e.tasks → k < length e.tasks → index_of (running_numbers e.curr) (get_or e.tasks k d) ≡ Some i → running e i ≡ Some (running_of e (get_or e.tasks k d))
 running_there e k i d numbered h at =
     let t = get_or e.tasks k d in
-    ap (running_if e) (there e.places t.number i at).at ∙ ap (option_map (running_of e)) (find_here e.tasks k d numbered h)
+    ap (running_if e) (there e.curr t.number i at).at ∙ ap (option_map (running_of e)) (find_here e.tasks k d numbered h)
 
 pub is_Ready : (c : Condition) → IsTrue (is_ready c) → c ≡ Ready
 is_Ready Ready h = refl
@@ -91,15 +91,15 @@ is_Ready Leaving h = absurd cc
 
 -- ---- what is told of the budgets, task by task
 
-charged_there : (e : Domain) (ticks : ℕ) (budgets : List ℤ) (k i : ℕ) (d : Task) → AllPairs (λ a b. a.number ≢ b.number) e.tasks → AreCharged e ticks budgets → k < length e.tasks → index_of (standing e.places) (get_or e.tasks k d) ≡ Some i → IsCharged e ticks (running_of e (get_or e.tasks k d)) (slice_index_or budgets i (pos 0))
+charged_there : (e : Domain) (ticks : ℕ) (budgets : List ℤ) (k i : ℕ) (d : Task) → AllPairs (λ a b. a.number ≢ b.number) e.tasks → AreCharged e ticks budgets → k < length e.tasks → index_of (running_numbers e.curr) (get_or e.tasks k d) ≡ Some i → IsCharged e ticks (running_of e (get_or e.tasks k d)) (slice_index_or budgets i (pos 0))
 charged_there e ticks budgets k i d numbered are h at = are.each i (running_of e (get_or e.tasks k d)) (running_there e k i d numbered h at)
 
 -- a task that stands runs on until the last tick
 runs_each : (e : Domain) (ticks : ℕ) (budgets : List ℤ) → AllPairs (λ a b. a.number ≢ b.number) e.tasks → IsPlacement e → AreCharged e ticks budgets → All (RunsIf e ticks) e.tasks
-runs_each e ticks budgets numbered placed are k d h = by_index (index_of (standing e.places) (get_or e.tasks k d)) refl
+runs_each e ticks budgets numbered placed are k d h = by_index (index_of (running_numbers e.curr) (get_or e.tasks k d)) refl
   where
-    by_index : (o : Option ℕ) → index_of (standing e.places) (get_or e.tasks k d) ≡ o → RunsIf e ticks (get_or e.tasks k d)
-    by_index None at stand = let no : true ≡ false = sym stand ∙ nowhere e.places (get_or e.tasks k d).number at in absurd cc
+    by_index : (o : Option ℕ) → index_of (running_numbers e.curr) (get_or e.tasks k d) ≡ o → RunsIf e ticks (get_or e.tasks k d)
+    by_index None at stand = let no : true ≡ false = sym stand ∙ nowhere e.curr (get_or e.tasks k d).number at in absurd cc
     by_index (Some i) at stand =
         let t = get_or e.tasks k d in
         let is = charged_there e ticks budgets k i d numbered are h at in
@@ -107,25 +107,25 @@ runs_each e ticks budgets numbered placed are k d h = by_index (index_of (standi
 
 -- and has the budget that is told
 paid_each : (e : Domain) (time ticks : ℕ) (budgets : List ℤ) → AllPairs (λ a b. a.number ≢ b.number) e.tasks → AreCharged e ticks budgets
-    → All (λ t. paid time (standing e.places) ticks budgets t ≡ cond (stands t.number e.places) (ran_until time ticks (t.server.left -ℤ pos (rate_of e t * ticks)) t) t) e.tasks
-paid_each e time ticks budgets numbered are k d h = by_index (index_of (standing e.places) (get_or e.tasks k d)) refl
+    → All (λ t. paid time (running_numbers e.curr) ticks budgets t ≡ cond (stands t.number e.curr) (ran_until time ticks (t.server.left -ℤ pos (rate_of e t * ticks)) t) t) e.tasks
+paid_each e time ticks budgets numbered are k d h = by_index (index_of (running_numbers e.curr) (get_or e.tasks k d)) refl
   where
-    by_index : (o : Option ℕ) → index_of (standing e.places) (get_or e.tasks k d) ≡ o
-        → paid_at time ticks budgets o (get_or e.tasks k d) ≡ cond (stands (get_or e.tasks k d).number e.places) (ran_until time ticks ((get_or e.tasks k d).server.left -ℤ pos (rate_of e (get_or e.tasks k d) * ticks)) (get_or e.tasks k d)) (get_or e.tasks k d)
+    by_index : (o : Option ℕ) → index_of (running_numbers e.curr) (get_or e.tasks k d) ≡ o
+        → paid_at time ticks budgets o (get_or e.tasks k d) ≡ cond (stands (get_or e.tasks k d).number e.curr) (ran_until time ticks ((get_or e.tasks k d).server.left -ℤ pos (rate_of e (get_or e.tasks k d) * ticks)) (get_or e.tasks k d)) (get_or e.tasks k d)
     by_index None at =
         let t = get_or e.tasks k d in
-        sym (ap (λ b. cond b (ran_until time ticks (t.server.left -ℤ pos (rate_of e t * ticks)) t) t) (nowhere e.places t.number at))
+        sym (ap (λ b. cond b (ran_until time ticks (t.server.left -ℤ pos (rate_of e t * ticks)) t) t) (nowhere e.curr t.number at))
     by_index (Some i) at =
         let t = get_or e.tasks k d in
         let is = charged_there e ticks budgets k i d numbered are h at in
         ap (λ left. ran_until time ticks left t) is.charged
-        ∙ sym (ap (λ b. cond b (ran_until time ticks (t.server.left -ℤ pos (rate_of e t * ticks)) t) t) (there e.places t.number i at).stands_there)
+        ∙ sym (ap (λ b. cond b (ran_until time ticks (t.server.left -ℤ pos (rate_of e t * ticks)) t) t) (there e.curr t.number i at).stands_there)
 
 -- ---- ranges
 
 rate_slow : (p : ParamsView) (inactive sum cpus limit : ℕ) → p.bw ≤ 2 ^ 20 → IsLimit limit → sum ≤ cap cpus limit → reclaiming.rate p inactive sum cpus limit ≤ 2 ^ 32
 rate_slow p inactive sum cpus limit small is within =
-    let t = unsigned_abs (taken p inactive sum cpus limit) in
+    let t = unsigned_abs (charged_bw p inactive sum cpus limit) in
     let most : t ≤ 2 ^ 20 = omega (arith, taken_is p inactive sum cpus limit, small, used_most sum cpus limit within, is.1) in
     let q : div_up (t * unit) limit ≤ 2 ^ 27 = div-le_of_le-mul limit (omega (arith, most, is.0, is.1)) in
     elim p.reclaim as (λ b. cond b (max 1 (div_up (t * unit) limit)) unit ≤ 2 ^ 32) [ true ↦ omega (arith, q) | false ↦ omega arith ]
@@ -139,19 +139,19 @@ low_of : (left budget : ℤ) (rate ticks : ℕ) → 0 < ticks → rate ≤ 2 ^ 3
 low_of left budget rate zero some slow lasted is = absurd (omega (arith, some))
 low_of left budget rate (suc j) some slow lasted is = let same : suc j - 1 ≡ j = omega arith in low_by left budget rate j slow (subst (λ n. pos (rate * n) <ℤ left) same lasted) is
 
-pub may_pay : (e : Domain) (ticks : ℕ) (budgets : List ℤ) → IsSteady e → IsPlacement e → 0 < ticks → AreCharged e ticks budgets → All (MayPayIf (standing e.places) ticks budgets) e.tasks
-may_pay e ticks budgets steady placed some are k d h = by_index (index_of (standing e.places) (get_or e.tasks k d)) refl
+pub may_pay : (e : Domain) (ticks : ℕ) (budgets : List ℤ) → IsSteady e → IsPlacement e → 0 < ticks → AreCharged e ticks budgets → All (MayPayIf (running_numbers e.curr) ticks budgets) e.tasks
+may_pay e ticks budgets steady placed some are k d h = by_index (index_of (running_numbers e.curr) (get_or e.tasks k d)) refl
   where
-    by_index : (o : Option ℕ) → index_of (standing e.places) (get_or e.tasks k d) ≡ o → IfSome o (MayPay ticks budgets (get_or e.tasks k d))
+    by_index : (o : Option ℕ) → index_of (running_numbers e.curr) (get_or e.tasks k d) ≡ o → IfSome o (MayPay ticks budgets (get_or e.tasks k d))
     by_index None at = tt
     by_index (Some i) at =
         let t = get_or e.tasks k d in
         let is = charged_there e ticks budgets k i d steady.numbered are h at in
-        let here = there e.places t.number i at in
+        let here = there e.curr t.number i at in
         let sound : IsSound e.time t = steady.sound k d h in
         record {
           ready = running_ready e steady.numbered placed k d h here.stands_there;
-          within = omega (arith, slice_get_within (standing e.places) i t.number here.at, are.many);
+          within = omega (arith, slice_get_within (running_numbers e.curr) i t.number here.at, are.many);
           worked = is.worked;
           low = λ small. low_of t.server.left (slice_index_or budgets i (pos 0)) (rate_of e t) ticks some (rate_slow t.params _ (sum_of e.tasks) e.cpus e.limit small steady.limit steady.within) is.lasted is.charged;
           high = omega (arith, ints, is.charged, sound.served.high);
@@ -159,16 +159,16 @@ may_pay e ticks budgets steady placed some are k d h = by_index (index_of (stand
 
 -- ---- THE JUMP, as the code has it
 
-pub paid_is : (d : Domain) (k : ℕ) (budgets : List ℤ) (time : ℕ) (tasks : List Task) → IsSteady (under_way d) → IsPlacement (under_way d) → 0 < k → k ≤ quiet (under_way d) → AreCharged (under_way d) k budgets
-    → time ≡ (under_way d).time + (k - 1) → tasks ≡ map (paid time (standing (under_way d).places) k budgets) (under_way d).tasks
+pub paid_is : (d : Domain) (k : ℕ) (budgets : List ℤ) (time : ℕ) (tasks : List Task) → IsSteady (under_way d) → IsPlacement (under_way d) → 0 < k → k ≤ ticks_to_event (under_way d) → AreCharged (under_way d) k budgets
+    → time ≡ (under_way d).time + (k - 1) → tasks ≡ map (paid time (running_numbers (under_way d).curr) k budgets) (under_way d).tasks
     → record (under_way d) { time = time; tasks = tasks } ≡ ticks k d
 paid_is d k budgets time tasks steady placed some quiet-is are time-is tasks-are =
     let e = under_way d in
     let b = begun d in
     let at : time ≡ d.time + k = omega (arith, time-is, some) in
     let runs : All (RunsIf b k) b.tasks = λ i x h stand. let r = runs_each e k budgets steady.numbered placed are i x h stand in record { ready = r.ready; worked = r.worked; lasted = r.lasted } in
-    let alike : map (paid time (standing e.places) k budgets) e.tasks ≡ map (jumped b k) b.tasks =
-    map_alike (paid time (standing e.places) k budgets) (jumped b k) b.tasks (λ i x h. paid_each e time k budgets steady.numbered are i x h ∙ ap (λ n. let t = get_or b.tasks i x in cond (stands t.number b.places) (ran_until n k (t.server.left -ℤ pos (rate_of b t * k)) t) t) at) in
+    let alike : map (paid time (running_numbers e.curr) k budgets) e.tasks ≡ map (jumped b k) b.tasks =
+    map_alike (paid time (running_numbers e.curr) k budgets) (jumped b k) b.tasks (λ i x h. paid_each e time k budgets steady.numbered are i x h ∙ ap (λ n. let t = get_or b.tasks i x in cond (stands t.number b.curr) (ran_until n k (t.server.left -ℤ pos (rate_of b t * k)) t) t) at) in
     let all = tasks-are ∙ alike in
     (λ i. record e { time = at i; tasks = all i }) ∙ sym (jump_is d k some (omega (arith, quiet-is)) runs)
 
@@ -243,7 +243,7 @@ later_is e f time tasks is same later early e-tasks sound =
 
 -- ---- a tick that has begun
 
-standing_from : (e : Domain) → IsSteady e → IsPlacement e → AreStanding e.used e.places
+standing_from : (e : Domain) → IsSteady e → IsPlacement e → AreStanding e.used e.curr
 standing_from e is at cpu n h = stand_by (at.running cpu n h)
   where
     stand_by : Any (λ t. (t.number ≡ n) × (t.cpu ≡ cpu) × IsTrue (is_ready t.condition) × (pos 0 <ℤ t.server.left)) e.tasks → IsAdmitted e.used n
@@ -267,7 +267,7 @@ under_way_is d is early sound =
           wide = s.wide;
           apart = s.apart;
         };
-        traced = tick_traced d (prepared d.time d.tasks) (begun d).tasks (begun d).places is.steady.wide is.traced (standing_from (begun d) s keeps.1);
+        traced = tick_traced d (prepared d.time d.tasks) (begun d).tasks (begun d).curr is.steady.wide is.traced (standing_from (begun d) s keeps.1);
       },
       record { running = keeps.1.running; apart = keeps.1.apart },
     )

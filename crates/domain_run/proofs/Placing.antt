@@ -9,7 +9,7 @@ use Rattle.std.proofs.lemmas.List.Sums.{position_or_len_is}
 use Rattle.domain_run.specs.declared.task.Task.{Task}
 use Rattle.edf_pick.specs.Places.{Places, is_task, stands}
 use Rattle.domain_run.specs.Conditions.{is_ready}
-use Rattle.domain_run.specs.Parts.{homed, homed_at}
+use Rattle.domain_run.specs.Parts.{with_last_cpu, with_cpu}
 use Rattle.domain_run.specs.Domain.{Domain}
 use Rattle.domain_run.specs.Tick.{candidate_of, candidates, with_places}
 use Rattle.domain_run.specs.Sound.{occupant, IsApart, IsSound, IsPlacement}
@@ -59,19 +59,19 @@ position_at places cpu n apart e =
     ] refl in
     rw (position_or_len_is (is_task n) places cpu None (omega arith) before (λ h. task_is n (occupant places cpu) e), lt-ltb cpu (length places) within) refl
 
-homed_condition : (o : Option ℕ) (t : Task) → (homed_at o t).condition ≡ t.condition
+homed_condition : (o : Option ℕ) (t : Task) → (with_cpu o t).condition ≡ t.condition
 homed_condition None t = refl
 homed_condition (Some cpu) t = refl
 
-homed_server : (o : Option ℕ) (t : Task) → (homed_at o t).server ≡ t.server
+homed_server : (o : Option ℕ) (t : Task) → (with_cpu o t).server ≡ t.server
 homed_server None t = refl
 homed_server (Some cpu) t = refl
 
-pub homed_number : (o : Option ℕ) (t : Task) → (homed_at o t).number ≡ t.number
+pub homed_number : (o : Option ℕ) (t : Task) → (with_cpu o t).number ≡ t.number
 homed_number None t = refl
 homed_number (Some cpu) t = refl
 
-pub homed_params : (o : Option ℕ) (t : Task) → (homed_at o t).params ≡ t.params
+pub homed_params : (o : Option ℕ) (t : Task) → (with_cpu o t).params ≡ t.params
 homed_params None t = refl
 homed_params (Some cpu) t = refl
 
@@ -80,7 +80,7 @@ some_below true k cpu e = (refl, cc)
 some_below false k cpu e = absurd cc
 
 -- a placed task's CPU is one of the domain's
-pub homed_cpu : (cpus : ℕ) (o : Option ℕ) (t : Task) → ((cpu : ℕ) → o ≡ Some cpu → cpu < cpus) → t.cpu < cpus → (homed_at o t).cpu < cpus
+pub homed_cpu : (cpus : ℕ) (o : Option ℕ) (t : Task) → ((cpu : ℕ) → o ≡ Some cpu → cpu < cpus) → t.cpu < cpus → (with_cpu o t).cpu < cpus
 homed_cpu cpus None t within h = h
 homed_cpu cpus (Some cpu) t within h = within cpu refl
 
@@ -102,10 +102,10 @@ past_all n (o ∷ places) e =
     let none = or_parts (is_task n o) (stands n places) e in
     rw none.0 (omega (arith, past_all n places none.1))
 
-pub homed_nowhere : (places : Places) (t : Task) → stands t.number places ≡ false → homed places t ≡ t
+pub homed_nowhere : (places : Places) (t : Task) → stands t.number places ≡ false → with_last_cpu places t ≡ t
 homed_nowhere places t e =
     let at = position (is_task t.number) places in
-    elim at as (λ o. at ≡ o → homed_at o t ≡ t) [
+    elim at as (λ o. at ≡ o → with_cpu o t ≡ t) [
       | None ↦ λ h. refl
       | Some cpu ↦ λ h.
           let k = position_or_len (is_task t.number) places in
@@ -117,20 +117,20 @@ and_both true b e = (refl, e)
 and_both false b e = absurd cc
 
 placed_one : (time : ℕ) (tasks : List Task) (places : Places) (cpu n : ℕ) → All (IsSound time) tasks → position (is_task n) places ≡ Some cpu → Any (λ t. is_ready_number n t ≡ true) tasks
-    → Any (λ t. (t.number ≡ n) × (t.cpu ≡ cpu) × IsTrue (is_ready t.condition) × (pos 0 <ℤ t.server.left)) (map (homed places) tasks)
+    → Any (λ t. (t.number ≡ n) × (t.cpu ≡ cpu) × IsTrue (is_ready t.condition) × (pos 0 <ℤ t.server.left)) (map (with_last_cpu places) tasks)
 placed_one time tasks places cpu n sound at_cpu (k, t, within, same, test) =
     let both = and_both (eqb t.number n) (is_ready t.condition) test in
     let number : t.number ≡ n = eqb-true t.number n both.0 in
     let at : position (is_task t.number) places ≡ Some cpu = ap (λ m. position (is_task m) places) number ∙ at_cpu in
     let o = position (is_task t.number) places in
-    let homed_there : (homed places t).cpu ≡ cpu = ap (λ x. (homed_at x t).cpu) at in
+    let homed_there : (with_last_cpu places t).cpu ≡ cpu = ap (λ x. (with_cpu x t).cpu) at in
     let is_sound : IsSound time t = subst (IsSound time) same (sound k t within) in
     let left : pos 0 <ℤ t.server.left = is_sound.lifted both.1 in
-    let e : length (map (homed places) tasks) ≡ length tasks = simp length-map in (
+    let e : length (map (with_last_cpu places) tasks) ≡ length tasks = simp length-map in (
       k,
-      homed places t,
+      with_last_cpu places t,
       omega arith,
-      get_or-map (homed places) tasks k t (homed places t) within ∙ ap (homed places) same,
+      get_or-map (with_last_cpu places) tasks k t (with_last_cpu places t) within ∙ ap (with_last_cpu places) same,
       (homed_number o t ∙ number, homed_there, ap is_ready (homed_condition o t) ∙ both.1, subst (λ s. pos 0 <ℤ s.left) (sym (homed_server o t)) left),
     )
 
@@ -162,10 +162,10 @@ ready_one tasks i n t numbered h e (j, u, within, same, facts) =
     ap (λ (x : Task). is_ready x.condition) (ap (λ k. get_or tasks k t) i_is ∙ there_is) ∙ facts.1
 
 -- who stands on a CPU is ready
-pub running_ready : (d : Domain) → AllPairs (λ a b. a.number ≢ b.number) d.tasks → IsPlacement d → All (λ t. IsTrue (stands t.number d.places) → IsTrue (is_ready t.condition)) d.tasks
+pub running_ready : (d : Domain) → AllPairs (λ a b. a.number ≢ b.number) d.tasks → IsPlacement d → All (λ t. IsTrue (stands t.number d.curr) → IsTrue (is_ready t.condition)) d.tasks
 running_ready d numbered is i x within h =
     let n = (get_or d.tasks i x).number in
-    let at = stands_at n d.places (Any-from_list_any (is_task n) d.places h) in
+    let at = stands_at n d.curr (Any-from_list_any (is_task n) d.curr h) in
     ready_one d.tasks i n x numbered within refl (ready_there (is.running at.0 n at.1))
   where
     ready_there : {n cpu : ℕ} → Any (λ t. (t.number ≡ n) × (t.cpu ≡ cpu) × IsTrue (is_ready t.condition) × (pos 0 <ℤ t.server.left)) d.tasks → Any (λ t. (t.number ≡ n) × IsTrue (is_ready t.condition)) d.tasks

@@ -14,15 +14,15 @@ use Rattle.domain_run.specs.Domain.{Domain}
 use Rattle.domain_run.specs.Tick.{shares}
 use Rattle.domain_run.specs.Sound.{occupant, IsSound, IsSteady, IsPlacement}
 use Rattle.std.proofs.lemmas.Option.{same_Some, slice_get_within}
-use Rattle.domain_run.specs.Jump.{standing, running_of, running_if, running}
+use Rattle.domain_run.specs.Jump.{running_numbers, running_of, running_if, running}
 use Rattle.domain_run.proofs.Paying.{find_here}
 
-pub standing_few : (places : Places) → length (standing places) ≤ length places
+pub standing_few : (places : Places) → length (running_numbers places) ≤ length places
 standing_few [] = omega arith
 standing_few (None ∷ places) = omega (arith, standing_few places)
 standing_few (Some n ∷ places) = omega (arith, standing_few places)
 
-pub standing_occupies : (places : Places) (i n : ℕ) → slice_get (standing places) i ≡ Some n → (cpu : ℕ) × (occupant places cpu ≡ Some n)
+pub standing_occupies : (places : Places) (i n : ℕ) → slice_get (running_numbers places) i ≡ Some n → (cpu : ℕ) × (occupant places cpu ≡ Some n)
 standing_occupies [] i n e = absurd cc
 standing_occupies (None ∷ places) i n e = let there = standing_occupies places i n e in (suc there.0, there.1)
 standing_occupies (Some m ∷ places) zero n e = (0, e)
@@ -45,9 +45,9 @@ contends Waiting h = absurd cc
 contends Leaving h = absurd cc
 
 -- who stands on a CPU may run
-pub runner : (e : Domain) (i n : ℕ) → IsSteady e → IsPlacement e → slice_get (standing e.places) i ≡ Some n → IsRunner e n
+pub runner : (e : Domain) (i n : ℕ) → IsSteady e → IsPlacement e → slice_get (running_numbers e.curr) i ≡ Some n → IsRunner e n
 runner e i n steady placed at =
-    let there = standing_occupies e.places i n at in
+    let there = standing_occupies e.curr i n at in
     by_task (placed.running there.0 n there.1)
   where
     by_task : {cpu : ℕ} → Any (λ t. (t.number ≡ n) × (t.cpu ≡ cpu) × IsTrue (is_ready t.condition) × (pos 0 <ℤ t.server.left)) e.tasks → IsRunner e n
@@ -71,30 +71,30 @@ inactive_short e cpu steady =
 -- the i-th running task, as it was found
 pub record IsRunning (e : Domain) (i : ℕ) (t : Task) : Type 0 where
   pub is : running e i ≡ Some (running_of e t)
-  pub there : i < length (standing e.places)
+  pub there : i < length (running_numbers e.curr)
   pub home : t.cpu < e.cpus
   pub busy : 0 < t.work
   pub lifted : pos 0 <ℤ t.server.left
   pub high : t.server.left ≤ℤ pos (2 ^ 52)
 
-pub found_running : (e : Domain) (i n : ℕ) (t : Task) → IsSteady e → IsPlacement e → Some n ≡ slice_get (standing e.places) i → Some t ≡ find (λ u. eqb u.number n) e.tasks → IsRunning e i t
+pub found_running : (e : Domain) (i n : ℕ) (t : Task) → IsSteady e → IsPlacement e → Some n ≡ slice_get (running_numbers e.curr) i → Some t ≡ find (λ u. eqb u.number n) e.tasks → IsRunning e i t
 found_running e i n t steady placed at found =
     let r = runner e i n steady placed (sym at) in
     let same : r.task ≡ t = same_Some r.task t (sym r.found ∙ sym found) in
     record {
       is = ap (running_if e) (sym at) ∙ ap (option_map (running_of e)) (sym found);
-      there = slice_get_within (standing e.places) i n (sym at);
+      there = slice_get_within (running_numbers e.curr) i n (sym at);
       home = subst (λ (x : Task). x.cpu < e.cpus) same r.home;
       busy = subst (λ (x : Task). 0 < x.work) same r.busy;
       lifted = subst (λ (x : Task). pos 0 <ℤ x.server.left) same r.lifted;
       high = subst (λ (x : Task). x.server.left ≤ℤ pos (2 ^ 52)) same r.high;
     }
 
-pub never_lost : (e : Domain) (i n : ℕ) → IsSteady e → IsPlacement e → Some n ≡ slice_get (standing e.places) i → None ≡ find (λ u. eqb u.number n) e.tasks → ⊥
+pub never_lost : (e : Domain) (i n : ℕ) → IsSteady e → IsPlacement e → Some n ≡ slice_get (running_numbers e.curr) i → None ≡ find (λ u. eqb u.number n) e.tasks → ⊥
 never_lost e i n steady placed at lost =
     let r = runner e i n steady placed (sym at) in
     let no : None ≡ Some r.task = lost ∙ r.found in
     absurd cc
 
-pub standing_short : (e : Domain) → IsSteady e → length (standing e.places) ≤ 64
-standing_short e steady = omega (arith, standing_few e.places, steady.wide, steady.cpus.1)
+pub standing_short : (e : Domain) → IsSteady e → length (running_numbers e.curr) ≤ 64
+standing_short e steady = omega (arith, standing_few e.curr, steady.wide, steady.cpus.1)

@@ -4,7 +4,7 @@ use Rattle.std.specs.Prelude.{ℤ, pos, neg_ℤ, ◌≤ℤ◌, IfSome}
 use Rattle.std.proofs.lemmas.Int.{ints}
 use Rattle.attr_check.specs.ParamsView.{ParamsView, IsOrdered}
 use Rattle.cbs_rules.specs.declared.server.Server.{Server}
-use Rattle.cbs_rules.specs.Serving.{renewed, is_outlived, woken_at, woken}
+use Rattle.cbs_rules.specs.Serving.{renewed, overflows, woken_at, woken}
 use Rattle.domain_run.specs.Bounds.{IsServed}
 
 renewed_served : (p : ParamsView) (time : ℕ) → IsOrdered p → IsServed time (renewed p time)
@@ -17,7 +17,7 @@ renewed_served p time o =
 at_served : (p : ParamsView) (time : ℕ) (d : Option ℕ) (left : ℤ) → IsOrdered p → IfSome d (λ x. x ≤ time + 2 ^ 45) → neg_ℤ (pos (2 ^ 32)) ≤ℤ left → left ≤ℤ pos (2 ^ 52) → IsServed time (woken_at p time d left)
 at_served p time None left o near low high = renewed_served p time o
 at_served p time (Some d) left o near low high =
-    elim (is_outlived p time d left) as (λ b. IsServed time (cond b (renewed p time) (record { deadline = Some d; left = left }))) [
+    elim (overflows p time d left) as (λ b. IsServed time (cond b (renewed p time) (record { deadline = Some d; left = left }))) [
       | true ↦ renewed_served p time o
       | false ↦ record { near = near; low = low; high = high }
     ]

@@ -8,7 +8,7 @@ use Rattle.std.proofs.lemmas.List.Kept.{AllPairs-filter}
 use Rattle.attr_check.specs.Ratio.{cap}
 use Rattle.domain_run.specs.declared.task.Task.{Task}
 use Rattle.edf_pick.specs.Places.{Places, is_task, stands, placed}
-use Rattle.domain_run.specs.Parts.{replenish_due, settled, is_listed, unblocked, homed, homed_at}
+use Rattle.domain_run.specs.Parts.{replenish_due, settled, is_listed, unblocked, with_last_cpu, with_cpu}
 use Rattle.domain_run.specs.declared.switch.Switch.{Switch}
 use Rattle.domain_run.specs.Switches.{switches_from}
 use Rattle.domain_run.specs.Domain.{Domain}
@@ -55,10 +55,10 @@ listed_filter d p tasks is = record {
   known = All-filter p (λ t. IsTrue (list_any (λ n. eqb n t.number) d.used)) tasks is.known;
 }
 
-listed_homed : (d : Domain) (places : Places) (tasks : List Task) → length places ≡ d.cpus → AreListed d tasks → AreListed d (map (homed places) tasks)
+listed_homed : (d : Domain) (places : Places) (tasks : List Task) → length places ≡ d.cpus → AreListed d tasks → AreListed d (map (with_last_cpu places) tasks)
 listed_homed d places tasks wide is =
-    listed_by d (homed places) tasks (λ t. homed_number (position (is_task t.number) places) t) (λ t. homed_params (position (is_task t.number) places) t)
-    (All-weaker (λ t. t.cpu < d.cpus) (λ t. (homed places t).cpu < d.cpus) (λ t h. homed_cpu d.cpus (position (is_task t.number) places) t (λ cpu e. subst (λ n. cpu < n) wide (position_within t.number places cpu e)) h) tasks is.homes)
+    listed_by d (with_last_cpu places) tasks (λ t. homed_number (position (is_task t.number) places) t) (λ t. homed_params (position (is_task t.number) places) t)
+    (All-weaker (λ t. t.cpu < d.cpus) (λ t. (with_last_cpu places t).cpu < d.cpus) (λ t h. homed_cpu d.cpus (position (is_task t.number) places) t (λ cpu e. subst (λ n. cpu < n) wide (position_within t.number places cpu e)) h) tasks is.homes)
     is
 
 pub listed_of : (d : Domain) → IsSteady d → AreListed d d.tasks
@@ -71,15 +71,15 @@ listed_prepared d is =
     let c = listed_filter d is_listed (map (settled d.time) (map (replenish_due d.time) d.tasks)) b in
     listed_map d (unblocked d.time) (filter is_listed (map (settled d.time) (map (replenish_due d.time) d.tasks))) (same_unblocked d.time) c
 
-pub homed_sound : (time : ℕ) (o : Option ℕ) (t : Task) → IsSound time t → IsSound time (homed_at o t)
+pub homed_sound : (time : ℕ) (o : Option ℕ) (t : Task) → IsSound time t → IsSound time (with_cpu o t)
 homed_sound time None t h = h
 homed_sound time (Some cpu) t h = record { served = h.served; spent = h.spent; lifted = h.lifted; dated = h.dated; busy = h.busy; timed = h.timed }
 
 pub begun_is : (d : Domain) → IsSteady d → All (IsSound d.time) (prepared d.time d.tasks) → IsSteady (begun d) × IsPlacement (begun d)
 begun_is d is sound =
     let tasks = prepared d.time d.tasks in
-    let seating = placed_is d.cpus (candidates tasks) d.places is.wide is.apart in
-    let places = placed d.cpus (candidates tasks) d.places in
+    let seating = placed_is d.cpus (candidates tasks) d.curr is.wide is.apart in
+    let places = placed d.cpus (candidates tasks) d.curr in
     let l = listed_homed d places tasks seating.wide (listed_prepared d is) in (
       record {
         early = is.early;
@@ -87,7 +87,7 @@ begun_is d is sound =
         limit = is.limit;
         within = l.within;
         listed = l.listed;
-        sound = All-map (IsSound d.time) (homed places) tasks (All-weaker (IsSound d.time) (λ t. IsSound d.time (homed places t)) (λ t h. homed_sound d.time (position (is_task t.number) places) t h) tasks sound);
+        sound = All-map (IsSound d.time) (with_last_cpu places) tasks (All-weaker (IsSound d.time) (λ t. IsSound d.time (with_last_cpu places t)) (λ t h. homed_sound d.time (position (is_task t.number) places) t h) tasks sound);
         homes = l.homes;
         numbered = l.numbered;
         known = l.known;
@@ -98,7 +98,7 @@ begun_is d is sound =
     )
 
 pub same_ran_if : (d : Domain) (t : Task) → Same t (ran_if d t)
-same_ran_if d t = same_either (stands t.number d.places) t _ t (same_ran d.time _ t) (same_itself t)
+same_ran_if d t = same_either (stands t.number d.curr) t _ t (same_ran d.time _ t) (same_itself t)
 
 pub finished_is : (d : Domain) → IsSteady d → d.time < 2 ^ 42 → All (IsSound (d.time + 1)) (map (ran_if d) d.tasks) → IsSteady (finished d)
 finished_is d is early sound =
@@ -125,18 +125,18 @@ pub record IsMiddle (d e : Domain) : Type 0 where
   pub placed : IsPlacement e
 
 pub middle : (d : Domain) (tasks : List Task) (places : Places) (switches : List Switch) → IsDomain d → All (IsSound d.time) (prepared d.time d.tasks)
-    → tasks ≡ map (homed places) (prepared d.time d.tasks) → places ≡ placed (length d.places) (candidates (prepared d.time d.tasks)) d.places → switches ≡ d.switches ++ switches_from d.time (prepared d.time d.tasks) 0 d.places places
-    → IsMiddle d (record d { tasks = tasks; places = places; switches = switches })
+    → tasks ≡ map (with_last_cpu places) (prepared d.time d.tasks) → places ≡ placed (length d.curr) (candidates (prepared d.time d.tasks)) d.curr → switches ≡ d.switches ++ switches_from d.time (prepared d.time d.tasks) 0 d.curr places
+    → IsMiddle d (record d { tasks = tasks; curr = places; switches = switches })
 middle d tasks places switches is sound tasks-are places-are switches-are =
-    let made : List Task → List Switch → Domain = λ ts ss. record d { tasks = ts; places = places; switches = ss } in
+    let made : List Task → List Switch → Domain = λ ts ss. record d { tasks = ts; curr = places; switches = ss } in
     let list = prepared d.time d.tasks in
-    let seated : places ≡ placed d.cpus (candidates list) d.places = places-are ∙ ap (λ n. placed n (candidates list) d.places) is.steady.wide in
-    let same : record d { tasks = tasks; places = places; switches = switches } ≡ begun d =
-    ap (λ ts. made ts switches) tasks-are ∙ ap (made (map (homed places) list)) switches-are ∙ ap (with_places d list) seated in
+    let seated : places ≡ placed d.cpus (candidates list) d.curr = places-are ∙ ap (λ n. placed n (candidates list) d.curr) is.steady.wide in
+    let same : record d { tasks = tasks; curr = places; switches = switches } ≡ begun d =
+    ap (λ ts. made ts switches) tasks-are ∙ ap (made (map (with_last_cpu places) list)) switches-are ∙ ap (with_places d list) seated in
     let keeps = begun_is d is.steady sound in
     record { begun_is = same; steady = subst IsSteady (sym same) keeps.0; placed = subst IsPlacement (sym same) keeps.1 }
 
-standing_from : (e : Domain) → IsSteady e → IsPlacement e → AreStanding e.used e.places
+standing_from : (e : Domain) → IsSteady e → IsPlacement e → AreStanding e.used e.curr
 standing_from e is at cpu n h = stand_by (at.running cpu n h)
   where
     stand_by : Any (λ t. (t.number ≡ n) × (t.cpu ≡ cpu) × IsTrue (is_ready t.condition) × (pos 0 <ℤ t.server.left)) e.tasks → IsAdmitted e.used n
@@ -147,7 +147,7 @@ ticked_is d is early ready sound =
     let keeps = begun_is d is.steady ready in
     record {
       steady = finished_is (begun d) keeps.0 early sound;
-      traced = tick_traced d (prepared d.time d.tasks) (ticked d).tasks (begun d).places is.steady.wide is.traced (standing_from (begun d) keeps.0 keeps.1);
+      traced = tick_traced d (prepared d.time d.tasks) (ticked d).tasks (begun d).curr is.steady.wide is.traced (standing_from (begun d) keeps.0 keeps.1);
     }
 
 -- what the code leaves is the tick

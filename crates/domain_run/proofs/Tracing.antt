@@ -92,24 +92,24 @@ AllPairs-append R xs ys first second across i j d less within =
       ]
     ]
 
-pub tick_traced : (d : Domain) (tasks ran : List Task) (places : Places) → length d.places ≡ d.cpus → IsTraced d → AreStanding d.used places
-    → IsTraced (record d { time = d.time + 1; tasks = ran; places = places; switches = d.switches ++ switches_from d.time tasks 0 d.places places })
+pub tick_traced : (d : Domain) (tasks ran : List Task) (places : Places) → length d.curr ≡ d.cpus → IsTraced d → AreStanding d.used places
+    → IsTraced (record d { time = d.time + 1; tasks = ran; curr = places; switches = d.switches ++ switches_from d.time tasks 0 d.curr places })
 tick_traced d tasks ran places wide is standing =
-    let more = switches_from d.time tasks 0 d.places places in
-    let here = here_all d.time tasks d.used 0 d.places places is.standing standing in
+    let more = switches_from d.time tasks 0 d.curr places in
+    let here = here_all d.time tasks d.used 0 d.curr places is.standing standing in
     let P = IsSwitch d.cpus (d.time + 1) d.used in
-    let Here = IsHere d.time 0 (0 + length d.places) d.used in
+    let Here = IsHere d.time 0 (0 + length d.curr) d.used in
     record {
       switches = All-append P d.switches more
           (All-weaker (IsSwitch d.cpus d.time d.used) P (λ s h. record { past = omega (arith, h.past); inside = h.inside; prev = h.prev; next = h.next }) d.switches is.switches)
           (All-weaker Here P (λ s h. record { past = omega (arith, h.at); inside = omega (arith, h.below, wide); prev = h.prev; next = h.next }) more here);
-      rising = AllPairs-append Rises d.switches more is.rising (rising_here d.time tasks d.used 0 d.places places is.standing standing)
+      rising = AllPairs-append Rises d.switches more is.rising (rising_here d.time tasks d.used 0 d.curr places is.standing standing)
           (λ i j x h k. before_time (get_or d.switches i x) (get_or more j x) (omega (arith, (is.switches i x h).past, (here j x k).at)));
       standing = standing;
     }
 
 -- a new number changes nothing of the switches
-pub listed_traced : (d e : Domain) → e.cpus ≡ d.cpus → e.time ≡ d.time → e.switches ≡ d.switches → e.places ≡ d.places → ((n : ℕ) → IsAdmitted d.used n → IsAdmitted e.used n) → IsTraced d → IsTraced e
+pub listed_traced : (d e : Domain) → e.cpus ≡ d.cpus → e.time ≡ d.time → e.switches ≡ d.switches → e.curr ≡ d.curr → ((n : ℕ) → IsAdmitted d.used n → IsAdmitted e.used n) → IsTraced d → IsTraced e
 listed_traced d e cpus time switches places grows is =
     let some : (o : Option ℕ) → IfSome o (IsAdmitted d.used) → IfSome o (IsAdmitted e.used) = elim [ None ↦ λ h. tt | Some n ↦ λ h. grows n h ] in
     record {

@@ -11,7 +11,7 @@ use Rattle.domain_run.specs.declared.script.Event.{Event}
 use Rattle.domain_run.specs.declared.script.Event.TheVariants.{Run, Sleep, Timer, Wait}
 use Rattle.domain_run.specs.script.ScriptView.{PhaseView, ScriptView, CursorView, IsPhase, IsScript, IsPlace, script_of, phase_len, round_len}
 use Rattle.domain_run.specs.script.Unrolled.{round_of, event_at}
-use Rattle.domain_run.specs.script.Segments.{Asked, begun_at, moved, given_by, given_at, is_late, answered, first_place, kept, asked, segments, GivesAsWritten}
+use Rattle.domain_run.specs.script.Segments.{Asked, begun_at, moved, given_by, given_at, is_late, answered, first_place, kept_cursor, asked, segments, GivesAsWritten}
 
 get_left : (xs ys : List Event) (i : ℕ) → i < length xs → slice_get (xs ++ ys) i ≡ slice_get xs i
 get_left [] ys i h = absurd (omega (arith, h))
@@ -142,9 +142,9 @@ at s place reference = record { script = s; place = place; reference = reference
 -- the same segment, and a cursor that is kept alike
 pub record SameAnswer (a b : Asked) : Type 0 where
   pub segment : a.segment ≡ b.segment
-  pub cursor : kept a.cursor ≡ kept b.cursor
+  pub cursor : kept_cursor a.cursor ≡ kept_cursor b.cursor
 
-kept_alike : (s : ScriptView) (i j reference : ℕ) → alike s i j → kept (at s i reference) ≡ kept (at s j reference)
+kept_alike : (s : ScriptView) (i j reference : ℕ) → alike s i j → kept_cursor (at s i reference) ≡ kept_cursor (at s j reference)
 kept_alike s i j reference e = ap (λ k. at s k reference) e
 
 given_by_alike : (s : ScriptView) (i j reference time : ℕ) (e : Option Event) → alike s i j → SameAnswer (given_by (at s i reference) time e) (given_by (at s j reference) time e)
@@ -158,7 +158,7 @@ given_alike : (s : ScriptView) → IsScript s → (i j reference time : ℕ) →
 given_alike s h i j reference time a =
     subst (λ e. SameAnswer (given_by (at s i reference) time e) (given_at (at s j reference) time)) (sym (alike_event s h i j a)) (given_by_alike s i j reference time (event_at s j) a)
 
-pub given_kept : (c : CursorView) (time : ℕ) → IsScript c.script → SameAnswer (given_at (kept c) time) (given_at c time)
+pub given_kept : (c : CursorView) (time : ℕ) → IsScript c.script → SameAnswer (given_at (kept_cursor c) time) (given_at c time)
 given_kept c time h = given_alike c.script h _ _ c.reference time (alike_first c.script c.place)
 
 answered_alike : (s : ScriptView) → IsScript s → (i j reference time : ℕ) → alike s i j → SameAnswer (answered (at s i reference) time) (answered (at s j reference) time)
@@ -182,16 +182,16 @@ answered_script c time =
       | false ↦ given_script c time (event_at c.script c.place)
     ]
 
-written : (times : List ℕ) (c : CursorView) → IsScript c.script → segments asked (kept c) times ≡ segments answered c times
+written : (times : List ℕ) (c : CursorView) → IsScript c.script → segments asked (kept_cursor c) times ≡ segments answered c times
 written [] c h = refl
 written (t ∷ ts) c h =
     let same = answered_alike c.script h _ _ c.reference t (alike_first c.script c.place) in
     let next = (answered c t).cursor in
     let rest = written ts next (subst IsScript (sym (answered_script c t)) h) in
-    ap (λ x. x ∷ segments asked (kept (answered (kept c) t).cursor) ts) same.segment
+    ap (λ x. x ∷ segments asked (kept_cursor (answered (kept_cursor c) t).cursor) ts) same.segment
     ∙ ap (λ xs. (answered c t).segment ∷ xs) (ap (λ k. segments asked k ts) same.cursor ∙ rest)
 
-pub begun_kept : (s : ScriptView) (start : ℕ) → kept (begun_at s start) ≡ begun_at s start
+pub begun_kept : (s : ScriptView) (start : ℕ) → kept_cursor (begun_at s start) ≡ begun_at s start
 begun_kept s start = ap (λ k. at s k start) (go s.rounds (round_len s)) where
   go : (rounds : Option ℕ) (round : ℕ) → first_place rounds round 0 ≡ 0
   go None round = zero-mod round
@@ -222,7 +222,7 @@ behind_short s n place h is short behind =
     omega (arith, all, behind)
 
 -- a cursor within the first round stands as it is kept
-pub kept_itself : (c : CursorView) → IsPlace c.script c.place → kept c ≡ c
+pub kept_itself : (c : CursorView) → IsPlace c.script c.place → kept_cursor c ≡ c
 kept_itself c within = ap (λ k. at c.script k c.reference) (go c.script.rounds (round_len c.script) within) where
   go : (rounds : Option ℕ) (round : ℕ) → MatchOption rounds (c.place < round) (λ n. c.place ≤ n * round) → first_place rounds round c.place ≡ c.place
   go None round within = mod-eq_of_lt within
@@ -234,7 +234,7 @@ place_at_first s h = go s.rounds (round_len s) (some_round s h) where
   go None round some = some
   go (Some n) round some = omega arith
 
-pub answered_late : (c : CursorView) (time : ℕ) → IsScript c.script → is_late (event_at c.script c.place) c.reference time ≡ true → SameAnswer (given_at (kept (moved c time)) time) (answered c time)
+pub answered_late : (c : CursorView) (time : ℕ) → IsScript c.script → is_late (event_at c.script c.place) c.reference time ≡ true → SameAnswer (given_at (kept_cursor (moved c time)) time) (answered c time)
 answered_late c time h late = rw late (given_kept (moved c time) time h)
 
 pub answered_due : (c : CursorView) (time : ℕ) → is_late (event_at c.script c.place) c.reference time ≡ false → SameAnswer (given_at c time) (answered c time)

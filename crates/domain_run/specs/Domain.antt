@@ -23,10 +23,10 @@ pub record Domain : Type 0 where
   -- the numbers ever admitted, in rising order
   pub used : List ℕ
   -- who stood on each CPU in the last tick
-  pub places : Places
+  pub curr : Places
   -- the switches so far
   pub switches : List Switch
 
 -- nothing has happened yet
 abbrev pub opened : ℕ → ℕ → Domain
-opened cpus limit = record { cpus = cpus; limit = limit; time = 0; tasks = []; used = []; places = replicate cpus None; switches = [] }
+opened cpus limit = record { cpus = cpus; limit = limit; time = 0; tasks = []; used = []; curr = replicate cpus None; switches = [] }

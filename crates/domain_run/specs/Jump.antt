@@ -25,8 +25,8 @@ pub record IsUnderWay (d : Domain) : Type 0 where
   pub placed : IsPlacement d
 
 -- WHO RUNS. Their numbers, by CPU
-abbrev pub standing : Places → List ℕ
-standing places = filter_map (λ (occupant : Option ℕ). occupant) places
+abbrev pub running_numbers : Places → List ℕ
+running_numbers places = filter_map (λ (occupant : Option ℕ). occupant) places
 
 -- what the rate of a running task depends on, and for how long it may run
 abbrev pub running_of : Domain → Task → Running
@@ -38,9 +38,9 @@ running_if d (Some number) = option_map (running_of d) (find (λ t. t.number == 
 
 -- the i-th running task by CPU
 abbrev pub running : Domain → ℕ → Option Running
-running d i = running_if d (slice_get (standing d.places) i)
+running d i = running_if d (slice_get (running_numbers d.curr) i)
 
--- QUIET. When parts 1 to 3 have something to do to a task: it is replenished, its zero-lag time comes, it asks its script, or it
+-- EVENTS. When parts 1 to 3 have something to do to a task: it is replenished, its zero-lag time comes, it asks its script, or it
 -- goes off the list, which is at once
 abbrev pub replenished_at : Task → Option ℕ
 replenished_at t = if is_throttled t.condition then t.server.deadline else None
@@ -61,17 +61,17 @@ ticks_to time None = 2 ^ 42 - 1
 ticks_to time (Some u) = u - time
 
 -- the ticks from a time to the first of these
-abbrev pub rest_of : ℕ → Task → ℕ
-rest_of time t = min (min (ticks_to time (replenished_at t)) (ticks_to time t.zero_lag)) (min (ticks_to time (asks_at t.condition)) (ticks_to time (gone_at t)))
+abbrev pub ticks_to_due_of : ℕ → Task → ℕ
+ticks_to_due_of time t = min (min (ticks_to time (replenished_at t)) (ticks_to time t.zero_lag)) (min (ticks_to time (asks_at t.condition)) (ticks_to time (gone_at t)))
 
 -- to the first of all tasks
-abbrev pub rest : ℕ → List Task → ℕ
-rest time [] = 2 ^ 42 - 1
-rest time (t ∷ tasks) = min (rest_of time t) (rest time tasks)
+abbrev pub ticks_to_due : ℕ → List Task → ℕ
+ticks_to_due time [] = 2 ^ 42 - 1
+ticks_to_due time (t ∷ tasks) = min (ticks_to_due_of time t) (ticks_to_due time tasks)
 
 -- from the beginning of the tick under way to the next tick in which parts 1 to 3 have something to do, 2^42 where there is none
-abbrev pub quiet : Domain → ℕ
-quiet d = 1 + rest d.time d.tasks
+abbrev pub ticks_to_event : Domain → ℕ
+ticks_to_event d = 1 + ticks_to_due d.time d.tasks
 
 -- CHARGES. The rate of a running task
 abbrev pub rate_for : Domain → Running → ℕ
@@ -85,5 +85,5 @@ pub record IsCharged (d : Domain) (ticks : ℕ) (r : Running) (left : ℤ) : Typ
 
 -- of each running task, by CPU
 pub record AreCharged (d : Domain) (ticks : ℕ) (budgets : List ℤ) : Type 0 where
-  pub many : length budgets ≡ length (standing d.places)
+  pub many : length budgets ≡ length (running_numbers d.curr)
   pub each : (i : ℕ) (r : Running) → running d i ≡ Some r → IsCharged d ticks r (slice_index_or budgets i (pos 0))

@@ -16,12 +16,12 @@ abbrev pub has_task : List Task → ℕ → Bool
 has_task tasks number = list_any (λ t. t.number == number) tasks
 
 -- what is left of some keys: those whose tasks are listed still, in their order
-abbrev pub left_of : List (ℕ × ℕ) → List Task → List (ℕ × ℕ)
-left_of ks tasks = filter (λ k. has_task tasks k.0) ks
+abbrev pub listed_keys : List (ℕ × ℕ) → List Task → List (ℕ × ℕ)
+listed_keys ks tasks = filter (λ k. has_task tasks k.0) ks
 
 -- KEPT KEYS: tasks may have gone off the list; nobody has come, no bandwidth has changed, and the order is the same
 abbrev pub AreKept : List Task → List Task → Type 0
-AreKept before after = keys after ≡ left_of (keys before) after
+AreKept before after = keys after ≡ listed_keys (keys before) after
 
 -- a key with another bandwidth, where it is that of a number
 abbrev pub with_bw : ℕ → ℕ → ℕ × ℕ → ℕ × ℕ

@@ -25,14 +25,14 @@ is_listed t = not (is_leaving t.condition && is_none t.zero_lag)
 
 -- PART 3. A task that wants a CPU with this server: ready, or throttled where nothing is left, but replenished at once where
 -- its deadline has come too
-abbrev pub contending : ℕ → Server → Task → Task
-contending time s t =
+abbrev pub enqueued : ℕ → Server → Task → Task
+enqueued time s t =
     if is_spent s then (if has_come time s.deadline then record t { server = replenished t.params s; condition = Ready } else record t { server = s; condition = Throttled })
     else record t { server = s; condition = Ready }
 
 -- a wake with so much work: the one rule by which a server is woken
 abbrev pub woken_task : ℕ → ℕ → Task → Task
-woken_task time n t = contending time (woken t.params time t.server) (record t { zero_lag = None; work = n })
+woken_task time n t = enqueued time (woken t.params time t.server) (record t { zero_lag = None; work = n })
 
 abbrev pub started : ℕ → Segment → Task → Task
 started time (RunFor n) t = woken_task time n t
@@ -48,12 +48,12 @@ abbrev pub unblocked : ℕ → Task → Task
 unblocked time t = if is_over time t.condition then starts time t (asked t.cursor time) else t
 
 -- PART 4. A task that is placed belongs to its CPU
-abbrev pub homed_at : Option ℕ → Task → Task
-homed_at None t = t
-homed_at (Some cpu) t = record t { cpu = cpu }
+abbrev pub with_cpu : Option ℕ → Task → Task
+with_cpu None t = t
+with_cpu (Some cpu) t = record t { cpu = cpu }
 
-abbrev pub homed : Places → Task → Task
-homed places t = homed_at (position (is_task t.number) places) t
+abbrev pub with_last_cpu : Places → Task → Task
+with_last_cpu places t = with_cpu (position (is_task t.number) places) t
 
 -- PART 6. With work left, what is left of the budget decides
 abbrev pub running_on : Task → Task

@@ -44,8 +44,8 @@ MayStand cpu n t = (t.number ≡ n) × (t.cpu ≡ cpu) × IsTrue (is_ready t.con
 
 -- what is placed: on each CPU stands nobody, or a listed task that may; and no task stands on two
 pub record IsPlacement (d : Domain) : Type 0 where
-  pub running : (cpu n : ℕ) → occupant d.places cpu ≡ Some n → Any (MayStand cpu n) d.tasks
-  pub apart : IsApart d.places
+  pub running : (cpu n : ℕ) → occupant d.curr cpu ≡ Some n → Any (MayStand cpu n) d.tasks
+  pub apart : IsApart d.curr
 
 -- the number was admitted
 abbrev pub IsAdmitted : List ℕ → ℕ → Type 0
@@ -64,8 +64,8 @@ pub record IsSteady (d : Domain) : Type 0 where
   -- no two tasks have one number, and each number was admitted
   pub numbered : AllPairs (λ a b. a.number ≢ b.number) d.tasks
   pub known : All (λ t. IsAdmitted d.used t.number) d.tasks
-  pub wide : length d.places ≡ d.cpus
-  pub apart : IsApart d.places
+  pub wide : length d.curr ≡ d.cpus
+  pub apart : IsApart d.curr
 
 -- a switch of an earlier tick, on a CPU of the domain, between tasks that were admitted
 pub record IsSwitch (cpus time : ℕ) (used : List ℕ) (s : Switch) : Type 0 where
@@ -78,7 +78,7 @@ pub record IsSwitch (cpus time : ℕ) (used : List ℕ) (s : Switch) : Type 0 wh
 pub record IsTraced (d : Domain) : Type 0 where
   pub switches : All (IsSwitch d.cpus d.time d.used) d.switches
   pub rising : AllPairs (λ a b. IsTrue (is_before a b)) d.switches
-  pub standing : (cpu n : ℕ) → occupant d.places cpu ≡ Some n → IsAdmitted d.used n
+  pub standing : (cpu n : ℕ) → occupant d.curr cpu ≡ Some n → IsAdmitted d.used n
 
 -- what every domain keeps between two ticks
 pub record IsDomain (d : Domain) : Type 0 where

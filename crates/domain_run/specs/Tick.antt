@@ -7,7 +7,7 @@ use Rattle.edf_pick.specs.Places.{Places, placed, stands}
 use Rattle.edf_pick.specs.declared.candidate.Candidate.{Candidate}
 use Rattle.domain_run.specs.declared.task.Task.{Task}
 use Rattle.domain_run.specs.Conditions.{is_ready, is_contending}
-use Rattle.domain_run.specs.Parts.{replenish_due, settled, is_listed, unblocked, homed, ran}
+use Rattle.domain_run.specs.Parts.{replenish_due, settled, is_listed, unblocked, with_last_cpu, ran}
 use Rattle.domain_run.specs.Switches.{switches_from}
 use Rattle.domain_run.specs.Domain.{Domain}
 
@@ -36,13 +36,13 @@ prepared time tasks = map (unblocked time) (filter is_listed (map (settled time)
 -- parts 4 and 5: the new occupants, to whom their CPUs become home, and the switches
 abbrev pub with_places : Domain → List Task → Places → Domain
 with_places d tasks places = record d {
-  tasks = map (homed places) tasks;
-  places = places;
-  switches = d.switches ++ switches_from d.time tasks 0 d.places places;
+  tasks = map (with_last_cpu places) tasks;
+  curr = places;
+  switches = d.switches ++ switches_from d.time tasks 0 d.curr places;
 }
 
 abbrev pub with_prepared : Domain → List Task → Domain
-with_prepared d tasks = with_places d tasks (placed d.cpus (candidates tasks) d.places)
+with_prepared d tasks = with_places d tasks (placed d.cpus (candidates tasks) d.curr)
 
 -- what begins in a tick: parts 1 to 5
 abbrev pub begun : Domain → Domain
@@ -53,7 +53,7 @@ abbrev pub rate_of : Domain → Task → ℕ
 rate_of d t = reclaiming.rate t.params (uinact t.cpu (shares d.tasks)) (sum_of d.tasks) d.cpus d.limit
 
 abbrev pub ran_if : Domain → Task → Task
-ran_if d t = if stands t.number d.places then ran d.time (rate_of d t) t else t
+ran_if d t = if stands t.number d.curr then ran d.time (rate_of d t) t else t
 
 -- what ends with a tick, part 6: every running task is charged
 abbrev pub finished : Domain → Domain

@@ -5,7 +5,7 @@ ghost use Rattle.domain_run.specs.Conditions.{is_ready};
 ghost use Rattle.domain_run.specs.Sound.{IsSound};
 ghost use Rattle.domain_run.specs.private.Paying.{ran_until};
 ghost use Rattle.domain_run.specs.private.RunQueue as spec;
-ghost use Rattle.domain_run.specs.private.Roster.{made, MayMake, HasStood};
+ghost use Rattle.domain_run.specs.private.Roster.{after_change, MayMake, HasStood};
 
 use crate::standing::{Standing, standing_of};
 use crate::task::Task;
@@ -36,7 +36,7 @@ pub(crate) enum Change {
 /// Whether a look at a task tells that a change does nothing to it.
 #[inline(always)]
 fn does_nothing(task: &Task, time: u64, change: &Change) -> bool
-    ensures { IsTrue result → made time change.now task.now ≡ task.now }
+    ensures { IsTrue result → after_change time change.now task.now ≡ task.now }
 {
     match change {
         Change::Replenish => !task.condition.is_throttled(),
@@ -66,7 +66,7 @@ fn slide(task: &mut Task, time: u64, ticks: u64, left: i128)
 fn act(task: &mut Task, time: u64, change: &Change)
     requires sound { IsSound time task.old }
     requires may { MayMake time change.now task.old }
-    ensures task { task.new ≡ made time change.now task.old }
+    ensures task { task.new ≡ after_change time change.now task.old }
     ensures sound { IsSound time task.new }
 {
     let _bw = task.params.bandwidth();
@@ -87,7 +87,7 @@ fn act(task: &mut Task, time: u64, change: &Change)
 pub(crate) fn make(task: &mut Task, time: u64, change: &Change) -> Option<Standing>
     requires sound { IsSound time task.old }
     requires may { MayMake time change.now task.old }
-    ensures task { task.new ≡ made time change.now task.old }
+    ensures task { task.new ≡ after_change time change.now task.old }
     ensures sound { IsSound time task.new }
     ensures stood { HasStood result task.old task.new }
 {

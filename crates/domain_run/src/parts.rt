@@ -70,13 +70,13 @@ pub(crate) fn is_listed(task: &Task) -> bool
     !(task.condition.is_leaving() && task.zero_lag.is_none())
 }
 
-fn contend(task: &mut Task, server: Server, time: u64)
+fn enqueue(task: &mut Task, server: Server, time: u64)
     requires early { time < 2 ^ 42 }
     requires served { IsServed time server }
     requires dated { IsSome server.deadline }
     requires busy { 0 < task.old.work }
     requires timed { task.old.cursor.reference ≤ time }
-    ensures task { task.new ≡ parts.contending time server task.old }
+    ensures task { task.new ≡ parts.enqueued time server task.old }
     ensures sound { IsSound time task.new }
 {
     if !cbs_rules::is_throttled(&server) {
@@ -112,7 +112,7 @@ fn wake(task: &mut Task, work: u64, time: u64)
     let server = wake_server(task, time);
     task.zero_lag = None;
     task.work = work;
-    contend(task, server, time);
+    enqueue(task, server, time);
 }
 
 fn start(task: &mut Task, segment: Segment, time: u64)

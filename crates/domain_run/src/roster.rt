@@ -9,7 +9,7 @@ ghost use Rattle.domain_run.specs.Sound.{IsSound};
 ghost use Rattle.domain_run.specs.Tick as tick;
 ghost use Rattle.domain_run.specs.Calls.{of_number};
 ghost use Rattle.domain_run.specs.private.Index.{IsAt, IsAbsent};
-ghost use Rattle.domain_run.specs.private.Roster.{made, MayMake, Fits};
+ghost use Rattle.domain_run.specs.private.Roster.{after_change, MayMake, Fits};
 ghost use Rattle.domain_run.specs.private.Timers.{IsStep, AreNotDue, due_of, least};
 ghost use Rattle.edf_pick.specs.Order.{ordered};
 ghost use Rattle.grub_rules.specs.Sums as sums;
@@ -146,10 +146,10 @@ impl Roster {
     }
 
     /// The ticks from a time to the first at which a task is due, at most 2^42 - 1.
-    pub(crate) fn rest(&self, time: u64) -> u64
+    pub(crate) fn ticks_to_due(&self, time: u64) -> u64
         ensures { result ≡ min (least (map due_of self.now.tasks) - time) (2 ^ 42 - 1) }
     {
-        self.queue.timers.rest(time)
+        self.queue.timers.ticks_to_due(time)
     }
 }
 
@@ -162,7 +162,7 @@ impl Roster {
         requires sound { All (IsSound time) self.old.tasks }
         requires may { (d : Task) → MayMake time change.now (slice_index_or self.old.tasks place d) }
         ensures cpus { self.new.cpus ≡ self.old.cpus }
-        ensures step { IsStep (made time change.now) place self.old.tasks self.new.tasks }
+        ensures step { IsStep (after_change time change.now) place self.old.tasks self.new.tasks }
         ensures sound { All (IsSound time) self.new.tasks }
     {
         turning::turn_task(&mut self.tasks, &mut self.queue, place, time, change);
@@ -175,7 +175,7 @@ impl Roster {
         requires sound { All (IsSound time) self.old.tasks }
         requires may { All (λ t. t.number ≡ number → MayMake time change.now t) self.old.tasks }
         ensures cpus { self.new.cpus ≡ self.old.cpus }
-        ensures tasks { self.new.tasks ≡ map (of_number number (made time change.now)) self.old.tasks }
+        ensures tasks { self.new.tasks ≡ map (of_number number (after_change time change.now)) self.old.tasks }
         ensures sound { All (IsSound time) self.new.tasks }
     {
         if let Some(place) = self.place(number) {

@@ -3,7 +3,7 @@
 ghost use Rattle.std.specs.Prelude.{◌≡◌, ◌<◌, ◌≤◌, ◌+◌, ◌^◌, ◌↔◌, ◌%◌, ◌*◌, IsTrue, IsOk, MatchResult, sum_by, IsSome, IfSome, All, length, slice_get};
 ghost use Rattle.domain_run.specs.script.ScriptView.{IsEvent, IsPhase, IsScript, IsPlace, script_of, phase_len, round_len};
 ghost use Rattle.domain_run.specs.script.Unrolled.{round_of, event_at};
-ghost use Rattle.domain_run.specs.script.Segments.{IsLoops, rounds_of, loops_of, begun_at, first_place, moved, kept, given_at, is_late, asked, GivesAsWritten, IsSegment, next_ask};
+ghost use Rattle.domain_run.specs.script.Segments.{IsLoops, rounds_of, loops_of, begun_at, first_place, moved, kept_cursor, given_at, is_late, asked, GivesAsWritten, IsSegment, next_ask};
 
 use std::marker::Model;
 
@@ -309,7 +309,7 @@ impl Cursor {
 
     fn step(&mut self, reference: u64)
         requires more { IsSome (event_at self.old.script self.old.place) }
-        ensures { self.new ≡ kept (moved self.old reference) }
+        ensures { self.new ≡ kept_cursor (moved self.old reference) }
     {
         self.place = place_behind(&self.script, self.place);
         self.reference = reference;
@@ -320,7 +320,7 @@ impl Cursor {
         requires early { time < 2 ^ 48 }
         requires reference { self.old.reference < 2 ^ 48 }
         ensures segment { result ≡ (given_at self.old time).segment }
-        ensures cursor { self.new ≡ kept (given_at self.old time).cursor }
+        ensures cursor { self.new ≡ kept_cursor (given_at self.old time).cursor }
         ensures within { IsSegment result }
         ensures in_order { self.old.reference ≤ time →
             self.new.reference ≤ next_ask time result }

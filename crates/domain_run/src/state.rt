@@ -43,7 +43,8 @@ pub struct State {
     time: u64,
     roster: Roster,
     used: Numbers,
-    places: Placement,
+    // Who runs on each CPU.
+    curr: Placement,
     switches: Vec<Switch>,
     // Who stands on the CPUs, one after another.
     running: Vec<u32>,
@@ -58,9 +59,9 @@ impl Model for State {
 
     ghost Value = { Domain };
 
-    ghost view = { λ s. record { cpus = s.cpus; limit = s.limit; time = s.time; tasks = s.roster.tasks; used = s.used; places = s.places; switches = s.switches.items } };
+    ghost view = { λ s. record { cpus = s.cpus; limit = s.limit; time = s.time; tasks = s.roster.tasks; used = s.used; curr = s.curr; switches = s.switches.items } };
 
-    ghost invariant = { λ s. IsState (record { cpus = s.cpus; limit = s.limit; time = s.time; tasks = s.roster.tasks; used = s.used; places = s.places; switches = s.switches.items }) s.roster.cpus s.running.items (vec_len s.before) (vec_capacity s.running) };
+    ghost invariant = { λ s. IsState (record { cpus = s.cpus; limit = s.limit; time = s.time; tasks = s.roster.tasks; used = s.used; curr = s.curr; switches = s.switches.items }) s.roster.cpus s.running.items (vec_len s.before) (vec_capacity s.running) };
 }
 
 impl State {
@@ -79,7 +80,7 @@ impl State {
             time: 0,
             roster: Roster::open(alloc, cpus)?,
             used: Numbers::open(alloc)?,
-            places: Placement::open(alloc, cpus)?,
+            curr: Placement::open(alloc, cpus)?,
             switches: Vec::new(alloc),
             running: Vec::with_capacity(alloc, cpus)?,
             before: vec![in alloc; None; cpus]?,

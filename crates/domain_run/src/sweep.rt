@@ -7,7 +7,7 @@ ghost use Rattle.domain_run.specs.Sound.{IsSound, IsApart};
 ghost use Rattle.domain_run.specs.Switches as switches_spec;
 ghost use Rattle.domain_run.specs.Tick as tick_spec;
 ghost use Rattle.domain_run.specs.private.Paying.{MayPayIf, paid};
-ghost use Rattle.domain_run.specs.private.Roster.{made, homed_here, IsPart};
+ghost use Rattle.domain_run.specs.private.Roster.{after_change, homed_here, IsPart};
 ghost use Rattle.domain_run.specs.private.RunQueue.{AreHomed};
 ghost use Rattle.domain_run.specs.private.Timers.{IsStep};
 ghost use Rattle.domain_run.specs.Jump as jump;
@@ -24,7 +24,7 @@ fn turn_due(roster: &mut Roster, time: u64, change: &Change)
     requires part { IsPart time change.now }
     requires sound { All (IsSound time) roster.old.tasks }
     ensures cpus { roster.new.cpus ≡ roster.old.cpus }
-    ensures tasks { roster.new.tasks ≡ map (made time change.now) roster.old.tasks }
+    ensures tasks { roster.new.tasks ≡ map (after_change time change.now) roster.old.tasks }
     ensures sound { All (IsSound time) roster.new.tasks }
 {
     let mut place = roster.next_due(0, time);
@@ -80,7 +80,7 @@ fn home_all(roster: &mut Roster, before: &[Option<u32>], places: &[Option<u32>],
     requires sound { All (IsSound time) roster.old.tasks }
     requires homed { AreHomed before.now roster.old.tasks }
     ensures cpus { roster.new.cpus ≡ roster.old.cpus }
-    ensures tasks { roster.new.tasks ≡ map (parts_spec.homed places.now) roster.old.tasks }
+    ensures tasks { roster.new.tasks ≡ map (parts_spec.with_last_cpu places.now) roster.old.tasks }
 {
     for cpu in 0..places.len() {
         if !is_same(before[cpu], places[cpu]) {
@@ -143,7 +143,7 @@ fn copy_places(before: &mut Vec<Option<u32>>, places: &[Option<u32>])
 /// Who stands on the CPUs, one after another.
 fn list_running(running: &mut Vec<u32>, places: &[Option<u32>])
     requires room { length places.now ≤ vec_capacity running.old }
-    ensures running { running.new.items ≡ jump.standing places.now }
+    ensures running { running.new.items ≡ jump.running_numbers places.now }
     ensures room { vec_capacity running.new ≡ vec_capacity running.old }
 {
     running.clear();
@@ -173,7 +173,7 @@ pub(crate) fn begin(
     requires room { vec_len switches.old + length places.old ≤ vec_capacity switches.old }
     ensures cpus { roster.new.cpus ≡ roster.old.cpus }
     ensures tasks { roster.new.tasks
-        ≡ map (parts_spec.homed places.new) (tick_spec.prepared time roster.old.tasks) }
+        ≡ map (parts_spec.with_last_cpu places.new) (tick_spec.prepared time roster.old.tasks) }
     ensures homed { AreHomed places.new roster.new.tasks }
     ensures prepared { All (IsSound time) (tick_spec.prepared time roster.old.tasks) }
     ensures places { places.new ≡ places_spec.placed (length places.old)
@@ -181,7 +181,7 @@ pub(crate) fn begin(
     ensures switches { switches.new.items ≡ switches.old.items
         ++ switches_spec.switches_from time (tick_spec.prepared time roster.old.tasks) 0 places.old places.new }
     ensures before_len { vec_len before.new ≡ vec_len before.old }
-    ensures running { running.new.items ≡ jump.standing places.new }
+    ensures running { running.new.items ≡ jump.running_numbers places.new }
     ensures runners { vec_capacity running.new ≡ vec_capacity running.old }
 {
     wake_all(roster, time);

@@ -177,7 +177,7 @@ impl Timers {
     }
 
     /// The ticks from a time to the first at which a task is due, at most 2^42 - 1.
-    pub(crate) fn rest(&self, time: u64) -> u64
+    pub(crate) fn ticks_to_due(&self, time: u64) -> u64
         ensures { result ≡ min (spec.least self.now - time) (2 ^ 42 - 1) }
     {
         self.least().saturating_sub(time).min((1 << 42) - 1)

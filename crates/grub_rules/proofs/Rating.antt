@@ -7,7 +7,7 @@ use Rattle.std.proofs.lemmas.Bool.{cond_both, ltb-true, ltb-false}
 use Rattle.std.proofs.Math.Nat.{div-le_of_le-mul, div-le_self}
 use Rattle.attr_check.specs.Ratio.{unit, cap}
 use Rattle.attr_check.specs.ParamsView.{ParamsView, IsOrdered}
-use Rattle.grub_rules.specs.Rate.{div_up, taken, rate}
+use Rattle.grub_rules.specs.Rate.{div_up, charged_bw, rate}
 
 -- the larger of a natural and a whole number, by what is to be added for another natural
 larger : (z : ℤ) (bw inactive used : ℕ) → z +ℤ pos inactive ≡ pos used → unsigned_abs (int_max (pos bw) z) ≡ max bw (used - inactive)
@@ -19,7 +19,7 @@ larger (pos n) bw inactive used e =
 larger (negsuc n) bw inactive used e = omega (arith, ints, e)
 
 -- Umax - Uinact - Uextra is what the tasks have of each CPU, less what is inactive
-pub taken_is : (p : ParamsView) (inactive sum cpus limit : ℕ) → unsigned_abs (taken p inactive sum cpus limit) ≡ max p.bw (sum / cpus - inactive)
+pub taken_is : (p : ParamsView) (inactive sum cpus limit : ℕ) → unsigned_abs (charged_bw p inactive sum cpus limit) ≡ max p.bw (sum / cpus - inactive)
 taken_is p inactive sum cpus limit =
     let used = sum / cpus in
     larger (pos limit -ℤ pos inactive -ℤ (pos limit -ℤ pos used)) p.bw inactive used (omega (arith, ints))
@@ -42,10 +42,10 @@ rounded t limit = max ((t * 1048576 + limit - 1) / limit) 1
 
 pub rate_is : (p : ParamsView) (inactive sum cpus limit t result : ℕ) → p.reclaim ≡ true → t ≡ max p.bw (sum / cpus - inactive) → result ≡ rounded t limit → result ≡ rate p inactive sum cpus limit
 rate_is p inactive sum cpus limit t result reclaims e is =
-    let same : t ≡ unsigned_abs (taken p inactive sum cpus limit) = e ∙ sym (taken_is p inactive sum cpus limit) in
+    let same : t ≡ unsigned_abs (charged_bw p inactive sum cpus limit) = e ∙ sym (taken_is p inactive sum cpus limit) in
     is ∙ swapped ((t * 1048576 + limit - 1) / limit)
     ∙ ap (λ n. max 1 (div_up (n * unit) limit)) same
-    ∙ sym (ap (λ b. cond b (max 1 (div_up (unsigned_abs (taken p inactive sum cpus limit) * unit) limit)) unit) reclaims)
+    ∙ sym (ap (λ b. cond b (max 1 (div_up (unsigned_abs (charged_bw p inactive sum cpus limit) * unit) limit)) unit) reclaims)
 
 rounded_most : (t limit bound : ℕ) → 0 < bound → t * 1048576 + limit - 1 ≤ limit * bound → rounded t limit ≤ bound
 rounded_most t limit bound some h = let q : (t * 1048576 + limit - 1) / limit ≤ bound = div-le_of_le-mul limit h in omega (arith, q, some)

@@ -13,9 +13,9 @@ abbrev pub extra : ℕ → ℕ → ℕ → ℤ
 extra sum cpus limit = pos limit -ℤ pos (sum / cpus)
 
 -- max (u, Umax - Uinact - Uextra), which is never below zero, since u is not
-abbrev pub taken : ParamsView → ℕ → ℕ → ℕ → ℕ → ℤ
-taken p inactive sum cpus limit = int_max (pos p.bw) (pos limit -ℤ pos inactive -ℤ extra sum cpus limit)
+abbrev pub charged_bw : ParamsView → ℕ → ℕ → ℕ → ℕ → ℤ
+charged_bw p inactive sum cpus limit = int_max (pos p.bw) (pos limit -ℤ pos inactive -ℤ extra sum cpus limit)
 
 -- dq = -(max (u, Umax - Uinact - Uextra) / Umax) dt, rounded up and at least 1 (own); one where the task does not reclaim
 abbrev pub rate : ParamsView → ℕ → ℕ → ℕ → ℕ → ℕ
-rate p inactive sum cpus limit = if p.reclaim then max 1 (div_up (unsigned_abs (taken p inactive sum cpus limit) * unit) limit) else unit
+rate p inactive sum cpus limit = if p.reclaim then max 1 (div_up (unsigned_abs (charged_bw p inactive sum cpus limit) * unit) limit) else unit

@@ -10,7 +10,7 @@ use Rattle.std.proofs.lemmas.List.Elements.{All-push, All-get_or, AllZip-get_or,
 use Rattle.std.proofs.lemmas.Option.{same_Some}
 use Rattle.domain_run.specs.Domain.{Domain}
 use Rattle.domain_run.specs.declared.running.Running.{Running}
-use Rattle.domain_run.specs.Jump.{standing, running, rate_for, IsCharged, AreCharged}
+use Rattle.domain_run.specs.Jump.{running_numbers, running, rate_for, IsCharged, AreCharged}
 use Rattle.tick_split.specs.declared.element.Plan.{Plan}
 use Rattle.tick_split.specs.declared.element.Slice.{Slice}
 use Rattle.tick_split.specs.Planning.{IsPlanned}
@@ -106,7 +106,7 @@ module _ (plans after : List Plan) (planned : AllZip IsPlanned plans after) wher
       })
 
   -- what the ticks leave of the budgets
-  pub charged_by : (d : Domain) (ticks next : ℕ) → ArePlans d ticks plans → length plans ≡ length (standing d.places) → 0 < next → next ≤ ticks → All (λ (q : Plan). next ≤ q.spent) after
+  pub charged_by : (d : Domain) (ticks next : ℕ) → ArePlans d ticks plans → length plans ≡ length (running_numbers d.curr) → 0 < next → next ≤ ticks → All (λ (q : Plan). next ≤ q.spent) after
       → AreCharged d next (map (λ (s : Slice). s.left) (map charged (map (slice_of next) after)))
   charged_by d ticks next are many some less spent =
       let slices = map (slice_of next) after in

@@ -8,7 +8,7 @@ use Rattle.std.proofs.lemmas.List.{get_or-set_same, get_or-set_other, get_or-tak
 use Rattle.std.proofs.lemmas.Option.{same_Some, slice_get_past}
 use Rattle.domain_run.specs.Domain.{Domain}
 use Rattle.domain_run.specs.declared.running.Running.{Running}
-use Rattle.domain_run.specs.Jump.{standing, running_if, running, rate_for, AreCharged}
+use Rattle.domain_run.specs.Jump.{running_numbers, running_if, running, rate_for, AreCharged}
 use Rattle.jump_run.specs.Plan.{IsGathered, AreGathered}
 
 -- what holds for so many ticks holds for fewer
@@ -71,15 +71,15 @@ left_push lefts rates ticks i budgets z here is before j within =
     ]
 
 -- a running task is one of those that stand
-pub running_within : (d : Domain) (i : ℕ) (r : Running) → running d i ≡ Some r → i < length (standing d.places)
+pub running_within : (d : Domain) (i : ℕ) (r : Running) → running d i ≡ Some r → i < length (running_numbers d.curr)
 running_within d i r e =
-    elim (cases_lt i (length (standing d.places))) [
+    elim (cases_lt i (length (running_numbers d.curr))) [
       | inl h ↦ h
-      | inr past ↦ let no : None ≡ Some r = sym (ap (running_if d) (slice_get_past (standing d.places) i past)) ∙ e in absurd cc
+      | inr past ↦ let no : None ≡ Some r = sym (ap (running_if d) (slice_get_past (running_numbers d.curr) i past)) ∙ e in absurd cc
     ]
 
 -- what the ticks leave of the budgets
-pub charged_all : (d : Domain) (ticks count : ℕ) (lefts rates : List ℕ) (budgets : List ℤ) → AreGathered d ticks count lefts rates → count ≡ length (standing d.places) → count ≤ length budgets
+pub charged_all : (d : Domain) (ticks count : ℕ) (lefts rates : List ℕ) (budgets : List ℤ) → AreGathered d ticks count lefts rates → count ≡ length (running_numbers d.curr) → count ≤ length budgets
     → ((i : ℕ) → i < count → slice_index_or budgets i (pos 0) ≡ pos (slice_index lefts i) -ℤ pos (slice_index rates i * ticks)) → AreCharged d ticks (take count budgets)
 charged_all d ticks count lefts rates budgets are many room each = record {
   many = length-take-le count budgets room ∙ many;

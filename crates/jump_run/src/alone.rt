@@ -72,9 +72,9 @@ fn gather<G: Turn>(state: &State, most: u64, room: &mut Room, turn: &G) -> Span
     requires some { 0 < most }
     ensures some { 0 < result.ticks }
     ensures most { result.ticks ≤ most }
-    ensures quiet { result.ticks ≤ jump.quiet state.now }
+    ensures quiet { result.ticks ≤ jump.ticks_to_event state.now }
     ensures short { result.ticks ≤ 2 ^ 42 }
-    ensures many { result.count ≡ length (jump.standing state.now.places) }
+    ensures many { result.count ≡ length (jump.running_numbers state.now.curr) }
     ensures few { result.count ≤ 64 }
     ensures len { length room.new.budgets ≡ 64 }
     ensures each { AreGathered state.now result.ticks result.count room.new.lefts room.new.rates }
@@ -101,7 +101,7 @@ pub(crate) fn make<G: Turn>(state: &State, most: u64, room: &mut Room, turn: &G)
     requires some { 0 < most }
     ensures some { 0 < result.ticks }
     ensures most { result.ticks ≤ most }
-    ensures quiet { result.ticks ≤ jump.quiet state.now }
+    ensures quiet { result.ticks ≤ jump.ticks_to_event state.now }
     ensures few { result.count ≤ 64 }
     ensures charged { jump.AreCharged state.now result.ticks
         (take result.count room.new.budgets) }

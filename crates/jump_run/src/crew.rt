@@ -49,10 +49,10 @@ fn gather(state: &State, most: u64, plans: &mut Vec<Plan>) -> u64
     requires room { vec_capacity plans.old ≡ 64 }
     ensures some { 0 < result }
     ensures most { result ≤ most }
-    ensures quiet { result ≤ jump.quiet state.now }
+    ensures quiet { result ≤ jump.ticks_to_event state.now }
     ensures short { result ≤ 2 ^ 42 }
     ensures room { vec_capacity plans.new ≡ 64 }
-    ensures many { length plans.new.items ≡ length (jump.standing state.now.places) }
+    ensures many { length plans.new.items ≡ length (jump.running_numbers state.now.curr) }
     ensures few { length plans.new.items ≤ 64 }
     ensures each { ArePlans state.now result plans.new.items }
 {
@@ -173,7 +173,7 @@ pub(crate) fn make<R: Threads + Wait, G: Turn>(
     requires slices { vec_capacity lists.old.slices ≡ 64 }
     ensures some { 0 < result.ticks }
     ensures most { result.ticks ≤ most }
-    ensures quiet { result.ticks ≤ jump.quiet state.now }
+    ensures quiet { result.ticks ≤ jump.ticks_to_event state.now }
     ensures few { result.count ≤ 64 }
     ensures charged { jump.AreCharged state.now result.ticks
         (take result.count room.new.budgets) }

@@ -9,7 +9,7 @@ use Rattle.std.proofs.lemmas.List.Elements.{All-head, All-tail}
 use Rattle.std.proofs.Math.Nat.{mul-le-mul_left}
 use Rattle.attr_check.specs.Ratio.{unit}
 use Rattle.cbs_rules.specs.Budget.{above_zero}
-use Rattle.grub_rules.specs.Rate.{div_up, taken}
+use Rattle.grub_rules.specs.Rate.{div_up, charged_bw}
 use Rattle.tick_split.specs.declared.element.Plan.{Plan}
 use Rattle.tick_split.specs.Planning.{IsPlannable, IsPlanned}
 use Rattle.tick_split.specs.private.Planned.{rate_of, planned}
@@ -44,7 +44,7 @@ some_of false x = omega arith
 
 -- every rate uses something up
 pub some_rate : (p : Plan) → 0 < rate_of p
-some_rate p = some_of p.params.reclaim (div_up (unsigned_abs (taken p.params p.uinact p.sum p.cpus p.limit) * unit) p.limit)
+some_rate p = some_of p.params.reclaim (div_up (unsigned_abs (charged_bw p.params p.uinact p.sum p.cpus p.limit) * unit) p.limit)
 
 -- what the code works out is the definition's
 pub planned_is : (p : Plan) → IsPlannable p → IsPlanned p (planned p)

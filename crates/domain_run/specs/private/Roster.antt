@@ -6,7 +6,7 @@ use Rattle.domain_run.specs.declared.change.Change.TheVariants.{Replenish, Settl
 use Rattle.domain_run.specs.declared.run_queue.RunQueue.{RunQueue}
 use Rattle.domain_run.specs.declared.standing.Standing.{Standing}
 use Rattle.domain_run.specs.Conditions.{is_ready, is_waiting}
-use Rattle.domain_run.specs.Parts.{replenish_due, settled, unblocked, homed_at}
+use Rattle.domain_run.specs.Parts.{replenish_due, settled, unblocked, with_cpu}
 use Rattle.domain_run.specs.Calls.{of_number, regraded, released, ended}
 use Rattle.domain_run.specs.private.Paying.{ran_until}
 use Rattle.domain_run.specs.private.RunQueue.{IsCounted, standing_of}
@@ -23,15 +23,15 @@ pub record IsKept (queue : RunQueue) (tasks : List Task) (capacity : ℕ) : Type
   pub room : 256 ≤ capacity
 
 -- CHANGES of one task at a time: what a part of a tick does to it, or a call
-abbrev pub made : ℕ → Change → Task → Task
-made time Replenish t = replenish_due time t
-made time Settle t = settled time t
-made time Unblock t = unblocked time t
-made time (Home cpu) t = homed_at (Some cpu) t
-made time (Run ticks left) t = ran_until time ticks left t
-made time (Regrade params) t = regraded params t
-made time Release t = released time t
-made time End t = ended time t
+abbrev pub after_change : ℕ → Change → Task → Task
+after_change time Replenish t = replenish_due time t
+after_change time Settle t = settled time t
+after_change time Unblock t = unblocked time t
+after_change time (Home cpu) t = with_cpu (Some cpu) t
+after_change time (Run ticks left) t = ran_until time ticks left t
+after_change time (Regrade params) t = regraded params t
+after_change time Release t = released time t
+after_change time End t = ended time t
 
 -- what so many ticks of running need, up to a time, with what they leave of the budget
 pub record MayRun (time ticks : ℕ) (left : ℤ) (t : Task) : Type 0 where
@@ -73,9 +73,9 @@ HasStood (Some s) before after = s ≡ standing_of before
 pub record IsPart (time : ℕ) (change : Change) : Type 0 where
   pub fits : (cpus : ℕ) → Fits cpus change
   pub may : (t : Task) → MayMake time change t
-  pub passes : (t : Task) → time < due_of t → made time change t ≡ t
+  pub passes : (t : Task) → time < due_of t → after_change time change t ≡ t
 
 -- the task that stands on a CPU, if one does, belongs to it
 abbrev pub homed_here : Option ℕ → ℕ → Task → Task
 homed_here None cpu t = t
-homed_here (Some number) cpu t = of_number number (homed_at (Some cpu)) t
+homed_here (Some number) cpu t = of_number number (with_cpu (Some cpu)) t

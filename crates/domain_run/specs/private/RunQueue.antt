@@ -8,10 +8,10 @@ use Rattle.domain_run.specs.declared.standing.Standing.{Standing}
 use Rattle.domain_run.specs.declared.run_queue.RunQueue.{RunQueue}
 use Rattle.edf_pick.specs.Places.{Places}
 use Rattle.domain_run.specs.Conditions.{is_ready}
-use Rattle.domain_run.specs.Parts.{homed}
+use Rattle.domain_run.specs.Parts.{with_last_cpu}
 use Rattle.domain_run.specs.Domain.{Domain}
 use Rattle.domain_run.specs.Sound.{IsDomain}
-use Rattle.domain_run.specs.Jump.{standing}
+use Rattle.domain_run.specs.Jump.{running_numbers}
 use Rattle.domain_run.specs.Tick.{share_of, shares, candidate_of, candidates}
 use Rattle.domain_run.specs.private.Timers.{due_of}
 
@@ -67,13 +67,13 @@ pub record HasTurned (place : ℕ) (before after : Standing) (old new : RunQueue
 
 -- who stands on a CPU belongs to it
 abbrev pub AreHomed : Places → List Task → Type 0
-AreHomed places tasks = All (λ t. homed places t ≡ t) tasks
+AreHomed places tasks = All (λ t. with_last_cpu places t ≡ t) tasks
 
 -- what a state keeps: a domain, whose CPUs its roster has too, who stands on its CPUs, and a place for each CPU
 pub record IsState (d : Domain) (cpus : ℕ) (running : List ℕ) (before runners : ℕ) : Type 0 where
   pub domain : IsDomain d
   pub wide : cpus ≡ d.cpus
-  pub homed : AreHomed d.places d.tasks
-  pub running_is : running ≡ standing d.places
+  pub homed : AreHomed d.curr d.tasks
+  pub running_is : running ≡ running_numbers d.curr
   pub before_len : before ≡ d.cpus
   pub runners_room : d.cpus ≤ runners

@@ -63,12 +63,12 @@ abbrev pub first_place : Option ℕ → ℕ → ℕ → ℕ
 first_place None round place = place % round
 first_place (Some n) round place = place
 
-abbrev pub kept : CursorView → CursorView
-kept c = record { script = c.script; place = first_place c.script.rounds (round_len c.script) c.place; reference = c.reference }
+abbrev pub kept_cursor : CursorView → CursorView
+kept_cursor c = record { script = c.script; place = first_place c.script.rounds (round_len c.script) c.place; reference = c.reference }
 
 -- what a task does next, and its cursor as it is kept
 abbrev pub asked : CursorView → ℕ → Asked
-asked c time = record { segment = (answered c time).segment; cursor = kept (answered c time).cursor }
+asked c time = record { segment = (answered c time).segment; cursor = kept_cursor (answered c time).cursor }
 
 -- what a cursor gives, asked at one time after another
 abbrev pub segments : (CursorView → ℕ → Asked) → CursorView → List ℕ → List Segment

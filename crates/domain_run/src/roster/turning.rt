@@ -3,7 +3,7 @@
 ghost use Rattle.std.specs.Prelude.{◌≡◌, ◌<◌, All, length, slice_index_or, vec_capacity};
 ghost use Rattle.domain_run.specs.declared.task.Task.{Task};
 ghost use Rattle.domain_run.specs.Sound.{IsSound};
-ghost use Rattle.domain_run.specs.private.Roster.{made, MayMake, Fits};
+ghost use Rattle.domain_run.specs.private.Roster.{after_change, MayMake, Fits};
 ghost use Rattle.domain_run.specs.private.RunQueue as spec;
 ghost use Rattle.domain_run.specs.private.Timers.{IsStep};
 
@@ -17,8 +17,8 @@ fn turn_one(task: &mut Task, queue: &mut RunQueue, place: usize, time: u64, chan
     requires sound { IsSound time task.old }
     requires may { MayMake time change.now task.old }
     requires turns { spec.MayTurn place queue.old (spec.standing_of task.old)
-        (spec.standing_of (made time change.now task.old)) }
-    ensures task { task.new ≡ made time change.now task.old }
+        (spec.standing_of (after_change time change.now task.old)) }
+    ensures task { task.new ≡ after_change time change.now task.old }
     ensures sound { IsSound time task.new }
     ensures turned { spec.HasTurned place (spec.standing_of task.old) (spec.standing_of task.new)
         queue.old queue.new }
@@ -42,7 +42,7 @@ pub(super) fn turn_task(
     requires sound { All (IsSound time) tasks.old.items }
     requires may { (d : Task) → MayMake time change.now (slice_index_or tasks.old.items place d) }
     requires counted { spec.IsCounted (length queue.old.accounts.all) queue.old tasks.old.items }
-    ensures step { IsStep (made time change.now) place tasks.old.items tasks.new.items }
+    ensures step { IsStep (after_change time change.now) place tasks.old.items tasks.new.items }
     ensures sound { All (IsSound time) tasks.new.items }
     ensures counted { spec.IsCounted (length queue.old.accounts.all) queue.new tasks.new.items }
     ensures room { vec_capacity tasks.new ≡ vec_capacity tasks.old }

@@ -27,7 +27,7 @@ impl State {
         sweep::begin(
             self.time,
             &mut self.roster,
-            &mut self.places,
+            &mut self.curr,
             &mut self.running,
             &mut self.switches,
             &mut self.before,
@@ -40,8 +40,8 @@ impl State {
     pub fn running(&self, i: usize) -> Option<Running>
         requires { jump.IsUnderWay self.now }
         ensures running { result ≡ jump.running self.now i }
-        ensures there { IsTrue (is_some result) ↔ (i < length (jump.standing self.now.places)) }
-        ensures few { length (jump.standing self.now.places) ≤ 64 }
+        ensures there { IsTrue (is_some result) ↔ (i < length (jump.running_numbers self.now.curr)) }
+        ensures few { length (jump.running_numbers self.now.curr) ≤ 64 }
         ensures some { IfSome result (λ r. 0 < r.work) }
         ensures lifted { IfSome result (λ r. pos 0 <ℤ r.left) }
         ensures short { IfSome result (λ r. r.uinact ≤ 2 ^ 26) }
@@ -73,11 +73,11 @@ impl State {
     /// choice: a task is replenished, its zero-lag time comes, it asks its script, or it goes off the list. 2^42 where there is
     /// none. Until then every tick does the same to every task, while no work ends and no budget is spent.
     pub fn quiet(&self) -> u64
-        ensures quiet { result ≡ jump.quiet self.now }
+        ensures quiet { result ≡ jump.ticks_to_event self.now }
         ensures some { 0 < result }
         ensures most { result ≤ 2 ^ 42 }
     {
-        1 + self.roster.rest(self.time)
+        1 + self.roster.ticks_to_due(self.time)
     }
 
     /// Ends the tick that has begun, and so many ticks in all: every running task has run in each, and what is left of its budget
@@ -86,7 +86,7 @@ impl State {
     pub fn finish(&mut self, ticks: u64, budgets: &[i128])
         requires begun { jump.IsUnderWay self.old }
         requires some { 0 < ticks }
-        requires quiet { ticks ≤ jump.quiet self.old }
+        requires quiet { ticks ≤ jump.ticks_to_event self.old }
         requires early { self.old.time + ticks ≤ 2 ^ 42 + 1 }
         requires charged { jump.AreCharged self.old ticks budgets.now }
         ensures { (d : Domain) → self.old ≡ jump.under_way d → self.new ≡ tick.ticks ticks d }

@@ -3,8 +3,8 @@ use Rattle.edf_pick.specs.Places.{Places, placed}
 use Rattle.domain_run.specs.declared.task.Task.{Task}
 use Rattle.domain_run.specs.Tick.{candidates}
 use Rattle.domain_run.proofs.Counting.{placed_counted, placed_seating}
-use Rattle.domain_run.specs.Jump.{standing}
-use Rattle.domain_run.specs.Parts.{homed}
+use Rattle.domain_run.specs.Jump.{running_numbers}
+use Rattle.domain_run.specs.Parts.{with_last_cpu}
 use Rattle.domain_run.specs.Sound.{IsApart}
 use Rattle.domain_run.specs.private.RunQueue.{AreHomed}
 use Rattle.domain_run.proofs.AtHome.{homed_prepared, homed_placed}
@@ -45,7 +45,7 @@ home_all-requires-clause-apart c =
     rw c.occupants-4.ensures.occupants seating.apart
 
 pub returns-clause-running : goal.returns-clause-running
-returns-clause-running c = c.list_running.ensures.running ∙ ap standing c.occupants-2.ensures.occupants
+returns-clause-running c = c.list_running.ensures.running ∙ ap running_numbers c.occupants-2.ensures.occupants
 
 pub home_all-requires-clause-same : goal.home_all-requires-clause-same
 home_all-requires-clause-same c =
@@ -68,4 +68,4 @@ pub returns-clause-homed : goal.returns-clause-homed
 returns-clause-homed c =
     let places = c.pick.new.placement in
     let tasks = c.wake_all.new.roster.tasks in
-    subst (AreHomed places) (sym (c.home_all.ensures.tasks ∙ ap (λ (ps : Places). map (homed ps) tasks) c.occupants-4.ensures.occupants)) (homed_placed places tasks)
+    subst (AreHomed places) (sym (c.home_all.ensures.tasks ∙ ap (λ (ps : Places). map (with_last_cpu ps) tasks) c.occupants-4.ensures.occupants)) (homed_placed places tasks)

@@ -1,5 +1,5 @@
 use Rattle.std.proofs.Common.{◌≡◌, ◌<◌, ◌≤◌, ◌+◌, length, refl, arith, ◌∙◌}
-use Rattle.domain_run.specs.private.Roster.{made}
+use Rattle.domain_run.specs.private.Roster.{after_change}
 use Rattle.domain_run.proofs.Due.{step_more, step_len, step_by}
 use Rattle.domain_run.proofs.sweep.turn_due.Goals as goal
 
@@ -9,7 +9,7 @@ loop-place-init c =
     let next = c.next_due-place in
     record {
       cpus = refl;
-      written = step_by c.args.time (made c.args.time c.args.change.now) tasks tasks 0 next.result c.requires.part.passes (omega arith) next.ensures.most refl next.ensures.others refl;
+      written = step_by c.args.time (after_change c.args.time c.args.change.now) tasks tasks 0 next.result c.requires.part.passes (omega arith) next.ensures.most refl next.ensures.others refl;
       len = refl;
       within = next.ensures.most;
       sound = c.requires.sound;
@@ -21,7 +21,7 @@ loop-place-preserved c =
     let s = c.turn in
     let first = c.args.roster.now.tasks in
     let now = s.new.self.tasks in
-    let f = made c.args.time c.args.change.now in
+    let f = after_change c.args.time c.args.change.now in
     let next = c.next_due-place-in-loop-place in
     let there : l.place < length l.roster.tasks = omega arith in
     let same : length now ≡ length first = step_len f l.roster.tasks now l.place there s.ensures.step ∙ l.invariant.len in
@@ -42,4 +42,4 @@ pub next_due-place-requires-in-loop-place : goal.next_due-place-requires-in-loop
 next_due-place-requires-in-loop-place c =
     let l = c.loop-place in
     let there : l.place < length l.roster.tasks = omega arith in
-    omega (arith, there, step_len (made c.args.time c.args.change.now) l.roster.tasks c.turn.new.self.tasks l.place there c.turn.ensures.step)
+    omega (arith, there, step_len (after_change c.args.time c.args.change.now) l.roster.tasks c.turn.new.self.tasks l.place there c.turn.ensures.step)

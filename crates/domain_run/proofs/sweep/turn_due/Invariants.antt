@@ -1,12 +1,12 @@
 use Rattle.std.proofs.Common.{◌≡◌, ◌≤◌, ◌-◌, map, take, drop, ◌++◌, length, All}
 use Rattle.domain_run.specs.Sound.{IsSound}
-use Rattle.domain_run.specs.private.Roster.{made}
+use Rattle.domain_run.specs.private.Roster.{after_change}
 use Rattle.domain_run.proofs.sweep.turn_due.Given as goal
 
 abbrev pub invariant-loop-place : goal.invariant-loop-place
 invariant-loop-place l = record {
   cpus : l.roster.cpus ≡ l.fn.roster.cpus;
-  written : l.roster.tasks ≡ map (made l.time l.change) (take l.place l.fn.roster.tasks) ++ drop l.place l.fn.roster.tasks;
+  written : l.roster.tasks ≡ map (after_change l.time l.change) (take l.place l.fn.roster.tasks) ++ drop l.place l.fn.roster.tasks;
   len : length l.roster.tasks ≡ length l.fn.roster.tasks;
   within : l.place ≤ length l.fn.roster.tasks;
   sound : All (IsSound l.time) l.roster.tasks;

@@ -2,7 +2,7 @@ use Rattle.std.proofs.Common.{length, subst, sym}
 use Rattle.std.proofs.lemmas.List.Elements.{All-set}
 use Rattle.domain_run.specs.declared.task.Task.{Task}
 use Rattle.domain_run.specs.Sound.{IsSound}
-use Rattle.domain_run.specs.private.Roster.{made, MayMake}
+use Rattle.domain_run.specs.private.Roster.{after_change, MayMake}
 use Rattle.domain_run.proofs.Due.{step_is}
 use Rattle.domain_run.proofs.Making.{place_may, place_counted}
 use Rattle.domain_run.proofs.roster.turning.turn_task.Goals as goal
@@ -14,7 +14,7 @@ pub turn_one-requires-clause-turns : goal.turn_one-requires-clause-turns
 turn_one-requires-clause-turns c = place_may (length c.args.queue.now.accounts.all) c.args.queue.now c.args.tasks.now.items c.args.place c.args.time c.args.change.now c.index_mut.result.now c.requires.there c.index_mut.ensures.value c.requires.fits c.requires.counted
 
 pub returns-clause-step : goal.returns-clause-step
-returns-clause-step c = step_is c.args.tasks.now.items c.args.place c.index_mut.result.now c.turn_one.new.task (made c.args.time c.args.change.now) c.requires.there c.index_mut.ensures.value c.turn_one.ensures.task
+returns-clause-step c = step_is c.args.tasks.now.items c.args.place c.index_mut.result.now c.turn_one.new.task (after_change c.args.time c.args.change.now) c.requires.there c.index_mut.ensures.value c.turn_one.ensures.task
 
 pub returns-clause-sound : goal.returns-clause-sound
 returns-clause-sound c = All-set (IsSound c.args.time) c.args.tasks.now.items c.args.place c.turn_one.new.task c.turn_one.ensures.sound c.requires.sound

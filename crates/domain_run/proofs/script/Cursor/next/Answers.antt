@@ -1,7 +1,7 @@
 use Rattle.std.proofs.Common.{◌≡◌, true, false, ap, ◌∙◌, arith}
 use Rattle.std.proofs.lemmas.Grind.{common_steps}
 use Rattle.domain_run.specs.script.Unrolled.{event_at}
-use Rattle.domain_run.specs.script.Segments.{moved, kept, given_at, is_late}
+use Rattle.domain_run.specs.script.Segments.{moved, kept_cursor, given_at, is_late}
 use Rattle.domain_run.proofs.Unrolling.{answered_late, answered_due}
 use Rattle.domain_run.proofs.script.Cursor.next.Goals as goal
 use Rattle.domain_run.proofs.script.Cursor.next.Goals.{then-is_late_at, else-is_late_at}
@@ -13,7 +13,7 @@ returns-clause-segment c =
     c.give.ensures.segment ∙ elim c.if-is_late_at.branch [
       | then-is_late_at w ↦
           let late : is_late (event_at s.script s.place) s.reference time ≡ true = grind (arith, common_steps) in
-          let stands : c.if-is_late_at.self ≡ kept (moved s time) = grind (arith, common_steps) in
+          let stands : c.if-is_late_at.self ≡ kept_cursor (moved s time) = grind (arith, common_steps) in
           ap (λ k. (given_at k time).segment) stands ∙ (answered_late s time c.event.ensures.within late).segment
       | else-is_late_at w ↦
           let due : is_late (event_at s.script s.place) s.reference time ≡ false = grind (arith, common_steps) in
@@ -27,9 +27,9 @@ returns-clause-cursor c =
     c.give.ensures.cursor ∙ elim c.if-is_late_at.branch [
       | then-is_late_at w ↦
           let late : is_late (event_at s.script s.place) s.reference time ≡ true = grind (arith, common_steps) in
-          let stands : c.if-is_late_at.self ≡ kept (moved s time) = grind (arith, common_steps) in
-          ap (λ k. kept (given_at k time).cursor) stands ∙ (answered_late s time c.event.ensures.within late).cursor
+          let stands : c.if-is_late_at.self ≡ kept_cursor (moved s time) = grind (arith, common_steps) in
+          ap (λ k. kept_cursor (given_at k time).cursor) stands ∙ (answered_late s time c.event.ensures.within late).cursor
       | else-is_late_at w ↦
           let due : is_late (event_at s.script s.place) s.reference time ≡ false = grind (arith, common_steps) in
-          ap (λ k. kept (given_at k time).cursor) w.self-is ∙ (answered_due s time due).cursor
+          ap (λ k. kept_cursor (given_at k time).cursor) w.self-is ∙ (answered_due s time due).cursor
     ]

@@ -15,7 +15,7 @@ begin-requires-clause-runners c = omega (arith, c.self.invariant.domain.steady.w
 pub invariant_of-self-2 : goal.invariant_of-self-2
 invariant_of-self-2 c =
     let s = c.self.inside in
-    let d : Domain = record { cpus = s.cpus; limit = s.limit; time = s.time; tasks = s.roster.tasks; used = s.used; places = s.places; switches = s.switches.items } in
+    let d : Domain = record { cpus = s.cpus; limit = s.limit; time = s.time; tasks = s.roster.tasks; used = s.used; curr = s.curr; switches = s.switches.items } in
     let b = c.begin.new in
     let m = middle d b.roster.tasks b.places b.switches.items c.self.invariant.domain c.begin.ensures.prepared c.begin.ensures.tasks c.begin.ensures.places (c.begin.ensures.switches ∙ rw c.try_reserve.ensures.items refl) in
     let early : d.time < 2 ^ 42 = subst (λ (x : Domain). x.time < 2 ^ 42) (sym c.self.view_is) c.requires in
@@ -32,7 +32,7 @@ invariant_of-self-2 c =
 pub returns-clause-ok : goal.returns-clause-ok
 returns-clause-ok c =
     let s = c.self.inside in
-    let d : Domain = record { cpus = s.cpus; limit = s.limit; time = s.time; tasks = s.roster.tasks; used = s.used; places = s.places; switches = s.switches.items } in
+    let d : Domain = record { cpus = s.cpus; limit = s.limit; time = s.time; tasks = s.roster.tasks; used = s.used; curr = s.curr; switches = s.switches.items } in
     let b = c.begin.new in
     let m = middle d b.roster.tasks b.places b.switches.items c.self.invariant.domain c.begin.ensures.prepared c.begin.ensures.tasks c.begin.ensures.places (c.begin.ensures.switches ∙ rw c.try_reserve.ensures.items refl) in
     ap (λ (x : Domain). record x { time = d.time + 1 }) m.begun_is ∙ ap under_way c.self.view_is
@@ -40,7 +40,7 @@ returns-clause-ok c =
 pub returns-clause-begun : goal.returns-clause-begun
 returns-clause-begun c =
     let s = c.self.inside in
-    let d : Domain = record { cpus = s.cpus; limit = s.limit; time = s.time; tasks = s.roster.tasks; used = s.used; places = s.places; switches = s.switches.items } in
+    let d : Domain = record { cpus = s.cpus; limit = s.limit; time = s.time; tasks = s.roster.tasks; used = s.used; curr = s.curr; switches = s.switches.items } in
     let early : d.time < 2 ^ 42 = subst (λ (x : Domain). x.time < 2 ^ 42) (sym c.self.view_is) c.requires in
     let placed : IsPlacement (under_way d) = (under_way_is d c.self.invariant.domain early c.begin.ensures.prepared).1 in
     let same = returns-clause-ok c in

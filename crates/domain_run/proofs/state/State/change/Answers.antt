@@ -11,7 +11,7 @@ use Rattle.domain_run.proofs.Changing.{one_change, regrade_keeps}
 use Rattle.domain_run.proofs.state.State.change.Goals as goal
 
 abbrev before : goal.After-turn_number → Domain
-before c = let s = c.self.inside in record { cpus = s.cpus; limit = s.limit; time = s.time; tasks = s.roster.tasks; used = s.used; places = s.places; switches = s.switches.items }
+before c = let s = c.self.inside in record { cpus = s.cpus; limit = s.limit; time = s.time; tasks = s.roster.tasks; used = s.used; curr = s.curr; switches = s.switches.items }
 
 after_is : (c : goal.After-turn_number) → record (before c) { tasks = c.turn_number.new.self.tasks } ≡ changed (before c) c.args.number (regraded c.args.params.now)
 after_is c = ap (λ (ts : List Task). record (before c) { tasks = ts }) c.turn_number.ensures.tasks
@@ -26,7 +26,7 @@ invariant_of-self c = record {
   before_len = c.self.invariant.before_len;
   homed =
       let is = one_change c.args.number (regraded c.args.params.now) (record { number = λ t. refl; cpu = λ t. refl }) in
-      subst (AreHomed c.self.inside.places) (sym c.turn_number.ensures.tasks) (homed_map c.self.inside.places (of_number c.args.number (regraded c.args.params.now)) c.self.inside.roster.tasks is.number is.cpu c.self.invariant.homed);
+      subst (AreHomed c.self.inside.curr) (sym c.turn_number.ensures.tasks) (homed_map c.self.inside.curr (of_number c.args.number (regraded c.args.params.now)) c.self.inside.roster.tasks is.number is.cpu c.self.invariant.homed);
   running_is = c.self.invariant.running_is;
   runners_room = c.self.invariant.runners_room;
 }

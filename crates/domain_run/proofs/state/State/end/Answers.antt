@@ -9,7 +9,7 @@ use Rattle.domain_run.proofs.Changing.{one_change, ended_change, leave_keeps}
 use Rattle.domain_run.proofs.state.State.end.Goals as goal
 
 abbrev before : goal.After-turn_number → Domain
-before c = let s = c.self.inside in record { cpus = s.cpus; limit = s.limit; time = s.time; tasks = s.roster.tasks; used = s.used; places = s.places; switches = s.switches.items }
+before c = let s = c.self.inside in record { cpus = s.cpus; limit = s.limit; time = s.time; tasks = s.roster.tasks; used = s.used; curr = s.curr; switches = s.switches.items }
 
 after_is : (c : goal.After-turn_number) → record (before c) { tasks = c.turn_number.new.self.tasks } ≡ changed (before c) c.args.number (ended c.self.inside.time)
 after_is c = ap (λ (ts : List Task). record (before c) { tasks = ts }) c.turn_number.ensures.tasks
@@ -24,7 +24,7 @@ invariant_of-self c = record {
   before_len = c.self.invariant.before_len;
   homed =
       let is = one_change c.args.number (ended c.self.inside.time) (ended_change c.self.inside.time) in
-      subst (AreHomed c.self.inside.places) (sym c.turn_number.ensures.tasks) (homed_map c.self.inside.places (of_number c.args.number (ended c.self.inside.time)) c.self.inside.roster.tasks is.number is.cpu c.self.invariant.homed);
+      subst (AreHomed c.self.inside.curr) (sym c.turn_number.ensures.tasks) (homed_map c.self.inside.curr (of_number c.args.number (ended c.self.inside.time)) c.self.inside.roster.tasks is.number is.cpu c.self.invariant.homed);
   running_is = c.self.invariant.running_is;
   runners_room = c.self.invariant.runners_room;
 }

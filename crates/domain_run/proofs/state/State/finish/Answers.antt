@@ -1,8 +1,8 @@
 use Rattle.std.proofs.Common.{◌≡◌, ℕ, List, ◌+◌, ◌-◌, ◌≤◌, ◌^◌, length, map, sym, ap, ◌∙◌, subst, arith}
-use Rattle.domain_run.specs.Jump.{standing}
+use Rattle.domain_run.specs.Jump.{running_numbers}
 use Rattle.domain_run.proofs.Homing.{standing_distinct}
 use Rattle.domain_run.specs.Domain.{Domain}
-use Rattle.domain_run.specs.Jump.{under_way, quiet, AreCharged}
+use Rattle.domain_run.specs.Jump.{under_way, ticks_to_event, AreCharged}
 use Rattle.domain_run.specs.Sound.{IsDomain, IsPlacement}
 use Rattle.domain_run.specs.private.Paying.{paid}
 use Rattle.domain_run.specs.private.RunQueue.{AreHomed}
@@ -18,36 +18,36 @@ pay_all-requires-clause-sound c =
 pub pay_all-requires-clause-may : goal.pay_all-requires-clause-may
 pay_all-requires-clause-may c =
     let s = c.self.inside in
-    let d : Domain = record { cpus = s.cpus; limit = s.limit; time = s.time; tasks = s.roster.tasks; used = s.used; places = s.places; switches = s.switches.items } in
+    let d : Domain = record { cpus = s.cpus; limit = s.limit; time = s.time; tasks = s.roster.tasks; used = s.used; curr = s.curr; switches = s.switches.items } in
     let charged : AreCharged d c.args.ticks c.args.budgets.now = subst (λ (x : Domain). AreCharged x c.args.ticks c.args.budgets.now) (sym c.self.view_is) c.requires.charged in
     let placed : IsPlacement d = subst IsPlacement (sym c.self.view_is) c.requires.begun.placed in
     rw (c.deref.ensures.value, c.self.invariant.running_is) (may_pay d c.args.ticks c.args.budgets.now c.self.invariant.domain.steady placed c.requires.some charged)
 
 pub pay_all-requires-clause-apart : goal.pay_all-requires-clause-apart
-pay_all-requires-clause-apart c = rw (c.deref.ensures.value, c.self.invariant.running_is) (standing_distinct c.self.inside.places c.self.invariant.domain.steady.apart)
+pay_all-requires-clause-apart c = rw (c.deref.ensures.value, c.self.invariant.running_is) (standing_distinct c.self.inside.curr c.self.invariant.domain.steady.apart)
 
 pub pay_all-requires-clause-many : goal.pay_all-requires-clause-many
 pay_all-requires-clause-many c =
     let s = c.self.inside in
-    let d : Domain = record { cpus = s.cpus; limit = s.limit; time = s.time; tasks = s.roster.tasks; used = s.used; places = s.places; switches = s.switches.items } in
+    let d : Domain = record { cpus = s.cpus; limit = s.limit; time = s.time; tasks = s.roster.tasks; used = s.used; curr = s.curr; switches = s.switches.items } in
     let charged : AreCharged d c.args.ticks c.args.budgets.now = subst (λ (x : Domain). AreCharged x c.args.ticks c.args.budgets.now) (sym c.self.view_is) c.requires.charged in
     charged.many ∙ sym (ap (λ (ns : List ℕ). length ns) (c.deref.ensures.value ∙ c.self.invariant.running_is))
 
 pub invariant_of-self : goal.invariant_of-self
 invariant_of-self c =
     let s = c.self.inside in
-    let d : Domain = record { cpus = s.cpus; limit = s.limit; time = s.time; tasks = s.roster.tasks; used = s.used; places = s.places; switches = s.switches.items } in
+    let d : Domain = record { cpus = s.cpus; limit = s.limit; time = s.time; tasks = s.roster.tasks; used = s.used; curr = s.curr; switches = s.switches.items } in
     let end : ℕ = s.time + (c.args.ticks - 1) in
-    let tasks_are : c.pay_all.new.roster.tasks ≡ map (paid end (standing s.places) c.args.ticks c.args.budgets.now) s.roster.tasks = c.pay_all.ensures.tasks ∙ ap (λ (ns : List ℕ). map (paid end ns c.args.ticks c.args.budgets.now) s.roster.tasks) (c.deref.ensures.value ∙ c.self.invariant.running_is) in
+    let tasks_are : c.pay_all.new.roster.tasks ≡ map (paid end (running_numbers s.curr) c.args.ticks c.args.budgets.now) s.roster.tasks = c.pay_all.ensures.tasks ∙ ap (λ (ns : List ℕ). map (paid end ns c.args.ticks c.args.budgets.now) s.roster.tasks) (c.deref.ensures.value ∙ c.self.invariant.running_is) in
     let same_time : c.self.inside.time ≡ c.args.self.now.time = ap (λ (x : Domain). x.time) c.self.view_is in
     let early : end ≤ 2 ^ 42 = omega (arith, same_time, c.requires.early, c.requires.some) in
     record {
-      domain = later_is d (paid end (standing c.self.inside.places) c.args.ticks c.args.budgets.now) end c.pay_all.new.roster.tasks c.self.invariant.domain (same_paid end (standing c.self.inside.places) c.args.ticks c.args.budgets.now) (omega arith) early tasks_are c.pay_all.ensures.sound;
+      domain = later_is d (paid end (running_numbers c.self.inside.curr) c.args.ticks c.args.budgets.now) end c.pay_all.new.roster.tasks c.self.invariant.domain (same_paid end (running_numbers c.self.inside.curr) c.args.ticks c.args.budgets.now) (omega arith) early tasks_are c.pay_all.ensures.sound;
       wide = c.pay_all.ensures.cpus ∙ c.self.invariant.wide;
       before_len = c.self.invariant.before_len;
       homed =
-          let same = same_paid end (standing s.places) c.args.ticks c.args.budgets.now in
-          subst (AreHomed s.places) (sym tasks_are) (homed_map s.places (paid end (standing s.places) c.args.ticks c.args.budgets.now) s.roster.tasks (λ t. (same t).number) (λ t. (same t).cpu) c.self.invariant.homed);
+          let same = same_paid end (running_numbers s.curr) c.args.ticks c.args.budgets.now in
+          subst (AreHomed s.curr) (sym tasks_are) (homed_map s.curr (paid end (running_numbers s.curr) c.args.ticks c.args.budgets.now) s.roster.tasks (λ t. (same t).number) (λ t. (same t).cpu) c.self.invariant.homed);
       running_is = c.self.invariant.running_is;
       runners_room = c.self.invariant.runners_room;
     }
@@ -55,12 +55,12 @@ invariant_of-self c =
 pub returns : goal.returns
 returns c e is =
     let s = c.self.inside in
-    let d : Domain = record { cpus = s.cpus; limit = s.limit; time = s.time; tasks = s.roster.tasks; used = s.used; places = s.places; switches = s.switches.items } in
+    let d : Domain = record { cpus = s.cpus; limit = s.limit; time = s.time; tasks = s.roster.tasks; used = s.used; curr = s.curr; switches = s.switches.items } in
     let end : ℕ = s.time + (c.args.ticks - 1) in
-    let tasks_are : c.pay_all.new.roster.tasks ≡ map (paid end (standing s.places) c.args.ticks c.args.budgets.now) s.roster.tasks = c.pay_all.ensures.tasks ∙ ap (λ (ns : List ℕ). map (paid end ns c.args.ticks c.args.budgets.now) s.roster.tasks) (c.deref.ensures.value ∙ c.self.invariant.running_is) in
+    let tasks_are : c.pay_all.new.roster.tasks ≡ map (paid end (running_numbers s.curr) c.args.ticks c.args.budgets.now) s.roster.tasks = c.pay_all.ensures.tasks ∙ ap (λ (ns : List ℕ). map (paid end ns c.args.ticks c.args.budgets.now) s.roster.tasks) (c.deref.ensures.value ∙ c.self.invariant.running_is) in
     let k = c.args.ticks in
     let budgets = c.args.budgets.now in
     let same : d ≡ under_way e = c.self.view_is ∙ is in
-    let tasks : c.pay_all.new.roster.tasks ≡ map (paid end (standing (under_way e).places) k budgets) (under_way e).tasks = tasks_are ∙ ap (λ (x : Domain). map (paid end (standing x.places) k budgets) x.tasks) same in
+    let tasks : c.pay_all.new.roster.tasks ≡ map (paid end (running_numbers (under_way e).curr) k budgets) (under_way e).tasks = tasks_are ∙ ap (λ (x : Domain). map (paid end (running_numbers x.curr) k budgets) x.tasks) same in
     ap (λ (x : Domain). record x { time = end; tasks = c.pay_all.new.roster.tasks }) same
-    ∙ paid_is e k budgets end c.pay_all.new.roster.tasks (subst (λ (x : Domain). IsDomain x) same c.self.invariant.domain).steady (subst IsPlacement is c.requires.begun.placed) c.requires.some (subst (λ (x : Domain). k ≤ quiet x) is c.requires.quiet) (subst (λ (x : Domain). AreCharged x k budgets) is c.requires.charged) (ap (λ (x : Domain). x.time + (k - 1)) same) tasks
+    ∙ paid_is e k budgets end c.pay_all.new.roster.tasks (subst (λ (x : Domain). IsDomain x) same c.self.invariant.domain).steady (subst IsPlacement is c.requires.begun.placed) c.requires.some (subst (λ (x : Domain). k ≤ ticks_to_event x) is c.requires.quiet) (subst (λ (x : Domain). AreCharged x k budgets) is c.requires.charged) (ap (λ (x : Domain). x.time + (k - 1)) same) tasks

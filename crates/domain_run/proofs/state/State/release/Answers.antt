@@ -10,7 +10,7 @@ use Rattle.domain_run.proofs.Changing.{one_change, woken_may, wake_keeps}
 use Rattle.domain_run.proofs.state.State.release.Goals as goal
 
 abbrev before : goal.After-turn_number → Domain
-before c = let s = c.self.inside in record { cpus = s.cpus; limit = s.limit; time = s.time; tasks = s.roster.tasks; used = s.used; places = s.places; switches = s.switches.items }
+before c = let s = c.self.inside in record { cpus = s.cpus; limit = s.limit; time = s.time; tasks = s.roster.tasks; used = s.used; curr = s.curr; switches = s.switches.items }
 
 after_is : (c : goal.After-turn_number) → record (before c) { tasks = c.turn_number.new.self.tasks } ≡ changed (before c) c.args.number (released c.self.inside.time)
 after_is c = ap (λ (ts : List Task). record (before c) { tasks = ts }) c.turn_number.ensures.tasks
@@ -18,7 +18,7 @@ after_is c = ap (λ (ts : List Task). record (before c) { tasks = ts }) c.turn_n
 pub turn_number-requires-clause-may : goal.turn_number-requires-clause-may
 turn_number-requires-clause-may c =
     let s = c.self.inside in
-    let d : Domain = record { cpus = s.cpus; limit = s.limit; time = s.time; tasks = s.roster.tasks; used = s.used; places = s.places; switches = s.switches.items } in
+    let d : Domain = record { cpus = s.cpus; limit = s.limit; time = s.time; tasks = s.roster.tasks; used = s.used; curr = s.curr; switches = s.switches.items } in
     woken_may d c.args.number c.self.invariant.domain.steady (subst (λ (e : Domain). wake_reply (task_of e c.args.number) ≡ Woken) (sym c.self.view_is) c.requires)
 
 pub invariant_of-self : goal.invariant_of-self
@@ -28,7 +28,7 @@ invariant_of-self c = record {
   before_len = c.self.invariant.before_len;
   homed =
       let is = one_change c.args.number (released c.self.inside.time) (record { number = λ t. refl; cpu = λ t. refl }) in
-      subst (AreHomed c.self.inside.places) (sym c.turn_number.ensures.tasks) (homed_map c.self.inside.places (of_number c.args.number (released c.self.inside.time)) c.self.inside.roster.tasks is.number is.cpu c.self.invariant.homed);
+      subst (AreHomed c.self.inside.curr) (sym c.turn_number.ensures.tasks) (homed_map c.self.inside.curr (of_number c.args.number (released c.self.inside.time)) c.self.inside.roster.tasks is.number is.cpu c.self.invariant.homed);
   running_is = c.self.invariant.running_is;
   runners_room = c.self.invariant.runners_room;
 }

@@ -5,45 +5,45 @@ use Rattle.domain_run.specs.declared.running.Running.{Running}
 use Rattle.domain_run.specs.Domain.{Domain}
 use Rattle.domain_run.specs.Tick.{shares}
 use Rattle.domain_run.specs.Sound.{IsPlacement}
-use Rattle.domain_run.specs.Jump.{standing, running}
+use Rattle.domain_run.specs.Jump.{running_numbers, running}
 use Rattle.domain_run.proofs.Runners.{IsRunning, found_running, never_lost, standing_short, inactive_short}
 use Rattle.domain_run.proofs.state.State.running.Goals as goal
 
 pub returns-in_default-clause-few : goal.returns-in_default-clause-few
 returns-in_default-clause-few c =
     let s = c.self.inside in
-    let e : Domain = record { cpus = s.cpus; limit = s.limit; time = s.time; tasks = s.roster.tasks; used = s.used; places = s.places; switches = s.switches.items } in
-    subst (λ (x : Domain). length (standing x.places) ≤ 64) c.self.view_is (standing_short e c.self.invariant.domain.steady)
+    let e : Domain = record { cpus = s.cpus; limit = s.limit; time = s.time; tasks = s.roster.tasks; used = s.used; curr = s.curr; switches = s.switches.items } in
+    subst (λ (x : Domain). length (running_numbers x.curr) ≤ 64) c.self.view_is (standing_short e c.self.invariant.domain.steady)
 
 pub returns-in_default-find-clause-few : goal.returns-in_default-find-clause-few
 returns-in_default-find-clause-few c =
     let s = c.self.inside in
-    let e : Domain = record { cpus = s.cpus; limit = s.limit; time = s.time; tasks = s.roster.tasks; used = s.used; places = s.places; switches = s.switches.items } in
-    subst (λ (x : Domain). length (standing x.places) ≤ 64) c.self.view_is (standing_short e c.self.invariant.domain.steady)
+    let e : Domain = record { cpus = s.cpus; limit = s.limit; time = s.time; tasks = s.roster.tasks; used = s.used; curr = s.curr; switches = s.switches.items } in
+    subst (λ (x : Domain). length (running_numbers x.curr) ≤ 64) c.self.view_is (standing_short e c.self.invariant.domain.steady)
 
 pub returns-clause-few : goal.returns-clause-few
 returns-clause-few c =
     let s = c.self.inside in
-    let e : Domain = record { cpus = s.cpus; limit = s.limit; time = s.time; tasks = s.roster.tasks; used = s.used; places = s.places; switches = s.switches.items } in
-    subst (λ (x : Domain). length (standing x.places) ≤ 64) c.self.view_is (standing_short e c.self.invariant.domain.steady)
+    let e : Domain = record { cpus = s.cpus; limit = s.limit; time = s.time; tasks = s.roster.tasks; used = s.used; curr = s.curr; switches = s.switches.items } in
+    subst (λ (x : Domain). length (running_numbers x.curr) ≤ 64) c.self.view_is (standing_short e c.self.invariant.domain.steady)
 
 pub returns-in_default-find-clause-there : goal.returns-in_default-find-clause-there
 returns-in_default-find-clause-there c =
     let s = c.self.inside in
-    let e : Domain = record { cpus = s.cpus; limit = s.limit; time = s.time; tasks = s.roster.tasks; used = s.used; places = s.places; switches = s.switches.items } in
+    let e : Domain = record { cpus = s.cpus; limit = s.limit; time = s.time; tasks = s.roster.tasks; used = s.used; curr = s.curr; switches = s.switches.items } in
     let n = c.in-Some.number in
     let placed : IsPlacement e = subst IsPlacement (sym c.self.view_is) c.requires.placed in
-    let at : Some n ≡ slice_get (standing e.places) c.args.i = subst (λ (ns : List ℕ). Some n ≡ slice_get ns c.args.i) (c.deref.ensures.value ∙ c.self.invariant.running_is) c.in-Some.ensures in
+    let at : Some n ≡ slice_get (running_numbers e.curr) c.args.i = subst (λ (ns : List ℕ). Some n ≡ slice_get ns c.args.i) (c.deref.ensures.value ∙ c.self.invariant.running_is) c.in-Some.ensures in
     let lost : None ≡ find (λ u. eqb u.number n) e.tasks = c.in_default-find.ensures in
     absurd (never_lost e c.args.i n c.self.invariant.domain.steady placed at lost)
 
 pub uinact-requires : goal.uinact-requires
 uinact-requires c =
     let s = c.self.inside in
-    let e : Domain = record { cpus = s.cpus; limit = s.limit; time = s.time; tasks = s.roster.tasks; used = s.used; places = s.places; switches = s.switches.items } in
+    let e : Domain = record { cpus = s.cpus; limit = s.limit; time = s.time; tasks = s.roster.tasks; used = s.used; curr = s.curr; switches = s.switches.items } in
     let n = c.in-Some.number in
     let placed : IsPlacement e = subst IsPlacement (sym c.self.view_is) c.requires.placed in
-    let at : Some n ≡ slice_get (standing e.places) c.args.i = subst (λ (ns : List ℕ). Some n ≡ slice_get ns c.args.i) (c.deref.ensures.value ∙ c.self.invariant.running_is) c.in-Some.ensures in
+    let at : Some n ≡ slice_get (running_numbers e.curr) c.args.i = subst (λ (ns : List ℕ). Some n ≡ slice_get ns c.args.i) (c.deref.ensures.value ∙ c.self.invariant.running_is) c.in-Some.ensures in
     let t = c.in-Some-find.task.now in
     let found : Some t ≡ find (λ u. eqb u.number n) e.tasks = c.in-Some-find.ensures in
     let is : IsRunning e c.args.i t = found_running e c.args.i n t c.self.invariant.domain.steady placed at found in
@@ -52,10 +52,10 @@ uinact-requires c =
 pub returns-clause-running : goal.returns-clause-running
 returns-clause-running c =
     let s = c.self.inside in
-    let e : Domain = record { cpus = s.cpus; limit = s.limit; time = s.time; tasks = s.roster.tasks; used = s.used; places = s.places; switches = s.switches.items } in
+    let e : Domain = record { cpus = s.cpus; limit = s.limit; time = s.time; tasks = s.roster.tasks; used = s.used; curr = s.curr; switches = s.switches.items } in
     let n = c.in-Some.number in
     let placed : IsPlacement e = subst IsPlacement (sym c.self.view_is) c.requires.placed in
-    let at : Some n ≡ slice_get (standing e.places) c.args.i = subst (λ (ns : List ℕ). Some n ≡ slice_get ns c.args.i) (c.deref.ensures.value ∙ c.self.invariant.running_is) c.in-Some.ensures in
+    let at : Some n ≡ slice_get (running_numbers e.curr) c.args.i = subst (λ (ns : List ℕ). Some n ≡ slice_get ns c.args.i) (c.deref.ensures.value ∙ c.self.invariant.running_is) c.in-Some.ensures in
     let t = c.in-Some-find.task.now in
     let found : Some t ≡ find (λ u. eqb u.number n) e.tasks = c.in-Some-find.ensures in
     let is : IsRunning e c.args.i t = found_running e c.args.i n t c.self.invariant.domain.steady placed at found in
@@ -65,22 +65,22 @@ returns-clause-running c =
 pub returns-clause-there : goal.returns-clause-there
 returns-clause-there c =
     let s = c.self.inside in
-    let e : Domain = record { cpus = s.cpus; limit = s.limit; time = s.time; tasks = s.roster.tasks; used = s.used; places = s.places; switches = s.switches.items } in
+    let e : Domain = record { cpus = s.cpus; limit = s.limit; time = s.time; tasks = s.roster.tasks; used = s.used; curr = s.curr; switches = s.switches.items } in
     let n = c.in-Some.number in
     let placed : IsPlacement e = subst IsPlacement (sym c.self.view_is) c.requires.placed in
-    let at : Some n ≡ slice_get (standing e.places) c.args.i = subst (λ (ns : List ℕ). Some n ≡ slice_get ns c.args.i) (c.deref.ensures.value ∙ c.self.invariant.running_is) c.in-Some.ensures in
+    let at : Some n ≡ slice_get (running_numbers e.curr) c.args.i = subst (λ (ns : List ℕ). Some n ≡ slice_get ns c.args.i) (c.deref.ensures.value ∙ c.self.invariant.running_is) c.in-Some.ensures in
     let t = c.in-Some-find.task.now in
     let found : Some t ≡ find (λ u. eqb u.number n) e.tasks = c.in-Some-find.ensures in
     let is : IsRunning e c.args.i t = found_running e c.args.i n t c.self.invariant.domain.steady placed at found in
-    (λ h. subst (λ (x : Domain). c.args.i < length (standing x.places)) c.self.view_is is.there, λ h. refl)
+    (λ h. subst (λ (x : Domain). c.args.i < length (running_numbers x.curr)) c.self.view_is is.there, λ h. refl)
 
 pub returns-clause-some : goal.returns-clause-some
 returns-clause-some c =
     let s = c.self.inside in
-    let e : Domain = record { cpus = s.cpus; limit = s.limit; time = s.time; tasks = s.roster.tasks; used = s.used; places = s.places; switches = s.switches.items } in
+    let e : Domain = record { cpus = s.cpus; limit = s.limit; time = s.time; tasks = s.roster.tasks; used = s.used; curr = s.curr; switches = s.switches.items } in
     let n = c.in-Some.number in
     let placed : IsPlacement e = subst IsPlacement (sym c.self.view_is) c.requires.placed in
-    let at : Some n ≡ slice_get (standing e.places) c.args.i = subst (λ (ns : List ℕ). Some n ≡ slice_get ns c.args.i) (c.deref.ensures.value ∙ c.self.invariant.running_is) c.in-Some.ensures in
+    let at : Some n ≡ slice_get (running_numbers e.curr) c.args.i = subst (λ (ns : List ℕ). Some n ≡ slice_get ns c.args.i) (c.deref.ensures.value ∙ c.self.invariant.running_is) c.in-Some.ensures in
     let t = c.in-Some-find.task.now in
     let found : Some t ≡ find (λ u. eqb u.number n) e.tasks = c.in-Some-find.ensures in
     let is : IsRunning e c.args.i t = found_running e c.args.i n t c.self.invariant.domain.steady placed at found in
@@ -89,10 +89,10 @@ returns-clause-some c =
 pub returns-clause-lifted : goal.returns-clause-lifted
 returns-clause-lifted c =
     let s = c.self.inside in
-    let e : Domain = record { cpus = s.cpus; limit = s.limit; time = s.time; tasks = s.roster.tasks; used = s.used; places = s.places; switches = s.switches.items } in
+    let e : Domain = record { cpus = s.cpus; limit = s.limit; time = s.time; tasks = s.roster.tasks; used = s.used; curr = s.curr; switches = s.switches.items } in
     let n = c.in-Some.number in
     let placed : IsPlacement e = subst IsPlacement (sym c.self.view_is) c.requires.placed in
-    let at : Some n ≡ slice_get (standing e.places) c.args.i = subst (λ (ns : List ℕ). Some n ≡ slice_get ns c.args.i) (c.deref.ensures.value ∙ c.self.invariant.running_is) c.in-Some.ensures in
+    let at : Some n ≡ slice_get (running_numbers e.curr) c.args.i = subst (λ (ns : List ℕ). Some n ≡ slice_get ns c.args.i) (c.deref.ensures.value ∙ c.self.invariant.running_is) c.in-Some.ensures in
     let t = c.in-Some-find.task.now in
     let found : Some t ≡ find (λ u. eqb u.number n) e.tasks = c.in-Some-find.ensures in
     let is : IsRunning e c.args.i t = found_running e c.args.i n t c.self.invariant.domain.steady placed at found in
@@ -101,10 +101,10 @@ returns-clause-lifted c =
 pub returns-clause-high : goal.returns-clause-high
 returns-clause-high c =
     let s = c.self.inside in
-    let e : Domain = record { cpus = s.cpus; limit = s.limit; time = s.time; tasks = s.roster.tasks; used = s.used; places = s.places; switches = s.switches.items } in
+    let e : Domain = record { cpus = s.cpus; limit = s.limit; time = s.time; tasks = s.roster.tasks; used = s.used; curr = s.curr; switches = s.switches.items } in
     let n = c.in-Some.number in
     let placed : IsPlacement e = subst IsPlacement (sym c.self.view_is) c.requires.placed in
-    let at : Some n ≡ slice_get (standing e.places) c.args.i = subst (λ (ns : List ℕ). Some n ≡ slice_get ns c.args.i) (c.deref.ensures.value ∙ c.self.invariant.running_is) c.in-Some.ensures in
+    let at : Some n ≡ slice_get (running_numbers e.curr) c.args.i = subst (λ (ns : List ℕ). Some n ≡ slice_get ns c.args.i) (c.deref.ensures.value ∙ c.self.invariant.running_is) c.in-Some.ensures in
     let t = c.in-Some-find.task.now in
     let found : Some t ≡ find (λ u. eqb u.number n) e.tasks = c.in-Some-find.ensures in
     let is : IsRunning e c.args.i t = found_running e c.args.i n t c.self.invariant.domain.steady placed at found in
@@ -113,10 +113,10 @@ returns-clause-high c =
 pub returns-clause-short : goal.returns-clause-short
 returns-clause-short c =
     let s = c.self.inside in
-    let e : Domain = record { cpus = s.cpus; limit = s.limit; time = s.time; tasks = s.roster.tasks; used = s.used; places = s.places; switches = s.switches.items } in
+    let e : Domain = record { cpus = s.cpus; limit = s.limit; time = s.time; tasks = s.roster.tasks; used = s.used; curr = s.curr; switches = s.switches.items } in
     let n = c.in-Some.number in
     let placed : IsPlacement e = subst IsPlacement (sym c.self.view_is) c.requires.placed in
-    let at : Some n ≡ slice_get (standing e.places) c.args.i = subst (λ (ns : List ℕ). Some n ≡ slice_get ns c.args.i) (c.deref.ensures.value ∙ c.self.invariant.running_is) c.in-Some.ensures in
+    let at : Some n ≡ slice_get (running_numbers e.curr) c.args.i = subst (λ (ns : List ℕ). Some n ≡ slice_get ns c.args.i) (c.deref.ensures.value ∙ c.self.invariant.running_is) c.in-Some.ensures in
     let t = c.in-Some-find.task.now in
     let found : Some t ≡ find (λ u. eqb u.number n) e.tasks = c.in-Some-find.ensures in
     let is : IsRunning e c.args.i t = found_running e c.args.i n t c.self.invariant.domain.steady placed at found in
