@@ -8,7 +8,7 @@ use Rattle.std.proofs.lemmas.List.{set-get_or, take_more}
 use Rattle.std.proofs.lemmas.List.Folds.{list_any_at}
 use Rattle.std.proofs.lemmas.List.Sums.{sum_by-set, sum_by-cons, get_or-le-sum_by}
 use Rattle.std.proofs.lemmas.Option.{slice_get-get_or, get_or_from_slice_get, slice_get_within}
-use Rattle.bw_world.specs.declared.no_memory.NoMemory.{NoMemory}
+use Rattle.no_memory.specs.declared.NoMemory.{NoMemory}
 use Rattle.bw_world.specs.declared.step.Outcome.{Outcome}
 use Rattle.bw_world.specs.declared.step.Step.{Step}
 use Rattle.bw_world.specs.declared.step.Step.TheVariants.{Load, Take, Regrade, Give, Enter, Release}

@@ -1,10 +1,10 @@
 use crate::book::Change;
-use crate::no_memory::NoMemory;
 use crate::step::Outcome;
 use crate::ticket::{
     Task, Ticket, any_number, any_task, any_ticket, remove_task, remove_ticket, set_task_bw,
     set_ticket_bw, task_of, ticket_of,
 };
+use no_memory::NoMemory;
 use std::alloc::Global;
 use std::marker::Model;
 

@@ -7,8 +7,8 @@ ghost use Rattle.bw_world.specs.WorldStep.{is_live, stepped};
 ghost use Rattle.bw_world.specs.Growing.{lengthens, IsGrowing};
 
 use crate::domain::Domain;
-use crate::no_memory::NoMemory;
 use crate::step::{Outcome, Step, UNIT};
+use no_memory::NoMemory;
 
 // Whether the ticket is live in some domain.
 fn is_live(domains: &[Domain], id: u64) -> bool

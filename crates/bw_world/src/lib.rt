@@ -9,7 +9,6 @@
 mod book;
 mod domain;
 mod domains;
-mod no_memory;
 mod step;
 mod ticket;
 mod world;

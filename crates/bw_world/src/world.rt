@@ -1,8 +1,8 @@
 use crate::book::Change;
 use crate::domain::Domain;
 use crate::domains;
-use crate::no_memory::NoMemory;
 use crate::step::{Outcome, Step};
+use no_memory::NoMemory;
 use std::alloc::Global;
 use std::marker::Model;
 

@@ -5,8 +5,8 @@ ghost use Rattle.std.specs.Prelude.{◌≡◌, ◌≢◌, ◌==◌, AllPairs, If
 ghost use Rattle.domain_run.specs.Conditions.{is_leaving};
 ghost use Rattle.domain_run.specs.private.Index.{IsAt, IsAbsent};
 
-use crate::memory::NoMemory;
 use crate::task::Task;
+use no_memory::NoMemory;
 use std::alloc::Global;
 
 const COUNT: usize = 65536;

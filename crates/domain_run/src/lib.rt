@@ -10,7 +10,6 @@ mod calls;
 mod change;
 mod charging;
 mod index;
-mod memory;
 mod name;
 mod numbers;
 mod parts;
@@ -26,8 +25,8 @@ mod task;
 mod timers;
 
 pub use call::{Call, Refused, Reply};
-pub use memory::NoMemory;
 pub use name::Name;
+pub use no_memory::NoMemory;
 pub use running::Running;
 pub use script::{Cursor, Event, Phase, Script, Segment};
 pub use state::State;

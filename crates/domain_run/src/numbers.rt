@@ -4,7 +4,7 @@ ghost use Rattle.std.specs.Prelude.{◌≡◌, ℕ, ◌<◌, ◌==◌, false, Li
 ghost use Rattle.std.specs.List.{list_any};
 ghost use Rattle.domain_run.specs.Calls.{with_number};
 
-use crate::memory::NoMemory;
+use no_memory::NoMemory;
 use std::alloc::Global;
 use std::marker::Model;
 

@@ -19,10 +19,10 @@ mod turning;
 
 use crate::change::Change;
 use crate::index::Index;
-use crate::memory::NoMemory;
 use crate::run_queue::RunQueue;
 use crate::task::Task;
 use edf_pick::Queue;
+use no_memory::NoMemory;
 use std::alloc::Global;
 use std::marker::Model;
 

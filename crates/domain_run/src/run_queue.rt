@@ -5,11 +5,11 @@ ghost use Rattle.std.specs.Prelude.{◌≡◌, ◌<◌, [], length, IfOk, IfSome
 ghost use Rattle.edf_pick.specs.Order.{has_candidate};
 ghost use Rattle.domain_run.specs.private.RunQueue as spec;
 
-use crate::memory::NoMemory;
 use crate::standing::Standing;
 use crate::timers::Timers;
 use edf_pick::{Candidate, Queue};
 use grub_rules::Accounts;
+use no_memory::NoMemory;
 use std::alloc::Global;
 
 /// The running sums, the ordered queue and the timers of a domain.

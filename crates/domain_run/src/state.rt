@@ -23,7 +23,6 @@ mod ticking;
 
 use crate::call::{Refused, Reply};
 use crate::calls::new_task;
-use crate::memory::NoMemory;
 use crate::name::Name;
 use crate::numbers::Numbers;
 use crate::roster::Roster;
@@ -32,6 +31,7 @@ use crate::switch::Switch;
 use crate::task::{TaskView, view_of};
 use attr_check::Params;
 use edf_pick::Placement;
+use no_memory::NoMemory;
 use std::alloc::Global;
 use std::marker::Model;
 

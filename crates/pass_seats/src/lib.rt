@@ -6,12 +6,11 @@
 //! cannot make it agree with the passes. The lists stand in contracts alone; what runs is a count and single loads.
 #![tactic(auto)]
 
-mod memory;
 mod pass;
 mod spine;
 mod view;
 
-pub use memory::NoMemory;
+pub use no_memory::NoMemory;
 pub use pass::Pass;
 pub use spine::Spine;
 

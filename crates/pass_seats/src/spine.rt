@@ -1,10 +1,10 @@
 ghost use Rattle.std.specs.Prelude.{◌≡◌, ◌<◌, ◌≤◌, ◌+◌, [], ℕ, true, length, slice_get, vec_capacity};
 ghost use Rattle.pass_seats.specs.Listed.{opened};
 
-use crate::memory::NoMemory;
 use crate::pass::Pass;
 use crate::view::{Agree, Append, Deal, Gather, Listed, Said, View};
 use atomic_table::{Badge, Seat, Shared, Table};
+use no_memory::NoMemory;
 use std::alloc::Global;
 use std::marker::{Brand, Model};
 use std::mem;

@@ -7,9 +7,9 @@ ghost use Rattle.domain_run.specs.Jump as jump;
 ghost use Rattle.domain_run.specs.Sound.{IsDomain};
 
 use super::State;
-use crate::memory::NoMemory;
 use crate::running::{Running, running_of, standing_at};
 use crate::sweep;
+use no_memory::NoMemory;
 
 impl State {
     /// Begins a tick: throttled tasks whose deadline has come are replenished, zero-lag times that have come are dropped, blocked

@@ -7,7 +7,7 @@ ghost use Rattle.domain_run.specs.Sound.{IsPlacement};
 
 use super::State;
 use crate::charging;
-use crate::memory::NoMemory;
+use no_memory::NoMemory;
 
 impl State {
     /// One tick, from the time now to the next microsecond: throttled tasks whose deadline has come are replenished, zero-lag times

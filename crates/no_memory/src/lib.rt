@@ -1,8 +1,13 @@
+//! Want of memory, as every crate tells it: a growth was refused (ENOMEM 12, errno(3)).
+//!
+//! To the crates above it promises the text `out of memory`. Takes no memory.
+#![tactic(auto)]
+
 use std::alloc::{AllocError, AllocFailed};
 use std::error::Error;
 use std::fmt;
 
-/// ENOMEM 12: a growth was refused. It prints as `out of memory`.
+/// ENOMEM 12: a growth was refused. What stands then is told by each call that answers it. It prints as `out of memory`.
 #[derive(Clone, Copy, Debug, PartialEq, Eq)]
 pub struct NoMemory;
 
