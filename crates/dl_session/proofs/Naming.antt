@@ -12,7 +12,7 @@ use Rattle.domain_run.specs.Domain.{Domain}
 use Rattle.domain_run.specs.Calls.{reply_to, is_refusal, after_call, granted}
 use Rattle.domain_run.specs.Tick.{ticks}
 use Rattle.domain_run.specs.Sound.{IsAdmitted}
-use Rattle.domain_run.proofs.Admitting.{with_number_contains}
+use Rattle.domain_run.proofs.CallerLemmas.{with_number_contains}
 use Rattle.switch_text.specs.Names.{Names, named}
 use Rattle.dl_session.specs.Replay.{with_name}
 use Rattle.dl_session.specs.private.Replaying.{AreNamed}

@@ -12,9 +12,9 @@ use Rattle.domain_run.specs.declared.call.Reply.TheVariants.{Admitted, Changed, 
 use Rattle.domain_run.specs.Domain.{Domain, opened}
 use Rattle.domain_run.specs.Calls.{with_number, reply_to, is_refusal, after_call}
 use Rattle.domain_run.specs.Run.{after_calls, replies_to}
-use Rattle.domain_run.proofs.Admitting.{with_number_contains, granted_is}
+use Rattle.domain_run.proofs.CallerLemmas.{with_number_contains, granted_is}
 use Rattle.domain_run.proofs.CallerLemmas.{refused_keeps}
-use Rattle.domain_run.proofs.KeptKeys.{AreNumbered}
+use Rattle.domain_run.proofs.CallerLemmas.{AreNumbered}
 use Rattle.call_book.specs.declared.section.Entry.{Entry}
 use Rattle.call_book.specs.Book.{AdmissionView, admission, calls_of}
 use Rattle.dl_session.specs.Replay.{named_by, names_after, names_of}

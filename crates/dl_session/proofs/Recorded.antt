@@ -14,7 +14,7 @@ use Rattle.domain_run.specs.Tick.{sum_of}
 use Rattle.domain_run.specs.Calls.{admit_reply, reply_to, is_refusal, granted, after_call, task_of, regrade_reply, wake_reply, leave_reply}
 use Rattle.domain_run.specs.Run.{after_calls, replies_to, run_of}
 use Rattle.domain_run.specs.Sound.{IsAdmitted}
-use Rattle.domain_run.proofs.Admitting.{with_number_contains}
+use Rattle.domain_run.proofs.CallerLemmas.{with_number_contains}
 use Rattle.call_book.specs.declared.section.Entry.{Entry}
 use Rattle.call_book.specs.SectionView.{SectionView}
 use Rattle.call_book.specs.Limits.{IsCall, IsEntry, IsSection}

@@ -26,6 +26,10 @@ use Rattle.domain_run.specs.Views.{view_of, view_in, name_in}
 use Rattle.domain_run.specs.Busy.{LacksRoomFor, LacksRoomToChange}
 use Rattle.domain_run.specs.Keys.{key_of, keys, has_task, listed_keys, AreKept, with_bw}
 use Rattle.domain_run.proofs.KeptKeys as kept
+-- passed on to callers who run the definitions in another order
+pub use Rattle.domain_run.proofs.Admitting.{with_number_contains, sum_push, IsGranted, granted_is}
+pub use Rattle.domain_run.proofs.KeptKeys.{AreNumbered, ticks_numbered}
+pub use Rattle.domain_run.proofs.Keeping.{same_replenished, same_settled, same_unblocked, AllPairs-map}
 
 and_left : (a b : Bool) → (a && b) ≡ true → a ≡ true
 and_left true b e = refl

@@ -11,7 +11,7 @@ use Rattle.grub_rules.specs.declared.share.Share.{Share}
 use Rattle.std.proofs.Math.Seq.{map-set_same}
 use Rattle.grub_rules.specs.Sums.{total_bw, uinact}
 use Rattle.grub_rules.specs.Accounts.{AccountsView, AreAccounts, Exchanges, inactive_at}
-use Rattle.grub_rules.proofs.LoopLemmas.{at, set_at, held_at, turned_at, joined_last}
+use Rattle.grub_rules.proofs.CallerLemmas.{at, set_at, held_at, turned_at, joined_last}
 use Rattle.edf_pick.specs.declared.candidate.Candidate.{Candidate}
 use Rattle.edf_pick.specs.Order.{ordered, has_candidate}
 use Rattle.edf_pick.proofs.CallerLemmas.{IsNumbered, numbered_map, length_ordered, ordered_absent, ordered_insert, ordered_remove, placed_ordered}

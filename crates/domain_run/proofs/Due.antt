@@ -1,10 +1,10 @@
 -- Which tasks are due, and what parts 1 to 3 do to the others: nothing.
-use Rattle.std.proofs.Common.{◌≡◌, ℕ, zero, suc, ◌+◌, ◌-◌, ◌^◌, ◌<◌, ◌≤◌, min, true, false, cond, ◌&&◌, Option, Some, None, List, [], ◌∷◌, ◌++◌, length, map, get_or, set, take, drop, refl, sym, ap, subst, ◌∙◌, arith}
+use Rattle.std.proofs.Common.{◌≡◌, ℕ, zero, suc, ◌+◌, ◌-◌, ◌^◌, ◌<◌, ◌≤◌, min, true, false, cond, ◌&&◌, Option, Some, None, List, [], ◌∷◌, ◌++◌, length, map, get_or, set, take, drop, length-append, refl, sym, ap, subst, ◌∙◌, arith}
 use Rattle.std.specs.Prelude.{All, filter}
 use Rattle.std.proofs.lemmas.Bool.{lt-leb}
-use Rattle.std.proofs.lemmas.List.{get_or-map, get_or_default, set-get_or, length-set, length-map}
+use Rattle.std.proofs.lemmas.List.{get_or-map, get_or_default, set-get_or, length-set, length-map, length-take, length-drop}
 use Rattle.std.proofs.lemmas.List.Elements.{All-cons, All-weaker}
-use Rattle.edf_pick.proofs.MapStep.{map_step}
+use Rattle.std.proofs.lemmas.List.Edits.{map_over_more}
 use Rattle.domain_run.specs.declared.task.Task.{Task}
 use Rattle.domain_run.specs.declared.task.Condition.{Condition}
 use Rattle.domain_run.specs.declared.task.Condition.TheVariants.{Ready, Throttled, Blocked, Waiting, Leaving}
@@ -112,7 +112,8 @@ some_task (t ∷ tasks) p h = t
 pub step_more : (f : Task → Task) (first now new : List Task) (p : ℕ) → p < length first → now ≡ map f (take p first) ++ drop p first → IsStep f p now new → new ≡ map f (take (p + 1) first) ++ drop (p + 1) first
 step_more f first now new p h written step =
     let d = some_task first p h in
-    step.is d ∙ map_step f first now p d (f (get_or now p d)) h written refl
+    let within : p < length now = rw written (simp (length-append, length-map, length-take, length-drop) (omega (arith, h))) in
+    step.is d ∙ map_over_more f first now p (get_or now p d) h written (get_or_default now p d (get_or now p d) within)
 
 pub step_len : (f : Task → Task) (tasks new : List Task) (p : ℕ) → p < length tasks → IsStep f p tasks new → length new ≡ length tasks
 step_len f tasks new p h step =

@@ -12,7 +12,7 @@ use Rattle.attr_check.specs.ParamsView.{ParamsView}
 use Rattle.attr_check.specs.Ratio.{unit, cap}
 use Rattle.grub_rules.specs.Rate.{div_up, charged_bw}
 use Rattle.grub_rules.specs.Rate as reclaiming
-use Rattle.grub_rules.proofs.Rating.{taken_is, used_most}
+use Rattle.grub_rules.proofs.CallerLemmas.{taken_is, used_most}
 use Rattle.edf_pick.specs.Places.{Places, stands}
 use Rattle.domain_run.specs.declared.task.Task.{Task}
 use Rattle.domain_run.specs.declared.task.Condition.{Condition}

@@ -1,4 +1,3 @@
 pub mod Exchanging
 pub mod CallerLemmas
-pub mod LoopLemmas
 pub mod Rating

@@ -5,7 +5,7 @@ use Rattle.std.proofs.lemmas.Int.{ints}
 use Rattle.attr_check.specs.Ratio.{cap}
 use Rattle.attr_check.specs.ParamsView.{ParamsView, IsOrdered}
 use Rattle.grub_rules.specs.Rate.{rate}
-use Rattle.grub_rules.proofs.Rating.{rounded, rate_is, slow}
+use Rattle.grub_rules.proofs.CallerLemmas.{rounded, rate_is, slow}
 use Rattle.tick_split.specs.declared.element.Plan.{Plan}
 use Rattle.tick_split.specs.Planning.{IsPlannable, IsPlanned}
 use Rattle.tick_split.proofs.Spending.{some_rate}

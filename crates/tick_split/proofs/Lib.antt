@@ -1,4 +1,3 @@
 pub mod Spending
 pub mod Cutting
-pub mod MapStep
 pub mod CallerLemmas

@@ -1,6 +1,6 @@
 use Rattle.std.proofs.Common.{◌≡◌, [], ◌∷◌, get_or, sym, ap, subst, ◌∙◌}
 use Rattle.grub_rules.specs.Accounts.{Exchanges}
-use Rattle.grub_rules.proofs.LoopLemmas.{still_counted-held, still_counted-stayed, still_counted-parted}
+use Rattle.grub_rules.proofs.CallerLemmas.{still_counted-held, still_counted-stayed, still_counted-parted}
 use Rattle.domain_run.specs.Parts.{is_listed}
 use Rattle.domain_run.specs.Tick.{share_of}
 use Rattle.domain_run.proofs.roster.listing.part_left.Goals as goal

@@ -1,6 +1,6 @@
 use Rattle.std.proofs.Common.{◌≡◌, length}
 use Rattle.grub_rules.specs.Accounts.{AreAccounts}
-use Rattle.grub_rules.proofs.LoopLemmas.{still_counted}
+use Rattle.grub_rules.proofs.CallerLemmas.{still_counted}
 use Rattle.domain_run.specs.Parts.{is_listed}
 use Rattle.domain_run.specs.Tick.{share_of}
 use Rattle.domain_run.proofs.roster.listing.part_left.Given as goal
