@@ -2,14 +2,9 @@ pub mod Naming
 pub mod Sections
 pub mod Written
 pub mod Replied
-pub mod Asked
-pub mod Closed
-pub mod Advanced
-pub mod Opening
 pub mod CpuLists
 pub mod ScenarioLaw
 pub mod Ran
-pub mod Admitted
 pub mod Recorded
 pub mod Shown
 pub mod Replayable

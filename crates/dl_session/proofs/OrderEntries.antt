@@ -9,9 +9,10 @@ use Rattle.domain_run.specs.declared.call.Call.TheVariants.{Advance}
 use Rattle.domain_run.specs.declared.call.Reply.TheVariants.{Done}
 use Rattle.call_book.specs.declared.section.Entry.{Entry}
 use Rattle.call_book.specs.Book.{IsMember, own_entries}
-use Rattle.dl_session.specs.SessionId.{SessionId}
-use Rattle.dl_session.specs.Asks.{Asked, Made, call_of, domain_of, made_at, made_in, entries_from}
-use Rattle.dl_session.specs.ScenarioAnswers.{own_asked, advance_of}
+use Rattle.session.specs.SessionId.{SessionId}
+use Rattle.session.specs.Asks.{Asked, Made, call_of, domain_of, made_at, made_in, entries_from}
+use Rattle.session.specs.Admissions.{own_asked}
+use Rattle.session.specs.RunEnd.{advance_of}
 use Rattle.dl_session.specs.InOrder.{is_admitted}
 use Rattle.dl_session.proofs.OrderLists.{Reordered, chain, turned, mapped, filtered, filter_mapped}
 use Rattle.dl_session.proofs.OrderGathered.{gathered, gather, gathered_both}

@@ -11,12 +11,14 @@ use Rattle.call_book.specs.SectionView.{SectionView}
 use Rattle.call_book.specs.declared.section.Entry.{Entry}
 use Rattle.call_book.specs.Book.{IsMember, own_entries}
 use Rattle.switch_text.specs.Trace.{RunView, trace_of}
-use Rattle.dl_session.specs.declared.refusal.Refusal.{Refusal}
-use Rattle.dl_session.specs.SessionId.{SessionId, IsPlace, cpus_of}
-use Rattle.dl_session.specs.Asks.{Asked, Made, made_in, entries_from}
-use Rattle.dl_session.specs.ScenarioAnswers.{AnswersScenario, EndsWith, own_asked, advance_of, history_of}
+use Rattle.session.specs.declared.refusal.Refusal.{Refusal}
+use Rattle.session.specs.SessionId.{SessionId, IsDomainIndex, cpus_of}
+use Rattle.session.specs.Asks.{Asked, Made, made_in, entries_from}
+use Rattle.dl_session.specs.ScenarioAnswers.{AnswersScenario, history_of}
+use Rattle.session.specs.RunEnd.{EndsWith, advance_of}
+use Rattle.session.specs.Admissions.{own_asked}
 use Rattle.dl_session.specs.Replay.{calls_of, names_of, no_names, run_view, runs_from, trace_of_sections}
-use Rattle.dl_session.specs.Report.{IsHistoryOf}
+use Rattle.session.specs.Report.{IsHistoryOf}
 use Rattle.dl_session.specs.InOrder.{granted_in, section_in_order, sections_from, sections_in_order}
 use Rattle.dl_session.proofs.OrderRuns.{opened_listing}
 use Rattle.dl_session.proofs.OrderEntries.{calls_in, granted_are}
@@ -82,7 +84,7 @@ runs_same id asked duration d base (cpus ∷ sets) (h ∷ hs) count each =
 
 pub in_order : (id : SessionId) (clients : ℕ) (tasks : List TaskSpecView) (duration : ℕ) (histories : List SectionView) (refused : List (ℕ × Refusal)) → 0 < clients
     → length histories ≡ length id.cpu_sets
-    → ((d : ℕ) (x : SectionView) → IsPlace id d → IsHistoryOf id d [] (get_or histories d x))
+    → ((d : ℕ) (x : SectionView) → IsDomainIndex id d → IsHistoryOf id d [] (get_or histories d x))
     → (answers : AnswersScenario id clients tasks duration (map (λ h. h.entries) histories) refused)
     → trace_of_sections histories ≡ trace_of_sections (sections_in_order id answers.asked duration)
 in_order id clients tasks duration histories refused some count legal answers =

@@ -12,8 +12,8 @@ use Rattle.domain_run.specs.Calls.{reply_to, after_call}
 use Rattle.domain_run.specs.Run.{after_calls}
 use Rattle.call_book.specs.declared.section.Entry.{Entry}
 use Rattle.call_book.specs.Book.{calls_of}
-use Rattle.dl_session.specs.Asks.{Made}
-use Rattle.dl_session.specs.ScenarioAnswers.{advance_of, IsEnd, EndsWith}
+use Rattle.session.specs.Asks.{Made}
+use Rattle.session.specs.RunEnd.{advance_of, IsEnd, EndsWith}
 use Rattle.dl_session.specs.Replay.{names_after, names_of}
 use Rattle.dl_session.proofs.OrderLists.{Reordered}
 use Rattle.dl_session.proofs.OrderTicks.{Alike, ticks_alike, alike_switches}

@@ -10,9 +10,10 @@ use Rattle.domain_run.specs.declared.call.Reply.TheVariants.{Admitted, Changed, 
 use Rattle.rtapp_scenario.specs.ScenarioView.{TaskSpecView}
 use Rattle.call_book.specs.declared.section.Entry.{Entry}
 use Rattle.call_book.specs.Book.{IsMember}
-use Rattle.dl_session.specs.SessionId.{SessionId}
-use Rattle.dl_session.specs.Asks.{Answer, IsLawful, Asked, Made, call_of, domain_of, made_at, made_in, entries_from}
-use Rattle.dl_session.specs.ScenarioAnswers.{is_own, own_asked, advance_of}
+use Rattle.session.specs.SessionId.{SessionId}
+use Rattle.session.specs.Asks.{Answer, IsLawful, Asked, Made, call_of, domain_of, made_at, made_in, entries_from}
+use Rattle.session.specs.Admissions.{is_own, own_asked}
+use Rattle.session.specs.RunEnd.{advance_of}
 use Rattle.dl_session.proofs.OrderLists.{filtered, same_length}
 use Rattle.dl_session.proofs.OrderGathered.{gathered, gather}
 use Rattle.dl_session.proofs.OrderRuns.{is_verdict}

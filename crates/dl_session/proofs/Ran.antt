@@ -17,25 +17,29 @@ use Rattle.switch_text.specs.Sides.{HasNoFault}
 use Rattle.switch_text.specs.Faults.{TakesFront}
 use Rattle.dl_session.specs.declared.fault.SessionFault.{SessionFault}
 use Rattle.dl_session.specs.declared.fault.SessionFault.TheVariants as faults
-use Rattle.dl_session.specs.declared.options.Options.{Options}
-use Rattle.dl_session.specs.declared.refusal.Refusal.{Refusal}
-use Rattle.dl_session.specs.declared.report.Report.{Report}
-use Rattle.dl_session.specs.declared.finishing.Finished.{Finished}
-use Rattle.dl_session.specs.SessionId.{SessionId}
-use Rattle.dl_session.specs.Asks.{ClientView, pass_in}
-use Rattle.dl_session.specs.Admissions.{AreNew, AllAsked}
-use Rattle.dl_session.specs.Report.{IsHistoryOf}
-use Rattle.dl_session.specs.Options.{AreOptions, IsSessionOf}
+use Rattle.session.specs.declared.options.Options.{Options}
+use Rattle.session.specs.declared.refusal.Refusal.{Refusal}
+use Rattle.session.specs.declared.report.Report.{Report}
+use Rattle.session.specs.declared.report.Finished.{Finished}
+use Rattle.session.specs.SessionId.{SessionId, IsDomainIndex}
+use Rattle.session.specs.Asks.{ClientView, pass_in}
+use Rattle.session.specs.Admissions.{AreNew, AllAsked}
+use Rattle.session.specs.Report.{IsHistoryOf, IsLeft}
+use Rattle.session.specs.Options.{AreOptions, IsSessionOf}
 use Rattle.dl_session.specs.ScenarioAnswers.{AnswersScenario}
 use Rattle.dl_session.specs.FullBook.{IsFullDomain}
 use Rattle.dl_session.specs.Answer.{Seen, IsInput, NothingWritten}
 use Rattle.dl_session.specs.RunAnswer.{IsJson, IsScenario, flagged, IsRun, printed, IsRunAnswer, IsRunFault}
 use Rattle.dl_session.specs.private.Replaying.{IsWritten, IsUnwritten}
-use Rattle.dl_session.specs.private.Running.{IsFirst, IsJsonTold, IsScenarioTold, IsFinished, IsRan, IsOrMemory, IsStopped, IsHalted, IsFullWith}
+use Rattle.session.specs.RunEnd.{IsFirst, IsFinished, IsFullWith, IsStopped}
+use Rattle.session.specs.declared.fault.EndFault.{EndFault}
+use Rattle.session.specs.declared.fault.EndFault.TheVariants as ends
+use Rattle.dl_session.specs.Upward.{of_end}
+use Rattle.dl_session.specs.private.Running.{IsJsonTold, IsScenarioTold, IsRan, IsOrMemory, IsHalted}
 use Rattle.dl_session.proofs.ScenarioLaw.{answers_all, answers_tasks}
 use Rattle.dl_session.proofs.OrderLaw.{in_order}
 use Rattle.dl_session.proofs.Replayable.{read_again, same_trace}
-use Rattle.dl_session.proofs.Opening.{length_sets}
+use Rattle.session.proofs.CallerLemmas.{length_sets}
 
 -- ---- faults of the input
 
@@ -189,48 +193,36 @@ run_faulted s o histories written refused faults.Read run same reads unwritten =
 run_faulted s o histories written refused faults.Start run same reads unwritten = absurd unwritten
 run_faulted s o histories written refused faults.Full run same reads unwritten = absurd unwritten
 
--- a run had no room for an advance, or no memory
-pub run_stopped : (s : Seen) (o : Options) (scenario : ScenarioView) (duration : ℕ) (given tasks : List TaskSpecView) (id : SessionId) (e : SessionFault)
-    → IsScenario s scenario → record { duration_us = duration; tasks = given } ≡ scenario → tasks ≡ map (flagged o.reclaim) given → IsSessionOf o id
-    → NothingWritten s → HasNoFault s.reader → HasNoFault s.writer → IsStopped ((0 < duration) × IsFullDomain id id.clients tasks) e → IsRunFault s o e
-run_stopped s o scenario duration given tasks id e input view same session unwritten reads writes stopped =
-    faulted s o e (λ e. (e ≡ faults.Full) × ((0 < duration) × IsFullDomain id id.clients tasks)) unwritten reads writes
-    (λ met. subst (IsRunFault s o) (sym met.0)
-    (record {
-      scenario = scenario;
-      input = input;
-      advances = subst (λ (x : ScenarioView). 0 < x.duration_us) view met.1.0;
-      id = id;
-      session = session;
-      full =
-          subst (λ (x : ScenarioView). IsFullDomain id o.clients (map (flagged o.reclaim) x.tasks)) view
-          (subst (λ (ts : List TaskSpecView). IsFullDomain id o.clients ts) same
-          (subst (λ (n : ℕ). IsFullDomain id n tasks) session.clients met.1.1));
-      unwritten = unwritten;
-      reads = reads;
-      writes = writes;
-    })) stopped
+-- why the end was not made, as a run tells it
+pub halted : (P Q : Type 0) (e : EndFault) (f : SessionFault) → (P → Q) → IsStopped P e → f ≡ of_end e → IsHalted Q f
+halted P Q ends.Full f make met is = subst (IsHalted Q) (sym is) (make met)
+halted P Q ends.Memory f make met is = subst (IsHalted Q) (sym is) tt
 
-pub halted : (full : Type 0) (e : SessionFault) → IsStopped full e → IsHalted full e
-halted full faults.Start stopped = tt
-halted full (faults.Json f) stopped = stopped
-halted full (faults.Scenario f) stopped = stopped
-halted full (faults.Calls n) stopped = stopped
-halted full faults.Read stopped = stopped
-halted full (faults.Write n) stopped = stopped
-halted full faults.Full stopped = stopped
-halted full faults.Memory stopped = stopped
-
--- or a client's thread was not started
-pub run_halted : (s : Seen) (o : Options) (scenario : ScenarioView) (duration : ℕ) (given tasks : List TaskSpecView) (id : SessionId) (e : SessionFault)
-    → IsScenario s scenario → record { duration_us = duration; tasks = given } ≡ scenario → tasks ≡ map (flagged o.reclaim) given → IsSessionOf o id
-    → NothingWritten s → HasNoFault s.reader → HasNoFault s.writer → IsHalted ((0 < duration) × IsFullDomain id id.clients tasks) e → IsRunFault s o e
+-- a client's thread was not started, or a run had no room for an advance, or no memory
+pub run_halted : (s : Seen) (o : Options) (scenario : ScenarioView) (duration : ℕ) (given tasks : List TaskSpecView)
+    (id : SessionId) (e : SessionFault) → IsScenario s scenario → record { duration_us = duration; tasks = given } ≡ scenario
+    → tasks ≡ map (flagged o.reclaim) given → IsSessionOf o id → NothingWritten s → HasNoFault s.reader → HasNoFault s.writer
+    → IsHalted ((0 < duration) × IsFullDomain id id.clients tasks) e → IsRunFault s o e
 run_halted s o scenario duration given tasks id faults.Start input view same session unwritten reads writes met =
     record { scenario = scenario; input = input; unwritten = unwritten; reads = reads; writes = writes }
-run_halted s o scenario duration given tasks id (faults.Json f) input view same session unwritten reads writes met = run_stopped s o scenario duration given tasks id (faults.Json f) input view same session unwritten reads writes met
-run_halted s o scenario duration given tasks id (faults.Scenario f) input view same session unwritten reads writes met = run_stopped s o scenario duration given tasks id (faults.Scenario f) input view same session unwritten reads writes met
-run_halted s o scenario duration given tasks id (faults.Calls n) input view same session unwritten reads writes met = run_stopped s o scenario duration given tasks id (faults.Calls n) input view same session unwritten reads writes met
-run_halted s o scenario duration given tasks id faults.Read input view same session unwritten reads writes met = run_stopped s o scenario duration given tasks id faults.Read input view same session unwritten reads writes met
-run_halted s o scenario duration given tasks id (faults.Write n) input view same session unwritten reads writes met = run_stopped s o scenario duration given tasks id (faults.Write n) input view same session unwritten reads writes met
-run_halted s o scenario duration given tasks id faults.Full input view same session unwritten reads writes met = run_stopped s o scenario duration given tasks id faults.Full input view same session unwritten reads writes met
-run_halted s o scenario duration given tasks id faults.Memory input view same session unwritten reads writes met = run_stopped s o scenario duration given tasks id faults.Memory input view same session unwritten reads writes met
+run_halted s o scenario duration given tasks id faults.Memory input view same session unwritten reads writes met =
+    record { unwritten = unwritten; reads = reads; writes = writes }
+run_halted s o scenario duration given tasks id faults.Full input view same session unwritten reads writes met = record {
+  scenario = scenario;
+  input = input;
+  advances = subst (λ (x : ScenarioView). 0 < x.duration_us) view met.0;
+  id = id;
+  session = session;
+  full =
+      subst (λ (x : ScenarioView). IsFullDomain id o.clients (map (flagged o.reclaim) x.tasks)) view
+      (subst (λ (ts : List TaskSpecView). IsFullDomain id o.clients ts) same
+      (subst (λ (n : ℕ). IsFullDomain id n tasks) session.clients met.1));
+  unwritten = unwritten;
+  reads = reads;
+  writes = writes;
+}
+run_halted s o scenario duration given tasks id (faults.Json f) input view same session unwritten reads writes met = absurd met
+run_halted s o scenario duration given tasks id (faults.Scenario f) input view same session unwritten reads writes met = absurd met
+run_halted s o scenario duration given tasks id (faults.Calls n) input view same session unwritten reads writes met = absurd met
+run_halted s o scenario duration given tasks id faults.Read input view same session unwritten reads writes met = absurd met
+run_halted s o scenario duration given tasks id (faults.Write n) input view same session unwritten reads writes met = absurd met

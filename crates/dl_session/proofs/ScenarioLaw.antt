@@ -5,17 +5,19 @@ use Rattle.std.proofs.lemmas.List.Elements.{All-get_or}
 use Rattle.rtapp_scenario.specs.ScenarioView.{TaskSpecView}
 use Rattle.call_book.specs.SectionView.{SectionView}
 use Rattle.call_book.specs.declared.section.Entry.{Entry}
-use Rattle.call_book.specs.Book.{own_entries}
-use Rattle.dl_session.specs.declared.refusal.Refusal.{Refusal}
-use Rattle.dl_session.specs.SessionId.{SessionId, IsPlace}
-use Rattle.dl_session.specs.Asks.{ClientView, Asked, Made, Makes, pass_in, made_in, entries_from}
-use Rattle.dl_session.specs.Clients.{IsNew}
-use Rattle.dl_session.specs.Admissions.{AreNew, AllAsked}
-use Rattle.dl_session.specs.Report.{IsHistoryOf}
-use Rattle.dl_session.specs.ScenarioAnswers.{AnswersScenario, EndsWith, own_asked, advance_of, history_of}
+use Rattle.call_book.specs.Book.{IsMember, own_entries}
+use Rattle.session.specs.declared.refusal.Refusal.{Refusal}
+use Rattle.session.specs.SessionId.{SessionId, IsDomainIndex}
+use Rattle.session.specs.Asks.{ClientView, Asked, Made, Makes, pass_in, made_in, entries_from}
+use Rattle.session.specs.Clients.{IsNew}
+use Rattle.session.specs.Admissions.{AreNew, AllAsked}
+use Rattle.session.specs.Report.{IsHistoryOf}
+use Rattle.dl_session.specs.ScenarioAnswers.{AnswersScenario, history_of}
+use Rattle.session.specs.RunEnd.{EndsWith, advance_of}
+use Rattle.session.specs.Admissions.{own_asked}
 use Rattle.dl_session.specs.FullBook.{AnswersTasks}
 use Rattle.dl_session.specs.RunAnswer.{flagged}
-use Rattle.dl_session.specs.private.Running.{HaveAdvanced}
+use Rattle.session.specs.RunEnd.{HaveAdvanced}
 
 -- ---- entries behind entries
 
@@ -76,7 +78,7 @@ no_client = record { number = 0; passes = []; hand = None }
 record HasAsked (id : SessionId) (asked : List Asked) (n i : ℕ) (e : ClientView) : Type 0 where
   pub number : e.number ≡ i + 1
   pub domains : length e.passes ≡ length id.cpu_sets
-  pub passes : (d : ℕ) → IsPlace id d → pass_in e d ≡ entries_from (i + 1) 0 (made_in id d (own_asked n i asked))
+  pub passes : (d : ℕ) → IsDomainIndex id d → pass_in e d ≡ entries_from (i + 1) 0 (made_in id d (own_asked n i asked))
 
 has_asked : (id : SessionId) (tasks : List TaskSpecView) (cs es : List ClientView) (refused : List (ℕ × Refusal)) (new : AreNew id cs) (all : AllAsked id tasks cs es refused) (i : ℕ)
     → i < id.clients → HasAsked id all.asked id.clients i (get_or es i no_client)
@@ -104,7 +106,7 @@ shown_own d i history fs inside number own =
 pub answers_all : (id : SessionId) (tasks : List TaskSpecView) (duration : ℕ) (cs es fs : List ClientView) (refused : List (ℕ × Refusal)) (hs : List SectionView)
     → AreNew id cs → AllAsked id tasks cs es refused → HaveAdvanced duration es fs
     → length hs ≡ length id.cpu_sets
-    → ((d : ℕ) (x : SectionView) → IsPlace id d → IsHistoryOf id d fs (get_or hs d x))
+    → ((d : ℕ) (x : SectionView) → IsDomainIndex id d → IsHistoryOf id d fs (get_or hs d x))
     → ((d : ℕ) (x : SectionView) → d < length id.cpu_sets → EndsWith duration (get_or hs d x).entries)
     → AnswersScenario id id.clients tasks duration (map (λ h. h.entries) hs) refused
 answers_all id tasks duration cs es fs refused hs new asked advanced count histories ends = record {
@@ -137,7 +139,7 @@ answers_all id tasks duration cs es fs refused hs new asked advanced count histo
 
 -- the admissions alone, in the history of one domain that was not advanced
 pub answers_tasks : (id : SessionId) (tasks : List TaskSpecView) (cs es : List ClientView) (refused : List (ℕ × Refusal)) (d : ℕ) (h : SectionView)
-    → AreNew id cs → AllAsked id tasks cs es refused → IsPlace id d → IsHistoryOf id d es h → AnswersTasks id id.clients tasks d h.entries
+    → AreNew id cs → AllAsked id tasks cs es refused → IsDomainIndex id d → IsHistoryOf id d es h → AnswersTasks id id.clients tasks d h.entries
 answers_tasks id tasks cs es refused d h new asked place is = record {
   asked = asked.asked;
   tasks_are = asked.tasks_are;

@@ -4,10 +4,10 @@ use Rattle.rtapp_scenario.specs.ScenarioView.{TaskSpecView}
 use Rattle.call_book.specs.declared.section.Entry.{Entry}
 use Rattle.call_book.specs.SectionView.{SectionView}
 use Rattle.call_book.specs.Book.{own_entries}
-use Rattle.dl_session.specs.SessionId.{SessionId, IsPlace}
-use Rattle.dl_session.specs.Asks.{IsLawful, Asked, made_in, entries_from}
-use Rattle.dl_session.specs.Report.{IsHistoryOf}
-use Rattle.dl_session.specs.ScenarioAnswers.{own_asked}
+use Rattle.session.specs.SessionId.{SessionId, IsDomainIndex}
+use Rattle.session.specs.Asks.{IsLawful, Asked, made_in, entries_from}
+use Rattle.session.specs.Report.{IsHistoryOf}
+use Rattle.session.specs.Admissions.{own_asked}
 
 -- the admissions of a scenario alone, in one domain, for so many clients: there is a lawful answer for each task, and the entries of
 -- each client are the calls of its own tasks that were answered there, in the order of tasks
@@ -21,8 +21,8 @@ pub record AnswersTasks (id : SessionId) (clients : ℕ) (tasks : List TaskSpecV
 -- the tasks stand in it and nothing else, and these are as many entries as it has room for
 pub record IsFullDomain (id : SessionId) (clients : ℕ) (tasks : List TaskSpecView) : Type 0 where
   pub domain : ℕ
-  pub place : IsPlace id domain
+  pub place : IsDomainIndex id domain
   pub history : SectionView
   pub legal : IsHistoryOf id domain [] history
   pub answers : AnswersTasks id clients tasks domain history.entries
-  pub full : length history.entries ≡ id.room
+  pub full : length history.entries ≡ id.max_calls

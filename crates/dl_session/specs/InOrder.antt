@@ -3,9 +3,9 @@ use Rattle.std.specs.Prelude.{ℕ, ◌+◌, Bool, true, false, List, [], ◌∷�
 use Rattle.domain_run.specs.declared.call.Reply.{Reply}
 use Rattle.domain_run.specs.declared.call.Reply.TheVariants as replies
 use Rattle.call_book.specs.SectionView.{SectionView}
-use Rattle.dl_session.specs.SessionId.{SessionId}
-use Rattle.dl_session.specs.Asks.{Asked, Made, made_in, entries_from}
-use Rattle.dl_session.specs.ScenarioAnswers.{advance_of}
+use Rattle.session.specs.SessionId.{SessionId}
+use Rattle.session.specs.Asks.{Asked, Made, made_in, entries_from}
+use Rattle.session.specs.RunEnd.{advance_of}
 
 -- the reply that grants an admission
 abbrev pub is_admitted : Reply → Bool

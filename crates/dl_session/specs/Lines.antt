@@ -4,7 +4,6 @@ use Rattle.std.specs.Char.{encode_utf8}
 use Rattle.std.specs.Fmt.{digit_glyph}
 use Rattle.std.specs.List.{flat_map}
 use Rattle.std.specs.Str.{chars}
-use Rattle.attr_check.specs.RefusalName.{refusal_name}
 use Rattle.json_order.specs.Fault.{number_of}
 use Rattle.rtapp_scenario.specs.Told.{fault_number}
 use Rattle.rtapp_scenario.specs.declared.fault.ScenarioFault.{ScenarioFault}
@@ -12,8 +11,7 @@ use Rattle.rtapp_scenario.specs.declared.fault.ScenarioFault.TheVariants.{NoTask
 use Rattle.dl_session.specs.declared.fault.SessionFault.{SessionFault}
 use Rattle.dl_session.specs.declared.fault.SessionFault.TheVariants as faults
 use Rattle.dl_session.specs.declared.fault.RefusedLine.{RefusedLine}
-use Rattle.dl_session.specs.declared.refusal.Refusal.{Refusal}
-use Rattle.dl_session.specs.declared.refusal.Refusal.TheVariants as refusals
+use Rattle.session.specs.RefusalText.{refusal_text}
 
 -- a character of a key: a control character as \u00 and its two digits, so that the line stays one line; any other as it is
 abbrev pub shown : ℕ → List ℕ
@@ -49,15 +47,6 @@ fault_line (faults.Write written) = codes "dlsim: write failed after " ++ decima
 fault_line faults.Start = codes "dlsim: no thread"
 fault_line faults.Full = codes "dlsim: book full"
 fault_line faults.Memory = codes "dlsim: out of memory"
-
--- why a task was refused
-abbrev pub refusal_text : Refusal → List ℕ
-refusal_text (refusals.Einval kind) = codes "EINVAL 22 " ++ refusal_name kind
-refusal_text refusals.Eperm = codes "EPERM 1"
-refusal_text refusals.Full = codes "Full 40"
-refusal_text refusals.Twice = codes "Twice 41"
-refusal_text refusals.Enomem = codes "ENOMEM 12"
-refusal_text (refusals.Busy seen) = codes "EBUSY 16 seen " ++ decimal seen
 
 -- the line of a refused task
 abbrev pub refused_line : RefusedLine → List ℕ

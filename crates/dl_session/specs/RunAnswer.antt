@@ -19,14 +19,14 @@ use Rattle.switch_text.specs.Sides.{HasNoFault, HasOneFault}
 use Rattle.switch_text.specs.Faults.{TakesFront}
 use Rattle.dl_session.specs.declared.fault.SessionFault.{SessionFault}
 use Rattle.dl_session.specs.declared.fault.SessionFault.TheVariants as faults
-use Rattle.dl_session.specs.declared.options.Options.{Options}
-use Rattle.dl_session.specs.declared.options.Print.{Print}
-use Rattle.dl_session.specs.declared.options.Print.TheVariants as prints
-use Rattle.dl_session.specs.declared.refusal.Refusal.{Refusal}
-use Rattle.dl_session.specs.declared.report.Report.{Report}
-use Rattle.dl_session.specs.SessionId.{SessionId, IsPlace}
-use Rattle.dl_session.specs.Options.{IsSessionOf}
-use Rattle.dl_session.specs.Report.{IsHistoryOf, IsLeft}
+use Rattle.session.specs.declared.options.Options.{Options}
+use Rattle.session.specs.declared.options.Print.{Print}
+use Rattle.session.specs.declared.options.Print.TheVariants as prints
+use Rattle.session.specs.declared.refusal.Refusal.{Refusal}
+use Rattle.session.specs.declared.report.Report.{Report}
+use Rattle.session.specs.SessionId.{SessionId, IsDomainIndex}
+use Rattle.session.specs.Options.{IsSessionOf}
+use Rattle.session.specs.Report.{IsHistoryOf, IsLeft}
 use Rattle.dl_session.specs.ScenarioAnswers.{AnswersScenario}
 use Rattle.dl_session.specs.FullBook.{IsFullDomain}
 use Rattle.dl_session.specs.InOrder.{sections_in_order}
@@ -67,7 +67,7 @@ pub record IsRun (s : Seen) (o : Options) (histories : List SectionView) (refuse
   pub id : SessionId
   pub session : IsSessionOf o id
   pub count : length histories ≡ length id.cpu_sets
-  pub legal : (d : ℕ) (x : SectionView) → IsPlace id d → IsHistoryOf id d [] (slice_index_or histories d x)
+  pub legal : (d : ℕ) (x : SectionView) → IsDomainIndex id d → IsHistoryOf id d [] (slice_index_or histories d x)
   pub replayed : AreReplayed histories
   pub answers : AnswersScenario id o.clients (map (flagged o.reclaim) scenario.tasks) scenario.duration_us (map (λ h. h.entries) histories) refused
   pub in_order : trace_of_sections histories ≡ trace_of_sections (sections_in_order id answers.asked scenario.duration_us)
@@ -111,7 +111,7 @@ pub record IsNoScenario (s : Seen) (fault : ScenarioFault) : Type 0 where
 
 -- the scenario asks for an advance, and in a session of the options a domain had no room for it, once the tasks were asked: its history
 -- had as many entries as the options give it; nothing was written
-pub record IsFullBook (s : Seen) (o : Options) : Type 0 where
+pub record LacksRoomToAdvance (s : Seen) (o : Options) : Type 0 where
   pub scenario : ScenarioView
   pub input : IsScenario s scenario
   pub advances : 0 < scenario.duration_us
@@ -147,5 +147,5 @@ IsRunFault s o (faults.Calls n) = ⊥
 IsRunFault s o faults.Read = IsUnread s
 IsRunFault s o (faults.Write written) = IsRunCutOff s o written
 IsRunFault s o faults.Start = IsUnstarted s
-IsRunFault s o faults.Full = IsFullBook s o
+IsRunFault s o faults.Full = LacksRoomToAdvance s o
 IsRunFault s o faults.Memory = IsOutOfMemory s

@@ -1,51 +1,13 @@
 -- Which histories and refusals answer a scenario (own).
-use Rattle.std.specs.Prelude.{◌≡◌, ℕ, Bool, ◌+◌, ◌-◌, ◌<◌, ◌==◌, ◌%◌, ◌&&◌, nat_lt, if◌then◌else◌, List, [], ◌∷◌, ◌++◌, length, map, filter, filter_map, Option, Some, None, Ok, Err, All, slice_index_or}
-use Rattle.std.specs.Option.{option_map}
-use Rattle.domain_run.specs.declared.call.Call.TheVariants.{Advance}
-use Rattle.domain_run.specs.declared.call.Reply.TheVariants as replies
+use Rattle.std.specs.Prelude.{◌≡◌, ℕ, ◌+◌, ◌<◌, List, [], ◌++◌, length, map, All, slice_index_or}
 use Rattle.rtapp_scenario.specs.ScenarioView.{TaskSpecView}
 use Rattle.call_book.specs.declared.section.Entry.{Entry}
 use Rattle.call_book.specs.Book.{IsMember, own_entries}
-use Rattle.dl_session.specs.declared.refusal.Refusal.{Refusal}
-use Rattle.dl_session.specs.declared.refusal.Refusal.TheVariants as refusals
-use Rattle.dl_session.specs.SessionId.{SessionId}
-use Rattle.dl_session.specs.Asks.{Answer, IsLawful, Asked, made_in, Made, entries_from}
-
--- task k is asked for by client 1 + (k - 1) mod n, here counted from 0
-abbrev pub is_own : ℕ → ℕ → Asked → Bool
-is_own n i q = (q.task.number - 1) % n == i
-
-abbrev pub own_asked : ℕ → ℕ → List Asked → List Asked
-own_asked n i asked = filter (is_own n i) asked
-
--- a refusal, and EBUSY of the book too
-abbrev pub refusal_of : Answer → Option Refusal
-refusal_of (Err refusal) = Some refusal
-refusal_of (Ok (replies.Busy seen)) = Some (refusals.Busy seen)
-refusal_of (Ok _) = None
-
--- the refused tasks by number, in the order of tasks
-abbrev pub refused_in : List Asked → List (ℕ × Refusal)
-refused_in asked = filter_map (λ q. option_map (λ r. (q.task.number, r)) (refusal_of q.answer)) asked
-
--- client 1 advances each domain once, at its end; nobody does where the duration is 0
-abbrev pub advance_of : ℕ → ℕ → List Made
-advance_of duration client =
-    if client == 1 && nat_lt 0 duration
-    then (record { call = Advance duration; reply = replies.Done duration } ∷ [])
-    else []
-
--- the last entry of all is client 1's advance
-pub record IsEnd (duration : ℕ) (history : List Entry) : Type 0 where
-  pub before : List Entry
-  pub last : Entry
-  pub all : history ≡ before ++ last ∷ []
-  pub client : last.client ≡ 1
-  pub call : last.call ≡ Advance duration
-  pub reply : last.reply ≡ Some (replies.Done duration)
-
-abbrev pub EndsWith : ℕ → List Entry → Type 0
-EndsWith duration history = 0 < duration → IsEnd duration history
+use Rattle.session.specs.declared.refusal.Refusal.{Refusal}
+use Rattle.session.specs.SessionId.{SessionId}
+use Rattle.session.specs.Asks.{IsLawful, Asked, made_in, entries_from}
+use Rattle.session.specs.Admissions.{own_asked, refused_in}
+use Rattle.session.specs.RunEnd.{advance_of, EndsWith}
 
 -- the history of a domain
 abbrev pub history_of : List (List Entry) → ℕ → List Entry

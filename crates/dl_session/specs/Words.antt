@@ -3,7 +3,7 @@ use Rattle.std.specs.Prelude.{◌≡◌, ℕ, ◌*◌, ◌<◌, ◌≤◌, ◌==
 use Rattle.std.specs.List.{slice_split}
 use Rattle.attr_check.specs.Ratio.{ratio}
 use Rattle.domain_run.specs.Domain.{IsCpus}
-use Rattle.dl_session.specs.declared.options.Options.{Options}
+use Rattle.session.specs.declared.options.Options.{Options}
 use Rattle.dl_session.specs.declared.words.Words.{Words}
 use Rattle.dl_session.specs.declared.words.WordsFault.{WordsFault}
 use Rattle.dl_session.specs.declared.words.WordsFault.TheVariants as faults

@@ -1,7 +1,3 @@
 pub mod Replaying
-pub mod Entering
-pub mod Parts
-pub mod Closing
-pub mod Running
-pub mod Admitting
 pub mod Recorded
+pub mod Running

@@ -3,9 +3,9 @@ ghost use Rattle.std.specs.Fmt.{WritesOnOk};
 ghost use Rattle.dl_session.specs.Lines.{shown, one_line, scenario_line};
 ghost use Rattle.dl_session.specs.Status.{exit_status};
 
-use crate::refusal::Refusal;
 use json_order::JsonFault;
 use rtapp_scenario::ScenarioFault;
+use session::{AdmitFault, EndFault, Refusal};
 use std::fmt;
 use thiserror::Error;
 
@@ -39,6 +39,34 @@ pub enum SessionFault {
     /// A growth was refused.
     #[error("out of memory")]
     Memory,
+}
+
+impl From<AdmitFault> for SessionFault {
+    ghost use Rattle.std.specs.Prelude.{◌≡◌};
+    ghost use Rattle.dl_session.specs.Upward.{of_admission};
+
+    ghost from_gives = { λ found fault. fault ≡ of_admission found };
+
+    fn from(found: AdmitFault) -> SessionFault {
+        match found {
+            AdmitFault::Start => SessionFault::Start,
+            AdmitFault::Memory => SessionFault::Memory,
+        }
+    }
+}
+
+impl From<EndFault> for SessionFault {
+    ghost use Rattle.std.specs.Prelude.{◌≡◌};
+    ghost use Rattle.dl_session.specs.Upward.{of_end};
+
+    ghost from_gives = { λ found fault. fault ≡ of_end found };
+
+    fn from(found: EndFault) -> SessionFault {
+        match found {
+            EndFault::Full => SessionFault::Full,
+            EndFault::Memory => SessionFault::Memory,
+        }
+    }
 }
 
 impl SessionFault {

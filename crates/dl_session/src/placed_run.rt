@@ -4,7 +4,8 @@ ghost use Rattle.std.specs.Prelude.{◌≡◌, ◌≤◌, All, IfOk, IfErr, leng
 ghost use Rattle.call_book.specs.Limits.{IsSection};
 ghost use Rattle.dl_session.specs.Replay.{runs_from};
 ghost use Rattle.dl_session.specs.private.Replaying.{IsPlaced, view_of};
-ghost use Rattle.dl_session.specs.private.Running.{AreLegal, AreRuns};
+ghost use Rattle.dl_session.specs.private.Running.{AreLegal};
+ghost use Rattle.session.specs.RunEnd.{AreRuns};
 
 use crate::fault::SessionFault;
 use crate::named_run::{NamedRun, recorded, run_section};

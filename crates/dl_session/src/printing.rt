@@ -6,14 +6,15 @@ ghost use Rattle.call_book.specs.Spelling.{spelling};
 ghost use Rattle.switch_text.specs.Sides.{faults_of, side};
 ghost use Rattle.dl_session.specs.RunAnswer.{printed};
 ghost use Rattle.dl_session.specs.private.Replaying.{IsWritten, IsUnwritten};
-ghost use Rattle.dl_session.specs.private.Running.{AreLegal, AreRuns};
+ghost use Rattle.dl_session.specs.private.Running.{AreLegal};
+ghost use Rattle.session.specs.RunEnd.{AreRuns};
 
 use crate::fault::SessionFault;
-use crate::options::Print;
 use crate::placed_run::place_runs;
 use crate::trace::write_runs;
 use call_book::{Section, write_calls};
 use domain_run::State;
+use session::Print;
 use std::alloc::Global;
 use std::io::Write;
 use switch_text::{Counted, write_text};

@@ -2,28 +2,21 @@
 
 ghost use Rattle.std.specs.Prelude.{◌≡◌, ◌<◌, ◌≤◌, ◌^◌, true, map, replicate, IfOk, IfErr, OnOk};
 ghost use Rattle.switch_text.specs.Sides.{Side, HasNoFault, faults_of, side};
-ghost use Rattle.dl_session.specs.declared.options.Options.{Options as OptionsView};
-ghost use Rattle.dl_session.specs.Options.{AreOptions};
-ghost use Rattle.dl_session.specs.Admissions.{AreNew};
+ghost use Rattle.session.specs.declared.options.Options.{Options as OptionsView};
+ghost use Rattle.session.specs.Options.{AreOptions};
+ghost use Rattle.session.specs.Admissions.{AreNew};
 ghost use Rattle.dl_session.specs.Answer.{seen, NothingWritten};
 ghost use Rattle.dl_session.specs.FullBook.{IsFullDomain};
 ghost use Rattle.dl_session.specs.RunAnswer.{flagged, IsScenario, IsRunAnswer, IsRunFault};
 ghost use Rattle.dl_session.specs.private.Running.{IsJsonTold, IsScenarioTold, IsRan, IsHalted};
 
 use crate::admitting::admit_all;
-use crate::client::Client;
 use crate::fault::SessionFault;
-use crate::finishing::{Finished, finish};
-use crate::names::Names;
-use crate::options::Options;
-use crate::parts::Parts;
 use crate::printing::write_run;
-use crate::report::Report;
-use crate::session::Session;
-use crate::turnstile::Turnstile;
 use call_book::NoMemory;
 use json_order::{JsonFault, JsonKind, read};
 use rtapp_scenario::{Scenario, ScenarioFault, TaskSpec, parse};
+use session::{Client, Finished, Names, Options, Parts, Report, Session, Turnstile, end_run};
 use std::alloc::Global;
 use std::io::{Read, Write};
 use std::marker::Brand;
@@ -132,7 +125,7 @@ fn run_in<N: Names + Send + Sync, T: Turnstile, X: Threads + Wait + Sync>(
     };
     match admit_all(rt, alloc, &session, clients, tasks, turnstile) {
         Ok((clients, refused)) => {
-            let mut finished = finish(rt, alloc, session, clients, duration)?;
+            let mut finished = end_run(rt, alloc, session, clients, duration)?;
             finished.report.refused = refused;
             Ok(finished)
         }

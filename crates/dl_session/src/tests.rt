@@ -5,13 +5,10 @@ use std::alloc::Global;
 use std::test::Fail;
 use switch_text::Counted;
 
-mod clients;
 mod crowds;
 mod hostile;
-mod opening;
 mod runs;
 mod sides;
-mod storm;
 mod words;
 
 const THROTTLED: &[u8] =

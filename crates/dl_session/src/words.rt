@@ -5,12 +5,12 @@ ghost use Rattle.std.specs.Prelude.{IsErrOf, None, true, false, decimal, map, sl
 ghost use Rattle.std.specs.Int.{IsInRange};
 ghost use Rattle.std.specs.List.{slice_split};
 ghost use Rattle.domain_run.specs.Domain.{IsCpus, IsLimit};
-ghost use Rattle.dl_session.specs.Options.{AreOptions};
+ghost use Rattle.session.specs.Options.{AreOptions};
 ghost use Rattle.dl_session.specs.Words.{is_comma, IsList, limit_of};
 ghost use Rattle.dl_session.specs.Words.{AreMeant, IsWordsFault, words_status};
 
-use crate::options::{Options, Print};
 use attr_check::to_ratio;
+use session::{Options, Print};
 use std::alloc::{AllocError, Global};
 use std::fmt;
 

@@ -1,7 +1,7 @@
 // Whole runs of scenarios, between bytes in memory.
 ghost use Rattle.std.specs.Prelude.{◌<◌, ◌≤◌, length, All};
 ghost use Rattle.domain_run.specs.Domain.{IsCpus};
-ghost use Rattle.dl_session.specs.Options.{AreOptions};
+ghost use Rattle.session.specs.Options.{AreOptions};
 
 use crate::{AllPass, Options, Print, Report, SessionFault, replay, run};
 use std::alloc::Global;

@@ -1,7 +1,7 @@
 use Rattle.std.proofs.Common.{◌≡◌, ℕ, List, sym, ap, subst, ◌∙◌}
 use Rattle.std.specs.Prelude.{OnOk, IfErr}
 use Rattle.switch_text.specs.Sides.{Side, side}
-use Rattle.dl_session.specs.declared.options.Print.{Print}
+use Rattle.session.specs.declared.options.Print.{Print}
 use Rattle.dl_session.specs.RunAnswer.{printed}
 use Rattle.dl_session.specs.private.Replaying.{IsWritten, IsUnwritten, trace_of_runs}
 use Rattle.dl_session.proofs.Written.{trace_of_all}

@@ -1,9 +1,8 @@
 use Rattle.std.proofs.Common.{◌<◌, arith, ap, refl}
 use Rattle.std.proofs.lemmas.Result.{err_from_is_err_and}
-use Rattle.dl_session.specs.SessionId.{SessionId}
+use Rattle.session.specs.SessionId.{SessionId}
 use Rattle.dl_session.specs.FullBook.{IsFullDomain}
-use Rattle.dl_session.specs.private.Running.{IsFullWith}
-use Rattle.dl_session.proofs.Advanced.{stopped_so}
+use Rattle.session.specs.RunEnd.{IsFullWith}
 use Rattle.dl_session.proofs.Ran.{first_is, is_ran, full_domain, halted}
 use Rattle.dl_session.proofs.running.run_in.Goals as goal
 
@@ -25,7 +24,6 @@ returns-in_err-finished-in-Ok-admit_all-clause-err g c =
     let tasks = c.args.tasks.now in
     let clients = c.in-Ok-admit_all.clients.items in
     let p = err_from_is_err_and c.from_residual.result c.from_residual.ensures.1 in
-    rw (p.1, p.2) (halted ((0 < c.args.duration) × IsFullDomain id id.clients tasks) c.in_err-finished-in-Ok-admit_all.field-0.0
-    (stopped_so (IsFullWith id c.args.duration clients) ((0 < c.args.duration) × IsFullDomain id id.clients tasks) c.in_err-finished-in-Ok-admit_all.field-0.0
+    rw p.1 (halted (IsFullWith id c.args.duration clients) ((0 < c.args.duration) × IsFullDomain id id.clients tasks) c.in_err-finished-in-Ok-admit_all.field-0.0 p.0
     (full_domain id tasks c.args.duration c.in-Ok.clients.items clients c.in-Ok-admit_all.refused.items c.in-Ok.ensures c.in-Ok-admit_all.ensures.ok)
-    c.in_err-finished-in-Ok-admit_all.ensures.err))
+    c.in_err-finished-in-Ok-admit_all.ensures.err p.2)

@@ -2,8 +2,9 @@ use Rattle.std.proofs.Common.{◌≡◌, ◌≤◌, ◌<◌, ◌+◌, ◌-◌, �
 use Rattle.std.proofs.lemmas.List.{get_or_default, length-replicate, get_or-replicate, length-set, length_push, get_or-set_other}
 use Rattle.std.proofs.lemmas.Option.{slice_get_read}
 use Rattle.std.specs.Prelude.{List, slice_get, Some}
-use Rattle.dl_session.specs.Clients.{IsNew}
-use Rattle.dl_session.proofs.Closed.{by_place_more}
+use Rattle.session.specs.Asks.{ClientView}
+use Rattle.session.specs.Clients.{IsNew}
+use Rattle.session.proofs.CallerLemmas.{by_place_more}
 use Rattle.dl_session.proofs.running.take_clients.Goals.{in-Some, in_default}
 use Rattle.dl_session.proofs.running.take_clients.Goals as goal
 

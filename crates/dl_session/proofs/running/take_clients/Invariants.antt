@@ -1,7 +1,7 @@
 use Rattle.std.proofs.Common.{◌≡◌, ◌≤◌, ◌<◌, ◌+◌, ℕ, length}
 use Rattle.std.specs.Prelude.{true, false, slice_index_or, vec_capacity}
-use Rattle.dl_session.specs.Asks.{ClientView}
-use Rattle.dl_session.specs.Clients.{IsNew}
+use Rattle.session.specs.Asks.{ClientView}
+use Rattle.session.specs.Clients.{IsNew}
 use Rattle.dl_session.proofs.running.take_clients.Given as goal
 
 abbrev pub invariant-loop-place : goal.invariant-loop-place

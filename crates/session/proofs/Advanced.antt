@@ -1,0 +1,261 @@
+-- The advance of each domain at the end of a run.
+use Rattle.std.proofs.Common.{◌≡◌, ◌≢◌, ℕ, zero, suc, ◌+◌, ◌≤◌, ◌<◌, ◌&&◌, Bool, true, false, eqb, cond, List, [], ◌∷◌, ◌++◌, length, map, set, get_or, Some, None, Ok, All, refl, sym, ap, subst, ◌∙◌, arith}
+use Rattle.std.specs.Prelude.{slice_index_or, nat_lt}
+use Rattle.std.specs.List.{cons_option}
+use Rattle.std.proofs.lemmas.Bool.{lt-ltb, eqb-true, eqb-false}
+use Rattle.std.proofs.lemmas.List.{append-nil, get_or_default, get_or-set_same, get_or-set_other, length-set}
+use Rattle.std.proofs.lemmas.List.Elements.{All-cons, All-head, All-tail}
+use Rattle.pass_seats.specs.Lists.{PassView}
+use Rattle.domain_run.specs.Domain.{opened}
+use Rattle.domain_run.specs.declared.call.Call.TheVariants.{Advance}
+use Rattle.domain_run.specs.declared.call.Reply.{Reply}
+use Rattle.domain_run.specs.declared.call.Reply.TheVariants as replies
+use Rattle.call_book.specs.declared.section.Entry.{Entry}
+use Rattle.call_book.specs.Book.{BookView, IsFull, own_entries}
+use Rattle.call_book.specs.BookAnswers.{IsAdvanced}
+use Rattle.call_book.specs.SectionView.{SectionView}
+use Rattle.rtapp_scenario.specs.ScenarioView.{TaskSpecView}
+use Rattle.session.specs.declared.fault.EndFault.{EndFault}
+use Rattle.session.specs.declared.fault.EndFault.TheVariants as faults
+use Rattle.session.specs.declared.refusal.Refusal.{Refusal}
+use Rattle.session.specs.declared.report.Finished.{Finished}
+use Rattle.session.specs.Admissions.{AreNew, AllAsked}
+use Rattle.session.specs.SessionId.{SessionId}
+use Rattle.session.specs.Asks.{ClientView, Makes, Made, entries_from, pass_in, followed_by}
+use Rattle.session.specs.Report.{IsReport}
+use Rattle.session.specs.RunEnd.{advance_of, EndsWith}
+use Rattle.session.specs.private.Entering.{IsSessionBook, pass_after}
+use Rattle.session.specs.private.Parts.{AreSessionBooks}
+use Rattle.session.specs.private.Closing.{HaveEnded}
+use Rattle.session.specs.private.Ending.{MakesAll, IsEndBy, AllEnd, IsFullAmong}
+use Rattle.session.specs.RunEnd.{IsFirst, HaveAdvanced, IsFinished, IsFullWith, IsStopped}
+use Rattle.session.proofs.Asked.{makes_at, makes_nothing}
+
+-- ---- one domain
+
+abbrev pub all_ticks : ℕ → List Made
+all_ticks ticks = record { call = Advance ticks; reply = replies.Done ticks } ∷ []
+
+-- an advance of which all ticks were made, by a client whose pass of one place has it
+pub makes_all : (c c' : ClientView) (ps : List (PassView Entry)) (d ticks made : ℕ) (p q : PassView Entry) (old new : BookView) (reply : Reply)
+    → c.passes ≡ map (λ (r : PassView Entry). r.entries) ps → c'.passes ≡ map (λ (r : PassView Entry). r.entries) (set ps d q) → c'.number ≡ c.number
+    → d < length ps → p ≡ get_or ps d p → (get_or ps d p).client ≡ c.number
+    → IsAdvanced old new p q ticks reply → reply ≡ replies.Done made → made ≡ ticks
+    → MakesAll c c' d ticks
+makes_all c c' ps d ticks made p q old new reply was is number inside at client a done all =
+    let mine : reply ≡ replies.Done a.made = a.done in
+    let same : a.made ≡ ticks = cc in
+    let becomes : q ≡ pass_after p (Advance a.made) (Ok reply) = a.entered.pass in
+    let becomes' : q ≡ pass_after p (Advance ticks) (Ok (replies.Done ticks)) =
+    subst (λ (n : ℕ). q ≡ pass_after p (Advance n) (Ok (replies.Done n))) same (subst (λ (r : Reply). q ≡ pass_after p (Advance a.made) (Ok r)) mine becomes) in
+    makes_at c c' ps d p q (Advance ticks) (Ok (replies.Done ticks)) was is number inside client
+    (subst (λ (r : PassView Entry). q ≡ pass_after r (Advance ticks) (Ok (replies.Done ticks))) at becomes')
+
+-- what it left there, and elsewhere
+here : (b c : ClientView) (n d ticks : ℕ) → MakesAll b c n ticks → d < length b.passes → eqb n d ≡ true → pass_in c d ≡ followed_by b d (all_ticks ticks)
+here b c n d ticks m inside is =
+    subst (λ (e : Bool). pass_in c d ≡ pass_in b d ++ entries_from b.number (length (pass_in b d)) (cons_option (cond e (Some (record { call = Advance ticks; reply = replies.Done ticks })) None) []))
+    is (m.passes d inside)
+
+elsewhere : (b c : ClientView) (n d ticks : ℕ) → MakesAll b c n ticks → d < length b.passes → eqb n d ≡ false → pass_in c d ≡ pass_in b d
+elsewhere b c n d ticks m inside is =
+    subst (λ (e : Bool). pass_in c d ≡ pass_in b d ++ entries_from b.number (length (pass_in b d)) (cons_option (cond e (Some (record { call = Advance ticks; reply = replies.Done ticks })) None) []))
+    is (m.passes d inside)
+    ∙ append-nil (pass_in b d)
+
+-- ---- one domain after the other
+
+-- a client has made these calls in the first so many domains, and nothing else
+pub record MakesFirst (n : ℕ) (c c' : ClientView) (made : List Made) : Type 0 where
+  pub number : c'.number ≡ c.number
+  pub domains : length c'.passes ≡ length c.passes
+  pub first : (d : ℕ) → d < n → d < length c.passes → pass_in c' d ≡ followed_by c d made
+  pub rest : (d : ℕ) → n ≤ d → d < length c.passes → pass_in c' d ≡ pass_in c d
+
+pub makes_more : (n m ticks : ℕ) (a b c : ClientView) → m ≡ n + 1 → MakesFirst n a b (all_ticks ticks) → MakesAll b c n ticks → MakesFirst m a c (all_ticks ticks)
+makes_more n m ticks a b c more before last = record {
+  number = last.number ∙ before.number;
+  domains = last.domains ∙ before.domains;
+  first = λ d upto inside. by d upto inside (eqb n d) refl;
+  rest = λ d behind inside. behind_by d behind inside (eqb n d) refl;
+}
+  where
+    short : (d : ℕ) → d < length a.passes → d < length b.passes
+    short d inside = omega (arith, inside, before.domains)
+
+    by : (d : ℕ) → d < m → d < length a.passes → (e : Bool) → eqb n d ≡ e → pass_in c d ≡ followed_by a d (all_ticks ticks)
+    by d upto inside true is =
+        let at = eqb-true n d is in
+        let same = before.rest d (omega (arith, at)) inside in
+        here b c n d ticks last (short d inside) is
+        ∙ ap (λ (k : ℕ). pass_in b d ++ entries_from k (length (pass_in b d)) (all_ticks ticks)) before.number
+        ∙ ap (λ (es : List Entry). es ++ entries_from a.number (length es) (all_ticks ticks)) same
+    by d upto inside false is =
+        let other = eqb-false n d is in
+        elsewhere b c n d ticks last (short d inside) is ∙ before.first d (omega (arith, upto, more, other)) inside
+
+    behind_by : (d : ℕ) → m ≤ d → d < length a.passes → (e : Bool) → eqb n d ≡ e → pass_in c d ≡ pass_in a d
+    behind_by d behind inside true is = let at = eqb-true n d is in absurd (omega (arith, at, behind, more))
+    behind_by d behind inside false is = elsewhere b c n d ticks last (short d inside) is ∙ before.rest d (omega (arith, behind, more)) inside
+
+advance_is : (duration : ℕ) → 0 < duration → advance_of duration 1 ≡ all_ticks duration
+advance_is duration some = ap (λ (b : Bool). cond b (all_ticks duration) []) (lt-ltb 0 duration some)
+
+-- in all domains
+pub makes_everywhere : (duration n : ℕ) (a c : ClientView) → 0 < duration → length a.passes ≤ n → MakesFirst n a c (all_ticks duration) → Makes a c (λ d. advance_of duration 1)
+makes_everywhere duration n a c some count m = record {
+  number = m.number;
+  domains = m.domains;
+  passes = λ d inside.
+      subst (λ (ms : List Made). pass_in c d ≡ followed_by a d ms) (sym (advance_is duration some)) (m.first d (omega (arith, inside, count)) inside);
+}
+
+-- ---- all clients
+
+only_first : (b : Bool) (duration k : ℕ) → eqb k 1 ≡ b → k ≢ 1 → advance_of duration k ≡ []
+only_first true duration k is other = absurd (other (eqb-true k 1 is))
+only_first false duration k is other = ap (λ (b : Bool). cond (b && nat_lt 0 duration) (all_ticks duration) []) is
+
+makes_not : (c : ClientView) (duration k : ℕ) → k ≢ 1 → Makes c c (λ d. advance_of duration k)
+makes_not c duration k other = subst (λ (ms : List Made). Makes c c (λ d. ms)) (sym (only_first (eqb k 1) duration k refl other)) (makes_nothing c c refl refl)
+
+-- all clients, of whom the first has advanced
+pub have_advanced : (duration : ℕ) (cs : List ClientView) (b c : ClientView) → 0 < length cs → b ≡ get_or cs 0 b → Makes b c (λ d. advance_of duration 1)
+    → HaveAdvanced duration cs (set cs 0 c)
+have_advanced duration cs b c some first m = record { places = length-set cs 0 c; each = each }
+  where
+    each : (i : ℕ) (x : ClientView) → i < length cs → Makes (get_or cs i x) (get_or (set cs 0 c) i x) (λ d. advance_of duration (i + 1))
+    each zero x inside =
+        subst (λ (v : ClientView). Makes v (get_or (set cs 0 c) 0 x) (λ d. advance_of duration 1)) (first ∙ get_or_default cs 0 b x some)
+        (subst (λ (v : ClientView). Makes b v (λ d. advance_of duration 1)) (sym (get_or-set_same cs 0 c x some)) m)
+    each (suc i) x inside =
+        subst (λ (v : ClientView). Makes (get_or cs (suc i) x) v (λ d. advance_of duration (suc i + 1))) (sym (get_or-set_other cs 0 (suc i) c x (λ at. absurd (omega (arith, at)))))
+        (makes_not (get_or cs (suc i) x) duration (suc i + 1) (λ at. absurd (omega (arith, at))))
+
+-- ---- the books
+
+pub named_set : (id : SessionId) (books : List BookView) (n : ℕ) (b : BookView) → n < length books → AreSessionBooks id books → IsSessionBook id n b → AreSessionBooks id (set books n b)
+named_set id books n b there named new = λ d x inside. by d x inside (eqb n d) refl
+  where
+    by : (d : ℕ) (x : BookView) → d < length (set books n b) → (e : Bool) → eqb n d ≡ e → IsSessionBook id d (get_or (set books n b) d x)
+    by d x inside true is =
+        subst (λ (k : ℕ). IsSessionBook id k (get_or (set books n b) k x)) (eqb-true n d is) (subst (IsSessionBook id n) (sym (get_or-set_same books n b x there)) new)
+    by d x inside false is =
+        let other = eqb-false n d is in
+        subst (IsSessionBook id d) (sym (get_or-set_other books n d b x (λ at. other (sym at)))) (named d x (omega (arith, inside, length-set books n b)))
+
+-- client 1's advance is the last entry
+pub ends_by : (duration client : ℕ) (history : List Entry) → client ≡ 1 → IsEndBy client duration history → EndsWith duration history
+ends_by duration client history is e = λ some. record {
+  before = e.before;
+  last = record { client = client; seq = e.seq; call = Advance duration; reply = Some (replies.Done duration) };
+  all = e.all;
+  client = is;
+  call = refl;
+  reply = refl;
+}
+
+-- the first so many books end so
+abbrev pub FirstEnd : ℕ → ℕ → List BookView → Type 0
+FirstEnd n duration books = (d : ℕ) (b : BookView) → d < n → EndsWith duration (slice_index_or books d b).history
+
+pub ends_more : (n m duration : ℕ) (books : List BookView) (b : BookView) → n < length books → m ≡ n + 1 → FirstEnd n duration books → EndsWith duration b.history
+    → FirstEnd m duration (set books n b)
+ends_more n m duration books b there more before last = λ d x upto. by d x upto (eqb n d) refl
+  where
+    by : (d : ℕ) (x : BookView) → d < m → (e : Bool) → eqb n d ≡ e → EndsWith duration (get_or (set books n b) d x).history
+    by d x upto true is =
+        subst (λ (k : ℕ). EndsWith duration (get_or (set books n b) k x).history) (eqb-true n d is)
+        (subst (λ (v : BookView). EndsWith duration v.history) (sym (get_or-set_same books n b x there)) last)
+    by d x upto false is =
+        let other = eqb-false n d is in
+        subst (λ (v : BookView). EndsWith duration v.history) (sym (get_or-set_other books n d b x (λ at. other (sym at)))) (before d x (omega (arith, upto, more, other)))
+
+-- ---- an advance that was not made
+
+-- what is said of a full book, said otherwise
+pub stopped_so : (P Q : Type 0) (e : EndFault) → (P → Q) → IsStopped P e → IsStopped Q e
+stopped_so P Q faults.Full f met = f met
+stopped_so P Q faults.Memory f met = tt
+
+-- the book of this place is full, and the client has entered nothing in it
+pub full_among : (n duration : ℕ) (books : List BookView) (b : BookView) (a c c' : ClientView) → n < length books → n < length a.passes → 0 < duration
+    → MakesFirst n a c (all_ticks duration) → IsFull b → c' ≡ c → IsFullAmong duration (set books n b) a c'
+full_among n duration books b a c c' there inside some made full same = record {
+  advances = some;
+  domain = n;
+  place = omega (arith, there, length-set books n b);
+  full = λ x. subst IsFull (sym (get_or-set_same books n b x there)) full;
+  number = ap (λ (v : ClientView). v.number) same ∙ made.number;
+  kept = ap (λ (v : ClientView). pass_in v n) same ∙ made.rest n (omega arith) inside;
+}
+
+-- ---- the end
+
+-- no book in particular
+no_book : SessionId → BookView
+no_book id = record {
+  gate = id.gate;
+  domain = 0;
+  cpus = 0;
+  limit = 0;
+  clients = 0;
+  spine = id.gate.table;
+  room = 0;
+  history = [];
+  tickets = [];
+  blanks = [];
+}
+
+pub is_finished : (id : SessionId) (duration : ℕ) (cs es : List ClientView) (books : List BookView) (f : Finished)
+    → HaveAdvanced duration cs es → IsReport id es f.report → HaveEnded books f.report.histories.items f.states.items → length books ≡ length id.cpu_sets → AllEnd duration books
+    → IsFinished id duration cs f
+is_finished id duration cs es books f advanced is ended count end = record {
+  after = es;
+  advanced = advanced;
+  report = is;
+  ends = λ d x inside.
+      let last = ended.each d (no_book id) x (opened 0 0) (omega (arith, inside, is.left.count)) in
+      subst (EndsWith duration) (sym last.entries) (end d (no_book id) (omega (arith, inside, count)));
+  count = ended.states_count ∙ is.left.count;
+  runs = λ d s x inside. (ended.each d (no_book id) s x inside).run;
+}
+
+-- what the clients have in a domain in which the first of them has entered nothing more
+kept_own : (d : ℕ) (history : List Entry) (cs : List ClientView) (b c : ClientView) → 0 < length cs → b ≡ get_or cs 0 b → c.number ≡ b.number → pass_in c d ≡ pass_in b d
+    → All (λ (v : ClientView). pass_in v d ≡ own_entries v.number history) (set cs 0 c) → All (λ (v : ClientView). pass_in v d ≡ own_entries v.number history) cs
+kept_own d history [] b c some first number kept own = absurd (omega (arith, some))
+kept_own d history (v ∷ cs) b c some first number kept own =
+    let is : pass_in c d ≡ own_entries c.number history = All-head (λ (v : ClientView). pass_in v d ≡ own_entries v.number history) c cs own in
+    All-cons (λ (v : ClientView). pass_in v d ≡ own_entries v.number history) v cs
+    (subst (λ (w : ClientView). pass_in w d ≡ own_entries w.number history) first (sym kept ∙ is ∙ ap (λ (n : ℕ). own_entries n history) number))
+    (All-tail (λ (v : ClientView). pass_in v d ≡ own_entries v.number history) c cs own)
+
+-- a full book is closed as it was found
+pub full_with : (id : SessionId) (duration : ℕ) (cs : List ClientView) (b c : ClientView) (books : List BookView) (f : Finished) → 0 < length cs → b ≡ get_or cs 0 b
+    → IsReport id (set cs 0 c) f.report → HaveEnded books f.report.histories.items f.states.items → length books ≡ length id.cpu_sets → AreSessionBooks id books
+    → IsFullAmong duration books b c → IsFullWith id duration cs
+full_with id duration cs b c books f some first is ended count named met =
+    let d = met.domain in
+    let x = no_book id in
+    let s : SectionView = record { cpus = 0; limit = 0; entries = [] } in
+    let place : d < length id.cpu_sets = omega (arith, met.place, count) in
+    let h = get_or f.report.histories.items d s in
+    let left = is.left.histories d s place in
+    let last = ended.each d x s (opened 0 0) (omega (arith, place, is.left.count)) in
+    record {
+      advances = met.advances;
+      domain = d;
+      place = place;
+      history = h;
+      legal = record {
+        cpus = left.cpus;
+        limit = left.limit;
+        legal = left.legal;
+        numbered = left.numbered;
+        members = left.members;
+        spelled = left.spelled;
+        own = kept_own d h.entries cs b c some first met.number met.kept left.own;
+      };
+      full = ap length last.entries ∙ met.full x ∙ (named d x met.place).room;
+    }

@@ -1,0 +1,218 @@
+-- What a client is answered, and what its passes have then.
+use Rattle.std.proofs.Common.{◌≡◌, ◌≢◌, ℕ, ◌+◌, ◌<◌, Bool, true, false, not, cond, eqb, List, [], ◌∷◌, ◌++◌, length, map, set, get_or, Option, Some, None, Ok, Err, refl, sym, ap, subst, ◌∙◌, arith}
+use Rattle.std.specs.Prelude.{slice_index_or, position, nat_lt}
+use Rattle.std.specs.List.{position_or_len, prefix_len, cons_option}
+use Rattle.std.proofs.lemmas.Bool.{ltb-true, eqb-true, eqb-false}
+use Rattle.std.proofs.lemmas.Option.{same_Some}
+use Rattle.std.proofs.lemmas.List.{append-nil, get_or-map, get_or-set_same, get_or-set_other, length-map, length-set}
+use Rattle.std.proofs.lemmas.List.Elements.{All-nil, All-cons}
+use Rattle.attr_check.specs.declared.attr.SchedAttr.{SchedAttr}
+use Rattle.attr_check.specs.declared.refusal.AttrRefusal.{AttrRefusal}
+use Rattle.attr_check.specs.ParamsView.{ParamsView}
+use Rattle.attr_check.specs.Accepted.{accepted, unless_refused, first_refusal, params_of}
+use Rattle.domain_run.specs.declared.call.Call.{Call}
+use Rattle.domain_run.specs.declared.call.Reply.TheVariants as replies
+use Rattle.rtapp_scenario.specs.ScenarioView.{TaskSpecView}
+use Rattle.pass_seats.specs.Lists.{PassView}
+use Rattle.bw_gate.specs.Pieces.{BlankView, last_of}
+use Rattle.bw_gate.specs.Answers.{IsTake, words_of}
+use Rattle.bw_gate.specs.declared.answer.Take.TheVariants as takes
+use Rattle.call_book.specs.declared.section.Entry.{Entry}
+use Rattle.session.specs.declared.refusal.Refusal.{Refusal}
+use Rattle.session.specs.declared.refusal.Refusal.TheVariants as refusals
+use Rattle.session.specs.SessionId.{SessionId, IsSession, IsDomainIndex, cap_in}
+use Rattle.session.specs.Asks.{Answer, IsLawful, Goes, IsOver, domain_of, same_cpus, call_of, ClientView, Asks, Makes, made_by, made_in, made_of, made_at, Made, entries_from, pass_in}
+use Rattle.call_book.specs.Book.{admission}
+use Rattle.domain_run.specs.declared.call.Call.TheVariants as calls
+use Rattle.session.specs.declared.locked_book.Ask.{Ask}
+use Rattle.session.specs.declared.locked_book.Ask.TheVariants as asks
+use Rattle.session.specs.private.Entering.{IsVerdict, pass_after, IsDone, IsDoneFor, IsAdvancedBy, IsAdvancedFor}
+
+-- ---- attributes
+
+unless_is : (a : SchedAttr) (r : Option AttrRefusal) (p : ParamsView) → unless_refused a r ≡ Ok p → p ≡ params_of a
+unless_is a None p e = cc
+unless_is a (Some r) p e = absurd cc
+
+pub accepted_is : (a : SchedAttr) (p : ParamsView) → accepted a ≡ Ok p → p ≡ params_of a
+accepted_is a p e = unless_is a (first_refusal a) p e
+
+-- ---- places
+
+placed : (b : Bool) (n d k : ℕ) → cond b (Some n) None ≡ Some d → nat_lt n k ≡ b → d < k
+placed true n d k e is = let same = same_Some n d e in omega (arith, same, ltb-true n k is)
+placed false n d k e is = absurd cc
+
+pub is_place : (id : SessionId) (cpus : Option (List ℕ)) (d : ℕ) → IsSession id → domain_of id.cpu_sets cpus ≡ Some d → IsDomainIndex id d
+is_place id None d s e = let same = same_Some 0 d e in omega (arith, s.some, same)
+is_place id (Some cpus) d s e = placed (nat_lt (position_or_len (same_cpus cpus) id.cpu_sets) (length id.cpu_sets)) (position_or_len (same_cpus cpus) id.cpu_sets) d (length id.cpu_sets) e refl
+
+mapped_len : {X : Type 0} (f : X → List ℕ) (p : List ℕ → Bool) (xs : List X) → prefix_len p (map f xs) ≡ prefix_len (λ x. p (f x)) xs
+mapped_len f p [] = refl
+mapped_len f p (x ∷ xs) = ap (λ (n : ℕ). cond (p (f x)) (1 + n) 0) (mapped_len f p xs)
+
+-- the first of the sets that passes is the first whose list does
+pub position_of : {X : Type 0} (f : X → List ℕ) (p : List ℕ → Bool) (xs : List X)
+    → cond (nat_lt (position_or_len (λ x. p (f x)) xs) (length xs)) (Some (position_or_len (λ x. p (f x)) xs)) None ≡ position p (map f xs)
+position_of f p xs =
+    ap (λ (n : ℕ). cond (nat_lt n (length xs)) (Some n) None) (sym (mapped_len f (λ y. not (p y)) xs))
+    ∙ ap (λ (n : ℕ). cond (nat_lt (position_or_len p (map f xs)) n) (Some (position_or_len p (map f xs))) None) (sym (length-map xs f))
+
+-- ---- answers
+
+pub lawful_of : (id : SessionId) (t : TaskSpecView) (d : ℕ) (answer : Answer) → Goes id t d → IsVerdict (cap_in id d) (params_of t.attr).bw answer → IsLawful id t answer
+lawful_of id t d (Ok replies.Admitted) g v = (d, g)
+lawful_of id t d (Ok (replies.Busy seen)) g v = (d, g, record { within = v.0; above = v.1 })
+lawful_of id t d (Ok replies.Changed) g v = v
+lawful_of id t d (Ok replies.Woken) g v = v
+lawful_of id t d (Ok replies.Left) g v = v
+lawful_of id t d (Ok (replies.Done n)) g v = v
+lawful_of id t d (Ok replies.Full) g v = v
+lawful_of id t d (Ok replies.Twice) g v = v
+lawful_of id t d (Ok replies.NotListed) g v = v
+lawful_of id t d (Ok replies.NotWaiting) g v = v
+lawful_of id t d (Err refusals.Full) g v = (d, g)
+lawful_of id t d (Err refusals.Twice) g v = (d, g)
+lawful_of id t d (Err refusals.Enomem) g v = (d, g)
+lawful_of id t d (Err (refusals.Busy seen)) g v = (d, g, record { within = v.0; above = v.1 })
+lawful_of id t d (Err refusals.Eperm) g v = absurd v
+lawful_of id t d (Err (refusals.Einval k)) g v = absurd v
+
+-- ---- what a client makes
+
+-- nothing
+pub makes_nothing : (c c' : ClientView) → c'.number ≡ c.number → c'.passes ≡ c.passes → Makes c c' (λ d. [])
+makes_nothing c c' number passes = record {
+  number = number;
+  domains = ap length passes;
+  passes = λ d inside. ap (λ (ps : List (List Entry)). slice_index_or ps d []) passes ∙ sym (append-nil (pass_in c d));
+}
+
+neither : (b : Bool) → cond {A = Option Made} b None None ≡ None
+neither true = refl
+neither false = refl
+
+pub refused_makes : (c c' : ClientView) (d : ℕ) (call : Call) (r : Refusal) → c'.number ≡ c.number → c'.passes ≡ c.passes → Makes c c' (made_by d call (Err r))
+refused_makes c c' d call r number passes =
+    let m = makes_nothing c c' number passes in
+    record { number = m.number; domains = m.domains; passes = λ e inside. rw (neither (eqb d e)) (m.passes e inside) }
+
+refused_at : (e : ℕ) (o : Option ℕ) (call : Call) (r : Refusal) → made_at e o call (Err r) ≡ None
+refused_at e None call r = refl
+refused_at e (Some d) call r = neither (eqb d e)
+
+-- what was made for a list of one task
+pub makes_one : (id : SessionId) (c c' : ClientView) (t : TaskSpecView) (d : ℕ) (answer : Answer) → domain_of id.cpu_sets t.cpus ≡ Some d → Makes c c' (made_by d (call_of t) answer) → Makes c c' (λ e. made_in id e (record { task = t; answer = answer } ∷ []))
+makes_one id c c' t d answer is m =
+    subst (λ (o : Option ℕ). Makes c c' (λ e. cons_option (made_at e o (call_of t) answer) [])) (sym is) m
+
+-- at one place
+entered : (number : ℕ) (p q : PassView Entry) (call : Call) (answer : Answer) → p.client ≡ number → q ≡ pass_after p call answer
+    → q.entries ≡ p.entries ++ entries_from number (length p.entries) (cons_option (made_of call answer) [])
+entered number p q call (Ok reply) client is = ap (λ (r : PassView Entry). r.entries) is ∙ ap (λ (n : ℕ). p.entries ++ record { client = n; seq = length p.entries; call = call; reply = Some reply } ∷ []) client
+entered number p q call (Err refusal) client is = ap (λ (r : PassView Entry). r.entries) is ∙ sym (append-nil p.entries)
+
+entries_at : (ps : List (PassView Entry)) (e : ℕ) (x : PassView Entry) → e < length ps → slice_index_or (map (λ (p : PassView Entry). p.entries) ps) e [] ≡ (get_or ps e x).entries
+entries_at ps e x inside = get_or-map (λ (p : PassView Entry). p.entries) ps e x [] inside
+
+at_place : (b : Bool) (number : ℕ) (ps : List (PassView Entry)) (d e : ℕ) (x q : PassView Entry) (call : Call) (answer : Answer)
+    → eqb d e ≡ b → d < length ps → (get_or ps d x).client ≡ number → q ≡ pass_after (get_or ps d x) call answer
+    → (get_or (set ps d q) e x).entries
+    ≡ (get_or ps e x).entries ++ entries_from number (length (get_or ps e x).entries) (cons_option (cond b (made_of call answer) None) [])
+at_place true number ps d e x q call answer is inside client becomes =
+    let same : d ≡ e = eqb-true d e is in
+    subst
+    (λ (k : ℕ). (get_or (set ps d q) k x).entries ≡ (get_or ps k x).entries ++ entries_from number (length (get_or ps k x).entries) (cons_option (made_of call answer) []))
+    same
+    (ap (λ (r : PassView Entry). r.entries) (get_or-set_same ps d q x inside) ∙ entered number (get_or ps d x) q call answer client becomes)
+at_place false number ps d e x q call answer is inside client becomes =
+    let other : e ≢ d = λ same. eqb-false d e is (sym same) in
+    ap (λ (r : PassView Entry). r.entries) (get_or-set_other ps d e q x other) ∙ sym (append-nil (get_or ps e x).entries)
+
+-- a client whose pass of one place has made a call
+pub makes_at : (c c' : ClientView) (ps : List (PassView Entry)) (d : ℕ) (x q : PassView Entry) (call : Call) (answer : Answer)
+    → c.passes ≡ map (λ (p : PassView Entry). p.entries) ps → c'.passes ≡ map (λ (p : PassView Entry). p.entries) (set ps d q) → c'.number ≡ c.number
+    → d < length ps → (get_or ps d x).client ≡ c.number → q ≡ pass_after (get_or ps d x) call answer
+    → Makes c c' (made_by d call answer)
+makes_at c c' ps d x q call answer old new number inside client becomes = record {
+  number = number;
+  domains = ap length new ∙ length-map (set ps d q) _ ∙ length-set ps d q ∙ sym (length-map ps _) ∙ sym (ap length old);
+  passes = λ e there.
+      let here : e < length ps = omega (arith, there, ap length old, length-map ps (λ (p : PassView Entry). p.entries)) in
+      let here' : e < length (set ps d q) = omega (arith, here, length-set ps d q) in
+      let was : pass_in c e ≡ (get_or ps e x).entries = ap (λ (l : List (List Entry)). slice_index_or l e []) old ∙ entries_at ps e x here in
+      let is : pass_in c' e ≡ (get_or (set ps d q) e x).entries = ap (λ (l : List (List Entry)). slice_index_or l e []) new ∙ entries_at (set ps d q) e x here' in
+      is ∙ subst (λ (l : List Entry). (get_or (set ps d q) e x).entries ≡ l ++ entries_from c.number (length l) (cons_option (cond (eqb d e) (made_of call answer) None) [])) (sym was) (at_place (eqb d e) c.number ps d e x q call answer refl inside client becomes);
+}
+
+-- a call that was refused left nothing
+made_nothing : (c c' : ClientView) (d : ℕ) (call : Call) (r : Refusal) → Makes c c' (made_by d call (Err r)) → Makes c c' (λ e. [])
+made_nothing c c' d call r m = record {
+  number = m.number;
+  domains = m.domains;
+  passes = λ e inside. subst (λ (o : Option Made). pass_in c' e ≡ pass_in c e ++ entries_from c.number (length (pass_in c e)) (cons_option o [])) (neither (eqb d e)) (m.passes e inside);
+}
+
+-- whatever a client asked for under the lock of a domain
+pub done_for : (id : SessionId) (d : ℕ) (c e : ClientView) (p q : PassView Entry) (ask : Ask) (answer : Answer)
+    → ((call : Call) (a : Answer) → q ≡ pass_after p call a → Makes c e (made_by d call a))
+    → IsDone id d p q ask answer → IsDoneFor id d c e ask answer
+done_for id d c e p q (asks.Admit prepared ticket) answer m done = (m (admission prepared) answer done.pass, done.verdict)
+done_for id d c e p q (asks.Regrade number params) answer m done =
+    (record { word = done.word; made = m (calls.Regrade number params done.word) answer done.replied.pass }, done.replied.full)
+done_for id d c e p q (asks.Wake number) answer m done = (m (calls.Wake number) answer done.pass, done.full)
+done_for id d c e p q (asks.Leave number) answer m done = (m (calls.Leave number) answer done.pass, done.full)
+
+-- an advance of a domain under its lock
+pub advanced_for : (d : ℕ) (c e : ClientView) (p q : PassView Entry) (n : ℕ) (answer : Answer)
+    → ((call : Call) (a : Answer) → q ≡ pass_after p call a → Makes c e (made_by d call a))
+    → IsAdvancedBy p q n answer → IsAdvancedFor d c e n answer
+advanced_for d c e p q n (Ok (replies.Done ticks)) m done =
+    (record { some = done.some; most = done.most; made = m (calls.Advance ticks) (Ok (replies.Done ticks)) done.pass }, tt)
+advanced_for d c e p q n (Ok replies.Admitted) m done = absurd done
+advanced_for d c e p q n (Ok replies.Changed) m done = absurd done
+advanced_for d c e p q n (Ok replies.Woken) m done = absurd done
+advanced_for d c e p q n (Ok replies.Left) m done = absurd done
+advanced_for d c e p q n (Ok replies.Full) m done = absurd done
+advanced_for d c e p q n (Ok replies.Twice) m done = absurd done
+advanced_for d c e p q n (Ok (replies.Busy seen)) m done = absurd done
+advanced_for d c e p q n (Ok replies.NotListed) m done = absurd done
+advanced_for d c e p q n (Ok replies.NotWaiting) m done = absurd done
+advanced_for d c e p q n (Err refusals.Full) m done = (made_nothing c e d (calls.Wake 0) refusals.Full (m (calls.Wake 0) (Err refusals.Full) done), tt)
+advanced_for d c e p q n (Err refusals.Enomem) m done = (made_nothing c e d (calls.Wake 0) refusals.Full (m (calls.Wake 0) (Err refusals.Full) done), tt)
+advanced_for d c e p q n (Err refusals.Eperm) m done = absurd done
+advanced_for d c e p q n (Err refusals.Twice) m done = absurd done
+advanced_for d c e p q n (Err (refusals.Einval k)) m done = absurd done
+advanced_for d c e p q n (Err (refusals.Busy seen)) m done = absurd done
+
+-- ---- admissions
+
+-- a task that is admitted nowhere
+pub refused_asks : (id : SessionId) (c : ClientView) (t : TaskSpecView) (r : Refusal) → IsLawful id t (Err r) → Asks id c c (record { task = t; answer = Err r } ∷ [])
+refused_asks id c t r lawful = record {
+  lawful = All-cons (λ q. IsLawful id q.task q.answer) _ [] lawful (All-nil (λ q. IsLawful id q.task q.answer));
+  made = record {
+    number = refl;
+    domains = refl;
+    passes = λ e inside. rw (refused_at e (domain_of id.cpu_sets t.cpus) (call_of t) r) (sym (append-nil (pass_in c e)));
+  };
+}
+
+-- the answer to a task that goes to a domain
+pub asks_one : (id : SessionId) (c c' : ClientView) (t : TaskSpecView) (p : ParamsView) (d : ℕ) (answer : Answer) → accepted t.attr ≡ Ok p → domain_of id.cpu_sets t.cpus ≡ Some d
+    → Makes c c' (made_by d (call_of t) answer) → IsVerdict (cap_in id d) (params_of t.attr).bw answer → Asks id c c' (record { task = t; answer = answer } ∷ [])
+asks_one id c c' t p d answer checked is m verdict =
+    let params : p ≡ params_of t.attr = accepted_is t.attr p checked in
+    record {
+      lawful = All-cons (λ q. IsLawful id q.task q.answer) _ [] (lawful_of id t d answer (record { checked = subst (λ (q : ParamsView). accepted t.attr ≡ Ok q) params checked; domain = is }) verdict) (All-nil (λ q. IsLawful id q.task q.answer));
+      made = makes_one id c c' t d answer is m;
+    }
+
+last_of_more : (found : List ℕ) (n : ℕ) → last_of (found ++ n ∷ []) ≡ n
+last_of_more [] n = refl
+last_of_more (x ∷ []) n = refl
+last_of_more (x ∷ y ∷ found) n = last_of_more (y ∷ found) n
+
+-- a refused try found its number last
+pub last_seen : (b : BlankView) (d bw : ℕ) (back : BlankView) (seen : ℕ) → IsTake b d bw (takes.Refused back seen) → last_of back.found ≡ seen
+last_seen b d bw back seen t = ap (λ (v : BlankView). last_of v.found) t.last.blank ∙ last_of_more (b.found ++ words_of t.races) seen

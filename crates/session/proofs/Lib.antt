@@ -1,0 +1,6 @@
+pub mod Opening
+pub mod Asked
+pub mod Closed
+pub mod Admitted
+pub mod Advanced
+pub mod CallerLemmas

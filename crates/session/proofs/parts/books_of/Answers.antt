@@ -1,0 +1,57 @@
+use Rattle.std.proofs.Common.{◌<◌, ℕ, ◌+◌, List, [], ◌∷◌, ◌++◌, get_or, length, map, ap, sym, subst, ◌∙◌, arith}
+use Rattle.std.specs.Prelude.{slice_index}
+use Rattle.std.proofs.lemmas.List.{length-map, length_push, map_push, get_or_read}
+use Rattle.atomic_table.specs.Seated.{TableId}
+use Rattle.call_book.specs.Book.{BookView}
+use Rattle.session.specs.private.Parts.{IsBookOf, AreHands}
+use Rattle.session.proofs.Opening.{count_hands, room_for_one, each_push, new_passes_are}
+use Rattle.session.proofs.parts.books_of.Goals as goal
+
+pub deal-requires-clause-count : goal.deal-requires-clause-count
+deal-requires-clause-count c =
+    count_hands c.loop-d.hands.items c.args.options.now.clients c.loop-d.invariant.some ∙ sym c.in-Ok.ensures.count
+
+pub deal-requires-clause-room : goal.deal-requires-clause-room
+deal-requires-clause-room c = λ i x inside.
+    let inv = c.loop-d.invariant in
+    let o = c.args.options.now in
+    let books = c.loop-d.books.items in
+    let spines = map (λ (b : BookView). b.spine) books in
+    let few : length spines < length o.domains.items = omega (arith, length-map books (λ (b : BookView). b.spine), inv.count, c.len-count.ensures, o.domains.ok.0) in
+    room_for_one c.args.gate.now spines (length o.domains.items) (i + 1) (get_or c.loop-d.hands.items i x) few (inv.hands i x inside) (inv.room i x inside)
+
+pub loop-d-preserved : goal.loop-d-preserved
+loop-d-preserved c =
+    let inv = c.loop-d.invariant in
+    let o = c.args.options.now in
+    let gate = c.args.gate.now in
+    let d = c.loop-d.d in
+    let was = c.loop-d.books.items in
+    let items = c.push_reserved.ensures.items ∙ ap (λ (y : BookView). was ++ y ∷ []) c.set_workers.ensures in
+    let b = c.in-Ok.domain in
+    let told = c.in-Ok.ensures in
+    let spine : BookView → TableId = λ x. x.spine in
+    let here : d < length o.domains.items = omega (arith, c.len-count.ensures, o.domains.ok.0) in
+    let new = new_passes_are b.spine o.clients c.in-Ok.passes.items told.count told.passes in
+    record {
+      count = ap length items ∙ length_push was b ∙ ap (λ (k : ℕ). k + 1) inv.count;
+      capacity = omega (arith, c.push_reserved.ensures.capacity, inv.capacity);
+      books = λ e x inside.
+          subst (λ (bs : List BookView). e < length bs → IsBookOf gate e (slice_index o.domains.items e) o.limit o.clients o.history (get_or bs e x)) (sym items)
+          (λ there. each_push (λ j y. IsBookOf gate j (slice_index o.domains.items j) o.limit o.clients o.history y) was d e b x inv.count there
+          (record {
+            of_gate = ap (λ (y : BookView). y.gate) told.book;
+            of_domain = ap (λ (y : BookView). y.domain) told.book;
+            has_cpus = ap (λ (y : BookView). y.cpus) told.book ∙ get_or_read o.domains.items d c.index-cpus.result.now here c.index-cpus.ensures 0;
+            has_limit = ap (λ (y : BookView). y.limit) told.book;
+            has_clients = ap (λ (y : BookView). y.clients) told.book;
+            has_room = ap (λ (y : BookView). y.room) told.book;
+          })
+          (λ front. inv.books e x front))
+          inside;
+      hands =
+          subst (λ (ss : List TableId). AreHands gate ss c.deal.new.hands.items) (sym (ap (map spine) items ∙ map_push spine was b))
+          (c.deal.ensures.dealt gate (map spine was) b.spine inv.hands new);
+      some = c.deal.ensures.some ∙ inv.some;
+      room = c.deal.ensures.room (length o.domains.items) inv.room;
+    }

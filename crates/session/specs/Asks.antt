@@ -1,0 +1,157 @@
+-- What a client is answered, and what it leaves in the books (own).
+use Rattle.std.specs.Prelude.{◌≡◌, ℕ, ◌+◌, ◌≤◌, ◌<◌, ◌==◌, Bool, ◌&&◌, List, [], ◌∷◌, ◌++◌, length, position, filter_map, Option, Some, None, IfSome, IsSome, Result, Ok, Err, All, slice_index_or, if◌then◌else◌}
+use Rattle.std.specs.List.{list_all, list_any, cons_option}
+use Rattle.attr_check.specs.ParamsView.{ParamsView}
+use Rattle.attr_check.specs.Accepted.{accepted, params_of}
+use Rattle.bw_gate.specs.Pieces.{BlankView, last_of}
+use Rattle.domain_run.specs.declared.call.Call.{Call}
+use Rattle.domain_run.specs.declared.call.Call.TheVariants.{Admit, Regrade, Advance}
+use Rattle.domain_run.specs.declared.call.Reply.{Reply}
+use Rattle.domain_run.specs.declared.call.Reply.TheVariants as replies
+use Rattle.rtapp_scenario.specs.ScenarioView.{TaskSpecView}
+use Rattle.call_book.specs.declared.section.Entry.{Entry}
+use Rattle.session.specs.declared.refusal.Refusal.{Refusal}
+use Rattle.session.specs.declared.refusal.Refusal.TheVariants as refusals
+use Rattle.session.specs.SessionId.{SessionId, cap_in}
+
+-- ---- a task: its domain and its call
+
+-- the same CPUs, in any order
+abbrev pub same_cpus : List ℕ → List ℕ → Bool
+same_cpus xs ys = list_all (λ x. list_any (λ y. y == x) ys) xs && list_all (λ x. list_any (λ y. y == x) xs) ys
+
+-- the domain that has exactly the task's CPUs; the first where the task names none (sched_setattr(2), EPERM)
+abbrev pub domain_of : List (List ℕ) → Option (List ℕ) → Option ℕ
+domain_of sets None = Some 0
+domain_of sets (Some cpus) = position (same_cpus cpus) sets
+
+-- the call that admits it, with the parameters of its attributes
+abbrev pub call_of : TaskSpecView → Call
+call_of t = Admit t.number t.name (params_of t.attr) t.delay t.script
+
+-- ---- answers
+
+-- the reply that stands in the book, or why there is none
+abbrev pub Answer : Type 0
+Answer = Result Reply Refusal
+
+-- the attributes are accepted, and the CPUs are those of this domain
+pub record Goes (id : SessionId) (t : TaskSpecView) (d : ℕ) : Type 0 where
+  pub checked : accepted t.attr ≡ Ok (params_of t.attr)
+  pub domain : domain_of id.cpu_sets t.cpus ≡ Some d
+
+-- EBUSY: a word or a sum that was seen is at most the cap, and leaves no room for the task
+pub record IsOver (id : SessionId) (t : TaskSpecView) (d seen : ℕ) : Type 0 where
+  pub within : seen ≤ cap_in id d
+  pub above : cap_in id d < seen + (params_of t.attr).bw
+
+-- what an admission may be answered: EINVAL and EPERM exactly where the task is not to be admitted anywhere, and else any of the
+-- others, EBUSY only with a lawful number
+abbrev pub IsLawful : SessionId → TaskSpecView → Answer → Type 0
+IsLawful id t (Err (refusals.Einval kind)) = accepted t.attr ≡ Err kind
+IsLawful id t (Err refusals.Eperm) =
+    (accepted t.attr ≡ Ok (params_of t.attr)) × (domain_of id.cpu_sets t.cpus ≡ None)
+IsLawful id t (Err refusals.Full) = (d : ℕ) × Goes id t d
+IsLawful id t (Err refusals.Twice) = (d : ℕ) × Goes id t d
+IsLawful id t (Err refusals.Enomem) = (d : ℕ) × Goes id t d
+IsLawful id t (Err (refusals.Busy seen)) = (d : ℕ) × Goes id t d × IsOver id t d seen
+IsLawful id t (Ok replies.Admitted) = (d : ℕ) × Goes id t d
+IsLawful id t (Ok (replies.Busy seen)) = (d : ℕ) × Goes id t d × IsOver id t d seen
+IsLawful id t (Ok _) = ⊥
+
+-- a task that a client asked for, and the answer
+pub record Asked : Type 0 where
+  pub task : TaskSpecView
+  pub answer : Answer
+
+-- ---- what stands in the books
+
+-- a call that was answered in a domain
+pub record Made : Type 0 where
+  pub call : Call
+  pub reply : Reply
+
+-- a call is made where there is a reply to it
+abbrev pub made_of : Call → Answer → Option Made
+made_of call (Ok reply) = Some (record { call = call; reply = reply })
+made_of call (Err refusal) = None
+
+-- what a call left in a domain's book: only the domain to which it went has it
+abbrev pub made_at : ℕ → Option ℕ → Call → Answer → Option Made
+made_at d None call answer = None
+made_at d (Some place) call answer = if place == d then made_of call answer else None
+
+abbrev pub made_in : SessionId → ℕ → List Asked → List Made
+made_in id d asked = filter_map (λ q. made_at d (domain_of id.cpu_sets q.task.cpus) (call_of q.task) q.answer) asked
+
+-- the entries of calls that a client makes, after so many earlier ones
+abbrev pub entries_from : ℕ → ℕ → List Made → List Entry
+entries_from client seq [] = []
+entries_from client seq (m ∷ made) =
+    record { client = client; seq = seq; call = m.call; reply = Some m.reply } ∷ entries_from client (seq + 1) made
+
+-- ---- a client
+
+-- its number, what it has entered in the book of each domain, and the piece in its hand
+pub record ClientView : Type 0 where
+  pub number : ℕ
+  pub passes : List (List Entry)
+  pub hand : Option BlankView
+
+abbrev pub pass_in : ClientView → ℕ → List Entry
+pass_in c d = slice_index_or c.passes d []
+
+-- behind its entries in a domain stand those of these calls
+abbrev pub followed_by : ClientView → ℕ → List Made → List Entry
+followed_by c d made = pass_in c d ++ entries_from c.number (length (pass_in c d)) made
+
+-- in each domain these calls stand behind what the client had entered, in their order, and nothing else does
+pub record Makes (c c' : ClientView) (made : ℕ → List Made) : Type 0 where
+  pub number : c'.number ≡ c.number
+  pub domains : length c'.passes ≡ length c.passes
+  pub passes : (d : ℕ) → d < length c.passes → pass_in c' d ≡ followed_by c d (made d)
+
+-- a client asked for these tasks and got these answers: each is lawful, and in each domain the calls that were answered there
+-- are what it made
+pub record Asks (id : SessionId) (c c' : ClientView) (asked : List Asked) : Type 0 where
+  pub lawful : All (λ q. IsLawful id q.task q.answer) asked
+  pub made : Makes c c' (λ d. made_in id d asked)
+
+-- ---- calls on a domain
+
+-- what the answer to a call on a domain left in the domains' books
+abbrev pub made_by : ℕ → Call → Answer → ℕ → List Made
+made_by place call answer d = cons_option (made_at d (Some place) call answer) []
+
+-- the word that refused is the last one that the client's own piece found
+abbrev pub IsLastFound : Option BlankView → Answer → Type 0
+IsLastFound hand (Err (refusals.Busy seen)) = IfSome hand (λ b. last_of b.found ≡ seen) × IsSome hand
+IsLastFound hand _ = Unit {0}
+
+-- why a call other than an admission stands in no book: it is full, or a growth was refused
+abbrev pub RefusesOnlyFull : Answer → Type 0
+RefusesOnlyFull (Err refusals.Full) = Unit {0}
+RefusesOnlyFull (Err _) = ⊥
+RefusesOnlyFull (Ok reply) = Unit {0}
+
+abbrev pub RefusesOnlyFullOrMemory : Answer → Type 0
+RefusesOnlyFullOrMemory (Err refusals.Full) = Unit {0}
+RefusesOnlyFullOrMemory (Err refusals.Enomem) = Unit {0}
+RefusesOnlyFullOrMemory (Err _) = ⊥
+RefusesOnlyFullOrMemory (Ok reply) = Unit {0}
+
+-- a regrade: some word, or none, was asked for it
+pub record MakesRegrade (c c' : ClientView) (d number : ℕ) (params : ParamsView) (answer : Answer) : Type 0 where
+  pub word : Option ℕ
+  pub made : Makes c c' (made_by d (Regrade number params word) answer)
+
+-- an advance: the entry tells how many ticks were made, at least one and at most as many as were asked for
+pub record MakesTicks (c c' : ClientView) (d n ticks : ℕ) (answer : Answer) : Type 0 where
+  pub some : 0 < ticks
+  pub most : ticks ≤ n
+  pub made : Makes c c' (made_by d (Advance ticks) answer)
+
+abbrev pub MakesAdvance : ClientView → ClientView → ℕ → ℕ → Answer → Type 0
+MakesAdvance c c' d n (Ok (replies.Done ticks)) = MakesTicks c c' d n ticks (Ok (replies.Done ticks))
+MakesAdvance c c' d n (Ok _) = ⊥
+MakesAdvance c c' d n (Err refusal) = Makes c c' (λ d. [])

@@ -1,0 +1,9 @@
+pub mod SessionId
+pub mod Options
+pub mod RefusalText
+pub mod Asks
+pub mod Clients
+pub mod Admissions
+pub mod Report
+pub mod RunEnd
+pub mod private

@@ -1,0 +1,34 @@
+-- Within which limits a scenario is run (own).
+use Rattle.std.specs.Prelude.{◌≡◌, ◌+◌, ◌*◌, ◌≤◌, ◌<◌, length, map, All}
+use Rattle.attr_check.specs.Ratio.{cap}
+use Rattle.bw_gate.specs.Terms.{TermsView}
+use Rattle.domain_run.specs.Domain.{IsCpus, IsLimit}
+use Rattle.session.specs.SessionId.{SessionId, cpu_sets_from}
+use Rattle.session.specs.declared.options.Options.{Options}
+
+pub record AreOptions (o : Options) : Type 0 where
+  pub some_domains : 0 < length o.domains.items
+  pub few_domains : length o.domains.items ≤ 8
+  pub cpus : All IsCpus o.domains.items
+  pub limit : IsLimit o.limit
+  pub a_client : 0 < o.clients
+  pub few_clients : o.clients ≤ 64
+  pub a_worker : 0 < o.workers
+  pub few_workers : o.workers ≤ 8
+  pub some_history : 0 < o.history
+  pub short_history : o.history ≤ 65536
+
+-- the gate's terms: the cap of each domain's word, and 256 pieces a domain and one a client
+abbrev pub terms_of : Options → TermsView
+terms_of o = record {
+  caps = map (λ cpus. cap cpus o.limit) o.domains.items;
+  pieces = length o.domains.items * 256 + o.clients;
+}
+
+-- a session of these options
+pub record IsSessionOf (o : Options) (id : SessionId) : Type 0 where
+  pub terms : id.gate.terms ≡ terms_of o
+  pub cpu_sets : id.cpu_sets ≡ cpu_sets_from 0 o.domains.items
+  pub limit : id.limit ≡ o.limit
+  pub clients : id.clients ≡ o.clients
+  pub max_calls : id.max_calls ≡ o.history

@@ -1,0 +1,5 @@
+pub mod Entering
+pub mod Parts
+pub mod Admitting
+pub mod Closing
+pub mod Ending

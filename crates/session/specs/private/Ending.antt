@@ -1,0 +1,33 @@
+-- One domain after the other is advanced, at the end of a run.
+use Rattle.std.specs.Prelude.{◌≡◌, ℕ, ◌<◌, List, [], ◌∷◌, ◌++◌, length, Some, Ok, slice_index_or}
+use Rattle.domain_run.specs.declared.call.Call.TheVariants.{Advance}
+use Rattle.domain_run.specs.declared.call.Reply.TheVariants as replies
+use Rattle.call_book.specs.declared.section.Entry.{Entry}
+use Rattle.call_book.specs.Book.{BookView, IsFull}
+use Rattle.session.specs.Asks.{ClientView, Makes, made_by, pass_in}
+use Rattle.session.specs.RunEnd.{EndsWith}
+
+-- a client has entered one advance of so many ticks, all made, in a domain, and nothing else
+abbrev pub MakesAll : ClientView → ClientView → ℕ → ℕ → Type 0
+MakesAll c c' d ticks = Makes c c' (made_by d (Advance ticks) (Ok (replies.Done ticks)))
+
+-- the last entry of all is this client's advance
+pub record IsEndBy (client duration : ℕ) (history : List Entry) : Type 0 where
+  pub before : List Entry
+  pub seq : ℕ
+  pub all : history ≡ before
+      ++ record { client = client; seq = seq; call = Advance duration; reply = Some (replies.Done duration) } ∷ []
+
+-- the books end with client 1's advance
+abbrev pub AllEnd : ℕ → List BookView → Type 0
+AllEnd duration books =
+    (d : ℕ) (b : BookView) → d < length books → EndsWith duration (slice_index_or books d b).history
+
+-- one of these books is full, and a client that was to advance it has entered nothing in it
+pub record IsFullAmong (duration : ℕ) (books : List BookView) (c c' : ClientView) : Type 0 where
+  pub advances : 0 < duration
+  pub domain : ℕ
+  pub place : domain < length books
+  pub full : (b : BookView) → IsFull (slice_index_or books domain b)
+  pub number : c'.number ≡ c.number
+  pub kept : pass_in c' domain ≡ pass_in c domain

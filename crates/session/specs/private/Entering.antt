@@ -1,0 +1,141 @@
+-- What a call under a domain's lock comes to.
+use Rattle.std.specs.Prelude.{◌≡◌, ℕ, ◌+◌, ◌≤◌, ◌<◌, List, length, Option, None, IfSome, IsSome, Ok, Err, slice_index_or}
+use Rattle.attr_check.specs.ParamsView.{ParamsView}
+use Rattle.pass_seats.specs.Lists.{PassView}
+use Rattle.bw_gate.specs.Pieces.{BlankView, TicketView}
+use Rattle.bw_gate.specs.Answers.{IsGive}
+use Rattle.domain_run.specs.declared.call.Call.{Call}
+use Rattle.domain_run.specs.declared.call.Call.TheVariants as calls
+use Rattle.domain_run.specs.declared.call.Reply.TheVariants as replies
+use Rattle.call_book.specs.declared.section.Entry.{Entry}
+use Rattle.call_book.specs.Pieces.{IsTicketOf}
+use Rattle.call_book.specs.Limits.{IsCall}
+use Rattle.call_book.specs.Book.{BookView, IsMember, AdmissionView, admission, with_entry}
+use Rattle.session.specs.declared.refusal.Refusal.{Refusal}
+use Rattle.session.specs.declared.refusal.Refusal.TheVariants as refusals
+use Rattle.session.specs.declared.locked_book.Ask.{Ask}
+use Rattle.session.specs.declared.locked_book.Ask.TheVariants as asks
+use Rattle.session.specs.SessionId.{SessionId, cap_in, cpus_of, spine_of, IsDomainIndex}
+use Rattle.session.specs.Asks.{Answer, ClientView, Makes, made_by, MakesRegrade, MakesAdvance, RefusesOnlyFull, RefusesOnlyFullOrMemory}
+
+-- the book of a domain of the session
+pub record IsSessionBook (id : SessionId) (d : ℕ) (b : BookView) : Type 0 where
+  pub gate : b.gate ≡ id.gate
+  pub domain : b.domain ≡ d
+  pub spine : b.spine ≡ spine_of id d
+  pub cpus : b.cpus ≡ length (cpus_of id d)
+  pub limit : b.limit ≡ id.limit
+  pub clients : b.clients ≡ id.clients
+  pub room : b.room ≡ id.max_calls
+  pub place : IsDomainIndex id d
+
+-- a client's pass of a domain's book
+pub record IsPassAt (id : SessionId) (client d : ℕ) (p : PassView Entry) : Type 0 where
+  pub spine : p.spine ≡ spine_of id d
+  pub owner : p.client ≡ client
+
+-- what a client keeps: it is one of the session's, it has a pass of each domain's book, and a piece of the session's gate
+pub record IsClientOf (id : SessionId) (number : ℕ) (passes : List (PassView Entry)) (hand : Option BlankView) : Type 0 where
+  pub member : IsMember id.clients number
+  pub count : length passes ≡ length id.cpu_sets
+  pub each : (d : ℕ) (x : PassView Entry) → d < length passes → IsPassAt id number d (slice_index_or passes d x)
+  pub own : IfSome hand (λ b. b.gate ≡ id.gate)
+
+-- what a call asks for, in a domain: an admission has a ticket of this domain, of the task's bandwidth
+abbrev pub IsAsk : SessionId → ℕ → Ask → Type 0
+IsAsk id d (asks.Admit prepared ticket) = IsTicketOf id.gate d ticket × (ticket.bw ≡ prepared.params.bw)
+IsAsk id d (asks.Regrade number params) = IsCall (calls.Regrade number params None)
+IsAsk id d (asks.Wake number) = IsCall (calls.Wake number)
+IsAsk id d (asks.Leave number) = IsCall (calls.Leave number)
+
+-- the pass has the entry of a call where there is a reply, and is as it was where there is none
+abbrev pub pass_after : PassView Entry → Call → Answer → PassView Entry
+pass_after p call (Ok reply) = with_entry p call reply
+pass_after p call (Err refusal) = p
+
+-- what an admission is answered by the book, below a cap
+abbrev pub IsBookVerdict : ℕ → ℕ → Answer → Type 0
+IsBookVerdict cap bw (Ok replies.Admitted) = Unit {0}
+IsBookVerdict cap bw (Ok (replies.Busy seen)) = (seen ≤ cap) × (cap < seen + bw)
+IsBookVerdict cap bw (Ok _) = ⊥
+IsBookVerdict cap bw (Err refusals.Full) = Unit {0}
+IsBookVerdict cap bw (Err refusals.Twice) = Unit {0}
+IsBookVerdict cap bw (Err _) = ⊥
+
+-- and by the gate before it, or for want of memory
+abbrev pub IsVerdict : ℕ → ℕ → Answer → Type 0
+IsVerdict cap bw (Ok replies.Admitted) = Unit {0}
+IsVerdict cap bw (Ok (replies.Busy seen)) = (seen ≤ cap) × (cap < seen + bw)
+IsVerdict cap bw (Ok _) = ⊥
+IsVerdict cap bw (Err refusals.Full) = Unit {0}
+IsVerdict cap bw (Err refusals.Twice) = Unit {0}
+IsVerdict cap bw (Err refusals.Enomem) = Unit {0}
+IsVerdict cap bw (Err (refusals.Busy seen)) = (seen ≤ cap) × (cap < seen + bw)
+IsVerdict cap bw (Err _) = ⊥
+
+-- the book of the same domain, with other entries and pieces
+pub record SameBook (old new : BookView) : Type 0 where
+  pub gate : new.gate ≡ old.gate
+  pub domain : new.domain ≡ old.domain
+  pub spine : new.spine ≡ old.spine
+  pub cpus : new.cpus ≡ old.cpus
+  pub limit : new.limit ≡ old.limit
+  pub clients : new.clients ≡ old.clients
+  pub room : new.room ≡ old.room
+
+-- the ticket of a task that the book refused was given back by a step of its own, and its blank is there for the client
+abbrev pub IsGivenBack : TicketView → Answer → Option BlankView → Type 0
+IsGivenBack ticket (Ok replies.Admitted) blank = Unit {0}
+IsGivenBack ticket _ blank = IfSome blank (IsGive ticket) × IsSome blank
+
+abbrev pub NoneIsKept : Ask → Answer → Option BlankView → Type 0
+NoneIsKept (asks.Admit prepared ticket) answer blank = IsGivenBack ticket answer blank
+NoneIsKept _ answer blank = Unit {0}
+
+-- ---- what a call comes to, under the domain's lock
+
+-- an admission
+pub record IsOffered (cap : ℕ) (p q : PassView Entry) (a : AdmissionView) (answer : Answer) : Type 0 where
+  pub pass : q ≡ pass_after p (admission a) answer
+  pub verdict : IsBookVerdict cap a.params.bw answer
+
+-- a regrade, wake or leave
+pub record IsReplied (p q : PassView Entry) (call : Call) (answer : Answer) : Type 0 where
+  pub pass : q ≡ pass_after p call answer
+  pub full : RefusesOnlyFull answer
+
+pub record IsRegradedBy (p q : PassView Entry) (number : ℕ) (params : ParamsView) (answer : Answer) : Type 0 where
+  pub word : Option ℕ
+  pub replied : IsReplied p q (calls.Regrade number params word) answer
+
+-- an advance
+pub record AreTicks (p q : PassView Entry) (n ticks : ℕ) : Type 0 where
+  pub some : 0 < ticks
+  pub most : ticks ≤ n
+  pub pass : q ≡ with_entry p (calls.Advance ticks) (replies.Done ticks)
+
+abbrev pub IsAdvancedBy : PassView Entry → PassView Entry → ℕ → Answer → Type 0
+IsAdvancedBy p q n (Ok (replies.Done ticks)) = AreTicks p q n ticks
+IsAdvancedBy p q n (Ok _) = ⊥
+IsAdvancedBy p q n (Err refusals.Full) = q ≡ p
+IsAdvancedBy p q n (Err refusals.Enomem) = q ≡ p
+IsAdvancedBy p q n (Err _) = ⊥
+
+abbrev pub IsDone : SessionId → ℕ → PassView Entry → PassView Entry → Ask → Answer → Type 0
+IsDone id d p q (asks.Admit prepared ticket) answer = IsOffered (cap_in id d) p q prepared answer
+IsDone id d p q (asks.Regrade number params) answer = IsRegradedBy p q number params answer
+IsDone id d p q (asks.Wake number) answer = IsReplied p q (calls.Wake number) answer
+IsDone id d p q (asks.Leave number) answer = IsReplied p q (calls.Leave number) answer
+
+-- ---- what it comes to for a client
+
+abbrev pub IsDoneFor : SessionId → ℕ → ClientView → ClientView → Ask → Answer → Type 0
+IsDoneFor id d c e (asks.Admit prepared ticket) answer =
+    Makes c e (made_by d (admission prepared) answer) × IsBookVerdict (cap_in id d) prepared.params.bw answer
+IsDoneFor id d c e (asks.Regrade number params) answer = MakesRegrade c e d number params answer × RefusesOnlyFull answer
+IsDoneFor id d c e (asks.Wake number) answer = Makes c e (made_by d (calls.Wake number) answer) × RefusesOnlyFull answer
+IsDoneFor id d c e (asks.Leave number) answer = Makes c e (made_by d (calls.Leave number) answer) × RefusesOnlyFull answer
+
+-- an advance
+abbrev pub IsAdvancedFor : ℕ → ClientView → ClientView → ℕ → Answer → Type 0
+IsAdvancedFor d c e n answer = MakesAdvance c e d n answer × RefusesOnlyFullOrMemory answer

@@ -1,0 +1,390 @@
+//! A client: its passes, the piece in its hand, and the calls that it makes.
+
+ghost use Rattle.std.specs.Prelude.{◌≡◌, None, IfSome, IfOk, IfErr, OnOk, IsSome, Ok, Err, [], ◌∷◌, length};
+ghost use Rattle.attr_check.specs.Accepted.{accepted, params_of};
+ghost use Rattle.domain_run.specs.declared.call.Call.TheVariants as calls;
+ghost use Rattle.call_book.specs.Limits.{IsCall};
+ghost use Rattle.call_book.specs.Book.{IsMember, IsFull, admission, own_entries};
+ghost use Rattle.session.specs.SessionId.{IsSession, IsDomainIndex, cap_in, spine_of};
+ghost use Rattle.session.specs.Asks.{Asks, call_of, pass_in, Makes, made_by, MakesRegrade, MakesAdvance, RefusesOnlyFull, RefusesOnlyFullOrMemory, IsLastFound};
+ghost use Rattle.session.specs.Clients.{IsNew};
+ghost use Rattle.session.specs.private.Parts.{IsHand};
+ghost use Rattle.session.specs.private.Entering.{IsAdvancedFor, IsAsk, IsDoneFor, IsVerdict, IsSessionBook};
+ghost use Rattle.session.specs.RunEnd.{IsStopped};
+ghost use Rattle.session.specs.private.Ending.{MakesAll, IsEndBy};
+
+use crate::books::at_place;
+use crate::fault::EndFault;
+use crate::locked_book::{Ask, LockedBook, Outcome};
+use crate::names::Names;
+use crate::parts::Hand;
+use crate::refusal::{Answer, Refusal};
+use crate::shared::{Shared, Shares};
+use attr_check::{Params, check};
+use bw_gate::{Blank, Gate, Take};
+use call_book::{AdvanceError, Domain, NoMemory, Pass, Prepared, prepare};
+use domain_run::Reply;
+use rtapp_scenario::TaskSpec;
+use std::alloc::Global;
+use std::marker::{Model, PhantomData};
+use std::sync::{Mutex, Wait};
+use std::thread::Threads;
+
+/// One of the clients of a session. It may be dropped; its pass and its piece are then missing at the session's end. To a contract
+/// it is its number, from 1, what it has entered in the book of each domain, and the piece in its hand.
+#[derive(Drop)]
+pub struct Client<N: Names> {
+    number: u32,
+    passes: Vec<Pass>,
+    hand: Option<Blank>,
+    of: PhantomData<N>,
+}
+
+impl<N: Names> Model for Client<N> {
+    ghost use Rattle.std.specs.Prelude.{map};
+    ghost use Rattle.session.specs.Asks.{ClientView};
+    ghost use Rattle.session.specs.Clients.{IsNew};
+    ghost use Rattle.session.specs.private.Parts.{IsHand};
+    ghost use Rattle.session.specs.private.Entering.{IsClientOf};
+
+    ghost Value = { ClientView };
+
+    ghost view = { λ c. record {
+      number = c.number;
+      passes = map (λ p. p.entries) c.passes.items;
+      hand = c.hand;
+    } };
+
+    ghost invariant = { λ c. IsClientOf N.id c.number c.passes.items c.hand };
+}
+
+impl<N: Names> Client<N> {
+    /// The client of a number, which has entered nothing.
+    pub(crate) fn new(number: u32, hand: Hand) -> Client<N>
+        requires session { IsSession N.id }
+        requires member { IsMember N.id.clients number }
+        requires hand { IsHand N.id.gate N.id.spines number hand }
+        ensures { IsNew N.id number result }
+    {
+        let Hand { passes, blank } = hand;
+        Client {
+            number,
+            passes,
+            hand: blank,
+            of: PhantomData,
+        }
+    }
+
+    /// Its number in the session, 1 to 64.
+    pub fn number(&self) -> u32
+        ensures { result ≡ self.now.number }
+    {
+        self.number
+    }
+
+    /// Makes a call under a domain's lock.
+    fn enter<const D: usize, R: Wait>(
+        &mut self,
+        rt: &R,
+        lock: &Mutex<LockedBook<N, D>>,
+        gate: &Gate,
+        ask: Ask,
+    ) -> Answer
+        requires session { IsSession N.id }
+        requires gate { gate.now ≡ N.id.gate }
+        requires place { IsDomainIndex N.id D }
+        requires ask { IsAsk N.id D ask }
+        ensures { IsDoneFor N.id D self.old self.new ask result }
+    {
+        let mut named = lock.lock(rt);
+        let Outcome { answer, blank } = named.make(rt, gate, &mut self.passes[D], ask);
+        if let Some(blank) = blank {
+            self.hand = Some(blank);
+        }
+        answer
+    }
+
+    /// Advances a domain under its lock.
+    fn advance_locked<const D: usize, R: Threads + Wait>(
+        &mut self,
+        rt: &R,
+        lock: &Mutex<LockedBook<N, D>>,
+        gate: &Gate,
+        ticks: u64,
+    ) -> Answer
+        requires gate { gate.now ≡ N.id.gate }
+        requires place { IsDomainIndex N.id D }
+        requires call { IsCall (calls.Advance ticks) }
+        ensures { IsAdvancedFor D self.old self.new ticks result }
+    {
+        let mut named = lock.lock(rt);
+        named.advance(rt, gate, &mut self.passes[D], ticks)
+    }
+
+    fn advance_here<const D: usize, R: Threads + Wait>(
+        &mut self,
+        rt: &R,
+        book: &Option<Mutex<LockedBook<N, D>>>,
+        gate: &Gate,
+        ticks: u64,
+    ) -> Answer
+        requires gate { gate.now ≡ N.id.gate }
+        requires place { IsDomainIndex N.id D }
+        requires some { IsSome book.now }
+        requires call { IsCall (calls.Advance ticks) }
+        ensures { IsAdvancedFor D self.old self.new ticks result }
+    {
+        match book {
+            Some(lock) => self.advance_locked(rt, lock, gate, ticks),
+            None => unreachable!(),
+        }
+    }
+
+    /// Lets its pass of a place agree with the book of that place, which changes neither.
+    pub(crate) fn agree(&mut self, domain: &mut Domain, place: usize)
+        requires place { IsDomainIndex N.id place }
+        requires spine { domain.old.spine ≡ spine_of N.id place }
+        ensures domain { domain.new ≡ domain.old }
+        ensures same { self.new ≡ self.old }
+        ensures own { pass_in self.new place ≡ own_entries self.new.number domain.new.history }
+    {
+        domain.agree(&mut self.passes[place]);
+    }
+
+    /// Makes exactly so many ticks of a domain that stands behind no lock, 1 to 60000000, as one entry of its book. `Full` where the
+    /// book is full: nothing has changed. `Memory` where there was no memory for all ticks: an entry of those that were made
+    /// stands, where there were any.
+    pub(crate) fn advance_book<R: Threads + Wait>(
+        &mut self,
+        rt: &R,
+        gate: &Gate,
+        domain: &mut Domain,
+        place: usize,
+        ticks: u64,
+    ) -> Result<(), EndFault>
+        requires gate { gate.now ≡ N.id.gate }
+        requires named { IsSessionBook N.id place domain.old }
+        requires call { IsCall (calls.Advance ticks) }
+        ensures named { IsSessionBook N.id place domain.new }
+        ensures domains { length self.old.passes ≡ length N.id.cpu_sets }
+        ensures made { OnOk result (MakesAll self.old self.new place ticks) }
+        ensures ends { OnOk result (IsEndBy self.old.number ticks domain.new.history) }
+        ensures err { IfErr result (IsStopped (IsFull domain.new × (self.new ≡ self.old))) }
+    {
+        match domain.advance(rt, &mut self.passes[place], gate, ticks) {
+            Ok(Reply::Done { ticks: made }) if made == ticks => Ok(()),
+            Err(AdvanceError::Full) => Err(EndFault::Full),
+            _ => Err(EndFault::Memory),
+        }
+    }
+
+    /// The piece in its hand.
+    pub(crate) fn into_hand(self) -> Option<Blank>
+        ensures own { IfSome result (λ b. b.gate ≡ N.id.gate) }
+    {
+        let Client {
+            number: _,
+            passes: _,
+            hand,
+            of: _,
+        } = self;
+        hand
+    }
+
+    fn enter_book<const D: usize, R: Wait>(
+        &mut self,
+        rt: &R,
+        book: &Option<Mutex<LockedBook<N, D>>>,
+        gate: &Gate,
+        ask: Ask,
+    ) -> Answer
+        requires session { IsSession N.id }
+        requires gate { gate.now ≡ N.id.gate }
+        requires place { IsDomainIndex N.id D }
+        requires some { IsSome book.now }
+        requires ask { IsAsk N.id D ask }
+        ensures { IsDoneFor N.id D self.old self.new ask result }
+    {
+        match book {
+            Some(lock) => self.enter(rt, lock, gate, ask),
+            None => unreachable!(),
+        }
+    }
+
+    /// Makes a call under the lock of the domain of a place.
+    fn enter_at<R: Wait>(&mut self, rt: &R, shared: &Shared<N>, place: usize, ask: Ask) -> Answer
+        requires place { IsDomainIndex N.id place }
+        requires ask { IsAsk N.id place ask }
+        ensures { IsDoneFor N.id place self.old self.new ask result }
+    {
+        let gate = &shared.gate;
+        at_place!(shared.books, place, book => self.enter_book(rt, book, gate, ask))
+    }
+
+    /// A piece for an admission to a domain: the one in the client's hand, or else one of the pool, or else one that the domain
+    /// keeps.
+    fn find_blank<R: Wait>(&mut self, rt: &R, shared: &Shared<N>, place: usize) -> Option<Blank>
+        requires place { IsDomainIndex N.id place }
+        ensures same { self.new ≡ record self.old { hand = None } }
+        ensures own { IfSome result (λ b. b.gate ≡ N.id.gate) }
+    {
+        match self.hand.take() {
+            Some(blank) => Some(blank),
+            None => shared.find_blank(rt, place),
+        }
+    }
+
+    /// Asks the gate for the bandwidth of an admission, and then the domain.
+    fn submit<R: Wait>(
+        &mut self,
+        rt: &R,
+        shared: &Shared<N>,
+        place: usize,
+        blank: Blank,
+        prepared: Prepared,
+    ) -> Answer
+        requires place { IsDomainIndex N.id place }
+        requires own { blank.gate ≡ N.id.gate }
+        ensures made { Makes self.old self.new (made_by place (admission prepared) result) }
+        ensures verdict { IsVerdict (cap_in N.id place) prepared.params.bw result }
+        ensures last { IsLastFound self.new.hand result }
+    {
+        match shared.gate.take(rt, blank, place, prepared.bw()) {
+            Take::Taken(ticket) => {
+                self.enter_at(rt, shared, place, Ask::Admit { prepared, ticket })
+            }
+            Take::Refused { blank, seen } => {
+                self.hand = Some(blank);
+                Err(Refusal::Busy { seen })
+            }
+            Take::Raced { .. } => unreachable!(),
+        }
+    }
+
+    fn admit_at<R: Wait>(
+        &mut self,
+        rt: &R,
+        alloc: Global,
+        shared: &Shared<N>,
+        task: &TaskSpec,
+        params: Params,
+        place: usize,
+    ) -> Answer
+        requires place { IsDomainIndex N.id place }
+        requires checked { accepted task.now.attr ≡ Ok params }
+        ensures made { Makes self.old self.new (made_by place (call_of task.now) result) }
+        ensures verdict { IsVerdict (cap_in N.id place) (params_of task.now.attr).bw result }
+        ensures last { IsLastFound self.new.hand result }
+    {
+        let Some(blank) = self.find_blank(rt, shared, place) else {
+            return Err(Refusal::Full);
+        };
+        match prepare(
+            alloc,
+            task.number,
+            &task.name,
+            params,
+            task.delay,
+            &task.script,
+        ) {
+            Ok(prepared) => self.submit(rt, shared, place, blank, prepared),
+            Err(NoMemory) => {
+                self.hand = Some(blank);
+                Err(Refusal::Enomem)
+            }
+        }
+    }
+
+    /// Admits a task to the domain that has exactly its CPUs, the first where it names none. Tested in this order: its attributes
+    /// (EINVAL); its CPUs (EPERM); a blank in the client's hand, in the pool or in the domain (Full); memory for the admission
+    /// (ENOMEM); the gate's word, without the domain's lock (EBUSY); and then the domain's book, under its lock, as
+    /// [`Domain::admit`](call_book::Domain::admit) tests. After a refusal the client holds no ticket. It waits for the gate, as
+    /// long as other clients come between, and for the locks of pool and domain.
+    pub fn admit<S: Shares<N>, R: Wait>(
+        &mut self,
+        rt: &R,
+        alloc: Global,
+        session: &S,
+        task: &TaskSpec,
+    ) -> Answer
+        ensures asked { Asks N.id self.old self.new
+            (record { task = task.now; answer = result } ∷ []) }
+        ensures last { IsLastFound self.new.hand result }
+    {
+        let shared = session.shares();
+        let (params, place) = match shared.goal_of(task) {
+            Ok(found) => found,
+            Err(refusal) => return Err(refusal),
+        };
+        self.admit_at(rt, alloc, shared, task, params, place)
+    }
+
+    /// Gives a listed task of a domain new parameters, as [`Domain::regrade`](call_book::Domain::regrade) does. `Full` where the
+    /// book is full: it changed nothing and stands nowhere. Every other answer stands in the book.
+    pub fn regrade<S: Shares<N>, R: Wait>(
+        &mut self,
+        rt: &R,
+        session: &S,
+        domain: usize,
+        number: u32,
+        params: Params,
+    ) -> Answer
+        requires domain { IsDomainIndex N.id domain }
+        requires call { IsCall (calls.Regrade number params None) }
+        ensures made { MakesRegrade self.old self.new domain number params result }
+        ensures full { RefusesOnlyFull result }
+    {
+        self.enter_at(rt, session.shares(), domain, Ask::Regrade { number, params })
+    }
+
+    /// Wakes a task of a domain that waits, as [`Domain::wake`](call_book::Domain::wake) does. `Full` where the book is full.
+    pub fn wake<S: Shares<N>, R: Wait>(
+        &mut self,
+        rt: &R,
+        session: &S,
+        domain: usize,
+        number: u32,
+    ) -> Answer
+        requires domain { IsDomainIndex N.id domain }
+        requires call { IsCall (calls.Wake number) }
+        ensures made { Makes self.old self.new (made_by domain (calls.Wake number) result) }
+        ensures full { RefusesOnlyFull result }
+    {
+        self.enter_at(rt, session.shares(), domain, Ask::Wake { number })
+    }
+
+    /// Ends a task of a domain, as [`Domain::leave`](call_book::Domain::leave) does. `Full` where the book is full.
+    pub fn leave<S: Shares<N>, R: Wait>(
+        &mut self,
+        rt: &R,
+        session: &S,
+        domain: usize,
+        number: u32,
+    ) -> Answer
+        requires domain { IsDomainIndex N.id domain }
+        requires call { IsCall (calls.Leave number) }
+        ensures made { Makes self.old self.new (made_by domain (calls.Leave number) result) }
+        ensures full { RefusesOnlyFull result }
+    {
+        self.enter_at(rt, session.shares(), domain, Ask::Leave { number })
+    }
+
+    /// Makes up to `ticks` ticks of a domain, 1 to 60000000, as [`Domain::advance`](call_book::Domain::advance) does. `Full` where
+    /// the book is full, `Enomem` where there was no memory for the first tick: nothing has changed.
+    pub fn advance<S: Shares<N>, R: Threads + Wait>(
+        &mut self,
+        rt: &R,
+        session: &S,
+        domain: usize,
+        ticks: u64,
+    ) -> Answer
+        requires domain { IsDomainIndex N.id domain }
+        requires call { IsCall (calls.Advance ticks) }
+        ensures made { MakesAdvance self.old self.new domain ticks result }
+        ensures full { RefusesOnlyFullOrMemory result }
+    {
+        let shared = session.shares();
+        let gate = &shared.gate;
+        at_place!(shared.books, domain, book => self.advance_here(rt, book, gate, ticks))
+    }
+}

@@ -1,0 +1,315 @@
+//! The end of a session: its books are closed, and every piece goes home to the gate.
+
+ghost use Rattle.std.specs.Prelude.{◌≡◌, ◌≢◌, ◌+◌, ◌*◌, ◌≤◌, ◌<◌, ℕ, [], ◌∷◌, ◌++◌, length, All, IfOk, IfSome, vec_capacity, slice_index};
+ghost use Rattle.call_book.specs.Book.{own_entries};
+ghost use Rattle.bw_gate.specs.Pieces.{sum_of};
+ghost use Rattle.session.specs.SessionId.{IsSession, IsDomainIndex};
+ghost use Rattle.session.specs.Asks.{pass_in};
+ghost use Rattle.session.specs.Report.{IsHistoryOf, IsReport, sum_left};
+ghost use Rattle.session.specs.private.Entering.{IsSessionBook};
+ghost use Rattle.session.specs.private.Parts.{AreSessionBooks, AreBlanksOf, AreHands};
+ghost use Rattle.session.specs.private.Closing.{AreTicketsOf, AreHistories, AreSums, IsRoom, IsEnded, HaveEnded};
+
+use crate::client::Client;
+use crate::names::Names;
+use crate::parts::{Hand, PIECES};
+use crate::refusal::Refusal;
+use crate::report::{Finished, Report};
+use bw_gate::{Blank, Gate, Ticket, Words};
+use call_book::{Closed, Domain, NoMemory, Section};
+use domain_run::State;
+use std::alloc::Global;
+use std::marker::PhantomData;
+
+/// The pieces that come home, with room for all tickets.
+struct Home<N: Names> {
+    tickets: Vec<Ticket>,
+    blanks: Vec<Blank>,
+    of: PhantomData<N>,
+    ghost tickets_own: { AreTicketsOf N.id.gate tickets.items },
+    ghost blanks_own: { AreBlanksOf N.id.gate blanks.items },
+}
+
+/// Adds blanks.
+fn pour_blanks<N: Names>(home: &mut Vec<Blank>, mut blanks: Vec<Blank>)
+    requires old { AreBlanksOf N.id.gate home.old.items }
+    requires own { AreBlanksOf N.id.gate blanks.items }
+    ensures { AreBlanksOf N.id.gate home.new.items }
+{
+    while let Some(blank) = blanks.pop() {
+        // There is room for every piece of the gate.
+        let _ = home.push(blank);
+    }
+}
+
+/// Adds tickets, for which there is room.
+fn pour_tickets<N: Names>(home: &mut Vec<Ticket>, mut tickets: Vec<Ticket>)
+    requires old { AreTicketsOf N.id.gate home.old.items }
+    requires own { AreTicketsOf N.id.gate tickets.items }
+    requires room { length home.old.items + length tickets.items ≤ vec_capacity home.old }
+    ensures own { AreTicketsOf N.id.gate home.new.items }
+    ensures count { length home.new.items ≡ length home.old.items + length tickets.items }
+    ensures room { vec_capacity home.new ≡ vec_capacity home.old }
+    ensures sums { (d : ℕ) →
+        sum_of d home.new.items ≡ sum_of d home.old.items + sum_of d tickets.items }
+{
+    while let Some(ticket) = tickets.pop() {
+        home.push_reserved(ticket);
+    }
+    tickets.destroy_empty();
+}
+
+/// Lets every client's pass of a place agree with its book, which changes neither.
+fn agree_all<N: Names>(domain: &mut Domain, clients: &mut Vec<Client<N>>, place: usize)
+    requires named { IsSessionBook N.id place domain.old }
+    ensures domain { domain.new ≡ domain.old }
+    ensures clients { clients.new.items ≡ clients.old.items }
+    ensures own { let history = domain.new.history in
+        All (λ c. pass_in c place ≡ own_entries c.number history) clients.new.items }
+{
+    for k in 0..clients.len() {
+        clients[k].agree(domain, place);
+    }
+}
+
+/// What a closed book leaves.
+struct Ended {
+    history: Section,
+    state: State,
+}
+
+/// Closes a book: its history and its state, and its pieces go home.
+fn close_book<N: Names>(
+    alloc: Global,
+    mut domain: Domain,
+    clients: &mut Vec<Client<N>>,
+    place: usize,
+    home: &mut Home<N>,
+) -> Ended
+    requires session { IsSession N.id }
+    requires named { IsSessionBook N.id place domain }
+    requires room { length home.old.tickets.items + 256 ≤ vec_capacity home.old.tickets }
+    ensures history { IsHistoryOf N.id place clients.new.items result.history }
+    ensures ended { IsEnded domain result.history result.state }
+    ensures clients { clients.new.items ≡ clients.old.items }
+    ensures here { sum_of place home.new.tickets.items
+        ≡ sum_of place home.old.tickets.items + sum_left result.history }
+    ensures elsewhere { (d : ℕ) → d ≢ place →
+        sum_of d home.new.tickets.items ≡ sum_of d home.old.tickets.items }
+    ensures count { length home.new.tickets.items ≤ length home.old.tickets.items + 256 }
+    ensures room { vec_capacity home.new.tickets ≡ vec_capacity home.old.tickets }
+{
+    agree_all(&mut domain, clients, place);
+    let Closed {
+        state,
+        entries,
+        tickets,
+        blanks,
+    } = domain.close(Vec::new(alloc));
+    pour_tickets::<N>(&mut home.tickets, tickets);
+    pour_blanks::<N>(&mut home.blanks, blanks);
+    let history = Section {
+        cpus: state.cpus(),
+        limit: state.limit(),
+        entries,
+    };
+    Ended { history, state }
+}
+
+/// Closes the books of all domains, in their order.
+fn close_all<N: Names>(
+    alloc: Global,
+    books: Vec<Domain>,
+    clients: &mut Vec<Client<N>>,
+    home: &mut Home<N>,
+    histories: &mut Vec<Section>,
+    states: &mut Vec<State>,
+)
+    requires session { IsSession N.id }
+    requires named { AreSessionBooks N.id books.items }
+    requires count { length books.items ≡ length N.id.cpu_sets }
+    requires pieces { home.old.tickets.items ≡ [] }
+    requires empty { (histories.old.items ≡ []) × (states.old.items ≡ []) }
+    requires room { length N.id.cpu_sets * 256 ≤ vec_capacity home.old.tickets }
+    requires sections { length N.id.cpu_sets ≤ vec_capacity histories.old }
+    requires machines { length N.id.cpu_sets ≤ vec_capacity states.old }
+    ensures clients { clients.new.items ≡ clients.old.items }
+    ensures count { length histories.new.items ≡ length N.id.cpu_sets }
+    ensures histories { AreHistories N.id clients.old.items histories.new.items }
+    ensures sums { AreSums histories.new.items home.new.tickets.items }
+    ensures ended { HaveEnded books.items histories.new.items states.new.items }
+{
+    let mut rest = books.into_iter();
+    while let Some(domain) = rest.next() {
+        let place = histories.len();
+        let Ended { history, state } = close_book(alloc, domain, clients, place, home);
+        histories.push_reserved(history);
+        states.push_reserved(state);
+    }
+    rest.destroy_empty();
+}
+
+/// The room that a session's end needs.
+pub(crate) struct Room {
+    tickets: Vec<Ticket>,
+    histories: Vec<Section>,
+    states: Vec<State>,
+    words: Vec<u64>,
+    refused: Vec<(u32, Refusal)>,
+}
+
+impl Room {
+    /// Room for the end of so many domains.
+    pub(crate) fn open(alloc: Global, domains: usize) -> Result<Room, NoMemory>
+        requires { domains ≤ 8 }
+        ensures { IfOk result (IsRoom domains) }
+    {
+        let histories = Vec::with_capacity(alloc, domains)?;
+        let states = Vec::with_capacity(alloc, domains)?;
+        let words = Vec::with_capacity(alloc, domains)?;
+        let Ok(tickets) = Vec::with_capacity(alloc, domains * PIECES) else {
+            return Err(NoMemory);
+        };
+        Ok(Room {
+            tickets,
+            histories,
+            states,
+            words,
+            refused: Vec::new(alloc),
+        })
+    }
+}
+
+/// Adds the piece of a hand, where it has one.
+fn pour_piece<N: Names>(home: &mut Vec<Blank>, piece: Option<Blank>)
+    requires old { AreBlanksOf N.id.gate home.old.items }
+    requires own { IfSome piece (λ b. b.gate ≡ N.id.gate) }
+    ensures { AreBlanksOf N.id.gate home.new.items }
+{
+    if let Some(blank) = piece {
+        // There is room for every piece of the gate.
+        let _ = home.push(blank);
+    }
+}
+
+/// Takes the pieces out of the clients' hands.
+fn pour_hands<N: Names>(home: &mut Vec<Blank>, mut clients: Vec<Client<N>>)
+    requires { AreBlanksOf N.id.gate home.old.items }
+    ensures { AreBlanksOf N.id.gate home.new.items }
+{
+    while let Some(client) = clients.pop() {
+        pour_piece::<N>(home, client.into_hand());
+    }
+}
+
+/// Takes the pieces of the clients that were not handed out.
+pub(crate) fn pour_waiting<N: Names>(home: &mut Vec<Blank>, mut hands: Vec<Option<Hand>>)
+    requires own { AreBlanksOf N.id.gate home.old.items }
+    requires hands { AreHands N.id.gate N.id.spines hands.items }
+    ensures { AreBlanksOf N.id.gate home.new.items }
+{
+    while let Some(hand) = hands.pop() {
+        if let Some(hand) = hand {
+            let Hand { passes: _, blank } = hand;
+            pour_piece::<N>(home, blank);
+        }
+    }
+}
+
+/// The words of a closed gate.
+fn put_words(closed: &Words, words: &mut Vec<u64>)
+    requires empty { words.old.items ≡ [] }
+    requires count { closed.now.count ≤ 8 }
+    requires room { closed.now.count ≤ vec_capacity words.old }
+    ensures count { length words.new.items ≡ closed.now.count }
+    ensures words { (d : ℕ) → d < closed.now.count →
+        slice_index words.new.items d ≡ slice_index closed.now.word d }
+{
+    for d in 0..closed.count {
+        words.push_reserved(closed.word[d]);
+    }
+}
+
+/// A session whose domains stand behind no lock any more, with all room that its end needs. It is neither cloned nor dropped, but
+/// closed.
+pub(crate) struct Unlocked<N: Names> {
+    pub(crate) gate: Gate,
+    pub(crate) books: Vec<Domain>,
+    blanks: Vec<Blank>,
+    room: Room,
+    of: PhantomData<N>,
+    ghost session: { IsSession N.id },
+    ghost same_gate: { gate ≡ N.id.gate },
+    ghost count: { length books.items ≡ length N.id.cpu_sets },
+    ghost named: { AreSessionBooks N.id books.items },
+    ghost blanks_own: { AreBlanksOf N.id.gate blanks.items },
+    ghost enough: { IsRoom (length N.id.cpu_sets) room },
+}
+
+impl<N: Names> Unlocked<N> {
+    pub(crate) fn new(gate: Gate, books: Vec<Domain>, blanks: Vec<Blank>, room: Room) -> Unlocked<N>
+        requires session { IsSession N.id }
+        requires gate { gate ≡ N.id.gate }
+        requires count { length books.items ≡ length N.id.cpu_sets }
+        requires named { AreSessionBooks N.id books.items }
+        requires blanks { AreBlanksOf N.id.gate blanks.items }
+        requires room { IsRoom (length N.id.cpu_sets) room }
+    {
+        Unlocked {
+            gate,
+            books,
+            blanks,
+            room,
+            of: PhantomData,
+        }
+    }
+
+    /// Closes all books and then the gate.
+    pub(crate) fn close(self, alloc: Global, mut clients: Vec<Client<N>>) -> Finished
+        ensures report { IsReport N.id clients.items result.report }
+        ensures ended { HaveEnded self.books.items result.report.histories.items result.states.items }
+    {
+        let Unlocked {
+            gate,
+            books,
+            blanks,
+            room,
+            of: _,
+        } = self;
+        let Room {
+            tickets,
+            mut histories,
+            mut states,
+            mut words,
+            refused,
+        } = room;
+        let mut home = Home {
+            tickets,
+            blanks,
+            of: PhantomData,
+        };
+        close_all(
+            alloc,
+            books,
+            &mut clients,
+            &mut home,
+            &mut histories,
+            &mut states,
+        );
+        let Home {
+            tickets,
+            mut blanks,
+            of: _,
+        } = home;
+        pour_hands(&mut blanks, clients);
+        let home = blanks.len() + tickets.len();
+        put_words(&gate.close(blanks, tickets), &mut words);
+        let report = Report {
+            histories,
+            refused,
+            words,
+            home,
+        };
+        Finished { report, states }
+    }
+}

@@ -1,0 +1,217 @@
+//! One domain of a session, behind its lock, and what a client may ask of it.
+
+ghost use Rattle.std.specs.Prelude.{◌≡◌, None, IfSome};
+ghost use Rattle.attr_check.specs.Ratio.{cap};
+ghost use Rattle.domain_run.specs.declared.call.Call.TheVariants as calls;
+ghost use Rattle.call_book.specs.Book.{IsPassOf, IsMember};
+ghost use Rattle.call_book.specs.Limits.{IsCall};
+ghost use Rattle.call_book.specs.Pieces.{IsTicketOf};
+ghost use Rattle.session.specs.SessionId.{IsSession, spine_of};
+ghost use Rattle.session.specs.private.Entering.{IsSessionBook, SameBook, IsAsk, IsGivenBack, NoneIsKept, IsDone, IsOffered, IsReplied, IsRegradedBy, IsAdvancedBy};
+
+use crate::names::Names;
+use crate::refusal::{Answer, Refusal};
+use attr_check::Params;
+use bw_gate::{Blank, Gate, Ticket};
+use call_book::{Admit, AdvanceError, Domain, Full, Pass, Prepared};
+use domain_run::Reply;
+use std::marker::PhantomData;
+use std::sync::Wait;
+use std::thread::Threads;
+
+/// A call that is to be made on a domain, other than an advance.
+pub(crate) enum Ask {
+    Admit { prepared: Prepared, ticket: Ticket },
+    Regrade { number: u32, params: Params },
+    Wake { number: u32 },
+    Leave { number: u32 },
+}
+
+/// What a call came to, and the blank that it left to the client, where it left one.
+pub(crate) struct Outcome {
+    pub(crate) answer: Answer,
+    pub(crate) blank: Option<Blank>,
+}
+
+/// The domain of a place in a session.
+pub(crate) struct LockedBook<N: Names, const D: usize> {
+    domain: Domain,
+    of: PhantomData<N>,
+    ghost named: { IsSessionBook N.id D domain },
+}
+
+/// Admits a task; where the domain refuses it, the ticket goes back to the gate.
+fn admit(
+    domain: &mut Domain,
+    gate: &Gate,
+    pass: &mut Pass,
+    prepared: Prepared,
+    ticket: Ticket,
+) -> Outcome
+    requires gate { gate.now ≡ domain.old.gate }
+    requires pass { IsPassOf domain.old pass.old }
+    requires ticket { IsTicketOf domain.old.gate domain.old.domain ticket }
+    requires bw { ticket.bw ≡ prepared.params.bw }
+    ensures same { SameBook domain.old domain.new }
+    ensures offered { let most = cap domain.old.cpus domain.old.limit in
+        IsOffered most pass.old pass.new prepared result.answer }
+    ensures given { IsGivenBack ticket result.answer result.blank }
+    ensures own { IfSome result.blank (λ b. b.gate ≡ gate.now) }
+{
+    match domain.admit(pass, prepared, ticket) {
+        Admit::Admitted { blank } => Outcome {
+            answer: Ok(Reply::Admitted),
+            blank,
+        },
+        Admit::Busy { ticket, seen } => Outcome {
+            answer: Ok(Reply::Busy { seen }),
+            blank: Some(gate.give(ticket)),
+        },
+        Admit::Full {
+            ticket,
+            prepared: _,
+        } => Outcome {
+            answer: Err(Refusal::Full),
+            blank: Some(gate.give(ticket)),
+        },
+        Admit::Twice {
+            ticket,
+            prepared: _,
+        } => Outcome {
+            answer: Err(Refusal::Twice),
+            blank: Some(gate.give(ticket)),
+        },
+    }
+}
+
+fn regrade<R: Wait>(
+    rt: &R,
+    domain: &mut Domain,
+    gate: &Gate,
+    pass: &mut Pass,
+    number: u32,
+    params: Params,
+) -> Outcome
+    requires gate { gate.now ≡ domain.old.gate }
+    requires pass { IsPassOf domain.old pass.old }
+    requires call { IsCall (calls.Regrade number params None) }
+    ensures same { SameBook domain.old domain.new }
+    ensures replied { IsRegradedBy pass.old pass.new number params result.answer }
+    ensures own { result.blank ≡ None }
+{
+    let answer = match domain.regrade(rt, pass, gate, number, params) {
+        Ok(reply) => Ok(reply),
+        Err(Full) => Err(Refusal::Full),
+    };
+    Outcome {
+        answer,
+        blank: None,
+    }
+}
+
+fn wake(domain: &mut Domain, pass: &mut Pass, number: u32) -> Outcome
+    requires pass { IsPassOf domain.old pass.old }
+    requires call { IsCall (calls.Wake number) }
+    ensures same { SameBook domain.old domain.new }
+    ensures replied { IsReplied pass.old pass.new (calls.Wake number) result.answer }
+    ensures own { result.blank ≡ None }
+{
+    let answer = match domain.wake(pass, number) {
+        Ok(reply) => Ok(reply),
+        Err(Full) => Err(Refusal::Full),
+    };
+    Outcome {
+        answer,
+        blank: None,
+    }
+}
+
+fn leave(domain: &mut Domain, pass: &mut Pass, number: u32) -> Outcome
+    requires pass { IsPassOf domain.old pass.old }
+    requires call { IsCall (calls.Leave number) }
+    ensures same { SameBook domain.old domain.new }
+    ensures replied { IsReplied pass.old pass.new (calls.Leave number) result.answer }
+    ensures own { result.blank ≡ None }
+{
+    let answer = match domain.leave(pass, number) {
+        Ok(reply) => Ok(reply),
+        Err(Full) => Err(Refusal::Full),
+    };
+    Outcome {
+        answer,
+        blank: None,
+    }
+}
+
+impl<N: Names, const D: usize> LockedBook<N, D> {
+    pub(crate) fn new(domain: Domain) -> LockedBook<N, D>
+        requires { IsSessionBook N.id D domain }
+    {
+        LockedBook {
+            domain,
+            of: PhantomData,
+        }
+    }
+
+    /// The domain, which is then the caller's.
+    pub(crate) fn into_domain(self) -> Domain
+        ensures { IsSessionBook N.id D result }
+    {
+        let LockedBook { domain, of: _ } = self;
+        domain
+    }
+
+    /// Makes a call with a client's pass.
+    pub(crate) fn make<R: Wait>(
+        &mut self,
+        rt: &R,
+        gate: &Gate,
+        pass: &mut Pass,
+        ask: Ask,
+    ) -> Outcome
+        requires session { IsSession N.id }
+        requires gate { gate.now ≡ N.id.gate }
+        requires pass { pass.old.spine ≡ spine_of N.id D }
+        requires member { IsMember N.id.clients pass.old.client }
+        requires ask { IsAsk N.id D ask }
+        ensures done { IsDone N.id D pass.old pass.new ask result.answer }
+        ensures given { NoneIsKept ask result.answer result.blank }
+        ensures own { IfSome result.blank (λ b. b.gate ≡ N.id.gate) }
+    {
+        let domain = &mut self.domain;
+        match ask {
+            Ask::Admit { prepared, ticket } => admit(domain, gate, pass, prepared, ticket),
+            Ask::Regrade { number, params } => regrade(rt, domain, gate, pass, number, params),
+            Ask::Wake { number } => wake(domain, pass, number),
+            Ask::Leave { number } => leave(domain, pass, number),
+        }
+    }
+
+    /// Makes up to so many ticks with a client's pass.
+    pub(crate) fn advance<R: Threads + Wait>(
+        &mut self,
+        rt: &R,
+        gate: &Gate,
+        pass: &mut Pass,
+        ticks: u64,
+    ) -> Answer
+        requires gate { gate.now ≡ N.id.gate }
+        requires pass { pass.old.spine ≡ spine_of N.id D }
+        requires member { IsMember N.id.clients pass.old.client }
+        requires call { IsCall (calls.Advance ticks) }
+        ensures { IsAdvancedBy pass.old pass.new ticks result }
+    {
+        match self.domain.advance(rt, pass, gate, ticks) {
+            Ok(reply) => Ok(reply),
+            Err(AdvanceError::Full) => Err(Refusal::Full),
+            Err(AdvanceError::Memory) => Err(Refusal::Enomem),
+        }
+    }
+
+    /// Hands out a blank that the domain keeps, where there is one.
+    pub(crate) fn spare(&mut self) -> Option<Blank>
+        ensures { IfSome result (λ b. b.gate ≡ N.id.gate) }
+    {
+        self.domain.spare()
+    }
+}

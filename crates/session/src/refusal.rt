@@ -1,0 +1,44 @@
+use attr_check::AttrRefusal;
+use domain_run::Reply;
+use std::fmt;
+
+/// Why a call of a client stands in no book, or an admission was answered EBUSY there. The client holds no ticket then.
+#[derive(Clone, Copy, Debug, PartialEq, Eq)]
+pub enum Refusal {
+    /// EINVAL 22: the task's attributes are not accepted (sched_setattr(2)).
+    Einval(AttrRefusal),
+    /// EPERM 1: the task's CPUs are not exactly those of one domain (sched_setattr(2)).
+    Eperm,
+    /// 40: there is no blank left for the client, the book is full, or 256 tasks are listed.
+    Full,
+    /// 41: a task of this number was admitted to the domain before.
+    Twice,
+    /// ENOMEM 12: a growth was refused.
+    Enomem,
+    /// EBUSY 16: the bandwidth found does not leave enough below the cap (sched-deadline.rst, "Bandwidth management").
+    Busy {
+        /// The bandwidth found, in 1/2^20 of a CPU.
+        seen: u64,
+    },
+}
+
+/// What a client's call is answered: the reply that stands in the domain's book and in the client's list, or why there is none.
+pub type Answer = Result<Reply, Refusal>;
+
+impl fmt::Display for Refusal {
+    ghost use Rattle.std.specs.Prelude.{Some};
+    ghost use Rattle.session.specs.RefusalText.{refusal_text};
+
+    ghost output = { λ refusal. Some (refusal_text refusal) };
+
+    fn fmt<W: fmt::Write>(&self, f: &mut fmt::Formatter<W>) -> fmt::Result {
+        match self {
+            Refusal::Einval(kind) => write!(f, "EINVAL 22 {kind}"),
+            Refusal::Eperm => write!(f, "EPERM 1"),
+            Refusal::Full => write!(f, "Full 40"),
+            Refusal::Twice => write!(f, "Twice 41"),
+            Refusal::Enomem => write!(f, "ENOMEM 12"),
+            Refusal::Busy { seen } => write!(f, "EBUSY 16 seen {seen}"),
+        }
+    }
+}
