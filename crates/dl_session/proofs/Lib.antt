@@ -1,7 +1,4 @@
-pub mod Naming
-pub mod Sections
-pub mod Written
-pub mod Replied
+pub mod Told
 pub mod Asked
 pub mod Closed
 pub mod Advanced
@@ -10,9 +7,7 @@ pub mod CpuLists
 pub mod ScenarioLaw
 pub mod Ran
 pub mod Admitted
-pub mod Recorded
 pub mod Shown
-pub mod Replayable
 pub mod OrderLists
 pub mod OrderTicks
 pub mod OrderAdmissions

@@ -15,7 +15,7 @@ use Rattle.dl_session.specs.declared.refusal.Refusal.{Refusal}
 use Rattle.dl_session.specs.SessionId.{SessionId, IsPlace, cpus_of}
 use Rattle.dl_session.specs.Asks.{Asked, Made, made_in, entries_from}
 use Rattle.dl_session.specs.ScenarioAnswers.{AnswersScenario, EndsWith, own_asked, advance_of, history_of}
-use Rattle.dl_session.specs.Replay.{calls_of, names_of, no_names, run_view, runs_from, trace_of_sections}
+use Rattle.calls_trace.specs.Replay.{calls_of, names_of, no_names, run_view, runs_from, trace_of_sections}
 use Rattle.dl_session.specs.Report.{IsHistoryOf}
 use Rattle.dl_session.specs.InOrder.{granted_in, section_in_order, sections_from, sections_in_order}
 use Rattle.dl_session.proofs.OrderRuns.{opened_listing}

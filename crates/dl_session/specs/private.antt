@@ -1,7 +1,5 @@
-pub mod Replaying
 pub mod Entering
 pub mod Parts
 pub mod Closing
 pub mod Running
 pub mod Admitting
-pub mod Recorded

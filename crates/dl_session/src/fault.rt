@@ -4,6 +4,7 @@ ghost use Rattle.dl_session.specs.Lines.{shown, one_line, scenario_line};
 ghost use Rattle.dl_session.specs.Status.{exit_status};
 
 use crate::refusal::Refusal;
+use calls_trace::{ReplayFault, TraceFault};
 use json_order::JsonFault;
 use rtapp_scenario::ScenarioFault;
 use std::fmt;
@@ -39,6 +40,36 @@ pub enum SessionFault {
     /// A growth was refused.
     #[error("out of memory")]
     Memory,
+}
+
+impl From<ReplayFault> for SessionFault {
+    ghost use Rattle.std.specs.Prelude.{◌≡◌};
+    ghost use Rattle.dl_session.specs.Upward.{of_replay};
+
+    ghost from_gives = { λ found fault. fault ≡ of_replay found };
+
+    fn from(found: ReplayFault) -> SessionFault {
+        match found {
+            ReplayFault::Calls(line) => SessionFault::Calls(line),
+            ReplayFault::Read => SessionFault::Read,
+            ReplayFault::Write { written } => SessionFault::Write { written },
+            ReplayFault::Memory => SessionFault::Memory,
+        }
+    }
+}
+
+impl From<TraceFault> for SessionFault {
+    ghost use Rattle.std.specs.Prelude.{◌≡◌};
+    ghost use Rattle.dl_session.specs.Upward.{of_trace};
+
+    ghost from_gives = { λ found fault. fault ≡ of_trace found };
+
+    fn from(found: TraceFault) -> SessionFault {
+        match found {
+            TraceFault::Write { written } => SessionFault::Write { written },
+            TraceFault::Memory => SessionFault::Memory,
+        }
+    }
 }
 
 impl SessionFault {

@@ -12,6 +12,7 @@ use Rattle.rtapp_scenario.specs.ScenarioView.{TaskSpecView}
 use Rattle.call_book.specs.SectionView.{SectionView}
 use Rattle.call_book.specs.declared.section.Entry.{Entry}
 use Rattle.call_book.specs.Book.{BookView, calls_of, IsLegal, IsFull}
+use Rattle.calls_trace.specs.Histories.{AreRuns}
 use Rattle.dl_session.specs.declared.fault.SessionFault.{SessionFault}
 use Rattle.dl_session.specs.declared.fault.SessionFault.TheVariants.{Json, Scenario, Start, Full, Memory}
 use Rattle.dl_session.specs.declared.finishing.Finished.{Finished}
@@ -55,16 +56,6 @@ pub record HaveAdvanced (duration : ℕ) (before after : List ClientView) : Type
   pub places : length after ≡ length before
   pub each : (i : ℕ) (x : ClientView) → i < length before
       → Makes (slice_index_or before i x) (slice_index_or after i x) (λ d. advance_of duration (i + 1))
-
--- each entry has its lawful reply
-abbrev pub AreLegal : List SectionView → Type 0
-AreLegal histories = All (λ h. IsLegal h.cpus h.limit h.entries) histories
-
--- the states are what the histories of these domains lead to
-abbrev pub AreRuns : List SectionView → List Domain → Type 0
-AreRuns histories states =
-    (d : ℕ) (s : SectionView) (x : Domain) → d < length histories
-    → slice_index_or states d x ≡ run_of (slice_index_or histories d s).cpus (slice_index_or histories d s).limit (calls_of (slice_index_or histories d s).entries)
 
 -- what the end of a run leaves, by clients that had entered so much
 pub record IsFinished (id : SessionId) (duration : ℕ) (clients : List ClientView) (f : Finished) : Type 0 where
