@@ -6,6 +6,7 @@ pub mod BadLine
 pub mod RoundTrip
 pub mod FaultText
 pub mod Book
+pub mod Histories
 pub mod Pieces
 pub mod BookAnswers
 pub mod Examples

@@ -1,13 +1,7 @@
-pub mod Naming
-pub mod Sections
-pub mod Written
-pub mod Replied
+pub mod Told
 pub mod CpuLists
 pub mod ScenarioLaw
-pub mod Ran
-pub mod Recorded
 pub mod Shown
-pub mod Replayable
 pub mod OrderLists
 pub mod OrderTicks
 pub mod OrderAdmissions
@@ -17,4 +11,5 @@ pub mod OrderEntries
 pub mod OrderVerdicts
 pub mod OrderSplit
 pub mod OrderLaw
+pub mod Ran
 pub mod Endings

@@ -16,7 +16,7 @@ use Rattle.domain_run.specs.Tick.{sum_of}
 use Rattle.domain_run.specs.Calls.{admit_reply, new_task, with_number, listed, task_of, word_reply, regrade_reply, wake_reply, leave_reply, reply_to, is_refusal, after_call}
 use Rattle.domain_run.proofs.CallerLemmas.{with_number_contains, sum_push, IsGranted, granted_is}
 use Rattle.call_book.specs.Book.{AdmissionView, admission}
-use Rattle.dl_session.specs.Replay.{with_name, named_by, names_after}
+use Rattle.calls_trace.specs.Replay.{with_name, named_by, names_after}
 use Rattle.dl_session.proofs.OrderLists.{Reordered, next, swaps, chain, same_order, turned, same_length, same_any, before_same}
 use Rattle.dl_session.proofs.OrderTicks.{Alike, relisted, same_sum_of}
 

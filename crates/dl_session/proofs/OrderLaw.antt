@@ -17,7 +17,7 @@ use Rattle.session.specs.Asks.{Asked, Made, made_in, entries_from}
 use Rattle.dl_session.specs.ScenarioAnswers.{AnswersScenario, history_of}
 use Rattle.session.specs.RunEnd.{EndsWith, advance_of}
 use Rattle.session.specs.Admissions.{own_asked}
-use Rattle.dl_session.specs.Replay.{calls_of, names_of, no_names, run_view, runs_from, trace_of_sections}
+use Rattle.calls_trace.specs.Replay.{calls_of, names_of, no_names, run_view, runs_from, trace_of_sections}
 use Rattle.session.specs.Report.{IsHistoryOf}
 use Rattle.dl_session.specs.InOrder.{granted_in, section_in_order, sections_from, sections_in_order}
 use Rattle.dl_session.proofs.OrderRuns.{opened_listing}

@@ -17,7 +17,7 @@ use Rattle.domain_run.proofs.CallerLemmas.{refused_keeps}
 use Rattle.domain_run.proofs.CallerLemmas.{AreNumbered}
 use Rattle.call_book.specs.declared.section.Entry.{Entry}
 use Rattle.call_book.specs.Book.{AdmissionView, admission, calls_of}
-use Rattle.dl_session.specs.Replay.{named_by, names_after, names_of}
+use Rattle.calls_trace.specs.Replay.{named_by, names_after, names_of}
 use Rattle.dl_session.specs.InOrder.{is_admitted}
 use Rattle.dl_session.proofs.OrderLists.{Reordered, ends, next, swaps, chain}
 use Rattle.dl_session.proofs.OrderTicks.{Alike}

@@ -14,7 +14,7 @@ use Rattle.call_book.specs.declared.section.Entry.{Entry}
 use Rattle.call_book.specs.Book.{calls_of}
 use Rattle.session.specs.Asks.{Made}
 use Rattle.session.specs.RunEnd.{advance_of, IsEnd, EndsWith}
-use Rattle.dl_session.specs.Replay.{names_after, names_of}
+use Rattle.calls_trace.specs.Replay.{names_after, names_of}
 use Rattle.dl_session.proofs.OrderLists.{Reordered}
 use Rattle.dl_session.proofs.OrderTicks.{Alike, ticks_alike, alike_switches}
 use Rattle.dl_session.proofs.OrderRuns.{order_free, IsListing, listing_run, was_admitted, is_verdict, granted_calls, LegalFrom, granted_run}

@@ -13,8 +13,8 @@ use Rattle.rtapp_scenario.specs.declared.fault.ScenarioFault.{ScenarioFault}
 use Rattle.rtapp_scenario.specs.declared.fault.ScenarioFault.TheVariants as scenario_faults
 use Rattle.call_book.specs.SectionView.{SectionView}
 use Rattle.call_book.specs.Book.{own_entries}
-use Rattle.switch_text.specs.Sides.{HasNoFault}
-use Rattle.switch_text.specs.Faults.{TakesFront}
+use Rattle.counted_io.specs.Sides.{HasNoFault}
+use Rattle.counted_io.specs.Faults.{TakesFront}
 use Rattle.dl_session.specs.declared.fault.SessionFault.{SessionFault}
 use Rattle.dl_session.specs.declared.fault.SessionFault.TheVariants as faults
 use Rattle.session.specs.declared.options.Options.{Options}
@@ -28,23 +28,25 @@ use Rattle.session.specs.Report.{IsHistoryOf, IsLeft}
 use Rattle.session.specs.Options.{AreOptions, IsSessionOf}
 use Rattle.dl_session.specs.ScenarioAnswers.{AnswersScenario}
 use Rattle.dl_session.specs.FullBook.{IsFullDomain}
-use Rattle.dl_session.specs.Answer.{Seen, IsInput, NothingWritten}
+use Rattle.calls_trace.specs.Answer.{Streams, IsInput, NothingWritten}
 use Rattle.dl_session.specs.RunAnswer.{IsJson, IsScenario, flagged, IsRun, printed, IsRunAnswer, IsRunFault}
-use Rattle.dl_session.specs.private.Replaying.{IsWritten, IsUnwritten}
+use Rattle.calls_trace.specs.declared.fault.TraceFault.{TraceFault}
+use Rattle.calls_trace.specs.declared.fault.TraceFault.TheVariants as traces
+use Rattle.calls_trace.specs.Written.{IsWritten, IsUnwritten}
 use Rattle.session.specs.RunEnd.{IsFirst, IsFinished, IsFullWith, IsStopped}
 use Rattle.session.specs.declared.fault.EndFault.{EndFault}
 use Rattle.session.specs.declared.fault.EndFault.TheVariants as ends
-use Rattle.dl_session.specs.Upward.{of_end}
+use Rattle.dl_session.specs.Upward.{of_end, of_trace}
 use Rattle.dl_session.specs.private.Running.{IsJsonTold, IsScenarioTold, IsRan, IsOrMemory, IsHalted}
 use Rattle.dl_session.proofs.ScenarioLaw.{answers_all, answers_tasks}
 use Rattle.dl_session.proofs.OrderLaw.{in_order}
-use Rattle.dl_session.proofs.Replayable.{read_again, same_trace}
+use Rattle.calls_trace.proofs.CallerLemmas.{read_again, same_trace}
 use Rattle.session.proofs.CallerLemmas.{length_sets}
 
 -- ---- faults of the input
 
 -- of this fault something was said, from which it is a fault of a run; or memory was refused
-faulted : (s : Seen) (o : Options) (e : SessionFault) (this : SessionFault → Type 0) → NothingWritten s → HasNoFault s.reader → HasNoFault s.writer
+faulted : (s : Streams) (o : Options) (e : SessionFault) (this : SessionFault → Type 0) → NothingWritten s → HasNoFault s.reader → HasNoFault s.writer
     → (this e → IsRunFault s o e) → IsOrMemory this e → IsRunFault s o e
 faulted s o faults.Memory this unwritten reads writes f told = record { unwritten = unwritten; reads = reads; writes = writes }
 faulted s o (faults.Json g) this unwritten reads writes f told = f told
@@ -55,13 +57,13 @@ faulted s o (faults.Write n) this unwritten reads writes f told = f told
 faulted s o faults.Start this unwritten reads writes f told = f told
 faulted s o faults.Full this unwritten reads writes f told = f told
 
-pub json_faulted : (s : Seen) (o : Options) (text : List ℕ) (found : JsonFault) (e : SessionFault)
+pub json_faulted : (s : Streams) (o : Options) (text : List ℕ) (found : JsonFault) (e : SessionFault)
     → IsInput s text → json.IsFault text found.kind found.at → NothingWritten s → HasNoFault s.reader → HasNoFault s.writer → IsJsonTold found e → IsRunFault s o e
 json_faulted s o text found e input first unwritten reads writes told =
     faulted s o e (λ e. (e ≡ faults.Json found) × (found.kind ≢ kinds.Memory)) unwritten reads writes
     (λ h. subst (IsRunFault s o) (sym h.0) (record { text = text; input = input; not_memory = h.1; first = first; unwritten = unwritten; reads = reads; writes = writes })) told
 
-pub scenario_faulted : (s : Seen) (o : Options) (value : Json) (found : ScenarioFault) (e : SessionFault)
+pub scenario_faulted : (s : Streams) (o : Options) (value : Json) (found : ScenarioFault) (e : SessionFault)
     → IsJson s value → profile.IsFault (parsed value) found → NothingWritten s → HasNoFault s.reader → HasNoFault s.writer → IsScenarioTold found e → IsRunFault s o e
 scenario_faulted s o value found e is first unwritten reads writes told =
     faulted s o e (λ e. (e ≡ faults.Scenario found) × (found ≢ scenario_faults.Memory)) unwritten reads writes
@@ -140,7 +142,7 @@ ran_answers o scenario duration given tasks id f view same session ran =
     (subst (λ (ts : List TaskSpecView). AnswersScenario id o.clients ts duration hs f.report.refused.items) same
     (subst (λ (n : ℕ). AnswersScenario id n tasks duration hs f.report.refused.items) session.clients ran.answers))
 
-abbrev pub is_run : (s : Seen) (o : Options) (scenario : ScenarioView) (duration : ℕ) (given tasks : List TaskSpecView) (id : SessionId) (f : Finished)
+abbrev pub is_run : (s : Streams) (o : Options) (scenario : ScenarioView) (duration : ℕ) (given tasks : List TaskSpecView) (id : SessionId) (f : Finished)
     → AreOptions o → IsScenario s scenario → record { duration_us = duration; tasks = given } ≡ scenario → tasks ≡ map (flagged o.reclaim) given → IsSessionOf o id → IsRan id tasks duration f
     → IsRun s o f.report.histories.items f.report.refused.items
 is_run s o scenario duration given tasks id f options input view same session ran = record {
@@ -163,7 +165,7 @@ is_run s o scenario duration given tasks id f options input view same session ra
 }
 
 -- the text of the run was written
-pub run_answered : (s : Seen) (o : Options) (scenario : ScenarioView) (duration : ℕ) (given tasks : List TaskSpecView) (id : SessionId) (f : Finished) (histories : List SectionView)
+pub run_answered : (s : Streams) (o : Options) (scenario : ScenarioView) (duration : ℕ) (given tasks : List TaskSpecView) (id : SessionId) (f : Finished) (histories : List SectionView)
     → AreOptions o → IsScenario s scenario → record { duration_us = duration; tasks = given } ≡ scenario → tasks ≡ map (flagged o.reclaim) given → IsSessionOf o id → IsRan id tasks duration f
     → histories ≡ f.report.histories.items → HasNoFault s.reader → IsWritten s.writer (printed o.print histories) → IsRunAnswer s o f.report
 run_answered s o scenario duration given tasks id f histories options input view same session ran written_are reads written = record {
@@ -175,9 +177,9 @@ run_answered s o scenario duration given tasks id f histories options input view
 }
 
 -- the last step found a fault
-pub run_faulted : (s : Seen) (o : Options) (histories written : List SectionView) (refused : List (ℕ × Refusal)) (e : SessionFault)
-    → IsRun s o histories refused → written ≡ histories → HasNoFault s.reader → IsUnwritten s.writer (printed o.print written) e → IsRunFault s o e
-run_faulted s o histories written refused (faults.Write n) run same reads unwritten = record {
+pub run_faulted : (s : Streams) (o : Options) (histories written : List SectionView) (refused : List (ℕ × Refusal)) (e : TraceFault)
+    → IsRun s o histories refused → written ≡ histories → HasNoFault s.reader → IsUnwritten s.writer (printed o.print written) e → IsRunFault s o (of_trace e)
+run_faulted s o histories written refused (traces.Write n) run same reads unwritten = record {
   histories = histories;
   refused = refused;
   run = run;
@@ -185,13 +187,7 @@ run_faulted s o histories written refused (faults.Write n) run same reads unwrit
   reads = reads;
   writes = unwritten.writes;
 }
-run_faulted s o histories written refused faults.Memory run same reads unwritten = record { unwritten = unwritten.kept; reads = reads; writes = unwritten.writes }
-run_faulted s o histories written refused (faults.Json f) run same reads unwritten = absurd unwritten
-run_faulted s o histories written refused (faults.Scenario f) run same reads unwritten = absurd unwritten
-run_faulted s o histories written refused (faults.Calls n) run same reads unwritten = absurd unwritten
-run_faulted s o histories written refused faults.Read run same reads unwritten = absurd unwritten
-run_faulted s o histories written refused faults.Start run same reads unwritten = absurd unwritten
-run_faulted s o histories written refused faults.Full run same reads unwritten = absurd unwritten
+run_faulted s o histories written refused traces.Memory run same reads unwritten = record { unwritten = unwritten.kept; reads = reads; writes = unwritten.writes }
 
 -- why the end was not made, as a run tells it
 pub halted : (P Q : Type 0) (e : EndFault) (f : SessionFault) → (P → Q) → IsStopped P e → f ≡ of_end e → IsHalted Q f
@@ -199,7 +195,7 @@ halted P Q ends.Full f make met is = subst (IsHalted Q) (sym is) (make met)
 halted P Q ends.Memory f make met is = subst (IsHalted Q) (sym is) tt
 
 -- a client's thread was not started, or a run had no room for an advance, or no memory
-pub run_halted : (s : Seen) (o : Options) (scenario : ScenarioView) (duration : ℕ) (given tasks : List TaskSpecView)
+pub run_halted : (s : Streams) (o : Options) (scenario : ScenarioView) (duration : ℕ) (given tasks : List TaskSpecView)
     (id : SessionId) (e : SessionFault) → IsScenario s scenario → record { duration_us = duration; tasks = given } ≡ scenario
     → tasks ≡ map (flagged o.reclaim) given → IsSessionOf o id → NothingWritten s → HasNoFault s.reader → HasNoFault s.writer
     → IsHalted ((0 < duration) × IsFullDomain id id.clients tasks) e → IsRunFault s o e

@@ -1,4 +1,4 @@
-pub mod Replay
+pub mod Upward
 pub mod Answer
 pub mod Status
 pub mod Lines

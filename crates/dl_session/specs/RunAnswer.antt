@@ -15,8 +15,8 @@ use Rattle.call_book.specs.SectionView.{SectionView}
 use Rattle.call_book.specs.Spelling.{spelling}
 use Rattle.call_book.specs.Limits.{AreRead}
 use Rattle.call_book.specs.RoundTrip.{unanswered}
-use Rattle.switch_text.specs.Sides.{HasNoFault, HasOneFault}
-use Rattle.switch_text.specs.Faults.{TakesFront}
+use Rattle.counted_io.specs.Sides.{HasNoFault, HasOneFault}
+use Rattle.counted_io.specs.Faults.{TakesFront}
 use Rattle.dl_session.specs.declared.fault.SessionFault.{SessionFault}
 use Rattle.dl_session.specs.declared.fault.SessionFault.TheVariants as faults
 use Rattle.session.specs.declared.options.Options.{Options}
@@ -30,19 +30,19 @@ use Rattle.session.specs.Report.{IsHistoryOf, IsLeft}
 use Rattle.dl_session.specs.ScenarioAnswers.{AnswersScenario}
 use Rattle.dl_session.specs.FullBook.{IsFullDomain}
 use Rattle.dl_session.specs.InOrder.{sections_in_order}
-use Rattle.dl_session.specs.Replay.{trace_of_sections}
-use Rattle.dl_session.specs.Answer.{Seen, IsInput, NothingWritten, IsUnread, IsOutOfMemory}
+use Rattle.calls_trace.specs.Replay.{trace_of_sections}
+use Rattle.calls_trace.specs.Answer.{Streams, IsInput, NothingWritten, IsUnread, IsOutOfMemory}
 
 -- ---- the scenario
 
 -- what the input spells as JSON
-pub record IsJson (s : Seen) (value : Json) : Type 0 where
+pub record IsJson (s : Streams) (value : Json) : Type 0 where
   pub text : List ℕ
   pub input : IsInput s text
   pub spelled : Spells strict text value
 
 -- the scenario that the input spells
-pub record IsScenario (s : Seen) (scenario : ScenarioView) : Type 0 where
+pub record IsScenario (s : Streams) (scenario : ScenarioView) : Type 0 where
   pub value : Json
   pub json : IsJson s value
   pub parsed : parsed value ≡ Ok scenario
@@ -61,7 +61,7 @@ pub record AreReplayed (histories : List SectionView) : Type 0 where
 -- the session has the domains and clients of the options; each domain's history is legal and was made by its clients; their calls
 -- text can be replayed; histories and refusals answer the scenario; and the trace is that of each domain's admitted tasks, entered in
 -- their order, and then the advance: for every number of clients the same, where the same tasks are admitted
-pub record IsRun (s : Seen) (o : Options) (histories : List SectionView) (refused : List (ℕ × Refusal)) : Type 0 where
+pub record IsRun (s : Streams) (o : Options) (histories : List SectionView) (refused : List (ℕ × Refusal)) : Type 0 where
   pub scenario : ScenarioView
   pub input : IsScenario s scenario
   pub id : SessionId
@@ -80,7 +80,7 @@ printed prints.Calls histories = spelling histories
 -- ---- what is answered
 
 -- the histories and refusals of a run, the words that it left, and their text was written, and nothing else
-pub record IsRunAnswer (s : Seen) (o : Options) (r : Report) : Type 0 where
+pub record IsRunAnswer (s : Streams) (o : Options) (r : Report) : Type 0 where
   pub run : IsRun s o r.histories.items r.refused.items
   pub left : IsLeft run.id [] r
   pub written : Appends s.writer.before.bytes s.writer.after.bytes (printed o.print r.histories.items)
@@ -90,7 +90,7 @@ pub record IsRunAnswer (s : Seen) (o : Options) (r : Report) : Type 0 where
 -- ---- faults
 
 -- the input is no JSON, and nothing was written
-pub record IsNoJson (s : Seen) (fault : JsonFault) : Type 0 where
+pub record IsNoJson (s : Streams) (fault : JsonFault) : Type 0 where
   pub text : List ℕ
   pub input : IsInput s text
   pub not_memory : fault.kind ≢ kinds.Memory
@@ -100,7 +100,7 @@ pub record IsNoJson (s : Seen) (fault : JsonFault) : Type 0 where
   pub writes : HasNoFault s.writer
 
 -- the input is JSON and no scenario, and nothing was written
-pub record IsNoScenario (s : Seen) (fault : ScenarioFault) : Type 0 where
+pub record IsNoScenario (s : Streams) (fault : ScenarioFault) : Type 0 where
   pub value : Json
   pub json : IsJson s value
   pub not_memory : fault ≢ scenario_faults.Memory
@@ -111,7 +111,7 @@ pub record IsNoScenario (s : Seen) (fault : ScenarioFault) : Type 0 where
 
 -- the scenario asks for an advance, and in a session of the options a domain had no room for it, once the tasks were asked: its history
 -- had as many entries as the options give it; nothing was written
-pub record LacksRoomToAdvance (s : Seen) (o : Options) : Type 0 where
+pub record LacksRoomToAdvance (s : Streams) (o : Options) : Type 0 where
   pub scenario : ScenarioView
   pub input : IsScenario s scenario
   pub advances : 0 < scenario.duration_us
@@ -123,7 +123,7 @@ pub record LacksRoomToAdvance (s : Seen) (o : Options) : Type 0 where
   pub writes : HasNoFault s.writer
 
 -- the system started no thread for a client of the scenario, and nothing was written
-pub record IsUnstarted (s : Seen) : Type 0 where
+pub record IsUnstarted (s : Streams) : Type 0 where
   pub scenario : ScenarioView
   pub input : IsScenario s scenario
   pub unwritten : NothingWritten s
@@ -131,7 +131,7 @@ pub record IsUnstarted (s : Seen) : Type 0 where
   pub writes : HasNoFault s.writer
 
 -- the writer failed: exactly so many bytes of the text of a run were taken, and not all
-pub record IsRunCutOff (s : Seen) (o : Options) (written : ℕ) : Type 0 where
+pub record IsRunCutOff (s : Streams) (o : Options) (written : ℕ) : Type 0 where
   pub histories : List SectionView
   pub refused : List (ℕ × Refusal)
   pub run : IsRun s o histories refused
@@ -140,7 +140,7 @@ pub record IsRunCutOff (s : Seen) (o : Options) (written : ℕ) : Type 0 where
   pub writes : HasOneFault s.writer
 
 -- a fault is what was met
-abbrev pub IsRunFault : Seen → Options → SessionFault → Type 0
+abbrev pub IsRunFault : Streams → Options → SessionFault → Type 0
 IsRunFault s o (faults.Json fault) = IsNoJson s fault
 IsRunFault s o (faults.Scenario fault) = IsNoScenario s fault
 IsRunFault s o (faults.Calls n) = ⊥

@@ -1,3 +1,1 @@
-pub mod Replaying
-pub mod Recorded
 pub mod Running

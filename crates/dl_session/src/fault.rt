@@ -3,6 +3,7 @@ ghost use Rattle.std.specs.Fmt.{WritesOnOk};
 ghost use Rattle.dl_session.specs.Lines.{shown, one_line, scenario_line};
 ghost use Rattle.dl_session.specs.Status.{exit_status};
 
+use calls_trace::{ReplayFault, TraceFault};
 use json_order::JsonFault;
 use rtapp_scenario::ScenarioFault;
 use session::{AdmitFault, EndFault, Refusal};
@@ -55,6 +56,22 @@ impl From<AdmitFault> for SessionFault {
     }
 }
 
+impl From<ReplayFault> for SessionFault {
+    ghost use Rattle.std.specs.Prelude.{◌≡◌};
+    ghost use Rattle.dl_session.specs.Upward.{of_replay};
+
+    ghost from_gives = { λ found fault. fault ≡ of_replay found };
+
+    fn from(found: ReplayFault) -> SessionFault {
+        match found {
+            ReplayFault::Calls(line) => SessionFault::Calls(line),
+            ReplayFault::Read => SessionFault::Read,
+            ReplayFault::Write { written } => SessionFault::Write { written },
+            ReplayFault::Memory => SessionFault::Memory,
+        }
+    }
+}
+
 impl From<EndFault> for SessionFault {
     ghost use Rattle.std.specs.Prelude.{◌≡◌};
     ghost use Rattle.dl_session.specs.Upward.{of_end};
@@ -65,6 +82,20 @@ impl From<EndFault> for SessionFault {
         match found {
             EndFault::Full => SessionFault::Full,
             EndFault::Memory => SessionFault::Memory,
+        }
+    }
+}
+
+impl From<TraceFault> for SessionFault {
+    ghost use Rattle.std.specs.Prelude.{◌≡◌};
+    ghost use Rattle.dl_session.specs.Upward.{of_trace};
+
+    ghost from_gives = { λ found fault. fault ≡ of_trace found };
+
+    fn from(found: TraceFault) -> SessionFault {
+        match found {
+            TraceFault::Write { written } => SessionFault::Write { written },
+            TraceFault::Memory => SessionFault::Memory,
         }
     }
 }

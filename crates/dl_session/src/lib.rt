@@ -17,12 +17,9 @@
 mod admitting;
 mod ending;
 mod fault;
-mod named_run;
-mod placed_run;
 mod printing;
 mod replaying;
 mod running;
-mod trace;
 mod words;
 
 pub use admitting::admit_all;

@@ -3,16 +3,13 @@
 ghost use Rattle.std.specs.Prelude.{◌≡◌, ◌<◌, ◌≤◌, ◌^◌, All, OnOk, IfErr, length};
 ghost use Rattle.call_book.specs.Limits.{IsSection};
 ghost use Rattle.call_book.specs.Spelling.{spelling};
-ghost use Rattle.switch_text.specs.Sides.{faults_of, side};
+ghost use Rattle.counted_io.specs.Sides.{faults_of, side};
 ghost use Rattle.dl_session.specs.RunAnswer.{printed};
-ghost use Rattle.dl_session.specs.private.Replaying.{IsWritten, IsUnwritten};
-ghost use Rattle.dl_session.specs.private.Running.{AreLegal};
-ghost use Rattle.session.specs.RunEnd.{AreRuns};
+ghost use Rattle.call_book.specs.Histories.{AreLegal, AreRuns};
+ghost use Rattle.calls_trace.specs.Written.{IsWritten, IsUnwritten};
 
-use crate::fault::SessionFault;
-use crate::placed_run::place_runs;
-use crate::trace::write_runs;
 use call_book::{Section, write_calls};
+use calls_trace::{TraceFault, write_run_trace};
 use domain_run::State;
 use session::Print;
 use std::alloc::Global;
@@ -24,7 +21,7 @@ fn write_histories<W: Write>(
     alloc: Global,
     histories: &[Section],
     writer: &mut Counted<W>,
-) -> Result<(), SessionFault>
+) -> Result<(), TraceFault>
     requires { faults_of writer.old < 2 ^ 63 }
     ensures ok { OnOk result
         (IsWritten (side W.contents writer.old writer.new) (spelling histories.now)) }
@@ -32,11 +29,11 @@ fn write_histories<W: Write>(
         (IsUnwritten (side W.contents writer.old writer.new) (spelling histories.now)) }
 {
     let Ok(text) = write_calls(alloc, histories) else {
-        return Err(SessionFault::Memory);
+        return Err(TraceFault::Memory);
     };
     match write_text(&text, writer) {
         Ok(()) => Ok(()),
-        Err(fault) => Err(SessionFault::Write {
+        Err(fault) => Err(TraceFault::Write {
             written: fault.written,
         }),
     }
@@ -45,7 +42,7 @@ fn write_histories<W: Write>(
 /// Writes the text of histories that led to these states. Nothing is run again.
 ///
 /// # Errors
-/// [`SessionFault::Memory`]: a growth was refused, and nothing was written. [`SessionFault::Write`]: the writer failed; it took
+/// [`TraceFault::Memory`]: a growth was refused, and nothing was written. [`TraceFault::Write`]: the writer failed; it took
 /// exactly so many bytes, the front of the text, and not all.
 pub(crate) fn write_run<W: Write>(
     alloc: Global,
@@ -53,7 +50,7 @@ pub(crate) fn write_run<W: Write>(
     histories: &[Section],
     states: Vec<State>,
     writer: &mut Counted<W>,
-) -> Result<(), SessionFault>
+) -> Result<(), TraceFault>
     requires few { length histories.now ≤ 8 }
     requires count { length states.items ≡ length histories.now }
     requires sections { All IsSection histories.now }
@@ -67,9 +64,6 @@ pub(crate) fn write_run<W: Write>(
 {
     match print {
         Print::Calls => write_histories(alloc, histories, writer),
-        Print::Trace => {
-            let runs = place_runs(alloc, histories, states)?;
-            write_runs(alloc, &runs, writer)
-        }
+        Print::Trace => write_run_trace(alloc, histories, states, writer),
     }
 }

@@ -1,16 +1,14 @@
 //! From bytes to bytes: recorded calls in, their trace out.
 
 ghost use Rattle.std.specs.Prelude.{◌<◌, ◌^◌, OnOk, IfErr};
-ghost use Rattle.switch_text.specs.Sides.{faults_of, side};
-ghost use Rattle.dl_session.specs.Answer.{seen, IsAnswered, IsFaultOf};
+ghost use Rattle.counted_io.specs.Sides.{faults_of, side};
+ghost use Rattle.calls_trace.specs.Answer.{streams, IsAnswered};
+ghost use Rattle.dl_session.specs.Answer.{IsFaultOf};
 
 use crate::fault::SessionFault;
-use crate::placed_run::run_sections;
-use crate::trace::write_runs;
-use call_book::{CallsFault, read_calls};
 use std::alloc::Global;
 use std::io::{Read, Write};
-use switch_text::{Counted, ReadFault};
+use switch_text::Counted;
 
 /// Reads a calls text to its end, runs the calls of each of its 1 to 8 sections on a domain of its own, and writes one trace of
 /// all domains, by time and CPU of the machine: the first domain has the first CPUs of the machine, the second the next ones.
@@ -29,23 +27,12 @@ pub fn replay<R: Read, W: Write>(
     requires reader { faults_of reader.old < 2 ^ 63 }
     requires writer { faults_of writer.old < 2 ^ 63 }
     ensures ok { OnOk result
-        (IsAnswered (seen (side R.remaining reader.old reader.new) (side W.contents writer.old writer.new))) }
+        (IsAnswered (streams (side R.remaining reader.old reader.new) (side W.contents writer.old writer.new))) }
     ensures err { IfErr result
-        (IsFaultOf (seen (side R.remaining reader.old reader.new) (side W.contents writer.old writer.new))) }
+        (IsFaultOf (streams (side R.remaining reader.old reader.new) (side W.contents writer.old writer.new))) }
 {
-    let text = match reader.read_all(alloc) {
-        Ok(text) => text,
-        Err(ReadFault::Failed) => return Err(SessionFault::Read),
-        Err(ReadFault::Memory) => return Err(SessionFault::Memory),
-    };
-    let sections = match read_calls(alloc, &text) {
-        Ok(sections) => sections,
-        Err(CallsFault::BadLine { n }) => return Err(SessionFault::Calls(n)),
-        Err(CallsFault::Memory) => return Err(SessionFault::Memory),
-    };
-    let runs = match run_sections(alloc, sections) {
-        Ok(runs) => runs,
-        Err(_) => return Err(SessionFault::Memory),
-    };
-    write_runs(alloc, &runs, writer)
+    match calls_trace::replay(alloc, reader, writer) {
+        Ok(()) => Ok(()),
+        Err(fault) => Err(SessionFault::from(fault)),
+    }
 }

@@ -1,11 +1,11 @@
 //! From bytes to bytes: a scenario in, the trace or the calls text of its run out.
 
 ghost use Rattle.std.specs.Prelude.{◌≡◌, ◌<◌, ◌≤◌, ◌^◌, true, map, replicate, IfOk, IfErr, OnOk};
-ghost use Rattle.switch_text.specs.Sides.{Side, HasNoFault, faults_of, side};
+ghost use Rattle.counted_io.specs.Sides.{Side, HasNoFault, faults_of, side};
 ghost use Rattle.session.specs.declared.options.Options.{Options as OptionsView};
 ghost use Rattle.session.specs.Options.{AreOptions};
 ghost use Rattle.session.specs.Admissions.{AreNew};
-ghost use Rattle.dl_session.specs.Answer.{seen, NothingWritten};
+ghost use Rattle.calls_trace.specs.Answer.{streams, NothingWritten};
 ghost use Rattle.dl_session.specs.FullBook.{IsFullDomain};
 ghost use Rattle.dl_session.specs.RunAnswer.{flagged, IsScenario, IsRunAnswer, IsRunFault};
 ghost use Rattle.dl_session.specs.private.Running.{IsJsonTold, IsScenarioTold, IsRan, IsHalted};
@@ -47,12 +47,12 @@ fn scenario_fault(fault: ScenarioFault) -> SessionFault
 /// Reads a scenario to its end.
 fn read_scenario<R: Read>(alloc: Global, reader: &mut Counted<R>) -> Result<Scenario, SessionFault>
     requires { faults_of reader.old < 2 ^ 63 }
-    ensures ok { (w : Side) → IfOk result (IsScenario (seen (side R.remaining reader.old reader.new) w)) }
+    ensures ok { (w : Side) → IfOk result (IsScenario (streams (side R.remaining reader.old reader.new) w)) }
     ensures reads { OnOk result (HasNoFault (side R.remaining reader.old reader.new)) }
     ensures short { IfOk result (λ s. s.duration_us ≤ 60000000) }
     ensures err { let r : Side = side R.remaining reader.old reader.new in
-        (w : Side) (o : OptionsView) → NothingWritten (seen r w) → HasNoFault w
-        → IfErr result (IsRunFault (seen r w) o) }
+        (w : Side) (o : OptionsView) → NothingWritten (streams r w) → HasNoFault w
+        → IfErr result (IsRunFault (streams r w) o) }
 {
     let text = match reader.read_all(alloc) {
         Ok(text) => text,
@@ -161,9 +161,9 @@ pub fn run<R: Read, W: Write, T: Turnstile, X: Threads + Wait + Sync>(
     requires writer { faults_of writer.old < 2 ^ 63 }
     requires options { AreOptions options.now }
     ensures ok { IfOk result (IsRunAnswer
-        (seen (side R.remaining reader.old reader.new) (side W.contents writer.old writer.new)) options.now) }
+        (streams (side R.remaining reader.old reader.new) (side W.contents writer.old writer.new)) options.now) }
     ensures err { IfErr result (IsRunFault
-        (seen (side R.remaining reader.old reader.new) (side W.contents writer.old writer.new)) options.now) }
+        (streams (side R.remaining reader.old reader.new) (side W.contents writer.old writer.new)) options.now) }
 {
     let Scenario {
         duration_us,
@@ -188,6 +188,6 @@ pub fn run<R: Read, W: Write, T: Turnstile, X: Threads + Wait + Sync>(
     )?;
     match write_run(alloc, options.print, &report.histories, states, writer) {
         Ok(()) => Ok(report),
-        Err(fault) => Err(fault),
+        Err(fault) => Err(SessionFault::from(fault)),
     }
 }

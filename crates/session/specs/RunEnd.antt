@@ -49,13 +49,6 @@ pub record HaveAdvanced (duration : ℕ) (before after : List ClientView) : Type
   pub each : (i : ℕ) (x : ClientView) → i < length before
       → Makes (slice_index_or before i x) (slice_index_or after i x) (λ d. advance_of duration (i + 1))
 
--- the states are what the histories of these domains lead to
-abbrev pub AreRuns : List SectionView → List Domain → Type 0
-AreRuns histories states =
-    (d : ℕ) (s : SectionView) (x : Domain) → d < length histories
-    → let h = slice_index_or histories d s in
-      slice_index_or states d x ≡ run_of h.cpus h.limit (calls_of h.entries)
-
 -- what the end of a run leaves, by clients that had entered so much
 pub record IsFinished (id : SessionId) (duration : ℕ) (clients : List ClientView) (f : Finished) : Type 0 where
   pub after : List ClientView

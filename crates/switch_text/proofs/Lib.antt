@@ -1,4 +1,3 @@
-mod Known
 mod Joined
 mod Room
 mod Overhang

@@ -7,7 +7,7 @@ use Rattle.std.proofs.lemmas.List.{length-append, take-append-le}
 use Rattle.std.proofs.Math.Seq.{take-append-add}
 use Rattle.switch_text.specs.Trace.{RunView, Entry, entries_of, in_order, header, lines_of, trace_of}
 use Rattle.switch_text.specs.private.Merging.{left_of}
-use Rattle.switch_text.specs.Faults.{TakesFront}
+use Rattle.counted_io.specs.Faults.{TakesFront}
 use Rattle.switch_text.specs.private.Sending.{Sends}
 use Rattle.switch_text.proofs.Order.{length-in_order}
 

@@ -1,15 +1,15 @@
 //! A buffer of a fixed size that goes out in one write when it is full.
 
 ghost use Rattle.std.specs.Prelude.{◌≡◌, ◌+◌, ◌<◌, ◌≤◌, ◌^◌, [], ◌++◌, length, is_ok, IfOk, IfErr, OnOk, IsTrue, ◌↔◌};
-ghost use Rattle.switch_text.specs.Sides.{inner_of, faults_of};
-ghost use Rattle.switch_text.specs.Faults.{one_more_unless, TakesFront};
+ghost use Rattle.counted_io.specs.Sides.{inner_of, faults_of};
+ghost use Rattle.counted_io.specs.Faults.{one_more_unless, TakesFront};
 ghost use Rattle.switch_text.specs.private.Pieces.{text_of};
 ghost use Rattle.switch_text.specs.private.Fronts.{front_text};
 ghost use Rattle.switch_text.specs.private.Sending.{Sends};
 
-use crate::counted::Counted;
 use crate::lines::{put_cpu, put_event, put_micros};
 use crate::piece::Piece;
+use counted_io::Counted;
 use std::io::Write;
 use std::marker::Model;
 

@@ -4,17 +4,17 @@ ghost use Rattle.std.specs.Prelude.{◌≡◌, ◌+◌, ◌<◌, ◌≤◌, ◌^
 ghost use Rattle.std.specs.Io.KnownBytes.{Appends};
 ghost use Rattle.switch_text.specs.Trace.{header, trace_of};
 ghost use Rattle.switch_text.specs.Runs.{views, IsRun};
-ghost use Rattle.switch_text.specs.Sides.{inner_of, faults_of};
-ghost use Rattle.switch_text.specs.Faults.{one_more_unless, TakesFront};
+ghost use Rattle.counted_io.specs.Sides.{inner_of, faults_of};
+ghost use Rattle.counted_io.specs.Faults.{one_more_unless, TakesFront};
 ghost use Rattle.switch_text.specs.private.Merging.{next_entry, IsPrinted, IsRunAt};
 ghost use Rattle.switch_text.specs.private.Ready.{AreNobodys, IsSlot, IsTexts};
 
 use crate::batch::{Batch, Front};
-use crate::counted::Counted;
 use crate::fault::WriteFault;
 use crate::merge::{Next, earliest};
 use crate::ready::{Slot, Texts, TraceRoom, middle, no_slots, no_texts, seat, set_second};
 use crate::run::Run;
+use counted_io::Counted;
 use std::io::Write;
 
 #[tactic(auto, unfolding(crate::specs::Trace::header))]

@@ -6,11 +6,10 @@ use Rattle.rtapp_scenario.specs.declared.fault.ScenarioFault.{ScenarioFault}
 use Rattle.rtapp_scenario.specs.declared.fault.ScenarioFault.TheVariants as scenario_faults
 use Rattle.rtapp_scenario.specs.ScenarioView.{TaskSpecView}
 use Rattle.call_book.specs.SectionView.{SectionView}
-use Rattle.call_book.specs.Book.{IsLegal}
+use Rattle.call_book.specs.Histories.{AreRuns}
 use Rattle.session.specs.declared.report.Finished.{Finished}
 use Rattle.session.specs.SessionId.{SessionId}
 use Rattle.session.specs.Report.{IsLeft}
-use Rattle.session.specs.RunEnd.{AreRuns}
 use Rattle.dl_session.specs.declared.fault.SessionFault.{SessionFault}
 use Rattle.dl_session.specs.declared.fault.SessionFault.TheVariants.{Json, Scenario, Start, Full, Memory}
 use Rattle.dl_session.specs.ScenarioAnswers.{AnswersScenario}
@@ -26,10 +25,6 @@ IsJsonTold found = IsOrMemory (λ e. (e ≡ Json found) × (found.kind ≢ kinds
 
 abbrev pub IsScenarioTold : ScenarioFault → SessionFault → Type 0
 IsScenarioTold found = IsOrMemory (λ e. (e ≡ Scenario found) × (found ≢ scenario_faults.Memory))
-
--- each entry has its lawful reply
-abbrev pub AreLegal : List SectionView → Type 0
-AreLegal histories = All (λ h. IsLegal h.cpus h.limit h.entries) histories
 
 -- what a run of tasks leaves: the histories and the refusals answer them
 pub record IsRan (id : SessionId) (tasks : List TaskSpecView) (duration : ℕ) (f : Finished) : Type 0 where

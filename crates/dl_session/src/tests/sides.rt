@@ -1,6 +1,6 @@
 // Readers and writers that stop short, and that fail in one of their calls, each in turn.
 ghost use Rattle.std.specs.Prelude.{◌<◌, ◌^◌};
-ghost use Rattle.switch_text.specs.Sides.{faults_of};
+ghost use Rattle.counted_io.specs.Sides.{faults_of};
 
 use super::runs::{MEMBER_ORDER, said};
 use super::{THROTTLED, THROTTLED_TRACE};

@@ -1,8 +1,8 @@
-//! A writer that takes a few bytes a call, and a reader that gives one. Each fails once, and then goes on.
+//! A writer that takes a few bytes a call. It fails once, and then goes on.
 
 use std::alloc::Global;
 use std::io;
-use std::io::{ErrorKind, Read, Write};
+use std::io::{ErrorKind, Write};
 
 /// Takes at most `step` bytes a call. The first call that finds `room` bytes taken fails; those behind it take more.
 #[derive(Drop)]
@@ -45,41 +45,5 @@ impl Write for Taker {
 
     fn flush(&mut self) -> io::Result<()> {
         Ok(())
-    }
-}
-
-/// Gives one byte a call; only call `bad`, counted from 0, fails, by an error that others try again.
-#[derive(Drop)]
-pub(crate) struct Giver<'a> {
-    rest: &'a [u8],
-    calls: usize,
-    bad: usize,
-}
-
-impl<'a> Giver<'a> {
-    pub(crate) fn new(rest: &'a [u8], bad: usize) -> Giver<'a> {
-        Giver {
-            rest,
-            calls: 0,
-            bad,
-        }
-    }
-}
-
-impl Read for Giver<'_> {
-    fn read(&mut self, buf: &mut [u8]) -> io::Result<usize> {
-        let call = self.calls;
-        self.calls = call.saturating_add(1);
-        if call == self.bad {
-            return Err(io::Error::from(ErrorKind::Interrupted));
-        }
-        match self.rest.split_first() {
-            Some((first, rest)) if !buf.is_empty() => {
-                buf[0] = *first;
-                self.rest = rest;
-                Ok(1)
-            }
-            _ => Ok(0),
-        }
     }
 }

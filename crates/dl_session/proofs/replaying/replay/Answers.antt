@@ -1,42 +1,10 @@
-use Rattle.std.proofs.Common.{List, ℕ, sym, ◌∙◌}
-use Rattle.switch_text.specs.Sides.{side}
-use Rattle.dl_session.specs.private.Replaying.{IsWritten, IsUnwritten, trace_of_runs}
-use Rattle.dl_session.specs.Answer.{seen, Seen, IsAnswered, IsFaultOf}
-use Rattle.dl_session.proofs.Naming.{on_ok}
-use Rattle.dl_session.proofs.Replied.{if_err_from, IsSpelled, answered, faulted}
-use Rattle.dl_session.proofs.Written.{trace_of_all}
+use Rattle.counted_io.specs.Sides.{side}
+use Rattle.calls_trace.specs.Answer.{streams}
+use Rattle.dl_session.proofs.Told.{told}
 use Rattle.dl_session.proofs.replaying.replay.Goals as goal
 
-pub returns-clause-ok : goal.returns-clause-ok
-returns-clause-ok g c =
-    let s : Seen = seen (side g.R.Read.remaining c.args.reader.now c.read_all.new.self) (side g.W.Write.contents c.args.writer.now c.write_runs.new.writer) in
-    let trace : List ℕ = trace_of_runs c.deref-2.result.now in
-    let is : IsSpelled s trace = record {
-      sections = c.in-Ok-read_calls.sections.items;
-      input = record {
-        text = c.in-Ok.text.items;
-        input = record { all = c.in-Ok.ensures.all };
-        read = c.in-Ok-read_calls.ensures.found.0;
-        spelled = sym c.deref.ensures.value ∙ c.in-Ok-read_calls.ensures.found.1;
-      };
-      same = trace_of_all c.in-Ok-read_calls.sections.items c.in-Ok-run_sections.runs.items c.deref-2.result.now c.deref-2.ensures.value c.in-Ok-run_sections.ensures.runs;
-      reads = c.in-Ok.ensures.faults;
-    } in
-    on_ok c.write_runs.result (IsWritten s.writer trace) (IsAnswered s) (answered s trace is) c.write_runs.ensures.ok
-
-pub returns-clause-err : goal.returns-clause-err
-returns-clause-err g c =
-    let s : Seen = seen (side g.R.Read.remaining c.args.reader.now c.read_all.new.self) (side g.W.Write.contents c.args.writer.now c.write_runs.new.writer) in
-    let trace : List ℕ = trace_of_runs c.deref-2.result.now in
-    let is : IsSpelled s trace = record {
-      sections = c.in-Ok-read_calls.sections.items;
-      input = record {
-        text = c.in-Ok.text.items;
-        input = record { all = c.in-Ok.ensures.all };
-        read = c.in-Ok-read_calls.ensures.found.0;
-        spelled = sym c.deref.ensures.value ∙ c.in-Ok-read_calls.ensures.found.1;
-      };
-      same = trace_of_all c.in-Ok-read_calls.sections.items c.in-Ok-run_sections.runs.items c.deref-2.result.now c.deref-2.ensures.value c.in-Ok-run_sections.ensures.runs;
-      reads = c.in-Ok.ensures.faults;
-    } in
-    if_err_from c.write_runs.result (IsUnwritten s.writer trace) (IsFaultOf s) (faulted s trace is) c.write_runs.ensures.err
+pub returns-in-Err-clause-err : goal.returns-in-Err-clause-err
+returns-in-Err-clause-err g c =
+    let r = side g.R.Read.remaining c.args.reader.now c.replay.new.reader in
+    let w = side g.W.Write.contents c.args.writer.now c.replay.new.writer in
+    told (streams r w) c.in-Err.fault c.in-Err.ensures.err

@@ -1,7 +1,7 @@
 use Rattle.std.proofs.Common.{refl, ◌∙◌}
 use Rattle.std.proofs.lemmas.Result.{err_from_is_err_and}
-use Rattle.switch_text.specs.Sides.{side}
-use Rattle.dl_session.specs.Answer.{seen}
+use Rattle.counted_io.specs.Sides.{side}
+use Rattle.calls_trace.specs.Answer.{streams}
 use Rattle.dl_session.proofs.Ran.{keeps_itself, is_run, run_answered, run_faulted, run_halted}
 use Rattle.dl_session.proofs.running.run.Goals as goal
 
@@ -13,7 +13,7 @@ returns-in-Err-clause-err g c =
 pub returns-in_err-report-clause-err : goal.returns-in_err-report-clause-err
 returns-in_err-report-clause-err g c =
     let w = side g.W.Write.contents c.args.writer.now c.args.writer.now in
-    let s = seen (side g.R.Read.remaining c.args.reader.now c.read_scenario.new.reader) w in
+    let s = streams (side g.R.Read.remaining c.args.reader.now c.read_scenario.new.reader) w in
     let given = c.duration_us.inside in
     let p = err_from_is_err_and c.from_residual.result c.from_residual.ensures.1 in
     rw (p.1, p.2) (run_halted s c.args.options.now c.in-Ok.scenario given.duration_us given.tasks.items c.deref.result.now c.in-Ok-open.parts c.in_err-report.field-0.0
@@ -23,7 +23,7 @@ returns-in_err-report-clause-err g c =
 pub returns-in-Ok-write_run-clause-ok : goal.returns-in-Ok-write_run-clause-ok
 returns-in-Ok-write_run-clause-ok g c =
     let w = side g.W.Write.contents c.args.writer.now c.write_run.new.writer in
-    let s = seen (side g.R.Read.remaining c.args.reader.now c.read_scenario.new.reader) w in
+    let s = streams (side g.R.Read.remaining c.args.reader.now c.read_scenario.new.reader) w in
     let given = c.duration_us.inside in
     run_answered s c.args.options.now c.in-Ok.scenario given.duration_us given.tasks.items c.deref.result.now c.in-Ok-open.parts c.in_ok-report.field-0 c.deref-2.result.now
     c.requires.options (c.in-Ok.ensures.ok w) c.duration_us.view_is (c.deref.ensures.value ∙ c.flag_all.ensures) c.in-Ok-open.ensures c.in_ok-report.ensures.ok
@@ -32,7 +32,7 @@ returns-in-Ok-write_run-clause-ok g c =
 pub returns-clause-err : goal.returns-clause-err
 returns-clause-err g c =
     let w = side g.W.Write.contents c.args.writer.now c.write_run.new.writer in
-    let s = seen (side g.R.Read.remaining c.args.reader.now c.read_scenario.new.reader) w in
+    let s = streams (side g.R.Read.remaining c.args.reader.now c.read_scenario.new.reader) w in
     let given = c.duration_us.inside in
     let run = is_run s c.args.options.now c.in-Ok.scenario given.duration_us given.tasks.items c.deref.result.now c.in-Ok-open.parts c.in_ok-report.field-0
     c.requires.options (c.in-Ok.ensures.ok w) c.duration_us.view_is (c.deref.ensures.value ∙ c.flag_all.ensures) c.in-Ok-open.ensures c.in_ok-report.ensures.ok in

@@ -2,7 +2,7 @@ use Rattle.std.proofs.Common.{◌≡◌, ◌∙◌, ◌+◌, ◌++◌, replicate
 use Rattle.std.proofs.lemmas.List.{length-map}
 use Rattle.switch_text.specs.Trace.{header, trace_of}
 use Rattle.switch_text.specs.Runs.{view_of, views}
-use Rattle.switch_text.specs.Faults.{TakesFront}
+use Rattle.counted_io.specs.Faults.{TakesFront}
 use Rattle.switch_text.specs.private.Merging.{next_entry, stepped}
 use Rattle.switch_text.proofs.Few.{few}
 use Rattle.switch_text.proofs.Kept.{nobody_is_slot}

@@ -1,0 +1,56 @@
+-- Each admitted number keeps its name.
+use Rattle.std.proofs.Common.{◌≡◌, ℕ, zero, suc, ◌<◌, ◌≤◌, true, false, cond, eqb, ◌||◌, List, length, refl, sym, ap, ◌∙◌, subst, eq-eqb, Result, Ok, Err}
+use Rattle.std.specs.Prelude.{OnOk}
+use Rattle.std.specs.List.{list_any}
+use Rattle.std.proofs.lemmas.Bool.{eqb-true, eqb-false, ne_eqb}
+use Rattle.attr_check.specs.ParamsView.{ParamsView}
+use Rattle.domain_run.specs.NameView.{IsName}
+use Rattle.domain_run.specs.script.ScriptView.{ScriptView}
+use Rattle.domain_run.specs.declared.call.Call.TheVariants.{Admit}
+use Rattle.domain_run.specs.declared.call.Reply.TheVariants.{Admitted}
+use Rattle.domain_run.specs.Domain.{Domain}
+use Rattle.domain_run.specs.Calls.{reply_to, is_refusal, after_call, granted}
+use Rattle.domain_run.specs.Tick.{ticks}
+use Rattle.domain_run.specs.Sound.{IsAdmitted}
+use Rattle.domain_run.proofs.CallerLemmas.{with_number_contains}
+use Rattle.switch_text.specs.Names.{Names, named}
+use Rattle.calls_trace.specs.Replay.{with_name}
+use Rattle.calls_trace.specs.private.Replaying.{AreNamed}
+use Rattle.calls_trace.specs.private.Recorded.{HaveNames}
+
+-- ticks admit nobody
+pub ticks_used : (k : ℕ) (d : Domain) → (ticks k d).used ≡ d.used
+ticks_used zero d = refl
+ticks_used (suc k) d = ticks_used k d
+
+eqb-swap : (a b : ℕ) → eqb a b ≡ eqb b a
+eqb-swap a b =
+    elim (eqb a b) as (λ x. eqb a b ≡ x → x ≡ eqb b a) [
+      | true ↦ λ e. sym (eq-eqb b a (sym (eqb-true a b e)))
+      | false ↦ λ e. sym (ne_eqb b a (λ q. eqb-false a b e (sym q)))
+    ] refl
+
+-- what an Ok says, said otherwise
+pub on_ok : {T E : Type 0} (r : Result T E) (P Q : Type 0) → (P → Q) → OnOk r P → OnOk r Q
+on_ok (Ok x) P Q f h = f h
+on_ok (Err e) P Q f h = tt
+
+-- one name more
+pub one_more_named : (used : List ℕ) (number : ℕ) (name : List ℕ) (names : ℕ → List ℕ) → IsName name → HaveNames used names → (n : ℕ) → (eqb number n || list_any (λ m. eqb m n) used) ≡ true → (0 < length (with_name names number name n)) × (length (with_name names number name n) ≤ 15)
+one_more_named used number name names is old n h =
+    elim (eqb n number) as (λ b. eqb n number ≡ b → (0 < length (cond b name (names n))) × (length (cond b name (names n)) ≤ 15)) [
+      | true ↦ λ e. (is.some, is.most)
+      | false ↦ λ e. old n (sym (ap (λ b. b || list_any (λ m. eqb m n) used) (eqb-swap number n ∙ e)) ∙ h)
+    ] refl
+
+pub named_step : (d : Domain) (was is : Names) (number : ℕ) (name : List ℕ) (params : ParamsView) (delay : ℕ) (script : ScriptView) → reply_to d (Admit number name params delay script) ≡ Admitted → AreNamed d was → IsName name
+    → ((n : ℕ) → named is n ≡ with_name (named was) number name n) → AreNamed (after_call d (Admit number name params delay script)) is
+named_step d was is number name params delay script reply old good each n h =
+    let one : after_call d (Admit number name params delay script) ≡ granted d (Admit number name params delay script) = rw reply refl in
+    let h2 : (eqb number n || list_any (λ m. eqb m n) d.used) ≡ true = sym (with_number_contains number n d.used) ∙ subst (λ (x : Domain). IsAdmitted x.used n) one h in
+    let both = one_more_named d.used number name (named was) good (λ m there. let had = old m there in (had.some, had.most)) n h2 in
+    record { some = rw (each n) both.0; most = rw (each n) both.1 }
+
+pub admit_time : (d : Domain) (number : ℕ) (name : List ℕ) (params : ParamsView) (delay : ℕ) (script : ScriptView) → (after_call d (Admit number name params delay script)).time ≡ d.time
+admit_time d number name params delay script =
+    elim (is_refusal (reply_to d (Admit number name params delay script))) as (λ b. (cond b d (granted d (Admit number name params delay script))).time ≡ d.time) [ true ↦ refl | false ↦ refl ]

@@ -1,0 +1,146 @@
+-- The names that a legal history's replies tell are those of its run.
+use Rattle.std.proofs.Common.{◌≡◌, ℕ, suc, arith, get_or, drop, ◌++◌, ◌<◌, Bool, true, false, cond, eqb, leb, ltb, ◌+◌, List, [], ◌∷◌, length, map, Option, Some, refl, sym, ap, ◌∙◌, subst}
+use Rattle.std.specs.Prelude.{All}
+use Rattle.std.specs.List.{list_any}
+use Rattle.std.proofs.lemmas.List.{length_push, drop_more}
+use Rattle.std.proofs.lemmas.List.Elements.{All-head, All-tail}
+use Rattle.attr_check.specs.Ratio.{cap}
+use Rattle.domain_run.specs.declared.call.Call.{Call}
+use Rattle.domain_run.specs.declared.call.Call.TheVariants.{Admit, Regrade, Wake, Leave, Advance}
+use Rattle.domain_run.specs.declared.call.Reply.{Reply}
+use Rattle.domain_run.specs.declared.call.Reply.TheVariants.{Admitted, Full, Twice, Busy}
+use Rattle.domain_run.specs.Domain.{Domain, opened}
+use Rattle.domain_run.specs.Tick.{sum_of}
+use Rattle.domain_run.specs.Calls.{admit_reply, reply_to, is_refusal, granted, after_call, task_of, regrade_reply, wake_reply, leave_reply}
+use Rattle.domain_run.specs.Run.{after_calls, replies_to, run_of}
+use Rattle.domain_run.specs.Sound.{IsAdmitted}
+use Rattle.domain_run.proofs.CallerLemmas.{with_number_contains}
+use Rattle.call_book.specs.declared.section.Entry.{Entry}
+use Rattle.call_book.specs.SectionView.{SectionView}
+use Rattle.call_book.specs.Limits.{IsCall, IsEntry, IsSection}
+use Rattle.call_book.specs.Book.{calls_of, IsLegal}
+use Rattle.switch_text.specs.Names.{Names}
+use Rattle.switch_text.specs.Trace.{RunView}
+use Rattle.calls_trace.specs.declared.placed_run.PlacedRun.{PlacedRun}
+use Rattle.calls_trace.specs.Replay.{with_name, named_by, names_after, names_of, no_names, runs_from}
+use Rattle.calls_trace.specs.private.Replaying.{Gives, IsRunOf, view_of}
+use Rattle.calls_trace.specs.private.Recorded.{named_where, given_by, given_by_all, HaveNames}
+use Rattle.calls_trace.proofs.Naming.{ticks_used, one_more_named}
+use Rattle.calls_trace.proofs.Written.{runs_more}
+
+-- ---- the names are those of the run
+
+-- the names after a call, by its reply
+abbrev named_on : Reply → Call → (ℕ → List ℕ) → (ℕ → List ℕ)
+named_on r c names = cond (is_refusal r) names (named_by c names)
+
+-- of an admission's replies, Admitted alone is no refusal
+admit_on : (a b c : Bool) (sum : ℕ) (call : Call) (names : ℕ → List ℕ) → (r : Reply) → r ≡ cond a Full (cond b Twice (cond c (Busy sum) Admitted)) → named_where (Some r) call names ≡ named_on r call names
+admit_on true b c sum call names r is = rw is refl
+admit_on false true c sum call names r is = rw is refl
+admit_on false false true sum call names r is = rw is refl
+admit_on false false false sum call names r is = rw is refl
+
+-- any other call names nobody
+other_on : (r : Reply) (call : Call) (names : ℕ → List ℕ) → named_by call names ≡ names → named_where (Some r) call names ≡ named_on r call names
+other_on r call names none =
+    let either : (b : Bool) → cond b names (named_by call names) ≡ names = λ b. elim b as (λ x. cond x names (named_by call names) ≡ names) [ true ↦ refl | false ↦ none ] in
+    elim r as (λ x. named_where (Some x) call names ≡ names) [
+      | Admitted ↦ none
+      | _ ↦ refl
+    ] ∙ sym (either (is_refusal r))
+
+named_as : (d : Domain) (c : Call) (names : ℕ → List ℕ) → named_where (Some (reply_to d c)) c names ≡ names_after d c names
+named_as d (Admit number name params delay script) names =
+    admit_on (leb 256 (length d.tasks)) (list_any (λ n. eqb n number) d.used) (ltb (cap d.cpus d.limit) (sum_of d.tasks + params.bw)) (sum_of d.tasks) (Admit number name params delay script) names (admit_reply d number params) refl
+named_as d (Regrade number params word) names = other_on (regrade_reply d params word (task_of d number)) (Regrade number params word) names refl
+named_as d (Wake number) names = other_on (wake_reply (task_of d number)) (Wake number) names refl
+named_as d (Leave number) names = other_on (leave_reply (task_of d number)) (Leave number) names refl
+named_as d (Advance n) names = refl
+
+-- what legal entries name
+pub given_is : (d : Domain) (entries : List Entry) (names : ℕ → List ℕ) → map (λ e. e.reply) entries ≡ map Some (replies_to d (calls_of entries)) → given_by_all entries names ≡ names_of d (calls_of entries) names
+given_is d [] names legal = refl
+given_is d (e ∷ entries) names legal =
+    let first : e.reply ≡ Some (reply_to d e.call) = cc in
+    let others : map (λ x. x.reply) entries ≡ map Some (replies_to (after_call d e.call) (calls_of entries)) = cc in
+    let here : given_by e names ≡ names_after d e.call names = ap (λ (r : Option Reply). named_where r e.call names) first ∙ named_as d e.call names in
+    ap (given_by_all entries) here ∙ given_is (after_call d e.call) entries (names_after d e.call names) others
+
+-- ---- whoever was admitted has a name
+
+named_either : (b : Bool) (d then : Domain) (names more : ℕ → List ℕ) → HaveNames d.used names → HaveNames then.used more → HaveNames (cond b d then).used (cond b names more)
+named_either true d then names more old new = old
+named_either false d then names more old new = new
+
+named_more : (d : Domain) (c : Call) (names : ℕ → List ℕ) → IsCall c → HaveNames d.used names → HaveNames (after_call d c).used (names_after d c names)
+named_more d (Admit number name params delay script) names is old =
+    named_either (is_refusal (admit_reply d number params)) d (granted d (Admit number name params delay script)) names (with_name names number name) old
+    (λ n h. one_more_named d.used number name names is.named old n (sym (with_number_contains number n d.used) ∙ h))
+named_more d (Regrade number params word) names is old = named_either (is_refusal (regrade_reply d params word (task_of d number))) d (granted d (Regrade number params word)) names names old old
+named_more d (Wake number) names is old = named_either (is_refusal (wake_reply (task_of d number))) d (granted d (Wake number)) names names old old
+named_more d (Leave number) names is old = named_either (is_refusal (leave_reply (task_of d number))) d (granted d (Leave number)) names names old old
+named_more d (Advance k) names is old = λ n h. old n (subst (λ (us : List ℕ). IsAdmitted us n) (ticks_used k d) h)
+
+pub all_named : (d : Domain) (entries : List Entry) (names : ℕ → List ℕ) → All IsEntry entries → HaveNames d.used names → HaveNames (after_calls d (calls_of entries)).used (names_of d (calls_of entries) names)
+all_named d [] names are old = old
+all_named d (e ∷ entries) names are old =
+    all_named (after_call d e.call) entries (names_after d e.call names) (All-tail IsEntry e entries are) (named_more d e.call names (All-head IsEntry e entries are).call old)
+
+-- ---- the run of a history
+
+nobody : false ≡ true → ⊥
+nobody e = absurd cc
+
+pub run_is : (s : SectionView) (d : Domain) (names : Names) (entries : List Entry) → IsSection s → IsLegal s.cpus s.limit s.entries → d ≡ run_of s.cpus s.limit (calls_of s.entries) → entries ≡ s.entries
+    → Gives names (given_by_all entries no_names) → IsRunOf s d names
+run_is s d names entries is legal state same gives =
+    let start = opened s.cpus s.limit in
+    let ends : ℕ → List ℕ = names_of start (calls_of s.entries) no_names in
+    let are : given_by_all entries no_names ≡ ends = ap (λ (es : List Entry). given_by_all es no_names) same ∙ given_is start s.entries no_names legal in
+    let called : Gives names ends = λ n. gives n ∙ ap (λ (f : ℕ → List ℕ). f n) are in
+    let have = all_named start s.entries no_names is.entries (λ n h. absurd (nobody h)) in
+    record {
+      domain = state;
+      called = called;
+      all_named = λ n h.
+          let there = have n (subst (λ (x : Domain). IsAdmitted x.used n) state h) in
+          record { some = rw (called n) there.0; most = rw (called n) there.1 };
+    }
+
+-- ---- the histories of several domains
+
+-- the state that a history leads to
+abbrev pub state_in : SectionView → Domain
+state_in s = run_of s.cpus s.limit (calls_of s.entries)
+
+-- so many states are what the histories from here on lead to
+abbrev pub AreRunsFrom : ℕ → List SectionView → ℕ → List Domain → Type 0
+AreRunsFrom from histories left states =
+    (j : ℕ) (s : SectionView) (x : Domain) → j < left → get_or states j x ≡ state_in (get_or histories (from + j) s)
+
+pub next_state : (from left : ℕ) (histories : List SectionView) (states more : List Domain) (h : SectionView) (d : Domain) → AreRunsFrom from histories left states → 0 < left → states ≡ d ∷ more → h ≡ get_or histories from h → d ≡ state_in h
+next_state from left histories states more h d are some first is =
+    let read : get_or states 0 d ≡ d = ap (λ (xs : List Domain). get_or xs 0 d) first in
+    let place : from + 0 ≡ from = omega arith in
+    sym read ∙ are 0 h d some ∙ ap (λ (i : ℕ). state_in (get_or histories i h)) place ∙ ap state_in (sym is)
+
+pub states_left : (from next left after : ℕ) (histories : List SectionView) (states more : List Domain) (d : Domain) → AreRunsFrom from histories left states → states ≡ d ∷ more → next ≡ from + 1 → left ≡ after + 1
+    → AreRunsFrom next histories after more
+states_left from next left after histories states more d are first place one j s x inside =
+    let same : from + suc j ≡ next + j = omega (arith, place) in
+    let at : get_or states (suc j) x ≡ get_or more j x = ap (λ (xs : List Domain). get_or xs (suc j) x) first in
+    let there : suc j < left = omega (arith, inside, one) in
+    sym at ∙ are (suc j) s x there ∙ ap (λ (i : ℕ). state_in (get_or histories i s)) same
+
+-- one run more
+pub placed_more : (histories : List SectionView) (was new : List PlacedRun) (r : PlacedRun) (h : SectionView) (base : ℕ) (all : List RunView) → new ≡ was ++ r ∷ [] → h ≡ get_or histories (length was) h → length was < length histories
+    → r.base ≡ base → IsRunOf h r.run.state r.run.names → map view_of was ++ runs_from base (drop (length was) histories) ≡ all → map view_of new ++ runs_from (base + h.cpus) (drop (length new) histories) ≡ all
+placed_more histories was new r h base all is here inside at is_run so_far =
+    let n = length was in
+    let long : length new ≡ n + 1 = ap length is ∙ length_push was r in
+    let left = drop (n + 1) histories in
+    let first : drop n histories ≡ h ∷ left = drop_more histories n h inside ∙ ap (λ (x : SectionView). x ∷ left) (sym here) in
+    ap (λ (k : ℕ). map view_of new ++ runs_from (base + h.cpus) (drop k histories)) long
+    ∙ ap (λ (rs : List PlacedRun). map view_of rs ++ runs_from (base + h.cpus) left) is
+    ∙ runs_more was r h base left (drop n histories) all at is_run first so_far

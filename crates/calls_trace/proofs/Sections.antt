@@ -1,0 +1,28 @@
+-- The calls of a section, from its last entry back.
+use Rattle.std.proofs.Common.{◌≡◌, ℕ, List, [], ◌∷◌, ◌++◌, map, sym, ap, ◌∙◌}
+use Rattle.std.specs.Prelude.{reverse}
+use Rattle.std.proofs.lemmas.List.{reverse-append}
+use Rattle.domain_run.specs.declared.call.Call.{Call}
+use Rattle.domain_run.specs.Domain.{Domain}
+use Rattle.domain_run.specs.Calls.{after_call}
+use Rattle.domain_run.specs.Run.{after_calls}
+use Rattle.call_book.specs.declared.section.Entry.{Entry}
+use Rattle.calls_trace.specs.Replay.{names_of, names_after}
+
+-- the entries lie last first
+abbrev pub left_calls : List Entry → List Call
+left_calls entries = map (λ e. e.call) (reverse entries)
+
+pub reverse_more : (entries more : List Entry) (e : Entry) → more ≡ entries ++ e ∷ [] → reverse more ≡ e ∷ reverse entries
+reverse_more entries more e same = ap reverse same ∙ reverse-append entries (e ∷ [])
+
+pub left_more : (entries more : List Entry) (e : Entry) → more ≡ entries ++ e ∷ [] → left_calls more ≡ e.call ∷ left_calls entries
+left_more entries more e same = ap (map (λ e. e.call)) (reverse_more entries more e same)
+
+pub left_state : (d r : Domain) (c : Call) (cs all : List Call) (end : Domain) → all ≡ c ∷ cs → r ≡ after_call d c → after_calls d all ≡ end → after_calls r cs ≡ end
+left_state d r c cs all end same made left = ap (λ (x : Domain). after_calls x cs) made ∙ sym (ap (after_calls d) same) ∙ left
+
+pub left_names : (d r : Domain) (c : Call) (cs all : List Call) (was is end : ℕ → List ℕ) → all ≡ c ∷ cs → r ≡ after_call d c → ((n : ℕ) → is n ≡ names_after d c was n) → ((n : ℕ) → names_of d all was n ≡ end n) → (n : ℕ) → names_of r cs is n ≡ end n
+left_names d r c cs all was is end same made each left n =
+    let are : is ≡ names_after d c was = λ i m. each m i in
+    ap (λ (x : Domain). names_of x cs is n) made ∙ ap (λ (f : ℕ → List ℕ). names_of (after_call d c) cs f n) are ∙ sym (ap (λ (xs : List Call). names_of d xs was n) same) ∙ left n

@@ -1,0 +1,5 @@
+pub mod Replay
+pub mod Answer
+pub mod Written
+pub mod Upward
+pub mod private

@@ -1,0 +1,72 @@
+//! The runs of several domains on the CPUs of one machine.
+
+ghost use Rattle.std.specs.Prelude.{◌≡◌, ◌≤◌, All, IfOk, IfErr, length, map};
+ghost use Rattle.call_book.specs.Limits.{IsSection};
+ghost use Rattle.call_book.specs.Histories.{AreLegal, AreRuns};
+ghost use Rattle.calls_trace.specs.Replay.{runs_from};
+ghost use Rattle.calls_trace.specs.private.Replaying.{IsPlaced, view_of};
+
+use crate::named_run::{RunWithNames, recorded, run_section};
+use call_book::Section;
+use domain_run::{NoMemory, State};
+use std::alloc::Global;
+use std::collections::VecDeque;
+
+/// The run of one domain of the machine.
+#[derive(Drop)]
+pub(crate) struct PlacedRun {
+    /// The CPU of the machine that is the domain's CPU 0.
+    pub(crate) base: u32,
+    pub(crate) run: RunWithNames,
+}
+
+/// The runs of sections, each on a domain of its own: the first has the first CPUs of the machine, the second the next ones, and
+/// so on.
+pub(crate) fn run_sections(
+    alloc: Global,
+    sections: Vec<Section>,
+) -> Result<Vec<PlacedRun>, NoMemory>
+    requires few { length sections.items ≤ 8 }
+    requires sections { All IsSection sections.items }
+    ensures runs { IfOk result (λ v. map view_of v.items ≡ runs_from 0 sections.items) }
+    ensures few { IfOk result (λ v. length v.items ≤ 8) }
+    ensures placed { IfOk result (λ v. All IsPlaced v.items) }
+{
+    let mut runs = Vec::with_capacity(alloc, sections.len())?;
+    let mut left = VecDeque::from_vec(sections);
+    let mut base: u32 = 0;
+    while let Some(section) = left.pop_front() {
+        let cpus = section.cpus;
+        let run = run_section(alloc, section)?;
+        runs.push_reserved(PlacedRun { base, run });
+        base += cpus;
+    }
+    Ok(runs)
+}
+
+/// The runs that histories led to, each on a domain of its own, with these states; nothing is run again.
+pub(crate) fn place_runs(
+    alloc: Global,
+    histories: &[Section],
+    states: Vec<State>,
+) -> Result<Vec<PlacedRun>, NoMemory>
+    requires few { length histories.now ≤ 8 }
+    requires count { length states.items ≡ length histories.now }
+    requires sections { All IsSection histories.now }
+    requires legal { AreLegal histories.now }
+    requires runs { AreRuns histories.now states.items }
+    ensures runs { IfOk result (λ v. map view_of v.items ≡ runs_from 0 histories.now) }
+    ensures few { IfOk result (λ v. length v.items ≤ 8) }
+    ensures placed { IfOk result (λ v. All IsPlaced v.items) }
+{
+    let mut runs = Vec::with_capacity(alloc, histories.len())?;
+    let mut base: u32 = 0;
+    let mut rest = states.into_iter();
+    while let Some(state) = rest.next() {
+        let history = &histories[runs.len()];
+        let run = recorded(alloc, history, state)?;
+        runs.push_reserved(PlacedRun { base, run });
+        base += history.cpus;
+    }
+    Ok(runs)
+}

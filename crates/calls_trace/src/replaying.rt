@@ -1,0 +1,51 @@
+//! From bytes to bytes: recorded calls in, their trace out.
+
+ghost use Rattle.std.specs.Prelude.{◌<◌, ◌^◌, OnOk, IfErr};
+ghost use Rattle.counted_io.specs.Sides.{faults_of, side};
+ghost use Rattle.calls_trace.specs.Answer.{streams, IsAnswered, IsFaultOf};
+
+use crate::fault::ReplayFault;
+use crate::placed_run::run_sections;
+use crate::trace::write_runs;
+use call_book::{CallsFault, read_calls};
+use std::alloc::Global;
+use std::io::{Read, Write};
+use switch_text::{Counted, ReadFault};
+
+/// Reads a calls text to its end, runs the calls of each of its 1 to 8 sections on a domain of its own, and writes one trace of
+/// all domains, by time and CPU of the machine: the first domain has the first CPUs of the machine, the second the next ones.
+///
+/// `Ok`: the input spells sections, and what was written is the trace of their run, and nothing else.
+///
+/// # Errors
+/// [`ReplayFault::Calls`] with the first bad line of the input, [`ReplayFault::Read`] where the reader failed,
+/// [`ReplayFault::Memory`] where a growth was refused: nothing was written. [`ReplayFault::Write`] where the writer failed: it
+/// took exactly so many bytes, the front of the trace, and not all.
+pub fn replay<R: Read, W: Write>(
+    alloc: Global,
+    reader: &mut Counted<R>,
+    writer: &mut Counted<W>,
+) -> Result<(), ReplayFault>
+    requires reader { faults_of reader.old < 2 ^ 63 }
+    requires writer { faults_of writer.old < 2 ^ 63 }
+    ensures ok { OnOk result
+        (IsAnswered (streams (side R.remaining reader.old reader.new) (side W.contents writer.old writer.new))) }
+    ensures err { IfErr result
+        (IsFaultOf (streams (side R.remaining reader.old reader.new) (side W.contents writer.old writer.new))) }
+{
+    let text = match reader.read_all(alloc) {
+        Ok(text) => text,
+        Err(ReadFault::Failed) => return Err(ReplayFault::Read),
+        Err(ReadFault::Memory) => return Err(ReplayFault::Memory),
+    };
+    let sections = match read_calls(alloc, &text) {
+        Ok(sections) => sections,
+        Err(CallsFault::BadLine { n }) => return Err(ReplayFault::Calls(n)),
+        Err(CallsFault::Memory) => return Err(ReplayFault::Memory),
+    };
+    let runs = match run_sections(alloc, sections) {
+        Ok(runs) => runs,
+        Err(_) => return Err(ReplayFault::Memory),
+    };
+    Ok(write_runs(alloc, &runs, writer)?)
+}

@@ -1,0 +1,61 @@
+mod fakes;
+
+use crate::{Counted, ReadFault};
+use fakes::{Giver, Taker};
+use std::alloc::Global;
+use std::io::ErrorKind;
+use std::test::Fail;
+
+const TEXT: &[u8] = b"# tracer: nop\n";
+
+/// What a reader of one byte a call gives whose call `bad` fails, and the faults counted.
+fn read_slowly(alloc: Global, bad: usize) -> (Result<Vec<u8>, ReadFault>, u64) {
+    let mut reader = Counted::new(Giver::new(TEXT, bad));
+    let read = reader.read_all(alloc);
+    (read, reader.faults())
+}
+
+#[test]
+fn all_is_read(rt: HostRuntime) -> Result<(), Fail> {
+    let mut reader = Counted::new(TEXT);
+    assert_eq!(rt; reader.read_all(rt.alloc())?.as_slice(), TEXT);
+    let (read, faults) = read_slowly(rt.alloc(), usize::MAX);
+    assert_eq!(rt; read?.as_slice(), TEXT);
+    assert_eq!(rt; faults, 0);
+    Ok(())
+}
+
+// The call that gives each byte fails once, and that which would tell the end; the others give all bytes.
+#[test]
+fn a_reader_fails_in_each_call(rt: HostRuntime) {
+    for bad in 0..=TEXT.len() {
+        let (read, faults) = read_slowly(rt.alloc(), bad);
+        assert!(rt; matches!(read, Err(ReadFault::Failed)), "in call {bad}");
+        assert_eq!(rt; faults, 1, "in call {bad}");
+    }
+}
+
+// A call goes to the reader once: neither is a fault tried again, nor is the end one.
+#[test]
+fn a_read_is_one_call(rt: HostRuntime) {
+    let mut buf = [0u8; 4];
+    let mut reader = Counted::new(Giver::new(b"ab", 1));
+    for answer in [Some(1), None, Some(1), Some(0), Some(0)] {
+        assert!(rt; reader.faults() < 2);
+        assert_eq!(rt; reader.read(&mut buf), answer);
+    }
+    assert_eq!(rt; reader.faults(), 1);
+}
+
+#[test]
+fn a_write_is_one_call(rt: HostRuntime) {
+    for kind in [Some(ErrorKind::Interrupted), None] {
+        let mut writer = Counted::new(Taker::new(rt.alloc(), 4, 6, kind));
+        for answer in [Some(4), Some(2), None, Some(4)] {
+            assert!(rt; writer.faults() < 2);
+            assert_eq!(rt; writer.write(b"abcdef"), answer);
+        }
+        assert_eq!(rt; writer.faults(), 1);
+        assert_eq!(rt; writer.into_inner().calls, 4);
+    }
+}

@@ -1,9 +1,0 @@
-use Rattle.std.proofs.Common.{◌≡◌}
-use Rattle.std.specs.Io.KnownBytes.{Consumes}
-use Rattle.switch_text.proofs.counted.Counted.read_all.Given as goal
-
-abbrev pub invariant-loop : goal.invariant-loop
-invariant-loop g l = record {
-  gone : Consumes (g.R.Read.remaining l.initial.self.inner) (g.R.Read.remaining l.self.inner) l.bytes.items;
-  faults : l.self.faults ≡ l.initial.self.faults;
-}
