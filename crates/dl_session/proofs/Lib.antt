@@ -2,11 +2,8 @@ pub mod Told
 pub mod CpuLists
 pub mod ScenarioLaw
 pub mod Shown
-pub mod OrderLists
-pub mod OrderTicks
 pub mod OrderAdmissions
 pub mod OrderRuns
-pub mod OrderGathered
 pub mod OrderEntries
 pub mod OrderVerdicts
 pub mod OrderSplit

@@ -17,8 +17,8 @@ use Rattle.domain_run.specs.Calls.{admit_reply, new_task, with_number, listed, t
 use Rattle.domain_run.proofs.CallerLemmas.{with_number_contains, sum_push, IsGranted, granted_is}
 use Rattle.call_book.specs.Book.{AdmissionView, admission}
 use Rattle.calls_trace.specs.Replay.{with_name, named_by, names_after}
-use Rattle.dl_session.proofs.OrderLists.{Reordered, next, swaps, chain, same_order, turned, same_length, same_any, before_same}
-use Rattle.dl_session.proofs.OrderTicks.{Alike, relisted, same_sum_of}
+use Rattle.domain_run.proofs.CallerLemmas.{Reordered, next, swaps, chain, same_order, turned, same_length, same_any, before_same}
+use Rattle.domain_run.proofs.CallerLemmas.{Alike, relisted, same_sum_of}
 
 -- ---- alike
 

@@ -14,8 +14,8 @@ use Rattle.session.specs.Asks.{Asked, Made, call_of, domain_of, made_at, made_in
 use Rattle.session.specs.Admissions.{own_asked}
 use Rattle.session.specs.RunEnd.{advance_of}
 use Rattle.dl_session.specs.InOrder.{is_admitted}
-use Rattle.dl_session.proofs.OrderLists.{Reordered, chain, turned, mapped, filtered, filter_mapped}
-use Rattle.dl_session.proofs.OrderGathered.{gathered, gather, gathered_both}
+use Rattle.domain_run.proofs.CallerLemmas.{Reordered, chain, turned, mapped, filtered, filter_mapped}
+use Rattle.domain_run.proofs.CallerLemmas.{gathered, gather, gathered_both}
 use Rattle.dl_session.proofs.OrderRuns.{was_admitted, granted_calls}
 
 -- ---- entries of a client

@@ -19,8 +19,8 @@ use Rattle.call_book.specs.declared.section.Entry.{Entry}
 use Rattle.call_book.specs.Book.{AdmissionView, admission, calls_of}
 use Rattle.calls_trace.specs.Replay.{named_by, names_after, names_of}
 use Rattle.dl_session.specs.InOrder.{is_admitted}
-use Rattle.dl_session.proofs.OrderLists.{Reordered, ends, next, swaps, chain}
-use Rattle.dl_session.proofs.OrderTicks.{Alike}
+use Rattle.domain_run.proofs.CallerLemmas.{Reordered, ends, next, swaps, chain}
+use Rattle.domain_run.proofs.CallerLemmas.{Alike}
 use Rattle.dl_session.proofs.OrderAdmissions.{alike_itself, alike_more, task_from, with_admitted, admitted_as, named_as, is_admission, two_calls, alike_call}
 
 -- ---- all granted

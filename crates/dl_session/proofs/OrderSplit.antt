@@ -15,8 +15,8 @@ use Rattle.call_book.specs.Book.{calls_of}
 use Rattle.session.specs.Asks.{Made}
 use Rattle.session.specs.RunEnd.{advance_of, IsEnd, EndsWith}
 use Rattle.calls_trace.specs.Replay.{names_after, names_of}
-use Rattle.dl_session.proofs.OrderLists.{Reordered}
-use Rattle.dl_session.proofs.OrderTicks.{Alike, ticks_alike, alike_switches}
+use Rattle.domain_run.proofs.CallerLemmas.{Reordered}
+use Rattle.domain_run.proofs.CallerLemmas.{Alike, ticks_alike, alike_switches}
 use Rattle.dl_session.proofs.OrderRuns.{order_free, IsListing, listing_run, was_admitted, is_verdict, granted_calls, LegalFrom, granted_run}
 use Rattle.dl_session.proofs.OrderEntries.{granted_both}
 use Rattle.dl_session.proofs.OrderVerdicts.{others, others_both, one_if, all_verdicts}

@@ -14,8 +14,8 @@ use Rattle.session.specs.SessionId.{SessionId}
 use Rattle.session.specs.Asks.{Answer, IsLawful, Asked, Made, call_of, domain_of, made_at, made_in, entries_from}
 use Rattle.session.specs.Admissions.{is_own, own_asked}
 use Rattle.session.specs.RunEnd.{advance_of}
-use Rattle.dl_session.proofs.OrderLists.{filtered, same_length}
-use Rattle.dl_session.proofs.OrderGathered.{gathered, gather}
+use Rattle.domain_run.proofs.CallerLemmas.{filtered, same_length}
+use Rattle.domain_run.proofs.CallerLemmas.{gathered, gather}
 use Rattle.dl_session.proofs.OrderRuns.{is_verdict}
 use Rattle.dl_session.proofs.OrderEntries.{kind_of, own_is, kinds_below, OwnCalls}
 

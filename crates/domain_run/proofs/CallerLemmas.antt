@@ -29,7 +29,10 @@ use Rattle.domain_run.proofs.KeptKeys as kept
 -- passed on to callers who run the definitions in another order
 pub use Rattle.domain_run.proofs.Admitting.{with_number_contains, sum_push, IsGranted, granted_is}
 pub use Rattle.domain_run.proofs.KeptKeys.{AreNumbered, ticks_numbered}
-pub use Rattle.domain_run.proofs.Keeping.{same_replenished, same_settled, same_unblocked, AllPairs-map}
+pub use Rattle.domain_run.proofs.OrderLists.{Reordered, ends, next, swaps, chain, same_order, turned, mapped, filtered, filter_mapped}
+pub use Rattle.domain_run.proofs.OrderLists.{same_length, same_any, same_found, before_same, apart_reordered}
+pub use Rattle.domain_run.proofs.OrderTicks.{Alike, relisted, same_sum_of, ticks_alike, alike_switches}
+pub use Rattle.domain_run.proofs.OrderGathered.{gathered, gather, gathered_both}
 
 and_left : (a b : Bool) → (a && b) ≡ true → a ≡ true
 and_left true b e = refl

@@ -11,6 +11,9 @@ pub mod Changing
 pub mod Ticking
 pub mod Tracing
 pub mod KeptKeys
+pub mod OrderLists
+pub mod OrderTicks
+pub mod OrderGathered
 pub mod CallerLemmas
 pub mod Staying
 pub mod Jumping

@@ -4,10 +4,10 @@ use Rattle.std.specs.Prelude.{◌++◌, length, Some, slice_index_or}
 use Rattle.domain_run.specs.declared.call.Call.TheVariants.{Advance}
 use Rattle.domain_run.specs.declared.call.Reply.TheVariants as replies
 use Rattle.domain_run.specs.Domain.{Domain}
-use Rattle.domain_run.specs.Run.{run_of}
+
 use Rattle.call_book.specs.declared.section.Entry.{Entry}
 use Rattle.call_book.specs.SectionView.{SectionView}
-use Rattle.call_book.specs.Book.{calls_of}
+use Rattle.call_book.specs.Histories.{AreRuns}
 use Rattle.session.specs.declared.fault.EndFault.{EndFault}
 use Rattle.session.specs.declared.fault.EndFault.TheVariants.{Full, Memory}
 use Rattle.session.specs.declared.report.Finished.{Finished}

@@ -17,9 +17,9 @@ use Rattle.domain_run.specs.Parts.{replenish_due, settled, is_listed, unblocked,
 use Rattle.domain_run.specs.Switches.{same_occupant, left_by, state_of, switches_from}
 use Rattle.domain_run.specs.Domain.{Domain}
 use Rattle.domain_run.specs.Tick.{share_of, shares, sum_of, candidate_of, candidates, prepared, begun, rate_of, ran_if, finished, ticks}
-use Rattle.domain_run.proofs.CallerLemmas.{same_replenished, same_settled, same_unblocked, AllPairs-map}
-use Rattle.domain_run.proofs.CallerLemmas.{AreNumbered, ticks_numbered}
-use Rattle.dl_session.proofs.OrderLists.{Reordered, ends, next, swaps, chain, mapped, filtered, same_sum, apart_rest, apart_reordered, same_found}
+use Rattle.domain_run.proofs.Keeping.{same_replenished, same_settled, same_unblocked, AllPairs-map}
+use Rattle.domain_run.proofs.KeptKeys.{AreNumbered, ticks_numbered}
+use Rattle.domain_run.proofs.OrderLists.{Reordered, ends, next, swaps, chain, mapped, filtered, same_sum, apart_rest, apart_reordered, same_found}
 
 -- ---- the choice
 

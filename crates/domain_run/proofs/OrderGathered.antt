@@ -3,7 +3,7 @@ use Rattle.std.proofs.Common.{◌≡◌, ℕ, zero, suc, ◌<◌, ◌≤◌, Boo
 use Rattle.std.specs.Prelude.{All, filter}
 use Rattle.std.proofs.lemmas.Bool.{cases_lt}
 use Rattle.std.proofs.lemmas.List.Elements.{All-head, All-tail}
-use Rattle.dl_session.proofs.OrderLists.{Reordered, ends, next, chain, turned, before_same, middle_first}
+use Rattle.domain_run.proofs.OrderLists.{Reordered, ends, next, chain, turned, before_same, middle_first}
 
 -- those of kinds 0, 1, .. below n, one kind after another
 abbrev pub gathered : {X : Type 0} → (X → ℕ) → ℕ → List X → List X
