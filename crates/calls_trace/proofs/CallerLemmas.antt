@@ -12,7 +12,7 @@ use Rattle.call_book.specs.OwnCalls.{made_by, IsNumberedAfter}
 use Rattle.call_book.specs.Limits.{IsEntry, IsSection, AreRead}
 use Rattle.call_book.specs.RoundTrip.{bare, unanswered}
 use Rattle.switch_text.specs.Trace.{RunView, trace_of}
-use Rattle.calls_trace.specs.Replay.{calls_of, names_of, no_names, run_view, runs_from, trace_of_sections}
+use Rattle.calls_trace.specs.Replay.{names_of, no_names, run_view, runs_from, trace_of_sections}
 
 -- ---- entries without their replies
 

@@ -65,5 +65,4 @@ returns c =
         called = λ n. sym (ap (λ (cs : List Call). names_of r.state cs (named r.names) n) none) ∙ c.loop-entry.invariant.names n;
         all_named = c.loop-entry.invariant.named;
       };
-      err = tt;
     }

@@ -5,14 +5,14 @@ use Rattle.calls_trace.specs.Written.{IsWritten, IsUnwritten}
 use Rattle.calls_trace.proofs.Written.{trace_of_all}
 use Rattle.calls_trace.proofs.trace.write_run_trace.Goals as goal
 
-pub returns-in_ok-runs-clause-ok : goal.returns-in_ok-runs-clause-ok
-returns-in_ok-runs-clause-ok g c =
+pub returns-clause-ok : goal.returns-clause-ok
+returns-clause-ok g c =
     let w : Side = side g.W.Write.contents c.args.writer.now c.write_runs.new.writer in
     let same = trace_of_all c.args.histories.now c.in_ok-runs.runs.items c.deref.result.now c.deref.ensures.value c.in_ok-runs.ensures.runs in
     subst (λ (t : List ℕ). OnOk c.write_runs.result (IsWritten w t)) same c.write_runs.ensures.ok
 
-pub returns-in_ok-runs-clause-err : goal.returns-in_ok-runs-clause-err
-returns-in_ok-runs-clause-err g c =
+pub returns-clause-err : goal.returns-clause-err
+returns-clause-err g c =
     let w : Side = side g.W.Write.contents c.args.writer.now c.write_runs.new.writer in
     let same = trace_of_all c.args.histories.now c.in_ok-runs.runs.items c.deref.result.now c.deref.ensures.value c.in_ok-runs.ensures.runs in
     subst (λ (t : List ℕ). IfErr c.write_runs.result (IsUnwritten w t)) same c.write_runs.ensures.err
