@@ -3,7 +3,7 @@ use Rattle.std.proofs.Common.{◌≡◌, ◌∙◌, ◌+◌, ◌<◌, ◌++◌, 
 use Rattle.std.specs.List.{flat_map}
 use Rattle.std.proofs.lemmas.List.{flat_map_more, take_more}
 use Rattle.dl_session.specs.Ending.{task_line}
-use Rattle.dl_session.specs.declared.refusal.Refusal.{Refusal}
+use Rattle.session.specs.declared.refusal.Refusal.{Refusal}
 
 -- the lines of the first tasks, and then that of the next one
 pub task_lines_more : (xs : List (ℕ × Refusal)) (i : ℕ) (d : ℕ × Refusal) → i < length xs → flat_map task_line (take i xs) ++ task_line (get_or xs i d) ≡ flat_map task_line (take (i + 1) xs)

@@ -7,8 +7,8 @@ use Rattle.dl_session.specs.Words.{words_status, words_text}
 use Rattle.dl_session.specs.declared.ending.Ending.{Ending}
 use Rattle.dl_session.specs.declared.ending.Ending.TheVariants as ends
 use Rattle.dl_session.specs.declared.fault.SessionFault.{SessionFault}
-use Rattle.dl_session.specs.declared.refusal.Refusal.{Refusal}
-use Rattle.dl_session.specs.declared.report.Report.{Report}
+use Rattle.session.specs.declared.refusal.Refusal.{Refusal}
+use Rattle.session.specs.declared.report.Report.{Report}
 
 -- a text as a line of its own
 abbrev pub as_line : List ℕ → List ℕ

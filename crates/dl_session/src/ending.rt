@@ -4,9 +4,8 @@ ghost use Rattle.std.specs.List.{flat_map};
 ghost use Rattle.dl_session.specs.Ending.{task_line, IsEndOfRun, IsEndOfReplay, ending_status};
 
 use crate::fault::{RefusedLine, SessionFault};
-use crate::refusal::Refusal;
-use crate::report::Report;
 use crate::words::WordsFault;
+use session::{Refusal, Report};
 use std::fmt;
 
 /// How the program ends: what it says on standard error, which is what this displays, and its exit status.
