@@ -21,10 +21,10 @@ use Rattle.session.specs.declared.options.Options.{Options}
 use Rattle.session.specs.declared.refusal.Refusal.{Refusal}
 use Rattle.session.specs.declared.report.Report.{Report}
 use Rattle.session.specs.declared.report.Finished.{Finished}
-use Rattle.session.specs.SessionId.{SessionId, IsDomainIndex}
+use Rattle.session.specs.SessionId.{SessionId}
 use Rattle.session.specs.Asks.{ClientView, pass_in}
 use Rattle.session.specs.Admissions.{AreNew, AllAsked}
-use Rattle.session.specs.Report.{IsHistoryOf, IsLeft}
+use Rattle.session.specs.Report.{IsHistoryOf}
 use Rattle.session.specs.Options.{AreOptions, IsSessionOf}
 use Rattle.dl_session.specs.ScenarioAnswers.{AnswersScenario}
 use Rattle.dl_session.specs.FullBook.{IsFullDomain}

@@ -5,7 +5,7 @@ use Rattle.std.proofs.lemmas.List.Elements.{All-get_or}
 use Rattle.rtapp_scenario.specs.ScenarioView.{TaskSpecView}
 use Rattle.call_book.specs.SectionView.{SectionView}
 use Rattle.call_book.specs.declared.section.Entry.{Entry}
-use Rattle.call_book.specs.Book.{IsMember, own_entries}
+use Rattle.call_book.specs.Book.{own_entries}
 use Rattle.session.specs.declared.refusal.Refusal.{Refusal}
 use Rattle.session.specs.SessionId.{SessionId, IsDomainIndex}
 use Rattle.session.specs.Asks.{ClientView, Asked, Made, Makes, pass_in, made_in, entries_from}

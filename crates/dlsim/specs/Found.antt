@@ -3,9 +3,9 @@ use Rattle.std.specs.Prelude.{◌≡◌, ◌≤◌, ℕ, List, Some, None, Bool,
 use Rattle.clap.specs.Matches.{first_value, one_text}
 use Rattle.clap.specs.declared.parser.matches.Found.{Found}
 use Rattle.dl_session.specs.Words.{AreMeant}
-use Rattle.dl_session.specs.declared.options.Options.{Options}
-use Rattle.dl_session.specs.declared.options.Print.{Print}
-use Rattle.dl_session.specs.declared.options.Print.TheVariants as prints
+use Rattle.session.specs.declared.options.Options.{Options}
+use Rattle.session.specs.declared.options.Print.{Print}
+use Rattle.session.specs.declared.options.Print.TheVariants as prints
 use Rattle.dl_session.specs.declared.words.Words.{Words}
 
 -- the number that an option's text spells, where it is one from 1 to the most

@@ -1,6 +1,6 @@
 -- What the words of a command line may ask for.
 use Rattle.std.specs.Prelude.{◌≡◌, ◌≢◌, ℕ, List, Option, Some, codes}
-use Rattle.dl_session.specs.Options.{AreOptions}
+use Rattle.session.specs.Options.{AreOptions}
 use Rattle.dlsim.specs.declared.words.Task.{Task}
 use Rattle.dlsim.specs.declared.words.Task.TheVariants.{Replay, Run}
 

@@ -2,7 +2,7 @@
 
 ghost use Rattle.std.specs.Prelude.{◌<◌, ◌≤◌, IfOk};
 ghost use Rattle.clap.specs.Matches.{found_of, subcommand_name_of};
-ghost use Rattle.dl_session.specs.Options.{AreOptions};
+ghost use Rattle.session.specs.Options.{AreOptions};
 ghost use Rattle.dlsim.specs.Found.{IsNumberAt, IsPrintAt, AreFound, AreMeantBy};
 ghost use Rattle.dlsim.specs.Tasks.{IsFit, IsTaskOf};
 

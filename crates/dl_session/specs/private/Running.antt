@@ -1,11 +1,10 @@
 -- The steps of a run: the input is told, tasks are run in a session, and the text of their run is written.
-use Rattle.std.specs.Prelude.{◌≡◌, ◌≢◌, ℕ, List, [], length, map, All}
+use Rattle.std.specs.Prelude.{◌≡◌, ◌≢◌, ℕ, List, [], length, map}
 use Rattle.json_order.specs.declared.fault.JsonFault.{JsonFault}
 use Rattle.json_order.specs.declared.fault.JsonKind.TheVariants as kinds
 use Rattle.rtapp_scenario.specs.declared.fault.ScenarioFault.{ScenarioFault}
 use Rattle.rtapp_scenario.specs.declared.fault.ScenarioFault.TheVariants as scenario_faults
 use Rattle.rtapp_scenario.specs.ScenarioView.{TaskSpecView}
-use Rattle.call_book.specs.SectionView.{SectionView}
 use Rattle.call_book.specs.Histories.{AreRuns}
 use Rattle.session.specs.declared.report.Finished.{Finished}
 use Rattle.session.specs.SessionId.{SessionId}

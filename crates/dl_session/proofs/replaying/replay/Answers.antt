@@ -1,5 +1,7 @@
+use Rattle.std.proofs.Common.{sym, subst}
 use Rattle.counted_io.specs.Sides.{side}
-use Rattle.calls_trace.specs.Answer.{streams}
+use Rattle.calls_trace.specs.Answer.{Streams, streams}
+use Rattle.dl_session.specs.Answer.{IsFaultOf}
 use Rattle.dl_session.proofs.Told.{told}
 use Rattle.dl_session.proofs.replaying.replay.Goals as goal
 
@@ -7,4 +9,5 @@ pub returns-in-Err-clause-err : goal.returns-in-Err-clause-err
 returns-in-Err-clause-err g c =
     let r = side g.R.Read.remaining c.args.reader.now c.replay.new.reader in
     let w = side g.W.Write.contents c.args.writer.now c.replay.new.writer in
-    told (streams r w) c.in-Err.fault c.in-Err.ensures.err
+    let s : Streams = streams r w in
+    subst (IsFaultOf s) (sym c.from.ensures) (told s c.in-Err.fault c.in-Err.ensures.err)

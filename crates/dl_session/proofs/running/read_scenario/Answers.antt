@@ -1,6 +1,6 @@
 use Rattle.std.proofs.Common.{subst}
 use Rattle.json_order.specs.Fault.{strict, Spells, IsFault}
-use Rattle.json_order.specs.Streams.{json_of}
+use Rattle.json_order.specs.Seen.{json_of}
 use Rattle.counted_io.specs.Sides.{side}
 use Rattle.calls_trace.specs.Answer.{streams}
 use Rattle.dl_session.proofs.Ran.{json_faulted, scenario_faulted}

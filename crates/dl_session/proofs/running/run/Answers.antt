@@ -1,7 +1,8 @@
-use Rattle.std.proofs.Common.{refl, ◌∙◌}
+use Rattle.std.proofs.Common.{refl, sym, subst, ◌∙◌}
 use Rattle.std.proofs.lemmas.Result.{err_from_is_err_and}
 use Rattle.counted_io.specs.Sides.{side}
 use Rattle.calls_trace.specs.Answer.{streams}
+use Rattle.dl_session.specs.RunAnswer.{IsRunFault}
 use Rattle.dl_session.proofs.Ran.{keeps_itself, is_run, run_answered, run_faulted, run_halted}
 use Rattle.dl_session.proofs.running.run.Goals as goal
 
@@ -36,5 +37,6 @@ returns-clause-err g c =
     let given = c.duration_us.inside in
     let run = is_run s c.args.options.now c.in-Ok.scenario given.duration_us given.tasks.items c.deref.result.now c.in-Ok-open.parts c.in_ok-report.field-0
     c.requires.options (c.in-Ok.ensures.ok w) c.duration_us.view_is (c.deref.ensures.value ∙ c.flag_all.ensures) c.in-Ok-open.ensures c.in_ok-report.ensures.ok in
-    run_faulted s c.args.options.now c.in_ok-report.field-0.report.histories.items c.deref-2.result.now c.in_ok-report.field-0.report.refused.items c.in-Err-write_run.fault
-    run c.deref-2.ensures.value c.in-Ok.ensures.reads c.in-Err-write_run.ensures.err
+    subst (IsRunFault s c.args.options.now) (sym c.from.ensures)
+    (run_faulted s c.args.options.now c.in_ok-report.field-0.report.histories.items c.deref-2.result.now c.in_ok-report.field-0.report.refused.items c.in-Err-write_run.fault
+    run c.deref-2.ensures.value c.in-Ok.ensures.reads c.in-Err-write_run.ensures.err)

@@ -2,7 +2,6 @@ use Rattle.std.proofs.Common.{◌≡◌, ◌≤◌, ◌<◌, ◌+◌, ◌-◌, �
 use Rattle.std.proofs.lemmas.List.{get_or_default, length-replicate, get_or-replicate, length-set, length_push, get_or-set_other}
 use Rattle.std.proofs.lemmas.Option.{slice_get_read}
 use Rattle.std.specs.Prelude.{List, slice_get, Some}
-use Rattle.session.specs.Asks.{ClientView}
 use Rattle.session.specs.Clients.{IsNew}
 use Rattle.session.proofs.CallerLemmas.{by_place_more}
 use Rattle.dl_session.proofs.running.take_clients.Goals.{in-Some, in_default}
