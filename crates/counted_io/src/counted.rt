@@ -12,6 +12,9 @@ use std::io::{Read, Write};
 /// So many reads without an end are a fault (own).
 const READS: u64 = 1 << 32;
 
+// A smaller number would call a long input a fault.
+const _: () = prove!(READS == 1 << 32);
+
 /// A reader or a writer, and how many of its calls failed (own).
 ///
 /// Every call goes to the reader or writer once and takes its answer as it is: no error is tried again, also not
