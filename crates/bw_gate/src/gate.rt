@@ -103,8 +103,10 @@ impl Gate {
         self.terms.cap(domain)
     }
 
-    /// One try to take a ticket of so much in a domain: one load, and then at most one compare_exchange. The rule is the
-    /// admission test of sched-deadline.rst, "Bandwidth management"; a word that then equals its cap is granted.
+    /// One try to take a ticket of so much in a domain: by the piece's seat one load, and then at most one
+    /// compare_exchange. The rule is the admission test of sched-deadline.rst, "Bandwidth management"; a word that then
+    /// equals its cap is granted. The contract tells what the piece found; a look at the word that needs no seat would not
+    /// show in it.
     ///
     /// [`Take::Refused`] (EBUSY 16) where the word that the load found has no room for `bw`: nothing has changed, and the
     /// blank comes back. [`Take::Raced`] where the exchange found another word than the load, since another client came
@@ -164,9 +166,9 @@ impl Gate {
         unreachable!()
     }
 
-    /// One try to give a ticket another bandwidth, larger or smaller: one load, and then at most one compare_exchange. It
-    /// answers as [`Gate::try_take`], by the word without the ticket's old bandwidth. A ticket that is not
-    /// [`Regrade::Changed`] keeps its domain and its bandwidth.
+    /// One try to give a ticket another bandwidth, larger or smaller: by the ticket's seat one load, and then at most one
+    /// compare_exchange. It answers as [`Gate::try_take`], by the word without the ticket's old bandwidth. A ticket that is
+    /// not [`Regrade::Changed`] keeps its domain and its bandwidth.
     pub fn try_regrade(&self, mut ticket: Ticket, bw: u64) -> Regrade
         requires own { ticket.gate ≡ self.now }
         requires one_cpu { bw ≤ unit }

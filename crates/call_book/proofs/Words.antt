@@ -2,7 +2,8 @@
 use Rattle.std.proofs.Common.{◌≡◌, ℕ, Some, List, [], ◌∷◌, ◌++◌, refl, ap, ◌∙◌, arith, append_assoc}
 use Rattle.std.proofs.lemmas.List.{length_push}
 use Rattle.bw_gate.specs.Pieces.{TicketView, last_of}
-use Rattle.bw_gate.specs.Answers.{ticket_found, IsRegradeRefused}
+use Rattle.bw_gate.specs.Answers.{words_of, IsRegrade}
+use Rattle.bw_gate.specs.declared.answer.Regrade.TheVariants.{Refused}
 use Rattle.call_book.specs.Pieces.{IsAnswered}
 
 last_of_push : (words : List ℕ) (n : ℕ) → last_of (words ++ n ∷ []) ≡ n
@@ -10,8 +11,11 @@ last_of_push [] n = refl
 last_of_push (a ∷ []) n = refl
 last_of_push (a ∷ b ∷ words) n = last_of_push (b ∷ words) n
 
-pub refused_answer : (t u : TicketView) (bw seen : ℕ) (words : List ℕ) → IsRegradeRefused (ticket_found t words) bw u seen → IsAnswered t bw u (Some seen)
-refused_answer t u bw seen words h =
+-- a ticket that the gate refused has its answer
+pub refused_answer : (t u : TicketView) (bw seen : ℕ) → IsRegrade t bw (Refused u seen) → IsAnswered t bw u (Some seen)
+refused_answer t u bw seen asked =
+    let words = words_of asked.races in
+    let h = asked.last in
     let found : u.found ≡ (t.found ++ words) ++ seen ∷ [] = ap (λ (x : TicketView). x.found) h.ticket in
     record {
       words = words ++ seen ∷ [];
@@ -19,4 +23,5 @@ refused_answer t u bw seen words h =
       found = found ∙ append_assoc t.found words (seen ∷ []);
       own = record { own = ap (λ (x : TicketView). x.gate) h.ticket; inside = ap (λ (x : TicketView). x.domain) h.ticket };
       answer = (ap (λ (x : TicketView). x.bw) h.ticket, ap last_of found ∙ last_of_push (t.found ++ words) seen, h.within, h.over);
+      asked = asked;
     }

@@ -2,7 +2,9 @@
 use Rattle.std.specs.Prelude.{◌≡◌, ℕ, ◌+◌, ◌-◌, ◌<◌, ◌≤◌, ◌==◌, Bool, not, List, ◌∷◌, ◌++◌, length, map, Option, Some, None, is_some, All}
 use Rattle.std.specs.List.{AllZip}
 use Rattle.bw_gate.specs.Pieces.{GateId, BlankView, TicketView, cap_of, last_of}
-use Rattle.bw_gate.specs.Answers.{IsGive}
+use Rattle.bw_gate.specs.Answers.{IsGive, IsRegrade}
+use Rattle.bw_gate.specs.declared.answer.Regrade.{Regrade}
+use Rattle.bw_gate.specs.declared.answer.Regrade.TheVariants as regrades
 use Rattle.domain_run.specs.Domain.{Domain}
 use Rattle.domain_run.specs.Views.{view_in}
 use Rattle.domain_run.specs.Keys.{keys}
@@ -48,13 +50,19 @@ IsWord t bw u None = u.bw ≡ bw
 IsWord t bw u (Some seen) =
     (u.bw ≡ t.bw) × (last_of u.found ≡ seen) × (seen ≤ cap_of t.gate t.domain) × (cap_of t.gate t.domain < seen - t.bw + bw)
 
--- a ticket that asked for another bandwidth: it has found words, and is of its gate and domain still
+-- the gate's answer to a ticket that asked for another bandwidth: changed, or refused with the number that the word told
+abbrev pub told_as : TicketView → Option ℕ → Regrade
+told_as u None = regrades.Changed u
+told_as u (Some seen) = regrades.Refused u seen
+
+-- a ticket that asked for another bandwidth, by one call of the gate that ended as its last try did: it has found words, and is of its gate and domain still
 pub record IsAnswered (t : TicketView) (bw : ℕ) (u : TicketView) (word : Option ℕ) : Type 0 where
   pub words : List ℕ
   pub some : 0 < length words
   pub found : u.found ≡ t.found ++ words
   pub own : IsTicketOf t.gate t.domain u
   pub answer : IsWord t bw u word
+  pub asked : IsRegrade t bw (told_as u word)
 
 -- the ticket of a task asks the word for another bandwidth, and no other ticket changes
 pub record AsksTheWord (number bw : ℕ) (old new : List Held) (word : Option ℕ) : Type 0 where

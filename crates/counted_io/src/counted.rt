@@ -12,6 +12,9 @@ use std::io::{Read, Write};
 /// So many reads without an end are a fault (own).
 const READS: u64 = 1 << 32;
 
+// A smaller number would call a long input a fault.
+const _: () = prove!(READS == 1 << 32);
+
 /// A reader or a writer, and how many of its calls failed (own).
 ///
 /// Every call goes to the reader or writer once and takes its answer as it is: no error is tried again, also not
@@ -124,7 +127,7 @@ impl<W: Write> Counted<W> {
         }
     }
 
-    /// Writes until all bytes are taken. Takes no memory.
+    /// Writes until all bytes are taken; where there are none, the writer is not called. Takes no memory.
     ///
     /// # Errors
     /// At the writer's first fault, which is counted: how many bytes it took before, from the front of
@@ -135,6 +138,7 @@ impl<W: Write> Counted<W> {
             (Appends (W.contents (inner_of self.old)) (W.contents (inner_of self.new)) bytes.now) }
         ensures err { IfErr result
             (TakesFront (W.contents (inner_of self.old)) (W.contents (inner_of self.new)) bytes.now) }
+        ensures empty { length bytes.now ≡ 0 → self.new ≡ self.old }
         ensures faults { faults_of self.new ≡ one_more_unless (is_ok result) (faults_of self.old) }
     {
         let mut at = 0;

@@ -59,3 +59,21 @@ fn a_write_is_one_call(rt: HostRuntime) {
         assert_eq!(rt; writer.into_inner().calls, 4);
     }
 }
+
+// Neither a writer that would fail at once nor one with room is called for an empty text.
+#[test]
+fn an_empty_text_makes_no_write(rt: HostRuntime) -> Result<(), Fail> {
+    for (room, kind) in [
+        (0, Some(ErrorKind::WriteZero)),
+        (0, None),
+        (usize::MAX, None),
+    ] {
+        let mut writer = Counted::new(Taker::new(rt.alloc(), 4, room, kind));
+        assert!(rt; writer.write_all(b"").is_ok());
+        assert_eq!(rt; writer.faults(), 0);
+        let writer = writer.into_inner();
+        assert_eq!(rt; writer.calls, 0);
+        assert!(rt; writer.taken.is_empty());
+    }
+    Ok(())
+}

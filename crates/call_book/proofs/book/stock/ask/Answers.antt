@@ -1,6 +1,5 @@
 use Rattle.call_book.proofs.Words.{refused_answer}
-use Rattle.bw_gate.specs.Answers.{words_of}
 use Rattle.call_book.proofs.book.stock.ask.Goals as goal
 
 pub returns-in-Refused : goal.returns-in-Refused
-returns-in-Refused g c = refused_answer c.args.ticket c.in-Refused.ticket c.args.bw c.in-Refused.seen (words_of c.in-Refused.ensures.races) c.in-Refused.ensures.last
+returns-in-Refused g c = refused_answer c.args.ticket c.in-Refused.ticket c.args.bw c.in-Refused.seen c.in-Refused.ensures

@@ -8,4 +8,5 @@ loop-at-preserved g c = record {
   taken = Appends-next _ _ _ c.args.bytes.now c.loop-at.at c.in-Some.n c.loop-at.invariant.taken c.in-Some.ensures.taken;
   within = grind (arith, common_steps, c.in-Some.ensures.count.1);
   faults = c.in-Some.ensures.faults ∙ c.loop-at.invariant.faults;
+  empty = λ none. absurd (grind (arith, common_steps, none));
 }

@@ -7,6 +7,7 @@ invariant-loop-at g l = record {
   taken : Appends (g.W.Write.contents l.initial.self.inner) (g.W.Write.contents l.self.inner) (take l.at l.bytes);
   within : l.at ≤ length l.bytes;
   faults : l.self.faults ≡ l.initial.self.faults;
+  empty : length l.bytes ≡ 0 → l.self ≡ l.initial.self;
 }
 
 abbrev pub decreases-loop-at : goal.decreases-loop-at
