@@ -1,0 +1,7 @@
+//! The tests of the crates that read and write texts, apart from them, so that the gate proves each of those once.
+#![tactic(auto)]
+
+#[cfg(test)]
+mod of_json;
+#[cfg(test)]
+mod of_scenario;
