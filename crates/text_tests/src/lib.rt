@@ -2,6 +2,12 @@
 #![tactic(auto)]
 
 #[cfg(test)]
+mod fakes;
+#[cfg(test)]
+mod of_counting;
+#[cfg(test)]
 mod of_json;
 #[cfg(test)]
 mod of_scenario;
+#[cfg(test)]
+mod of_traces;
