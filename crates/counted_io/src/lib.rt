@@ -11,6 +11,3 @@ mod fault;
 
 pub use counted::Counted;
 pub use fault::ReadFault;
-
-#[cfg(test)]
-mod tests;

@@ -113,6 +113,3 @@ fn read_text(alloc: Global, text: &str) -> Result<Tree, JsonFault>
         None => Err(fault_at(JsonKind::End, text.len())),
     }
 }
-
-#[cfg(test)]
-mod tests;

@@ -22,6 +22,3 @@ mod value;
 pub use fault::ScenarioFault;
 pub use parsing::parse;
 pub use scenario::{Scenario, TaskSpec};
-
-#[cfg(test)]
-mod tests;

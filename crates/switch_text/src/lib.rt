@@ -23,6 +23,3 @@ pub use lines::line;
 pub use ready::TraceRoom;
 pub use run::Run;
 pub use writing::{write_text, write_trace, write_trace_in};
-
-#[cfg(test)]
-mod tests;

@@ -3,7 +3,7 @@ use Rattle.std.specs.Prelude.{All}
 use Rattle.std.proofs.lemmas.List.{take_all}
 use Rattle.std.proofs.lemmas.List.Elements.{All-more}
 use Rattle.switch_text.specs.Names.{HasLine}
-use Rattle.switch_text.proofs.tests.conditions.all_have_lines.Goals as goal
+use Rattle.text_tests.proofs.of_traces.conditions.all_have_lines.Goals as goal
 
 pub loop-switch-preserved : goal.loop-switch-preserved
 loop-switch-preserved c =

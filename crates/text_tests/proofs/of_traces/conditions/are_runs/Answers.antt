@@ -3,7 +3,7 @@ use Rattle.std.specs.Prelude.{All}
 use Rattle.std.proofs.lemmas.List.{take_all}
 use Rattle.std.proofs.lemmas.List.Elements.{All-more}
 use Rattle.switch_text.specs.Runs.{IsRun}
-use Rattle.switch_text.proofs.tests.conditions.are_runs.Goals as goal
+use Rattle.text_tests.proofs.of_traces.conditions.are_runs.Goals as goal
 
 pub loop-run-preserved : goal.loop-run-preserved
 loop-run-preserved c =

@@ -4,7 +4,7 @@ use Rattle.std.proofs.lemmas.Bool.{cases_lt}
 use Rattle.std.proofs.lemmas.List.{take_rest, get_or-drop, get_or_default, length-drop}
 use Rattle.domain_run.specs.declared.switch.Switch.{Switch}
 use Rattle.domain_run.specs.Switches.{is_before}
-use Rattle.switch_text.proofs.tests.conditions.rises.Goals as goal
+use Rattle.text_tests.proofs.of_traces.conditions.rises.Goals as goal
 
 before_later : (xs : List Switch) (i a b : ℕ) (d e : Switch) → All (λ x. IsTrue (is_before (get_or xs i e) x)) (take (length xs - (i + 1)) (drop (i + 1) xs)) → a ≡ i → i < b → b < length xs
     → IsTrue (is_before (get_or xs a d) (get_or xs b d))

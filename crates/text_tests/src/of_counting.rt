@@ -1,7 +1,5 @@
-mod fakes;
-
-use crate::{Counted, ReadFault};
-use fakes::{Giver, Taker};
+use crate::fakes::{Giver, Taker};
+use counted_io::{Counted, ReadFault};
 use std::alloc::Global;
 use std::io::ErrorKind;
 use std::test::Fail;

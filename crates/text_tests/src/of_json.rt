@@ -1,5 +1,6 @@
-use super::*;
-use std::alloc::AllocError;
+use json_order::{JsonFault, JsonKind, read};
+use std::alloc::{AllocError, Global};
+use std::fmt::Write;
 use std::test::Fail;
 
 /// What an input gives: its tree, or its fault as it prints.

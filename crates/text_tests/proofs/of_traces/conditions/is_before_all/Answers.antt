@@ -3,7 +3,7 @@ use Rattle.std.specs.Prelude.{All, IsTrue}
 use Rattle.std.proofs.lemmas.List.{take_all}
 use Rattle.std.proofs.lemmas.List.Elements.{All-more}
 use Rattle.domain_run.specs.Switches.{is_before}
-use Rattle.switch_text.proofs.tests.conditions.is_before_all.Goals as goal
+use Rattle.text_tests.proofs.of_traces.conditions.is_before_all.Goals as goal
 
 pub loop-other-preserved : goal.loop-other-preserved
 loop-other-preserved c =

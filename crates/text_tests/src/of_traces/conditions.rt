@@ -5,9 +5,9 @@ ghost use Rattle.switch_text.specs.Names.{HasLine, HasName};
 ghost use Rattle.domain_run.specs.Switches.{is_before};
 ghost use Rattle.switch_text.specs.Runs.{IsRun};
 
-use crate::Run;
 use domain_run::Switch;
 use indexmap::IndexMap;
+use switch_text::Run;
 
 fn is_named(names: &IndexMap<u32, String>, task: Option<u32>) -> bool
     ensures { IsTrue result → IfSome task (HasName names.now) }

@@ -1,14 +1,13 @@
 mod conditions;
-mod fakes;
 
-use crate::{Counted, Run, TraceRoom, WriteFault, line, write_trace, write_trace_in};
+use crate::fakes::Taker;
 use conditions::{are_runs, has_line};
 use domain_run::{PrevState, Switch};
-use fakes::Taker;
 use indexmap::IndexMap;
 use std::alloc::Global;
 use std::io::ErrorKind;
 use std::test::Fail;
+use switch_text::{Counted, Run, TraceRoom, WriteFault, line, write_trace, write_trace_in};
 
 const THROTTLED: &[u8] = b"# tracer: nop
           <idle>-0       [000] d..2.     0.000000: sched_switch: prev_comm=swapper/0 prev_pid=0 prev_prio=120 prev_state=R ==> next_comm=a next_pid=1001 next_prio=-1

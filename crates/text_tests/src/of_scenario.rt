@@ -1,8 +1,8 @@
 mod memory;
 mod rows;
 
-use super::{ScenarioFault, parse};
 use json_order::read;
+use rtapp_scenario::parse;
 use std::alloc::{AllocError, Global};
 use std::fmt::Write;
 use std::test::Fail;
