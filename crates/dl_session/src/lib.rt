@@ -32,6 +32,3 @@ pub use session::{
     AllPass, Answer, Client, Names, Options, Parts, Print, Refusal, Report, Session, Shared, Shares, Turnstile,
 };
 pub use words::{Words, WordsFault, read_limit, read_list, read_options};
-
-#[cfg(test)]
-mod tests;

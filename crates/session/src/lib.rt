@@ -44,6 +44,3 @@ pub use report::{Finished, Report};
 pub use session::Session;
 pub use shared::{Shared, Shares};
 pub use turnstile::{AllPass, Turnstile};
-
-#[cfg(test)]
-mod tests;

@@ -1,0 +1,240 @@
+// The calls of one client of a session, given as the calls of a text.
+ghost use Rattle.std.specs.Prelude.{◌≡◌, ◌+◌, ◌<◌, ◌≤◌, length, vec_capacity, IfOk, All};
+ghost use Rattle.call_book.specs.Limits.{IsCall, IsEntry, IsSection};
+
+use session::{Answer, Client, Names, Options, Parts, Print, Report, Session};
+use attr_check::{Params, SchedAttr};
+use call_book::{Call, Entry, NoMemory, Section, read_calls};
+use rtapp_scenario::TaskSpec;
+use std::alloc::Global;
+use std::fmt::Write;
+use std::marker::Brand;
+use std::process::Abort;
+use std::sync::Wait;
+use std::test::Fail;
+use std::thread::Threads;
+
+pub(super) fn attr_of(params: &Params) -> SchedAttr {
+    SchedAttr {
+        policy: 6,
+        flags: if params.reclaim { 2 } else { 0 },
+        runtime: params.runtime * 1000,
+        deadline: params.deadline * 1000,
+        period: params.period * 1000,
+    }
+}
+
+fn make<N: Names, R: Threads + Wait>(
+    rt: &R,
+    alloc: Global,
+    session: &Session<N>,
+    client: &mut Client<N>,
+    call: Call,
+) -> Answer
+    requires call { IsCall call }
+    requires place { 0 < length N.id.cpu_sets }
+{
+    match call {
+        Call::Admit {
+            number,
+            name,
+            params,
+            delay,
+            script,
+        } => {
+            let task = TaskSpec {
+                number,
+                name,
+                attr: attr_of(&params),
+                cpus: None,
+                delay,
+                script,
+            };
+            client.admit(rt, alloc, session, &task)
+        }
+        Call::Regrade {
+            number,
+            params,
+            word: _,
+        } => client.regrade(rt, session, 0, number, params),
+        Call::Wake { number } => client.wake(rt, session, 0, number),
+        Call::Leave { number } => client.leave(rt, session, 0, number),
+        Call::Advance { ticks } => client.advance(rt, session, 0, ticks),
+    }
+}
+
+// Makes the calls of these entries by client 1 on domain 0, and ends the session.
+fn made<N: Names, R: Abort + Threads + Wait>(
+    rt: &R,
+    alloc: Global,
+    parts: Parts,
+    mut entries: Vec<Entry>,
+    mut answers: Vec<Answer>,
+) -> Result<(Vec<Answer>, Report), NoMemory>
+    requires names { N.id ≡ parts }
+    requires entries { All IsEntry entries.items }
+    requires room { length entries.items + length answers.items ≤ vec_capacity answers }
+{
+    let mut session: Session<N> = Session::open(parts);
+    let Some(mut client) = session.client(1) else {
+        panic!(rt; "no client")
+    };
+    session.domains();
+    entries.reverse();
+    while let Some(entry) = entries.pop() {
+        answers.push_reserved(make(rt, alloc, &session, &mut client, entry.call));
+    }
+    let mut clients = Vec::new(alloc);
+    let _ = clients.push(client);
+    let report = session.close(alloc, clients)?;
+    Ok((answers, report))
+}
+
+fn made_in<R: Abort + Threads + Wait>(
+    rt: &R,
+    alloc: Global,
+    parts: Parts,
+    entries: Vec<Entry>,
+    answers: Vec<Answer>,
+) -> Result<(Vec<Answer>, Report), NoMemory>
+    requires entries { All IsEntry entries.items }
+    requires room { length entries.items + length answers.items ≤ vec_capacity answers }
+{
+    made::<Brand, R>(rt, alloc, parts, entries, answers)
+}
+
+// The one section of a text.
+fn section_of(rt: &impl Abort, alloc: Global, text: &[u8]) -> Result<Section, Fail>
+    ensures { IfOk result IsSection }
+{
+    let mut sections = read_calls(alloc, text)?;
+    let Some(section) = sections.pop() else {
+        panic!(rt; "no section")
+    };
+    Ok(section)
+}
+
+// Makes the calls of a text in a session of its domain, with room for so many: the answers, and what the session left.
+fn ran<R: Abort + Threads + Wait>(
+    rt: &R,
+    alloc: Global,
+    text: &[u8],
+    history: usize,
+) -> Result<(String, Report), Fail>
+    requires { (0 < history) × (history ≤ 65536) }
+{
+    let Section {
+        cpus,
+        limit,
+        entries,
+    } = section_of(rt, alloc, text)?;
+    let options = Options {
+        domains: vec![in alloc; cpus]?,
+        limit,
+        clients: 1,
+        workers: 1,
+        history,
+        reclaim: false,
+        print: Print::Trace,
+    };
+    let answers = Vec::with_capacity(alloc, entries.len())?;
+    let parts = Parts::open(alloc, &options)?;
+    let (answers, report) = made_in(rt, alloc, parts, entries, answers)?;
+    let mut said = String::new(alloc);
+    for answer in &answers {
+        match answer {
+            Ok(reply) => write!(said, "{reply:?}; ")?,
+            Err(refusal) => write!(said, "{refusal}; ")?,
+        }
+    }
+    Ok((said, report))
+}
+
+// How many calls stand in the first domain's history.
+fn entered(report: &Report) -> usize {
+    match report.histories.first() {
+        Some(history) => history.entries.len(),
+        None => 0,
+    }
+}
+
+#[test]
+fn waiting(rt: HostRuntime) -> Result<(), Fail> {
+    let text =
+        b"dlcalls 1\ndomain 1 1048576\nadmit 1 1 w 2 10 10 - 0 -1:1{w,r1}\nadvance 1 3\nwake 1 1\nwake 1 1\nadvance 1 3\n";
+    let (said, report) = ran(&rt, rt.alloc(), text, 1024)?;
+    assert_eq!(rt;
+        said.as_str(),
+        "Admitted; Done { ticks: 3 }; Woken; NotWaiting; Done { ticks: 3 }; "
+    );
+    assert_eq!(rt; entered(&report), 5);
+    Ok(())
+}
+
+#[test]
+fn regrade(rt: HostRuntime) -> Result<(), Fail> {
+    let text =
+        b"dlcalls 1\ndomain 1 524288\nadmit 1 1 a 2 8 8 - 0 1:1{r2}\nregrade 1 1 4 8 8 -\nregrade 1 1 5 8 8 -\nregrade 1 7 4 8 8 -\nleave 1 7\n";
+    let (said, report) = ran(&rt, rt.alloc(), text, 1024)?;
+    assert_eq!(rt;
+        said.as_str(),
+        "Admitted; Changed; Busy { seen: 524288 }; NotListed; NotListed; "
+    );
+    assert_eq!(rt; report.words.as_slice(), [524288].as_slice());
+    Ok(())
+}
+
+// Three of eight tasks of half a CPU find room on two CPUs, and the others are refused by the word alone.
+#[test]
+fn admission_race(rt: HostRuntime) -> Result<(), Fail> {
+    let mut text = String::from_str(rt.alloc(), "dlcalls 1\ndomain 2 996147\n")?;
+    for k in 1..9 {
+        write!(text, "admit 1 {k} t 500 1000 1000 - 0 -1:1{{r100,s900}}\n")?;
+    }
+    let (said, report) = ran(&rt, rt.alloc(), text.as_bytes(), 1024)?;
+    assert!(rt;
+        said.as_str()
+            .starts_with("Admitted; Admitted; Admitted; EBUSY 16 seen 1572864; ")
+    );
+    assert!(rt;
+        said.as_str()
+            .ends_with("EBUSY 16 seen 1572864; EBUSY 16 seen 1572864; ")
+    );
+    assert_eq!(rt; entered(&report), 3);
+    assert_eq!(rt; report.words.as_slice(), [1572864].as_slice());
+    assert_eq!(rt; report.home, 257);
+    Ok(())
+}
+
+#[test]
+fn full_book(rt: HostRuntime) -> Result<(), Fail> {
+    let text =
+        b"dlcalls 1\ndomain 1 1048576\nadmit 1 1 a 2 8 8 - 0 1:1{r2}\nadmit 1 2 b 2 8 8 - 0 1:1{r2}\nleave 1 1\nadvance 1 1\n";
+    let (said, report) = ran(&rt, rt.alloc(), text, 1)?;
+    assert_eq!(rt; said.as_str(), "Admitted; Full 40; Full 40; Full 40; ");
+    assert_eq!(rt; report.words.as_slice(), [262144].as_slice());
+    assert_eq!(rt; report.home, 257);
+    Ok(())
+}
+
+// 256 tasks that want two millionths of a CPU each are listed. There is a piece for one more, and room at the word, but no place in
+// the list: its ticket goes back.
+#[test]
+fn number_257_is_full(rt: HostRuntime) -> Result<(), Fail> {
+    let mut text = String::from_str(rt.alloc(), "dlcalls 1\ndomain 1 996147\n")?;
+    for k in 1..258 {
+        write!(text, "admit 1 {k} t 2 1000000 1000000 - 0 -1:1{{r1,s9}}\n")?;
+    }
+    let (said, report) = ran(&rt, rt.alloc(), text.as_bytes(), 1024)?;
+    let listed = said
+        .as_str()
+        .split("; ")
+        .filter(|answer| *answer == "Admitted")
+        .count();
+    assert_eq!(rt; listed, 256);
+    assert!(rt; said.as_str().ends_with("Admitted; Full 40; "));
+    assert_eq!(rt; entered(&report), 256);
+    assert_eq!(rt; report.words.as_slice(), [512].as_slice());
+    assert_eq!(rt; report.home, 257);
+    Ok(())
+}

@@ -1,0 +1,215 @@
+// A storm: 64 clients at once, each in a thread of its own, on one domain.
+ghost use Rattle.std.specs.Prelude.{◌≡◌, ◌<◌, length, All, IfSome};
+ghost use Rattle.call_book.specs.Limits.{IsCall, IsEntry};
+
+use super::clients::attr_of;
+use session::{Answer, Client, Shared, Names, Options, Parts, Print, Report, Session};
+use call_book::{Call, Entry, NoMemory, Reply, Section, read_calls};
+use rtapp_scenario::TaskSpec;
+use std::alloc::Global;
+use std::marker::Brand;
+use std::sync::Wait;
+use std::sync::atomic::{AtomicUsize, Ordering};
+use std::test::Fail;
+use std::thread::{Threads, map_vec, yield_now};
+
+/// What the clients of a storm share beside the session.
+#[derive(Drop)]
+struct Crowd {
+    leaves: bool,
+    here: AtomicUsize,
+    granted: AtomicUsize,
+}
+
+// Waits until all clients are here, so that they run at once. It gives up after many turns: where a thread could not be started,
+// the clients come one after another.
+fn arrive(here: &AtomicUsize) {
+    here.fetch_add(1, Ordering::SeqCst);
+    for _ in 0..1000000 {
+        if here.load(Ordering::SeqCst) >= 64 {
+            return;
+        }
+        yield_now();
+    }
+}
+
+// A client's calls: an admission of half a CPU and a regrade to a quarter, and where it leaves, a tick and the task's end.
+fn text_of(alloc: Global, client: u32, leaves: bool) -> Option<String> {
+    let mut text = format!(in alloc;
+        "dlcalls 1\ndomain 64 1048576\nadmit {client} {client} t 4 8 8 - 0 -1:1{{r2,s6}}\nregrade {client} {client} 2 8 8 -\n"
+    ).ok()?;
+    if leaves {
+        let end = format!(in alloc; "advance {client} 1\nleave {client} {client}\n").ok()?;
+        text.push_str(end.as_str()).ok()?;
+    }
+    Some(text)
+}
+
+fn entries_of(alloc: Global, text: &[u8]) -> Option<Vec<Entry>>
+    ensures { IfSome result (λ v. All IsEntry v.items) }
+{
+    let mut sections = read_calls(alloc, text).ok()?;
+    let Section {
+        cpus: _,
+        limit: _,
+        entries,
+    } = sections.pop()?;
+    Some(entries)
+}
+
+fn is_granted(answer: &Answer) -> bool {
+    matches!(
+        answer,
+        Ok(Reply::Admitted | Reply::Changed | Reply::Left | Reply::Done { ticks: 1 })
+    )
+}
+
+// Makes a call on the domain with what the clients share, as threads have it.
+fn make<N: Names, R: Threads + Wait>(
+    rt: &R,
+    alloc: Global,
+    shared: &Shared<N>,
+    client: &mut Client<N>,
+    call: Call,
+) -> Answer
+    requires call { IsCall call }
+    requires place { 0 < length N.id.cpu_sets }
+{
+    match call {
+        Call::Admit {
+            number,
+            name,
+            params,
+            delay,
+            script,
+        } => {
+            let task = TaskSpec {
+                number,
+                name,
+                attr: attr_of(&params),
+                cpus: None,
+                delay,
+                script,
+            };
+            client.admit(rt, alloc, shared, &task)
+        }
+        Call::Regrade {
+            number,
+            params,
+            word: _,
+        } => client.regrade(rt, shared, 0, number, params),
+        Call::Wake { number } => client.wake(rt, shared, 0, number),
+        Call::Leave { number } => client.leave(rt, shared, 0, number),
+        Call::Advance { ticks } => client.advance(rt, shared, 0, ticks),
+    }
+}
+
+// Lets a client make its calls, when all are here.
+fn play<N: Names, R: Threads + Wait>(
+    rt: &R,
+    alloc: Global,
+    shared: &Shared<N>,
+    crowd: &Crowd,
+    mut client: Client<N>,
+) -> Client<N>
+    requires { 0 < length N.id.cpu_sets }
+{
+    let Some(text) = text_of(alloc, client.number(), crowd.leaves) else {
+        return client;
+    };
+    let Some(mut entries) = entries_of(alloc, text.as_bytes()) else {
+        return client;
+    };
+    entries.reverse();
+    arrive(&crowd.here);
+    while let Some(entry) = entries.pop() {
+        if is_granted(&make(rt, alloc, shared, &mut client, entry.call)) {
+            crowd.granted.fetch_add(1, Ordering::SeqCst);
+        }
+    }
+    client
+}
+
+// All clients at once. When they have ended, and where they left, the first one advances the domain until all bandwidth is free.
+fn rage<N: Names + Send + Sync, R: Threads + Wait + Sync>(
+    rt: &R,
+    alloc: Global,
+    parts: Parts,
+    crowd: &Crowd,
+) -> Result<Report, NoMemory>
+    requires { N.id ≡ parts }
+{
+    let mut session: Session<N> = Session::open(parts);
+    let mut clients = Vec::new(alloc);
+    for number in 1..65 {
+        if let Some(client) = session.client(number) {
+            let _ = clients.push(client);
+        }
+    }
+    session.domains();
+    let shared = session.shared();
+    let played = map_vec(
+        rt,
+        clients,
+        &|client: Client<N>| -> Client<N>
+            requires { 0 < length N.id.cpu_sets }
+        { play(rt, alloc, shared, crowd, client) },
+    );
+    let mut clients = played.unwrap_or(Vec::new(alloc));
+    if let Some(first) = clients.first_mut()
+        && crowd.leaves
+    {
+        let _ = first.advance(rt, &session, 0, 16);
+    }
+    session.close(alloc, clients)
+}
+
+fn rage_in<R: Threads + Wait + Sync>(
+    rt: &R,
+    alloc: Global,
+    parts: Parts,
+    crowd: &Crowd,
+) -> Result<Report, NoMemory> {
+    rage::<Brand, R>(rt, alloc, parts, crowd)
+}
+
+// How many calls were granted in a storm, the words that it left, and how many pieces came home.
+fn left_by<R: Threads + Wait + Sync>(
+    rt: &R,
+    alloc: Global,
+    leaves: bool,
+) -> Result<(usize, Vec<u64>, usize), Fail> {
+    let options = Options {
+        domains: vec![in alloc; 64]?,
+        limit: 1048576,
+        clients: 64,
+        workers: 1,
+        history: 1024,
+        reclaim: false,
+        print: Print::Trace,
+    };
+    let parts = Parts::open(alloc, &options)?;
+    let crowd = Crowd {
+        leaves,
+        here: AtomicUsize::new(0),
+        granted: AtomicUsize::new(0),
+    };
+    let report = rage_in(rt, alloc, parts, &crowd)?;
+    Ok((
+        crowd.granted.load(Ordering::SeqCst),
+        report.words,
+        report.home,
+    ))
+}
+
+// 64 quarters of a CPU stay; and where each client's task then ends, nothing.
+#[test]
+fn storm(rt: HostRuntime) -> Result<(), Fail> {
+    for (leaves, calls, word) in [(false, 128, 16777216), (true, 256, 0)] {
+        let (granted, words, home) = left_by(&rt, rt.alloc(), leaves)?;
+        assert_eq!(rt; granted, calls);
+        assert_eq!(rt; words.as_slice(), [word].as_slice());
+        assert_eq!(rt; home, 256 + 64);
+    }
+    Ok(())
+}
