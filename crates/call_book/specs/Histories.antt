@@ -14,4 +14,4 @@ abbrev pub AreRuns : List SectionView → List Domain → Type 0
 AreRuns histories states =
     (d : ℕ) (s : SectionView) (x : Domain) → d < length histories
     → let h = slice_index_or histories d s in
-      slice_index_or states d x ≡ run_of h.cpus h.limit (calls_of h.entries)
+    slice_index_or states d x ≡ run_of h.cpus h.limit (calls_of h.entries)

@@ -44,8 +44,7 @@ fn all_as_written(alloc: Global, placed: &[PlacedRun]) -> Result<Vec<Run<'_>>, N
 }
 
 // Room for the texts of tasks: in memory, whose want is told, and not on the stack, whose want is not.
-fn room_in(alloc: Global) -> Result<TraceRoom, NoMemory>
-{
+fn room_in(alloc: Global) -> Result<TraceRoom, NoMemory> {
     TraceRoom::open(alloc).map_err(|_| NoMemory)
 }
 

@@ -29,6 +29,7 @@ pub use fault::{FaultLine, RefusedLine, SessionFault};
 pub use replaying::replay;
 pub use running::run;
 pub use session::{
-    AllPass, Answer, Client, Names, Options, Parts, Print, Refusal, Report, Session, Shared, Shares, Turnstile,
+    AllPass, Answer, Client, Names, Options, Parts, Print, Refusal, Report, Session, Shared,
+    Shares, Turnstile,
 };
 pub use words::{Words, WordsFault, read_limit, read_list, read_options};

@@ -44,6 +44,7 @@ macro_rules! at_place {
         }
     };
 }
+
 pub(crate) use at_place;
 
 /// Puts the last book behind its lock, where it is that of this place. The books are those of the first domains: at most one more

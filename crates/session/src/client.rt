@@ -334,7 +334,12 @@ impl<N: Names> Client<N> {
         ensures made { MakesRegrade self.old self.new domain number params result }
         ensures full { RefusesOnlyFull result }
     {
-        self.enter_at(rt, session.shares(), domain, Ask::Regrade { number, params })
+        self.enter_at(
+            rt,
+            session.shares(),
+            domain,
+            Ask::Regrade { number, params },
+        )
     }
 
     /// Wakes a task of a domain that waits, as [`Domain::wake`](call_book::Domain::wake) does. `Full` where the book is full.

@@ -124,7 +124,11 @@ impl<N: Names> Session<N> {
     /// Takes each domain out of its lock, and reserves all room that the end needs. [`NoMemory`] (ENOMEM 12) where a growth was
     /// refused: the session is gone, and its tickets were given back.
     pub(crate) fn unlock(self, alloc: Global) -> Result<Unlocked<N>, NoMemory> {
-        let Session { shared, hands, room } = self;
+        let Session {
+            shared,
+            hands,
+            room,
+        } = self;
         let Shared {
             gate,
             cpu_sets,

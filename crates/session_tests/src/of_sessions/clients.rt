@@ -2,10 +2,10 @@
 ghost use Rattle.std.specs.Prelude.{◌≡◌, ◌+◌, ◌<◌, ◌≤◌, length, vec_capacity, IfOk, All};
 ghost use Rattle.call_book.specs.Limits.{IsCall, IsEntry, IsSection};
 
-use session::{Answer, Client, Names, Options, Parts, Print, Report, Session};
 use attr_check::{Params, SchedAttr};
 use call_book::{Call, Entry, NoMemory, Section, read_calls};
 use rtapp_scenario::TaskSpec;
+use session::{Answer, Client, Names, Options, Parts, Print, Report, Session};
 use std::alloc::Global;
 use std::fmt::Write;
 use std::marker::Brand;

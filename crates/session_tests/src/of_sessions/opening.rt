@@ -1,8 +1,8 @@
 // Opening a session.
 ghost use Rattle.std.specs.Prelude.{◌≡◌};
 
-use session::{Names, Options, Parts, Print, Session};
 use call_book::NoMemory;
+use session::{Names, Options, Parts, Print, Session};
 use std::alloc::Global;
 use std::marker::Brand;
 use std::process::Abort;

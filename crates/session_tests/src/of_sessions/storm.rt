@@ -3,9 +3,9 @@ ghost use Rattle.std.specs.Prelude.{◌≡◌, ◌<◌, length, All, IfSome};
 ghost use Rattle.call_book.specs.Limits.{IsCall, IsEntry};
 
 use super::clients::attr_of;
-use session::{Answer, Client, Shared, Names, Options, Parts, Print, Report, Session};
 use call_book::{Call, Entry, NoMemory, Reply, Section, read_calls};
 use rtapp_scenario::TaskSpec;
+use session::{Answer, Client, Names, Options, Parts, Print, Report, Session, Shared};
 use std::alloc::Global;
 use std::marker::Brand;
 use std::sync::Wait;

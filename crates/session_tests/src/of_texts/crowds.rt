@@ -2,8 +2,8 @@
 ghost use Rattle.std.specs.Prelude.{◌≡◌, ◌<◌, ◌≤◌};
 
 use super::runs::{RACE, TWO_DOMAINS, options_on, ran};
-use dl_session::{Names, Parts, Print, Report, Session, Turnstile, admit_all, replay, run};
 use call_book::NoMemory;
+use dl_session::{Names, Parts, Print, Report, Session, Turnstile, admit_all, replay, run};
 use json_order::read;
 use rtapp_scenario::{TaskSpec, parse};
 use std::alloc::Global;
