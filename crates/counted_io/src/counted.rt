@@ -12,9 +12,6 @@ use std::io::{Read, Write};
 /// So many reads without an end are a fault (own).
 const READS: u64 = 1 << 32;
 
-// A smaller number would call a long input a fault.
-const _: () = prove!(READS == 1 << 32);
-
 /// A reader or a writer, and how many of its calls failed (own).
 ///
 /// Every call goes to the reader or writer once and takes its answer as it is: no error is tried again, also not
@@ -88,6 +85,8 @@ impl<R: Read> Counted<R> {
             (ConsumesSome (R.remaining (inner_of self.old)) (R.remaining (inner_of self.new))) }
         ensures faults { faults_of self.new ≡ faults_after (faults_of self.old) result }
     {
+        // A smaller number would call a long input a fault.
+        prove!(READS == 1 << 32);
         let mut bytes = Vec::new(alloc);
         let mut piece = [0u8; 16384];
         for _ in 0..READS {
