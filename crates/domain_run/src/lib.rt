@@ -32,6 +32,3 @@ pub use script::{Cursor, Event, Phase, Script, Segment};
 pub use state::State;
 pub use switch::{PrevState, Switch};
 pub use task::{Condition, Task, TaskView};
-
-#[cfg(test)]
-mod tests;

@@ -14,6 +14,3 @@ mod silent;
 pub use advancing::{Done, advance, advance_with};
 pub use silent::Silent;
 pub use tick_split::Turn;
-
-#[cfg(test)]
-mod tests;

@@ -8,9 +8,6 @@ use super::State;
 use crate::name::Name;
 use crate::script::Script;
 
-#[cfg(test)]
-mod tests;
-
 impl State {
     /// The name of the task of a number, where it is listed. Takes no memory.
     pub fn name(&self, number: u32) -> Option<&Name>

@@ -1,7 +1,7 @@
 //! What is lent of listed tasks, and of a number that is not listed.
 
-use crate::{Event, Name, Phase, Script, State};
 use attr_check::{SchedAttr, check};
+use domain_run::{Event, Name, Phase, Script, State};
 use std::alloc::Global;
 use std::process::Abort;
 use std::test::Fail;
@@ -36,6 +36,13 @@ fn admit(
     Ok(())
 }
 
+/// The domain lends this name of a number, and a script of as many loops as the number says; of a number without a name neither.
+fn lends(rt: &impl Abort, state: &State, number: u32, name: Option<&str>) {
+    assert_eq!(rt; state.name(number).map(|name| name.as_str()), name);
+    let loops = name.map(|_| i64::from(number));
+    assert_eq!(rt; state.script(number).map(|job| job.loops()), loops);
+}
+
 #[test]
 fn names_and_scripts_of_two_tasks(rt: HostRuntime) -> Result<(), Fail> {
     let alloc = rt.alloc();
@@ -43,9 +50,7 @@ fn names_and_scripts_of_two_tasks(rt: HostRuntime) -> Result<(), Fail> {
     admit(&rt, alloc, &mut state, 2, "second")?;
     admit(&rt, alloc, &mut state, 1, "first")?;
     for (number, name) in [(1, Some("first")), (2, Some("second")), (3, None)] {
-        assert_eq!(rt; state.name(number).map(|name| name.as_str()), name);
-        let loops = name.map(|_| i64::from(number));
-        assert_eq!(rt; state.script(number).map(|job| job.loops()), loops);
+        lends(&rt, &state, number, name);
     }
     Ok(())
 }

@@ -1,10 +1,11 @@
 ghost use Rattle.std.specs.Prelude.{◌≡◌};
 ghost use Rattle.domain_run.specs.script.Segments.{next_ask};
 
-use super::{Event, Name, Phase, PrevState, Reply, Script, Segment, State, Switch};
+use domain_run::{Event, Name, Phase, PrevState, Reply, Script, Segment, State, Switch};
 use std::alloc::Global;
 use std::test::Fail;
 
+mod lending;
 mod rows;
 
 fn script(alloc: Global, loops: i64, events: &[Event]) -> Result<Script, Fail> {

@@ -3,8 +3,8 @@
 ghost use Rattle.std.specs.Prelude.{◌<◌};
 
 use super::{CARRYING, UNIT, Worker, admitted, carried, on_two_cpus, once, reclaiming, three};
-use crate::{Done, Silent, Turn, advance_with};
 use domain_run::{State, Switch};
+use jump_run::{Done, Silent, Turn, advance_with};
 use std::alloc::Global;
 use std::process::Abort;
 use std::sync::Wait;

@@ -3,9 +3,9 @@
 mod against_ticks;
 mod by_workers;
 
-use super::{Done, advance};
 use attr_check::{Params, SchedAttr, check};
 use domain_run::{Event, Name, Phase, PrevState, Script, State, Switch};
+use jump_run::{Done, advance};
 use std::alloc::Global;
 use std::process::Abort;
 use std::test::Fail;

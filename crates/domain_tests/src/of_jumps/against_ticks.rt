@@ -1,8 +1,8 @@
 //! Jumps against single ticks: the same calls on two domains.
 
 use super::{UNIT, Worker, admit, forever, params};
-use crate::{Done, advance};
 use domain_run::{Event, State};
+use jump_run::{Done, advance};
 use std::alloc::Global;
 use std::test::Fail;
 

@@ -1,7 +1,7 @@
 //! Worked rows, played on a domain: what comes of a list of calls. All but the last stand in `specs/examples` as equations too.
 
-use super::{Event, Name, Phase, PrevState, Reply, Script, State, Switch};
 use attr_check::{Params, SchedAttr, check};
+use domain_run::{Event, Name, Phase, PrevState, Reply, Script, State, Switch};
 use std::alloc::Global;
 use std::process::Abort;
 use std::test::Fail;

@@ -1,0 +1,7 @@
+//! The tests of a domain and of its jumps, apart from both, so that the gate proves each of those crates once.
+#![tactic(auto)]
+
+#[cfg(test)]
+mod of_domain;
+#[cfg(test)]
+mod of_jumps;
