@@ -10,6 +10,3 @@ pub use prepared::{Prepared, prepare};
 
 /// A client's pass: the list of the calls that it made on one domain.
 pub type Pass = pass_seats::Pass<crate::section::Entry>;
-
-#[cfg(test)]
-mod tests;

@@ -27,6 +27,3 @@ pub use fault::CallsFault;
 pub use reading::read_calls;
 pub use section::{Entry, Section};
 pub use writing::write_calls;
-
-#[cfg(test)]
-mod tests;

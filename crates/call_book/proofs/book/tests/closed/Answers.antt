@@ -1,5 +1,0 @@
-use Rattle.std.proofs.Common.{◌∙◌}
-use Rattle.call_book.proofs.book.tests.closed.Goals as goal
-
-pub close-words-requires-clause-tickets : goal.close-words-requires-clause-tickets
-close-words-requires-clause-tickets c = λ k d h. (c.close-state.ensures.homes k d h).own ∙ c.args.desk.own

@@ -1,0 +1,297 @@
+ghost use Rattle.std.specs.Prelude.{◌<◌, All, IfOk};
+ghost use Rattle.tick_split.specs.Planning.{IsPlannable};
+ghost use Rattle.tick_split.specs.Charging.{IsChargeable};
+
+use attr_check::{AttrRefusal, SchedAttr, check};
+use std::alloc::Global;
+use std::sync::Wait;
+use std::sync::atomic::{AtomicBool, AtomicUsize, Ordering};
+use std::test::Fail;
+use std::thread::{Threads, sleep};
+use std::time::{Clock, Duration};
+use tick_split::{Plan, Slice, StartFault, Turn, charge, charge_all, plan, plan_all};
+
+// Has no interest in turns.
+struct Silent;
+
+impl Turn for Silent {
+    fn begin(&self, _piece: usize) {}
+
+    fn end(&self, _piece: usize) {}
+}
+
+// Half of a CPU, reclaiming, alone in a domain of one CPU with a limit of 0.95.
+fn half(left: u32) -> Result<Plan, AttrRefusal>
+    requires { 0 < left }
+    ensures { IfOk result IsPlannable }
+{
+    let params = check(&SchedAttr {
+        policy: 6,
+        flags: 2,
+        runtime: 4000,
+        deadline: 8000,
+        period: 8000,
+    })?;
+    Ok(Plan {
+        params,
+        uinact: 0,
+        sum: 524288,
+        cpus: 1,
+        limit: 996147,
+        left: i128::from(left),
+        rate: 0,
+        spent: 0,
+    })
+}
+
+fn plans() -> Result<[Plan; 3], AttrRefusal>
+    ensures { IfOk result (All IsPlannable) }
+{
+    Ok([half(4194304)?, half(551883)?, half(551884)?])
+}
+
+const PLANNED: [(u64, u64); 3] = [(551883, 8), (551883, 1), (551883, 2)];
+
+fn outcomes(plans: &[Plan; 3]) -> [(u64, u64); 3] {
+    let [a, b, c] = plans;
+    [(a.rate, a.spent), (b.rate, b.spent), (c.rate, c.spent)]
+}
+
+fn slices() -> [Slice; 3]
+    ensures { All IsChargeable result }
+{
+    [
+        Slice {
+            left: 4194304,
+            rate: 551883,
+            ticks: 8,
+        },
+        Slice {
+            left: 2097152,
+            rate: 1048576,
+            ticks: 2,
+        },
+        Slice {
+            left: 1,
+            rate: 1,
+            ticks: 60000000,
+        },
+    ]
+}
+
+const CHARGED: [i128; 3] = [-220760, 0, -59999999];
+
+fn lefts(slices: &[Slice; 3]) -> [i128; 3] {
+    [slices[0].left, slices[1].left, slices[2].left]
+}
+
+fn planned_by<R: Threads + Wait>(
+    rt: &R,
+    alloc: Global,
+    workers: usize,
+) -> Result<[(u64, u64); 3], Fail>
+    requires { 0 < workers }
+{
+    let mut all = plans()?;
+    plan_all(rt, alloc, &mut all, workers, &Silent)?;
+    Ok(outcomes(&all))
+}
+
+fn charged_by<R: Threads + Wait>(
+    rt: &R,
+    alloc: Global,
+    workers: usize,
+) -> Result<[i128; 3], StartFault>
+    requires { 0 < workers }
+{
+    let mut all = slices();
+    charge_all(rt, alloc, &mut all, workers, &Silent)?;
+    Ok(lefts(&all))
+}
+
+// slices_and_plans: by one worker, by two and by eight.
+#[test]
+fn slices_and_plans(rt: HostRuntime) -> Result<(), Fail> {
+    assert_eq!(rt; charged_by(&rt, rt.alloc(), 1)?, CHARGED);
+    assert_eq!(rt; charged_by(&rt, rt.alloc(), 2)?, CHARGED);
+    assert_eq!(rt; charged_by(&rt, rt.alloc(), 8)?, CHARGED);
+    assert_eq!(rt; planned_by(&rt, rt.alloc(), 1)?, PLANNED);
+    assert_eq!(rt; planned_by(&rt, rt.alloc(), 2)?, PLANNED);
+    assert_eq!(rt; planned_by(&rt, rt.alloc(), 8)?, PLANNED);
+    Ok(())
+}
+
+#[test]
+fn one_element_alone(rt: HostRuntime) -> Result<(), Fail> {
+    let mut task = half(4194304)?;
+    plan(&mut task);
+    let [mut first, _, _] = slices();
+    charge(&mut first);
+    assert_eq!(rt; (task.rate, task.spent, first.left), (551883, 8, -220760));
+    Ok(())
+}
+
+// Two pieces in an order: the second begins when the first has ended, or is late after ten seconds.
+#[derive(Drop)]
+struct InOrder<C> {
+    clock: C,
+    first: usize,
+    ended: AtomicBool,
+    late: AtomicBool,
+}
+
+fn in_order<C: Clock>(clock: C, first: usize) -> InOrder<C> {
+    InOrder {
+        clock,
+        first,
+        ended: AtomicBool::new(false),
+        late: AtomicBool::new(false),
+    }
+}
+
+impl<C: Clock + Sync> Turn for InOrder<C> {
+    fn begin(&self, piece: usize) {
+        if piece == self.first {
+            return;
+        }
+        for _ in 0..10000 {
+            if self.ended.load(Ordering::SeqCst) {
+                return;
+            }
+            sleep(&self.clock, Duration::from_millis(1));
+        }
+        self.late.store(true, Ordering::SeqCst);
+    }
+
+    fn end(&self, piece: usize) {
+        if piece == self.first {
+            self.ended.store(true, Ordering::SeqCst);
+        }
+    }
+}
+
+// Whether two workers plan in this order without one being late.
+fn plans_in_order<R: Threads + Wait + Clock + Sync>(
+    rt: &R,
+    alloc: Global,
+    first: usize,
+) -> Result<bool, Fail> {
+    let mut all = plans()?;
+    let order = in_order(rt, first);
+    plan_all(rt, alloc, &mut all, 2, &order)?;
+    Ok(!order.late.load(Ordering::SeqCst))
+}
+
+// Whether two workers charge in this order without one being late.
+fn charges_in_order<R: Threads + Wait + Clock + Sync>(
+    rt: &R,
+    alloc: Global,
+    first: usize,
+) -> Result<bool, StartFault> {
+    let mut all = slices();
+    let order = in_order(rt, first);
+    charge_all(rt, alloc, &mut all, 2, &order)?;
+    Ok(!order.late.load(Ordering::SeqCst))
+}
+
+// all-workers-on-one-thread: in either order of two pieces, who works on the one waits for who works on the other.
+#[test]
+fn two_workers_wait_for_each_other(rt: HostRuntime) -> Result<(), Fail> {
+    assert!(rt; plans_in_order(&rt, rt.alloc(), 0)?);
+    assert!(rt; plans_in_order(&rt, rt.alloc(), 1)?);
+    assert!(rt; charges_in_order(&rt, rt.alloc(), 0)?);
+    assert!(rt; charges_in_order(&rt, rt.alloc(), 1)?);
+    Ok(())
+}
+
+// How often each piece was begun and ended: a hexadecimal digit for each, the lowest for piece 0.
+#[derive(Drop)]
+struct Tally {
+    begun: AtomicUsize,
+    ended: AtomicUsize,
+}
+
+fn digit(piece: usize) -> usize {
+    match piece {
+        0 => 0x1,
+        1 => 0x10,
+        2 => 0x100,
+        _ => 0x1000,
+    }
+}
+
+impl Turn for Tally {
+    fn begin(&self, piece: usize) {
+        self.begun.fetch_add(digit(piece), Ordering::SeqCst);
+    }
+
+    fn end(&self, piece: usize) {
+        self.ended.fetch_add(digit(piece), Ordering::SeqCst);
+    }
+}
+
+fn turns_of<R: Threads + Wait>(
+    rt: &R,
+    alloc: Global,
+    all: &mut [Slice],
+    workers: usize,
+) -> Result<(usize, usize), StartFault>
+    requires some { 0 < workers }
+    requires all { All IsChargeable all.old }
+{
+    let tally = Tally {
+        begun: AtomicUsize::new(0),
+        ended: AtomicUsize::new(0),
+    };
+    charge_all(rt, alloc, all, workers, &tally)?;
+    Ok((
+        tally.begun.load(Ordering::SeqCst),
+        tally.ended.load(Ordering::SeqCst),
+    ))
+}
+
+// There are as many pieces as workers, but no more than elements.
+#[test]
+fn each_piece_has_one_turn(rt: HostRuntime) -> Result<(), Fail> {
+    let alloc = rt.alloc();
+    assert_eq!(rt; turns_of(&rt, alloc, &mut slices(), 1)?, (0x1, 0x1));
+    assert_eq!(rt; turns_of(&rt, alloc, &mut slices(), 2)?, (0x11, 0x11));
+    assert_eq!(rt; turns_of(&rt, alloc, &mut slices(), 8)?, (0x111, 0x111));
+    assert_eq!(rt; turns_of(&rt, alloc, &mut [], 8)?, (0, 0));
+    Ok(())
+}
+
+// Run with each growth refused in turn, and where no thread or one alone can be started: the plans are as before, and one worker
+// then makes them.
+#[test]
+fn refused_growth_of_plan_all(rt: HostRuntime) -> Result<(), Fail> {
+    let mut all = plans()?;
+    if plan_all(&rt, rt.alloc(), &mut all, 2, &Silent).is_err() {
+        assert_eq!(rt; all, plans()?);
+        plan_all(&rt, rt.alloc(), &mut all, 1, &Silent)?;
+    }
+    assert_eq!(rt; outcomes(&all), PLANNED);
+    Ok(())
+}
+
+// Run with each growth refused in turn, and where no thread or one alone can be started: the slices are as before, and one worker
+// then charges them.
+#[test]
+fn refused_growth_of_charge_all(rt: HostRuntime) -> Result<(), Fail> {
+    let mut all = slices();
+    if charge_all(&rt, rt.alloc(), &mut all, 2, &Silent).is_err() {
+        assert_eq!(rt; all, slices());
+        charge_all(&rt, rt.alloc(), &mut all, 1, &Silent)?;
+    }
+    assert_eq!(rt; lefts(&all), CHARGED);
+    Ok(())
+}
+
+#[test]
+fn start_fault_prints(rt: HostRuntime) -> Result<(), Fail> {
+    assert_eq!(rt;
+        format!(in rt.alloc(); "{StartFault}")?.as_str(),
+        "no worker"
+    );
+    Ok(())
+}

@@ -1,0 +1,160 @@
+ghost use Rattle.std.specs.Prelude.{◌≡◌, ◌<◌, ◌≤◌, ◌^◌, length, All, IfOk, IfSome};
+ghost use Rattle.bw_world.specs.WorldStep.{unit};
+ghost use Rattle.bw_gate.specs.Pieces.{cap_of};
+
+use bw_gate::{Blank, Gate, Regrade, Take, Ticket};
+use bw_world::NoMemory;
+use std::alloc::Global;
+use std::process::Abort;
+use std::sync::Wait;
+use std::test::Fail;
+
+mod threads;
+
+// A gate of one domain.
+fn opened(alloc: Global, cap: u64, n: usize) -> Result<(Gate, Vec<Blank>), NoMemory>
+    requires { (cap ≤ 2 ^ 26) × (0 < n) × (n ≤ 4096) }
+    ensures one { IfOk result (λ r. (length r.0.terms.caps ≡ 1) × (cap_of r.0 0 ≡ cap)) }
+    ensures own { IfOk result (λ r. All (λ b. b.gate ≡ r.0) r.1.items) }
+{
+    Gate::open(alloc, &[cap], n)
+}
+
+// The next blank of a gate.
+fn next(rt: &impl Abort, gate: &Gate, blanks: &mut Vec<Blank>) -> Blank
+    requires { All (λ b. b.gate ≡ gate.now) blanks.old.items }
+    ensures blank { result.gate ≡ gate.now }
+    ensures others { All (λ b. b.gate ≡ gate.now) blanks.new.items }
+{
+    let Some(blank) = blanks.pop() else {
+        panic!(rt; "no blank is left")
+    };
+    blank
+}
+
+// A ticket that is taken at once.
+fn ticket(rt: &impl Abort, gate: &Gate, blank: Blank, bw: u64) -> Ticket
+    requires { (blank.gate ≡ gate.now) × (length gate.now.terms.caps ≡ 1) × (bw ≤ unit) }
+    ensures { result.gate ≡ gate.now }
+{
+    match gate.try_take(blank, 0, bw) {
+        Take::Taken(ticket) => ticket,
+        Take::Refused { blank: _, seen } => panic!(rt; "refused at {seen}"),
+        Take::Raced {
+            blank: _,
+            expected: _,
+            seen,
+        } => panic!(rt; "raced at {seen}"),
+    }
+}
+
+// A blank whose try is refused, with the word that was seen.
+fn refused(rt: &impl Abort, gate: &Gate, blank: Blank, bw: u64) -> (Blank, u64)
+    requires { (blank.gate ≡ gate.now) × (length gate.now.terms.caps ≡ 1) × (bw ≤ unit) }
+    ensures { result.0.gate ≡ gate.now }
+{
+    match gate.try_take(blank, 0, bw) {
+        Take::Taken(ticket) => {
+            let blank = gate.give(ticket);
+            panic!(rt; "taken at {}", blank.last())
+        }
+        Take::Refused { blank, seen } => (blank, seen),
+        Take::Raced {
+            blank: _,
+            expected: _,
+            seen,
+        } => panic!(rt; "raced at {seen}"),
+    }
+}
+
+// full_domain_and_no_bandwidth: 500 / 1000 fills the domain, 2 / 100 is refused, and 2 us of 4 s, which is no bandwidth,
+// has room still.
+#[test]
+fn full_domain_and_no_bandwidth(rt: HostRuntime) -> Result<(), Fail> {
+    let (gate, mut blanks) = opened(rt.alloc(), 524288, 3)?;
+    let mut tickets = Vec::with_capacity(rt.alloc(), 2)?;
+    tickets.push_reserved(ticket(&rt, &gate, next(&rt, &gate, &mut blanks), 524288));
+    let (blank, seen) = refused(&rt, &gate, next(&rt, &gate, &mut blanks), 20971);
+    tickets.push_reserved(ticket(&rt, &gate, blank, 0));
+    let words = gate.close(blanks, tickets);
+    assert_eq!(rt; (seen, words.word[0]), (524288, 524288));
+    Ok(())
+}
+
+// refused_then_given_back: two thirds of a CPU leave no room for as much again, until they are given back.
+#[test]
+fn refused_then_given_back(rt: HostRuntime) -> Result<(), Fail> {
+    let (gate, mut blanks) = opened(rt.alloc(), 1048576, 2)?;
+    let mut home = Vec::with_capacity(rt.alloc(), 1)?;
+    let mut tickets = Vec::with_capacity(rt.alloc(), 1)?;
+    let mine = ticket(&rt, &gate, next(&rt, &gate, &mut blanks), 699050);
+    let (blank, seen) = refused(&rt, &gate, next(&rt, &gate, &mut blanks), 699050);
+    home.push_reserved(gate.give(mine));
+    tickets.push_reserved(ticket(&rt, &gate, blank, 699050));
+    let words = gate.close(home, tickets);
+    assert_eq!(rt; (seen, words.word[0]), (699050, 699050));
+    Ok(())
+}
+
+// A ticket after one try to regrade it, whatever that answers.
+fn tried(gate: &Gate, ticket: Ticket, bw: u64) -> Ticket
+    requires { (ticket.gate ≡ gate.now) × (bw ≤ unit) }
+    ensures { result.gate ≡ gate.now }
+{
+    match gate.try_regrade(ticket, bw) {
+        Regrade::Changed(ticket) => ticket,
+        Regrade::Refused { ticket, seen: _ } => ticket,
+        Regrade::Raced {
+            ticket,
+            expected: _,
+            seen: _,
+        } => ticket,
+    }
+}
+
+// A ticket after it was regraded or refused.
+fn regraded(rt: &impl Wait, gate: &Gate, ticket: Ticket, bw: u64) -> Ticket
+    requires { (ticket.gate ≡ gate.now) × (bw ≤ unit) }
+    ensures { result.gate ≡ gate.now }
+{
+    match gate.regrade(rt, ticket, bw) {
+        Regrade::Changed(ticket) => ticket,
+        Regrade::Refused { ticket, seen: _ } => ticket,
+        Regrade::Raced {
+            ticket,
+            expected: _,
+            seen: _,
+        } => ticket,
+    }
+}
+
+// A ticket of a quarter goes to a half, and then to a whole CPU, for which its domain has no room.
+#[test]
+fn regrade_changes_and_is_refused(rt: HostRuntime) -> Result<(), Fail> {
+    let (gate, mut blanks) = opened(rt.alloc(), 524288, 1)?;
+    let mut tickets = Vec::with_capacity(rt.alloc(), 1)?;
+    let quarter = ticket(&rt, &gate, next(&rt, &gate, &mut blanks), 262144);
+    let half = tried(&gate, quarter, 524288);
+    let first = (half.domain(), half.bw(), half.last());
+    let kept = regraded(&rt, &gate, half, 1048576);
+    let second = (kept.bw(), kept.last());
+    let terms = (gate.pieces(), gate.cap(0));
+    tickets.push_reserved(kept);
+    let words = gate.close(blanks, tickets);
+    assert_eq!(rt; (first, second), ((0, 524288, 262144), (524288, 524288)));
+    assert_eq!(rt; (terms, words.word[0]), ((1, 524288), 524288));
+    Ok(())
+}
+
+// Run with each allocation refused in turn: a gate that was refused leaves nothing, and can be opened then.
+#[test]
+fn refused_growth_of_open(rt: HostRuntime) -> Result<(), Fail> {
+    let (gate, blanks) = match opened(rt.alloc(), 1048576, 4096) {
+        Ok(opened) => opened,
+        Err(NoMemory) => opened(rt.alloc(), 1048576, 4096)?,
+    };
+    let count = blanks.len();
+    let words = gate.close(blanks, Vec::new(rt.alloc()));
+    assert_eq!(rt; (count, words.word[0]), (4096, 0));
+    Ok(())
+}

@@ -1,0 +1,260 @@
+// Clients in threads of their own.
+ghost use Rattle.std.specs.Prelude.{◌≡◌, ◌<◌, ◌≤◌, ◌+◌, [], length, vec_capacity, vec_len, All};
+ghost use Rattle.bw_gate.specs.Pieces.{cap_of};
+ghost use Rattle.word_tests.specs.Quarters.{IsQuarter, IsQuarterTaken};
+
+use super::{next, opened, regraded};
+use bw_gate::{Blank, Gate, Take, Ticket, Words};
+use std::process::Abort;
+use std::sync::Wait;
+use std::sync::atomic::{AtomicUsize, Ordering};
+use std::test::Fail;
+use std::thread::{Threads, join, map_vec, yield_now};
+
+const QUARTER: u64 = 262144;
+
+// Waits until all of so many clients are here, so that they run at once. It gives up after many turns: where a thread could
+// not be started, the clients come one after another.
+fn arrive(here: &AtomicUsize, all: usize) {
+    here.fetch_add(1, Ordering::SeqCst);
+    for _ in 0..1000000 {
+        if here.load(Ordering::SeqCst) >= all {
+            return;
+        }
+        yield_now();
+    }
+}
+
+// One of eight clients, which takes a quarter of a CPU.
+fn one<R: Wait>(rt: &R, gate: &Gate, here: &AtomicUsize, blank: Blank) -> Take
+    requires { (blank.gate ≡ gate.now) × (0 < length gate.now.terms.caps) }
+    ensures { IsQuarterTaken gate.now result }
+{
+    arrive(here, 8);
+    match gate.take(rt, blank, 0, QUARTER) {
+        Take::Taken(ticket) => Take::Taken(ticket),
+        Take::Refused { blank, seen } => Take::Refused { blank, seen },
+        Take::Raced {
+            blank: _,
+            expected: _,
+            seen: _,
+        } => unreachable!(),
+    }
+}
+
+// Two clients, each in a thread of its own.
+fn two<R: Threads + Wait + Sync>(
+    rt: &R,
+    gate: &Gate,
+    here: &AtomicUsize,
+    a: Blank,
+    b: Blank,
+) -> (Take, Take)
+    requires { (a.gate ≡ gate.now) × (b.gate ≡ gate.now) × (0 < length gate.now.terms.caps) }
+    ensures { IsQuarterTaken gate.now result.0 × IsQuarterTaken gate.now result.1 }
+{
+    join(
+        rt,
+        move || -> Take
+            requires { (a.gate ≡ gate.now) × (0 < length gate.now.terms.caps) }
+            ensures { IsQuarterTaken gate.entry.now result }
+        { one(rt, gate, here, a) },
+        move || -> Take
+            requires { (b.gate ≡ gate.now) × (0 < length gate.now.terms.caps) }
+            ensures { IsQuarterTaken gate.entry.now result }
+        { one(rt, gate, here, b) },
+    )
+}
+
+// Four clients.
+fn four<R: Threads + Wait + Sync>(
+    rt: &R,
+    gate: &Gate,
+    here: &AtomicUsize,
+    a: Blank,
+    b: Blank,
+    c: Blank,
+    d: Blank,
+) -> ((Take, Take), (Take, Take))
+    requires some { 0 < length gate.now.terms.caps }
+    requires own { (a.gate ≡ gate.now) × (b.gate ≡ gate.now) × (c.gate ≡ gate.now)
+        × (d.gate ≡ gate.now) }
+    ensures first { IsQuarterTaken gate.now result.0.0 × IsQuarterTaken gate.now result.0.1 }
+    ensures second { IsQuarterTaken gate.now result.1.0 × IsQuarterTaken gate.now result.1.1 }
+{
+    join(
+        rt,
+        move || -> (Take, Take)
+            requires { (a.gate ≡ gate.now) × (b.gate ≡ gate.now)
+                × (0 < length gate.now.terms.caps) }
+            ensures { IsQuarterTaken gate.entry.now result.0
+                × IsQuarterTaken gate.entry.now result.1 }
+        { two(rt, gate, here, a, b) },
+        move || -> (Take, Take)
+            requires { (c.gate ≡ gate.now) × (d.gate ≡ gate.now)
+                × (0 < length gate.now.terms.caps) }
+            ensures { IsQuarterTaken gate.entry.now result.0
+                × IsQuarterTaken gate.entry.now result.1 }
+        { two(rt, gate, here, c, d) },
+    )
+}
+
+// Eight clients at once: what each of them has at its end, in one of two lists that have room for eight.
+fn eight<R: Threads + Wait + Sync + Abort>(
+    rt: &R,
+    gate: &Gate,
+    mut from: Vec<Blank>,
+    blanks: &mut Vec<Blank>,
+    tickets: &mut Vec<Ticket>,
+)
+    requires some { 0 < length gate.now.terms.caps }
+    requires from { All (λ b. b.gate ≡ gate.now) from.items }
+    requires blanks { (blanks.old.items ≡ []) × (vec_len blanks.old ≡ 0)
+        × (8 ≤ vec_capacity blanks.old) }
+    requires tickets { (tickets.old.items ≡ []) × (vec_len tickets.old ≡ 0)
+        × (8 ≤ vec_capacity tickets.old) }
+    ensures blanks { All (λ b. b.gate ≡ gate.now) blanks.new.items }
+    ensures tickets { All (IsQuarter gate.now) tickets.new.items }
+{
+    let arrived = AtomicUsize::new(0);
+    let here = &arrived;
+    let a = next(rt, gate, &mut from);
+    let b = next(rt, gate, &mut from);
+    let c = next(rt, gate, &mut from);
+    let d = next(rt, gate, &mut from);
+    let e = next(rt, gate, &mut from);
+    let f = next(rt, gate, &mut from);
+    let g = next(rt, gate, &mut from);
+    let h = next(rt, gate, &mut from);
+    let (west, east) = join(
+        rt,
+        move || -> ((Take, Take), (Take, Take))
+            requires { (a.gate ≡ gate.now) × (b.gate ≡ gate.now) × (c.gate ≡ gate.now)
+                × (d.gate ≡ gate.now) × (0 < length gate.now.terms.caps) }
+            ensures first { IsQuarterTaken gate.entry.now result.0.0
+                × IsQuarterTaken gate.entry.now result.0.1 }
+            ensures second { IsQuarterTaken gate.entry.now result.1.0
+                × IsQuarterTaken gate.entry.now result.1.1 }
+        { four(rt, gate, here, a, b, c, d) },
+        move || -> ((Take, Take), (Take, Take))
+            requires { (e.gate ≡ gate.now) × (f.gate ≡ gate.now) × (g.gate ≡ gate.now)
+                × (h.gate ≡ gate.now) × (0 < length gate.now.terms.caps) }
+            ensures first { IsQuarterTaken gate.entry.now result.0.0
+                × IsQuarterTaken gate.entry.now result.0.1 }
+            ensures second { IsQuarterTaken gate.entry.now result.1.0
+                × IsQuarterTaken gate.entry.now result.1.1 }
+        { four(rt, gate, here, e, f, g, h) },
+    );
+    let ((a, b), (c, d)) = west;
+    let ((e, f), (g, h)) = east;
+    sort(gate, a, blanks, tickets);
+    sort(gate, b, blanks, tickets);
+    sort(gate, c, blanks, tickets);
+    sort(gate, d, blanks, tickets);
+    sort(gate, e, blanks, tickets);
+    sort(gate, f, blanks, tickets);
+    sort(gate, g, blanks, tickets);
+    sort(gate, h, blanks, tickets);
+}
+
+// Puts what a client has at its end into one of two lists that have room.
+fn sort(gate: &Gate, answer: Take, blanks: &mut Vec<Blank>, tickets: &mut Vec<Ticket>)
+    requires answer { IsQuarterTaken gate.now answer }
+    requires room { (vec_len blanks.old < vec_capacity blanks.old)
+        × (vec_len tickets.old < vec_capacity tickets.old) }
+    requires blanks { All (λ b. b.gate ≡ gate.now) blanks.old.items }
+    requires tickets { All (IsQuarter gate.now) tickets.old.items }
+    ensures room { (vec_capacity blanks.new ≡ vec_capacity blanks.old)
+        × (vec_capacity tickets.new ≡ vec_capacity tickets.old) }
+    ensures len { (vec_len blanks.new ≤ vec_len blanks.old + 1)
+        × (vec_len tickets.new ≤ vec_len tickets.old + 1) }
+    ensures blanks { All (λ b. b.gate ≡ gate.now) blanks.new.items }
+    ensures tickets { All (IsQuarter gate.now) tickets.new.items }
+{
+    match answer {
+        Take::Taken(ticket) => tickets.push_reserved(ticket),
+        Take::Refused { blank, seen: _ } => blanks.push_reserved(blank),
+        Take::Raced {
+            blank,
+            expected: _,
+            seen: _,
+        } => blanks.push_reserved(blank),
+    }
+}
+
+// Closes a gate of one CPU. Whatever the clients did, four of their quarters at most are taken.
+fn closed(gate: Gate, blanks: Vec<Blank>, tickets: Vec<Ticket>) -> (usize, Words)
+    requires cap { (length gate.terms.caps ≡ 1) × (cap_of gate 0 ≡ 1048576) }
+    requires blanks { All (λ b. b.gate ≡ gate) blanks.items }
+    requires tickets { All (IsQuarter gate) tickets.items }
+    ensures count { result.0 ≡ length tickets.items }
+    ensures four { result.0 ≤ 4 }
+{
+    let count = tickets.len();
+    (count, gate.close(blanks, tickets))
+}
+
+// A round of a client: it takes 1 / 64 of a CPU, loads, regrades to twice as much, and gives back.
+fn round(rt: &impl Wait, gate: &Gate, blank: Blank) -> Blank
+    requires { (blank.gate ≡ gate.now) × (0 < length gate.now.terms.caps) }
+    ensures { result.gate ≡ gate.now }
+{
+    match gate.take(rt, blank, 0, 16384) {
+        Take::Taken(mut ticket) => {
+            gate.load(&mut ticket);
+            gate.give(regraded(rt, gate, ticket, 32768))
+        }
+        Take::Refused { blank, seen: _ } => blank,
+        Take::Raced {
+            blank,
+            expected: _,
+            seen: _,
+        } => blank,
+    }
+}
+
+// One of 64 clients, with a thousand rounds.
+fn rounds(rt: &impl Wait, gate: &Gate, here: &AtomicUsize, mut blank: Blank) -> Blank
+    requires { (blank.gate ≡ gate.now) × (0 < length gate.now.terms.caps) }
+    ensures { result.gate ≡ gate.now }
+{
+    arrive(here, 64);
+    for _ in 0..1000 {
+        blank = round(rt, gate, blank);
+    }
+    blank
+}
+
+// eight_threads_four_taken: one CPU has room for four quarters, whichever clients take them. The other four have seen it
+// full.
+#[test]
+fn eight_threads_four_taken(rt: HostRuntime) -> Result<(), Fail> {
+    let (gate, blanks) = opened(rt.alloc(), 1048576, 8)?;
+    let mut home = Vec::with_capacity(rt.alloc(), 8)?;
+    let mut tickets = Vec::with_capacity(rt.alloc(), 8)?;
+    eight(&rt, &gate, blanks, &mut home, &mut tickets);
+    let seen_full = home.iter().filter(|b| b.last() == 1048576).count();
+    let (count, words) = closed(gate, home, tickets);
+    assert_eq!(rt; (count, seen_full), (4, 4));
+    assert_eq!(rt; words.word[0], 1048576);
+    Ok(())
+}
+
+// 64 clients at once take, load, regrade and give on one word, and leave 0.
+#[test]
+fn sixty_four_threads_leave_nothing(rt: HostRuntime) -> Result<(), Fail> {
+    let (gate, blanks) = opened(rt.alloc(), 1048576, 64)?;
+    let arrived = AtomicUsize::new(0);
+    let (shared, here, handle) = (&gate, &arrived, &rt);
+    let back = map_vec(
+        &rt,
+        blanks,
+        &|blank: Blank| -> Blank
+            requires { (blank.gate ≡ shared.now) × (0 < length shared.now.terms.caps) }
+            ensures { result.gate ≡ shared.entry.now }
+        { rounds(handle, shared, here, blank) },
+    )?;
+    let words = gate.close(back, Vec::new(rt.alloc()));
+    assert_eq!(rt; words.word[0], 0);
+    Ok(())
+}

@@ -1,0 +1,117 @@
+use bw_world::{NoMemory, Outcome, Step, World};
+use std::alloc::Global;
+use std::process::Abort;
+use std::test::Fail;
+
+// Each step of the worked row, and its answer.
+fn world_steps() -> [(Step, Outcome); 10] {
+    [
+        (Step::Load { domain: 0 }, Outcome::Saw(0)),
+        (take(1, 262144, 0), Outcome::Done),
+        (take(2, 262144, 0), Outcome::Lost(262144)),
+        (take(2, 262144, 262144), Outcome::Done),
+        (take(3, 1, 524288), Outcome::Over(524288)),
+        (enter(1, 7), Outcome::Done),
+        (Step::Give { ticket: 1 }, Outcome::Not),
+        (regrade(1, 131072, 524288), Outcome::Done),
+        (Step::Release { ticket: 1 }, Outcome::Done),
+        (Step::Give { ticket: 1 }, Outcome::Done),
+    ]
+}
+
+fn take(ticket: u64, bw: u64, expected: u64) -> Step {
+    Step::Take {
+        ticket,
+        domain: 0,
+        bw,
+        expected,
+    }
+}
+
+fn enter(ticket: u64, number: u32) -> Step {
+    Step::Enter { ticket, number }
+}
+
+fn regrade(ticket: u64, bw: u64, expected: u64) -> Step {
+    Step::Regrade {
+        ticket,
+        bw,
+        expected,
+    }
+}
+
+// A world of one domain of half a CPU, where the second try has the memory that the first lacked.
+fn opened(alloc: Global) -> Result<World, NoMemory> {
+    match World::open(alloc, &[524288]) {
+        Ok(world) => Ok(world),
+        Err(NoMemory) => World::open(alloc, &[524288]),
+    }
+}
+
+// Does a step, at the second try where the first lacked memory.
+fn assert_answer(rt: &impl Abort, world: &mut World, step: Step, outcome: Outcome) {
+    let answer = match world.apply(step) {
+        Ok(answer) => Ok(answer),
+        Err(NoMemory) => world.apply(step),
+    };
+    assert_eq!(rt; answer, Ok(outcome), "{step:?}");
+}
+
+// Run with each allocation refused in turn: a step that was refused can be done then.
+#[test]
+fn world_steps_by_apply(rt: HostRuntime) -> Result<(), Fail> {
+    let mut world = opened(rt.alloc())?;
+    for (step, outcome) in world_steps() {
+        assert_answer(&rt, &mut world, step, outcome);
+    }
+    assert_eq!(rt; world.changes(0).map(|changes| changes.len()), Some(3));
+    Ok(())
+}
+
+// Run with each allocation refused in turn: the steps after those that are applied can be done then.
+#[test]
+fn world_steps_by_run_all(rt: HostRuntime) -> Result<(), Fail> {
+    let mut world = opened(rt.alloc())?;
+    let steps = world_steps().map(|row| row.0);
+    let outcomes = world_steps().map(|row| row.1);
+    match world.run_all(&steps) {
+        Ok(all) => assert_eq!(rt; all.as_slice(), outcomes.as_slice()),
+        Err(NoMemory) => {
+            let applied = world.applied();
+            let rest = world.run_all(&steps[applied..])?;
+            assert_eq!(rt; rest.as_slice(), &outcomes[applied..]);
+        }
+    }
+    Ok(())
+}
+
+// Run with each allocation refused in turn: lists that outgrow their first room, by each step that lengthens one.
+#[test]
+fn refused_growth_of_full_lists(rt: HostRuntime) -> Result<(), Fail> {
+    let mut world = opened(rt.alloc())?;
+    for ticket in 1..5u64 {
+        assert_answer(&rt, &mut world, take(ticket, 1, ticket - 1), Outcome::Done);
+    }
+    for step in [enter(1, 1), take(5, 1, 4), Step::Release { ticket: 1 }] {
+        assert_answer(&rt, &mut world, step, Outcome::Done);
+    }
+    for number in 1..6u32 {
+        assert_answer(
+            &rt,
+            &mut world,
+            enter(u64::from(number), number),
+            Outcome::Done,
+        );
+    }
+    for word in 5..15u64 {
+        assert_answer(&rt, &mut world, regrade(1, word - 3, word), Outcome::Done);
+    }
+    Ok(())
+}
+
+#[test]
+fn no_memory_prints(rt: HostRuntime) -> Result<(), Fail> {
+    let text = format!(in rt.alloc(); "{}", NoMemory)?;
+    assert_eq!(rt; text.as_str(), "out of memory");
+    Ok(())
+}
