@@ -5,3 +5,5 @@
 mod of_domain;
 #[cfg(test)]
 mod of_jumps;
+#[cfg(test)]
+mod workers;

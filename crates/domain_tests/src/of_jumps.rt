@@ -3,43 +3,12 @@
 mod against_ticks;
 mod by_workers;
 
-use attr_check::{Params, SchedAttr, check};
-use domain_run::{Event, Name, Phase, PrevState, Script, State, Switch};
+use crate::workers::{UNIT, Worker, forever, once, params, reclaiming, script, switch};
+use domain_run::{Event, Name, PrevState, State, Switch};
 use jump_run::{Done, advance};
 use std::alloc::Global;
 use std::process::Abort;
 use std::test::Fail;
-
-const UNIT: u64 = 1048576;
-
-/// A task: runtime, deadline and period in us, and one phase of events, once or for ever.
-#[derive(Clone, Copy)]
-struct Worker<'a> {
-    times: (u64, u64, u64),
-    reclaim: bool,
-    loops: i64,
-    events: &'a [Event],
-}
-
-fn params(times: (u64, u64, u64), reclaim: bool) -> Result<Params, Fail> {
-    let (runtime, deadline, period) = times;
-    Ok(check(&SchedAttr {
-        policy: 6,
-        flags: if reclaim { 2 } else { 0 },
-        runtime: runtime.saturating_mul(1000),
-        deadline: deadline.saturating_mul(1000),
-        period: period.saturating_mul(1000),
-    })?)
-}
-
-fn script(alloc: Global, worker: Worker<'_>) -> Result<Script, Fail> {
-    let mut phases = Vec::new(alloc);
-    phases.push(Phase {
-        count: 1,
-        events: worker.events.to_vec(alloc)?,
-    })?;
-    Ok(Script::new(worker.loops, phases)?)
-}
 
 /// Whether the task was admitted.
 fn admit(alloc: Global, state: &mut State, number: u32, worker: Worker<'_>) -> Result<bool, Fail> {
@@ -89,41 +58,6 @@ fn shows(
     assert_eq!(rt; done.ticks, ticks);
     assert_eq!(rt; state.switches(), switches);
     Ok(())
-}
-
-fn once(times: (u64, u64, u64), events: &[Event]) -> Worker<'_> {
-    Worker {
-        times,
-        reclaim: false,
-        loops: 1,
-        events,
-    }
-}
-
-fn forever(times: (u64, u64, u64), events: &[Event]) -> Worker<'_> {
-    Worker {
-        times,
-        reclaim: false,
-        loops: -1,
-        events,
-    }
-}
-
-fn reclaiming(worker: Worker<'_>) -> Worker<'_> {
-    Worker {
-        reclaim: true,
-        ..worker
-    }
-}
-
-fn switch(time: u64, cpu: u16, prev: Option<u32>, state: PrevState, next: Option<u32>) -> Switch {
-    Switch {
-        time,
-        prev,
-        next,
-        cpu,
-        state,
-    }
 }
 
 #[test]

@@ -90,6 +90,7 @@ impl<N: Names> Session<N> {
         ensures { result.now ≡ N.id.gate }
     {
         let shared = &self.shared;
+        // For the prover alone: a look at the gate brings what the type of what is shared keeps.
         let _gate = &shared.gate;
         shared
     }

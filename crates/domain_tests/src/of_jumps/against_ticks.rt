@@ -1,6 +1,7 @@
 //! Jumps against single ticks: the same calls on two domains.
 
-use super::{UNIT, Worker, admit, forever, params};
+use super::admit;
+use crate::workers::{UNIT, Worker, forever, params};
 use domain_run::{Event, State};
 use jump_run::{Done, advance};
 use std::alloc::Global;

@@ -2,7 +2,8 @@
 
 ghost use Rattle.std.specs.Prelude.{◌<◌};
 
-use super::{CARRYING, UNIT, Worker, admitted, carried, on_two_cpus, once, reclaiming, three};
+use super::{CARRYING, admitted, carried, on_two_cpus, three};
+use crate::workers::{UNIT, Worker, once, reclaiming};
 use domain_run::{State, Switch};
 use jump_run::{Done, Silent, Turn, advance_with};
 use std::alloc::Global;

@@ -5,7 +5,7 @@ ghost use Rattle.call_book.specs.Limits.{IsCall, IsEntry, IsSection};
 use attr_check::{Params, SchedAttr};
 use call_book::{Call, Entry, NoMemory, Section, read_calls};
 use rtapp_scenario::TaskSpec;
-use session::{Answer, Client, Names, Options, Parts, Print, Report, Session};
+use session::{Answer, Client, Names, Options, Parts, Print, Report, Session, Shares};
 use std::alloc::Global;
 use std::fmt::Write;
 use std::marker::Brand;
@@ -14,7 +14,7 @@ use std::sync::Wait;
 use std::test::Fail;
 use std::thread::Threads;
 
-pub(super) fn attr_of(params: &Params) -> SchedAttr {
+fn attr_of(params: &Params) -> SchedAttr {
     SchedAttr {
         policy: 6,
         flags: if params.reclaim { 2 } else { 0 },
@@ -24,10 +24,11 @@ pub(super) fn attr_of(params: &Params) -> SchedAttr {
     }
 }
 
-fn make<N: Names, R: Threads + Wait>(
+// Makes a call on the first domain, in a session or in what threads share of it.
+pub(super) fn make<N: Names, S: Shares<N>, R: Threads + Wait>(
     rt: &R,
     alloc: Global,
-    session: &Session<N>,
+    session: &S,
     client: &mut Client<N>,
     call: Call,
 ) -> Answer

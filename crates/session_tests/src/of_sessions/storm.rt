@@ -1,10 +1,9 @@
 // A storm: 64 clients at once, each in a thread of its own, on one domain.
 ghost use Rattle.std.specs.Prelude.{◌≡◌, ◌<◌, length, All, IfSome};
-ghost use Rattle.call_book.specs.Limits.{IsCall, IsEntry};
+ghost use Rattle.call_book.specs.Limits.{IsEntry};
 
-use super::clients::attr_of;
-use call_book::{Call, Entry, NoMemory, Reply, Section, read_calls};
-use rtapp_scenario::TaskSpec;
+use super::clients::make;
+use call_book::{Entry, NoMemory, Reply, Section, read_calls};
 use session::{Answer, Client, Names, Options, Parts, Print, Report, Session, Shared};
 use std::alloc::Global;
 use std::marker::Brand;
@@ -62,46 +61,6 @@ fn is_granted(answer: &Answer) -> bool {
         answer,
         Ok(Reply::Admitted | Reply::Changed | Reply::Left | Reply::Done { ticks: 1 })
     )
-}
-
-// Makes a call on the domain with what the clients share, as threads have it.
-fn make<N: Names, R: Threads + Wait>(
-    rt: &R,
-    alloc: Global,
-    shared: &Shared<N>,
-    client: &mut Client<N>,
-    call: Call,
-) -> Answer
-    requires call { IsCall call }
-    requires place { 0 < length N.id.cpu_sets }
-{
-    match call {
-        Call::Admit {
-            number,
-            name,
-            params,
-            delay,
-            script,
-        } => {
-            let task = TaskSpec {
-                number,
-                name,
-                attr: attr_of(&params),
-                cpus: None,
-                delay,
-                script,
-            };
-            client.admit(rt, alloc, shared, &task)
-        }
-        Call::Regrade {
-            number,
-            params,
-            word: _,
-        } => client.regrade(rt, shared, 0, number, params),
-        Call::Wake { number } => client.wake(rt, shared, 0, number),
-        Call::Leave { number } => client.leave(rt, shared, 0, number),
-        Call::Advance { ticks } => client.advance(rt, shared, 0, ticks),
-    }
 }
 
 // Lets a client make its calls, when all are here.
