@@ -4,7 +4,7 @@ ghost use Rattle.std.specs.Prelude.{◌≡◌, ◌<◌, ◌≤◌, ◌+◌, ◌^
 ghost use Rattle.std.specs.String.{string_bytes};
 ghost use Rattle.domain_run.specs.NameView.{IsName};
 ghost use Rattle.domain_run.specs.declared.call.Call.TheVariants as Call;
-ghost use Rattle.domain_run.specs.Domain.{opened};
+ghost use Rattle.domain_run.specs.Domain.{IsLimit, opened};
 ghost use Rattle.domain_run.specs.Calls.{after_call};
 ghost use Rattle.domain_run.specs.Run.{run_of};
 ghost use Rattle.domain_run.specs.Tick.{ticks as ticked_by};
@@ -50,7 +50,7 @@ fn put_name(names: &mut IndexMap<u32, String>, number: u32, text: String) -> Res
 impl RunWithNames {
     fn open(alloc: Global, cpus: u32, limit: u64) -> Result<RunWithNames, NoMemory>
         requires cpus { (0 < cpus) × (cpus ≤ 64) }
-        requires limit { (10485 ≤ limit) × (limit ≤ 1048576) }
+        requires limit { IsLimit limit }
         ensures state { IfOk result (λ r. r.state ≡ opened cpus limit) }
         ensures names { IfOk result (λ r. Gives r.names no_names) }
     {
@@ -152,7 +152,7 @@ fn run_entries(
     mut entries: Vec<Entry>,
 ) -> Result<RunWithNames, NoMemory>
     requires cpus { (0 < cpus) × (cpus ≤ 64) }
-    requires limit { (10485 ≤ limit) × (limit ≤ 1048576) }
+    requires limit { IsLimit limit }
     requires few { vec_len entries ≤ 65536 }
     requires entries { All IsEntry entries.items }
     ensures run { IfOk result (λ r.

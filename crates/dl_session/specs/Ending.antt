@@ -1,7 +1,7 @@
 -- How the program ends: what it says on standard error, and its exit status (own).
 use Rattle.std.specs.Prelude.{◌≡◌, ℕ, List, [], ◌∷◌, ◌++◌, Result, Ok, Err, codes}
 use Rattle.std.specs.List.{flat_map}
-use Rattle.dl_session.specs.Lines.{fault_line, refused_line}
+use Rattle.dl_session.specs.Lines.{fault_text, refused_line}
 use Rattle.dl_session.specs.Status.{exit_status}
 use Rattle.dl_session.specs.Words.{words_status, words_text}
 use Rattle.dl_session.specs.declared.ending.Ending.{Ending}
@@ -21,7 +21,7 @@ task_line refused = as_line (refused_line (record { number = refused.0; refusal 
 -- what is said on standard error: a line for each refused task in their order, or the one line of the fault
 abbrev pub ending_text : Ending → List ℕ
 ending_text (ends.Done refused) = flat_map task_line refused.now
-ending_text (ends.Fault fault) = as_line (fault_line fault.now)
+ending_text (ends.Fault fault) = as_line (codes "dlsim: " ++ fault_text fault.now)
 ending_text (ends.Words fault) = as_line (codes "dlsim: " ++ words_text fault)
 
 -- 0 where the text was written, else the fault's own

@@ -33,20 +33,20 @@ key_shown TooMany = []
 key_shown Idle = []
 key_shown Memory = []
 
--- the line of a scenario's fault
-abbrev pub scenario_line : ScenarioFault → List ℕ
-scenario_line fault = codes "dlsim: scenario " ++ (decimal (fault_number fault) ++ key_shown fault)
+-- the text of a scenario's fault
+abbrev pub scenario_text : ScenarioFault → List ℕ
+scenario_text fault = codes "scenario " ++ (decimal (fault_number fault) ++ key_shown fault)
 
--- the line of a fault, without its LF
-abbrev pub fault_line : SessionFault → List ℕ
-fault_line (faults.Json fault) = codes "dlsim: json " ++ (decimal (number_of fault.kind) ++ (codes " at " ++ decimal fault.at))
-fault_line (faults.Scenario fault) = scenario_line fault
-fault_line (faults.Calls n) = codes "dlsim: calls 30 line " ++ decimal n
-fault_line faults.Read = codes "dlsim: read failed"
-fault_line (faults.Write written) = codes "dlsim: write failed after " ++ decimal written
-fault_line faults.Start = codes "dlsim: no thread"
-fault_line faults.Full = codes "dlsim: book full"
-fault_line faults.Memory = codes "dlsim: out of memory"
+-- the text of a fault: one line, without the program's name and the LF
+abbrev pub fault_text : SessionFault → List ℕ
+fault_text (faults.Json fault) = codes "json " ++ (decimal (number_of fault.kind) ++ (codes " at " ++ decimal fault.at))
+fault_text (faults.Scenario fault) = scenario_text fault
+fault_text (faults.Calls n) = codes "calls 30 line " ++ decimal n
+fault_text faults.Read = codes "read failed"
+fault_text (faults.Write written) = codes "write failed after " ++ decimal written
+fault_text faults.Start = codes "no thread"
+fault_text faults.Full = codes "book full"
+fault_text faults.Memory = codes "out of memory"
 
 -- the line of a refused task
 abbrev pub refused_line : RefusedLine → List ℕ

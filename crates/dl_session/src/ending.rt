@@ -79,7 +79,7 @@ impl fmt::Display for Ending<'_> {
     fn fmt<W: fmt::Write>(&self, f: &mut fmt::Formatter<W>) -> fmt::Result {
         match self {
             Ending::Done(refused) => write_refused(f, refused),
-            Ending::Fault(fault) => writeln!(f, "{}", fault.line()),
+            Ending::Fault(fault) => writeln!(f, "dlsim: {fault}"),
             Ending::Words(fault) => writeln!(f, "dlsim: {fault}"),
         }
     }

@@ -1,46 +1,42 @@
 ghost use Rattle.std.specs.Prelude.{◌≡◌};
 ghost use Rattle.std.specs.Fmt.{WritesOnOk};
-ghost use Rattle.dl_session.specs.Lines.{shown, one_line, scenario_line};
+ghost use Rattle.dl_session.specs.Lines.{shown, one_line, scenario_text};
 ghost use Rattle.dl_session.specs.Status.{exit_status};
 
 use calls_trace::{ReplayFault, TraceFault};
 use json_order::JsonFault;
 use rtapp_scenario::ScenarioFault;
 use session::{AdmitFault, EndFault, Refusal};
+use std::error::Error;
 use std::fmt;
-use thiserror::Error;
 
-/// Why a run or a replay ended without its text. Where it is not [`SessionFault::Write`], nothing was written.
-#[derive(Debug, Drop, Error)]
+/// Why a run or a replay ended without its text. Where it is not [`SessionFault::Write`], nothing was
+/// written. It prints on one line what went wrong, as `json 11 at 5` or `write failed after 100`.
+#[derive(Debug, Drop)]
 pub enum SessionFault {
     /// 10 to 14: the input is no JSON as it is read here (RFC 8259, narrower).
-    #[error("{0}")]
     Json(JsonFault),
     /// 20 to 27: the JSON value is no scenario of the rt-app profile.
-    #[error("{0}")]
     Scenario(ScenarioFault),
-    /// 30: the first line, from 1, at which the input stops being a front of whole lines of a calls text.
-    #[error("calls 30 line {0}")]
+    /// 30: the first line, from 1, at which the input stops being a front of whole lines of a calls
+    /// text.
     Calls(u64),
     /// The reader failed.
-    #[error("read failed")]
     Read,
     /// The writer failed.
-    #[error("write failed after {written}")]
     Write {
         /// How many bytes of the text the writer took before its fault.
         written: u64,
     },
     /// The thread of a client was not started.
-    #[error("no thread")]
     Start,
     /// 40: the history of a domain had no room for the advance at the end.
-    #[error("book full")]
     Full,
     /// A growth was refused.
-    #[error("out of memory")]
     Memory,
 }
+
+impl Error for SessionFault {}
 
 impl From<AdmitFault> for SessionFault {
     ghost use Rattle.std.specs.Prelude.{◌≡◌};
@@ -115,20 +111,6 @@ impl SessionFault {
             SessionFault::Memory => 4,
         }
     }
-
-    /// What the program prints of it on standard error.
-    pub fn line(&self) -> FaultLine<'_>
-        ensures { result.fault.now ≡ self.now }
-    {
-        FaultLine { fault: self }
-    }
-}
-
-/// The line by which the program tells a fault: `dlsim: ` and its text, without an LF.
-#[derive(Clone, Copy)]
-pub struct FaultLine<'a> {
-    /// The fault that it tells.
-    pub fault: &'a SessionFault,
 }
 
 /// Writes a character of a key: a control character (below 0x20, or 0x7f) as `\u00` and its two digits, so that the line
@@ -155,34 +137,34 @@ fn write_key<W: fmt::Write>(f: &mut fmt::Formatter<W>, key: &str) -> fmt::Result
 
 /// Writes the fault of a scenario, with its key on one line.
 fn write_scenario<W: fmt::Write>(f: &mut fmt::Formatter<W>, fault: &ScenarioFault) -> fmt::Result
-    ensures { WritesOnOk W.write_str_gives f.old result (scenario_line fault.now) f.new }
+    ensures { WritesOnOk W.write_str_gives f.old result (scenario_text fault.now) f.new }
 {
     let number = fault.number();
     match fault {
         ScenarioFault::Unsupported(key) | ScenarioFault::Value(key) => {
-            write!(f, "dlsim: scenario {number} key ")?;
+            write!(f, "scenario {number} key ")?;
             write_key(f, key)
         }
-        _ => write!(f, "dlsim: scenario {number}"),
+        _ => write!(f, "scenario {number}"),
     }
 }
 
-impl fmt::Display for FaultLine<'_> {
+impl fmt::Display for SessionFault {
     ghost use Rattle.std.specs.Prelude.{Some};
-    ghost use Rattle.dl_session.specs.Lines.{fault_line};
+    ghost use Rattle.dl_session.specs.Lines.{fault_text};
 
-    ghost output = { λ line. Some (fault_line line.fault.now) };
+    ghost output = { λ fault. Some (fault_text fault) };
 
     fn fmt<W: fmt::Write>(&self, f: &mut fmt::Formatter<W>) -> fmt::Result {
-        match self.fault {
-            SessionFault::Json(fault) => write!(f, "dlsim: {fault}"),
+        match self {
+            SessionFault::Json(fault) => write!(f, "{fault}"),
             SessionFault::Scenario(fault) => write_scenario(f, fault),
-            SessionFault::Calls(line) => write!(f, "dlsim: calls 30 line {line}"),
-            SessionFault::Read => f.write_str("dlsim: read failed"),
-            SessionFault::Write { written } => write!(f, "dlsim: write failed after {written}"),
-            SessionFault::Start => f.write_str("dlsim: no thread"),
-            SessionFault::Full => f.write_str("dlsim: book full"),
-            SessionFault::Memory => f.write_str("dlsim: out of memory"),
+            SessionFault::Calls(line) => write!(f, "calls 30 line {line}"),
+            SessionFault::Read => f.write_str("read failed"),
+            SessionFault::Write { written } => write!(f, "write failed after {written}"),
+            SessionFault::Start => f.write_str("no thread"),
+            SessionFault::Full => f.write_str("book full"),
+            SessionFault::Memory => f.write_str("out of memory"),
         }
     }
 }

@@ -25,7 +25,7 @@ mod words;
 
 pub use admitting::admit_all;
 pub use ending::Ending;
-pub use fault::{FaultLine, RefusedLine, SessionFault};
+pub use fault::{RefusedLine, SessionFault};
 pub use replaying::replay;
 pub use running::run;
 pub use session::{

@@ -1,5 +1,5 @@
 -- The tasks that run in the middle of a tick.
-use Rattle.std.proofs.Common.{◌≡◌, ℕ, zero, suc, ◌*◌, ◌^◌, ◌<◌, ◌≤◌, eqb, Some, None, [], ◌∷◌, length, refl, sym, ap, subst, ◌∙◌, arith}
+use Rattle.std.proofs.Common.{◌≡◌, ℕ, zero, suc, ◌*◌, ◌^◌, ◌<◌, ◌≤◌, eqb, Some, None, [], ◌∷◌, length, refl, sym, ap, subst, ◌∙◌, arith, List}
 use Rattle.std.specs.Prelude.{pos, ◌<ℤ◌, ◌≤ℤ◌, Any, IsTrue, find, slice_get, option_map}
 use Rattle.std.proofs.Math.Nat.{mul-le-mul}
 use Rattle.attr_check.specs.Ratio.{cap}
@@ -63,8 +63,8 @@ runner e i n steady placed at =
         }
 
 -- what is inactive on a CPU is within the cap
-pub inactive_short : (e : Domain) (cpu : ℕ) → IsSteady e → uinact cpu (shares e.tasks) ≤ 2 ^ 26
-inactive_short e cpu steady =
+pub inactive_short : {e : Domain} → (cpu : ℕ) → IsSteady e → uinact cpu (shares e.tasks) ≤ 2 ^ 26
+inactive_short {e} cpu steady =
     let most : cap e.cpus e.limit ≤ 64 * 1048576 = mul-le-mul steady.cpus.1 steady.limit.1 in
     omega (arith, uinact-le-total_bw cpu (shares e.tasks), steady.within, most)
 
@@ -90,6 +90,13 @@ found_running e i n t steady placed at found =
       high = subst (λ (x : Task). x.server.left ≤ℤ pos (2 ^ 52)) same r.high;
     }
 
+-- the same where a domain is known as what was begun with, and its running numbers as what is kept of them
+pub found_now : {e d : Domain} {held : List ℕ} {i n : ℕ} {t : Task} → e ≡ d → IsSteady e → IsPlacement d
+    → held ≡ running_numbers e.curr → Some n ≡ slice_get held i → Some t ≡ find (λ u. eqb u.number n) e.tasks
+    → IsRunning e i t
+found_now {e} {d} {held} {i} {n} {t} same steady placed kept at found =
+    found_running e i n t steady (subst IsPlacement (sym same) placed) (subst (λ (ns : List ℕ). Some n ≡ slice_get ns i) kept at) found
+
 pub never_lost : (e : Domain) (i n : ℕ) → IsSteady e → IsPlacement e → Some n ≡ slice_get (running_numbers e.curr) i → None ≡ find (λ u. eqb u.number n) e.tasks → ⊥
 never_lost e i n steady placed at lost =
     let r = runner e i n steady placed (sym at) in
@@ -98,3 +105,11 @@ never_lost e i n steady placed at lost =
 
 pub standing_short : (e : Domain) → IsSteady e → length (running_numbers e.curr) ≤ 64
 standing_short e steady = omega (arith, standing_few e.curr, steady.wide, steady.cpus.1)
+
+pub few_now : {e d : Domain} → e ≡ d → IsSteady e → length (running_numbers d.curr) ≤ 64
+few_now {e} {d} same steady = subst (λ (x : Domain). length (running_numbers x.curr) ≤ 64) same (standing_short e steady)
+
+pub lost_now : {e d : Domain} {held : List ℕ} {n : ℕ} → (i : ℕ) → e ≡ d → IsSteady e → IsPlacement d
+    → held ≡ running_numbers e.curr → Some n ≡ slice_get held i → None ≡ find (λ u. eqb u.number n) e.tasks → ⊥
+lost_now {e} {d} {held} {n} i same steady placed kept at lost =
+    never_lost e i n steady (subst IsPlacement (sym same) placed) (subst (λ (ns : List ℕ). Some n ≡ slice_get ns i) kept at) lost

@@ -69,6 +69,7 @@ fn act(task: &mut Task, time: u64, change: &Change)
     ensures task { task.new ≡ after_change time change.now task.old }
     ensures sound { IsSound time task.new }
 {
+    // For the prover alone: the call brings what the type of parameters keeps.
     let _bw = task.params.bandwidth();
     match change {
         Change::Replenish => parts::replenish_due(task, time),

@@ -77,6 +77,7 @@ fn plan<R: Threads + Wait, G: Turn>(crew: &Crew<'_, R, G>, plans: &mut [Plan])
 {
     if plan_all(crew.rt, crew.alloc, plans, crew.workers, crew.turn).is_err() {
         let alone = plan_all(crew.rt, crew.alloc, plans, 1, crew.turn).is_ok();
+        // In one piece nothing is started and no memory taken, so the answer is Ok.
         prove!(alone);
     }
 }
@@ -89,6 +90,7 @@ fn charge<R: Threads + Wait, G: Turn>(crew: &Crew<'_, R, G>, slices: &mut [Slice
 {
     if charge_all(crew.rt, crew.alloc, slices, crew.workers, crew.turn).is_err() {
         let alone = charge_all(crew.rt, crew.alloc, slices, 1, crew.turn).is_ok();
+        // In one piece nothing is started and no memory taken, so the answer is Ok.
         prove!(alone);
     }
 }

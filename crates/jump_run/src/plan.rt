@@ -39,6 +39,7 @@ fn ordered(params: &Params) -> Params
     ensures value { result ≡ params.now }
     ensures ordered { IsOrdered result }
 {
+    // For the prover alone: a look at a field brings what the type of parameters keeps.
     let _bw = params.bw;
     *params
 }

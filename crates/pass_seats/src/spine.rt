@@ -72,6 +72,7 @@ impl<E> Spine<E> {
           entries = pass.old.entries ++ entry.now ∷ [];
         } }
     {
+        // For the prover alone: the entry stands in the step that appends it, as a ghost.
         let _ = entry;
         let table = &self.table;
         let seat = mem::replace(&mut pass.badge, Badge::blank()).into_seat::<()>();

@@ -1,6 +1,6 @@
 //! Whole replays, between bytes in memory.
 
-use dl_session::{SessionFault, replay};
+use dl_session::{Ending, SessionFault, replay};
 use std::alloc::Global;
 use std::test::Fail;
 use switch_text::Counted;
@@ -24,12 +24,10 @@ const THROTTLED_TRACE: &[u8] = b"# tracer: nop
 const NINE_SECTIONS: &[u8] =
     b"dlcalls 1\ndomain 1 10485\ndomain 1 10485\ndomain 1 10485\ndomain 1 10485\ndomain 1 10485\ndomain 1 10485\ndomain 1 10485\ndomain 1 10485\ndomain 1 10485\n";
 
-/// What a replay says at its end: nothing, or how the program tells its fault.
+/// What the program says at the end of a replay: nothing, or the line of its fault, without its LF.
 fn told(alloc: Global, answer: Result<(), SessionFault>) -> Result<String, Fail> {
-    Ok(match answer {
-        Ok(()) => String::new(alloc),
-        Err(fault) => fault.line().to_string(alloc)?,
-    })
+    let said = Ending::of_replay(&answer).to_string(alloc)?;
+    Ok(String::from_str(alloc, said.trim_end())?)
 }
 
 /// Replays these bytes to a writer that takes all: what is said, and what was written.

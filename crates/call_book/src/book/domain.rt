@@ -6,6 +6,7 @@ ghost use Rattle.attr_check.specs.Ratio.{cap};
 ghost use Rattle.bw_gate.specs.Pieces.{cap_of};
 ghost use Rattle.domain_run.specs.declared.call.Call.TheVariants as Call;
 ghost use Rattle.domain_run.specs.Tick as tick;
+ghost use Rattle.domain_run.specs.Domain.{IsLimit};
 ghost use Rattle.domain_run.specs.Keys.{AreKept};
 ghost use Rattle.call_book.specs.Pieces.{HoldsTickets};
 ghost use Rattle.call_book.specs.private.Kept.{IsAsked};
@@ -160,7 +161,7 @@ impl Domain {
         history: usize,
     ) -> Result<(Domain, Vec<Pass>), NoMemory>
         requires cpus { (0 < cpus) × (cpus ≤ 64) }
-        requires limit { (10485 ≤ limit) × (limit ≤ 1048576) }
+        requires limit { IsLimit limit }
         requires cap { cap_of gate.now domain ≡ cap cpus limit }
         requires clients { clients ≤ 64 }
         requires history { (0 < history) × (history ≤ 65536) }

@@ -39,6 +39,7 @@ impl State {
         ensures room { IsTrue result ↔ (calls.regrade_reply self.now params.now None (calls.task_of self.now number) ≡ Reply.Changed) }
         ensures domain { IsDomain self.now }
     {
+        // For the prover alone: a look at the roster brings what its type keeps.
         let _ = &self.roster;
         self.regrade_reply(number, params, None) == Reply::Changed
     }

@@ -1,6 +1,7 @@
 //! What a state keeps from its opening on: the number of its CPUs, and the limit of its bandwidth.
 
 ghost use Rattle.std.specs.Prelude.{◌≡◌, ◌<◌, ◌≤◌};
+ghost use Rattle.domain_run.specs.Domain.{IsLimit};
 
 use super::State;
 
@@ -16,7 +17,7 @@ impl State {
     /// The limit with which the domain was opened: the bandwidth of each CPU that it may give away, 10485 to 1048576 in 1/2^20.
     pub fn limit(&self) -> u64
         ensures limit { result ≡ self.now.limit }
-        ensures within { (10485 ≤ result) × (result ≤ 1048576) }
+        ensures within { IsLimit result }
     {
         self.limit
     }

@@ -36,7 +36,7 @@ pub(super) fn said(alloc: Global, answer: &Result<Report, SessionFault>) -> Resu
                 write!(said, "task {number} {refusal}\n")?;
             }
         }
-        Err(fault) => write!(said, "{}", fault.line())?,
+        Err(fault) => write!(said, "dlsim: {fault}")?,
     }
     Ok(said)
 }
