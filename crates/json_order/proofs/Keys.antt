@@ -10,8 +10,7 @@ use Rattle.std.proofs.lemmas.Map.Text.{is_eq-slice_cmp}
 use Rattle.std.proofs.lemmas.List.{take_all, take_more}
 use Rattle.std.specs.declared.cmp.Ordering.{Ordering}
 use Rattle.std.specs.declared.cmp.Ordering.TheVariants.{Less, Equal, Greater}
-use Rattle.std.proofs.Common.{not, length, get_or, take, sym, ◌+◌, ℕ, ◌<◌, ◌≤◌, ◌≡◌, Bool, true, false, cond, ◌||◌, ◌&&◌, nat_lt, arith, List, [], ◌∷◌, ◌++◌, refl, ap, ◌∙◌}
-use Rattle.json_order.proofs.Strings.{lt_from, lt_to}
+use Rattle.std.proofs.Common.{length, get_or, take, sym, ◌+◌, ℕ, ◌≡◌, Bool, true, false, cond, ◌||◌, ◌&&◌, arith, List, [], ◌∷◌, ◌++◌, refl, ap, ◌∙◌}
 use Rattle.json_order.specs.Grammar.{has_key}
 use Rattle.json_order.specs.private.Entries.{keys_of, all_below, last_below}
 use Rattle.json_order.specs.declared.tree.Tree.{Tree}

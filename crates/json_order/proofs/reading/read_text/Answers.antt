@@ -1,13 +1,13 @@
 use Rattle.std.specs.Prelude.{encode_utf8_all}
 use Rattle.std.specs.Str.Iter.{chars_rest}
-use Rattle.std.proofs.Common.{◌≡◌, length, refl, sym, ap, ◌∙◌, subst, arith}
+use Rattle.std.proofs.Common.{◌≡◌, length, refl, sym, ap, subst, arith}
 use Rattle.json_order.specs.Fault.{IsFault}
 use Rattle.json_order.specs.private.AtOnce.{Stands}
 use Rattle.json_order.specs.private.Places.{place_of, frames_of, state_of}
 use Rattle.json_order.specs.Seen.{json_of}
 use Rattle.json_order.specs.declared.fault.JsonKind.TheVariants.{End}
 use Rattle.json_order.proofs.Bytes.{end_value, end_fault}
-use Rattle.json_order.proofs.Turns.{Told, fault_told, all_seen, stands_first, stands_more, stands_taken, stands_fine, left_length}
+use Rattle.json_order.proofs.Turns.{Told, fault_told, all_seen, stands_more, stands_taken, stands_fine, left_length}
 use Rattle.json_order.proofs.reading.read_text.Goals as goal
 
 pub returns-in-Err-turn-clause-fault : goal.returns-in-Err-turn-clause-fault
