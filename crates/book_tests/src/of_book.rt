@@ -248,7 +248,8 @@ fn regrade(rt: HostRuntime) -> Result<(), Fail> {
     Ok(())
 }
 
-// A task that has ended leaves the list at its zero-lag time, its bandwidth goes, and its blank is handed out.
+// A task that has ended leaves the list at its zero-lag time, its bandwidth goes, and its blank is
+// handed out.
 #[test]
 fn blank_is_kept(rt: HostRuntime) -> Result<(), Fail> {
     let mut desk = opened(&rt, rt.alloc(), 1048576, 9)?;
@@ -306,7 +307,8 @@ fn refused<R: Abort + Threads + Wait>(
     second
 }
 
-// refused_by_the_word: the domain's own test passes and the word's does not, since another client has the rest of it.
+// refused_by_the_word: the domain's own test passes and the word's does not, since another client
+// has the rest of it.
 #[test]
 fn refused_by_the_word(rt: HostRuntime) -> Result<(), Fail> {
     let mut desk = opened(&rt, rt.alloc(), 524288, 9)?;
@@ -318,7 +320,8 @@ fn refused_by_the_word(rt: HostRuntime) -> Result<(), Fail> {
     Ok(())
 }
 
-// Run with each allocation refused in turn: a book that was refused leaves nothing, and can be opened then.
+// Run with each allocation refused in turn: a book that was refused leaves nothing, and can be
+// opened then.
 #[test]
 fn refused_growth_of_open(rt: HostRuntime) -> Result<(), Fail> {
     let desk = match opened(&rt, rt.alloc(), 1048576, 9) {
@@ -349,7 +352,8 @@ fn prepared_of(alloc: Global, text: &[u8]) -> Option<Prepared> {
     shared::renumbered(alloc, &entry.call, 7)
 }
 
-// Run with each allocation refused in turn: an admission that was refused leaves nothing, and can be prepared then.
+// Run with each allocation refused in turn: an admission that was refused leaves nothing, and can
+// be prepared then.
 #[test]
 fn refused_growth_of_prepare(rt: HostRuntime) -> Result<(), Fail> {
     let text = b"dlcalls 1\ndomain 1 1048576\nadmit 1 1 a 2 5 5 - 0 -1:3{r1,s2}2{w}\n";
@@ -361,8 +365,8 @@ fn refused_growth_of_prepare(rt: HostRuntime) -> Result<(), Fail> {
     Ok(())
 }
 
-// full_domain_and_no_bandwidth: 500 of 1000 fills the domain, 2 of 100 is refused at the word and stands nowhere, and 2 us of 4 s,
-// which is no bandwidth, is admitted still.
+// full_domain_and_no_bandwidth: 500 of 1000 fills the domain, 2 of 100 is refused at the word and
+// stands nowhere, and 2 us of 4 s, which is no bandwidth, is admitted still.
 #[test]
 fn full_domain_and_no_bandwidth(rt: HostRuntime) -> Result<(), Fail> {
     let mut desk = opened(&rt, rt.alloc(), 524288, 9)?;
@@ -379,7 +383,8 @@ fn full_domain_and_no_bandwidth(rt: HostRuntime) -> Result<(), Fail> {
     Ok(())
 }
 
-// refused_then_given_back: two thirds of a CPU leave no room for as much again, until the task has left and its bandwidth is back.
+// refused_then_given_back: two thirds of a CPU leave no room for as much again, until the task has
+// left and its bandwidth is back.
 #[test]
 fn refused_then_given_back(rt: HostRuntime) -> Result<(), Fail> {
     let mut desk = opened_with(&rt, rt.alloc(), 1, 1048576, 9, 2)?;

@@ -66,8 +66,8 @@ fn empty_and_bare_texts(rt: HostRuntime) -> Result<(), Fail> {
     Ok(())
 }
 
-/// The length of the first front of a text with another bad line than its last: an unfinished line is bad, and whole lines
-/// of a section are a text.
+/// The length of the first front of a text with another bad line than its last: an unfinished line
+/// is bad, and whole lines of a section are a text.
 fn first_wrong_front(alloc: Global, text: &[u8]) -> Result<Option<usize>, CallsFault> {
     let mut lines: u64 = 0;
     for (i, b) in text.iter().enumerate() {

@@ -60,7 +60,8 @@ pub record IsUnread (s : Streams) : Type 0 where
 pub record IsCutOff (s : Streams) (written : ℕ) : Type 0 where
   pub sections : List SectionView
   pub input : AreSpelled s sections
-  pub taken : TakesFront s.writer.before.bytes s.writer.after.bytes (trace_of_sections sections) written
+  pub taken : TakesFront s.writer.before.bytes s.writer.after.bytes
+      (trace_of_sections sections) written
   pub reads : HasNoFault s.reader
   pub writes : HasOneFault s.writer
 

@@ -17,7 +17,8 @@ pub enum TraceFault {
     Memory,
 }
 
-/// Why a replay ended without its trace. Where it is not [`ReplayFault::Write`], nothing was written.
+/// Why a replay ended without its trace. Where it is not [`ReplayFault::Write`], nothing was
+/// written.
 #[derive(Clone, Copy, Debug, PartialEq, Eq, Error)]
 pub enum ReplayFault {
     /// 30: the first line, from 1, at which the input stops being a front of whole lines of a calls

@@ -2,12 +2,12 @@
 //!
 //! [`replay`] reads recorded calls and writes their trace. It meets the definition of what a replay
 //! answers (`specs/Answer.antt`), over the trace of the sections that a calls text spells
-//! (`specs/Replay.antt`). [`write_run_trace`] writes the trace of histories whose states are at hand
-//! (`specs/Written.antt`); nothing is run again. To the crate above they
-//! promise: `Ok` means that what was written is the trace of the runs of the sections, each on a
-//! domain of its own, and nothing else; each fault means what it says, and where it is no fault of
-//! the writer, nothing was written. `proofs/CallerLemmas.antt` has laws for callers: the calls text
-//! of histories is read again, and its replay writes the same trace.
+//! (`specs/Replay.antt`). [`write_run_trace`] writes the trace of histories whose states are at
+//! hand (`specs/Written.antt`); nothing is run again. To the crate above they promise: `Ok` means
+//! that what was written is the trace of the runs of the sections, each on a domain of its own, and
+//! nothing else; each fault means what it says, and where it is no fault of the writer, nothing was
+//! written. `proofs/CallerLemmas.antt` has laws for callers: the calls text of histories is read
+//! again, and its replay writes the same trace.
 #![tactic(auto)]
 
 mod fault;

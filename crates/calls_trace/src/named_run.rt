@@ -1,6 +1,6 @@
 //! The run of the calls of a section.
 
-ghost use Rattle.std.specs.Prelude.{◌≡◌, ◌<◌, ◌≤◌, ◌+◌, ◌^◌, OnOk, IfErr, IfOk, All, vec_len};
+ghost use Rattle.std.specs.Prelude.{◌≡◌, ◌<◌, ◌≤◌, ◌+◌, ◌^◌, OnOk, IfOk, All, vec_len};
 ghost use Rattle.std.specs.String.{string_bytes};
 ghost use Rattle.domain_run.specs.NameView.{IsName};
 ghost use Rattle.domain_run.specs.declared.call.Call.TheVariants as Call;
@@ -79,7 +79,8 @@ impl RunWithNames {
         ensures state { let call = Call.Admit number name params delay script in
             OnOk result (self.new.state ≡ after_call self.old.state call) }
         ensures names { let call = Call.Admit number name params delay script in
-            OnOk result (Gives self.new.names (names_after self.old.state call (named self.old.names))) }
+            OnOk result (Gives self.new.names
+            (names_after self.old.state call (named self.old.names))) }
         ensures named { OnOk result (AreNamed self.new.state self.new.names) }
         ensures time { OnOk result (self.new.state.time ≡ self.old.state.time) }
     {
@@ -96,7 +97,8 @@ impl RunWithNames {
         requires early { self.old.state.time + 60000000 ≤ 2 ^ 42 }
         requires named { AreNamed self.old.state self.old.names }
         ensures state { OnOk result (self.new.state ≡ after_call self.old.state call) }
-        ensures names { OnOk result (Gives self.new.names (names_after self.old.state call (named self.old.names))) }
+        ensures names { OnOk result (Gives self.new.names
+            (names_after self.old.state call (named self.old.names))) }
         ensures named { OnOk result (AreNamed self.new.state self.new.names) }
         ensures time { OnOk result (self.new.state.time ≤ self.old.state.time + 60000000) }
     {
@@ -206,7 +208,8 @@ fn names_given(alloc: Global, entries: &[Entry]) -> Result<IndexMap<u32, String>
     Ok(names)
 }
 
-/// The run that a history led to, which is not made again: its state, and the names that its replies tell.
+/// The run that a history led to, which is not made again: its state, and the names that its
+/// replies tell.
 pub(crate) fn recorded(
     alloc: Global,
     history: &Section,

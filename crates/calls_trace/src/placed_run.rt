@@ -1,6 +1,6 @@
 //! The runs of several domains on the CPUs of one machine.
 
-ghost use Rattle.std.specs.Prelude.{◌≡◌, ◌≤◌, All, IfOk, IfErr, length, map};
+ghost use Rattle.std.specs.Prelude.{◌≡◌, ◌≤◌, All, IfOk, length, map};
 ghost use Rattle.call_book.specs.Limits.{IsSection};
 ghost use Rattle.call_book.specs.Histories.{AreLegal, AreRuns};
 ghost use Rattle.calls_trace.specs.Replay.{runs_from};
@@ -20,8 +20,8 @@ pub(crate) struct PlacedRun {
     pub(crate) run: RunWithNames,
 }
 
-/// The runs of sections, each on a domain of its own: the first has the first CPUs of the machine, the second the next ones, and
-/// so on.
+/// The runs of sections, each on a domain of its own: the first has the first CPUs of the machine,
+/// the second the next ones, and so on.
 pub(crate) fn run_sections(
     alloc: Global,
     sections: Vec<Section>,
@@ -44,7 +44,8 @@ pub(crate) fn run_sections(
     Ok(runs)
 }
 
-/// The runs that histories led to, each on a domain of its own, with these states; nothing is run again.
+/// The runs that histories led to, each on a domain of its own, with these states; nothing is run
+/// again.
 pub(crate) fn place_runs(
     alloc: Global,
     histories: &[Section],

@@ -12,15 +12,18 @@ use std::alloc::Global;
 use std::io::{Read, Write};
 use switch_text::{Counted, ReadFault};
 
-/// Reads a calls text to its end, runs the calls of each of its 1 to 8 sections on a domain of its own, and writes one trace of
-/// all domains, by time and CPU of the machine: the first domain has the first CPUs of the machine, the second the next ones.
+/// Reads a calls text to its end, runs the calls of each of its 1 to 8 sections on a domain of its
+/// own, and writes one trace of all domains, by time and CPU of the machine: the first domain has
+/// the first CPUs of the machine, the second the next ones.
 ///
-/// `Ok`: the input spells sections, and what was written is the trace of their run, and nothing else.
+/// `Ok`: the input spells sections, and what was written is the trace of their run, and nothing
+/// else.
 ///
 /// # Errors
-/// [`ReplayFault::Calls`] with the first bad line of the input, [`ReplayFault::Read`] where the reader failed,
-/// [`ReplayFault::Memory`] where a growth was refused: nothing was written. [`ReplayFault::Write`] where the writer failed: it
-/// took exactly so many bytes, the front of the trace, and not all.
+/// [`ReplayFault::Calls`] with the first bad line of the input, [`ReplayFault::Read`] where the
+/// reader failed, [`ReplayFault::Memory`] where a growth was refused: nothing was written.
+/// [`ReplayFault::Write`] where the writer failed: it took exactly so many bytes, the front of the
+/// trace, and not all.
 pub fn replay<R: Read, W: Write>(
     alloc: Global,
     reader: &mut Counted<R>,
@@ -29,9 +32,11 @@ pub fn replay<R: Read, W: Write>(
     requires reader { faults_of reader.old < 2 ^ 63 }
     requires writer { faults_of writer.old < 2 ^ 63 }
     ensures ok { OnOk result
-        (IsAnswered (streams (side R.remaining reader.old reader.new) (side W.contents writer.old writer.new))) }
+        (IsAnswered (streams (side R.remaining reader.old reader.new)
+        (side W.contents writer.old writer.new))) }
     ensures err { IfErr result
-        (IsFaultOf (streams (side R.remaining reader.old reader.new) (side W.contents writer.old writer.new))) }
+        (IsFaultOf (streams (side R.remaining reader.old reader.new)
+        (side W.contents writer.old writer.new))) }
 {
     let text = match reader.read_all(alloc) {
         Ok(text) => text,

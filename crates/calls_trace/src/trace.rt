@@ -43,7 +43,8 @@ fn all_as_written(alloc: Global, placed: &[PlacedRun]) -> Result<Vec<Run<'_>>, N
     Ok(written)
 }
 
-// Room for the texts of tasks: in memory, whose want is told, and not on the stack, whose want is not.
+// Room for the texts of tasks: in memory, whose want is told, and not on the stack, whose want is
+// not.
 fn room_in(alloc: Global) -> Result<TraceRoom, NoMemory> {
     TraceRoom::open(alloc).map_err(|_| NoMemory)
 }
@@ -51,8 +52,8 @@ fn room_in(alloc: Global) -> Result<TraceRoom, NoMemory> {
 /// Writes the runs of 1 to 8 domains as one trace, by time and CPU of the machine.
 ///
 /// # Errors
-/// [`TraceFault::Memory`]: a growth was refused, and nothing was written. [`TraceFault::Write`]: the writer failed; it took
-/// exactly so many bytes, the front of the trace, and not all.
+/// [`TraceFault::Memory`]: a growth was refused, and nothing was written. [`TraceFault::Write`]:
+/// the writer failed; it took exactly so many bytes, the front of the trace, and not all.
 pub(crate) fn write_runs<W: Write>(
     alloc: Global,
     placed: &[PlacedRun],
@@ -76,12 +77,13 @@ pub(crate) fn write_runs<W: Write>(
     }
 }
 
-/// Writes the trace of 1 to 8 histories that led to these states, by time and CPU of the machine: the
-/// first domain has the first CPUs of the machine, the second the next ones. Nothing is run again.
+/// Writes the trace of 1 to 8 histories that led to these states, by time and CPU of the machine:
+/// the first domain has the first CPUs of the machine, the second the next ones. Nothing is run
+/// again.
 ///
 /// # Errors
-/// [`TraceFault::Memory`]: a growth was refused, and nothing was written. [`TraceFault::Write`]: the
-/// writer failed; it took exactly so many bytes, the front of the trace, and not all.
+/// [`TraceFault::Memory`]: a growth was refused, and nothing was written. [`TraceFault::Write`]:
+/// the writer failed; it took exactly so many bytes, the front of the trace, and not all.
 pub fn write_run_trace<W: Write>(
     alloc: Global,
     histories: &[Section],

@@ -10,7 +10,8 @@ inner_of c = c.inner
 abbrev pub faults_of : {T : Type 0} → Counted T → ℕ
 faults_of c = c.faults
 
--- at one moment: the bytes that a reader has left, or that a writer holds, where it tells them; and its faults so far
+-- at one moment: the bytes that a reader has left, or that a writer holds, where it tells them; and
+-- its faults so far
 pub record Moment : Type 0 where
   pub bytes : Option (List ℕ)
   pub faults : ℕ

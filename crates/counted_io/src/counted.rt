@@ -14,10 +14,11 @@ const READS: u64 = 1 << 32;
 
 /// A reader or a writer, and how many of its calls failed (own).
 ///
-/// Every call goes to the reader or writer once and takes its answer as it is: no error is tried again, also not
-/// `Interrupted`. Nobody else reaches the reader or writer meanwhile, and nothing but a call that failed is counted. What the
-/// contracts say of bytes holds where the reader or writer tells its bytes (a slice, a `Cursor`, a queue, a `Vec`); of a file,
-/// a pipe or a terminal they claim nothing.
+/// Every call goes to the reader or writer once and takes its answer as it is: no error is tried
+/// again, also not `Interrupted`. Nobody else reaches the reader or writer meanwhile, and nothing
+/// but a call that failed is counted. What the contracts say of bytes holds where the reader or
+/// writer tells its bytes (a slice, a `Cursor`, a queue, a `Vec`); of a file, a pipe or a terminal
+/// they claim nothing.
 #[derive(Drop)]
 pub struct Counted<T> {
     inner: T,
@@ -33,8 +34,8 @@ impl<T> Counted<T> {
         Counted { inner, faults: 0 }
     }
 
-    /// How many calls failed so far: reads and writes that answered an error, writes that took 0 bytes, and each
-    /// [`Counted::read_all`] that met no end.
+    /// How many calls failed so far: reads and writes that answered an error, writes that took 0
+    /// bytes, and each [`Counted::read_all`] that met no end.
     pub fn faults(&self) -> u64
         ensures { result ≡ faults_of self.now }
     {
@@ -50,16 +51,19 @@ impl<T> Counted<T> {
 }
 
 impl<R: Read> Counted<R> {
-    /// Reads once, into the front of the buffer: how many bytes came, 0 at the end and where the buffer has no room.
-    /// `None` is a fault: the reader answered an error, of any kind, and gave nothing. Takes no memory.
+    /// Reads once, into the front of the buffer: how many bytes came, 0 at the end and where the
+    /// buffer has no room. `None` is a fault: the reader answered an error, of any kind, and gave
+    /// nothing. Takes no memory.
     pub fn read(&mut self, buf: &mut [u8]) -> Option<usize>
         requires { faults_of self.old < 2 ^ 63 }
         ensures count { IfSome result (λ n. n ≤ length buf.new) }
         ensures given { IfSome result (λ n.
-            Consumes (R.remaining (inner_of self.old)) (R.remaining (inner_of self.new)) (take n buf.new)) }
+            Consumes (R.remaining (inner_of self.old)) (R.remaining (inner_of self.new))
+            (take n buf.new)) }
         ensures end { IfSome result (λ n.
             n ≡ 0 → 0 < length buf.new → IsAtEnd (R.remaining (inner_of self.new))) }
-        ensures kept { IfNone result (Keeps (R.remaining (inner_of self.old)) (R.remaining (inner_of self.new))) }
+        ensures kept { IfNone result
+            (Keeps (R.remaining (inner_of self.old)) (R.remaining (inner_of self.new))) }
         ensures faults { faults_of self.new ≡ one_more_unless (is_some result) (faults_of self.old) }
     {
         match self.inner.read(buf) {
@@ -74,9 +78,9 @@ impl<R: Read> Counted<R> {
     /// Reads to the end: all bytes that were left.
     ///
     /// # Errors
-    /// [`ReadFault::Failed`] where a read is a fault, or 2^32 reads met no end; both count as one fault.
-    /// [`ReadFault::Memory`] where a growth was refused, which is no fault of the reader. After an error the bytes read so far
-    /// are gone.
+    /// [`ReadFault::Failed`] where a read is a fault, or 2^32 reads met no end; both count as one
+    /// fault. [`ReadFault::Memory`] where a growth was refused, which is no fault of the reader.
+    /// After an error the bytes read so far are gone.
     pub fn read_all(&mut self, alloc: Global) -> Result<Vec<u8>, ReadFault>
         requires { faults_of self.old < 2 ^ 63 }
         ensures all { IfOk result (λ v. IfSome (R.remaining (inner_of self.old)) (λ bytes. v.items ≡ bytes)) }
@@ -106,15 +110,17 @@ impl<R: Read> Counted<R> {
 }
 
 impl<W: Write> Counted<W> {
-    /// Writes once, at least one byte: how many of the bytes the writer took, from their front; at least one. `None` is a fault:
-    /// the writer answered an error, of any kind, or took 0 bytes, and took nothing. Takes no memory.
+    /// Writes once, at least one byte: how many of the bytes the writer took, from their front; at
+    /// least one. `None` is a fault: the writer answered an error, of any kind, or took 0 bytes,
+    /// and took nothing. Takes no memory.
     pub fn write(&mut self, bytes: &[u8]) -> Option<usize>
         requires some { 0 < length bytes.now }
         requires faults { faults_of self.old < 2 ^ 63 }
         ensures count { IfSome result (λ n. (0 < n) × (n ≤ length bytes.now)) }
         ensures taken { IfSome result (λ n.
             Appends (W.contents (inner_of self.old)) (W.contents (inner_of self.new)) (take n bytes.now)) }
-        ensures kept { IfNone result (Keeps (W.contents (inner_of self.old)) (W.contents (inner_of self.new))) }
+        ensures kept { IfNone result
+            (Keeps (W.contents (inner_of self.old)) (W.contents (inner_of self.new))) }
         ensures faults { faults_of self.new ≡ one_more_unless (is_some result) (faults_of self.old) }
     {
         match self.inner.write(bytes) {
@@ -126,17 +132,19 @@ impl<W: Write> Counted<W> {
         }
     }
 
-    /// Writes until all bytes are taken; where there are none, the writer is not called. Takes no memory.
+    /// Writes until all bytes are taken; where there are none, the writer is not called. Takes no
+    /// memory.
     ///
     /// # Errors
-    /// At the writer's first fault, which is counted: how many bytes it took before, from the front of
-    /// these, and not all.
+    /// At the writer's first fault, which is counted: how many bytes it took before, from the front
+    /// of these, and not all.
     pub fn write_all(&mut self, bytes: &[u8]) -> Result<(), usize>
         requires { faults_of self.old < 2 ^ 63 }
         ensures ok { OnOk result
             (Appends (W.contents (inner_of self.old)) (W.contents (inner_of self.new)) bytes.now) }
         ensures err { IfErr result
-            (TakesFront (W.contents (inner_of self.old)) (W.contents (inner_of self.new)) bytes.now) }
+            (TakesFront (W.contents (inner_of self.old))
+            (W.contents (inner_of self.new)) bytes.now) }
         ensures empty { length bytes.now ≡ 0 → self.new ≡ self.old }
         ensures faults { faults_of self.new ≡ one_more_unless (is_ok result) (faults_of self.old) }
     {

@@ -2,8 +2,9 @@
 //!
 //! Meets the definitions of a reader or a writer as calls meet it (`specs/Sides.antt`) and of how
 //! faults are counted (`specs/Faults.antt`). To the crates above it promises that [`Counted`] tells
-//! faults from success and counts each once, that [`Counted::read_all`] gives all bytes that a reader
-//! had left, and that [`Counted::write_all`] writes all, or tells exactly how many bytes were taken.
+//! faults from success and counts each once, that [`Counted::read_all`] gives all bytes that a
+//! reader had left, and that [`Counted::write_all`] writes all, or tells exactly how many bytes
+//! were taken.
 #![tactic(auto)]
 
 mod counted;

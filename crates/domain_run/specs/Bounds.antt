@@ -1,5 +1,5 @@
--- What the machine's numbers need: ranges in which 64 bits, and 128 for a budget, hold every number that is formed. No rule of a
--- domain speaks of them; a domain keeps them by itself.
+-- What the machine's numbers need: ranges in which 64 bits, and 128 for a budget, hold every number
+-- that is formed. No rule of a domain speaks of them; a domain keeps them by itself.
 use Rattle.std.specs.Prelude.{ℕ, ◌≤◌, ◌<◌, ◌^◌, ◌+◌, ◌≤ℤ◌, pos, neg_ℤ, IfSome}
 use Rattle.cbs_rules.specs.declared.server.Server.{Server}
 
@@ -7,7 +7,8 @@ use Rattle.cbs_rules.specs.declared.server.Server.{Server}
 abbrev pub IsEarly : ℕ → Type 0
 IsEarly time = time ≤ 2 ^ 42
 
--- a deadline: a budget of at least -2^32 is above 0 after 2^12 + 1 postponements of at least 2^20, each of at most 2^32 us
+-- a deadline: a budget of at least -2^32 is above 0 after 2^12 + 1 postponements of at least 2^20,
+-- each of at most 2^32 us
 abbrev pub IsNear : ℕ → ℕ → Type 0
 IsNear time deadline = deadline ≤ time + 2 ^ 45
 
@@ -15,7 +16,8 @@ IsNear time deadline = deadline ≤ time + 2 ^ 45
 abbrev pub IsSoon : ℕ → Type 0
 IsSoon time = time < 2 ^ 49
 
--- a server. What is left was above 0 before a tick took at most 2^32 of it, and is at most one budget: 2^32 us of 2^20 each
+-- a server. What is left was above 0 before a tick took at most 2^32 of it, and is at most one
+-- budget: 2^32 us of 2^20 each
 pub record IsServed (time : ℕ) (s : Server) : Type 0 where
   pub near : IfSome s.deadline (IsNear time)
   pub low : neg_ℤ (pos (2 ^ 32)) ≤ℤ s.left

@@ -1,4 +1,5 @@
--- What a refusal for want of bandwidth tells (EBUSY of sched_setattr(2)): why the bandwidth did not fit.
+-- What a refusal for want of bandwidth tells (EBUSY of sched_setattr(2)): why the bandwidth did not
+-- fit.
 use Rattle.std.specs.Prelude.{ℕ, ◌+◌, ◌-◌, ◌≤◌, ◌<◌, IsSomeAnd}
 use Rattle.attr_check.specs.Ratio.{cap}
 use Rattle.domain_run.specs.declared.call.Reply.{Reply}
@@ -24,7 +25,8 @@ pub record LacksRoomFor (d : Domain) (bw seen : ℕ) : Type 0 where
   pub within : seen ≤ cap d.cpus d.limit
   pub above : cap d.cpus d.limit < seen + bw
 
--- a sum within the domain's cap, and above it with a bandwidth in place of that of the task of a number
+-- a sum within the domain's cap, and above it with a bandwidth in place of that of the task of a
+-- number
 pub record LacksRoomToChange (d : Domain) (number bw seen : ℕ) : Type 0 where
   pub within : seen ≤ cap d.cpus d.limit
   pub above : IsSomeAnd (task_of d number) (λ t. cap d.cpus d.limit < seen - t.params.bw + bw)

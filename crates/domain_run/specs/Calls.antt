@@ -1,4 +1,5 @@
--- The calls on a domain, made between two ticks: replies and effects (own; the errors of sched_setattr(2)).
+-- The calls on a domain, made between two ticks: replies and effects (own; the errors of
+-- sched_setattr(2)).
 use Rattle.std.specs.Prelude.{ℕ, ◌+◌, ◌-◌, ◌%◌, ◌==◌, Bool, true, false, not, ◌&&◌, nat_lt, nat_le, if◌then◌else◌, List, [], ◌∷◌, ◌++◌, length, map, find, Option, Some, None, pos}
 use Rattle.std.specs.List.{list_any}
 use Rattle.attr_check.specs.ParamsView.{ParamsView}
@@ -16,7 +17,8 @@ use Rattle.domain_run.specs.Parts.{stopped}
 use Rattle.domain_run.specs.Domain.{Domain}
 use Rattle.domain_run.specs.Tick.{sum_of, ticks}
 
--- ADMIT. The tests in their order: 256 tasks are listed; the number was admitted before; the bandwidth does not fit
+-- ADMIT. The tests in their order: 256 tasks are listed; the number was admitted before; the
+-- bandwidth does not fit
 abbrev pub admit_reply : Domain → ℕ → ParamsView → Reply
 admit_reply d number params =
     if nat_le 256 (length d.tasks) then Full
@@ -24,7 +26,8 @@ admit_reply d number params =
     else (if nat_lt (cap d.cpus d.limit) (sum_of d.tasks + params.bw) then Busy (sum_of d.tasks)
     else Admitted))
 
--- a new task is blocked until its start, without deadline and budget; before its first placement it belongs to CPU number mod M
+-- a new task is blocked until its start, without deadline and budget; before its first placement it
+-- belongs to CPU number mod M
 abbrev pub new_task : Domain → ℕ → List ℕ → ParamsView → ℕ → ScriptView → Task
 new_task d number name params delay script = record {
   number = number;
@@ -65,14 +68,15 @@ word_reply (Some s) = Busy s
 abbrev pub regrade_reply : Domain → ParamsView → Option ℕ → Option Task → Reply
 regrade_reply d params word None = NotListed
 regrade_reply d params word (Some t) =
-    if nat_lt (cap d.cpus d.limit) (sum_of d.tasks - t.params.bw + params.bw) then Busy (sum_of d.tasks) else word_reply word
+    if nat_lt (cap d.cpus d.limit) (sum_of d.tasks - t.params.bw + params.bw)
+    then Busy (sum_of d.tasks) else word_reply word
 
 -- the new parameters hold at once; deadline, budget and an armed zero-lag time stay
 abbrev pub regraded : ParamsView → Task → Task
 regraded params t = record t { params = params }
 
--- WAKE. A task that waits is released: its time of blocking is over, so it asks its script in the next tick. It wakes there,
--- where the script has it run
+-- WAKE. A task that waits is released: its time of blocking is over, so it asks its script in the
+-- next tick. It wakes there, where the script has it run
 abbrev pub wake_reply : Option Task → Reply
 wake_reply None = NotListed
 wake_reply (Some t) = if is_waiting t.condition then Woken else NotWaiting
@@ -86,7 +90,8 @@ leave_reply None = NotListed
 leave_reply (Some t) = Left
 
 abbrev pub ended : ℕ → Task → Task
-ended time t = if is_contending t.condition then stopped time Leaving t else record t { condition = Leaving }
+ended time t =
+    if is_contending t.condition then stopped time Leaving t else record t { condition = Leaving }
 
 -- the reply to a call
 abbrev pub reply_to : Domain → Call → Reply
@@ -106,7 +111,8 @@ is_refusal _ = true
 
 -- what a call does where it is not refused
 abbrev pub granted : Domain → Call → Domain
-granted d (Admit number name params delay script) = listed d (new_task d number name params delay script)
+granted d (Admit number name params delay script) =
+    listed d (new_task d number name params delay script)
 granted d (Regrade number params word) = changed d number (regraded params)
 granted d (Wake number) = changed d number (released d.time)
 granted d (Leave number) = changed d number (ended d.time)

@@ -29,4 +29,13 @@ pub record Domain : Type 0 where
 
 -- nothing has happened yet
 abbrev pub opened : ℕ → ℕ → Domain
-opened cpus limit = record { cpus = cpus; limit = limit; time = 0; tasks = []; used = []; curr = replicate cpus None; switches = [] }
+opened cpus limit =
+    record {
+      cpus = cpus;
+      limit = limit;
+      time = 0;
+      tasks = [];
+      used = [];
+      curr = replicate cpus None;
+      switches = [];
+    }

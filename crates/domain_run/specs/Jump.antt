@@ -30,7 +30,14 @@ running_numbers places = filter_map (λ (occupant : Option ℕ). occupant) place
 
 -- what the rate of a running task depends on, and for how long it may run
 abbrev pub running_of : Domain → Task → Running
-running_of d t = record { number = t.number; params = t.params; uinact = uinact t.cpu (shares d.tasks); left = t.server.left; work = t.work }
+running_of d t =
+    record {
+      number = t.number;
+      params = t.params;
+      uinact = uinact t.cpu (shares d.tasks);
+      left = t.server.left;
+      work = t.work;
+    }
 
 abbrev pub running_if : Domain → Option ℕ → Option Running
 running_if d None = None
@@ -40,8 +47,8 @@ running_if d (Some number) = option_map (running_of d) (find (λ t. t.number == 
 abbrev pub running : Domain → ℕ → Option Running
 running d i = running_if d (slice_get (running_numbers d.curr) i)
 
--- EVENTS. When parts 1 to 3 have something to do to a task: it is replenished, its zero-lag time comes, it asks its script, or it
--- goes off the list, which is at once
+-- EVENTS. When parts 1 to 3 have something to do to a task: it is replenished, its zero-lag time
+-- comes, it asks its script, or it goes off the list, which is at once
 abbrev pub replenished_at : Task → Option ℕ
 replenished_at t = if is_throttled t.condition then t.server.deadline else None
 
@@ -62,14 +69,17 @@ ticks_to time (Some u) = u - time
 
 -- the ticks from a time to the first of these
 abbrev pub ticks_to_due_of : ℕ → Task → ℕ
-ticks_to_due_of time t = min (min (ticks_to time (replenished_at t)) (ticks_to time t.zero_lag)) (min (ticks_to time (asks_at t.condition)) (ticks_to time (gone_at t)))
+ticks_to_due_of time t =
+    min (min (ticks_to time (replenished_at t)) (ticks_to time t.zero_lag))
+    (min (ticks_to time (asks_at t.condition)) (ticks_to time (gone_at t)))
 
 -- to the first of all tasks
 abbrev pub ticks_to_due : ℕ → List Task → ℕ
 ticks_to_due time [] = 2 ^ 42 - 1
 ticks_to_due time (t ∷ tasks) = min (ticks_to_due_of time t) (ticks_to_due time tasks)
 
--- from the beginning of the tick under way to the next tick in which parts 1 to 3 have something to do, 2^42 where there is none
+-- from the beginning of the tick under way to the next tick in which parts 1 to 3 have something to
+-- do, 2^42 where there is none
 abbrev pub ticks_to_event : Domain → ℕ
 ticks_to_event d = 1 + ticks_to_due d.time d.tasks
 
@@ -77,7 +87,8 @@ ticks_to_event d = 1 + ticks_to_due d.time d.tasks
 abbrev pub rate_for : Domain → Running → ℕ
 rate_for d r = reclaiming.rate r.params r.uinact (sum_of d.tasks) d.cpus d.limit
 
--- what is left of a budget after so many ticks at that rate: no work ends before the last of them, nor is a budget spent
+-- what is left of a budget after so many ticks at that rate: no work ends before the last of them,
+-- nor is a budget spent
 pub record IsCharged (d : Domain) (ticks : ℕ) (r : Running) (left : ℤ) : Type 0 where
   pub worked : ticks ≤ r.work
   pub lasted : pos (rate_for d r * (ticks - 1)) <ℤ r.left
@@ -86,4 +97,5 @@ pub record IsCharged (d : Domain) (ticks : ℕ) (r : Running) (left : ℤ) : Typ
 -- of each running task, by CPU
 pub record AreCharged (d : Domain) (ticks : ℕ) (budgets : List ℤ) : Type 0 where
   pub many : length budgets ≡ length (running_numbers d.curr)
-  pub each : (i : ℕ) (r : Running) → running d i ≡ Some r → IsCharged d ticks r (slice_index_or budgets i (pos 0))
+  pub each : (i : ℕ) (r : Running) → running d i ≡ Some r
+      → IsCharged d ticks r (slice_index_or budgets i (pos 0))

@@ -19,7 +19,8 @@ has_task tasks number = list_any (λ t. t.number == number) tasks
 abbrev pub listed_keys : List (ℕ × ℕ) → List Task → List (ℕ × ℕ)
 listed_keys ks tasks = filter (λ k. has_task tasks k.0) ks
 
--- KEPT KEYS: tasks may have gone off the list; nobody has come, no bandwidth has changed, and the order is the same
+-- KEPT KEYS: tasks may have gone off the list; nobody has come, no bandwidth has changed, and the
+-- order is the same
 abbrev pub AreKept : List Task → List Task → Type 0
 AreKept before after = keys after ≡ listed_keys (keys before) after
 

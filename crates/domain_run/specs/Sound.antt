@@ -13,7 +13,8 @@ use Rattle.domain_run.specs.Domain.{Domain, IsCpus, IsLimit}
 use Rattle.domain_run.specs.Bounds.{IsEarly, IsSoon, IsServed}
 use Rattle.domain_run.specs.Tick.{sum_of}
 
--- the timer's reference is not behind the next time at which the script may be asked; a task that has ended asks no more
+-- the timer's reference is not behind the next time at which the script may be asked; a task that
+-- has ended asks no more
 abbrev pub IsTimed : ℕ → Condition → ℕ → Type 0
 IsTimed time Ready reference = reference ≤ time
 IsTimed time Throttled reference = reference ≤ time
@@ -38,9 +39,11 @@ occupant places cpu = slice_index_or places cpu None
 pub record IsApart (places : Places) : Type 0 where
   pub once : (i j n : ℕ) → occupant places i ≡ Some n → occupant places j ≡ Some n → i ≡ j
 
--- a task of this number that may stand on a CPU: it is ready, has budget left and belongs to that CPU
+-- a task of this number that may stand on a CPU: it is ready, has budget left and belongs to that
+-- CPU
 abbrev pub MayStand : ℕ → ℕ → Task → Type 0
-MayStand cpu n t = (t.number ≡ n) × (t.cpu ≡ cpu) × IsTrue (is_ready t.condition) × (pos 0 <ℤ t.server.left)
+MayStand cpu n t =
+    (t.number ≡ n) × (t.cpu ≡ cpu) × IsTrue (is_ready t.condition) × (pos 0 <ℤ t.server.left)
 
 -- what is placed: on each CPU stands nobody, or a listed task that may; and no task stands on two
 pub record IsPlacement (d : Domain) : Type 0 where

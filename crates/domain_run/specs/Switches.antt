@@ -42,4 +42,5 @@ switches_from time tasks cpu [] after = []
 switches_from time tasks cpu (p ∷ before) [] = []
 switches_from time tasks cpu (p ∷ before) (n ∷ after) =
     if same_occupant p n then switches_from time tasks (cpu + 1) before after
-    else record { time = time; prev = p; next = n; cpu = cpu; state = state_of tasks p } ∷ switches_from time tasks (cpu + 1) before after
+    else record { time = time; prev = p; next = n; cpu = cpu; state = state_of tasks p }
+    ∷ switches_from time tasks (cpu + 1) before after

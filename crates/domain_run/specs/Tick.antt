@@ -13,7 +13,12 @@ use Rattle.domain_run.specs.Domain.{Domain}
 
 -- a task as the sums see it: active while it contends or has a zero-lag time ahead
 abbrev pub share_of : Task → Share
-share_of t = record { cpu = t.cpu; bw = t.params.bw; active = is_contending t.condition || is_some t.zero_lag }
+share_of t =
+    record {
+      cpu = t.cpu;
+      bw = t.params.bw;
+      active = is_contending t.condition || is_some t.zero_lag;
+    }
 
 abbrev pub shares : List Task → List Share
 shares tasks = map share_of tasks
@@ -24,14 +29,17 @@ sum_of tasks = total_bw (shares tasks)
 
 -- a ready task as the choice sees it; it has a deadline
 abbrev pub candidate_of : Task → Candidate
-candidate_of t = record { deadline = unwrap_or t.server.deadline 0; number = t.number; home = t.cpu }
+candidate_of t =
+    record { deadline = unwrap_or t.server.deadline 0; number = t.number; home = t.cpu }
 
 abbrev pub candidates : List Task → List Candidate
 candidates tasks = map candidate_of (filter (λ t. is_ready t.condition) tasks)
 
--- parts 1 to 3: replenished, settled, off the list where they have left, and unblocked; so the choice finds them
+-- parts 1 to 3: replenished, settled, off the list where they have left, and unblocked; so the
+-- choice finds them
 abbrev pub prepared : ℕ → List Task → List Task
-prepared time tasks = map (unblocked time) (filter is_listed (map (settled time) (map (replenish_due time) tasks)))
+prepared time tasks =
+    map (unblocked time) (filter is_listed (map (settled time) (map (replenish_due time) tasks)))
 
 -- parts 4 and 5: the new occupants, to whom their CPUs become home, and the switches
 abbrev pub with_places : Domain → List Task → Places → Domain
@@ -50,7 +58,8 @@ begun d = with_prepared d (prepared d.time d.tasks)
 
 -- the rate of a running task, from the sums as they are after part 4
 abbrev pub rate_of : Domain → Task → ℕ
-rate_of d t = reclaiming.rate t.params (uinact t.cpu (shares d.tasks)) (sum_of d.tasks) d.cpus d.limit
+rate_of d t =
+    reclaiming.rate t.params (uinact t.cpu (shares d.tasks)) (sum_of d.tasks) d.cpus d.limit
 
 abbrev pub ran_if : Domain → Task → Task
 ran_if d t = if stands t.number d.curr then ran d.time (rate_of d t) t else t

@@ -6,7 +6,14 @@ use Rattle.domain_run.specs.script.ScriptView.{ScriptView}
 use Rattle.domain_run.specs.Domain.{Domain}
 
 abbrev pub view_of : Task → TaskView
-view_of t = record { server = t.server; condition = t.condition; zero_lag = t.zero_lag; cpu = t.cpu; params = t.params }
+view_of t =
+    record {
+      server = t.server;
+      condition = t.condition;
+      zero_lag = t.zero_lag;
+      cpu = t.cpu;
+      params = t.params;
+    }
 
 -- the listed task of a number
 abbrev pub view_in : Domain → ℕ → Option TaskView

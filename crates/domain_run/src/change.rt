@@ -47,7 +47,8 @@ fn does_nothing(task: &Task, time: u64, change: &Change) -> bool
     }
 }
 
-/// Part 6 of so many ticks at once, where neither work nor budget ends with them: a running task runs on, and stands as before.
+/// Part 6 of so many ticks at once, where neither work nor budget ends with them: a running task
+/// runs on, and stands as before.
 fn slide(task: &mut Task, time: u64, ticks: u64, left: i128)
     requires lasted { pos 0 <ℤ left }
     requires high { left ≤ℤ pos (2 ^ 52) }

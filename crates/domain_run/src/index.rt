@@ -1,5 +1,6 @@
-//! Where in the list of tasks a number is. A domain keeps for each number the place at which it was last noted, and looks there
-//! first; a place that is not right any more costs a walk, and nothing else.
+//! Where in the list of tasks a number is. A domain keeps for each number the place at which it was
+//! last noted, and looks there first; a place that is not right any more costs a walk, and nothing
+//! else.
 
 ghost use Rattle.std.specs.Prelude.{◌≡◌, ◌≢◌, ◌==◌, AllPairs, IfSome, IfNone, find, option_copied, ◌&&◌, not};
 ghost use Rattle.domain_run.specs.Conditions.{is_leaving};

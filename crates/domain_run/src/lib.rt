@@ -1,8 +1,9 @@
 //! One root domain: its tasks, one tick of time, and the calls between two ticks.
 //!
-//! Meets the definitions "Name", "Script", "Domain state", "Tick", "Calls and replies" and "Run" (`specs/`), over "Wake, charge,
-//! replenish", "Zero lag", "Sums and rate" and "Choice and placement" of the crates below. To the crates above it promises that
-//! [`State`] goes from tick to tick and from call to call exactly as they say.
+//! Meets the definitions "Name", "Script", "Domain state", "Tick", "Calls and replies" and "Run"
+//! (`specs/`), over "Wake, charge, replenish", "Zero lag", "Sums and rate" and "Choice and
+//! placement" of the crates below. To the crates above it promises that [`State`] goes from tick to
+//! tick and from call to call exactly as they say.
 #![tactic(auto)]
 
 mod call;

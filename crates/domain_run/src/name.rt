@@ -4,7 +4,8 @@ ghost use Rattle.domain_run.specs.NameView.{IsName, IsNameByte};
 
 use std::marker::Model;
 
-/// The name of a task: 1 to 15 bytes of codes 0x21 to 0x7e, as the kernel's comm without spaces (own).
+/// The name of a task: 1 to 15 bytes of codes 0x21 to 0x7e, as the kernel's comm without spaces
+/// (own).
 #[derive(Debug, Drop)]
 pub struct Name {
     text: String,
@@ -35,7 +36,8 @@ fn is_name(bytes: &[u8]) -> bool
 }
 
 impl Name {
-    /// The text as a name, or the text back where it is not 1 to 15 bytes of codes 0x21 to 0x7e. Takes no memory.
+    /// The text as a name, or the text back where it is not 1 to 15 bytes of codes 0x21 to 0x7e.
+    /// Takes no memory.
     pub fn new(text: String) -> Result<Name, String>
         ensures named { IsOk result ↔ IsName (string_bytes text) }
         ensures value { MatchResult result

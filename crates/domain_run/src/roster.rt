@@ -1,7 +1,8 @@
-//! The listed tasks of a domain, with what is kept of them beside their list: the run queue, and where each number is. A task of the
-//! list changes at one place, [`Roster::turn`], which tells the run queue.
+//! The listed tasks of a domain, with what is kept of them beside their list: the run queue, and
+//! where each number is. A task of the list changes at one place, [`Roster::turn`], which tells the
+//! run queue.
 
-ghost use Rattle.std.specs.Prelude.{◌≡◌, ◌≢◌, ◌==◌, ◌<◌, ◌≤◌, ◌^◌, ◌-◌, ◌&&◌, ◌++◌, ◌∷◌, [], not, nat_le, min, All, AllPairs, IfOk, IfSome, IfNone, false, find, map, filter, length, option_copied, slice_index_or};
+ghost use Rattle.std.specs.Prelude.{◌≡◌, ◌≢◌, ◌==◌, ◌<◌, ◌≤◌, ◌^◌, ◌-◌, ◌&&◌, ◌++◌, ◌∷◌, [], not, min, All, AllPairs, IfOk, IfSome, IfNone, false, find, map, filter, length, option_copied, slice_index_or};
 ghost use Rattle.domain_run.specs.declared.task.Task.{Task};
 ghost use Rattle.domain_run.specs.Conditions.{is_ready, is_leaving};
 ghost use Rattle.domain_run.specs.Parts.{is_listed};
@@ -121,7 +122,8 @@ impl Roster {
         &self.queue.ready
     }
 
-    /// The first place, from this one on, whose task is due at a time; where there is none, how many places there are.
+    /// The first place, from this one on, whose task is due at a time; where there is none, how
+    /// many places there are.
     pub(crate) fn next_due(&self, from: usize, time: u64) -> usize
         requires { from ≤ length self.now.tasks }
         ensures from { from ≤ result }
@@ -138,7 +140,8 @@ impl Roster {
         self.queue.timers.may_be_due(time)
     }
 
-    /// Looks all timers through, so that the next questions about them take no look at each: nothing changes.
+    /// Looks all timers through, so that the next questions about them take no look at each:
+    /// nothing changes.
     pub(crate) fn look_through(&mut self)
         ensures { self.new ≡ self.old }
     {

@@ -1,5 +1,6 @@
-//! What a domain keeps of its tasks beside their list: the running sums of their bandwidth, the ready ones in the order of the
-//! choice, and when each is due. So a tick neither sums nor sorts, and looks at those alone that are due.
+//! What a domain keeps of its tasks beside their list: the running sums of their bandwidth, the
+//! ready ones in the order of the choice, and when each is due. So a tick neither sums nor sorts,
+//! and looks at those alone that are due.
 
 ghost use Rattle.std.specs.Prelude.{◌≡◌, ◌<◌, [], length, IfOk, IfSome, false};
 ghost use Rattle.edf_pick.specs.Order.{has_candidate};

@@ -1,4 +1,5 @@
-//! Scripts: what a task does, as phases of events, and the cursor that goes through them (own; rt-app's phases and loops).
+//! Scripts: what a task does, as phases of events, and the cursor that goes through them (own;
+//! rt-app's phases and loops).
 
 ghost use Rattle.std.specs.Prelude.{◌≡◌, ◌<◌, ◌≤◌, ◌+◌, ◌^◌, ◌↔◌, ◌%◌, ◌*◌, IsTrue, IsOk, MatchResult, sum_by, IsSome, IfSome, All, length, slice_get};
 ghost use Rattle.domain_run.specs.script.ScriptView.{IsEvent, IsPhase, IsScript, IsPlace, script_of, phase_len, round_len};
@@ -14,8 +15,8 @@ pub enum Event {
     Run(u64),
     /// Blocks for so many microseconds, 1 to 10^9.
     Sleep(u64),
-    /// Blocks until so many microseconds, 1 to 10^9, after the task's timer reference; where that is past, the reference
-    /// becomes now and the script goes on.
+    /// Blocks until so many microseconds, 1 to 10^9, after the task's timer reference; where that
+    /// is past, the reference becomes now and the script goes on.
     Timer(u64),
     /// Waits for a wake call (own).
     Wait,
@@ -38,8 +39,8 @@ impl Model for Phase {
     ghost view = { λ p. record { count = p.count; events = p.events.items } };
 }
 
-/// The phases of a task in order, over and over, or so many rounds of them. Every script is within the limits that
-/// [`Script::new`] tests.
+/// The phases of a task in order, over and over, or so many rounds of them. Every script is within
+/// the limits that [`Script::new`] tests.
 #[derive(Debug, Drop)]
 pub struct Script {
     rounds: Option<u64>,
@@ -56,8 +57,8 @@ impl Model for Script {
     ghost invariant = { λ s. IsScript (record { rounds = s.rounds; phases = s.phases.items }) };
 }
 
-/// A script, the place of its next event, and its timer reference. In a script without end that place is kept within the first
-/// round, as each is like the first.
+/// A script, the place of its next event, and its timer reference. In a script without end that
+/// place is kept within the first round, as each is like the first.
 #[derive(Debug, Drop)]
 pub struct Cursor {
     script: Script,
@@ -133,9 +134,9 @@ fn rounds_within(loops: i64) -> Option<Option<u64>>
 }
 
 impl Script {
-    /// A script of so many rounds, -1 for no end, or 1 to 10^9, of 1 to 64 phases in order. The phases come back where a
-    /// limit is not met: of this, of the counts (1 to 10^9) and events (1 to 64) of a phase, or of an event's microseconds
-    /// (1 to 10^9). Takes no memory.
+    /// A script of so many rounds, -1 for no end, or 1 to 10^9, of 1 to 64 phases in order. The
+    /// phases come back where a limit is not met: of this, of the counts (1 to 10^9) and events (1
+    /// to 64) of a phase, or of an event's microseconds (1 to 10^9). Takes no memory.
     pub fn new(loops: i64, phases: Vec<Phase>) -> Result<Script, Vec<Phase>>
         ensures within { IsOk result ↔
             (IsLoops loops × IsScript (script_of (rounds_of loops) phases.items)) }
@@ -168,8 +169,8 @@ impl Script {
         &self.phases
     }
 
-    /// A cursor at the script's beginning, for a task that starts at this time, in microseconds. Asked at any times, it gives
-    /// what the script gives written out, event by event.
+    /// A cursor at the script's beginning, for a task that starts at this time, in microseconds.
+    /// Asked at any times, it gives what the script gives written out, event by event.
     #[tactic(auto, using(crate::proofs::Unrolling::begun_written, crate::proofs::Unrolling::place_at_first))]
     pub fn cursor(self, start: u64) -> Cursor
         ensures begun { result ≡ begun_at self start }
@@ -347,9 +348,9 @@ impl Cursor {
         }
     }
 
-    /// What the task does next, asked at this time, in microseconds below 2^48. The timer's reference is below 2^48 wherever no
-    /// ask is before the start, or before the end of the last segment [`Segment::Until`]; so asked, it is never behind the next
-    /// ask. Takes no memory.
+    /// What the task does next, asked at this time, in microseconds below 2^48. The timer's
+    /// reference is below 2^48 wherever no ask is before the start, or before the end of the last
+    /// segment [`Segment::Until`]; so asked, it is never behind the next ask. Takes no memory.
     pub fn next(&mut self, time: u64) -> Segment
         requires early { time < 2 ^ 48 }
         requires reference { self.old.reference < 2 ^ 48 }

@@ -1,4 +1,5 @@
-//! How a task stands, for what a domain keeps beside its list: its share of the sums, whether it is ready, and when it is due.
+//! How a task stands, for what a domain keeps beside its list: its share of the sums, whether it is
+//! ready, and when it is due.
 
 ghost use Rattle.std.specs.Prelude.{◌≡◌};
 ghost use Rattle.domain_run.specs.Tick as tick_spec;

@@ -1,7 +1,6 @@
 //! A root domain: the state between two ticks, and what changes it.
 
-ghost use Rattle.std.specs.Prelude.{◌≡◌, ◌<◌, ◌≤◌, ◌^◌, OnOk, OnErr, IfOk, replicate, None, vec_len, length, IsTrue, IfErr, ◌==◌, false};
-ghost use Rattle.std.specs.List.{list_any};
+ghost use Rattle.std.specs.Prelude.{◌≡◌, ◌<◌, ◌≤◌, ◌^◌, OnOk, IfOk, None, vec_len, IsTrue, IfErr};
 ghost use Rattle.domain_run.specs.declared.call.Call.TheVariants as Call;
 ghost use Rattle.domain_run.specs.declared.call.Reply.TheVariants as Reply;
 ghost use Rattle.domain_run.specs.Domain.{IsCpus, IsLimit, opened};
@@ -9,8 +8,7 @@ ghost use Rattle.domain_run.specs.Views.{view_in};
 ghost use Rattle.domain_run.specs.Tick as tick;
 ghost use Rattle.domain_run.specs.Calls as calls;
 ghost use Rattle.domain_run.specs.Busy.{IfBusy, LacksRoomFor};
-ghost use Rattle.domain_run.specs.Keys.{AreKept};
-ghost use Rattle.domain_run.specs.Sound.{IsDomain, IsPlacement};
+ghost use Rattle.domain_run.specs.Sound.{IsDomain};
 ghost use Rattle.attr_check.specs.Ratio.{cap};
 
 mod calls;
@@ -59,15 +57,35 @@ impl Model for State {
 
     ghost Value = { Domain };
 
-    ghost view = { λ s. record { cpus = s.cpus; limit = s.limit; time = s.time; tasks = s.roster.tasks; used = s.used; curr = s.curr; switches = s.switches.items } };
+    ghost view = { λ s. record {
+      cpus = s.cpus;
+      limit = s.limit;
+      time = s.time;
+      tasks = s.roster.tasks;
+      used = s.used;
+      curr = s.curr;
+      switches = s.switches.items;
+    } };
 
-    ghost invariant = { λ s. IsState (record { cpus = s.cpus; limit = s.limit; time = s.time; tasks = s.roster.tasks; used = s.used; curr = s.curr; switches = s.switches.items }) s.roster.cpus s.running.items (vec_len s.before) (vec_capacity s.running) };
+    ghost invariant = { λ s. IsState
+        (record {
+          cpus = s.cpus;
+          limit = s.limit;
+          time = s.time;
+          tasks = s.roster.tasks;
+          used =
+              s.used;
+          curr =
+              s.curr;
+          switches =
+              s.switches.items;
+        }) s.roster.cpus s.running.items (vec_len s.before) (vec_capacity s.running) };
 }
 
 impl State {
-    /// An empty domain of 1 to 64 CPUs that may give away `limit` of each, 10485 to 1048576 in 1/2^20. Room for 256 tasks and for
-    /// the numbers ever admitted is made here; after it only [`State::tick`] and [`State::begin`] take memory. `Err` where a growth
-    /// was refused.
+    /// An empty domain of 1 to 64 CPUs that may give away `limit` of each, 10485 to 1048576 in
+    /// 1/2^20. Room for 256 tasks and for the numbers ever admitted is made here; after it only
+    /// [`State::tick`] and [`State::begin`] take memory. `Err` where a growth was refused.
     pub fn open(alloc: Global, cpus: u32, limit: u64) -> Result<State, NoMemory>
         requires cpus { IsCpus cpus }
         requires limit { IsLimit limit }
@@ -95,8 +113,8 @@ impl State {
         self.time
     }
 
-    /// The switches so far. They rise strictly by time and then by CPU, are before now and on the domain's CPUs, and name only
-    /// tasks that were admitted.
+    /// The switches so far. They rise strictly by time and then by CPU, are before now and on the
+    /// domain's CPUs, and name only tasks that were admitted.
     pub fn switches(&self) -> &[Switch]
         ensures switches { result.now ≡ self.now.switches }
         ensures domain { IsDomain self.now }
@@ -104,8 +122,8 @@ impl State {
         &self.switches
     }
 
-    /// The bandwidth of all listed tasks, in 1/2^20 of a CPU, also of those that have ended and stay listed until their
-    /// zero-lag time. It is at most the number of CPUs times the limit.
+    /// The bandwidth of all listed tasks, in 1/2^20 of a CPU, also of those that have ended and
+    /// stay listed until their zero-lag time. It is at most the number of CPUs times the limit.
     pub fn sum(&self) -> u64
         ensures sum { result ≡ tick.sum_of self.now.tasks }
         ensures within { result ≤ cap self.now.cpus self.now.limit }
@@ -155,10 +173,11 @@ impl State {
         self.roster.push(task);
     }
 
-    /// Admits a task at the time now: tested in this order, `Full` where 256 tasks are listed, `Twice` where the number was ever
-    /// admitted here, `Busy` with the sum of bandwidths where that sum and the task's bandwidth are above the number of CPUs times
-    /// the limit; equality is admitted. An admitted task is listed and starts after the delay, in microseconds. Where it refuses,
-    /// nothing has changed, and name and script come back. Takes no memory.
+    /// Admits a task at the time now: tested in this order, `Full` where 256 tasks are listed,
+    /// `Twice` where the number was ever admitted here, `Busy` with the sum of bandwidths where
+    /// that sum and the task's bandwidth are above the number of CPUs times the limit; equality is
+    /// admitted. An admitted task is listed and starts after the delay, in microseconds. Where it
+    /// refuses, nothing has changed, and name and script come back. Takes no memory.
     pub fn admit(
         &mut self,
         number: u32,
@@ -172,7 +191,8 @@ impl State {
         ensures domain { self.new
             ≡ calls.after_call self.old (Call.Admit number name params delay script) }
         ensures admitted { OnOk result
-            (calls.reply_to self.old (Call.Admit number name params delay script) ≡ Reply.Admitted) }
+            (calls.reply_to self.old (Call.Admit number name params delay script)
+            ≡ Reply.Admitted) }
         ensures reply { IfErr result (λ r. r.reply
             ≡ calls.reply_to self.old (Call.Admit number name params delay script)) }
         ensures refused { IfErr result (λ r. IsTrue (calls.is_refusal r.reply)) }

@@ -9,7 +9,6 @@ ghost use Rattle.domain_run.specs.Tick as tick_spec;
 ghost use Rattle.domain_run.specs.private.Paying.{MayPayIf, paid};
 ghost use Rattle.domain_run.specs.private.Roster.{after_change, homed_here, IsPart};
 ghost use Rattle.domain_run.specs.private.RunQueue.{AreHomed};
-ghost use Rattle.domain_run.specs.private.Timers.{IsStep};
 ghost use Rattle.domain_run.specs.Jump as jump;
 
 use crate::change::Change;
@@ -114,7 +113,8 @@ fn add_switches(
     requires same { length after.now ≡ length before.now }
     requires room { vec_len switches.old + length before.now ≤ vec_capacity switches.old }
     ensures switches { switches.new.items
-        ≡ switches.old.items ++ switches_spec.switches_from time roster.now.tasks 0 before.now after.now }
+        ≡ switches.old.items
+        ++ switches_spec.switches_from time roster.now.tasks 0 before.now after.now }
     ensures room { vec_capacity switches.new ≡ vec_capacity switches.old }
 {
     for cpu in 0..before.len() {
@@ -154,7 +154,8 @@ fn list_running(running: &mut Vec<u32>, places: &[Option<u32>])
     }
 }
 
-/// Parts 1 to 5: replenishment, zero-lag times, wake-ups, placement and the switches. `before` is room.
+/// Parts 1 to 5: replenishment, zero-lag times, wake-ups, placement and the switches. `before` is
+/// room.
 pub(crate) fn begin(
     time: u64,
     roster: &mut Roster,
@@ -179,7 +180,8 @@ pub(crate) fn begin(
     ensures places { places.new ≡ places_spec.placed (length places.old)
         (tick_spec.candidates (tick_spec.prepared time roster.old.tasks)) places.old }
     ensures switches { switches.new.items ≡ switches.old.items
-        ++ switches_spec.switches_from time (tick_spec.prepared time roster.old.tasks) 0 places.old places.new }
+        ++ switches_spec.switches_from time
+        (tick_spec.prepared time roster.old.tasks) 0 places.old places.new }
     ensures before_len { vec_len before.new ≡ vec_len before.old }
     ensures running { running.new.items ≡ jump.running_numbers places.new }
     ensures runners { vec_capacity running.new ≡ vec_capacity running.old }
@@ -192,7 +194,8 @@ pub(crate) fn begin(
     home_all(roster, before, places.occupants(), time);
 }
 
-/// Part 6 of so many ticks at once, up to a time: every running task has its budget, and its work has fallen.
+/// Part 6 of so many ticks at once, up to a time: every running task has its budget, and its work
+/// has fallen.
 pub(crate) fn pay_all(roster: &mut Roster, running: &[u32], budgets: &[i128], ticks: u64, time: u64)
     requires early { time < 2 ^ 43 }
     requires apart { AllPairs (λ m n. m ≢ n) running.now }

@@ -1,4 +1,5 @@
-/// What a task was doing when a switch took its CPU away: the event's prev_state. Idle is always [`PrevState::Running`].
+/// What a task was doing when a switch took its CPU away: the event's prev_state. Idle is always
+/// [`PrevState::Running`].
 #[derive(Clone, Copy, Debug, PartialEq, Eq)]
 pub enum PrevState {
     /// `R`: idle left the CPU.

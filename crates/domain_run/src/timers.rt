@@ -1,4 +1,5 @@
-//! When something is next to be done to each listed task before the choice. So a tick looks only at the tasks that are due.
+//! When something is next to be done to each listed task before the choice. So a tick looks only at
+//! the tasks that are due.
 
 ghost use Rattle.std.specs.Prelude.{◌≡◌, ◌<◌, ◌≤◌, ◌-◌, ◌+◌, ◌^◌, ◌∷◌, ◌++◌, [], length, min, false, slice_index_or, slice_set, IfOk};
 ghost use Rattle.domain_run.specs.private.Timers as spec;
@@ -69,7 +70,8 @@ fn bounds_of(times: &[u64]) -> [u64; 16]
     bounds
 }
 
-// The first place, from this one on, whose time has come or whose block has none that has: where nothing else stands between.
+// The first place, from this one on, whose time has come or whose block has none that has: where
+// nothing else stands between.
 fn pass(due: &[u64], bounds: &[u64; 16], place: usize, time: u64) -> usize
     requires there { place < length due.now }
     requires few { length due.now ≤ 256 }
@@ -97,7 +99,8 @@ impl Timers {
         })
     }
 
-    /// The first place, from this one on, whose task is due at a time; where there is none, how many places there are.
+    /// The first place, from this one on, whose task is due at a time; where there is none, how
+    /// many places there are.
     pub(crate) fn next_due(&self, from: usize, time: u64) -> usize
         requires { from ≤ length self.now }
         ensures from { from ≤ result }

@@ -1,4 +1,5 @@
-//! The tests of a domain and of its jumps, apart from both, so that the gate proves each of those crates once.
+//! The tests of a domain and of its jumps, apart from both, so that the gate proves each of those
+//! crates once.
 #![tactic(auto)]
 
 #[cfg(test)]

@@ -13,14 +13,28 @@ none m = ([], tt, refl)
 -- ` null` is null
 pub spaced_null : Spells strict (codes " null") null
 unfolding encode_utf8
-spaced_null = (codes " null", refl, refl, (codes "null", [], (32 ∷ [], (refl, tt), refl), refl, none []))
+spaced_null =
+    (codes " null", refl, refl, (codes "null", [], (32 ∷ [], (refl, tt), refl), refl, none []))
 
 -- the digits of `-0.5e+10`, which are kept as they stand
 pub number_text : IsNumber (codes "-0.5e+10")
-number_text = inr (refl, (codes "0", codes ".5", codes "e+10", inl (refl, refl), (refl, (refl, tt)), (refl, inr (refl, (refl, (refl, tt)))), refl))
+number_text =
+    inr (
+      refl,
+      (
+        codes "0",
+        codes ".5",
+        codes "e+10",
+        inl (refl, refl),
+        (refl, (refl, tt)),
+        (refl, inr (refl, (refl, (refl, tt)))),
+        refl,
+      ),
+    )
 
 -- `[1, 2]` is the list of two numbers
-pub two_items : Spells strict (codes "[1, 2]") (array (item (number (codes "1")) (item (number (codes "2")) no_items)))
+pub two_items : Spells strict (codes "[1, 2]")
+    (array (item (number (codes "1")) (item (number (codes "2")) no_items)))
 unfolding encode_utf8
 two_items = (
   codes "[1, 2]",
@@ -42,7 +56,18 @@ two_items = (
           none (codes "1, 2]"),
           (inl (codes "1", [], [], inr (refl, tt), tt, tt, refl), refl),
           none (codes ", 2]"),
-          (codes " 2]", codes "2]", codes "]", codes "]", refl, (32 ∷ [], (refl, tt), refl), (inl (codes "2", [], [], inr (refl, tt), tt, tt, refl), refl), none (codes "]"), refl),
+          (
+            codes " 2]",
+            codes "2]",
+            codes "]",
+            codes "]",
+            refl,
+            (32 ∷ [], (refl, tt), refl),
+            (inl (codes "2", [], [], inr (refl, tt), tt, tt, refl), refl),
+            none
+                (codes "]"),
+            refl,
+          ),
         ),
       ),
     ),

@@ -29,7 +29,9 @@ repeating = record { limit = 16; repeats = true }
 
 -- the bytes are the UTF-8 of characters that spell the value
 abbrev pub Spells : Rules → List ℕ → Json → Type 0
-Spells rules bytes v = (characters : List ℕ) × (all_scalars characters ≡ true) × (bytes ≡ encode_utf8_all characters) × IsText rules v characters
+Spells rules bytes v =
+    (characters : List ℕ) × (all_scalars characters ≡ true) × (bytes ≡ encode_utf8_all characters)
+    × IsText rules v characters
 
 -- some accepted text begins with these bytes
 abbrev pub Begins : Rules → List ℕ → Type 0
@@ -43,7 +45,9 @@ pub record IsLongestFront (bytes : List ℕ) (n : ℕ) : Type 0 where
 
 -- the byte at n is `[` or `{` where a value may begin, and opens one level too many
 abbrev pub OpensTooDeep : List ℕ → ℕ → Type 0
-OpensTooDeep bytes n = ((slice_get bytes n ≡ Some 91) ⊎ (slice_get bytes n ≡ Some 123)) × Begins deeper (take (n + 1) bytes)
+OpensTooDeep bytes n =
+    ((slice_get bytes n ≡ Some 91) ⊎ (slice_get bytes n ≡ Some 123))
+    × Begins deeper (take (n + 1) bytes)
 
 -- the byte at n is the quote that closes a key, which its object has already
 abbrev pub RepeatsKey : List ℕ → ℕ → Type 0
@@ -54,10 +58,16 @@ abbrev pub IsFault : List ℕ → JsonKind → ℕ → Type 0
 -- the first byte that is no part of a well-formed character, wherever else the input goes wrong
 IsFault bytes Utf8 n = IsValidUpTo bytes n
 -- the whole input begins an accepted text and is none
-IsFault bytes End n = IsUtf8 bytes × IsLongestFront bytes n × (n ≡ length bytes) × ((v : Json) → ¬ (Spells strict bytes v))
-IsFault bytes Depth n = IsUtf8 bytes × IsLongestFront bytes n × (n < length bytes) × OpensTooDeep bytes n
-IsFault bytes Duplicate n = IsUtf8 bytes × IsLongestFront bytes n × (n < length bytes) × RepeatsKey bytes n
+IsFault bytes End n =
+    IsUtf8 bytes × IsLongestFront bytes n × (n ≡ length bytes)
+    × ((v : Json) → ¬ (Spells strict bytes v))
+IsFault bytes Depth n =
+    IsUtf8 bytes × IsLongestFront bytes n × (n < length bytes) × OpensTooDeep bytes n
+IsFault bytes Duplicate n =
+    IsUtf8 bytes × IsLongestFront bytes n × (n < length bytes) × RepeatsKey bytes n
 -- any other byte
-IsFault bytes Syntax n = IsUtf8 bytes × IsLongestFront bytes n × (n < length bytes) × ¬ (OpensTooDeep bytes n) × ¬ (RepeatsKey bytes n)
+IsFault bytes Syntax n =
+    IsUtf8 bytes × IsLongestFront bytes n × (n < length bytes) × ¬ (OpensTooDeep bytes n)
+    × ¬ (RepeatsKey bytes n)
 -- a growth was refused, which may come before any fault
 IsFault bytes Memory n = n ≡ 0

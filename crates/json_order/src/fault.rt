@@ -55,10 +55,12 @@ impl<T: Drop> From<AllocFailed<T>> for JsonKind {
     }
 }
 
-/// The fault of an input: its kind, and the place of the byte at which it shows, from 0. It prints as `json 13 at 14`.
+/// The fault of an input: its kind, and the place of the byte at which it shows, from 0. It prints
+/// as `json 13 at 14`.
 #[derive(Clone, Copy, Debug, PartialEq, Eq)]
 pub struct JsonFault {
-    /// For Syntax, Depth, Duplicate and Utf8 the place of the faulting byte; for End the length of the input; for Memory 0.
+    /// For Syntax, Depth, Duplicate and Utf8 the place of the faulting byte; for End the length of
+    /// the input; for Memory 0.
     pub at: usize,
     /// What is wrong there.
     pub kind: JsonKind,

@@ -8,7 +8,8 @@ use crate::fault::JsonKind;
 use std::alloc::Global;
 use std::collections::{BTreeMap, BTreeSet};
 
-/// What a mark is multiplied by before a byte is added: a prime with few bits, so that near keys get far marks.
+/// What a mark is multiplied by before a byte is added: a prime with few bits, so that near keys
+/// get far marks.
 const FACTOR: u64 = 0x100_0000_01B3;
 
 /// A number that keys seldom share.
@@ -23,8 +24,9 @@ fn mark_of(key: &str) -> u64
     mark
 }
 
-/// Keys in the order of their marks, which are compared sooner than texts. A key whose mark another one has stands in a set of
-/// its own, so that keys that were chosen to share their marks are found in logarithmic time too.
+/// Keys in the order of their marks, which are compared sooner than texts. A key whose mark another
+/// one has stands in a set of its own, so that keys that were chosen to share their marks are found
+/// in logarithmic time too.
 #[derive(Drop)]
 pub(crate) struct KeySet {
     pub(crate) firsts: BTreeMap<u64, String>,

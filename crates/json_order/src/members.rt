@@ -13,16 +13,18 @@ use std::alloc::Global;
 /// Up to so many members, a key is compared with each of them.
 const FEW: usize = 16;
 
-/// The members of an object so far, in the order of the text. Where they are more than a few and their keys do not ascend,
-/// their keys stand beside them in a set, so that a key that stands twice is found in logarithmic time.
+/// The members of an object so far, in the order of the text. Where they are more than a few and
+/// their keys do not ascend, their keys stand beside them in a set, so that a key that stands twice
+/// is found in logarithmic time.
 #[derive(Drop)]
 pub(crate) struct Members {
     pub(crate) list: Vec<(String, Tree)>,
-    /// One set of all keys. None where they are few, and where each is greater than the one before it, so that a key behind
-    /// the last is new.
+    /// One set of all keys. None where they are few, and where each is greater than the one before
+    /// it, so that a key behind the last is new.
     pub(crate) sets: Vec<KeySet>,
     ghost ascending: { sets.items ≡ [] → 16 < length list.items → Ascend (keys_of list.items) },
-    ghost known: { (d : KeySet) → 0 < length sets.items → HasKeys (slice_index_or sets.items 0 d) (keys_of list.items) },
+    ghost known: { (d : KeySet) → 0 < length sets.items
+        → HasKeys (slice_index_or sets.items 0 d) (keys_of list.items) },
 }
 
 impl Members {

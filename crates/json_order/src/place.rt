@@ -14,7 +14,8 @@ pub(crate) enum Escape {
     Unit1(u32),
     Unit2(u32),
     Unit3(u32),
-    /// Behind a high surrogate, then behind the backslash and the `u` that have to follow, and behind their digits.
+    /// Behind a high surrogate, then behind the backslash and the `u` that have to follow, and
+    /// behind their digits.
     High(u32),
     HighSlash(u32),
     Low0(u32),

@@ -175,8 +175,8 @@ fn go_on(escape: &mut Escape, next: Escape) -> Result<Quote, JsonKind>
     Ok(Quote::Going)
 }
 
-/// The string once c follows, which it takes in place: it goes on or ends. Syntax where no string goes on with c; where
-/// memory runs out the string is left as it may be.
+/// The string once c follows, which it takes in place: it goes on or ends. Syntax where no string
+/// goes on with c; where memory runs out the string is left as it may be.
 #[inline(always)]
 pub(crate) fn quote_step(text: &mut String, escape: &mut Escape, c: char) -> Result<Quote, JsonKind>
     requires fine { IsFine escape.old }

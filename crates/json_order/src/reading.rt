@@ -1,4 +1,4 @@
-ghost use Rattle.std.specs.Prelude.{List, ◌≡◌, ◌≢◌, Some, None, IsUtf8, IfOk, IfErr, IfSome, IfNone};
+ghost use Rattle.std.specs.Prelude.{◌≡◌, ◌≢◌, Some, None, IfOk, IfErr, IfSome, IfNone};
 ghost use Rattle.json_order.specs.declared.fault.JsonKind.TheVariants.{End, Memory};
 ghost use Rattle.json_order.specs.Fault.{strict, Spells, IsFault};
 ghost use Rattle.json_order.specs.Json.{Json};
@@ -15,15 +15,17 @@ use crate::tree::Tree;
 use std::alloc::Global;
 use std::str;
 
-/// Reads a JSON text (RFC 8259, narrower as the page on formats says: UTF-8 alone, at most 16 lists and objects inside one
-/// another, no key twice in one object, no lone surrogate). The members of an object keep the order of the text.
+/// Reads a JSON text (RFC 8259, narrower as the page on formats says: UTF-8 alone, at most 16 lists
+/// and objects inside one another, no key twice in one object, no lone surrogate). The members of
+/// an object keep the order of the text.
 ///
-/// Memory is taken for the tree, for a stack of at most 17 frames, and for a second copy of the keys of an open object that
-/// has more than 16 of them, not in rising order. The time is linear in the input but for these keys, which cost the
-/// logarithm of their number, and for the first 16, which are compared one by one.
+/// Memory is taken for the tree, for a stack of at most 17 frames, and for a second copy of the
+/// keys of an open object that has more than 16 of them, not in rising order. The time is linear in
+/// the input but for these keys, which cost the logarithm of their number, and for the first 16,
+/// which are compared one by one.
 ///
-/// An Err tells the kind and the place of the first fault; see [`JsonKind`] and [`JsonFault`]. Utf8 is tested first, over
-/// the whole input. Memory may come before any other fault.
+/// An Err tells the kind and the place of the first fault; see [`JsonKind`] and [`JsonFault`]. Utf8
+/// is tested first, over the whole input. Memory may come before any other fault.
 pub fn read(alloc: Global, bytes: &[u8]) -> Result<Tree, JsonFault>
     // What is read is what the input spells,
     ensures found { IfOk result (λ tree. Spells strict bytes.now (json_of tree)) }

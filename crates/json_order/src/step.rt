@@ -1,11 +1,10 @@
 ghost use Rattle.std.specs.Prelude.{List, ◌≡◌, ◌<◌, ◌++◌, [], ◌∷◌, Ok, IsOk, IfOk, OnOk, IfErr, map, string_bytes};
-ghost use Rattle.std.specs.Bool.{OnTrue, OnFalse};
 ghost use Rattle.json_order.specs.declared.fault.JsonKind.TheVariants.{Memory};
 ghost use Rattle.json_order.specs.declared.place.Escape.TheVariants.{Outside};
 ghost use Rattle.json_order.specs.Fault.{strict};
 ghost use Rattle.json_order.specs.Grammar as grammar;
 ghost use Rattle.json_order.specs.Json.{array, no_items, object, no_members};
-ghost use Rattle.json_order.specs.private.Machine.{Frame as StackFrame, IsFine, IsFinePlace, in_list, in_object, state, judged, step as machine_step, move, at_first_item, at_first_key, at_next_key, in_key, behind_key, in_string, in_number, in_word, value_move, next_move, behind_move};
+ghost use Rattle.json_order.specs.private.Machine.{Frame as StackFrame, IsFine, IsFinePlace, state, judged, step as machine_step, move, at_first_item, at_first_key, at_next_key, in_key, behind_key, in_string, in_number, in_word, value_move, next_move, behind_move};
 ghost use Rattle.json_order.specs.private.Places.{place_of, frames_of, state_of, entries_of, letters_from, value_of, Says, IsInObject};
 ghost use Rattle.json_order.specs.Seen.{json_of, items_with, members_with};
 
@@ -29,7 +28,8 @@ fn is_space(c: char) -> bool
     matches!(c, ' ' | '\t' | '\n' | '\r')
 }
 
-/// Room for so many bytes is taken at once for a number: few are longer, and a smaller block costs as much.
+/// Room for so many bytes is taken at once for a number: few are longer, and a smaller block costs
+/// as much.
 const NUMBER_ROOM: usize = 24;
 
 /// A number's text, of one ASCII character so far.
@@ -117,7 +117,8 @@ fn whole_object(members: Members, key: String, value: Tree) -> Result<Tree, Json
     Ok(object_of(list))
 }
 
-/// A comma behind a value: the list goes on, into which the value is put where it stands, or the object does.
+/// A comma behind a value: the list goes on, into which the value is put where it stands, or the
+/// object does.
 #[inline(always)]
 fn push_item(place: &mut Place, stack: &mut Vec<Frame>, value: Tree) -> Result<(), JsonKind>
     ensures ok { OnOk result (judged strict (next_move (json_of value) (frames_of stack.old.items) 44)

@@ -116,7 +116,8 @@ fn take_number<'a>(text: &mut String, part: &mut Part, rest: &'a str) -> Result<
     Ok(after)
 }
 
-/// Takes the letters behind a word's first at once, where they all stand in front; what stands behind them.
+/// Takes the letters behind a word's first at once, where they all stand in front; what stands
+/// behind them.
 fn take_word<'a>(word: Word, read: &mut usize, rest: &'a str) -> &'a str
     ensures { Takes (in_word (letters_from word read.old) (value_of word))
         (in_word (letters_from word read.new) (value_of word)) rest.now result.now }
@@ -133,8 +134,8 @@ fn take_word<'a>(word: Word, read: &mut usize, rest: &'a str) -> &'a str
     }
 }
 
-/// Takes at once the characters in front that a string, a number or a word goes on with; what stands behind them. On an error the
-/// place is left as it may be.
+/// Takes at once the characters in front that a string, a number or a word goes on with; what
+/// stands behind them. On an error the place is left as it may be.
 #[inline(always)]
 pub(crate) fn take_run<'a>(place: &mut Place, rest: &'a str) -> Result<&'a str, JsonKind>
     requires fine { IsFinePlace (place_of place.old) }

@@ -13,7 +13,8 @@ pub record IsGathered (d : Domain) (ticks : ℕ) (r : Running) (left rate : ℕ)
 
 -- the first so many of them
 pub record AreGathered (d : Domain) (ticks count : ℕ) (lefts rates : List ℕ) : Type 0 where
-  pub each : (i : ℕ) (r : Running) → i < count → running d i ≡ Some r → IsGathered d ticks r (slice_index lefts i) (slice_index rates i)
+  pub each : (i : ℕ) (r : Running) → i < count → running d i ≡ Some r
+      → IsGathered d ticks r (slice_index lefts i) (slice_index rates i)
   -- so that no product is out of range
   pub slow : (i : ℕ) → i < count → slice_index rates i ≤ 2 ^ 27
   pub high : (i : ℕ) → i < count → slice_index lefts i ≤ 2 ^ 52

@@ -12,7 +12,17 @@ use Rattle.tick_split.specs.Planning.{IsPlannable}
 
 -- the plan of a running task, before its rate is worked out
 abbrev pub plan_of : Domain → Running → Plan
-plan_of d r = record { params = r.params; uinact = r.uinact; sum = sum_of d.tasks; cpus = d.cpus; limit = d.limit; left = r.left; rate = 0; spent = 0 }
+plan_of d r =
+    record {
+      params = r.params;
+      uinact = r.uinact;
+      sum = sum_of d.tasks;
+      cpus = d.cpus;
+      limit = d.limit;
+      left = r.left;
+      rate = 0;
+      spent = 0;
+    }
 
 -- a plan that a domain within its cap gives, so that no product is out of range
 pub record IsFit (p : Plan) : Type 0 where
@@ -23,7 +33,8 @@ pub record IsFit (p : Plan) : Type 0 where
 
 -- the plans of the first running tasks, by CPU; each of these has work for so many ticks
 pub record ArePlans (d : Domain) (ticks : ℕ) (plans : List Plan) : Type 0 where
-  pub each : (i : ℕ) (r : Running) (p : Plan) → i < length plans → running d i ≡ Some r → slice_index_or plans i p ≡ plan_of d r
+  pub each : (i : ℕ) (r : Running) (p : Plan) → i < length plans → running d i ≡ Some r
+      → slice_index_or plans i p ≡ plan_of d r
   pub worked : (i : ℕ) (r : Running) → i < length plans → running d i ≡ Some r → ticks ≤ r.work
   pub fit : All IsFit plans
 

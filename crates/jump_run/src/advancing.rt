@@ -20,7 +20,8 @@ pub struct Done {
     pub ticks: u64,
 }
 
-/// One event and the ticks up to the next: how many they were. `Err` where room for the event's switches was refused.
+/// One event and the ticks up to the next: how many they were. `Err` where room for the event's
+/// switches was refused.
 fn jump<G: Turn>(state: &mut State, most: u64, room: &mut Room, turn: &G) -> Result<u64, NoMemory>
     requires some { 0 < most }
     requires early { state.old.time + most ≤ 2 ^ 42 }
@@ -107,10 +108,11 @@ fn advance_by<R: Threads + Wait, G: Turn>(
     Done { ticks }
 }
 
-/// Goes on by so many ticks, from event to event: the state and its switches are exactly those of so many single ticks. Room for
-/// the switches of an event is made before the event; where it is refused, the ticks made so far stand, and only then are they
-/// fewer than asked. Time stays within 2^42 us. Tasks that have left may go off the list; nobody comes, and the others keep
-/// number, bandwidth and order.
+/// Goes on by so many ticks, from event to event: the state and its switches are exactly those of
+/// so many single ticks. Room for the switches of an event is made before the event; where it is
+/// refused, the ticks made so far stand, and only then are they fewer than asked. Time stays within
+/// 2^42 us. Tasks that have left may go off the list; nobody comes, and the others keep number,
+/// bandwidth and order.
 pub fn advance(state: &mut State, n: u64) -> Done
     requires { state.old.time + n ≤ 2 ^ 42 }
     ensures state { state.new ≡ ticks_of result.ticks state.old }
@@ -120,11 +122,13 @@ pub fn advance(state: &mut State, n: u64) -> Done
     advance_alone(state, n, &Silent)
 }
 
-/// As [`advance`], by so many workers at most (1 to 8 are meant): before each jump the rates of the running tasks, and when their
-/// budgets end, are worked out as [`plan_all`](tick_split::plan_all) does, and at its end they are charged as
-/// [`charge_all`](tick_split::charge_all) does, with the turns of their pieces. The number of workers changes no result. Where
-/// a worker is not started or a growth is refused, that step is made in one piece, which needs neither; want of memory for the
-/// lists that workers share makes all steps so. One worker starts no thread and takes no memory beside that of `advance`.
+/// As [`advance`], by so many workers at most (1 to 8 are meant): before each jump the rates of the
+/// running tasks, and when their budgets end, are worked out as [`plan_all`](tick_split::plan_all)
+/// does, and at its end they are charged as [`charge_all`](tick_split::charge_all) does, with the
+/// turns of their pieces. The number of workers changes no result. Where a worker is not started or
+/// a growth is refused, that step is made in one piece, which needs neither; want of memory for the
+/// lists that workers share makes all steps so. One worker starts no thread and takes no memory
+/// beside that of `advance`.
 pub fn advance_with<R: Threads + Wait, G: Turn>(
     rt: &R,
     alloc: Global,

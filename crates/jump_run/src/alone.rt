@@ -19,7 +19,8 @@ fn left_of(runner: &Running) -> u64
     runner.left as u64
 }
 
-/// For how many ticks, at most so many, a budget lasts, the last of them included: a division only where it ends before.
+/// For how many ticks, at most so many, a budget lasts, the last of them included: a division only
+/// where it ends before.
 fn lasting(left: u64, rate: u64, most: u64) -> u64
     requires left { 0 < left }
     requires slow { rate ≤ 2 ^ 27 }
@@ -94,8 +95,9 @@ fn gather<G: Turn>(state: &State, most: u64, room: &mut Room, turn: &G) -> Span
     Span { ticks, count: 64 }
 }
 
-/// As many ticks of the tick that has begun and of the next ones as pass before the next event, and at most `most`; and what
-/// they leave of the budgets of the running tasks. All of them are one piece, which has its turns.
+/// As many ticks of the tick that has begun and of the next ones as pass before the next event, and
+/// at most `most`; and what they leave of the budgets of the running tasks. All of them are one
+/// piece, which has its turns.
 pub(crate) fn make<G: Turn>(state: &State, most: u64, room: &mut Room, turn: &G) -> Span
     requires begun { jump.IsUnderWay state.now }
     requires some { 0 < most }

@@ -23,7 +23,8 @@ pub(crate) struct Crew<'a, R, G> {
     pub(crate) turn: &'a G,
 }
 
-/// Lists for the running tasks of a jump, at most 64. They are made once for all jumps of an advance.
+/// Lists for the running tasks of a jump, at most 64. They are made once for all jumps of an
+/// advance.
 #[derive(Drop)]
 pub(crate) struct Lists {
     pub(crate) plans: Vec<Plan>,
@@ -42,7 +43,8 @@ impl Lists {
     }
 }
 
-/// Lists the running tasks by CPU, and tells for how many ticks, at most `most`, nothing comes due and each has work.
+/// Lists the running tasks by CPU, and tells for how many ticks, at most `most`, nothing comes due
+/// and each has work.
 fn gather(state: &State, most: u64, plans: &mut Vec<Plan>) -> u64
     requires begun { jump.IsUnderWay state.now }
     requires some { 0 < most }
@@ -158,9 +160,10 @@ fn charge_list<R: Threads + Wait, G: Turn>(crew: &Crew<'_, R, G>, slices: &mut V
     charge(crew, slices.as_mut_slice());
 }
 
-/// As many ticks of the tick that has begun and of the next ones as pass before the next event, and at most `most`; and what
-/// they leave of the budgets of the running tasks. Each worker works out its own pieces; where a worker was not started or a
-/// growth was refused, all is worked out here, in one piece.
+/// As many ticks of the tick that has begun and of the next ones as pass before the next event, and
+/// at most `most`; and what they leave of the budgets of the running tasks. Each worker works out
+/// its own pieces; where a worker was not started or a growth was refused, all is worked out here,
+/// in one piece.
 pub(crate) fn make<R: Threads + Wait, G: Turn>(
     crew: &Crew<'_, R, G>,
     state: &State,

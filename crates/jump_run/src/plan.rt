@@ -8,8 +8,8 @@ use attr_check::Params;
 use domain_run::{Running, State};
 use tick_split::Plan;
 
-/// Room for what is gathered of the running tasks, by CPU: what is left of their budgets, their rates, and what is left after the
-/// jump. It is made once for all jumps of an advance.
+/// Room for what is gathered of the running tasks, by CPU: what is left of their budgets, their
+/// rates, and what is left after the jump. It is made once for all jumps of an advance.
 #[derive(Drop)]
 pub(crate) struct Room {
     pub(crate) lefts: [u64; 64],

@@ -7,7 +7,8 @@ use std::alloc::{AllocError, AllocFailed};
 use std::error::Error;
 use std::fmt;
 
-/// ENOMEM 12: a growth was refused. What stands then is told by each call that answers it. It prints as `out of memory`.
+/// ENOMEM 12: a growth was refused. What stands then is told by each call that answers it. It
+/// prints as `out of memory`.
 #[derive(Clone, Copy, Debug, PartialEq, Eq)]
 pub struct NoMemory;
 

@@ -47,7 +47,9 @@ numbers_in items = map (λ v. unwrap_or (natural_within 0 511 v) 0) items
 -- each is a whole number 0 to 511 that does not stand before it
 abbrev pub cpus_after : List ℕ → List Json → Bool
 cpus_after before [] = true
-cpus_after before (v ∷ vs) = option_map_or (λ n. not (list_any (λ m. m == n) before) && cpus_after (before ++ n ∷ []) vs) (natural_within 0 511 v) false
+cpus_after before (v ∷ vs) =
+    option_map_or (λ n. not (list_any (λ m. m == n) before) && cpus_after (before ++ n ∷ []) vs)
+    (natural_within 0 511 v) false
 
 unfoldable pub are_cpus : List Json → Bool
 are_cpus items = nat_lt 0 (length items) && cpus_after [] items
@@ -73,7 +75,8 @@ abbrev optional : List ℕ → Takes → Row
 optional key takes = record { key = key; takes = takes; refused = value key; missing = None }
 
 abbrev needed : List ℕ → Takes → Row
-needed key takes = record { key = key; takes = takes; refused = value key; missing = Some (value key) }
+needed key takes =
+    record { key = key; takes = takes; refused = value key; missing = Some (value key) }
 
 -- microseconds of a runtime, deadline or period
 abbrev time : Takes
@@ -85,7 +88,12 @@ thread_keys =
     optional (codes "instance") (whole 1 256)
     ∷ optional (codes "loop") loops
     ∷ optional (codes "delay") (whole 0 1000000000)
-    ∷ record { key = codes "policy"; takes = this_text (codes "SCHED_DEADLINE"); refused = policy; missing = Some policy }
+    ∷ record {
+      key = codes "policy";
+      takes = this_text (codes "SCHED_DEADLINE");
+      refused = policy;
+      missing = Some policy;
+    }
     ∷ optional (codes "priority") anything
     ∷ needed (codes "dl-runtime") time
     ∷ optional (codes "dl-period") time
@@ -102,7 +110,12 @@ abbrev pub timer_keys : List Row
 timer_keys =
     needed (codes "ref") any_text
     ∷ needed (codes "period") (whole 1 1000000000)
-    ∷ record { key = codes "mode"; takes = this_text (codes "relative"); refused = unsupported (codes "mode"); missing = None }
+    ∷ record {
+      key = codes "mode";
+      takes = this_text (codes "relative");
+      refused = unsupported (codes "mode");
+      missing = None;
+    }
     ∷ []
 
 abbrev pub by_row : Member → Option Row → Option Fault
@@ -125,7 +138,8 @@ event_words = (codes "run", Run) ∷ (codes "sleep", Sleep) ∷ (codes "timer", 
 
 -- a word, and no or more digits behind it
 abbrev pub begins_with : List ℕ → List ℕ → Bool
-begins_with word key = bytes_eq (take (length word) key) word && list_all is_ascii_digit (drop (length word) key)
+begins_with word key =
+    bytes_eq (take (length word) key) word && list_all is_ascii_digit (drop (length word) key)
 
 -- which event a key is of; none where it is another key
 unfoldable pub kind_of : List ℕ → Option EventKind

@@ -20,20 +20,31 @@ member_phase phase = phase_of (count (members phase.value)) (members phase.value
 
 -- events of its own are one phase
 abbrev pub phases : List Member → List PhaseView
-phases ms = if has (codes "phases") ms then map member_phase (members_at (codes "phases") ms) else phase_of 1 ms ∷ []
+phases ms =
+    if has (codes "phases") ms then map member_phase (members_at (codes "phases") ms)
+    else phase_of 1 ms ∷ []
 
 unfoldable pub script : List Member → ScriptView
 script ms = script_of (rounds ms) (phases ms)
 
 -- ---- tasks
 
--- The thread's name, where it is one task; else with - and the task's number in the thread, from 0. The first 15 bytes of that.
+-- The thread's name, where it is one task; else with - and the task's number in the thread, from 0.
+-- The first 15 bytes of that.
 abbrev pub task_name : List ℕ → ℕ → ℕ → List ℕ
-task_name name instances k = take 15 (if instances == 1 then name else name ++ (codes "-" ++ decimal k))
+task_name name instances k =
+    take 15 (if instances == 1 then name else name ++ (codes "-" ++ decimal k))
 
 -- SCHED_DEADLINE is policy 6 (sched_setattr(2)); times in nanoseconds
 abbrev pub attr : List Member → SchedAttr
-attr ms = record { policy = 6; flags = 0; runtime = runtime ms * 1000; deadline = deadline ms * 1000; period = period ms * 1000 }
+attr ms =
+    record {
+      policy = 6;
+      flags = 0;
+      runtime = runtime ms * 1000;
+      deadline = deadline ms * 1000;
+      period = period ms * 1000;
+    }
 
 -- the k-th task of a thread
 unfoldable pub task_at : Member → ℕ → ℕ → TaskSpecView
@@ -50,17 +61,23 @@ task_at thread number k =
 
 -- the tasks of a thread, of which the first has this number
 unfoldable pub thread_tasks : ℕ → Member → List TaskSpecView
-thread_tasks number thread = map (λ k. task_at thread (number + k) k) (range_with_len 0 (instances (members thread.value)))
+thread_tasks number thread =
+    map (λ k. task_at thread (number + k) k) (range_with_len 0 (instances (members thread.value)))
 
 -- every instance is a task, and numbers go on from thread to thread
 abbrev pub tasks_from : ℕ → List Member → List TaskSpecView
 tasks_from number [] = []
-tasks_from number (thread ∷ threads) = thread_tasks number thread ++ tasks_from (number + instances (members thread.value)) threads
+tasks_from number (thread ∷ threads) =
+    thread_tasks number thread ++ tasks_from (number + instances (members thread.value)) threads
 
 -- ---- the scenario
 
 abbrev pub scenario_of : Json → ScenarioView
-scenario_of root = record { duration_us = unwrap_or (duration_of root) 0 * 1000000; tasks = tasks_from 1 (threads_of root) }
+scenario_of root =
+    record {
+      duration_us = unwrap_or (duration_of root) 0 * 1000000;
+      tasks = tasks_from 1 (threads_of root);
+    }
 
 abbrev pub unless_faulty : Json → Option Fault → Result ScenarioView Fault
 unless_faulty root None = Ok (scenario_of root)

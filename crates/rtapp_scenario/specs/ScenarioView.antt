@@ -4,7 +4,8 @@ use Rattle.attr_check.specs.declared.attr.SchedAttr.{SchedAttr}
 use Rattle.domain_run.specs.NameView.{IsName}
 use Rattle.domain_run.specs.script.ScriptView.{ScriptView, IsScript}
 
--- a task: its number, name, attributes, CPUs (none where the text names none, which means domain 0), microseconds to its start, and script
+-- a task: its number, name, attributes, CPUs (none where the text names none, which means domain
+-- 0), microseconds to its start, and script
 pub record TaskSpecView : Type 0 where
   pub number : ℕ
   pub name : List ℕ
@@ -17,7 +18,8 @@ pub record TaskSpecView : Type 0 where
 abbrev pub AreCpus : Option (List ℕ) → Type 0
 AreCpus cpus = IfSome cpus (All (λ cpu. cpu ≤ 511))
 
--- what every task specification keeps (own): a number, a name, CPUs, a delay and a script within their limits
+-- what every task specification keeps (own): a number, a name, CPUs, a delay and a script within
+-- their limits
 pub record IsTaskSpec (t : TaskSpecView) : Type 0 where
   pub some : 0 < t.number
   pub most : t.number ≤ 65535

@@ -15,7 +15,9 @@ use Rattle.rtapp_scenario.specs.Threads.{thread_ref, has_event, phases_in, insta
 -- a timer's `ref` is that of the thread's first timer
 abbrev pub other_ref : Option (List ℕ) → Member → Option Fault
 other_ref None m = None
-other_ref (Some ref) m = unless (not (bytes_eq m.key (codes "ref")) || is_text ref (text_of m.value)) (unsupported (codes "ref"))
+other_ref (Some ref) m =
+    unless (not (bytes_eq m.key (codes "ref")) || is_text ref (text_of m.value))
+    (unsupported (codes "ref"))
 
 abbrev pub timer_member_fault : Option (List ℕ) → List Member → Member → Option Fault
 timer_member_fault ref before m = first (key_fault timer_keys m ∷ other_ref ref m ∷ [])
@@ -23,24 +25,29 @@ timer_member_fault ref before m = first (key_fault timer_keys m ∷ other_ref re
 -- the members in text order, and then what is missing
 abbrev pub timer_fault : Option (List ℕ) → Option (List Member) → Member → Option Fault
 timer_fault ref None m = Some (value m.key)
-timer_fault ref (Some ms) m = first (in_order (timer_member_fault ref) [] ms ∷ missing_fault timer_keys ms ∷ [])
+timer_fault ref (Some ms) m =
+    first (in_order (timer_member_fault ref) [] ms ∷ missing_fault timer_keys ms ∷ [])
 
 -- `run` and `sleep` take 0 to 10^9 us, a timer takes an object
 unfoldable pub event_value_fault : Option (List ℕ) → Option EventKind → Member → Option Fault
 event_value_fault ref None m = None
-event_value_fault ref (Some Run) m = unless (is_some (natural_within 0 1000000000 m.value)) (value m.key)
-event_value_fault ref (Some Sleep) m = unless (is_some (natural_within 0 1000000000 m.value)) (value m.key)
+event_value_fault ref (Some Run) m =
+    unless (is_some (natural_within 0 1000000000 m.value)) (value m.key)
+event_value_fault ref (Some Sleep) m =
+    unless (is_some (natural_within 0 1000000000 m.value)) (value m.key)
 event_value_fault ref (Some Timer) m = timer_fault ref (object_of m.value) m
 
 -- the 65th event is refused before its value is read; all are counted, those of 0 us too
 unfoldable pub event_fault : Option (List ℕ) → List Member → Member → Option Fault
 event_fault ref before m =
-    first (unless (nat_lt (count_by is_event before) 64) too_many ∷ event_value_fault ref (kind_of m.key) m ∷ [])
+    first (unless (nat_lt (count_by is_event before) 64) too_many
+    ∷ event_value_fault ref (kind_of m.key) m ∷ [])
 
 -- ---- phases
 
 unfoldable pub phase_member_fault : Option (List ℕ) → List Member → Member → Option Fault
-phase_member_fault ref before m = if is_event m then event_fault ref before m else key_fault phase_keys m
+phase_member_fault ref before m =
+    if is_event m then event_fault ref before m else key_fault phase_keys m
 
 abbrev pub phase_fault_in : Option (List ℕ) → Member → Option (List Member) → Option Fault
 phase_fault_in ref phase None = Some (value phase.key)
@@ -68,11 +75,16 @@ phases_fault ref m = phases_fault_in ref m (object_of m.value)
 abbrev pub is_phases : Member → Bool
 is_phases m = is_at (codes "phases") m
 
--- a thread has either `phases` or events of its own, so of the two kinds the one that stands second is refused
+-- a thread has either `phases` or events of its own, so of the two kinds the one that stands second
+-- is refused
 unfoldable pub thread_member_fault : Option (List ℕ) → List Member → Member → Option Fault
 thread_member_fault ref before m =
-    if is_phases m then first (unless (not (list_any is_event before)) (unsupported m.key) ∷ phases_fault ref m ∷ [])
-    else (if is_event m then first (unless (not (list_any is_phases before)) (unsupported m.key) ∷ event_fault ref before m ∷ [])
+    if is_phases m
+    then first (unless (not (list_any is_event before)) (unsupported m.key)
+    ∷ phases_fault ref m ∷ [])
+    else (if is_event m
+    then first (unless (not (list_any is_phases before)) (unsupported m.key)
+    ∷ event_fault ref before m ∷ [])
     else key_fault thread_keys m)
 
 -- a phase from which no event is left
@@ -81,16 +93,20 @@ is_idle ms = list_any (λ phase. not (has_event phase)) (phases_in ms)
 
 -- 1 to 64 bytes of codes 0x21 to 0x7e
 abbrev pub is_name : List ℕ → Bool
-is_name text = nat_lt 0 (length text) && nat_le (length text) 64 && list_all (λ b. nat_le 33 b && nat_le b 126) text
+is_name text =
+    nat_lt 0 (length text) && nat_le (length text) 64
+    && list_all (λ b. nat_le 33 b && nat_le b 126) text
 
 -- the `ref` of each thread's timers
 abbrev pub refs_in : List Member → List (Option (List ℕ))
 refs_in threads = map (λ thread. thread_ref (members thread.value)) threads
 
--- a `ref` other than `unique` that several tasks would use: those of one thread, or also those of a thread before it
+-- a `ref` other than `unique` that several tasks would use: those of one thread, or also those of a
+-- thread before it
 unfoldable pub is_shared : List (Option (List ℕ)) → ℕ → Option (List ℕ) → Bool
 is_shared refs tasks None = false
-is_shared refs tasks (Some ref) = not (bytes_eq ref (codes "unique")) && (nat_lt 1 tasks || list_any (is_text ref) refs)
+is_shared refs tasks (Some ref) =
+    not (bytes_eq ref (codes "unique")) && (nat_lt 1 tasks || list_any (is_text ref) refs)
 
 -- how many tasks threads are
 abbrev pub tasks_in : List Member → ℕ
@@ -112,7 +128,8 @@ members_fault_in (Some ms) thread = members_fault ms
 
 -- of one thread: first its name
 unfoldable pub own_fault : Member → Option Fault
-own_fault thread = first (unless (is_name thread.key) name ∷ members_fault_in (object_of thread.value) thread ∷ [])
+own_fault thread =
+    first (unless (is_name thread.key) name ∷ members_fault_in (object_of thread.value) thread ∷ [])
 
 -- of one thread beside those before it: a `ref` that is shared, and then the count of tasks
 unfoldable pub beside_fault : List (Option (List ℕ)) → ℕ → List Member → Option Fault
@@ -124,7 +141,9 @@ beside_fault refs tasks ms =
     )
 
 abbrev pub thread_fault : List Member → Member → Option Fault
-thread_fault before thread = first (own_fault thread ∷ beside_fault (refs_in before) (tasks_in before) (members thread.value) ∷ [])
+thread_fault before thread =
+    first (own_fault thread
+    ∷ beside_fault (refs_in before) (tasks_in before) (members thread.value) ∷ [])
 
 -- ---- the root
 
@@ -133,10 +152,13 @@ threads_of root = members_at (codes "tasks") (members root)
 
 -- in seconds, where it is one that is accepted
 abbrev pub duration_of : Json → Option ℕ
-duration_of root = option_and_then (natural_within 0 60) (at (codes "duration") (members_at (codes "global") (members root)))
+duration_of root =
+    option_and_then (natural_within 0 60)
+    (at (codes "duration") (members_at (codes "global") (members root)))
 
 abbrev pub root_member_fault : Member → Option Fault
-root_member_fault m = unless (is_at (codes "tasks") m || is_at (codes "global") m) (unsupported m.key)
+root_member_fault m =
+    unless (is_at (codes "tasks") m || is_at (codes "global") m) (unsupported m.key)
 
 abbrev pub fault_of : Json → Option Fault
 fault_of root =

@@ -15,7 +15,8 @@ use Rattle.rtapp_scenario.specs.Keys.{kind_of, numbers_in}
 
 -- the number at a key, from the least to the most, or the default
 unfoldable pub number_at : List ℕ → ℕ → ℕ → ℕ → List Member → ℕ
-number_at key least most default ms = unwrap_or (option_and_then (natural_within least most) (at key ms)) default
+number_at key least most default ms =
+    unwrap_or (option_and_then (natural_within least most) (at key ms)) default
 
 -- how many tasks a thread is
 abbrev pub instances : List Member → ℕ
@@ -54,7 +55,9 @@ abbrev pub event_of : Option EventKind → Json → Option Event
 event_of None v = None
 event_of (Some Run) v = option_map events.Run (natural_within 1 1000000000 v)
 event_of (Some Sleep) v = option_map events.Sleep (natural_within 1 1000000000 v)
-event_of (Some Timer) v = option_map events.Timer (option_and_then (natural_within 1 1000000000) (at (codes "period") (members v)))
+event_of (Some Timer) v =
+    option_map events.Timer
+    (option_and_then (natural_within 1 1000000000) (at (codes "period") (members v)))
 
 -- the event of a member; an event of 0 us is dropped
 unfoldable pub event_at : Member → Option Event
@@ -67,7 +70,9 @@ has_event ms = list_any (λ m. is_some (event_at m)) ms
 
 -- the members of each phase: events of its own make a thread one phase
 abbrev pub phases_in : List Member → List (List Member)
-phases_in ms = if has (codes "phases") ms then map (λ phase. members phase.value) (members_at (codes "phases") ms) else ms ∷ []
+phases_in ms =
+    if has (codes "phases") ms
+    then map (λ phase. members phase.value) (members_at (codes "phases") ms) else ms ∷ []
 
 -- ---- timers
 
@@ -87,7 +92,8 @@ first_timer_in ms = first (map timer_at ms)
 -- the first timer of a phase, or of a thread's own
 unfoldable pub timer_of : Member → Option Json
 timer_of m =
-    if is_at (codes "phases") m then first (map (λ phase. first_timer_in (members phase.value)) (members m.value))
+    if is_at (codes "phases") m
+    then first (map (λ phase. first_timer_in (members phase.value)) (members m.value))
     else timer_at m
 
 abbrev pub ref_of : Json → Option (List ℕ)

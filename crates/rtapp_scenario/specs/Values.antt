@@ -60,19 +60,24 @@ number_of (object ms) = None
 
 -- digits whose number is within 64 signed bits
 abbrev pub is_natural : List ℕ → Bool
-is_natural text = nat_lt 0 (length text) && list_all is_ascii_digit text && nat_lt (digits_value 10 text) (2 ^ 63)
+is_natural text =
+    nat_lt 0 (length text) && list_all is_ascii_digit text && nat_lt (digits_value 10 text) (2 ^ 63)
 
--- The whole number of a number's text, where it is not below 0: digits alone, or -0, which is 0. A number with a fraction or an
--- exponent is no whole number.
+-- The whole number of a number's text, where it is not below 0: digits alone, or -0, which is 0. A
+-- number with a fraction or an exponent is no whole number.
 unfoldable pub natural_in : List ℕ → Option ℕ
-natural_in text = if bytes_eq text (codes "-0") then Some 0 else (if is_natural text then Some (digits_value 10 text) else None)
+natural_in text =
+    if bytes_eq text (codes "-0") then Some 0
+    else (if is_natural text then Some (digits_value 10 text) else None)
 
 abbrev pub natural_of : Json → Option ℕ
 natural_of value = option_and_then natural_in (number_of value)
 
 -- a whole number from the least to the most
 unfoldable pub natural_within : ℕ → ℕ → Json → Option ℕ
-natural_within least most value = option_and_then (λ n. if nat_le least n && nat_le n most then Some n else None) (natural_of value)
+natural_within least most value =
+    option_and_then (λ n. if nat_le least n && nat_le n most then Some n else None)
+    (natural_of value)
 
 -- the members of an object; another value has none
 abbrev pub members : Json → List Member

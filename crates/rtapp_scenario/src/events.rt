@@ -1,4 +1,4 @@
-ghost use Rattle.std.specs.Prelude.{◌≡◌, [], count_by, map, length, Some};
+ghost use Rattle.std.specs.Prelude.{◌≡◌, [], count_by, Some};
 ghost use Rattle.rtapp_scenario.specs.Values.{member_of, members_of, object_of};
 ghost use Rattle.rtapp_scenario.specs.Faults.{in_order};
 ghost use Rattle.rtapp_scenario.specs.Keys.{kind_of, is_event};

@@ -6,7 +6,8 @@ use std::alloc::{AllocError, AllocFailed, Global};
 use std::error::Error;
 use std::fmt;
 
-/// Why a JSON value is no scenario: the first test that it fails. Each fault has a number, 20 to 28 in this order.
+/// Why a JSON value is no scenario: the first test that it fails. Each fault has a number, 20 to 28
+/// in this order.
 #[derive(Debug, PartialEq, Eq, Drop)]
 pub enum ScenarioFault {
     /// 20: the root is no object with a member `tasks` that is an object with at least one member.

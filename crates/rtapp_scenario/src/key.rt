@@ -1,8 +1,6 @@
-ghost use Rattle.std.specs.Prelude.{◌≡◌, ◌≤◌, ◌<◌, [], count_by, is_some, length, drop, map};
-ghost use Rattle.std.specs.List.{list_any, list_all};
-ghost use Rattle.std.specs.Char.{is_ascii_digit};
+ghost use Rattle.std.specs.Prelude.{◌≡◌, ◌<◌, [], is_some, map};
 ghost use Rattle.json_order.specs.Seen.{json_of};
-ghost use Rattle.rtapp_scenario.specs.Values.{Member, member_of, members_of, has, text_of};
+ghost use Rattle.rtapp_scenario.specs.Values.{member_of, members_of, has};
 ghost use Rattle.rtapp_scenario.specs.Keys.{takes, whole, loops, this_text, any_text, cpu_list, is_text, are_cpus, thread_keys, phase_keys, timer_keys, key_fault, missing_fault, kind_of, is_event, begins_with};
 ghost use Rattle.rtapp_scenario.specs.Keys.{cpus_after};
 ghost use Rattle.rtapp_scenario.specs.private.Marks.{AreMarks};
@@ -106,7 +104,8 @@ fn is_any_text(tree: &Tree) -> bool
     text(tree).is_some()
 }
 
-/// Each item is a whole number 0 to 511 that does not stand before it. The marks are of numbers that stood before.
+/// Each item is a whole number 0 to 511 that does not stand before it. The marks are of numbers
+/// that stood before.
 fn are_new_cpus(items: &[Tree], seen: &mut [bool; 512]) -> bool
     requires { AreMarks seen.old [] }
     ensures { result ≡ cpus_after [] (map json_of items.now) }

@@ -1,9 +1,11 @@
-//! The rt-app profile: a JSON value as numbered tasks with attributes and scripts, or the first fault.
+//! The rt-app profile: a JSON value as numbered tasks with attributes and scripts, or the first
+//! fault.
 //!
-//! Meets the definition "Scenario" (`specs/Scenario.antt`: which tasks a value stands for; `specs/Tests.antt`: which tests
-//! it has to pass, in their order; `specs/Keys.antt`: the keys with what they take, as tables). To the crates above it
-//! promises that [`parse`] is Ok exactly with the definition's scenario and Err with its first fault, want of memory
-//! aside, and that every [`TaskSpec`] and its script are within their limits.
+//! Meets the definition "Scenario" (`specs/Scenario.antt`: which tasks a value stands for;
+//! `specs/Tests.antt`: which tests it has to pass, in their order; `specs/Keys.antt`: the keys with
+//! what they take, as tables). To the crates above it promises that [`parse`] is Ok exactly with
+//! the definition's scenario and Err with its first fault, want of memory aside, and that every
+//! [`TaskSpec`] and its script are within their limits.
 #![tactic(auto)]
 
 mod events;

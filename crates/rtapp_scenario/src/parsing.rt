@@ -1,12 +1,12 @@
-ghost use Rattle.std.specs.Prelude.{◌≡◌, ◌+◌, ◌≤◌, Ok, Some, None, IfOk, IfErr, IfSome, EachIndex, All, length, map, is_some, slice_get};
+ghost use Rattle.std.specs.Prelude.{◌≡◌, ◌≤◌, Ok, Some, None, IfOk, IfErr, IfSome, All, length, map};
 ghost use Rattle.std.specs.List.{range_with_len};
 ghost use Rattle.json_order.specs.Seen.{json_of};
 ghost use Rattle.rtapp_scenario.specs.Values.{member_of, members_of, members, members_at};
 ghost use Rattle.rtapp_scenario.specs.Faults.{first};
-ghost use Rattle.rtapp_scenario.specs.Tests.{threads_of, duration_of, root_member_fault, fault_of};
+ghost use Rattle.rtapp_scenario.specs.Tests.{duration_of, root_member_fault, fault_of};
 ghost use Rattle.rtapp_scenario.specs.Scenario.{parsed};
 ghost use Rattle.rtapp_scenario.specs.ScenarioView.{IsTaskSpec};
-ghost use Rattle.rtapp_scenario.specs.Told.{flaw_of, IsTold, IsFault};
+ghost use Rattle.rtapp_scenario.specs.Told.{flaw_of, IsFault};
 
 use crate::fault::{ScenarioFault, fault_of};
 use crate::flaw::Flaw;
@@ -59,14 +59,16 @@ fn check_root_members(members: &[(String, Tree)]) -> Result<(), Flaw<'_>>
     Ok(())
 }
 
-/// The scenario of a JSON value by the rt-app profile, which the page on formats has: the keys with their ranges and
-/// defaults, and the order of the tests (rt-app's JSON keys; ranges, defaults, names of instances and limits are own).
-/// The tasks are numbered 1, 2, .. in text order, each thread as many as its `instance` says.
+/// The scenario of a JSON value by the rt-app profile, which the page on formats has: the keys with
+/// their ranges and defaults, and the order of the tests (rt-app's JSON keys; ranges, defaults,
+/// names of instances and limits are own). The tasks are numbered 1, 2, .. in text order, each
+/// thread as many as its `instance` says.
 ///
 /// Memory is taken for the tasks alone, and for the key of a fault.
 ///
 /// # Errors
-/// The first test that fails, as [`ScenarioFault`] has them. [`ScenarioFault::Memory`] may come before any other.
+/// The first test that fails, as [`ScenarioFault`] has them. [`ScenarioFault::Memory`] may come
+/// before any other.
 pub fn parse(alloc: Global, tree: &Tree) -> Result<Scenario, ScenarioFault>
     // Ok exactly with the scenario that the value stands for,
     ensures found { IfOk result (λ scenario. parsed (json_of tree.now) ≡ Ok scenario) }

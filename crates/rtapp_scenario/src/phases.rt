@@ -1,5 +1,5 @@
-ghost use Rattle.std.specs.Prelude.{◌≡◌, [], count_by, map, length, Some};
-ghost use Rattle.rtapp_scenario.specs.Values.{member_of, members_of, object_of};
+ghost use Rattle.std.specs.Prelude.{◌≡◌, [], map, Some};
+ghost use Rattle.rtapp_scenario.specs.Values.{member_of, members_of};
 ghost use Rattle.rtapp_scenario.specs.Faults.{in_order, first};
 ghost use Rattle.rtapp_scenario.specs.Tests.{phase_member_fault, phase_fault, phases_fault};
 ghost use Rattle.rtapp_scenario.specs.Told.{flaw_of, ref_seen};

@@ -9,7 +9,8 @@ pub struct TaskSpec {
     pub number: u32,
     /// 1 to 15 bytes.
     pub name: Name,
-    /// Policy 6, flags 0, and runtime, deadline and period in nanoseconds. They are checked at admission.
+    /// Policy 6, flags 0, and runtime, deadline and period in nanoseconds. They are checked at
+    /// admission.
     pub attr: SchedAttr,
     /// The CPUs on which the task may run, each 0 to 511; none where the text names none, which
     /// means domain 0.
@@ -26,9 +27,24 @@ impl Model for TaskSpec {
 
     ghost Value = { TaskSpecView };
 
-    ghost view = { λ t. record { number = t.number; name = t.name; attr = t.attr; cpus = option_map (λ v. v.items) t.cpus; delay = t.delay; script = t.script } };
+    ghost view = { λ t. record {
+      number = t.number;
+      name = t.name;
+      attr = t.attr;
+      cpus = option_map (λ v. v.items) t.cpus;
+      delay = t.delay;
+      script = t.script;
+    } };
 
-    ghost invariant = { λ t. IsTaskSpec (record { number = t.number; name = t.name; attr = t.attr; cpus = option_map (λ v. v.items) t.cpus; delay = t.delay; script = t.script }) };
+    ghost invariant = { λ t. IsTaskSpec
+        (record {
+          number = t.number;
+          name = t.name;
+          attr = t.attr;
+          cpus = option_map (λ v. v.items) t.cpus;
+          delay = t.delay;
+          script = t.script;
+        }) };
 }
 
 /// A run of tasks.

@@ -1,11 +1,10 @@
-ghost use Rattle.std.specs.Prelude.{◌≡◌, ◌+◌, ◌≤◌, ◌&&◌, nat_le, [], map, length, Some, None, not, unwrap_or, is_some, OnOk};
+ghost use Rattle.std.specs.Prelude.{◌≡◌, ◌+◌, ◌≤◌, ◌&&◌, nat_le, [], map, Some, None, not, is_some, OnOk};
 ghost use Rattle.std.specs.List.{list_any, list_all};
-ghost use Rattle.std.specs.Option.{option_map};
 ghost use Rattle.json_order.specs.Seen.{json_of};
-ghost use Rattle.rtapp_scenario.specs.Values.{Member, member_of, members_of, object_of, members};
+ghost use Rattle.rtapp_scenario.specs.Values.{member_of, members_of, members};
 ghost use Rattle.rtapp_scenario.specs.Faults.{in_order, first};
 ghost use Rattle.rtapp_scenario.specs.Keys.{is_event, is_text};
-ghost use Rattle.rtapp_scenario.specs.Threads.{timer_at, first_timer_in, timer_of, thread_ref, ref_of, has_event, event_at, phases_in, instances};
+ghost use Rattle.rtapp_scenario.specs.Threads.{timer_at, first_timer_in, timer_of, thread_ref, ref_of, has_event, event_at, instances};
 ghost use Rattle.rtapp_scenario.specs.Tests.{is_phases, thread_member_fault, is_idle, is_name, is_shared, beside_fault, members_fault, own_fault};
 ghost use Rattle.rtapp_scenario.specs.Told.{flaw_of, ref_seen, tree_seen};
 
@@ -212,7 +211,8 @@ pub(crate) fn check_thread<'a>(thread: &'a (String, Tree)) -> Result<(), Flaw<'a
     }
 }
 
-/// Several tasks would use this `ref`, which is not `unique`: those of the thread, or also those of a thread before it.
+/// Several tasks would use this `ref`, which is not `unique`: those of the thread, or also those of
+/// a thread before it.
 #[tactic(auto, unfolding(crate::specs::Tests::is_shared, crate::specs::Keys::takes))]
 fn is_shared(refs: &[Option<&str>], tasks: u64, own: Option<&str>) -> bool
     ensures { result ≡ is_shared (map ref_seen refs.now) tasks (ref_seen own.entry) }

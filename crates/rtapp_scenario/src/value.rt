@@ -1,10 +1,10 @@
-ghost use Rattle.std.specs.Prelude.{◌≡◌, ◌≤◌, ◌<◌, ◌^◌, IfSome, find, map, is_some, string_bytes, option_and_then};
+ghost use Rattle.std.specs.Prelude.{◌≡◌, ◌≤◌, ◌<◌, IfSome, map};
 ghost use Rattle.std.specs.Option.{option_map};
 ghost use Rattle.std.specs.Str.{bytes_eq};
 ghost use Rattle.std.specs.List.{list_all};
 ghost use Rattle.std.specs.Char.{is_ascii_digit};
 ghost use Rattle.json_order.specs.Seen.{json_of};
-ghost use Rattle.rtapp_scenario.specs.Values.{member_of, members_of, object_of, list_of, text_of, number_of, natural_in, natural_of, natural_within, members, at};
+ghost use Rattle.rtapp_scenario.specs.Values.{members_of, object_of, list_of, text_of, number_of, natural_in, natural_within, members, at};
 
 use json_order::Tree;
 

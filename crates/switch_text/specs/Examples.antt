@@ -8,7 +8,8 @@ use Rattle.switch_text.specs.Line.{task_part, cpu_part, time_part, prev_part, ne
 use Rattle.switch_text.specs.Trace.{RunView, in_order, header, lines_of, trace_of}
 
 abbrev at : ℕ → ℕ → Option ℕ → PrevState → Option ℕ → Switch
-at time cpu prev state next = record { time = time; cpu = cpu; prev = prev; state = state; next = next }
+at time cpu prev state next =
+    record { time = time; cpu = cpu; prev = prev; state = state; next = next }
 
 -- T1, T2, ..
 abbrev numbered : ℕ → List ℕ
@@ -19,23 +20,29 @@ run base switches = record { base = base; names = numbered; switches = switches 
 
 -- the document's example of reclaiming: T1 sleeps at 2, T2 is throttled at 8
 reclaiming_example :
-    trace_of (run 0 (at 0 0 None Running (Some 1) ∷ at 2 0 (Some 1) Sleeping (Some 2) ∷ at 8 0 (Some 2) Preempted (Some 1) ∷ []) ∷ [])
+    trace_of (run 0
+    (at 0 0 None Running (Some 1) ∷ at 2 0 (Some 1) Sleeping (Some 2)
+    ∷ at 8 0 (Some 2) Preempted (Some 1) ∷ []) ∷ [])
     ≡ codes "# tracer: nop\n"
     ++ codes "          <idle>-0       [000] d..2.     0.000000: sched_switch: prev_comm=swapper/0 prev_pid=0 prev_prio=120 prev_state=R ==> next_comm=T1 next_pid=1001 next_prio=-1\n"
     ++ codes "              T1-1001    [000] d..2.     0.000002: sched_switch: prev_comm=T1 prev_pid=1001 prev_prio=-1 prev_state=S ==> next_comm=T2 next_pid=1002 next_prio=-1\n"
     ++ codes "              T2-1002    [000] d..2.     0.000008: sched_switch: prev_comm=T2 prev_pid=1002 prev_prio=-1 prev_state=R+ ==> next_comm=T1 next_pid=1001 next_prio=-1\n"
-unfolding trace_of header lines_of in_order line_of task_part cpu_part time_part prev_part next_part digits
+unfolding trace_of header lines_of in_order line_of task_part cpu_part time_part prev_part next_part
+    digits
 reclaiming_example = refl
 
 -- a task that is throttled inside a job, and has ended at 7
 throttled_inside_a_job :
-    trace_of (run 0 (at 0 0 None Running (Some 1) ∷ at 2 0 (Some 1) Preempted None ∷ at 5 0 None Running (Some 1) ∷ at 7 0 (Some 1) Dead None ∷ []) ∷ [])
+    trace_of (run 0
+    (at 0 0 None Running (Some 1) ∷ at 2 0 (Some 1) Preempted None
+    ∷ at 5 0 None Running (Some 1) ∷ at 7 0 (Some 1) Dead None ∷ []) ∷ [])
     ≡ codes "# tracer: nop\n"
     ++ codes "          <idle>-0       [000] d..2.     0.000000: sched_switch: prev_comm=swapper/0 prev_pid=0 prev_prio=120 prev_state=R ==> next_comm=T1 next_pid=1001 next_prio=-1\n"
     ++ codes "              T1-1001    [000] d..2.     0.000002: sched_switch: prev_comm=T1 prev_pid=1001 prev_prio=-1 prev_state=R+ ==> next_comm=swapper/0 next_pid=0 next_prio=120\n"
     ++ codes "          <idle>-0       [000] d..2.     0.000005: sched_switch: prev_comm=swapper/0 prev_pid=0 prev_prio=120 prev_state=R ==> next_comm=T1 next_pid=1001 next_prio=-1\n"
     ++ codes "              T1-1001    [000] d..2.     0.000007: sched_switch: prev_comm=T1 prev_pid=1001 prev_prio=-1 prev_state=X ==> next_comm=swapper/0 next_pid=0 next_prio=120\n"
-unfolding trace_of header lines_of in_order line_of task_part cpu_part time_part prev_part next_part digits
+unfolding trace_of header lines_of in_order line_of task_part cpu_part time_part prev_part next_part
+    digits
 throttled_inside_a_job = refl
 
 -- the last switch of a task that has ended, after a minute, on the machine's CPU 511
@@ -47,12 +54,14 @@ ended = refl
 
 -- two domains: by time first, and at one time by the machine's CPU, whichever run is named first
 two_domains :
-    trace_of (run 1 (at 0 0 None Running (Some 2) ∷ []) ∷ run 0 (at 0 0 None Running (Some 1) ∷ at 4 0 (Some 1) Dead None ∷ []) ∷ [])
+    trace_of (run 1 (at 0 0 None Running (Some 2) ∷ [])
+    ∷ run 0 (at 0 0 None Running (Some 1) ∷ at 4 0 (Some 1) Dead None ∷ []) ∷ [])
     ≡ codes "# tracer: nop\n"
     ++ line_of numbered 0 (at 0 0 None Running (Some 1))
     ++ line_of numbered 1 (at 0 0 None Running (Some 2))
     ++ line_of numbered 0 (at 4 0 (Some 1) Dead None)
-unfolding trace_of header lines_of in_order line_of task_part cpu_part time_part prev_part next_part digits
+unfolding trace_of header lines_of in_order line_of task_part cpu_part time_part prev_part next_part
+    digits
 two_domains = refl
 
 -- no run, or no switch: the header alone

@@ -1,7 +1,7 @@
 -- One line of the trace text: a switch as ftrace prints its event sched_switch.
 --
--- The event's own fields, from prev_comm to next_prio, are ftrace's. The widths, the part before them and the letters of
--- the states are this project's own profile.
+-- The event's own fields, from prev_comm to next_prio, are ftrace's. The widths, the part before
+-- them and the letters of the states are this project's own profile.
 use Rattle.std.specs.Prelude.{ℕ, ◌+◌, ◌-◌, ◌/◌, ◌%◌, List, ◌++◌, length, replicate, codes, decimal, Option, Some, None}
 use Rattle.domain_run.specs.declared.switch.Switch.{Switch}
 use Rattle.domain_run.specs.declared.switch.PrevState.{PrevState}
@@ -34,7 +34,8 @@ abbrev pub title_of : (ℕ → List ℕ) → Option ℕ → List ℕ
 title_of names None = codes "<idle>"
 title_of names (Some number) = names number
 
--- the name in the event's fields; each CPU has an idle task of its own (ftrace's prev_comm and next_comm)
+-- the name in the event's fields; each CPU has an idle task of its own (ftrace's prev_comm and
+-- next_comm)
 abbrev pub comm_of : (ℕ → List ℕ) → ℕ → Option ℕ → List ℕ
 comm_of names cpu None = codes "swapper/" ++ decimal cpu
 comm_of names cpu (Some number) = names number
@@ -48,7 +49,8 @@ letters_of Dead = codes "X"
 
 -- whose place is taken
 unfoldable pub task_part : (ℕ → List ℕ) → Option ℕ → List ℕ
-task_part names prev = right_in 16 (title_of names prev) ++ codes "-" ++ left_in 7 (decimal (pid_of prev))
+task_part names prev =
+    right_in 16 (title_of names prev) ++ codes "-" ++ left_in 7 (decimal (pid_of prev))
 
 -- on which CPU of the machine
 unfoldable pub cpu_part : ℕ → List ℕ
@@ -74,7 +76,8 @@ next_part names cpu next =
     ++ codes " next_prio=" ++ prio_of next
     ++ codes "\n"
 
--- the line of a switch in a domain whose CPU 0 is this CPU of the machine, where tasks have these names
+-- the line of a switch in a domain whose CPU 0 is this CPU of the machine, where tasks have these
+-- names
 unfoldable pub line_of : (ℕ → List ℕ) → ℕ → Switch → List ℕ
 line_of names base s =
     task_part names s.prev

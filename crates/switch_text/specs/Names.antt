@@ -22,7 +22,8 @@ pub record HasName (names : Names) (number : ℕ) : Type 0 where
   pub some : 0 < length (named names number)
   pub most : length (named names number) ≤ 15
 
--- what has a line: a time below 2^42, a CPU of the machine below 512, and names for who leaves and who comes
+-- what has a line: a time below 2^42, a CPU of the machine below 512, and names for who leaves and
+-- who comes
 pub record HasLine (names : Names) (base : ℕ) (s : Switch) : Type 0 where
   pub time : s.time < 2 ^ 42
   pub cpu : base + s.cpu < 512

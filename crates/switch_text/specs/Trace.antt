@@ -1,10 +1,12 @@
--- The trace text of several runs: a header, and the lines of all of them in one order (own; ftrace orders by time).
+-- The trace text of several runs: a header, and the lines of all of them in one order (own; ftrace
+-- orders by time).
 use Rattle.std.specs.Prelude.{ℕ, ◌+◌, ◌==◌, ◌&&◌, ◌||◌, nat_lt, Bool, if◌then◌else◌, List, [], ◌∷◌, ◌++◌, map, codes}
 use Rattle.std.specs.List.{flat_map}
 use Rattle.domain_run.specs.declared.switch.Switch.{Switch}
 use Rattle.switch_text.specs.Line.{line_of}
 
--- the run of one domain: the CPU of the machine that is its CPU 0, the names of its tasks by number, its switches
+-- the run of one domain: the CPU of the machine that is its CPU 0, the names of its tasks by
+-- number, its switches
 pub record RunView : Type 0 where
   pub base : ℕ
   pub names : ℕ → List ℕ

@@ -74,14 +74,17 @@ impl Batch {
         self.len = end;
     }
 
-    /// Writes all that waits: how many bytes went out, also where the writer failed before the last.
+    /// Writes all that waits: how many bytes went out, also where the writer failed before the
+    /// last.
     pub(crate) fn flush<W: Write>(&mut self, writer: &mut Counted<W>) -> Result<usize, usize>
         requires { faults_of writer.old < 2 ^ 63 }
         ensures ok { IfOk result (λ n.
-            Sends (W.contents (inner_of writer.old)) (W.contents (inner_of writer.new)) self.old n self.new) }
+            Sends (W.contents (inner_of writer.old))
+            (W.contents (inner_of writer.new)) self.old n self.new) }
         ensures emptied { OnOk result (self.new ≡ []) }
         ensures err { IfErr result
-            (TakesFront (W.contents (inner_of writer.old)) (W.contents (inner_of writer.new)) self.old) }
+            (TakesFront (W.contents (inner_of writer.old))
+            (W.contents (inner_of writer.new)) self.old) }
         ensures faults { faults_of writer.new ≡ one_more_unless (is_ok result) (faults_of writer.old) }
     {
         let waiting = self.len;
@@ -94,15 +97,18 @@ impl Batch {
         }
     }
 
-    /// Makes room for a line: where too much waits, all of it is written. How many bytes went out, also where the writer failed.
+    /// Makes room for a line: where too much waits, all of it is written. How many bytes went out,
+    /// also where the writer failed.
     #[inline]
     pub(crate) fn make_room<W: Write>(&mut self, writer: &mut Counted<W>) -> Result<usize, usize>
         requires faults { faults_of writer.old < 2 ^ 63 }
         ensures ok { IfOk result (λ n.
-            Sends (W.contents (inner_of writer.old)) (W.contents (inner_of writer.new)) self.old n self.new) }
+            Sends (W.contents (inner_of writer.old))
+            (W.contents (inner_of writer.new)) self.old n self.new) }
         ensures room { OnOk result (length self.new ≤ LOW) }
         ensures err { IfErr result
-            (TakesFront (W.contents (inner_of writer.old)) (W.contents (inner_of writer.new)) self.old) }
+            (TakesFront (W.contents (inner_of writer.old))
+            (W.contents (inner_of writer.new)) self.old) }
         ensures faults { faults_of writer.new ≡ one_more_unless (is_ok result) (faults_of writer.old) }
     {
         if self.is_low() {

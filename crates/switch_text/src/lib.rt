@@ -1,11 +1,13 @@
-//! The trace text: the switches of all domains as lines, in the form in which ftrace prints its event
-//! sched_switch.
+//! The trace text: the switches of all domains as lines, in the form in which ftrace prints its
+//! event sched_switch.
 //!
-//! Meets the definition "Trace text": a line (`specs/Line.antt`) and the whole text of several runs (`specs/Trace.antt`, with
-//! worked rows in `specs/Examples.antt`). To the crates above it promises that [`write_trace`] appends exactly that text, or
-//! stops at the writer's first fault with the exact number of bytes taken, as [`write_text`] does with a text in memory.
-//! [`Counted`] is the crate `counted_io`'s. `proofs/CallerLemmas.antt` has laws of the text for callers: the trace of one run is its lines as they stand, only the names that occur matter, and what it
-//! means that the entries are in order.
+//! Meets the definition "Trace text": a line (`specs/Line.antt`) and the whole text of several runs
+//! (`specs/Trace.antt`, with worked rows in `specs/Examples.antt`). To the crates above it promises
+//! that [`write_trace`] appends exactly that text, or stops at the writer's first fault with the
+//! exact number of bytes taken, as [`write_text`] does with a text in memory. [`Counted`] is the
+//! crate `counted_io`'s. `proofs/CallerLemmas.antt` has laws of the text for callers: the trace of
+//! one run is its lines as they stand, only the names that occur matter, and what it means that the
+//! entries are in order.
 #![tactic(auto)]
 
 mod batch;

@@ -274,13 +274,13 @@ pub(crate) fn put_coming(
     put(out, at, b"\n")
 }
 
-/// Writes the line of a switch to the front of the buffer, its LF included, and gives the line's length, at most 256 bytes
-/// (ftrace's event sched_switch; widths, prefix and the letters of the states are this project's own). What stands behind
-/// the line is left open. Takes no memory.
+/// Writes the line of a switch to the front of the buffer, its LF included, and gives the line's
+/// length, at most 256 bytes (ftrace's event sched_switch; widths, prefix and the letters of the
+/// states are this project's own). What stands behind the line is left open. Takes no memory.
 ///
-/// `base` is the CPU of the machine that is the domain's CPU 0; `names` has the tasks' names by number. The caller sees to
-/// it that the switch's time is below 2^42 us and its CPU of the machine below 512, and that each task of the switch has
-/// a name of 1 to 15 bytes.
+/// `base` is the CPU of the machine that is the domain's CPU 0; `names` has the tasks' names by
+/// number. The caller sees to it that the switch's time is below 2^42 us and its CPU of the machine
+/// below 512, and that each task of the switch has a name of 1 to 15 bytes.
 pub fn line(switch: &Switch, base: u32, names: &IndexMap<u32, String>, out: &mut [u8; 256]) -> usize
     requires { HasLine names.now base switch.now }
     ensures len { result ≡ length (line_of (named names.now) base switch.now) }

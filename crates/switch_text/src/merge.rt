@@ -57,8 +57,8 @@ fn next_in<'a, 'b>(run: &'a Run<'b>, index: usize, place: usize) -> Next<'a, 'b>
     }
 }
 
-/// The earliest switch by time and CPU of the machine, where each run goes on from its place, or none where nothing is left.
-/// Of switches of one time and CPU, that of the first run.
+/// The earliest switch by time and CPU of the machine, where each run goes on from its place, or
+/// none where nothing is left. Of switches of one time and CPU, that of the first run.
 pub(crate) fn earliest<'a, 'b>(runs: &'a [Run<'b>], places: &[usize; 8]) -> Option<Next<'a, 'b>>
     requires few { length runs.now ≤ 8 }
     requires runs { All IsRun runs.now }

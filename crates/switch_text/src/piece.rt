@@ -2,7 +2,8 @@
 
 ghost use Rattle.std.specs.Prelude.{◌≤◌};
 
-/// At most 64 bytes. They stand in front of a place for 64, so that all 64 are copied, without a look at the length.
+/// At most 64 bytes. They stand in front of a place for 64, so that all 64 are copied, without a
+/// look at the length.
 #[derive(Clone, Copy)]
 pub(crate) struct Piece {
     bytes: [u8; 64],

@@ -1,8 +1,9 @@
-//! What lines say of tasks, idle CPUs, states and seconds, put together once and kept while a trace is written.
+//! What lines say of tasks, idle CPUs, states and seconds, put together once and kept while a trace
+//! is written.
 
 ghost use Rattle.std.specs.Prelude.{ℕ, ◌≡◌, ◌+◌, ◌<◌, ◌≤◌, length, slice_index_or, All, Option, Some, None, IfSome, IsTrue};
 ghost use Rattle.switch_text.specs.Names.{named, HasName};
-ghost use Rattle.switch_text.specs.private.Parts.{second_part, state_part};
+ghost use Rattle.switch_text.specs.private.Parts.{state_part};
 ghost use Rattle.switch_text.specs.private.Pieces.{text_of};
 ghost use Rattle.switch_text.specs.private.Ready.{IsReady, names_at, who_of, AreNobodys, IsSlot, IsClock, IsMiddles, IsTexts};
 
@@ -245,7 +246,8 @@ fn refill(
     slots[place] = make(runs[run].names, who, cpu, task);
 }
 
-/// Sees to it that the texts of a task of this run, or of the idle task of a CPU of the machine, are kept, and gives their place.
+/// Sees to it that the texts of a task of this run, or of the idle task of a CPU of the machine,
+/// are kept, and gives their place.
 #[inline(always)]
 pub(crate) fn seat(
     slots: &mut [Slot],

@@ -87,9 +87,11 @@ fn write_with<W: Write>(
     requires empty { AreNobodys slots.old }
     requires faults { faults_of writer.old < 2 ^ 63 }
     ensures ok { OnOk result (Appends
-        (W.contents (inner_of writer.old)) (W.contents (inner_of writer.new)) (trace_of (views runs.now))) }
+        (W.contents (inner_of writer.old)) (W.contents (inner_of writer.new))
+        (trace_of (views runs.now))) }
     ensures err { IfErr result (λ f. TakesFront
-        (W.contents (inner_of writer.old)) (W.contents (inner_of writer.new)) (trace_of (views runs.now)) f.written) }
+        (W.contents (inner_of writer.old)) (W.contents (inner_of writer.new))
+        (trace_of (views runs.now)) f.written) }
     ensures faults { faults_of writer.new ≡ one_more_unless (is_ok result) (faults_of writer.old) }
 {
     let mut batch = Batch::new();
@@ -111,28 +113,32 @@ fn write_with<W: Write>(
     }
 }
 
-/// Writes the trace text of at most 8 runs: the header `# tracer: nop`, and then the line of each switch, ordered by time and
-/// CPU of the machine; of switches of one time and CPU, that of the earlier run first. Takes no memory: up to 64 KiB wait in a
-/// fixed buffer, which goes out in one write when it is full.
+/// Writes the trace text of at most 8 runs: the header `# tracer: nop`, and then the line of each
+/// switch, ordered by time and CPU of the machine; of switches of one time and CPU, that of the
+/// earlier run first. Takes no memory: up to 64 KiB wait in a fixed buffer, which goes out in one
+/// write when it is full.
 ///
 /// # Errors
-/// The writer's first fault ends the call. [`WriteFault::written`] is exactly the number of bytes that the writer took; they
-/// are the front of the trace text, and not all of it.
+/// The writer's first fault ends the call. [`WriteFault::written`] is exactly the number of bytes
+/// that the writer took; they are the front of the trace text, and not all of it.
 pub fn write_trace<W: Write>(runs: &[Run<'_>], writer: &mut Counted<W>) -> Result<(), WriteFault>
     requires few { length runs.now ≤ 8 }
     requires runs { All IsRun runs.now }
     requires faults { faults_of writer.old < 2 ^ 63 }
     ensures ok { OnOk result (Appends
-        (W.contents (inner_of writer.old)) (W.contents (inner_of writer.new)) (trace_of (views runs.now))) }
+        (W.contents (inner_of writer.old)) (W.contents (inner_of writer.new))
+        (trace_of (views runs.now))) }
     ensures err { IfErr result (λ f. TakesFront
-        (W.contents (inner_of writer.old)) (W.contents (inner_of writer.new)) (trace_of (views runs.now)) f.written) }
+        (W.contents (inner_of writer.old)) (W.contents (inner_of writer.new))
+        (trace_of (views runs.now)) f.written) }
     ensures faults { faults_of writer.new ≡ one_more_unless (is_ok result) (faults_of writer.old) }
 {
     let mut slots = no_slots();
     write_with(runs, &mut slots, writer)
 }
 
-/// As [`write_trace`], where the 150 KiB for the texts of tasks stand in memory and not on the stack, which may find no room to grow.
+/// As [`write_trace`], where the 150 KiB for the texts of tasks stand in memory and not on the
+/// stack, which may find no room to grow.
 ///
 /// # Errors
 /// As [`write_trace`].
@@ -145,20 +151,22 @@ pub fn write_trace_in<W: Write>(
     requires runs { All IsRun runs.now }
     requires faults { faults_of writer.old < 2 ^ 63 }
     ensures ok { OnOk result (Appends
-        (W.contents (inner_of writer.old)) (W.contents (inner_of writer.new)) (trace_of (views runs.now))) }
+        (W.contents (inner_of writer.old)) (W.contents (inner_of writer.new))
+        (trace_of (views runs.now))) }
     ensures err { IfErr result (λ f. TakesFront
-        (W.contents (inner_of writer.old)) (W.contents (inner_of writer.new)) (trace_of (views runs.now)) f.written) }
+        (W.contents (inner_of writer.old)) (W.contents (inner_of writer.new))
+        (trace_of (views runs.now)) f.written) }
     ensures faults { faults_of writer.new ≡ one_more_unless (is_ok result) (faults_of writer.old) }
 {
     write_with(runs, room.slots.as_mut_slice(), writer)
 }
 
-/// Writes a text that stands in memory, from its front; a writer that takes all at once is called once, and for an empty text not
-/// at all. Takes no memory.
+/// Writes a text that stands in memory, from its front; a writer that takes all at once is called
+/// once, and for an empty text not at all. Takes no memory.
 ///
 /// # Errors
-/// The writer's first fault ends the call. [`WriteFault::written`] is exactly the number of bytes that the writer took; they
-/// are the front of the text, and not all of it.
+/// The writer's first fault ends the call. [`WriteFault::written`] is exactly the number of bytes
+/// that the writer took; they are the front of the text, and not all of it.
 pub fn write_text<W: Write>(text: &[u8], writer: &mut Counted<W>) -> Result<(), WriteFault>
     requires faults { faults_of writer.old < 2 ^ 63 }
     ensures ok { OnOk result (Appends

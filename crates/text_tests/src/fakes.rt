@@ -1,10 +1,12 @@
-//! A writer that takes a few bytes a call, and a reader that gives one. Each fails once, and then goes on.
+//! A writer that takes a few bytes a call, and a reader that gives one. Each fails once, and then
+//! goes on.
 
 use std::alloc::Global;
 use std::io;
 use std::io::{ErrorKind, Read, Write};
 
-/// Takes at most `step` bytes a call. The first call that finds `room` bytes taken fails; those behind it take more.
+/// Takes at most `step` bytes a call. The first call that finds `room` bytes taken fails; those
+/// behind it take more.
 #[derive(Drop)]
 pub(crate) struct Taker {
     pub(crate) taken: Vec<u8>,
@@ -48,7 +50,8 @@ impl Write for Taker {
     }
 }
 
-/// Gives one byte a call; only call `bad`, counted from 0, fails, by an error that others try again.
+/// Gives one byte a call; only call `bad`, counted from 0, fails, by an error that others try
+/// again.
 #[derive(Drop)]
 pub(crate) struct Giver<'a> {
     rest: &'a [u8],

@@ -1,4 +1,5 @@
-//! The tests of the crates that read and write texts, apart from them, so that the gate proves each of those once.
+//! The tests of the crates that read and write texts, apart from them, so that the gate proves each
+//! of those once.
 #![tactic(auto)]
 
 #[cfg(test)]

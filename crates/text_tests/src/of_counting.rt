@@ -23,7 +23,8 @@ fn all_is_read(rt: HostRuntime) -> Result<(), Fail> {
     Ok(())
 }
 
-// The call that gives each byte fails once, and that which would tell the end; the others give all bytes.
+// The call that gives each byte fails once, and that which would tell the end; the others give all
+// bytes.
 #[test]
 fn a_reader_fails_in_each_call(rt: HostRuntime) {
     for bad in 0..=TEXT.len() {

@@ -18,8 +18,8 @@ fn given(alloc: Global, text: &str) -> Result<String, AllocError> {
     }
 }
 
-/// A row is members, ` => ` and an answer. With the members between front and back, a text that is refused gives the answer,
-/// and the scenario of another one has the answer in it.
+/// A row is members, ` => ` and an answer. With the members between front and back, a text that is
+/// refused gives the answer, and the scenario of another one has the answer in it.
 fn is_right(alloc: Global, front: &str, row: &str, back: &str) -> Result<bool, AllocError> {
     let Some((members, answer)) = row.split_once(" => ") else {
         return Ok(false);

@@ -94,7 +94,8 @@ fn is_written(alloc: Global, switches: &[Switch], text: &[u8], step: usize) -> R
     })
 }
 
-/// Whether a writer that fails after so many bytes gets these alone, and the count of them is told, with one fault.
+/// Whether a writer that fails after so many bytes gets these alone, and the count of them is told,
+/// with one fault.
 fn stops_after(
     alloc: Global,
     step: usize,
@@ -158,7 +159,8 @@ fn a_writer_takes_100_bytes_and_fails(rt: HostRuntime) -> Result<(), Fail> {
     Ok(())
 }
 
-// One byte a call, and the call behind each front of the text fails: by an error that others try again, or as it takes 0 bytes.
+// One byte a call, and the call behind each front of the text fails: by an error that others try
+// again, or as it takes 0 bytes.
 #[test]
 fn a_writer_fails_in_each_call(rt: HostRuntime) -> Result<(), Fail> {
     for room in 0..THROTTLED.len() {

@@ -1,5 +1,6 @@
-// Calls for which no memory is left. Under `prlimit --as=500000000` each test takes what there is before every call, and prints that
-// it is gone; else it takes a gigabyte of addresses at most, and the calls have memory.
+// Calls for which no memory is left. Under `prlimit --as=500000000` each test takes what there is
+// before every call, and prints that it is gone; else it takes a gigabyte of addresses at most, and
+// the calls have memory.
 
 use super::{Desk, admit, end, entries_of, opened};
 use call_book::{Prepared, prepare};
@@ -8,7 +9,8 @@ use std::alloc::{AllocError, Global};
 use std::process::Abort;
 use std::test::Fail;
 
-// Takes blocks of a size until one is refused, at most 64 of them, and no more than there is room for.
+// Takes blocks of a size until one is refused, at most 64 of them, and no more than there is room
+// for.
 fn hoard_of(alloc: Global, blocks: &mut Vec<Vec<u8>>, size: usize) {
     for _ in 0..64 {
         if blocks.len() == blocks.capacity() {
@@ -57,7 +59,8 @@ fn all_ready(alloc: Global, text: &[u8]) -> Option<Vec<Prepared>> {
     Some(ready)
 }
 
-// Makes admissions for which no memory is left: the replies, for which there is room, and whether the memory was gone at each.
+// Makes admissions for which no memory is left: the replies, for which there is room, and whether
+// the memory was gone at each.
 fn admit_all(
     rt: &impl Abort,
     alloc: Global,
@@ -76,8 +79,8 @@ fn admit_all(
     gone
 }
 
-// An admission that is prepared takes no memory more, whatever it is answered: by the word, by the list of tasks, by a history that
-// is full.
+// An admission that is prepared takes no memory more, whatever it is answered: by the word, by the
+// list of tasks, by a history that is full.
 #[test]
 fn no_memory_after_prepare(rt: HostRuntime) -> Result<(), Fail> {
     let ready = all_ready(rt.alloc(), ADMISSIONS).unwrap_or(Vec::new(rt.alloc()));

@@ -1,5 +1,5 @@
 // How many admissions a second clients make through word and locked book.
-ghost use Rattle.std.specs.Prelude.{◌≡◌, ◌<◌, ◌≤◌};
+ghost use Rattle.std.specs.Prelude.{◌<◌};
 ghost use Rattle.call_book.specs.Limits.{IsCall};
 
 use super::shared::{arrive, renumbered};
@@ -20,7 +20,8 @@ const BOOKS: usize = 200;
 
 const TASKS: u32 = 256;
 
-// When a client began and when it ended, from a moment before, and how many of its tasks were listed.
+// When a client began and when it ended, from a moment before, and how many of its tasks were
+// listed.
 #[derive(Clone, Copy)]
 struct Share {
     from: Duration,
@@ -46,7 +47,8 @@ fn make_ready(alloc: Global, ready: &mut Vec<Prepared>, call: &Call, client: usi
     }
 }
 
-// Whether a task was listed. The word is taken under the lock too, which a client of its own need not do.
+// Whether a task was listed. The word is taken under the lock too, which a client of its own need
+// not do.
 fn is_entered<R: Abort + Wait>(rt: &R, book: &Mutex<Desk>, prepared: Option<Prepared>) -> bool {
     let Some(prepared) = prepared else {
         return false;

@@ -1,4 +1,5 @@
-// A book under a lock, which clients in threads of their own share, beside its gate, which takes no lock.
+// A book under a lock, which clients in threads of their own share, beside its gate, which takes no
+// lock.
 ghost use Rattle.std.specs.Prelude.{◌≡◌, ◌<◌, ◌≤◌, [], ℕ, All, IfOk, IfSome, length};
 ghost use Rattle.atomic_table.specs.Seated.{TableId};
 ghost use Rattle.bw_gate.specs.Pieces.{GateId};
@@ -17,7 +18,8 @@ use std::sync::atomic::{AtomicUsize, Ordering};
 use std::sync::{Mutex, Wait};
 use std::thread::{Threads, yield_now};
 
-// Which gate and which book the clients share, and how many they are. The call that starts them picks all three.
+// Which gate and which book the clients share, and how many they are. The call that starts them
+// picks all three.
 pub(super) trait Naming {
     ghost gate: { GateId };
 
@@ -32,7 +34,15 @@ impl Naming for Brand {
       terms = record { caps = []; pieces = 0 };
     } };
 
-    ghost spine = { record { words = 0; slots = 0; views_name = 0; atom = 0; block = 0; offset = 0; slot_names = [] } };
+    ghost spine = { record {
+      words = 0;
+      slots = 0;
+      views_name = 0;
+      atom = 0;
+      block = 0;
+      offset = 0;
+      slot_names = [];
+    } };
 
     ghost clients = { 0 };
 }
@@ -154,7 +164,8 @@ impl<N: Naming> Locked<N> {
         domain
     }
 
-    // Admits a task with a ticket, and says whether it did. The client keeps the blank that it then has.
+    // Admits a task with a ticket, and says whether it did. The client keeps the blank that it then
+    // has.
     fn admit(
         &mut self,
         gate: &Gate,
@@ -310,8 +321,8 @@ pub(super) fn admitted<N: Naming, R: Wait>(
     }
 }
 
-// Waits until all of so many clients are here, so that they run at once. It gives up after many turns: where a thread could
-// not be started, the clients come one after another.
+// Waits until all of so many clients are here, so that they run at once. It gives up after many
+// turns: where a thread could not be started, the clients come one after another.
 pub(super) fn arrive(here: &AtomicUsize, all: usize) {
     here.fetch_add(1, Ordering::SeqCst);
     for _ in 0..1000000 {
@@ -322,7 +333,8 @@ pub(super) fn arrive(here: &AtomicUsize, all: usize) {
     }
 }
 
-// Closes book and gate, when no client has its pass any more: the sum of bandwidths, the word, and how many calls were entered.
+// Closes book and gate, when no client has its pass any more: the sum of bandwidths, the word, and
+// how many calls were entered.
 pub(super) fn closed(alloc: Global, gate: Gate, domain: Domain) -> (u64, u64, usize)
     requires { domain.gate ≡ gate }
 {

@@ -39,8 +39,9 @@ fn regraded<N: Naming, R: Wait>(
     }
 }
 
-// A round of a client: the two calls are an admission and a regrade, which it makes under a number of its own. But for the first
-// task of each client it then ends the task, which goes off the list when time passes.
+// A round of a client: the two calls are an admission and a regrade, which it makes under a number
+// of its own. But for the first task of each client it then ends the task, which goes off the list
+// when time passes.
 fn round<N: Naming, R: Threads + Wait>(
     rt: &R,
     alloc: Global,
@@ -118,7 +119,8 @@ fn run_all<N: Naming + Send + Sync, R: Threads + Wait + Sync>(
     Ok(())
 }
 
-// The sum of bandwidths, the word, and how many calls were entered, when all clients have made their rounds.
+// The sum of bandwidths, the word, and how many calls were entered, when all clients have made
+// their rounds.
 fn shared<N: Naming + Send + Sync, R: Threads + Wait + Sync>(
     rt: &R,
     alloc: Global,
@@ -151,8 +153,8 @@ fn eight<R: Threads + Wait + Sync>(
     shared::<Brand, R>(rt, alloc, opened, calls)
 }
 
-// Eight clients at once admit, regrade and end tasks of their own on three CPUs, a hundred rounds each. In each round an
-// advance at least is entered; the first task of each client is never ended.
+// Eight clients at once admit, regrade and end tasks of their own on three CPUs, a hundred rounds
+// each. In each round an advance at least is entered; the first task of each client is never ended.
 #[test]
 fn eight_threads_and_one_lock(rt: HostRuntime) -> Result<(), Fail> {
     let text =

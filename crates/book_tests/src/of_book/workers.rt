@@ -46,8 +46,8 @@ fn made_by<R: Abort + Threads + Wait>(
     Ok((state.switches().to_vec(alloc)?, calls))
 }
 
-// two_cpus by two workers. Run with each growth refused in turn too (`rt try --test --fail-alloc N`): where it is one of a worker's
-// start the switches are the same.
+// two_cpus by two workers. Run with each growth refused in turn too (`rt try --test --fail-alloc
+// N`): where it is one of a worker's start the switches are the same.
 #[test]
 fn two_cpus(rt: HostRuntime) -> Result<(), Fail> {
     let (switches, calls) = made_by(&rt, rt.alloc(), 2, 2, 1048576, TWO_CPUS)?;

@@ -2,7 +2,8 @@ use super::{THROTTLED, bad_line};
 use std::alloc::Global;
 use std::test::Fail;
 
-/// The first of these lines, with `;` between each two, that is not bad as line `n` behind this text.
+/// The first of these lines, with `;` between each two, that is not bad as line `n` behind this
+/// text.
 fn first_read<'a>(
     alloc: Global,
     front: &str,

@@ -1,10 +1,12 @@
-//! Bytes that nobody would write, and lines of 16 MB: each is a bad line, the first that no text goes on with.
+//! Bytes that nobody would write, and lines of 16 MB: each is a bad line, the first that no text
+//! goes on with.
 
 use super::{THROTTLED, bad_line};
 use std::alloc::{AllocError, Global};
 use std::test::Fail;
 
-/// Carriage returns; NUL in a name, behind the text and in place of a line's end; bytes that are no UTF-8; a byte order mark.
+/// Carriage returns; NUL in a name, behind the text and in place of a line's end; bytes that are no
+/// UTF-8; a byte order mark.
 const HOSTILE: [(&[u8], u64); 10] = [
     (b"dlcalls 1\r\ndomain 1 1048576\r\nadvance 1 1\r\n", 1),
     (b"dlcalls 1\ndomain 1 1048576\r\nadvance 1 1\n", 2),
@@ -32,7 +34,8 @@ fn hostile_bytes(rt: HostRuntime) -> Result<(), Fail> {
     Ok(())
 }
 
-/// A good text, and behind it this line, with a part that comes so many times more, and whether it is finished.
+/// A good text, and behind it this line, with a part that comes so many times more, and whether it
+/// is finished.
 fn with_long_line(
     alloc: Global,
     line: &str,

@@ -7,7 +7,8 @@ use Rattle.domain_run.specs.Sound.{IsAdmitted}
 use Rattle.call_book.specs.declared.section.Entry.{Entry}
 use Rattle.calls_trace.specs.Replay.{named_by}
 
--- an admission that was granted names its number; an entry with any other reply, or with none, names nobody
+-- an admission that was granted names its number; an entry with any other reply, or with none,
+-- names nobody
 abbrev pub named_where : Option Reply → Call → (ℕ → List ℕ) → (ℕ → List ℕ)
 named_where (Some Admitted) call names = named_by call names
 named_where _ call names = names
@@ -22,4 +23,5 @@ given_by_all (e ∷ es) names = given_by_all es (given_by e names)
 
 -- each of these numbers has a name of 1 to 15 bytes
 abbrev pub HaveNames : List ℕ → (ℕ → List ℕ) → Type 0
-HaveNames used names = (n : ℕ) → IsAdmitted used n → (0 < length (names n)) × (length (names n) ≤ 15)
+HaveNames used names =
+    (n : ℕ) → IsAdmitted used n → (0 < length (names n)) × (length (names n) ≤ 15)

@@ -13,9 +13,12 @@ use Rattle.domain_run.specs.examples.Calling.{plain, once, forever, admit, switc
 abbrev short : ScriptView
 short = once (event.Run 1 ∷ [])
 
--- FULL DOMAIN AND NO BANDWIDTH: half a CPU may be given away. Where that is taken, a bandwidth of 0 still fits
+-- FULL DOMAIN AND NO BANDWIDTH: half a CPU may be given away. Where that is taken, a bandwidth of 0
+-- still fits
 abbrev full : List Call
-full = admit 1 (plain 500 1000 1000) short ∷ admit 2 (plain 2 100 100) short ∷ admit 3 (plain 2 4000000 4000000) short ∷ []
+full =
+    admit 1 (plain 500 1000 1000) short ∷ admit 2 (plain 2 100 100) short
+    ∷ admit 3 (plain 2 4000000 4000000) short ∷ []
 
 full_replies : replies_to (opened 1 524288) full ≡ Admitted ∷ Busy 524288 ∷ Admitted ∷ []
 full_replies = refl
@@ -26,30 +29,39 @@ full_sum = refl
 -- ROUNDING DOWN ADMITS: three thirds, each rounded down, leave one unit
 abbrev thirds : List Call
 thirds =
-    admit 1 (plain 10000 30000 30000) short ∷ admit 2 (plain 10000 30000 30000) short ∷ admit 3 (plain 10000 30000 30000) short
+    admit 1 (plain 10000 30000 30000) short ∷ admit 2 (plain 10000 30000 30000) short
+    ∷ admit 3 (plain 10000 30000 30000) short
     ∷ admit 4 (plain 2 2000000 2000000) short ∷ admit 5 (plain 2 2000000 2000000) short ∷ []
 
-thirds_replies : replies_to (opened 1 1048576) thirds ≡ Admitted ∷ Admitted ∷ Admitted ∷ Admitted ∷ Busy 1048576 ∷ []
+thirds_replies : replies_to (opened 1 1048576) thirds
+    ≡ Admitted ∷ Admitted ∷ Admitted ∷ Admitted ∷ Busy 1048576 ∷ []
 thirds_replies = refl
 
 thirds_sum : sum_after (run_of 1 1048576 thirds) ≡ 1048576
 thirds_sum = refl
 
--- a number that was admitted is refused before the bandwidth is looked at, also where its task is gone
+-- a number that was admitted is refused before the bandwidth is looked at, also where its task is
+-- gone
 abbrev twice : List Call
-twice = admit 1 (plain 1 2 2) short ∷ admit 1 (plain 2 2 2) short ∷ Advance 9 ∷ admit 1 (plain 1 2 2) short ∷ []
+twice =
+    admit 1 (plain 1 2 2) short ∷ admit 1 (plain 2 2 2) short ∷ Advance 9
+    ∷ admit 1 (plain 1 2 2) short ∷ []
 
 twice_replies : replies_to (opened 1 1048576) twice ≡ Admitted ∷ Twice ∷ Done 9 ∷ Twice ∷ []
 twice_replies = refl
 
 -- WAITING: the second wake finds it no longer waiting
 abbrev waiting : List Call
-waiting = admit 1 (plain 2 10 10) (forever (event.Wait ∷ event.Run 1 ∷ [])) ∷ Advance 3 ∷ Wake 1 ∷ Wake 1 ∷ Wake 2 ∷ Advance 3 ∷ []
+waiting =
+    admit 1 (plain 2 10 10) (forever (event.Wait ∷ event.Run 1 ∷ [])) ∷ Advance 3 ∷ Wake 1 ∷ Wake 1
+    ∷ Wake 2 ∷ Advance 3 ∷ []
 
-waiting_replies : replies_to (opened 1 1048576) waiting ≡ Admitted ∷ Done 3 ∷ Woken ∷ NotWaiting ∷ NotListed ∷ Done 3 ∷ []
+waiting_replies : replies_to (opened 1 1048576) waiting
+    ≡ Admitted ∷ Done 3 ∷ Woken ∷ NotWaiting ∷ NotListed ∷ Done 3 ∷ []
 waiting_replies = refl
 
-waiting_switches : (run_of 1 1048576 waiting).switches ≡ switch 3 0 None Running (Some 1) ∷ switch 4 0 (Some 1) Sleeping None ∷ []
+waiting_switches : (run_of 1 1048576 waiting).switches
+    ≡ switch 3 0 None Running (Some 1) ∷ switch 4 0 (Some 1) Sleeping None ∷ []
 waiting_switches = refl
 
 waiting_zero_lag : zero_lag_in (run_of 1 1048576 waiting) 1 ≡ Some (Some 8)
@@ -57,26 +69,36 @@ waiting_zero_lag = refl
 
 -- REGRADE: up to the cap, not above it
 abbrev regrade : List Call
-regrade = admit 1 (plain 2 8 8) short ∷ Regrade 1 (plain 4 8 8) None ∷ Regrade 1 (plain 5 8 8) None ∷ Regrade 7 (plain 2 8 8) None ∷ []
+regrade =
+    admit 1 (plain 2 8 8) short ∷ Regrade 1 (plain 4 8 8) None ∷ Regrade 1 (plain 5 8 8) None
+    ∷ Regrade 7 (plain 2 8 8) None ∷ []
 
-regrade_replies : replies_to (opened 1 524288) regrade ≡ Admitted ∷ Changed ∷ Busy 524288 ∷ NotListed ∷ []
+regrade_replies : replies_to (opened 1 524288) regrade
+    ≡ Admitted ∷ Changed ∷ Busy 524288 ∷ NotListed ∷ []
 regrade_replies = refl
 
 regrade_sum : sum_after (run_of 1 524288 regrade) ≡ 524288
 regrade_sum = refl
 
 -- the domain's bandwidth word refuses what the sum would allow, and nothing changes
-regrade_by_the_word : replies_to (opened 1 524288) (admit 1 (plain 2 8 8) short ∷ Regrade 1 (plain 4 8 8) (Some 393216) ∷ []) ≡ Admitted ∷ Busy 393216 ∷ []
+regrade_by_the_word : replies_to (opened 1 524288)
+    (admit 1 (plain 2 8 8) short ∷ Regrade 1 (plain 4 8 8) (Some 393216) ∷ [])
+    ≡ Admitted ∷ Busy 393216 ∷ []
 regrade_by_the_word = refl
 
--- LEAVING KEEPS BANDWIDTH UNTIL ZERO LAG: it ends at 2, with 2 us left of 4 in 8, so its zero-lag time is 4
+-- LEAVING KEEPS BANDWIDTH UNTIL ZERO LAG: it ends at 2, with 2 us left of 4 in 8, so its zero-lag
+-- time is 4
 abbrev leaving : ℕ → List Call
-leaving n = admit 1 (plain 4 8 8) (once (event.Run 100 ∷ [])) ∷ Advance 2 ∷ Leave 1 ∷ Leave 1 ∷ Advance n ∷ []
+leaving n =
+    admit 1 (plain 4 8 8) (once (event.Run 100 ∷ [])) ∷ Advance 2 ∷ Leave 1 ∷ Leave 1 ∷ Advance n
+    ∷ []
 
-leaving_replies : replies_to (opened 1 1048576) (leaving 2) ≡ Admitted ∷ Done 2 ∷ Left ∷ NotListed ∷ Done 2 ∷ []
+leaving_replies : replies_to (opened 1 1048576) (leaving 2)
+    ≡ Admitted ∷ Done 2 ∷ Left ∷ NotListed ∷ Done 2 ∷ []
 leaving_replies = refl
 
-leaving_switches : (run_of 1 1048576 (leaving 2)).switches ≡ switch 0 0 None Running (Some 1) ∷ switch 2 0 (Some 1) Dead None ∷ []
+leaving_switches : (run_of 1 1048576 (leaving 2)).switches
+    ≡ switch 0 0 None Running (Some 1) ∷ switch 2 0 (Some 1) Dead None ∷ []
 leaving_switches = refl
 
 leaving_zero_lag : zero_lag_in (run_of 1 1048576 (leaving 2)) 1 ≡ Some (Some 4)
@@ -88,9 +110,12 @@ leaving_sum_at_4 = refl
 leaving_sum_at_5 : sum_after (run_of 1 1048576 (leaving 3)) ≡ 0
 leaving_sum_at_5 = refl
 
--- a sleeper that leaves keeps the zero-lag time that it has, which is 4 too, and is off the list after it
+-- a sleeper that leaves keeps the zero-lag time that it has, which is 4 too, and is off the list
+-- after it
 abbrev sleeper : ℕ → List Call
-sleeper n = admit 1 (plain 4 8 8) (forever (event.Run 2 ∷ event.Timer 100 ∷ [])) ∷ Advance 3 ∷ Leave 1 ∷ Advance n ∷ []
+sleeper n =
+    admit 1 (plain 4 8 8) (forever (event.Run 2 ∷ event.Timer 100 ∷ [])) ∷ Advance 3 ∷ Leave 1
+    ∷ Advance n ∷ []
 
 sleeper_zero_lag : zero_lag_in (run_of 1 1048576 (sleeper 1)) 1 ≡ Some (Some 4)
 sleeper_zero_lag = refl

@@ -16,10 +16,24 @@ use Rattle.domain_run.specs.Tick.{sum_of}
 
 -- runtime, relative deadline and period, without and with reclaiming
 abbrev pub plain : ℕ → ℕ → ℕ → ParamsView
-plain runtime deadline period = record { runtime = runtime; deadline = deadline; period = period; reclaim = false; bw = ratio period runtime }
+plain runtime deadline period =
+    record {
+      runtime = runtime;
+      deadline = deadline;
+      period = period;
+      reclaim = false;
+      bw = ratio period runtime;
+    }
 
 abbrev pub reclaiming : ℕ → ℕ → ℕ → ParamsView
-reclaiming runtime deadline period = record { runtime = runtime; deadline = deadline; period = period; reclaim = true; bw = ratio period runtime }
+reclaiming runtime deadline period =
+    record {
+      runtime = runtime;
+      deadline = deadline;
+      period = period;
+      reclaim = true;
+      bw = ratio period runtime;
+    }
 
 -- one phase, played once a round, so many rounds, one, or for ever
 abbrev pub rounds : Option ℕ → List Event → ScriptView
@@ -37,7 +51,8 @@ admit number params script = Admit number (codes "T") params 0 script
 
 -- time, CPU, previous occupant with its state, next one
 abbrev pub switch : ℕ → ℕ → Option ℕ → PrevState → Option ℕ → Switch
-switch time cpu prev state next = record { time = time; prev = prev; next = next; cpu = cpu; state = state }
+switch time cpu prev state next =
+    record { time = time; prev = prev; next = next; cpu = cpu; state = state }
 
 abbrev pub sum_after : Domain → ℕ
 sum_after d = sum_of d.tasks

@@ -13,12 +13,17 @@ use Rattle.domain_run.specs.examples.Calling.{plain, reclaiming, once, forever, 
 abbrev left_by : ℕ → ℕ → Option Server
 left_by deadline left = Some (record { deadline = Some deadline; left = pos left })
 
--- RECLAIMING EXAMPLE: two tasks of 4 in 8. The first blocks at 2 and is inactive from 4 on, so that the second runs at half
--- the rate until 8, where it is spent just as the first wakes
+-- RECLAIMING EXAMPLE: two tasks of 4 in 8. The first blocks at 2 and is inactive from 4 on, so that
+-- the second runs at half the rate until 8, where it is spent just as the first wakes
 abbrev reclaimed : ℕ → Domain
-reclaimed n = run_of 1 1048576 (admit 1 (reclaiming 4 8 8) (forever (Run 2 ∷ Sleep 6 ∷ [])) ∷ admit 2 (reclaiming 4 8 8) (once (Run 100 ∷ [])) ∷ Advance n ∷ [])
+reclaimed n =
+    run_of 1 1048576
+    (admit 1 (reclaiming 4 8 8) (forever (Run 2 ∷ Sleep 6 ∷ []))
+    ∷ admit 2 (reclaiming 4 8 8) (once (Run 100 ∷ [])) ∷ Advance n ∷ [])
 
-reclaimed_switches : (reclaimed 9).switches ≡ switch 0 0 None Running (Some 1) ∷ switch 2 0 (Some 1) Sleeping (Some 2) ∷ switch 8 0 (Some 2) Preempted (Some 1) ∷ []
+reclaimed_switches : (reclaimed 9).switches
+    ≡ switch 0 0 None Running (Some 1) ∷ switch 2 0 (Some 1) Sleeping (Some 2)
+    ∷ switch 8 0 (Some 2) Preempted (Some 1) ∷ []
 reclaimed_switches = refl
 
 reclaimed_zero_lag : zero_lag_in (reclaimed 2) 1 ≡ Some (Some 4)
@@ -40,7 +45,9 @@ reclaimed_replenished = refl
 abbrev throttled : ℕ → Domain
 throttled n = run_of 1 1048576 (admit 1 (plain 2 5 5) (once (Run 4 ∷ [])) ∷ Advance n ∷ [])
 
-throttled_switches : (throttled 11).switches ≡ switch 0 0 None Running (Some 1) ∷ switch 2 0 (Some 1) Preempted None ∷ switch 5 0 None Running (Some 1) ∷ switch 7 0 (Some 1) Dead None ∷ []
+throttled_switches : (throttled 11).switches
+    ≡ switch 0 0 None Running (Some 1) ∷ switch 2 0 (Some 1) Preempted None
+    ∷ switch 5 0 None Running (Some 1) ∷ switch 7 0 (Some 1) Dead None ∷ []
 throttled_switches = refl
 
 -- its zero-lag time is 10: until then its bandwidth is not given back
@@ -52,15 +59,21 @@ throttled_sum_at_11 = refl
 
 -- ZERO START: the second task's first deadline is 3, before that of the first
 abbrev started : ℕ → Domain
-started n = run_of 1 1048576 (admit 1 (plain 2 8 8) (once (Run 2 ∷ [])) ∷ admit 2 (plain 2 3 8) (once (Run 2 ∷ [])) ∷ Advance n ∷ [])
+started n =
+    run_of 1 1048576
+    (admit 1 (plain 2 8 8) (once (Run 2 ∷ [])) ∷ admit 2 (plain 2 3 8) (once (Run 2 ∷ []))
+    ∷ Advance n ∷ [])
 
-started_switches : (started 5).switches ≡ switch 0 0 None Running (Some 2) ∷ switch 2 0 (Some 2) Dead (Some 1) ∷ switch 4 0 (Some 1) Dead None ∷ []
+started_switches : (started 5).switches
+    ≡ switch 0 0 None Running (Some 2) ∷ switch 2 0 (Some 2) Dead (Some 1)
+    ∷ switch 4 0 (Some 1) Dead None ∷ []
 started_switches = refl
 
 started_deadline : server_in (started 1) 2 ≡ left_by 3 1048576
 started_deadline = refl
 
--- WAKE TEST IS STRICT: it blocks at 2 with zero-lag time 4, where it becomes inactive and wakes with what was left
+-- WAKE TEST IS STRICT: it blocks at 2 with zero-lag time 4, where it becomes inactive and wakes
+-- with what was left
 abbrev woken : ℕ → Domain
 woken n = run_of 1 1048576 (admit 1 (plain 4 8 8) (forever (Run 2 ∷ Sleep 2 ∷ [])) ∷ Advance n ∷ [])
 
@@ -80,7 +93,9 @@ woken_settled = refl
 abbrev spent : ℕ → Domain
 spent n = run_of 1 1048576 (admit 1 (plain 4 8 8) (forever (Run 4 ∷ Sleep 2 ∷ [])) ∷ Advance n ∷ [])
 
-spent_switches : (spent 13).switches ≡ switch 0 0 None Running (Some 1) ∷ switch 4 0 (Some 1) Sleeping None ∷ switch 8 0 None Running (Some 1) ∷ switch 12 0 (Some 1) Sleeping None ∷ []
+spent_switches : (spent 13).switches
+    ≡ switch 0 0 None Running (Some 1) ∷ switch 4 0 (Some 1) Sleeping None
+    ∷ switch 8 0 None Running (Some 1) ∷ switch 12 0 (Some 1) Sleeping None ∷ []
 spent_switches = refl
 
 spent_server : server_in (spent 7) 1 ≡ left_by 8 0
@@ -105,10 +120,13 @@ carried_at_16 = refl
 carried_at_23 : server_in (carried 23) 1 ≡ lacking 24 110397
 carried_at_23 = refl
 
-carried_switches : (carried 25).switches ≡ switch 0 0 None Running (Some 1) ∷ switch 23 0 (Some 1) Preempted None ∷ switch 24 0 None Running (Some 1) ∷ []
+carried_switches : (carried 25).switches
+    ≡ switch 0 0 None Running (Some 1) ∷ switch 23 0 (Some 1) Preempted None
+    ∷ switch 24 0 None Running (Some 1) ∷ []
 carried_switches = refl
 
--- TWO CPUS: three tasks of one deadline. Task 2 belongs to CPU 0, task 1 to CPU 1; at 4 the second CPU goes to the third
+-- TWO CPUS: three tasks of one deadline. Task 2 belongs to CPU 0, task 1 to CPU 1; at 4 the second
+-- CPU goes to the third
 abbrev two_cpus : ℕ → Domain
 two_cpus n = run_of 2 1048576 (
     admit 1 (plain 4 8 8) (forever (Run 4 ∷ Timer 8 ∷ []))
@@ -116,5 +134,7 @@ two_cpus n = run_of 2 1048576 (
     ∷ admit 3 (plain 4 8 8) (forever (Run 4 ∷ Timer 8 ∷ []))
     ∷ Advance n ∷ [])
 
-two_cpus_switches : (two_cpus 5).switches ≡ switch 0 0 None Running (Some 2) ∷ switch 0 1 None Running (Some 1) ∷ switch 4 0 (Some 2) Sleeping None ∷ switch 4 1 (Some 1) Sleeping (Some 3) ∷ []
+two_cpus_switches : (two_cpus 5).switches
+    ≡ switch 0 0 None Running (Some 2) ∷ switch 0 1 None Running (Some 1)
+    ∷ switch 4 0 (Some 2) Sleeping None ∷ switch 4 1 (Some 1) Sleeping (Some 3) ∷ []
 two_cpus_switches = refl

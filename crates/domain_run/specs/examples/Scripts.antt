@@ -12,17 +12,21 @@ abbrev timer : ScriptView
 timer = forever (event.Run 4 ∷ event.Timer 8 ∷ [])
 
 -- at 20 the period that began at 8 is over, so the reference becomes 20
-timer_cursor : segments asked (begun_at timer 0) (0 ∷ 4 ∷ 8 ∷ 20 ∷ 24 ∷ []) ≡ Run 4 ∷ Until 8 ∷ Run 4 ∷ Run 4 ∷ Until 28 ∷ []
+timer_cursor : segments asked (begun_at timer 0) (0 ∷ 4 ∷ 8 ∷ 20 ∷ 24 ∷ [])
+    ≡ Run 4 ∷ Until 8 ∷ Run 4 ∷ Run 4 ∷ Until 28 ∷ []
 timer_cursor = refl
 
 -- two rounds of two phases, the first played twice; then the end, for good
 abbrev two_phases : ScriptView
 two_phases = record {
   rounds = Some 2;
-  phases = record { count = 2; events = event.Run 3 ∷ event.Sleep 7 ∷ [] } ∷ record { count = 1; events = event.Wait ∷ [] } ∷ [];
+  phases =
+      record { count = 2; events = event.Run 3 ∷ event.Sleep 7 ∷ [] }
+      ∷ record { count = 1; events = event.Wait ∷ [] } ∷ [];
 }
 
-round : round_of two_phases.phases ≡ event.Run 3 ∷ event.Sleep 7 ∷ event.Run 3 ∷ event.Sleep 7 ∷ event.Wait ∷ []
+round : round_of two_phases.phases
+    ≡ event.Run 3 ∷ event.Sleep 7 ∷ event.Run 3 ∷ event.Sleep 7 ∷ event.Wait ∷ []
 round = refl
 
 -- the last place of its two rounds, and the next
@@ -36,6 +40,8 @@ past = refl
 for_ever : event_at timer 1001 ≡ Some (event.Timer 8)
 for_ever = refl
 
-unrolled : segments asked (begun_at two_phases 0) (0 ∷ 1 ∷ 8 ∷ 9 ∷ 16 ∷ 20 ∷ 21 ∷ 28 ∷ 29 ∷ 36 ∷ 40 ∷ 41 ∷ [])
-    ≡ Run 3 ∷ Until 8 ∷ Run 3 ∷ Until 16 ∷ Wait ∷ Run 3 ∷ Until 28 ∷ Run 3 ∷ Until 36 ∷ Wait ∷ End ∷ End ∷ []
+unrolled : segments asked (begun_at two_phases 0)
+    (0 ∷ 1 ∷ 8 ∷ 9 ∷ 16 ∷ 20 ∷ 21 ∷ 28 ∷ 29 ∷ 36 ∷ 40 ∷ 41 ∷ [])
+    ≡ Run 3 ∷ Until 8 ∷ Run 3 ∷ Until 16 ∷ Wait ∷ Run 3 ∷ Until 28 ∷ Run 3 ∷ Until 36 ∷ Wait ∷ End
+    ∷ End ∷ []
 unrolled = refl

@@ -6,7 +6,8 @@ use Rattle.domain_run.specs.Parts.{after_charge}
 
 -- a task that ran for so many ticks until a time, with what they left of its budget
 abbrev pub ran_until : ℕ → ℕ → ℤ → Task → Task
-ran_until time ticks left t = after_charge time (record t { server = record t.server { left = left }; work = t.work - ticks })
+ran_until time ticks left t =
+    after_charge time (record t { server = record t.server { left = left }; work = t.work - ticks })
 
 -- which of the running tasks a task is
 abbrev pub index_of : List ℕ → Task → Option ℕ

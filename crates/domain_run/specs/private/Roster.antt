@@ -1,4 +1,5 @@
--- The list of tasks with what is kept beside it, and what changes one task of it, for the code's own contracts.
+-- The list of tasks with what is kept beside it, and what changes one task of it, for the code's
+-- own contracts.
 use Rattle.std.specs.Prelude.{ℕ, ℤ, pos, neg_ℤ, ◌<◌, ◌≤◌, ◌^◌, ◌≤ℤ◌, ◌≡◌, List, length, Option, Some, None, IsTrue}
 use Rattle.domain_run.specs.declared.task.Task.{Task}
 use Rattle.domain_run.specs.declared.change.Change.{Change}

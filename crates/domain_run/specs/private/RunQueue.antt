@@ -23,7 +23,8 @@ ready_of t = if is_ready t.condition then Some (candidate_of t) else None
 abbrev pub standing_of : Task → Standing
 standing_of t = record { share = share_of t; ready = ready_of t; due = due_of t }
 
--- THE INVARIANT: the sums are those of the list, the queue has its ready tasks in order, and the timers tell when each is due
+-- THE INVARIANT: the sums are those of the list, the queue has its ready tasks in order, and the
+-- timers tell when each is due
 pub record Counts (queue : RunQueue) (tasks : List Task) : Type 0 where
   pub sums : AreAccounts queue.accounts (shares tasks)
   pub order : queue.ready ≡ ordered (candidates tasks)
@@ -57,19 +58,23 @@ pub record MayTurn (place : ℕ) (queue : RunQueue) (before after : Standing) : 
   pub home : after.share.cpu < length queue.accounts.all
   pub fits : queue.accounts.total - before.share.bw + after.share.bw < 2 ^ 64
   pub room : length (without_ready before.ready queue.ready) < 256
-  pub absent : IfSome after.ready (λ c. has_candidate c (without_ready before.ready queue.ready) ≡ false)
+  pub absent : IfSome after.ready
+      (λ c. has_candidate c (without_ready before.ready queue.ready) ≡ false)
 
 -- it has
 pub record HasTurned (place : ℕ) (before after : Standing) (old new : RunQueue) : Type 0 where
   pub sums : Exchanges old.accounts new.accounts (before.share ∷ []) (after.share ∷ [])
-  pub order : ((before.ready ≡ after.ready) × (new.ready ≡ old.ready)) ⊎ (new.ready ≡ with_ready after.ready (without_ready before.ready old.ready))
-  pub due : ((before.due ≡ after.due) × (new.timers ≡ old.timers)) ⊎ (new.timers ≡ slice_set old.timers place after.due)
+  pub order : ((before.ready ≡ after.ready) × (new.ready ≡ old.ready))
+      ⊎ (new.ready ≡ with_ready after.ready (without_ready before.ready old.ready))
+  pub due : ((before.due ≡ after.due) × (new.timers ≡ old.timers))
+      ⊎ (new.timers ≡ slice_set old.timers place after.due)
 
 -- who stands on a CPU belongs to it
 abbrev pub AreHomed : Places → List Task → Type 0
 AreHomed places tasks = All (λ t. with_last_cpu places t ≡ t) tasks
 
--- what a state keeps: a domain, whose CPUs its roster has too, who stands on its CPUs, and a place for each CPU
+-- what a state keeps: a domain, whose CPUs its roster has too, who stands on its CPUs, and a place
+-- for each CPU
 pub record IsState (d : Domain) (cpus : ℕ) (running : List ℕ) (before runners : ℕ) : Type 0 where
   pub domain : IsDomain d
   pub wide : cpus ≡ d.cpus

@@ -10,7 +10,9 @@ moment_of (Some u) = u
 
 -- the first time at which parts 1 to 3 have something to do to a task
 abbrev pub due_of : Task → ℕ
-due_of t = min (min (moment_of (replenished_at t)) (moment_of t.zero_lag)) (min (moment_of (asks_at t.condition)) (moment_of (gone_at t)))
+due_of t =
+    min (min (moment_of (replenished_at t)) (moment_of t.zero_lag))
+    (min (moment_of (asks_at t.condition)) (moment_of (gone_at t)))
 
 -- the first of several times
 abbrev pub least : List ℕ → ℕ
@@ -25,18 +27,25 @@ others (due ∷ more) (suc place) = min due (others more place)
 
 -- each block of 16 places has a time that is not after any of theirs
 abbrev pub AreBounds : List ℕ → List ℕ → Type 0
-AreBounds bounds due = (place : ℕ) → place < length due → slice_index_or bounds (place / 16) 0 ≤ slice_index_or due place 0
+AreBounds bounds due =
+    (place : ℕ) → place < length due
+    → slice_index_or bounds (place / 16) 0 ≤ slice_index_or due place 0
 
 -- the time of a place's block, where this one is not before it either
 abbrev pub lowered : List ℕ → ℕ → ℕ → List ℕ
-lowered bounds place due = slice_set bounds (place / 16) (min (slice_index_or bounds (place / 16) 0) due)
+lowered bounds place due =
+    slice_set bounds (place / 16) (min (slice_index_or bounds (place / 16) 0) due)
 
 -- from this place on, up to that, none has come
 abbrev pub AreLater : List ℕ → ℕ → ℕ → ℕ → Type 0
-AreLater due time from end = (place : ℕ) → from ≤ place → place < end → place < length due → time < slice_index_or due place 0
+AreLater due time from end =
+    (place : ℕ) → from ≤ place → place < end → place < length due
+    → time < slice_index_or due place 0
 
--- what the timers of a list keep: room for 256 tasks, a time for each block, and one that is not after any, or is the first
-pub record AreTimers (due : List ℕ) (capacity : ℕ) (bounds : List ℕ) (first : ℕ) (known : Bool) : Type 0 where
+-- what the timers of a list keep: room for 256 tasks, a time for each block, and one that is not
+-- after any, or is the first
+pub record AreTimers (due : List ℕ) (capacity : ℕ) (bounds : List ℕ) (first : ℕ)
+    (known : Bool) : Type 0 where
   pub few : length due ≤ 256
   pub room : 256 ≤ capacity
   pub bounds_are : AreBounds bounds due
@@ -49,4 +58,6 @@ pub record IsStep (f : Task → Task) (place : ℕ) (old new : List Task) : Type
 
 -- the tasks at the places from this one on, up to that, are not due
 abbrev pub AreNotDue : List Task → ℕ → ℕ → ℕ → Type 0
-AreNotDue tasks time from end = (place : ℕ) (d : Task) → from ≤ place → place < end → place < length tasks → time < due_of (slice_index_or tasks place d)
+AreNotDue tasks time from end =
+    (place : ℕ) (d : Task) → from ≤ place → place < end → place < length tasks
+    → time < due_of (slice_index_or tasks place d)

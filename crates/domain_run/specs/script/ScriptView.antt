@@ -22,7 +22,8 @@ pub record CursorView : Type 0 where
   pub place : ℕ
   pub reference : ℕ
 
--- limits (own): times of 1 to 10^9 us, counts of 1 to 10^9, 1 to 64 events in a phase, 1 to 64 phases
+-- limits (own): times of 1 to 10^9 us, counts of 1 to 10^9, 1 to 64 events in a phase, 1 to 64
+-- phases
 abbrev pub IsEvent : Event → Type 0
 IsEvent (Run n) = (0 < n) × (n ≤ 1000000000)
 IsEvent (Sleep n) = (0 < n) × (n ≤ 1000000000)

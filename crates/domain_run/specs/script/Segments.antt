@@ -36,8 +36,10 @@ pub record Asked : Type 0 where
 -- what an event gives at a time. A timer gives the end of its period, counted from the reference
 abbrev pub given_by : CursorView → ℕ → Option Event → Asked
 given_by c time (Some (Run n)) = record { segment = RunFor n; cursor = moved c c.reference }
-given_by c time (Some (Sleep n)) = record { segment = Until (time + n); cursor = moved c c.reference }
-given_by c time (Some (Timer n)) = record { segment = Until (c.reference + n); cursor = moved c (c.reference + n) }
+given_by c time (Some (Sleep n)) =
+    record { segment = Until (time + n); cursor = moved c c.reference }
+given_by c time (Some (Timer n)) =
+    record { segment = Until (c.reference + n); cursor = moved c (c.reference + n) }
 given_by c time (Some Wait) = record { segment = WaitFor; cursor = moved c c.reference }
 given_by c time None = record { segment = End; cursor = c }
 
@@ -52,30 +54,39 @@ is_late (Some (Sleep n)) reference time = false
 is_late (Some Wait) reference time = false
 is_late None reference time = false
 
--- what a task does next. At a late timer the reference becomes the time, and the next place is asked: no timer from there is
--- late, since its period is at least 1
+-- what a task does next. At a late timer the reference becomes the time, and the next place is
+-- asked: no timer from there is late, since its period is at least 1
 abbrev pub answered : CursorView → ℕ → Asked
-answered c time = if is_late (event_at c.script c.place) c.reference time then given_at (moved c time) time else given_at c time
+answered c time =
+    if is_late (event_at c.script c.place) c.reference time then given_at (moved c time) time
+    else given_at c time
 
--- without end each round is like the first, so from any place the same events follow as from one place of the first round:
--- there a cursor is kept
+-- without end each round is like the first, so from any place the same events follow as from one
+-- place of the first round: there a cursor is kept
 abbrev pub first_place : Option ℕ → ℕ → ℕ → ℕ
 first_place None round place = place % round
 first_place (Some n) round place = place
 
 abbrev pub kept_cursor : CursorView → CursorView
-kept_cursor c = record { script = c.script; place = first_place c.script.rounds (round_len c.script) c.place; reference = c.reference }
+kept_cursor c =
+    record {
+      script = c.script;
+      place = first_place c.script.rounds (round_len c.script) c.place;
+      reference = c.reference;
+    }
 
 -- what a task does next, and its cursor as it is kept
 abbrev pub asked : CursorView → ℕ → Asked
-asked c time = record { segment = (answered c time).segment; cursor = kept_cursor (answered c time).cursor }
+asked c time =
+    record { segment = (answered c time).segment; cursor = kept_cursor (answered c time).cursor }
 
 -- what a cursor gives, asked at one time after another
 abbrev pub segments : (CursorView → ℕ → Asked) → CursorView → List ℕ → List Segment
 segments ask c [] = []
 segments ask c (t ∷ ts) = (ask c t).segment ∷ segments ask (ask c t).cursor ts
 
--- that cursors are kept is never seen: at any times they give what a place that goes up by one for ever gives
+-- that cursors are kept is never seen: at any times they give what a place that goes up by one for
+-- ever gives
 abbrev pub GivesAsWritten : CursorView → Type 0
 GivesAsWritten c = (times : List ℕ) → segments asked c times ≡ segments answered c times
 

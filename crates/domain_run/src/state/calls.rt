@@ -33,10 +33,12 @@ impl State {
         }
     }
 
-    /// Whether the domain itself has room for a regrade: [`State::regrade`] then answers [`Reply::Changed`], unless the bandwidth
-    /// word refused.
+    /// Whether the domain itself has room for a regrade: [`State::regrade`] then answers
+    /// [`Reply::Changed`], unless the bandwidth word refused.
     pub fn may_regrade(&self, number: u32, params: &Params) -> bool
-        ensures room { IsTrue result ↔ (calls.regrade_reply self.now params.now None (calls.task_of self.now number) ≡ Reply.Changed) }
+        ensures room { IsTrue result
+            ↔ (calls.regrade_reply self.now params.now None (calls.task_of self.now number)
+            ≡ Reply.Changed) }
         ensures domain { IsDomain self.now }
     {
         // For the prover alone: a look at the roster brings what its type keeps.
@@ -53,11 +55,13 @@ impl State {
         self.roster.turn_number(number, self.time, &change);
     }
 
-    /// Gives a listed task new parameters at the time now, at once; its deadline, its budget and a zero-lag time ahead stay. Tested
-    /// in this order: [`Reply::NotListed`] where no task of this number is listed, or it has ended; [`Reply::Busy`] with the sum of
-    /// bandwidths where that sum, less the old and with the new bandwidth, is above the number of CPUs times the limit;
-    /// `Busy` with the number with which the domain's bandwidth word refused, where `word` says that it did; else
-    /// [`Reply::Changed`]. Where it refuses, nothing has changed. Takes no memory.
+    /// Gives a listed task new parameters at the time now, at once; its deadline, its budget and a
+    /// zero-lag time ahead stay. Tested in this order: [`Reply::NotListed`] where no task of this
+    /// number is listed, or it has ended; [`Reply::Busy`] with the sum of bandwidths where that
+    /// sum, less the old and with the new bandwidth, is above the number of CPUs times the limit;
+    /// `Busy` with the number with which the domain's bandwidth word refused, where `word` says
+    /// that it did; else [`Reply::Changed`]. Where it refuses, nothing has changed. Takes no
+    /// memory.
     pub fn regrade(&mut self, number: u32, params: Params, word: Option<u64>) -> Reply
         ensures reply { result ≡ calls.reply_to self.old (Call.Regrade number params word) }
         ensures domain { self.new ≡ calls.after_call self.old (Call.Regrade number params word) }
@@ -87,9 +91,9 @@ impl State {
         self.roster.turn_number(number, self.time, &Change::Release);
     }
 
-    /// Wakes a task that waits: in the next tick it asks its script. [`Reply::NotListed`] where no task of this number is listed, or
-    /// it has ended; [`Reply::NotWaiting`] where it does not wait; else [`Reply::Woken`]. Where it refuses, nothing has changed.
-    /// Takes no memory.
+    /// Wakes a task that waits: in the next tick it asks its script. [`Reply::NotListed`] where no
+    /// task of this number is listed, or it has ended; [`Reply::NotWaiting`] where it does not
+    /// wait; else [`Reply::Woken`]. Where it refuses, nothing has changed. Takes no memory.
     pub fn wake(&mut self, number: u32) -> Reply
         ensures reply { result ≡ calls.reply_to self.old (Call.Wake number) }
         ensures domain { self.new ≡ calls.after_call self.old (Call.Wake number) }
@@ -116,9 +120,10 @@ impl State {
         self.roster.turn_number(number, self.time, &Change::End);
     }
 
-    /// Ends a task: it stays listed until its zero-lag time, which is told from now where it contends, and its bandwidth with it.
-    /// [`Reply::NotListed`] where no task of this number is listed, or it has ended already; else [`Reply::Left`]. Where it
-    /// refuses, nothing has changed. Takes no memory.
+    /// Ends a task: it stays listed until its zero-lag time, which is told from now where it
+    /// contends, and its bandwidth with it. [`Reply::NotListed`] where no task of this number is
+    /// listed, or it has ended already; else [`Reply::Left`]. Where it refuses, nothing has
+    /// changed. Takes no memory.
     pub fn leave(&mut self, number: u32) -> Reply
         ensures reply { result ≡ calls.reply_to self.old (Call.Leave number) }
         ensures domain { self.new ≡ calls.after_call self.old (Call.Leave number) }

@@ -12,10 +12,12 @@ use crate::sweep;
 use no_memory::NoMemory;
 
 impl State {
-    /// Begins a tick: throttled tasks whose deadline has come are replenished, zero-lag times that have come are dropped, blocked
-    /// tasks whose time has come ask their scripts, the ready tasks with the earliest deadlines are placed, and the switches are
-    /// added. The clock stands at the end of this tick then. What is left of it is [`State::finish`], and no other call is to
-    /// change the state before it. Room for the switches is made first: on `Err` nothing has changed.
+    /// Begins a tick: throttled tasks whose deadline has come are replenished, zero-lag times that
+    /// have come are dropped, blocked tasks whose time has come ask their scripts, the ready tasks
+    /// with the earliest deadlines are placed, and the switches are added. The clock stands at the
+    /// end of this tick then. What is left of it is [`State::finish`], and no other call is to
+    /// change the state before it. Room for the switches is made first: on `Err` nothing has
+    /// changed.
     pub fn begin(&mut self) -> Result<(), NoMemory>
         requires { self.old.time < 2 ^ 42 }
         ensures ok { OnOk result (self.new ≡ jump.under_way self.old) }
@@ -36,7 +38,8 @@ impl State {
         Ok(())
     }
 
-    /// The i-th running task of the tick that has begun, by CPU, from 0: it has budget and work left. None past the last.
+    /// The i-th running task of the tick that has begun, by CPU, from 0: it has budget and work
+    /// left. None past the last.
     pub fn running(&self, i: usize) -> Option<Running>
         requires { jump.IsUnderWay self.now }
         ensures running { result ≡ jump.running self.now i }
@@ -56,8 +59,8 @@ impl State {
         Some(running_of(task, self.roster.uinact(task.cpu)))
     }
 
-    /// The rate at which a running task uses its budget up, in 1/2^20: one where it does not reclaim, else by the GRUB rule, from the
-    /// sums as they are once all are placed.
+    /// The rate at which a running task uses its budget up, in 1/2^20: one where it does not
+    /// reclaim, else by the GRUB rule, from the sums as they are once all are placed.
     pub fn rate(&self, runner: &Running) -> u64
         requires short { runner.now.uinact ≤ 2 ^ 26 }
         ensures rate { result ≡ jump.rate_for self.now runner.now }
@@ -69,9 +72,10 @@ impl State {
         grub_rules::rate(&runner.params, runner.uinact, sum, cpus, self.limit())
     }
 
-    /// The number of ticks from the beginning of the tick that has begun to the next in which something is to be done before the
-    /// choice: a task is replenished, its zero-lag time comes, it asks its script, or it goes off the list. 2^42 where there is
-    /// none. Until then every tick does the same to every task, while no work ends and no budget is spent.
+    /// The number of ticks from the beginning of the tick that has begun to the next in which
+    /// something is to be done before the choice: a task is replenished, its zero-lag time comes,
+    /// it asks its script, or it goes off the list. 2^42 where there is none. Until then every tick
+    /// does the same to every task, while no work ends and no budget is spent.
     pub fn quiet(&self) -> u64
         ensures quiet { result ≡ jump.ticks_to_event self.now }
         ensures some { 0 < result }
@@ -80,9 +84,10 @@ impl State {
         1 + self.roster.ticks_to_due(self.time)
     }
 
-    /// Ends the tick that has begun, and so many ticks in all: every running task has run in each, and what is left of its budget
-    /// is told, by CPU. They are at most [`State::quiet`] and at most the work of each, and no budget is spent before the last of
-    /// them. The domain is then as after so many single ticks from where it was before [`State::begin`].
+    /// Ends the tick that has begun, and so many ticks in all: every running task has run in each,
+    /// and what is left of its budget is told, by CPU. They are at most [`State::quiet`] and at
+    /// most the work of each, and no budget is spent before the last of them. The domain is then as
+    /// after so many single ticks from where it was before [`State::begin`].
     pub fn finish(&mut self, ticks: u64, budgets: &[i128])
         requires begun { jump.IsUnderWay self.old }
         requires some { 0 < ticks }

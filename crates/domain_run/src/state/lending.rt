@@ -19,8 +19,8 @@ impl State {
         }
     }
 
-    /// The script of the task of a number, where it is listed: the whole script that was admitted, however far the task has come
-    /// in it. Takes no memory.
+    /// The script of the task of a number, where it is listed: the whole script that was admitted,
+    /// however far the task has come in it. Takes no memory.
     pub fn script(&self, number: u32) -> Option<&Script>
         ensures { option_copied result ≡ script_in self.now number }
     {
@@ -30,8 +30,8 @@ impl State {
         }
     }
 
-    /// The number of the task at a place of the list, from 0, in the order of admission; none behind its end. It looks at this
-    /// place alone, and takes no memory.
+    /// The number of the task at a place of the list, from 0, in the order of admission; none
+    /// behind its end. It looks at this place alone, and takes no memory.
     pub fn number_at(&self, place: usize) -> Option<u32>
         ensures { result ≡ number_in self.now place }
     {

@@ -14,7 +14,8 @@ impl State {
         self.cpus as u32
     }
 
-    /// The limit with which the domain was opened: the bandwidth of each CPU that it may give away, 10485 to 1048576 in 1/2^20.
+    /// The limit with which the domain was opened: the bandwidth of each CPU that it may give away,
+    /// 10485 to 1048576 in 1/2^20.
     pub fn limit(&self) -> u64
         ensures limit { result ≡ self.now.limit }
         ensures within { IsLimit result }

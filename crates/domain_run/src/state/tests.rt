@@ -88,8 +88,9 @@ fn has_memory(alloc: Global) -> bool {
     block.is_ok()
 }
 
-/// All that takes memory is made before the calls, in 17 requests, and one request is made behind them. So with the 18th refused
-/// (`rt try --test --fail-alloc 18`) this is false, since that is the one behind: the calls asked for none.
+/// All that takes memory is made before the calls, in 17 requests, and one request is made behind
+/// them. So with the 18th refused (`rt try --test --fail-alloc 18`) this is false, since that is
+/// the one behind: the calls asked for none.
 fn asks_for_nothing(alloc: Global) -> Result<bool, Fail> {
     let task = new_task(alloc)?;
     let params = task.params;

@@ -36,7 +36,8 @@ fn admit(
     Ok(())
 }
 
-/// The domain lends this name of a number, and a script of as many loops as the number says; of a number without a name neither.
+/// The domain lends this name of a number, and a script of as many loops as the number says; of a
+/// number without a name neither.
 fn lends(rt: &impl Abort, state: &State, number: u32, name: Option<&str>) {
     assert_eq!(rt; state.name(number).map(|name| name.as_str()), name);
     let loops = name.map(|_| i64::from(number));

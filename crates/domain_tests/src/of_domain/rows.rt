@@ -1,4 +1,5 @@
-//! Worked rows, played on a domain: what comes of a list of calls. All but the last stand in `specs/examples` as equations too.
+//! Worked rows, played on a domain: what comes of a list of calls. All but the last stand in
+//! `specs/examples` as equations too.
 
 use crate::workers::{UNIT, Worker, forever, once, params, reclaiming, script, switch};
 use domain_run::{Event, Name, PrevState, Reply, State, Switch};

@@ -131,7 +131,8 @@ fn jumps_against_single_ticks(rt: HostRuntime) -> Result<(), Fail> {
     Ok(())
 }
 
-/// An advance with many switches: how many ticks were made, and whether so many single ticks leave the same.
+/// An advance with many switches: how many ticks were made, and whether so many single ticks leave
+/// the same.
 fn many_switches(alloc: Global) -> Result<(Done, bool), Fail> {
     let mut pair = pair_of(alloc, 1)?;
     let events = [Event::Run(1), Event::Sleep(3)];
@@ -143,8 +144,8 @@ fn many_switches(alloc: Global) -> Result<(Done, bool), Fail> {
     Ok((done, same))
 }
 
-/// With a growth of the switches refused in the middle (`rt try --test --fail-alloc N`) it is the second assertion that fails:
-/// fewer ticks, and exactly so many.
+/// With a growth of the switches refused in the middle (`rt try --test --fail-alloc N`) it is the
+/// second assertion that fails: fewer ticks, and exactly so many.
 #[test]
 fn cut_short_by_memory(rt: HostRuntime) -> Result<(), Fail> {
     let (done, same) = many_switches(rt.alloc())?;

@@ -52,14 +52,15 @@ fn fraction_and_carry(rt: HostRuntime) -> Result<(), Fail> {
     shows_by(&rt, rt.alloc(), (1, 996147), &tasks, 25, &carried())
 }
 
-/// Run with each growth of the advance refused in turn too, those of a worker's start among them: the switches are the same.
+/// Run with each growth of the advance refused in turn too, those of a worker's start among them:
+/// the switches are the same.
 #[test]
 fn two_cpus(rt: HostRuntime) -> Result<(), Fail> {
     shows_by(&rt, rt.alloc(), (2, UNIT), &three(), 5, &on_two_cpus())
 }
 
-/// Two pieces in an order, each time that both are worked on: the second begins when the first has ended, or is late after ten
-/// seconds.
+/// Two pieces in an order, each time that both are worked on: the second begins when the first has
+/// ended, or is late after ten seconds.
 #[derive(Drop)]
 struct InOrder<C> {
     clock: C,
@@ -91,8 +92,8 @@ impl<C: Clock + Sync> Turn for InOrder<C> {
     }
 }
 
-/// One jump of two running tasks by two workers, in this order: how often the first piece and the other had their turn, and
-/// whether one was late.
+/// One jump of two running tasks by two workers, in this order: how often the first piece and the
+/// other had their turn, and whether one was late.
 fn in_order<R: Threads + Wait + Clock + Sync>(
     rt: &R,
     alloc: Global,
@@ -116,8 +117,8 @@ fn in_order<R: Threads + Wait + Clock + Sync>(
     ))
 }
 
-/// all-workers-on-one-thread: in either order of two pieces, who works on the one waits for who works on the other, when the jump
-/// is planned and when it is charged.
+/// all-workers-on-one-thread: in either order of two pieces, who works on the one waits for who
+/// works on the other, when the jump is planned and when it is charged.
 #[test]
 fn two_workers_wait_for_each_other(rt: HostRuntime) -> Result<(), Fail> {
     assert_eq!(rt; in_order(&rt, rt.alloc(), 0)?, (2, 2, false));

@@ -9,16 +9,22 @@ use Rattle.json_order.specs.declared.place.Escape.{Escape}
 
 -- from one place to the other, over the characters that stand before what is left
 abbrev pub Takes : Place → Place → List ℕ → List ℕ → Type 0
-Takes p q before after = (cs : List ℕ) × (before ≡ encode_utf8_all cs ++ after) × ((fs : List Frame) → run strict (Ok (state p fs)) cs ≡ Ok (state q fs))
+Takes p q before after =
+    (cs : List ℕ) × (before ≡ encode_utf8_all cs ++ after)
+    × ((fs : List Frame) → run strict (Ok (state p fs)) cs ≡ Ok (state q fs))
 
 -- plain characters stand before what is left, and have gone into the text
 abbrev pub MovesPlain : List ℕ → List ℕ → List ℕ → List ℕ → Type 0
-MovesPlain old new before after = (cs : List ℕ) × (before ≡ encode_utf8_all cs ++ after) × AllByRecursion (λ c. is_plain c ≡ true) cs × (new ≡ old ++ encode_utf8_all cs)
+MovesPlain old new before after =
+    (cs : List ℕ) × (before ≡ encode_utf8_all cs ++ after)
+    × AllByRecursion (λ c. is_plain c ≡ true) cs × (new ≡ old ++ encode_utf8_all cs)
 
--- a string, or a key behind any members, goes on from one text and escape to the other, over the characters that stand
--- before what is left
+-- a string, or a key behind any members, goes on from one text and escape to the other, over the
+-- characters that stand before what is left
 abbrev pub TakesQuoted : List ℕ → Escape → List ℕ → Escape → List ℕ → List ℕ → Type 0
-TakesQuoted old e new f before after = Takes (in_string old e) (in_string new f) before after × ((es : Entries) → Takes (in_key es old e) (in_key es new f) before after)
+TakesQuoted old e new f before after =
+    Takes (in_string old e) (in_string new f) before after
+    × ((es : Entries) → Takes (in_key es old e) (in_key es new f) before after)
 
 -- how far a number is read behind these characters
 abbrev pub parts_after : Part → List ℕ → Option Part
@@ -27,4 +33,5 @@ parts_after p (c ∷ cs) = option_and_then (λ q. parts_after q cs) (part_step p
 
 -- the reader stands in this state, behind some characters of the text and before what is left of it
 abbrev pub Stands : List ℕ → State → List ℕ → Type 0
-Stands text s rest = (ys : List ℕ) × (text ≡ encode_utf8_all ys ++ rest) × (run strict (Ok start) ys ≡ Ok s)
+Stands text s rest =
+    (ys : List ℕ) × (text ≡ encode_utf8_all ys ++ rest) × (run strict (Ok start) ys ≡ Ok s)

@@ -1,4 +1,5 @@
--- The reader's own steps, which private contracts cite. No public clause names them: that they follow the grammar is proved.
+-- The reader's own steps, which private contracts cite. No public clause names them: that they
+-- follow the grammar is proved.
 use Rattle.std.specs.Prelude.{ℕ, ◌+◌, ◌*◌, ◌<◌, ◌≤◌, ◌⊎◌, Bool, true, false, ◌==◌, nat_le, nat_lt, if◌then◌else◌, List, [], ◌∷◌, ◌++◌, length, map, Option, Some, None, Result, Ok, Err, codes, encode_utf8}
 use Rattle.std.specs.Char.{digit_value, is_ascii_digit}
 use Rattle.std.specs.Char.Utf16.{surrogate_pair_char}
@@ -34,7 +35,8 @@ pub data Place : Type 0 where
   in_number : List ℕ → Part → Place
   in_word : List ℕ → Json → Place
 
--- a list with its items so far, or an object with its members so far and the key of the value that is being read
+-- a list with its items so far, or an object with its members so far and the key of the value that
+-- is being read
 pub data Frame : Type 0 where
   in_list : List Json → Frame
   in_object : Entries → List ℕ → Frame
@@ -47,7 +49,8 @@ pub record State : Type 0 where
 abbrev pub state : Place → List Frame → State
 state p fs = record { place = p; frames = fs }
 
--- what a character does: it goes on, opens a list or an object, ends a key behind earlier ones, or fits nowhere
+-- what a character does: it goes on, opens a list or an object, ends a key behind earlier ones, or
+-- fits nowhere
 pub data Move : Type 0 where
   goes : State → Move
   opens : State → Move
@@ -93,7 +96,8 @@ spelled text None = None
 spelled text (Some c) = Some (going (text ++ encode_utf8 c) Outside)
 
 abbrev pub first_unit : List ℕ → ℕ → Option Quote
-first_unit text n = if is_high_surrogate n then Some (going text (High n)) else spelled text (Some n)
+first_unit text n =
+    if is_high_surrogate n then Some (going text (High n)) else spelled text (Some n)
 
 -- a hexadecimal digit of a unit
 abbrev pub digit_quote : List ℕ → Escape → ℕ → Option Quote
@@ -101,14 +105,16 @@ digit_quote text Outside d = None
 digit_quote text Slash d = None
 digit_quote text Unit0 d = Some (going text (Unit1 d))
 -- no low surrogate comes first
-digit_quote text (Unit1 v) d = if is_in_range 0xDC 0xDF (16 * v + d) then None else Some (going text (Unit2 (16 * v + d)))
+digit_quote text (Unit1 v) d =
+    if is_in_range 0xDC 0xDF (16 * v + d) then None else Some (going text (Unit2 (16 * v + d)))
 digit_quote text (Unit2 v) d = Some (going text (Unit3 (16 * v + d)))
 digit_quote text (Unit3 v) d = first_unit text (16 * v + d)
 digit_quote text (High h) d = None
 digit_quote text (HighSlash h) d = None
 -- a low surrogate comes second
 digit_quote text (Low0 h) d = if d == 0xD then Some (going text (Low1 h)) else None
-digit_quote text (Low1 h) d = if is_in_range 0xDC 0xDF (0xD0 + d) then Some (going text (Low2 h (0xD0 + d))) else None
+digit_quote text (Low1 h) d =
+    if is_in_range 0xDC 0xDF (0xD0 + d) then Some (going text (Low2 h (0xD0 + d))) else None
 digit_quote text (Low2 h v) d = Some (going text (Low3 h (16 * v + d)))
 digit_quote text (Low3 h v) d = spelled text (Some (surrogate_pair_char h (16 * v + d)))
 
@@ -116,8 +122,11 @@ abbrev pub hex_step : List ℕ → Escape → ℕ → Option Quote
 hex_step text e c = if nat_lt (digit_value c) 16 then digit_quote text e (digit_value c) else None
 
 abbrev pub quote_step : List ℕ → Escape → ℕ → Option Quote
-quote_step text Outside c = if c == 34 then Some (closed text) else if c == 92 then Some (going text Slash) else if nat_le 32 c then spelled text (Some c) else None
-quote_step text Slash c = if c == 117 then Some (going text Unit0) else spelled text (short_escape c)
+quote_step text Outside c =
+    if c == 34 then Some (closed text) else if c == 92 then Some (going text Slash)
+    else if nat_le 32 c then spelled text (Some c) else None
+quote_step text Slash c =
+    if c == 117 then Some (going text Unit0) else spelled text (short_escape c)
 quote_step text Unit0 c = hex_step text Unit0 c
 quote_step text (Unit1 v) c = hex_step text (Unit1 v) c
 quote_step text (Unit2 v) c = hex_step text (Unit2 v) c
@@ -134,9 +143,12 @@ quote_step text (Low3 h v) c = hex_step text (Low3 h v) c
 abbrev pub part_step : Part → ℕ → Option Part
 part_step Minus c = if c == 48 then Some Zero else if is_in_range 49 57 c then Some Whole else None
 part_step Zero c = if c == 46 then Some Dot else if is_mark c then Some Mark else None
-part_step Whole c = if is_ascii_digit c then Some Whole else if c == 46 then Some Dot else if is_mark c then Some Mark else None
+part_step Whole c =
+    if is_ascii_digit c then Some Whole else if c == 46 then Some Dot
+    else if is_mark c then Some Mark else None
 part_step Dot c = if is_ascii_digit c then Some Fraction else None
-part_step Fraction c = if is_ascii_digit c then Some Fraction else if is_mark c then Some Mark else None
+part_step Fraction c =
+    if is_ascii_digit c then Some Fraction else if is_mark c then Some Mark else None
 part_step Mark c = if is_ascii_digit c then Some Exponent else if is_sign c then Some Sign else None
 part_step Sign c = if is_ascii_digit c then Some Exponent else None
 part_step Exponent c = if is_ascii_digit c then Some Exponent else None
@@ -175,7 +187,8 @@ next_move v (in_list vs ∷ fs) c =
     if c == 93 then goes (state (behind (array (items_with (vs ++ v ∷ []) no_items))) fs) else stops
 next_move v (in_object es key ∷ fs) c =
     if c == 44 then goes (state (at_next_key (es ++ (key, v) ∷ [])) fs) else
-    if c == 125 then goes (state (behind (object (members_with (es ++ (key, v) ∷ []) no_members))) fs) else stops
+    if c == 125 then goes
+    (state (behind (object (members_with (es ++ (key, v) ∷ []) no_members))) fs) else stops
 
 abbrev pub behind_move : Json → List Frame → ℕ → Move
 behind_move v fs c = if is_space c then goes (state (behind v) fs) else next_move v fs c

@@ -7,4 +7,5 @@ use Rattle.switch_text.specs.private.Pieces.{text_of}
 
 abbrev pub front_text : Front → List ℕ
 front_text f =
-    text_of f.head.now ++ cpu_part f.cpu ++ text_of f.second.now ++ digits_in 6 f.micros ++ event_part ++ text_of f.leaving.now ++ text_of f.state.now
+    text_of f.head.now ++ cpu_part f.cpu ++ text_of f.second.now ++ digits_in 6 f.micros
+    ++ event_part ++ text_of f.leaving.now ++ text_of f.state.now

@@ -1,4 +1,5 @@
--- Several runs at once: what is left of each, and which entry comes next. The trace text knows nothing of these words.
+-- Several runs at once: what is left of each, and which entry comes next. The trace text knows
+-- nothing of these words.
 use Rattle.std.specs.Prelude.{ℕ, ◌≡◌, ◌+◌, ◌<◌, ◌^◌, Bool, true, false, List, [], ◌∷◌, ◌++◌, length, drop, slice_index, slice_index_or, slice_set, Option, Some, None}
 use Rattle.std.specs.List.{AllByRecursion}
 use Rattle.switch_text.specs.declared.run.Run.{Run}
@@ -17,7 +18,8 @@ left_of (r ∷ runs) (p ∷ places) = drop p (entries_of r) ++ left_of runs plac
 abbrev pub stepped : List ℕ → ℕ → List ℕ
 stepped places i = slice_set places i (slice_index places i + 1)
 
--- an entry of this run that is left, earlier than those left before it, and not later than those left behind it
+-- an entry of this run that is left, earlier than those left before it, and not later than those
+-- left behind it
 pub record IsAhead (runs : List RunView) (places : List ℕ) (i : ℕ) (e : Entry) : Type 0 where
   pub before : List Entry
   pub after : List Entry

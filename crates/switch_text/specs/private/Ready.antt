@@ -30,7 +30,8 @@ abbrev pub who_of : ℕ → ℕ → Option ℕ → Who
 who_of run cpu None = Idle cpu
 who_of run cpu (Some number) = Task run number
 
--- the texts are those of whom they name: an idle task has no name of a run, and a task's name is the same on each CPU
+-- the texts are those of whom they name: an idle task has no name of a run, and a task's name is
+-- the same on each CPU
 abbrev pub IsFor : List Run → Who → Slot → Type 0
 IsFor runs Nobody s = Unit {0}
 IsFor runs (Idle cpu) s = (names : ℕ → List ℕ) → IsReady names cpu None s

@@ -1,4 +1,5 @@
-//! Where a growth is refused, `parse` answers Memory, else what it always does: `rt try --test --fail-alloc N` refuses the Nth.
+//! Where a growth is refused, `parse` answers Memory, else what it always does: `rt try --test
+//! --fail-alloc N` refuses the Nth.
 use super::*;
 
 /// The text gives this answer, unless a growth is refused: then that is told.

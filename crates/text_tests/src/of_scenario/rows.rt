@@ -1,4 +1,5 @@
-//! Tables of texts and what they give: the keys at the ends of what they take, and each fault as it prints.
+//! Tables of texts and what they give: the keys at the ends of what they take, and each fault as it
+//! prints.
 use super::*;
 
 /// A root with one thread `a`, up to its members.
@@ -190,7 +191,8 @@ fn are_phases(alloc: Global, value: &str, count: u64, answer: &str) -> Result<bo
     is_right(alloc, TASK, &row, END)
 }
 
-/// 64 are read. Events of 0 us count, and neither the value of the 65th event is read nor any of 65 phases.
+/// 64 are read. Events of 0 us count, and neither the value of the 65th event is read nor any of 65
+/// phases.
 fn are_counted(alloc: Global) -> Result<bool, AllocError> {
     Ok(
         are_events(alloc, "1", 64, "Run(1), Run(1)] }")?
