@@ -17,6 +17,3 @@ pub use candidate::Candidate;
 pub use placement::{Placement, pick};
 pub use queue::Queue;
 pub use seats::stands;
-
-#[cfg(test)]
-mod tests;

@@ -13,6 +13,3 @@ mod share;
 pub use accounts::Accounts;
 pub use rules::{rate, zero_lag};
 pub use share::Share;
-
-#[cfg(test)]
-mod tests;

@@ -1,10 +1,10 @@
 // Clients in threads of their own.
 ghost use Rattle.std.specs.Prelude.{◌≡◌, ◌<◌, ◌≤◌, ◌+◌, [], length, vec_capacity, vec_len, All};
 ghost use Rattle.bw_gate.specs.Pieces.{cap_of};
-ghost use Rattle.bw_gate.specs.private.Quarters.{IsQuarter, IsQuarterTaken};
+ghost use Rattle.word_tests.specs.Quarters.{IsQuarter, IsQuarterTaken};
 
 use super::{next, opened, regraded};
-use crate::{Blank, Gate, Take, Ticket, Words};
+use bw_gate::{Blank, Gate, Take, Ticket, Words};
 use std::process::Abort;
 use std::sync::Wait;
 use std::sync::atomic::{AtomicUsize, Ordering};

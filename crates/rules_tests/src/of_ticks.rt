@@ -2,7 +2,6 @@ ghost use Rattle.std.specs.Prelude.{◌<◌, All, IfOk};
 ghost use Rattle.tick_split.specs.Planning.{IsPlannable};
 ghost use Rattle.tick_split.specs.Charging.{IsChargeable};
 
-use crate::{Plan, Slice, StartFault, Turn, charge, charge_all, plan, plan_all};
 use attr_check::{AttrRefusal, SchedAttr, check};
 use std::alloc::Global;
 use std::sync::Wait;
@@ -10,6 +9,7 @@ use std::sync::atomic::{AtomicBool, AtomicUsize, Ordering};
 use std::test::Fail;
 use std::thread::{Threads, sleep};
 use std::time::{Clock, Duration};
+use tick_split::{Plan, Slice, StartFault, Turn, charge, charge_all, plan, plan_all};
 
 // Has no interest in turns.
 struct Silent;
