@@ -16,6 +16,3 @@ pub use checking::check;
 pub use params::Params;
 pub use ratio::{UNIT, to_ratio};
 pub use refusal::AttrRefusal;
-
-#[cfg(test)]
-mod tests;

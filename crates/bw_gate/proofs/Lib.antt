@@ -1,5 +1,4 @@
 pub mod Views
 pub mod Steps
 pub mod Races
-pub mod Quarters
 pub mod Core

@@ -4,4 +4,3 @@ pub mod Answers
 pub mod Table
 pub mod Kinds
 pub mod Core
-pub mod private

@@ -21,6 +21,3 @@ pub use answer::{Regrade, Take, Words};
 pub use core_steps::steps_are_the_cores;
 pub use gate::{Gate, Mark};
 pub use piece::{Blank, Ticket};
-
-#[cfg(test)]
-mod tests;

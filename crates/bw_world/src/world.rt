@@ -105,6 +105,3 @@ impl World {
         self.applied
     }
 }
-
-#[cfg(test)]
-mod tests;

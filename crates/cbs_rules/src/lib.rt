@@ -9,6 +9,3 @@ mod server;
 
 pub use rules::{charge, is_throttled, on_wake, replenish};
 pub use server::Server;
-
-#[cfg(test)]
-mod tests;

@@ -1,5 +1,5 @@
 -- On which CPU each chosen task runs (own).
-use Rattle.std.specs.Prelude.{ℕ, zero, suc, ◌<◌, ◌≤◌, length, position, Bool, false, ◌&&◌, ◌==◌, if◌then◌else◌, List, map, slice_get, slice_set, Option, Some, None, is_none}
+use Rattle.std.specs.Prelude.{ℕ, zero, suc, ◌≡◌, ◌<◌, ◌≤◌, length, position, Bool, false, ◌&&◌, ◌==◌, if◌then◌else◌, List, map, slice_get, slice_set, Option, Some, None, is_none}
 use Rattle.std.specs.List.{list_any}
 use Rattle.edf_pick.specs.declared.candidate.Candidate.{Candidate}
 use Rattle.edf_pick.specs.Choice.{is_chosen, ranked}
@@ -8,10 +8,11 @@ use Rattle.edf_pick.specs.Choice.{is_chosen, ranked}
 abbrev pub Places : Type 0
 Places = List (Option ℕ)
 
--- those of 1 to 64 CPUs
-pub record IsPlaces (places : Places) : Type 0 where
+-- those of 1 to 64 CPUs, with the room for so many that they were opened with, so they take no more
+pub record IsPlaces (places : Places) (capacity : ℕ) : Type 0 where
   pub some : 0 < length places
   pub few : length places ≤ 64
+  pub room : capacity ≡ length places
 
 -- the occupant is this task
 abbrev pub is_task : ℕ → Option ℕ → Bool

@@ -3,7 +3,8 @@
 //! [`Queue`] keeps the ready tasks in the order of the choice, and [`pick`] moves the occupants of the CPUs, a [`Placement`], on
 //! by one tick. Both meet the definition "Choice and placement" (`specs/Choice.antt` and `specs/Places.antt` by counting,
 //! `specs/Order.antt` for the queue). To the crate above it promises that the occupants of the CPUs are exactly those, for a list
-//! in any order too (`proofs/CallerLemmas.antt`), and that a queue never grows: its type keeps the room that it was opened with.
+//! in any order too (`proofs/CallerLemmas.antt`), and that neither a queue nor a placement grows: their types keep the room that
+//! they were opened with.
 #![tactic(auto)]
 
 mod candidate;
@@ -17,6 +18,3 @@ pub use candidate::Candidate;
 pub use placement::{Placement, pick};
 pub use queue::Queue;
 pub use seats::stands;
-
-#[cfg(test)]
-mod tests;

@@ -1,6 +1,6 @@
 //! The choice and the placement, read off a queue: its first tasks are the chosen ones.
 
-ghost use Rattle.std.specs.Prelude.{◌≡◌, ◌==◌, ◌≤◌, map, take, vec_len, length, IsTrue};
+ghost use Rattle.std.specs.Prelude.{◌≡◌, ◌==◌, ◌≤◌, map, take, vec_len, vec_capacity, length, IsTrue};
 ghost use Rattle.std.specs.List.{list_any};
 ghost use Rattle.edf_pick.specs.private.First as spec;
 ghost use Rattle.edf_pick.specs.Order.{IsRising};
@@ -59,6 +59,7 @@ fn keep(places: &mut Vec<Option<u32>>, chosen: &[Candidate])
     requires { vec_len places.old ≤ 64 }
     ensures places { places.new.items ≡ map (spec.staying chosen.now) places.old.items }
     ensures len { vec_len places.new ≡ vec_len places.old }
+    ensures room { vec_capacity places.new ≡ vec_capacity places.old }
 {
     let marks = marks_of(places, chosen);
     for cpu in 0..places.len() {
@@ -69,6 +70,7 @@ fn keep(places: &mut Vec<Option<u32>>, chosen: &[Candidate])
 fn seat_all(places: &mut Vec<Option<u32>>, chosen: &[Candidate])
     ensures places { places.new.items ≡ spec.seated_all chosen.now places.old.items }
     ensures len { vec_len places.new ≡ vec_len places.old }
+    ensures room { vec_capacity places.new ≡ vec_capacity places.old }
 {
     for c in chosen {
         seat(places, c);
@@ -80,6 +82,7 @@ pub(crate) fn pick_from(places: &mut Vec<Option<u32>>, queue: &[Candidate])
     requires few { vec_len places.old ≤ 64 }
     ensures places { places.new.items ≡ placed (vec_len places.old) queue.now places.old.items }
     ensures len { vec_len places.new ≡ vec_len places.old }
+    ensures room { vec_capacity places.new ≡ vec_capacity places.old }
 {
     let chosen = first_of(queue, places.len());
     keep(places, chosen);

@@ -1,6 +1,6 @@
 //! Who stands on each CPU, and how that moves on by one tick.
 
-ghost use Rattle.std.specs.Prelude.{◌≡◌, ◌<◌, ◌≤◌, IfOk, None, length, replicate, vec_len};
+ghost use Rattle.std.specs.Prelude.{◌≡◌, ◌<◌, ◌≤◌, IfOk, None, length, replicate, vec_len, vec_capacity};
 ghost use Rattle.edf_pick.specs.Places.{placed};
 
 use crate::picking::pick_from;
@@ -9,20 +9,34 @@ use std::alloc::{AllocError, Global};
 use std::marker::Model;
 
 /// Who stands on each of the 1 to 64 CPUs of a root domain: the number of a task, or nobody where the CPU is idle. Contracts see
-/// it as the list of its occupants.
+/// it as the list of its occupants. A placement with room for more or fewer than its CPUs cannot be built.
 #[derive(Drop)]
 pub struct Placement {
     occupants: Vec<Option<u32>>,
 }
 
 impl Model for Placement {
+    ghost use Rattle.std.specs.Prelude.{vec_capacity};
     ghost use Rattle.edf_pick.specs.Places.{Places, IsPlaces};
 
     ghost Value = { Places };
 
     ghost view = { λ p. p.occupants.items };
 
-    ghost invariant = { λ p. IsPlaces p.occupants.items };
+    ghost invariant = { λ p. IsPlaces p.occupants.items (vec_capacity p.occupants) };
+}
+
+// So many idle CPUs, with room for no more.
+fn idle(alloc: Global, cpus: usize) -> Result<Vec<Option<u32>>, AllocError>
+    ensures places { IfOk result (λ places. places.items ≡ replicate cpus None) }
+    ensures len { IfOk result (λ places. vec_len places ≡ cpus) }
+    ensures room { IfOk result (λ places. vec_capacity places ≡ cpus) }
+{
+    let mut places = Vec::with_capacity(alloc, cpus)?;
+    for _ in 0..cpus {
+        places.push_reserved(None);
+    }
+    Ok(places)
 }
 
 impl Placement {
@@ -33,7 +47,7 @@ impl Placement {
         ensures { IfOk result (λ placement. placement ≡ replicate cpus None) }
     {
         Ok(Placement {
-            occupants: vec![in alloc; None; cpus]?,
+            occupants: idle(alloc, cpus)?,
         })
     }
 
@@ -55,6 +69,3 @@ pub fn pick(placement: &mut Placement, queue: &Queue)
 {
     pick_from(&mut placement.occupants, queue.as_slice());
 }
-
-#[cfg(test)]
-mod tests;

@@ -8,11 +8,14 @@ pub record AccountsView : Type 0 where
   pub active : List ℕ
   pub total : ℕ
 
--- what every value keeps: two sums for each CPU, the active one within the other, and the total of all CPUs
-pub record IsBalanced (accounts : AccountsView) : Type 0 where
+-- what every value keeps: two sums for each CPU, the active one within the other, and the total of all CPUs; and for both lists
+-- the room for so many that they were opened with, so they take no more
+pub record IsBalanced (accounts : AccountsView) (all_capacity active_capacity : ℕ) : Type 0 where
   pub cpus : length accounts.active ≡ length accounts.all
   pub within : (cpu : ℕ) → slice_index accounts.active cpu ≤ slice_index accounts.all cpu
   pub total : sum accounts.all ≡ accounts.total
+  pub all_room : all_capacity ≡ length accounts.all
+  pub active_room : active_capacity ≡ length accounts.active
 
 -- the sums count these shares and no others: each belongs to a CPU of the domain, and on every CPU the sums are theirs
 pub record AreAccounts (accounts : AccountsView) (shares : List Share) : Type 0 where

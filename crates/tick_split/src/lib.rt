@@ -18,6 +18,3 @@ pub use fault::StartFault;
 pub use lists::{charge_all, plan_all};
 pub use rules::{charge, plan};
 pub use turn::Turn;
-
-#[cfg(test)]
-mod tests;

@@ -13,4 +13,5 @@ loop-cpu-preserved c =
     record {
       written = rw (c.staying_at.ensures ∙ ap (staying c.args.chosen.now) c.index.ensures) (map_over_more (staying c.args.chosen.now) c.args.places.now.items l.places.items l.cpu v within l.invariant.written (get_or_default l.places.items l.cpu c.index.result.now v inside));
       len = l.invariant.len;
+      room = l.invariant.room;
     }

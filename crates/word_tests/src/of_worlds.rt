@@ -1,4 +1,5 @@
-use super::*;
+use bw_world::{NoMemory, Outcome, Step, World};
+use std::alloc::Global;
 use std::process::Abort;
 use std::test::Fail;
 

@@ -1,6 +1,6 @@
 use Rattle.std.proofs.Common.{arith}
-use Rattle.bw_gate.proofs.Quarters.{quarters}
-use Rattle.bw_gate.proofs.tests.threads.closed.Goals as goal
+use Rattle.word_tests.proofs.Quarters.{quarters}
+use Rattle.word_tests.proofs.of_gates.threads.closed.Goals as goal
 
 pub returns-clause-four : goal.returns-clause-four
 returns-clause-four c =

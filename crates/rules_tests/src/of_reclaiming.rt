@@ -1,6 +1,6 @@
-use crate::{rate, zero_lag};
 use attr_check::{AttrRefusal, Params, SchedAttr, UNIT, check};
 use cbs_rules::Server;
+use grub_rules::{rate, zero_lag};
 use std::test::Fail;
 
 const LEFT: i128 = 1048576;

@@ -1,4 +1,5 @@
-use super::*;
+use grub_rules::{Accounts, Share};
+use std::alloc::AllocError;
 use std::process::Abort;
 use std::test::Fail;
 
@@ -71,34 +72,6 @@ fn each_call_once(rt: HostRuntime) -> Result<(), Fail> {
     part(&rt, &mut accounts, &share(1, 262144, true));
     assert_eq!(rt; uinact(&rt, &accounts, 2), 131072);
     assert_eq!(rt; accounts.total(), 131072);
-    Ok(())
-}
-
-fn come_and_go(rt: &impl Abort, accounts: &mut Accounts, cpu: usize) {
-    join(rt, accounts, &share(cpu, 1000, false));
-    wake(rt, accounts, cpu, 1000);
-    idle(rt, accounts, cpu, 1000);
-    shift(rt, accounts, &share(cpu, 1000, false), 0);
-    let last = share(cpu, 2000, true);
-    track(rt, accounts, &share(0, 1000, false), &last);
-    part(rt, accounts, &last);
-}
-
-// The room of the two sums of each CPU: a growth would change it.
-fn room(accounts: &Accounts) -> (usize, usize) {
-    (accounts.all.capacity(), accounts.active.capacity())
-}
-
-#[test]
-fn no_call_but_open_takes_memory(rt: HostRuntime) -> Result<(), Fail> {
-    let mut accounts = Accounts::open(rt.alloc(), CPUS)?;
-    let before = room(&accounts);
-    for _ in 0..100 {
-        for cpu in 0..CPUS {
-            come_and_go(&rt, &mut accounts, cpu);
-        }
-    }
-    assert_eq!(rt; room(&accounts), before);
     Ok(())
 }
 

@@ -1,7 +1,7 @@
 ghost use Rattle.std.specs.Prelude.{All, IfOk};
-ghost use Rattle.pass_seats.specs.private.Fresh.{IsNewOf};
+ghost use Rattle.word_tests.specs.Fresh.{IsNewOf};
 
-use crate::{NoMemory, Pass, Spine};
+use pass_seats::{NoMemory, Pass, Spine};
 use std::alloc::Global;
 use std::process::Abort;
 use std::test::Fail;

@@ -1,4 +1,4 @@
-use super::{AttrRefusal, Params, SchedAttr, check, to_ratio};
+use attr_check::{AttrRefusal, Params, SchedAttr, check, to_ratio};
 use std::test::Fail;
 
 fn plain(runtime: u64, deadline: u64, period: u64) -> SchedAttr {

@@ -1,5 +1,5 @@
-use crate::{Server, charge, is_throttled, on_wake, replenish};
 use attr_check::{AttrRefusal, Params, SchedAttr, check};
+use cbs_rules::{Server, charge, is_throttled, on_wake, replenish};
 use std::test::Fail;
 
 const LEFT: i128 = 1048576;

@@ -2,7 +2,6 @@ ghost use Rattle.std.specs.Prelude.{◌<◌, All, IfOk};
 ghost use Rattle.tick_split.specs.Planning.{IsPlannable};
 ghost use Rattle.tick_split.specs.Charging.{IsChargeable};
 
-use crate::{Plan, Slice, StartFault, Turn, charge, charge_all, plan, plan_all};
 use attr_check::{AttrRefusal, SchedAttr, check};
 use std::alloc::Global;
 use std::sync::Wait;
@@ -10,6 +9,7 @@ use std::sync::atomic::{AtomicBool, AtomicUsize, Ordering};
 use std::test::Fail;
 use std::thread::{Threads, sleep};
 use std::time::{Clock, Duration};
+use tick_split::{Plan, Slice, StartFault, Turn, charge, charge_all, plan, plan_all};
 
 // Has no interest in turns.
 struct Silent;
@@ -250,13 +250,24 @@ fn turns_of<R: Threads + Wait>(
     ))
 }
 
+// With three slices, by so many workers.
+fn turns_of_three<R: Threads + Wait>(
+    rt: &R,
+    alloc: Global,
+    workers: usize,
+) -> Result<(usize, usize), StartFault>
+    requires { 0 < workers }
+{
+    turns_of(rt, alloc, &mut slices(), workers)
+}
+
 // There are as many pieces as workers, but no more than elements.
 #[test]
 fn each_piece_has_one_turn(rt: HostRuntime) -> Result<(), Fail> {
     let alloc = rt.alloc();
-    assert_eq!(rt; turns_of(&rt, alloc, &mut slices(), 1)?, (0x1, 0x1));
-    assert_eq!(rt; turns_of(&rt, alloc, &mut slices(), 2)?, (0x11, 0x11));
-    assert_eq!(rt; turns_of(&rt, alloc, &mut slices(), 8)?, (0x111, 0x111));
+    assert_eq!(rt; turns_of_three(&rt, alloc, 1)?, (0x1, 0x1));
+    assert_eq!(rt; turns_of_three(&rt, alloc, 2)?, (0x11, 0x11));
+    assert_eq!(rt; turns_of_three(&rt, alloc, 8)?, (0x111, 0x111));
     assert_eq!(rt; turns_of(&rt, alloc, &mut [], 8)?, (0, 0));
     Ok(())
 }

@@ -2,7 +2,7 @@ ghost use Rattle.std.specs.Prelude.{◌≡◌, ◌<◌, ◌≤◌, ◌^◌, leng
 ghost use Rattle.bw_world.specs.WorldStep.{unit};
 ghost use Rattle.bw_gate.specs.Pieces.{cap_of};
 
-use crate::{Blank, Gate, Regrade, Take, Ticket};
+use bw_gate::{Blank, Gate, Regrade, Take, Ticket};
 use bw_world::NoMemory;
 use std::alloc::Global;
 use std::process::Abort;

@@ -1,10 +1,10 @@
 // Clients in threads of their own.
 ghost use Rattle.std.specs.Prelude.{◌≡◌, ◌<◌, ◌≤◌, ◌+◌, [], length, vec_capacity, vec_len, All};
 ghost use Rattle.bw_gate.specs.Pieces.{cap_of};
-ghost use Rattle.bw_gate.specs.private.Quarters.{IsQuarter, IsQuarterTaken};
+ghost use Rattle.word_tests.specs.Quarters.{IsQuarter, IsQuarterTaken};
 
 use super::{next, opened, regraded};
-use crate::{Blank, Gate, Take, Ticket, Words};
+use bw_gate::{Blank, Gate, Take, Ticket, Words};
 use std::process::Abort;
 use std::sync::Wait;
 use std::sync::atomic::{AtomicUsize, Ordering};
@@ -145,16 +145,35 @@ fn eight<R: Threads + Wait + Sync + Abort>(
                 × IsQuarterTaken gate.entry.now result.1.1 }
         { four(rt, gate, here, e, f, g, h) },
     );
-    let ((a, b), (c, d)) = west;
-    let ((e, f), (g, h)) = east;
+    sort_four(gate, west, blanks, tickets);
+    sort_four(gate, east, blanks, tickets);
+}
+
+// Puts what four clients have at their end into one of two lists that have room for four.
+fn sort_four(
+    gate: &Gate,
+    answers: ((Take, Take), (Take, Take)),
+    blanks: &mut Vec<Blank>,
+    tickets: &mut Vec<Ticket>,
+)
+    requires first { IsQuarterTaken gate.now answers.0.0 × IsQuarterTaken gate.now answers.0.1 }
+    requires second { IsQuarterTaken gate.now answers.1.0 × IsQuarterTaken gate.now answers.1.1 }
+    requires room { (vec_len blanks.old + 4 ≤ vec_capacity blanks.old)
+        × (vec_len tickets.old + 4 ≤ vec_capacity tickets.old) }
+    requires blanks { All (λ b. b.gate ≡ gate.now) blanks.old.items }
+    requires tickets { All (IsQuarter gate.now) tickets.old.items }
+    ensures room { (vec_capacity blanks.new ≡ vec_capacity blanks.old)
+        × (vec_capacity tickets.new ≡ vec_capacity tickets.old) }
+    ensures len { (vec_len blanks.new ≤ vec_len blanks.old + 4)
+        × (vec_len tickets.new ≤ vec_len tickets.old + 4) }
+    ensures blanks { All (λ b. b.gate ≡ gate.now) blanks.new.items }
+    ensures tickets { All (IsQuarter gate.now) tickets.new.items }
+{
+    let ((a, b), (c, d)) = answers;
     sort(gate, a, blanks, tickets);
     sort(gate, b, blanks, tickets);
     sort(gate, c, blanks, tickets);
     sort(gate, d, blanks, tickets);
-    sort(gate, e, blanks, tickets);
-    sort(gate, f, blanks, tickets);
-    sort(gate, g, blanks, tickets);
-    sort(gate, h, blanks, tickets);
 }
 
 // Puts what a client has at its end into one of two lists that have room.
@@ -225,6 +244,11 @@ fn rounds(rt: &impl Wait, gate: &Gate, here: &AtomicUsize, mut blank: Blank) -> 
     blank
 }
 
+// How many of the blanks have seen their word at this.
+fn those_at(blanks: &[Blank], seen: u64) -> usize {
+    blanks.iter().filter(|b| b.last() == seen).count()
+}
+
 // eight_threads_four_taken: one CPU has room for four quarters, whichever clients take them. The other four have seen it
 // full.
 #[test]
@@ -233,7 +257,7 @@ fn eight_threads_four_taken(rt: HostRuntime) -> Result<(), Fail> {
     let mut home = Vec::with_capacity(rt.alloc(), 8)?;
     let mut tickets = Vec::with_capacity(rt.alloc(), 8)?;
     eight(&rt, &gate, blanks, &mut home, &mut tickets);
-    let seen_full = home.iter().filter(|b| b.last() == 1048576).count();
+    let seen_full = those_at(&home, 1048576);
     let (count, words) = closed(gate, home, tickets);
     assert_eq!(rt; (count, seen_full), (4, 4));
     assert_eq!(rt; words.word[0], 1048576);

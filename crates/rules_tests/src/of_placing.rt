@@ -1,4 +1,4 @@
-use crate::{Candidate, Placement, Queue, pick, stands};
+use edf_pick::{Candidate, Placement, Queue, pick, stands};
 use std::alloc::{AllocError, Global};
 use std::test::Fail;
 
