@@ -18,7 +18,7 @@ use Rattle.bw_gate.specs.declared.view.Piece.TheVariants.{Blank, Ticket}
 use Rattle.bw_gate.specs.declared.view.View.{View}
 use Rattle.bw_gate.specs.Terms.{TermsView, cap_in}
 use Rattle.bw_gate.specs.Table.{held, held_by, held_by_all, Carries, IsKept, opened}
-use Rattle.bw_gate.specs.Kinds.{told, made, IsFound, Loads, Takes, Regrades, Gives, first_piece, other_pieces, without_piece, Comes, gathered, spent}
+use Rattle.bw_gate.specs.Kinds.{told, made, IsFound, Loads, Takes, Regrades, Gives, first_piece, other_pieces, renewed, Renews, without_piece, Comes, gathered, spent}
 use Rattle.bw_gate.proofs.Views.{sum_set, sum_at, all_at, alone, held_one, held_here, held_else}
 
 -- a view goes over into one of as many pieces, and the word of a domain goes with what they hold of it
@@ -91,6 +91,13 @@ module _ {S : Type 0} where
       let v = me.0 in
       let found = found_at terms s id d v kept at same in
       (told n v, keeps, tt, kept_after terms s.words s.views id d n v (told n v) kept at inside refl refl (λ e ne. refl) refl (kept.capped d), (found, refl))
+
+  -- a load of the first word, after which the piece has found nothing
+  pub renews : (terms : TermsView) (slots id : ℕ) (me : Me S View) → 0 < length terms.caps → Allows (Rule terms) slots id me 0 (λ n. n) (Renews (step slots 0 0 0 none) me)
+  renews terms slots id me inside s kept homes at bound =
+      let n = slice_index s.words 0 in
+      let v = me.0 in
+      (renewed v, keeps, tt, kept_after terms s.words s.views id 0 n v (renewed v) kept at inside refl refl (λ e ne. refl) refl (kept.capped 0), refl)
 
   -- an exchange of one word for another, by a view of one piece that becomes another piece of this domain
   module _ (terms : TermsView) (slots id d old new : ℕ) (me : Me S View) (p q : Piece) (inside : d < length terms.caps) (same : me.0.terms ≡ terms) (one : me.0.pieces ≡ p ∷ []) (others : (e : ℕ) → e ≢ d → held e q ≡ held e p) (word : new + held d p ≡ old + held d q) (capped : new ≤ cap_in terms d) where

@@ -45,7 +45,8 @@ module _ {S : Type 0} where
   abbrev pub Gives : Step S → Me S View → ℕ → Me S View → Type 0
   Gives s me n after = IsFound s.word me.0 n × (after ≡ (made Blank n me.0, me.1))
 
--- Beside these four, open splits pieces off and close joins them, by loads that append nothing.
+-- Beside these four, open splits pieces off, renew makes a piece as open deals it, and close joins pieces, by loads that append
+-- nothing.
 
 -- open: the first piece goes to a new seat, and the others stay
 abbrev pub first_piece : View → View
@@ -53,6 +54,13 @@ first_piece v = record v { pieces = take 1 v.pieces }
 
 abbrev pub other_pieces : View → View
 other_pieces v = record v { pieces = drop 1 v.pieces }
+
+-- renew: the piece has found nothing
+abbrev pub renewed : View → View
+renewed v = record v { found = [] }
+
+abbrev pub Renews : {S : Type 0} → Step S → Me S View → ℕ → Me S View → Type 0
+Renews s me n after = after ≡ (renewed me.0, me.1)
 
 -- close: a new seat comes, which has no piece and knows the terms
 abbrev pub without_piece : View → View

@@ -238,6 +238,16 @@ impl Gate {
         Blank { seat, last: found }
     }
 
+    /// The same blank as [`Gate::open`] deals it, which has found nothing. By one load, of which nothing is told.
+    pub fn renew(&self, blank: Blank) -> Blank
+        requires { blank.gate ≡ self.now }
+        ensures { result ≡ record { gate = self.now; found = [] } }
+    {
+        let Blank { mut seat, .. } = blank;
+        let _ = self.table.shared.load::<view::Renew>(&mut seat, 0);
+        Blank { seat, last: 0 }
+    }
+
     /// The word of a ticket's domain, by one load: at least the ticket's bandwidth and at most the cap. Other clients may
     /// change it at any time.
     pub fn load(&self, ticket: &mut Ticket) -> u64

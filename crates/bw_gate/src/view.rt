@@ -74,6 +74,15 @@ impl Split<View> for Deal {
     ghost right = { first_piece };
 }
 
+/// Makes a piece as it is dealt.
+pub(crate) struct Renew;
+
+impl Play<(), View> for Renew {
+    ghost use Rattle.bw_gate.specs.Kinds.{Renews};
+
+    ghost then = { Renews };
+}
+
 /// Brings a seat without a piece.
 pub(crate) struct Come;
 

@@ -7,10 +7,11 @@ use Rattle.std.proofs.lemmas.List.{append_assoc, append-nil, length-append, map-
 use Rattle.std.proofs.lemmas.List.Elements.{All-append, All-nil, All-cons, All-head, All-tail, filter-append, filter_map-append}
 use Rattle.std.proofs.lemmas.List.Filters.{length-filter_more}
 use Rattle.rtapp_scenario.specs.ScenarioView.{TaskSpecView}
+use Rattle.bw_gate.specs.Pieces.{BlankView}
 use Rattle.call_book.specs.declared.section.Entry.{Entry}
 use Rattle.session.specs.declared.refusal.Refusal.{Refusal}
 use Rattle.session.specs.SessionId.{SessionId}
-use Rattle.session.specs.Asks.{Answer, IsLawful, Asked, Made, made_in, made_at, call_of, domain_of, entries_from, ClientView, pass_in, followed_by, Makes, Asks}
+use Rattle.session.specs.Asks.{Answer, IsLawful, Asked, Made, made_in, made_at, call_of, domain_of, entries_from, ClientView, pass_in, followed_by, Makes, Asks, IsHandAfterAll}
 use Rattle.session.specs.Admissions.{is_own, own_asked, refusal_of, refused_in}
 use Rattle.session.specs.Admissions.{AllAsked}
 use Rattle.session.proofs.Closed.{by_place_more}
@@ -41,10 +42,15 @@ followed_more a b c d xs ys number first next =
     ∙ append_assoc front made (entries_from a.number (length front + length xs) ys)
     ∙ ap (λ (l : List Entry). front ++ l) (sym (entries_more a.number (length front) xs ys))
 
+hand_more : (id : SessionId) (a b c : Option BlankView) (xs ys : List Asked) → IsHandAfterAll id a xs b → IsHandAfterAll id b ys c → IsHandAfterAll id a (xs ++ ys) c
+hand_more id a b c [] ys first next = subst (λ (h : Option BlankView). IsHandAfterAll id h ys c) first next
+hand_more id a b c (x ∷ xs) ys first next = (first.0, first.1, hand_more id first.0 b c xs ys first.2 next)
+
 pub asks_none : (id : SessionId) (c : ClientView) → Asks id c c []
 asks_none id c = record {
   lawful = All-nil (λ q. IsLawful id q.task q.answer);
   made = record { number = refl; domains = refl; passes = λ d inside. sym (append-nil (pass_in c d)) };
+  hand = refl;
 }
 
 pub asks_more : (id : SessionId) (a b c : ClientView) (xs ys : List Asked) → Asks id a b xs → Asks id b c ys → Asks id a c (xs ++ ys)
@@ -58,6 +64,7 @@ asks_more id a b c xs ys first next = record {
         followed_more a b c d (made_in id d xs) (made_in id d ys) first.made.number (first.made.passes d inside) (next.made.passes d there)
         ∙ ap (λ (l : List Made). followed_by a d l) (sym (filter_map-append (λ q. made_at d (domain_of id.cpu_sets q.task.cpus) (call_of q.task) q.answer) xs ys));
   };
+  hand = hand_more id a.hand b.hand c.hand xs ys first.hand next.hand;
 }
 
 -- ---- the tasks of one client

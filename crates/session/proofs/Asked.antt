@@ -1,6 +1,6 @@
 -- What a client is answered, and what its passes have then.
 use Rattle.std.proofs.Common.{◌≡◌, ◌≢◌, ℕ, ◌+◌, ◌<◌, Bool, true, false, not, cond, eqb, List, [], ◌∷◌, ◌++◌, length, map, set, get_or, Option, Some, None, Ok, Err, refl, sym, ap, subst, ◌∙◌, arith}
-use Rattle.std.specs.Prelude.{slice_index_or, position, nat_lt}
+use Rattle.std.specs.Prelude.{slice_index_or, position, nat_lt, IfSome, IsSome, IsSomeAnd}
 use Rattle.std.specs.List.{position_or_len, prefix_len, cons_option}
 use Rattle.std.proofs.lemmas.Bool.{ltb-true, eqb-true, eqb-false}
 use Rattle.std.proofs.lemmas.Option.{same_Some}
@@ -14,19 +14,19 @@ use Rattle.domain_run.specs.declared.call.Call.{Call}
 use Rattle.domain_run.specs.declared.call.Reply.TheVariants as replies
 use Rattle.rtapp_scenario.specs.ScenarioView.{TaskSpecView}
 use Rattle.pass_seats.specs.Lists.{PassView}
-use Rattle.bw_gate.specs.Pieces.{BlankView, last_of}
-use Rattle.bw_gate.specs.Answers.{IsTake, words_of}
+use Rattle.bw_gate.specs.Pieces.{GateId, BlankView, TicketView, last_of}
+use Rattle.bw_gate.specs.Answers.{IsTake, IsGive, words_of}
 use Rattle.bw_gate.specs.declared.answer.Take.TheVariants as takes
 use Rattle.call_book.specs.declared.section.Entry.{Entry}
 use Rattle.session.specs.declared.refusal.Refusal.{Refusal}
 use Rattle.session.specs.declared.refusal.Refusal.TheVariants as refusals
 use Rattle.session.specs.SessionId.{SessionId, IsSession, IsDomainIndex, cap_in}
-use Rattle.session.specs.Asks.{Answer, IsLawful, Goes, IsOver, domain_of, same_cpus, call_of, ClientView, Asks, Makes, made_by, made_in, made_of, made_at, Made, entries_from, pass_in}
+use Rattle.session.specs.Asks.{Answer, IsLawful, Goes, IsOver, domain_of, same_cpus, call_of, ClientView, Asks, Makes, made_by, made_in, made_of, made_at, Made, entries_from, pass_in, piece_of, IsGivenBackAfter, AsksGate, IsHandAfter}
 use Rattle.call_book.specs.Book.{admission}
 use Rattle.domain_run.specs.declared.call.Call.TheVariants as calls
 use Rattle.session.specs.declared.locked_book.Ask.{Ask}
 use Rattle.session.specs.declared.locked_book.Ask.TheVariants as asks
-use Rattle.session.specs.private.Entering.{IsVerdict, pass_after, IsDone, IsDoneFor, IsAdvancedBy, IsAdvancedFor}
+use Rattle.session.specs.private.Entering.{IsVerdict, IsBookVerdict, IsGivenBack, NoneIsKept, pass_after, IsDone, IsDoneFor, IsAdvancedBy, IsAdvancedFor}
 
 -- ---- attributes
 
@@ -77,6 +77,80 @@ lawful_of id t d (Err refusals.Enomem) g v = (d, g)
 lawful_of id t d (Err (refusals.Busy seen)) g v = (d, g, record { within = v.0; above = v.1 })
 lawful_of id t d (Err refusals.Eperm) g v = absurd v
 lawful_of id t d (Err (refusals.Einval k)) g v = absurd v
+
+-- ---- the piece in hand
+
+nobody : {P : Type 0} → false ≡ true → P
+nobody e = absurd cc
+
+-- a call that left no blank is none that had to leave one
+pub none_kept : (ask : Ask) (answer : Answer) (hand : Option BlankView) → NoneIsKept ask answer None → NoneIsKept ask answer hand
+none_kept (asks.Admit prepared ticket) (Ok replies.Admitted) hand given = tt
+none_kept (asks.Admit prepared ticket) (Ok (replies.Busy seen)) hand given = nobody given.1
+none_kept (asks.Admit prepared ticket) (Ok replies.Changed) hand given = nobody given.1
+none_kept (asks.Admit prepared ticket) (Ok replies.Woken) hand given = nobody given.1
+none_kept (asks.Admit prepared ticket) (Ok replies.Left) hand given = nobody given.1
+none_kept (asks.Admit prepared ticket) (Ok (replies.Done n)) hand given = nobody given.1
+none_kept (asks.Admit prepared ticket) (Ok replies.Full) hand given = nobody given.1
+none_kept (asks.Admit prepared ticket) (Ok replies.Twice) hand given = nobody given.1
+none_kept (asks.Admit prepared ticket) (Ok replies.NotListed) hand given = nobody given.1
+none_kept (asks.Admit prepared ticket) (Ok replies.NotWaiting) hand given = nobody given.1
+none_kept (asks.Admit prepared ticket) (Err refusal) hand given = nobody given.1
+none_kept (asks.Regrade number params) answer hand given = tt
+none_kept (asks.Wake number) answer hand given = tt
+none_kept (asks.Leave number) answer hand given = tt
+
+given_back : (b : BlankView) (d bw : ℕ) (t : TicketView) (hand : Option BlankView) → IsTake b d bw (takes.Taken t) → IfSome hand (IsGive t) × IsSome hand
+    → IsSomeAnd hand (IsGivenBackAfter b d bw)
+given_back b d bw t None taken given = nobody given.1
+given_back b d bw t (Some back) taken given = record { ticket = t; taken = taken; given = given.0 }
+
+-- a piece that was granted, by what the domain answered
+pub granted_asks : (gate : GateId) (d cap bw : ℕ) (b : BlankView) (t : TicketView) (answer : Answer) (hand : Option BlankView)
+    → IsTake b d bw (takes.Taken t) → IsBookVerdict cap bw answer → IsGivenBack t answer hand → AsksGate gate d bw (Some b) answer hand
+granted_asks gate d cap bw b t (Ok replies.Admitted) hand taken v given = (t, taken)
+granted_asks gate d cap bw b t (Ok (replies.Busy seen)) hand taken v given = given_back b d bw t hand taken given
+granted_asks gate d cap bw b t (Ok replies.Changed) hand taken v given = absurd v
+granted_asks gate d cap bw b t (Ok replies.Woken) hand taken v given = absurd v
+granted_asks gate d cap bw b t (Ok replies.Left) hand taken v given = absurd v
+granted_asks gate d cap bw b t (Ok (replies.Done n)) hand taken v given = absurd v
+granted_asks gate d cap bw b t (Ok replies.Full) hand taken v given = absurd v
+granted_asks gate d cap bw b t (Ok replies.Twice) hand taken v given = absurd v
+granted_asks gate d cap bw b t (Ok replies.NotListed) hand taken v given = absurd v
+granted_asks gate d cap bw b t (Ok replies.NotWaiting) hand taken v given = absurd v
+granted_asks gate d cap bw b t (Err refusals.Full) None taken v given = nobody given.1
+granted_asks gate d cap bw b t (Err refusals.Full) (Some back) taken v given = given_back b d bw t (Some back) taken given
+granted_asks gate d cap bw b t (Err refusals.Twice) hand taken v given = given_back b d bw t hand taken given
+granted_asks gate d cap bw b t (Err refusals.Enomem) hand taken v given = absurd v
+granted_asks gate d cap bw b t (Err (refusals.Busy seen)) hand taken v given = absurd v
+granted_asks gate d cap bw b t (Err refusals.Eperm) hand taken v given = absurd v
+granted_asks gate d cap bw b t (Err (refusals.Einval k)) hand taken v given = absurd v
+
+-- a new piece is that of a client that has none
+new_asks : (gate : GateId) (d bw : ℕ) (answer : Answer) (next : Option BlankView) → AsksGate gate d bw (Some (piece_of gate None)) answer next → AsksGate gate d bw None answer next
+new_asks gate d bw (Ok replies.Admitted) next h = h
+new_asks gate d bw (Ok (replies.Busy seen)) next h = h
+new_asks gate d bw (Ok replies.Changed) next h = h
+new_asks gate d bw (Ok replies.Woken) next h = h
+new_asks gate d bw (Ok replies.Left) next h = h
+new_asks gate d bw (Ok (replies.Done n)) next h = h
+new_asks gate d bw (Ok replies.Full) next h = h
+new_asks gate d bw (Ok replies.Twice) next h = h
+new_asks gate d bw (Ok replies.NotListed) next h = h
+new_asks gate d bw (Ok replies.NotWaiting) next h = h
+new_asks gate d bw (Err refusals.Full) None h = refl
+new_asks gate d bw (Err refusals.Full) (Some back) h = h
+new_asks gate d bw (Err refusals.Twice) next h = h
+new_asks gate d bw (Err refusals.Enomem) next h = h
+new_asks gate d bw (Err (refusals.Busy seen)) next h = h
+new_asks gate d bw (Err refusals.Eperm) next h = h
+new_asks gate d bw (Err (refusals.Einval k)) next h = h
+
+-- an admission with the piece that was found for it
+pub found_asks : (gate : GateId) (d bw : ℕ) (hand : Option BlankView) (b : BlankView) (answer : Answer) (next : Option BlankView)
+    → b ≡ piece_of gate hand → AsksGate gate d bw (Some b) answer next → AsksGate gate d bw hand answer next
+found_asks gate d bw (Some c) b answer next is h = subst (λ (x : BlankView). AsksGate gate d bw (Some x) answer next) is h
+found_asks gate d bw None b answer next is h = new_asks gate d bw answer next (subst (λ (x : BlankView). AsksGate gate d bw (Some x) answer next) is h)
 
 -- ---- what a client makes
 
@@ -156,12 +230,12 @@ made_nothing c c' d call r m = record {
 -- whatever a client asked for under the lock of a domain
 pub done_for : (id : SessionId) (d : ℕ) (c e : ClientView) (p q : PassView Entry) (ask : Ask) (answer : Answer)
     → ((call : Call) (a : Answer) → q ≡ pass_after p call a → Makes c e (made_by d call a))
-    → IsDone id d p q ask answer → IsDoneFor id d c e ask answer
-done_for id d c e p q (asks.Admit prepared ticket) answer m done = (m (admission prepared) answer done.pass, done.verdict)
-done_for id d c e p q (asks.Regrade number params) answer m done =
+    → IsDone id d p q ask answer → NoneIsKept ask answer e.hand → IsDoneFor id d c e ask answer
+done_for id d c e p q (asks.Admit prepared ticket) answer m done given = (m (admission prepared) answer done.pass, done.verdict, given)
+done_for id d c e p q (asks.Regrade number params) answer m done given =
     (record { word = done.word; made = m (calls.Regrade number params done.word) answer done.replied.pass }, done.replied.full)
-done_for id d c e p q (asks.Wake number) answer m done = (m (calls.Wake number) answer done.pass, done.full)
-done_for id d c e p q (asks.Leave number) answer m done = (m (calls.Leave number) answer done.pass, done.full)
+done_for id d c e p q (asks.Wake number) answer m done given = (m (calls.Wake number) answer done.pass, done.full)
+done_for id d c e p q (asks.Leave number) answer m done given = (m (calls.Leave number) answer done.pass, done.full)
 
 -- an advance of a domain under its lock
 pub advanced_for : (d : ℕ) (c e : ClientView) (p q : PassView Entry) (n : ℕ) (answer : Answer)
@@ -188,25 +262,42 @@ advanced_for d c e p q n (Err (refusals.Busy seen)) m done = absurd done
 -- ---- admissions
 
 -- a task that is admitted nowhere
-pub refused_asks : (id : SessionId) (c : ClientView) (t : TaskSpecView) (r : Refusal) → IsLawful id t (Err r) → Asks id c c (record { task = t; answer = Err r } ∷ [])
-refused_asks id c t r lawful = record {
+pub refused_asks : (id : SessionId) (c : ClientView) (t : TaskSpecView) (r : Refusal) → IsLawful id t (Err r) → IsHandAfter id t c.hand (Err r) c.hand
+    → Asks id c c (record { task = t; answer = Err r } ∷ [])
+refused_asks id c t r lawful same = record {
   lawful = All-cons (λ q. IsLawful id q.task q.answer) _ [] lawful (All-nil (λ q. IsLawful id q.task q.answer));
   made = record {
     number = refl;
     domains = refl;
     passes = λ e inside. rw (refused_at e (domain_of id.cpu_sets t.cpus) (call_of t) r) (sym (append-nil (pass_in c e)));
   };
+  hand = (c.hand, same, refl);
 }
 
+-- the domain to which a task goes
+pub goes_to : (id : SessionId) (t : TaskSpecView) (p : ParamsView) (d : ℕ) → accepted t.attr ≡ Ok p → domain_of id.cpu_sets t.cpus ≡ Some d → Goes id t d
+goes_to id t p d checked is = record { checked = subst (λ (q : ParamsView). accepted t.attr ≡ Ok q) (accepted_is t.attr p checked) checked; domain = is }
+
+-- what is in hand after the answer to a task that goes to a domain
+pub hand_after : (id : SessionId) (t : TaskSpecView) (d : ℕ) (hand : Option BlankView) (answer : Answer) (next : Option BlankView) → Goes id t d
+    → IsVerdict (cap_in id d) (params_of t.attr).bw answer → AsksGate id.gate d (params_of t.attr).bw hand answer next → IsHandAfter id t hand answer next
+hand_after id t d hand (Ok reply) next g v h = (d, g, h)
+hand_after id t d hand (Err refusals.Full) next g v h = (d, g, h)
+hand_after id t d hand (Err refusals.Twice) next g v h = (d, g, h)
+hand_after id t d hand (Err refusals.Enomem) next g v h = (d, g, h)
+hand_after id t d hand (Err (refusals.Busy seen)) next g v h = (d, g, h)
+hand_after id t d hand (Err refusals.Eperm) next g v h = absurd v
+hand_after id t d hand (Err (refusals.Einval k)) next g v h = absurd v
+
 -- the answer to a task that goes to a domain
-pub asks_one : (id : SessionId) (c c' : ClientView) (t : TaskSpecView) (p : ParamsView) (d : ℕ) (answer : Answer) → accepted t.attr ≡ Ok p → domain_of id.cpu_sets t.cpus ≡ Some d
-    → Makes c c' (made_by d (call_of t) answer) → IsVerdict (cap_in id d) (params_of t.attr).bw answer → Asks id c c' (record { task = t; answer = answer } ∷ [])
-asks_one id c c' t p d answer checked is m verdict =
-    let params : p ≡ params_of t.attr = accepted_is t.attr p checked in
-    record {
-      lawful = All-cons (λ q. IsLawful id q.task q.answer) _ [] (lawful_of id t d answer (record { checked = subst (λ (q : ParamsView). accepted t.attr ≡ Ok q) params checked; domain = is }) verdict) (All-nil (λ q. IsLawful id q.task q.answer));
-      made = makes_one id c c' t d answer is m;
-    }
+pub asks_one : (id : SessionId) (c c' : ClientView) (t : TaskSpecView) (d : ℕ) (answer : Answer) → Goes id t d
+    → Makes c c' (made_by d (call_of t) answer) → IsVerdict (cap_in id d) (params_of t.attr).bw answer → AsksGate id.gate d (params_of t.attr).bw c.hand answer c'.hand
+    → Asks id c c' (record { task = t; answer = answer } ∷ [])
+asks_one id c c' t d answer goes m verdict asks = record {
+  lawful = All-cons (λ q. IsLawful id q.task q.answer) _ [] (lawful_of id t d answer goes verdict) (All-nil (λ q. IsLawful id q.task q.answer));
+  made = makes_one id c c' t d answer goes.domain m;
+  hand = (c'.hand, hand_after id t d c.hand answer c'.hand goes verdict asks, refl);
+}
 
 last_of_more : (found : List ℕ) (n : ℕ) → last_of (found ++ n ∷ []) ≡ n
 last_of_more [] n = refl

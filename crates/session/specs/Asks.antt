@@ -1,9 +1,11 @@
 -- What a client is answered, and what it leaves in the books (own).
-use Rattle.std.specs.Prelude.{◌≡◌, ℕ, ◌+◌, ◌≤◌, ◌<◌, ◌==◌, Bool, ◌&&◌, List, [], ◌∷◌, ◌++◌, length, position, filter_map, Option, Some, None, IfSome, IsSome, Result, Ok, Err, All, slice_index_or, if◌then◌else◌}
+use Rattle.std.specs.Prelude.{◌≡◌, ℕ, ◌+◌, ◌≤◌, ◌<◌, ◌==◌, Bool, ◌&&◌, List, [], ◌∷◌, ◌++◌, length, position, filter_map, Option, Some, None, IfSome, IsSome, IsSomeAnd, Result, Ok, Err, All, slice_index_or, if◌then◌else◌}
 use Rattle.std.specs.List.{list_all, list_any, cons_option}
 use Rattle.attr_check.specs.ParamsView.{ParamsView}
 use Rattle.attr_check.specs.Accepted.{accepted, params_of}
-use Rattle.bw_gate.specs.Pieces.{BlankView, last_of}
+use Rattle.bw_gate.specs.Pieces.{GateId, BlankView, TicketView, last_of}
+use Rattle.bw_gate.specs.Answers.{IsTake, IsGive}
+use Rattle.bw_gate.specs.declared.answer.Take.TheVariants as takes
 use Rattle.domain_run.specs.declared.call.Call.{Call}
 use Rattle.domain_run.specs.declared.call.Call.TheVariants.{Admit, Regrade, Advance}
 use Rattle.domain_run.specs.declared.call.Reply.{Reply}
@@ -64,6 +66,50 @@ pub record Asked : Type 0 where
   pub task : TaskSpecView
   pub answer : Answer
 
+-- ---- the piece in a client's hand
+
+-- the piece that an admission asks the gate with: the one in the client's hand, or else a new one, which has found nothing
+abbrev pub piece_of : GateId → Option BlankView → BlankView
+piece_of gate (Some piece) = piece
+piece_of gate None = record { gate = gate; found = [] }
+
+-- the gate granted the piece so much in a domain
+abbrev pub IsGranted : BlankView → ℕ → ℕ → Type 0
+IsGranted piece d bw = (ticket : TicketView) × IsTake piece d bw (takes.Taken ticket)
+
+-- the gate refused it with this number, and it came back: what it has found more are the words of this one call, this number last
+abbrev pub IsGateRefusal : BlankView → ℕ → ℕ → ℕ → BlankView → Type 0
+IsGateRefusal piece d bw seen back = IsTake piece d bw (takes.Refused back seen)
+
+-- the gate granted it, and the ticket was given back, by a step of its own
+pub record IsGivenBackAfter (piece : BlankView) (d bw : ℕ) (back : BlankView) : Type 0 where
+  pub ticket : TicketView
+  pub taken : IsTake piece d bw (takes.Taken ticket)
+  pub given : IsGive ticket back
+
+-- an admission of so much to a domain, with what is in hand before and after. EBUSY of the gate is its answer to this very
+-- piece; without memory the gate was not asked; Full is told without a piece too, where there was none; and whatever else the
+-- domain refused, the gate had granted, and it was given back
+abbrev pub AsksGate : GateId → ℕ → ℕ → Option BlankView → Answer → Option BlankView → Type 0
+AsksGate gate d bw hand (Ok replies.Admitted) next = IsGranted (piece_of gate hand) d bw
+AsksGate gate d bw hand (Ok _) next = IsSomeAnd next (IsGivenBackAfter (piece_of gate hand) d bw)
+AsksGate gate d bw hand (Err (refusals.Busy seen)) next = IsSomeAnd next (IsGateRefusal (piece_of gate hand) d bw seen)
+AsksGate gate d bw hand (Err refusals.Enomem) next = next ≡ Some (piece_of gate hand)
+AsksGate gate d bw hand (Err refusals.Full) None = hand ≡ None
+AsksGate gate d bw hand (Err _) next = IsSomeAnd next (IsGivenBackAfter (piece_of gate hand) d bw)
+
+-- the same of a task: EINVAL and EPERM leave what was in hand
+abbrev pub IsHandAfter : SessionId → TaskSpecView → Option BlankView → Answer → Option BlankView → Type 0
+IsHandAfter id t hand (Err (refusals.Einval kind)) next = next ≡ hand
+IsHandAfter id t hand (Err refusals.Eperm) next = next ≡ hand
+IsHandAfter id t hand answer next = (d : ℕ) × Goes id t d × AsksGate id.gate d (params_of t.attr).bw hand answer next
+
+-- and of one task after the other: what is in hand after one is in hand before the next
+abbrev pub IsHandAfterAll : SessionId → Option BlankView → List Asked → Option BlankView → Type 0
+IsHandAfterAll id hand [] last = last ≡ hand
+IsHandAfterAll id hand (q ∷ asked) last =
+    (next : Option BlankView) × IsHandAfter id q.task hand q.answer next × IsHandAfterAll id next asked last
+
 -- ---- what stands in the books
 
 -- a call that was answered in a domain
@@ -111,11 +157,12 @@ pub record Makes (c c' : ClientView) (made : ℕ → List Made) : Type 0 where
   pub domains : length c'.passes ≡ length c.passes
   pub passes : (d : ℕ) → d < length c.passes → pass_in c' d ≡ followed_by c d (made d)
 
--- a client asked for these tasks and got these answers: each is lawful, and in each domain the calls that were answered there
--- are what it made
+-- a client asked for these tasks and got these answers: each is lawful, in each domain the calls that were answered there are
+-- what it made, and each EBUSY of the gate is by the piece that was in its hand
 pub record Asks (id : SessionId) (c c' : ClientView) (asked : List Asked) : Type 0 where
   pub lawful : All (λ q. IsLawful id q.task q.answer) asked
   pub made : Makes c c' (λ d. made_in id d asked)
+  pub hand : IsHandAfterAll id c.hand asked c'.hand
 
 -- ---- calls on a domain
 

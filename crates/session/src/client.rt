@@ -1,12 +1,12 @@
 //! A client: its passes, the piece in its hand, and the calls that it makes.
 
-ghost use Rattle.std.specs.Prelude.{◌≡◌, None, IfSome, IfOk, IfErr, OnOk, IsSome, Ok, Err, [], ◌∷◌, length};
+ghost use Rattle.std.specs.Prelude.{◌≡◌, Some, None, IfSome, IfNone, IfOk, IfErr, OnOk, IsSome, Ok, Err, [], ◌∷◌, length};
 ghost use Rattle.attr_check.specs.Accepted.{accepted, params_of};
 ghost use Rattle.domain_run.specs.declared.call.Call.TheVariants as calls;
 ghost use Rattle.call_book.specs.Limits.{IsCall};
 ghost use Rattle.call_book.specs.Book.{IsMember, IsFull, admission, own_entries};
 ghost use Rattle.session.specs.SessionId.{IsSession, IsDomainIndex, cap_in, spine_of};
-ghost use Rattle.session.specs.Asks.{Asks, call_of, pass_in, Makes, made_by, MakesRegrade, MakesAdvance, RefusesOnlyFull, RefusesOnlyFullOrMemory, IsLastFound};
+ghost use Rattle.session.specs.Asks.{Asks, call_of, pass_in, Makes, made_by, MakesRegrade, MakesAdvance, RefusesOnlyFull, RefusesOnlyFullOrMemory, IsLastFound, piece_of, AsksGate, IsHandAfter};
 ghost use Rattle.session.specs.Clients.{IsNew};
 ghost use Rattle.session.specs.private.Parts.{IsHand};
 ghost use Rattle.session.specs.private.Entering.{IsAdvancedFor, IsAsk, IsDoneFor, IsVerdict, IsSessionBook};
@@ -227,6 +227,8 @@ impl<N: Names> Client<N> {
         requires place { IsDomainIndex N.id place }
         ensures same { self.new ≡ record self.old { hand = None } }
         ensures own { IfSome result (λ b. b.gate ≡ N.id.gate) }
+        ensures found { IfSome result (λ b. b ≡ piece_of N.id.gate self.old.hand) }
+        ensures none { IfNone result (self.old.hand ≡ None) }
     {
         match self.hand.take() {
             Some(blank) => Some(blank),
@@ -248,6 +250,7 @@ impl<N: Names> Client<N> {
         ensures made { Makes self.old self.new (made_by place (admission prepared) result) }
         ensures verdict { IsVerdict (cap_in N.id place) prepared.params.bw result }
         ensures last { IsLastFound self.new.hand result }
+        ensures gate { AsksGate N.id.gate place prepared.params.bw (Some blank) result self.new.hand }
     {
         match shared.gate.take(rt, blank, place, prepared.bw()) {
             Take::Taken(ticket) => {
@@ -275,6 +278,8 @@ impl<N: Names> Client<N> {
         ensures made { Makes self.old self.new (made_by place (call_of task.now) result) }
         ensures verdict { IsVerdict (cap_in N.id place) (params_of task.now.attr).bw result }
         ensures last { IsLastFound self.new.hand result }
+        ensures gate { AsksGate N.id.gate place (params_of task.now.attr).bw
+            self.old.hand result self.new.hand }
     {
         let Some(blank) = self.find_blank(rt, shared, place) else {
             return Err(Refusal::Full);
@@ -310,6 +315,7 @@ impl<N: Names> Client<N> {
         ensures asked { Asks N.id self.old self.new
             (record { task = task.now; answer = result } ∷ []) }
         ensures last { IsLastFound self.new.hand result }
+        ensures hand { IsHandAfter N.id task.now self.old.hand result self.new.hand }
     {
         let shared = session.shares();
         let (params, place) = match shared.goal_of(task) {

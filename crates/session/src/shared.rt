@@ -1,12 +1,12 @@
 //! What the clients of a session share: its gate, its domains behind their locks, and a pool of pieces.
 
-ghost use Rattle.std.specs.Prelude.{◌≡◌, ◌==◌, map, Option, Some, Ok, Err, IfSome, IfOk, IfErr};
+ghost use Rattle.std.specs.Prelude.{◌≡◌, ◌==◌, map, Option, Some, None, Ok, Err, IfSome, IfOk, IfErr};
 ghost use Rattle.std.specs.List.{list_all, list_any};
 ghost use Rattle.std.specs.Option.{option_map};
 ghost use Rattle.attr_check.specs.Accepted.{accepted};
 ghost use Rattle.bw_gate.specs.Pieces.{BlankView};
 ghost use Rattle.session.specs.SessionId.{IsDomainIndex};
-ghost use Rattle.session.specs.Asks.{domain_of, same_cpus, IsLawful, IsLastFound};
+ghost use Rattle.session.specs.Asks.{domain_of, same_cpus, piece_of, IsLawful, IsLastFound, IsHandAfter};
 
 use crate::books::Books;
 use crate::names::Names;
@@ -62,6 +62,8 @@ impl<N: Names> Shared<N> {
         ensures place { IfOk result (λ r. IsDomainIndex N.id r.1) }
         ensures refused { IfErr result (λ r. IsLawful N.id task.now (Err r)) }
         ensures unasked { (hand : Option BlankView) → IfErr result (λ r. IsLastFound hand (Err r)) }
+        ensures same { (hand : Option BlankView)
+            → IfErr result (λ r. IsHandAfter N.id task.now hand (Err r) hand) }
     {
         let params = match check(&task.attr) {
             Ok(params) => params,
@@ -73,15 +75,16 @@ impl<N: Names> Shared<N> {
         }
     }
 
-    /// A piece of the pool, or else one that the domain of a place keeps.
+    /// A piece of the pool, or else one that the domain of a place keeps. It is new to the client: it has found nothing.
     pub(crate) fn find_blank<R: Wait>(&self, rt: &R, place: usize) -> Option<Blank>
-        ensures { IfSome result (λ b. b.gate ≡ N.id.gate) }
+        ensures { IfSome result (λ b. b ≡ piece_of N.id.gate None) }
     {
         let pooled = self.pool.lock(rt).take();
-        match pooled {
-            Some(blank) => Some(blank),
-            None => self.books.spare_at(rt, place),
-        }
+        let blank = match pooled {
+            Some(blank) => blank,
+            None => self.books.spare_at(rt, place)?,
+        };
+        Some(self.gate.renew(blank))
     }
 }
 

@@ -132,6 +132,7 @@ IsDone id d p q (asks.Leave number) answer = IsReplied p q (calls.Leave number) 
 abbrev pub IsDoneFor : SessionId → ℕ → ClientView → ClientView → Ask → Answer → Type 0
 IsDoneFor id d c e (asks.Admit prepared ticket) answer =
     Makes c e (made_by d (admission prepared) answer) × IsBookVerdict (cap_in id d) prepared.params.bw answer
+    × IsGivenBack ticket answer e.hand
 IsDoneFor id d c e (asks.Regrade number params) answer = MakesRegrade c e d number params answer × RefusesOnlyFull answer
 IsDoneFor id d c e (asks.Wake number) answer = Makes c e (made_by d (calls.Wake number) answer) × RefusesOnlyFull answer
 IsDoneFor id d c e (asks.Leave number) answer = Makes c e (made_by d (calls.Leave number) answer) × RefusesOnlyFull answer

@@ -1,10 +1,11 @@
-use Rattle.std.proofs.Common.{◌≡◌, ◌<◌, length, map, set, get_or, sym, ap, subst, ◌∙◌, arith}
+use Rattle.std.proofs.Common.{◌≡◌, ◌<◌, length, map, set, get_or, Option, sym, ap, subst, ◌∙◌, arith}
 use Rattle.pass_seats.specs.Lists.{PassView}
+use Rattle.bw_gate.specs.Pieces.{BlankView}
 use Rattle.call_book.specs.declared.section.Entry.{Entry}
 use Rattle.domain_run.specs.declared.call.Call.{Call}
 use Rattle.session.specs.Asks.{Answer, ClientView}
-use Rattle.session.specs.private.Entering.{pass_after}
-use Rattle.session.proofs.Asked.{makes_at, done_for}
+use Rattle.session.specs.private.Entering.{pass_after, NoneIsKept}
+use Rattle.session.proofs.Asked.{none_kept, makes_at, done_for}
 use Rattle.session.proofs.client.Client.enter.Goals.{in-Some+in-Some-1, in-Some+in-None-1, in_default}
 use Rattle.session.proofs.client.Client.enter.Goals as goal
 
@@ -13,6 +14,8 @@ returns g c =
     let ps = c.self.inside.passes.items in
     let p = c.index_mut.result.now in
     let q = c.make-answer.new.pass in
+    let left : c.make-answer.result.blank ≡ c.match-blank.self.hand → NoneIsKept c.args.ask c.make-answer.result.answer c.match-blank.self.hand =
+    λ is. subst (λ (h : Option BlankView). NoneIsKept c.args.ask c.make-answer.result.answer h) is c.make-answer.ensures.given in
     let passes : (c.match-blank.self).passes ≡ map (λ (r : PassView Entry). r.entries) (set ps g.row.D q) =
     elim c.match-blank.branch [
       | in-Some+in-Some-1 w ↦ ap (λ (v : ClientView). v.passes) w.self-is
@@ -28,6 +31,13 @@ returns g c =
     let inside : g.row.D < length ps = omega (arith, c.requires.place, c.self.invariant.count) in
     let at : p ≡ get_or ps g.row.D p = c.index_mut.ensures.value in
     let owner : (get_or ps g.row.D p).client ≡ c.args.self.now.number = (c.self.invariant.each g.row.D p inside).owner ∙ ap (λ (v : ClientView). v.number) c.self.view_is in
+    let given : NoneIsKept c.args.ask c.make-answer.result.answer c.match-blank.self.hand =
+    elim c.match-blank.branch [
+      | in-Some+in-Some-1 w ↦ left (w.in-Some.is ∙ sym (ap (λ (v : ClientView). v.hand) w.self-is))
+      | in-Some+in-None-1 w ↦ left (w.in-Some.is ∙ sym (ap (λ (v : ClientView). v.hand) w.self-is))
+      | in_default w ↦ none_kept c.args.ask c.make-answer.result.answer c.match-blank.self.hand (subst (λ (h : Option BlankView). NoneIsKept c.args.ask c.make-answer.result.answer h) w.in_default.is c.make-answer.ensures.given)
+    ] in
     done_for g.N.Names.id g.row.D c.args.self.now c.match-blank.self p q c.args.ask c.make-answer.result.answer
     (λ call a becomes. makes_at c.args.self.now c.match-blank.self ps g.row.D p q call a (sym (ap (λ (v : ClientView). v.passes) c.self.view_is)) passes number inside owner (subst (λ (r : PassView Entry). q ≡ pass_after r call a) at becomes))
     c.make-answer.ensures.done
+    given
