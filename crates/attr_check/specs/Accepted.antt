@@ -21,7 +21,8 @@ passes a NotDeadline = a.policy == 6
 -- no bit outside 1 (reset on fork), 2 (reclaim) and 4 (overrun) (sched_setattr(2), EINVAL)
 passes a UnknownFlag = nat_lt a.flags 8
 -- each value is below 2^63 (sched(7))
-passes a TopBit = nat_lt a.runtime (2 ^ 63) && nat_lt a.deadline (2 ^ 63) && nat_lt a.period (2 ^ 63)
+passes a TopBit =
+    nat_lt a.runtime (2 ^ 63) && nat_lt a.deadline (2 ^ 63) && nat_lt a.period (2 ^ 63)
 -- the runtime is at least 1024 ns (sched(7)); the other values are not below it
 passes a Small = nat_le 1024 a.runtime
 -- runtime <= deadline <= period (sched(7))

@@ -5,24 +5,41 @@ use Rattle.attr_check.specs.declared.refusal.AttrRefusal.TheVariants.{NotDeadlin
 use Rattle.attr_check.specs.Accepted.{accepted}
 
 abbrev attr : ℕ → ℕ → ℕ → ℕ → ℕ → SchedAttr
-attr policy flags runtime deadline period = record { policy = policy; flags = flags; runtime = runtime; deadline = deadline; period = period }
+attr policy flags runtime deadline period =
+    record {
+      policy = policy;
+      flags = flags;
+      runtime = runtime;
+      deadline = deadline;
+      period = period;
+    }
 
 -- SMALL RUNTIME: 1 us is below 1024 ns, 2 us is a quarter of 8 us
 small_runtime : accepted (attr 6 0 1000 8000 8000) ≡ Err Small
 small_runtime = refl
 
-two_of_eight : accepted (attr 6 0 2000 8000 8000) ≡ Ok (record { runtime = 2; deadline = 8; period = 8; reclaim = false; bw = 262144 })
+two_of_eight : accepted (attr 6 0 2000 8000 8000)
+    ≡ Ok (record { runtime = 2; deadline = 8; period = 8; reclaim = false; bw = 262144 })
 two_of_eight = refl
 
 -- a period of 0 means the deadline, and flag 2 asks for reclaiming beside the flags 1 and 4
-no_period : accepted (attr 6 7 2000 3000 0) ≡ Ok (record { runtime = 2; deadline = 3; period = 3; reclaim = true; bw = 699050 })
+no_period : accepted (attr 6 7 2000 3000 0)
+    ≡ Ok (record { runtime = 2; deadline = 3; period = 3; reclaim = true; bw = 699050 })
 no_period = refl
 
-reset_and_overrun : accepted (attr 6 5 2000 3000 8000) ≡ Ok (record { runtime = 2; deadline = 3; period = 8; reclaim = false; bw = 262144 })
+reset_and_overrun : accepted (attr 6 5 2000 3000 8000)
+    ≡ Ok (record { runtime = 2; deadline = 3; period = 8; reclaim = false; bw = 262144 })
 reset_and_overrun = refl
 
 -- the longest period, and no bandwidth: 2 us in each 2^32
-longest : accepted (attr 6 0 2000 4294967296000 4294967296000) ≡ Ok (record { runtime = 2; deadline = 4294967296; period = 4294967296; reclaim = false; bw = 0 })
+longest : accepted (attr 6 0 2000 4294967296000 4294967296000)
+    ≡ Ok (record {
+      runtime = 2;
+      deadline = 4294967296;
+      period = 4294967296;
+      reclaim = false;
+      bw = 0;
+    })
 longest = refl
 
 -- each refusal, where every test before it passes

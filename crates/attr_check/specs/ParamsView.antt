@@ -2,7 +2,8 @@
 use Rattle.std.specs.Prelude.{ℕ, Bool, ◌≡◌, ◌≤◌, ◌<◌, ◌^◌}
 use Rattle.attr_check.specs.Ratio.{ratio}
 
--- runtime, relative deadline and period in microseconds, whether the task reclaims (SCHED_FLAG_RECLAIM), and its bandwidth
+-- runtime, relative deadline and period in microseconds, whether the task reclaims
+-- (SCHED_FLAG_RECLAIM), and its bandwidth
 pub record ParamsView : Type 0 where
   pub runtime : ℕ
   pub deadline : ℕ
@@ -10,8 +11,8 @@ pub record ParamsView : Type 0 where
   pub reclaim : Bool
   pub bw : ℕ
 
--- runtime <= deadline <= period (sched(7), "SCHED_DEADLINE"), a period of at most 2^32 us (own), and the bandwidth that
--- runtime and period give
+-- runtime <= deadline <= period (sched(7), "SCHED_DEADLINE"), a period of at most 2^32 us (own),
+-- and the bandwidth that runtime and period give
 pub record IsOrdered (p : ParamsView) : Type 0 where
   pub some_runtime : 0 < p.runtime
   pub runtime_first : p.runtime ≤ p.deadline

@@ -5,11 +5,13 @@ use Rattle.std.specs.Prelude.{ℕ, ◌*◌, ◌/◌}
 abbrev pub unit : ℕ
 unit = 1048576
 
--- runtime / period, rounded down to a whole number of units (sched-deadline.rst, "Bandwidth management"; the rounding is own)
+-- runtime / period, rounded down to a whole number of units (sched-deadline.rst, "Bandwidth
+-- management"; the rounding is own)
 abbrev pub ratio : ℕ → ℕ → ℕ
 ratio period runtime = runtime * unit / period
 
--- what the tasks of a root domain may have together: M times the limit (sched-deadline.rst, "Bandwidth management": the
--- sum of bandwidths is at most M * rt_runtime / rt_period; that equality is admitted is own)
+-- what the tasks of a root domain may have together: M times the limit (sched-deadline.rst,
+-- "Bandwidth management": the sum of bandwidths is at most M * rt_runtime / rt_period; that
+-- equality is admitted is own)
 abbrev pub cap : ℕ → ℕ → ℕ
 cap cpus limit = cpus * limit

@@ -10,8 +10,8 @@ const SCHED_DEADLINE: u32 = 6;
 
 const TOP: u64 = 1 << 63;
 
-/// The parameters of accepted attributes, in microseconds, or the first refusal, in the order of [`AttrRefusal`]
-/// (sched_setattr(2), sched(7)). Takes no memory.
+/// The parameters of accepted attributes, in microseconds, or the first refusal, in the order of
+/// [`AttrRefusal`] (sched_setattr(2), sched(7)). Takes no memory.
 pub fn check(attr: &SchedAttr) -> Result<Params, AttrRefusal>
     ensures { result ≡ accepted attr.now }
 {

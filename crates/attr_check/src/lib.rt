@@ -1,8 +1,10 @@
-//! Attributes of SCHED_DEADLINE tasks: which of them are accepted, and the bandwidth that a task needs.
+//! Attributes of SCHED_DEADLINE tasks: which of them are accepted, and the bandwidth that a task
+//! needs.
 //!
-//! Meets the definitions "Ratio and cap" (`specs/Ratio.antt`) and "Accepted attributes" (`specs/Accepted.antt`).
-//! To the crates above it promises that every [`Params`] is ordered (runtime <= deadline <= period <= 2^32 us) and
-//! that its bandwidth is the ratio of runtime and period. Takes no memory.
+//! Meets the definitions "Ratio and cap" (`specs/Ratio.antt`) and "Accepted attributes"
+//! (`specs/Accepted.antt`). To the crates above it promises that every [`Params`] is ordered
+//! (runtime <= deadline <= period <= 2^32 us) and that its bandwidth is the ratio of runtime and
+//! period. Takes no memory.
 #![tactic(auto)]
 
 mod attr;

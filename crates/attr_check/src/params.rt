@@ -2,8 +2,8 @@ ghost use Rattle.std.specs.Prelude.{◌≡◌, ◌≤◌, ◌^◌};
 
 use std::marker::Model;
 
-/// The accepted parameters of a task. Each value is ordered: 0 < runtime <= deadline <= period <= 2^32 us, and `bw` is
-/// the ratio of runtime and period.
+/// The accepted parameters of a task. Each value is ordered: 0 < runtime <= deadline <= period <=
+/// 2^32 us, and `bw` is the ratio of runtime and period.
 #[derive(Clone, Copy, Debug, PartialEq, Eq)]
 pub struct Params {
     /// Runtime in each period, in microseconds.
@@ -23,15 +23,35 @@ impl Model for Params {
 
     ghost Value = { ParamsView };
 
-    ghost view = { λ p. record { runtime = p.runtime; deadline = p.deadline; period = p.period; reclaim = p.reclaim; bw = p.bw } };
+    ghost view = { λ p. record {
+      runtime = p.runtime;
+      deadline = p.deadline;
+      period = p.period;
+      reclaim = p.reclaim;
+      bw = p.bw;
+    } };
 
-    ghost invariant = { λ p. IsOrdered (record { runtime = p.runtime; deadline = p.deadline; period = p.period; reclaim = p.reclaim; bw = p.bw }) };
+    ghost invariant = { λ p. IsOrdered
+        (record {
+          runtime = p.runtime;
+          deadline = p.deadline;
+          period = p.period;
+          reclaim = p.reclaim;
+          bw = p.bw;
+        }) };
 
-    ghost inverse = { λ p. record { runtime = p.runtime; deadline = p.deadline; period = p.period; reclaim = p.reclaim; bw = p.bw } };
+    ghost inverse = { λ p. record {
+      runtime = p.runtime;
+      deadline = p.deadline;
+      period = p.period;
+      reclaim = p.reclaim;
+      bw = p.bw;
+    } };
 }
 
 impl Params {
-    /// The bandwidth, in 1/2^20 of one CPU: at most one whole CPU, since the runtime is at most the period.
+    /// The bandwidth, in 1/2^20 of one CPU: at most one whole CPU, since the runtime is at most the
+    /// period.
     pub fn bandwidth(&self) -> u64
         ensures value { result ≡ self.now.bw }
         ensures most { result ≤ 2 ^ 20 }

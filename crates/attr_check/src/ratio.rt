@@ -4,8 +4,8 @@ ghost use Rattle.attr_check.specs.Ratio.{ratio};
 /// One microsecond of budget at rate one, and the bandwidth of one whole CPU.
 pub const UNIT: u64 = 1048576;
 
-/// The bandwidth of a runtime in each period, in units of 1/2^20, rounded down. Runtime and period have one unit of time,
-/// which does not matter.
+/// The bandwidth of a runtime in each period, in units of 1/2^20, rounded down. Runtime and period
+/// have one unit of time, which does not matter.
 pub fn to_ratio(period: u64, runtime: u64) -> u64
     requires some { 0 < period }
     requires within { runtime ≤ period }

@@ -27,12 +27,14 @@ abbrev pub words_of : List Race → List ℕ
 words_of [] = []
 words_of (race ∷ races) = race.expected ∷ race.seen ∷ words_of races
 
--- a raced try to take so much in a domain: an exchange is made only where the word that the load found has room for it
+-- a raced try to take so much in a domain: an exchange is made only where the word that the load
+-- found has room for it
 pub record IsRaceOfTake (gate : GateId) (d bw : ℕ) (race : Race) : Type 0 where
   pub room : race.expected + bw ≤ cap_of gate d
   pub other : race.seen ≢ race.expected
 
--- a raced try to regrade a ticket to so much: only where that word has room for it in the place of the ticket's bandwidth
+-- a raced try to regrade a ticket to so much: only where that word has room for it in the place of
+-- the ticket's bandwidth
 pub record IsRaceOfRegrade (t : TicketView) (bw : ℕ) (race : Race) : Type 0 where
   pub held : t.bw ≤ race.expected
   pub room : race.expected - t.bw + bw ≤ cap_of t.gate t.domain
@@ -62,7 +64,8 @@ IsTryOfTake b d bw (takes.Refused c seen) = IsTakeRefused b d bw c seen
 IsTryOfTake b d bw (takes.Raced c expected seen) =
     IsTakeRaced b d bw c (record { expected = expected; seen = seen })
 
--- try_regrade by a ticket to so much, likewise. What is not changed keeps its domain and its bandwidth
+-- try_regrade by a ticket to so much, likewise. What is not changed keeps its domain and its
+-- bandwidth
 pub record IsChanged (t : TicketView) (bw : ℕ) (u : TicketView) : Type 0 where
   pub seen : ℕ
   pub held : t.bw ≤ seen
@@ -96,8 +99,8 @@ IsRegradeDecided (regrades.Changed t) = Unit {0}
 IsRegradeDecided (regrades.Refused t seen) = Unit {0}
 IsRegradeDecided (regrades.Raced t expected seen) = ⊥
 
--- take and regrade repeat their try until it is not raced: all tries but the last were raced, each found its two words and
--- nothing else was found, and the last one answers
+-- take and regrade repeat their try until it is not raced: all tries but the last were raced, each
+-- found its two words and nothing else was found, and the last one answers
 pub record IsTake (b : BlankView) (d bw : ℕ) (answer : Take) : Type 0 where
   pub races : List Race
   pub raced : All (IsRaceOfTake b.gate d bw) races
@@ -110,15 +113,16 @@ pub record IsRegrade (t : TicketView) (bw : ℕ) (answer : Regrade) : Type 0 whe
   pub last : IsTryOfRegrade (ticket_found t (words_of races)) bw answer
   pub decided : IsRegradeDecided answer
 
--- give by a ticket: its one step found a word that has room for the ticket's bandwidth and is at most the cap, and a blank
--- comes back
+-- give by a ticket: its one step found a word that has room for the ticket's bandwidth and is at
+-- most the cap, and a blank comes back
 pub record IsGive (t : TicketView) (b : BlankView) : Type 0 where
   pub seen : ℕ
   pub room : t.bw ≤ seen
   pub within : seen ≤ cap_of t.gate t.domain
   pub blank : b ≡ record { gate = t.gate; found = t.found ++ seen ∷ [] }
 
--- load by a ticket: it answers the word that its one step found, and the ticket keeps its domain and its bandwidth
+-- load by a ticket: it answers the word that its one step found, and the ticket keeps its domain
+-- and its bandwidth
 pub record IsLoad (t : TicketView) (seen : ℕ) (u : TicketView) : Type 0 where
   pub room : t.bw ≤ seen
   pub within : seen ≤ cap_of t.gate t.domain

@@ -1,5 +1,6 @@
--- The gate's steps are those of the pure core (own). To the core a domain of a gate is one with the gate's cap and word, all of
--- whose tickets are in hand, each under the number of its seat as its id.
+-- The gate's steps are those of the pure core (own). To the core a domain of a gate is one with the
+-- gate's cap and word, all of whose tickets are in hand, each under the number of its seat as its
+-- id.
 use Rattle.std.specs.Prelude.{ℕ, ◌≡◌, ◌+◌, ◌-◌, ◌==◌, if◌then◌else◌, List, [], ◌∷◌, ◌++◌, Some, map, slice_index}
 use Rattle.bw_world.specs.declared.step.Outcome.TheVariants.{Saw, Over, Lost}
 use Rattle.bw_world.specs.declared.ticket.Ticket.{Ticket}
@@ -46,8 +47,8 @@ KeepsTheLaw =
     (terms : TermsView) (words : List ℕ) (views : List View) (d : ℕ)
     → IsKept terms words views → IsExactDomain (core_of terms words views d)
 
--- a domain, in which a ticket was taken; in which a ticket in hand has another bandwidth in the place of `was`; to which a
--- ticket was given back
+-- a domain, in which a ticket was taken; in which a ticket in hand has another bandwidth in the
+-- place of `was`; to which a ticket was given back
 abbrev pub with_taken : ℕ → ℕ → DomainView → DomainView
 with_taken id bw c =
     record c { word = c.word + bw; in_hand = c.in_hand ++ record { id = id; bw = bw } ∷ [] }
@@ -63,7 +64,8 @@ with_given id bw c = record c { word = c.word - bw; in_hand = without id c.in_ha
 abbrev pub Everywhere : ℕ → ℕ → (ℕ → DomainView → Type 0) → Type 0
 Everywhere cap word Fact = (id : ℕ) (c : DomainView) → c.cap ≡ cap → c.word ≡ word → Fact id c
 
--- what the core's Take answers and does where the domain has the word that the last step of a try found
+-- what the core's Take answers and does where the domain has the word that the last step of a try
+-- found
 pub record IsCoreTaken (b : BlankView) (d bw : ℕ) (t : TicketView) : Type 0 where
   pub seen : ℕ
   pub found : t.found ≡ b.found ++ seen ∷ seen ∷ []
@@ -93,7 +95,8 @@ IsCoreRegrade t bw (regrades.Raced u expected seen) =
     Everywhere (cap_of t.gate t.domain) seen
     (λ id c. regraded_in_hand id t.bw bw expected c ≡ stays c (Lost c.word))
 
--- what the core's Give does, at whatever domain has the word that the step found and this ticket in hand
+-- what the core's Give does, at whatever domain has the word that the step found and this ticket in
+-- hand
 pub record IsCoreGive (t : TicketView) (b : BlankView) : Type 0 where
   pub seen : ℕ
   pub found : b.found ≡ t.found ++ seen ∷ []
@@ -101,7 +104,8 @@ pub record IsCoreGive (t : TicketView) (b : BlankView) : Type 0 where
       → in_hand_of id c ≡ Some (record { id = id; bw = t.bw })
       → given id c ≡ done (with_given id t.bw c)
 
--- what the core's Load answers, at whatever domain has the word that the step found: it changes nothing
+-- what the core's Load answers, at whatever domain has the word that the step found: it changes
+-- nothing
 pub record IsCoreLoad (t : TicketView) (n : ℕ) (u : TicketView) : Type 0 where
   pub found : u.found ≡ t.found ++ n ∷ []
   pub core : (c : DomainView) → c.word ≡ n → loaded c ≡ stays c (Saw n)

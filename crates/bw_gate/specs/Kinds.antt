@@ -1,5 +1,5 @@
--- The steps on a gate's table (own), beside the word that each finds. A step acts with the seat of the piece in hand,
--- changes that view alone, and appends the word that it found.
+-- The steps on a gate's table (own), beside the word that each finds. A step acts with the seat of
+-- the piece in hand, changes that view alone, and appends the word that it found.
 use Rattle.std.specs.Prelude.{ℕ, ◌≡◌, ◌≤◌, ◌==◌, ◌+◌, ◌-◌, [], ◌∷◌, ◌++◌, take, drop, MatchBool}
 use Rattle.atomic_table.specs.Table.{Step, Me}
 use Rattle.bw_gate.specs.declared.view.Piece.{Piece}
@@ -16,7 +16,8 @@ told n v = record v { found = v.found ++ n ∷ [] }
 abbrev pub made : Piece → ℕ → View → View
 made piece n v = record v { pieces = piece ∷ []; found = v.found ++ n ∷ [] }
 
--- a word that a view can find: it has room for what the view's pieces hold of it, and is at most its cap
+-- a word that a view can find: it has room for what the view's pieces hold of it, and is at most
+-- its cap
 pub record IsFound (d : ℕ) (v : View) (n : ℕ) : Type 0 where
   pub room : held_by d v ≤ n
   pub capped : n ≤ cap_in v.terms d
@@ -26,15 +27,16 @@ module _ {S : Type 0} where
   abbrev pub Loads : Step S → Me S View → ℕ → Me S View → Type 0
   Loads s me n after = IsFound s.word me.0 n × (after ≡ (told n me.0, me.1))
 
-  -- take: compare_exchange of `first` for `second`; where `first` was found, the blank has become a ticket of this domain
-  -- and of the bandwidth that the word gained
+  -- take: compare_exchange of `first` for `second`; where `first` was found, the blank has become a
+  -- ticket of this domain and of the bandwidth that the word gained
   abbrev pub Takes : Step S → Me S View → ℕ → Me S View → Type 0
   Takes s me n after =
       MatchBool (n == s.first)
       (after ≡ (made (Ticket s.word (s.second - s.first)) n me.0, me.1))
       (after ≡ (told n me.0, me.1))
 
-  -- regrade: likewise; the ticket keeps its domain, and has the bandwidth that it had and what the word gained or lost
+  -- regrade: likewise; the ticket keeps its domain, and has the bandwidth that it had and what the
+  -- word gained or lost
   abbrev pub Regrades : Step S → Me S View → ℕ → Me S View → Type 0
   Regrades s me n after =
       MatchBool (n == s.first)
@@ -45,8 +47,8 @@ module _ {S : Type 0} where
   abbrev pub Gives : Step S → Me S View → ℕ → Me S View → Type 0
   Gives s me n after = IsFound s.word me.0 n × (after ≡ (made Blank n me.0, me.1))
 
--- Beside these four, open splits pieces off, renew makes a piece as open deals it, and close joins pieces, by loads that append
--- nothing.
+-- Beside these four, open splits pieces off, renew makes a piece as open deals it, and close joins
+-- pieces, by loads that append nothing.
 
 -- open: the first piece goes to a new seat, and the others stay
 abbrev pub first_piece : View → View

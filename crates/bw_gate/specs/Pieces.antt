@@ -12,7 +12,8 @@ pub record GateId : Type 0 where
 abbrev pub cap_of : GateId → ℕ → ℕ
 cap_of gate d = cap_in gate.terms d
 
--- a blank: the gate that it is used with, and the words that its steps have found since it was dealt or renewed, oldest first
+-- a blank: the gate that it is used with, and the words that its steps have found since it was
+-- dealt or renewed, oldest first
 pub record BlankView : Type 0 where
   pub gate : GateId
   pub found : List ℕ

@@ -1,6 +1,7 @@
--- The table under a gate, and the rule that holds between any two steps on it (own): each word is the sum of the
--- bandwidths of the tickets of its domain, and at most its cap; and there are exactly as many pieces as there were at the
--- start, so that all pieces at home leave no bandwidth elsewhere.
+-- The table under a gate, and the rule that holds between any two steps on it (own): each word is
+-- the sum of the bandwidths of the tickets of its domain, and at most its cap; and there are
+-- exactly as many pieces as there were at the start, so that all pieces at home leave no bandwidth
+-- elsewhere.
 use Rattle.std.specs.Prelude.{ℕ, ◌≡◌, ◌≤◌, ◌<◌, ◌==◌, if◌then◌else◌, List, [], length, replicate, sum_by, slice_index, All}
 use Rattle.bw_gate.specs.declared.view.Piece.{Piece}
 use Rattle.bw_gate.specs.declared.view.Piece.TheVariants.{Blank, Ticket}
@@ -12,8 +13,8 @@ abbrev pub held : ℕ → Piece → ℕ
 held d Blank = 0
 held d (Ticket e bw) = if e == d then bw else 0
 
--- what a view's pieces hold of it: one piece while it is in somebody's hand, none once it is spent, and several while
--- pieces are dealt or gathered
+-- what a view's pieces hold of it: one piece while it is in somebody's hand, none once it is spent,
+-- and several while pieces are dealt or gathered
 abbrev pub held_by : ℕ → View → ℕ
 held_by d v = sum_by (held d) v.pieces
 

@@ -1,7 +1,8 @@
 -- What a gate is opened with, and never changes (own).
 use Rattle.std.specs.Prelude.{ℕ, ◌<◌, ◌≤◌, ◌^◌, List, length, All, slice_index}
 
--- the cap of each domain's word, in 1/2^20 of a CPU, and how many pieces there are: blanks and tickets together
+-- the cap of each domain's word, in 1/2^20 of a CPU, and how many pieces there are: blanks and
+-- tickets together
 pub record TermsView : Type 0 where
   pub caps : List ℕ
   pub pieces : ℕ

@@ -26,7 +26,8 @@ pub enum Take {
 pub enum Regrade {
     /// The ticket has its new bandwidth.
     Changed(Ticket),
-    /// EBUSY 16: the word that was found has no room for the new bandwidth in place of the old one. The word is as it was.
+    /// EBUSY 16: the word that was found has no room for the new bandwidth in place of the old one.
+    /// The word is as it was.
     Refused {
         /// The ticket, as it was but for what it found.
         ticket: Ticket,

@@ -13,12 +13,12 @@ use std::alloc::Global;
 use std::marker::Model;
 use std::sync::Wait;
 
-/// The bandwidth words of one to eight root domains, from which many clients take at once, without a lock and without
-/// waiting for one another. All bandwidths and words are in 1/2^20 of a CPU.
+/// The bandwidth words of one to eight root domains, from which many clients take at once, without
+/// a lock and without waiting for one another. All bandwidths and words are in 1/2^20 of a CPU.
 ///
-/// To a contract a gate is its identity: which table of words it is, and its terms, the caps and the number of pieces.
-/// Between any two steps of any clients each word is exactly the sum of the bandwidths of the tickets of its domain, and at
-/// most its cap. A piece is used with its own gate.
+/// To a contract a gate is its identity: which table of words it is, and its terms, the caps and
+/// the number of pieces. Between any two steps of any clients each word is exactly the sum of the
+/// bandwidths of the tickets of its domain, and at most its cap. A piece is used with its own gate.
 #[derive(Drop)]
 pub struct Gate {
     table: Table<(), View, Terms, Exact, Global>,
@@ -41,15 +41,15 @@ impl Model for Gate {
 }
 
 impl Gate {
-    ghost use Rattle.std.specs.Prelude.{◌≡◌, ◌<◌, ◌≤◌, ◌++◌, ◌∷◌, ◌+◌, ◌^◌, [], ℕ, length, replicate, slice_index, All, IfOk};
+    ghost use Rattle.std.specs.Prelude.{◌≡◌, ◌<◌, ◌≤◌, ◌+◌, ◌^◌, [], ℕ, length, replicate, slice_index, All, IfOk};
     ghost use Rattle.bw_world.specs.WorldStep.{unit};
     ghost use Rattle.bw_gate.specs.Terms.{AreTerms};
     ghost use Rattle.bw_gate.specs.Pieces.{cap_of, sum_of};
     ghost use Rattle.bw_gate.specs.Answers.{IsTryOfTake, IsTryOfRegrade, IsTake, IsRegrade, IsGive, IsLoad};
 
-    /// A gate of one to eight domains, by the caps of their words, each at most 2^26, with words of 0; and its 1 to 4096
-    /// pieces, all of them blanks. It is the one call of a gate that takes memory. [`NoMemory`] (ENOMEM 12) where a growth
-    /// was refused: nothing stands.
+    /// A gate of one to eight domains, by the caps of their words, each at most 2^26, with words of
+    /// 0; and its 1 to 4096 pieces, all of them blanks. It is the one call of a gate that takes
+    /// memory. [`NoMemory`] (ENOMEM 12) where a growth was refused: nothing stands.
     pub fn open(alloc: Global, caps: &[u64], n: usize) -> Result<(Gate, Vec<Blank>), NoMemory>
         requires { AreTerms (record { caps = caps.now; pieces = n }) }
         ensures gate { IfOk result (λ r. r.0.terms ≡ record { caps = caps.now; pieces = n }) }
@@ -64,8 +64,9 @@ impl Gate {
         Ok((Gate { table, terms }, blanks))
     }
 
-    /// Ends a gate, and tells its words. They have room for the tickets that are handed in, and are at most their caps; and
-    /// where all pieces are handed in, each word is exactly the sum of the bandwidths of that domain's tickets.
+    /// Ends a gate, and tells its words. They have room for the tickets that are handed in, and are
+    /// at most their caps; and where all pieces are handed in, each word is exactly the sum of the
+    /// bandwidths of that domain's tickets.
     pub fn close(self, blanks: Vec<Blank>, tickets: Vec<Ticket>) -> Words
         requires blanks { All (λ b. b.gate ≡ self) blanks.items }
         requires tickets { All (λ t. t.gate ≡ self) tickets.items }
@@ -87,7 +88,8 @@ impl Gate {
         Words { count, word }
     }
 
-    /// How many pieces the gate has, 1 to 4096: blanks and tickets together, those that were dropped too.
+    /// How many pieces the gate has, 1 to 4096: blanks and tickets together, those that were
+    /// dropped too.
     pub fn pieces(&self) -> usize
         ensures { result ≡ self.now.terms.pieces }
     {
@@ -103,14 +105,15 @@ impl Gate {
         self.terms.cap(domain)
     }
 
-    /// One try to take a ticket of so much in a domain: by the piece's seat one load, and then at most one
-    /// compare_exchange. The rule is the admission test of sched-deadline.rst, "Bandwidth management"; a word that then
-    /// equals its cap is granted. The contract tells what the piece found; a look at the word that needs no seat would not
-    /// show in it.
+    /// One try to take a ticket of so much in a domain: by the piece's seat one load, and then at
+    /// most one compare_exchange. The rule is the admission test of sched-deadline.rst, "Bandwidth
+    /// management"; a word that then equals its cap is granted. The contract tells what the piece
+    /// found; a look at the word that needs no seat would not show in it.
     ///
-    /// [`Take::Refused`] (EBUSY 16) where the word that the load found has no room for `bw`: nothing has changed, and the
-    /// blank comes back. [`Take::Raced`] where the exchange found another word than the load, since another client came
-    /// between: the word is as that one left it, and the blank comes back. Nothing is claimed of which try wins.
+    /// [`Take::Refused`] (EBUSY 16) where the word that the load found has no room for `bw`:
+    /// nothing has changed, and the blank comes back. [`Take::Raced`] where the exchange found
+    /// another word than the load, since another client came between: the word is as that one left
+    /// it, and the blank comes back. Nothing is claimed of which try wins.
     pub fn try_take(&self, blank: Blank, domain: usize, bw: u64) -> Take
         requires own { blank.gate ≡ self.now }
         requires inside { domain < length self.now.terms.caps }
@@ -142,9 +145,10 @@ impl Gate {
         }
     }
 
-    /// Repeats [`Gate::try_take`] until it is not raced, and answers as its last try. It may so go on for as long as other
-    /// clients come between. The piece has then found the two words of each raced try, what the last try found and nothing
-    /// else: meanwhile nothing was taken, and no refusal was passed over.
+    /// Repeats [`Gate::try_take`] until it is not raced, and answers as its last try. It may so go
+    /// on for as long as other clients come between. The piece has then found the two words of each
+    /// raced try, what the last try found and nothing else: meanwhile nothing was taken, and no
+    /// refusal was passed over.
     #[tactic(auto, using(crate::proofs::Races::not_yet_raced, crate::proofs::Races::take_decided))]
     pub fn take<R: Wait>(&self, rt: &R, mut blank: Blank, domain: usize, bw: u64) -> Take
         requires own { blank.gate ≡ self.now }
@@ -166,9 +170,10 @@ impl Gate {
         unreachable!()
     }
 
-    /// One try to give a ticket another bandwidth, larger or smaller: by the ticket's seat one load, and then at most one
-    /// compare_exchange. It answers as [`Gate::try_take`], by the word without the ticket's old bandwidth. A ticket that is
-    /// not [`Regrade::Changed`] keeps its domain and its bandwidth.
+    /// One try to give a ticket another bandwidth, larger or smaller: by the ticket's seat one
+    /// load, and then at most one compare_exchange. It answers as [`Gate::try_take`], by the word
+    /// without the ticket's old bandwidth. A ticket that is not [`Regrade::Changed`] keeps its
+    /// domain and its bandwidth.
     pub fn try_regrade(&self, mut ticket: Ticket, bw: u64) -> Regrade
         requires own { ticket.gate ≡ self.now }
         requires one_cpu { bw ≤ unit }
@@ -196,9 +201,9 @@ impl Gate {
         }
     }
 
-    /// Repeats [`Gate::try_regrade`] until it is not raced, and answers as its last try. It may so go on for as long as
-    /// other clients come between. The ticket has then found the two words of each raced try, what the last try found and
-    /// nothing else.
+    /// Repeats [`Gate::try_regrade`] until it is not raced, and answers as its last try. It may so
+    /// go on for as long as other clients come between. The ticket has then found the two words of
+    /// each raced try, what the last try found and nothing else.
     #[tactic(auto, using(crate::proofs::Races::not_yet_changed, crate::proofs::Races::regrade_decided))]
     pub fn regrade<R: Wait>(&self, rt: &R, mut ticket: Ticket, bw: u64) -> Regrade
         requires own { ticket.gate ≡ self.now }
@@ -219,8 +224,8 @@ impl Gate {
         unreachable!()
     }
 
-    /// Gives a ticket's bandwidth back, by one fetch_sub, which always succeeds. The piece is then a blank, which found the
-    /// word with the bandwidth still in it.
+    /// Gives a ticket's bandwidth back, by one fetch_sub, which always succeeds. The piece is then
+    /// a blank, which found the word with the bandwidth still in it.
     pub fn give(&self, ticket: Ticket) -> Blank
         requires { ticket.gate ≡ self.now }
         ensures { IsGive ticket result }
@@ -238,7 +243,8 @@ impl Gate {
         Blank { seat, last: found }
     }
 
-    /// The same blank as [`Gate::open`] deals it, which has found nothing. By one load, of which nothing is told.
+    /// The same blank as [`Gate::open`] deals it, which has found nothing. By one load, of which
+    /// nothing is told.
     pub fn renew(&self, blank: Blank) -> Blank
         requires { blank.gate ≡ self.now }
         ensures { result ≡ record { gate = self.now; found = [] } }
@@ -248,8 +254,8 @@ impl Gate {
         Blank { seat, last: 0 }
     }
 
-    /// The word of a ticket's domain, by one load: at least the ticket's bandwidth and at most the cap. Other clients may
-    /// change it at any time.
+    /// The word of a ticket's domain, by one load: at least the ticket's bandwidth and at most the
+    /// cap. Other clients may change it at any time.
     pub fn load(&self, ticket: &mut Ticket) -> u64
         requires { ticket.old.gate ≡ self.now }
         ensures load { IsLoad ticket.old result ticket.new }

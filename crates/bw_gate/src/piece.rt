@@ -2,8 +2,9 @@ use crate::view::View;
 use atomic_table::Seat;
 use std::marker::Model;
 
-/// A piece of a gate that holds no bandwidth: what a client needs to take a ticket. It may be dropped, and is then missing
-/// at [`Gate::close`](crate::Gate::close). To a contract it is its gate and the words that its steps have found.
+/// A piece of a gate that holds no bandwidth: what a client needs to take a ticket. It may be
+/// dropped, and is then missing at [`Gate::close`](crate::Gate::close). To a contract it is its
+/// gate and the words that its steps have found.
 #[derive(Drop)]
 pub struct Blank {
     pub(crate) seat: Seat<(), View>,
@@ -27,10 +28,11 @@ impl Model for Blank {
         × (b.last ≡ last_of b.seat.me.0.found) };
 }
 
-/// A piece of a gate that holds bandwidth of a domain's word: the right to a task of that bandwidth. It can be neither
-/// cloned nor dropped, so the compiler sees that it goes to [`Gate::give`](crate::Gate::give), into a domain's book or to
-/// [`Gate::close`](crate::Gate::close). To a contract it is its gate, its domain and bandwidth, and the words that its steps
-/// have found.
+/// A piece of a gate that holds bandwidth of a domain's word: the right to a task of that
+/// bandwidth. It can be neither cloned nor dropped, so the compiler sees that it goes to
+/// [`Gate::give`](crate::Gate::give), into a domain's book or to
+/// [`Gate::close`](crate::Gate::close). To a contract it is its gate, its domain and bandwidth, and
+/// the words that its steps have found.
 pub struct Ticket {
     pub(crate) seat: Seat<(), View>,
     pub(crate) domain: usize,

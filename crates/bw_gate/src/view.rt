@@ -8,8 +8,8 @@ pub enum Piece {
     Ticket { domain: usize, bw: u64 },
 }
 
-/// What a seat at the table knows: its pieces, the words that its steps have found, and the gate's terms. No value of it
-/// is made.
+/// What a seat at the table knows: its pieces, the words that its steps have found, and the gate's
+/// terms. No value of it is made.
 pub struct View {
     pub pieces: LinkedList<Piece>,
     pub found: LinkedList<u64>,

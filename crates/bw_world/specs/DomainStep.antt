@@ -1,5 +1,6 @@
--- What a step does within one domain (own). The word is the sum of bandwidths that sched-deadline.rst, "Bandwidth
--- management", compares with M * limit, the cap, when a task is admitted.
+-- What a step does within one domain (own). The word is the sum of bandwidths that
+-- sched-deadline.rst, "Bandwidth management", compares with M * limit, the cap, when a task is
+-- admitted.
 use Rattle.std.specs.Prelude.{ℕ, Bool, not, ◌||◌, ◌==◌, nat_lt, if◌then◌else◌, ◌+◌, ◌-◌, List, [], ◌∷◌, ◌++◌, map, filter, find, Option, Some, None}
 use Rattle.std.specs.List.{list_any}
 use Rattle.bw_world.specs.declared.book.Change.TheVariants.{Entered, Regraded, Released}
@@ -55,8 +56,8 @@ stays d outcome = record { domain = d; outcome = outcome }
 abbrev pub done : DomainView → DomainStep
 done d = record { domain = d; outcome = Done }
 
--- why the word is not exchanged for a wanted one: it is not the expected one, else the wanted one is above the cap.
--- One equal to the cap is granted
+-- why the word is not exchanged for a wanted one: it is not the expected one, else the wanted one
+-- is above the cap. One equal to the cap is granted
 abbrev pub refusal_of : ℕ → ℕ → DomainView → Option Outcome
 refusal_of expected wanted d =
     if not (d.word == expected) then Some (Lost d.word)

@@ -1,4 +1,5 @@
--- The law that every word keeps (own): it is exactly what is in hand plus what is admitted, and never above its cap.
+-- The law that every word keeps (own): it is exactly what is in hand plus what is admitted, and
+-- never above its cap.
 use Rattle.std.specs.Prelude.{ℕ, ◌≡◌, ◌≤◌, ◌+◌, ◌==◌, not, if◌then◌else◌, List, [], ◌∷◌, ◌++◌, map, filter, fold, sum_by, count_by, All}
 use Rattle.bw_world.specs.declared.book.Change.{Change}
 use Rattle.bw_world.specs.declared.book.Change.TheVariants.{Entered, Regraded, Released}

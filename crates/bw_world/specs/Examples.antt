@@ -40,8 +40,8 @@ world_steps_end : after steps one ≡ record {
 } ∷ []
 world_steps_end = refl
 
--- a step that does not fit: no such domain; more than one CPU for one ticket; an id that is live in another domain; a
--- number that is admitted; a ticket in hand to release; a ticket that is gone
+-- a step that does not fit: no such domain; more than one CPU for one ticket; an id that is live in
+-- another domain; a number that is admitted; a ticket in hand to release; a ticket that is gone
 abbrev two : List DomainView
 two = opened 2097152 ∷ opened 1048576 ∷ []
 
@@ -55,7 +55,8 @@ misfits : outcomes_of misfitting two
     ≡ Not ∷ Not ∷ Not ∷ Done ∷ Not ∷ Done ∷ Not ∷ Done ∷ Not ∷ Not ∷ Done ∷ Done ∷ Not ∷ Not ∷ []
 misfits = refl
 
--- Lost before Over, in a Take and in a Regrade; a word equal to the cap is granted; a Regrade may go above one CPU
+-- Lost before Over, in a Take and in a Regrade; a word equal to the cap is granted; a Regrade may
+-- go above one CPU
 abbrev exchanges : List Step
 exchanges =
     Take 1 0 1048576 0 ∷ Take 2 0 1048577 7 ∷ Take 2 0 1048576 7 ∷ Regrade 1 3000000 7

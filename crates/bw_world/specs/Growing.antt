@@ -22,8 +22,8 @@ pub record IsGrowing (s : Step) (domains : List DomainView) : Type 0 where
   pub would_do : (stepped s domains).outcome ≡ Done
   pub longer : IsTrue (lengthens s domains)
 
--- what may want memory in a run of steps of which so many were applied: the list of answers, before the first step, or
--- else the next step
+-- what may want memory in a run of steps of which so many were applied: the list of answers, before
+-- the first step, or else the next step
 abbrev pub IsGrowingAt : List Step → ℕ → List DomainView → Type 0
 IsGrowingAt steps applied domains =
     ((0 < length steps) × (applied ≡ 0))

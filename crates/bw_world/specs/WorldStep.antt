@@ -29,7 +29,8 @@ pub record WorldStep : Type 0 where
 abbrev pub misfit : List DomainView → WorldStep
 misfit domains = record { domains = domains; outcome = Not }
 
-abbrev pub at_found : List DomainView → ℕ → (DomainView → DomainStep) → Option DomainView → WorldStep
+abbrev pub at_found : List DomainView → ℕ → (DomainView → DomainStep) → Option DomainView
+    → WorldStep
 at_found domains k rule None = misfit domains
 at_found domains k rule (Some d) =
     record { domains = slice_set domains k (rule d).domain; outcome = (rule d).outcome }

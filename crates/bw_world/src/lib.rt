@@ -1,9 +1,11 @@
-//! The pure core of the bandwidth words: what a lock-free gate may do to a domain's word, one step after another.
+//! The pure core of the bandwidth words: what a lock-free gate may do to a domain's word, one step
+//! after another.
 //!
-//! Meets the definitions "World step" (`specs/DomainStep.antt`, `specs/WorldStep.antt`) and "Exact word"
-//! (`specs/ExactWord.antt`). To the crates above it promises that after every step of every list a domain's word is
-//! exactly the bandwidth of its tickets in hand plus that of its admitted tasks, and at most its cap; that no two live
-//! tickets have one id; and that the admitted tasks are those that the changes of the book tell.
+//! Meets the definitions "World step" (`specs/DomainStep.antt`, `specs/WorldStep.antt`) and "Exact
+//! word" (`specs/ExactWord.antt`). To the crates above it promises that after every step of every
+//! list a domain's word is exactly the bandwidth of its tickets in hand plus that of its admitted
+//! tasks, and at most its cap; that no two live tickets have one id; and that the admitted tasks
+//! are those that the changes of the book tell.
 #![tactic(auto)]
 
 mod book;

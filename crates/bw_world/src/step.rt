@@ -1,8 +1,10 @@
-/// The bandwidth of one whole CPU, 2^20 (own: the kernel's BW_UNIT): the most that one ticket is taken for.
+/// The bandwidth of one whole CPU, 2^20 (own: the kernel's BW_UNIT): the most that one ticket is
+/// taken for.
 pub const UNIT: u64 = 1048576;
 
-/// A step of a world. A domain is named by its index, a ticket by its id, which the caller chooses, and a task by its
-/// number. Bandwidths and words are in 1/2^20 of a CPU. A step that does not fit is answered [`Outcome::Not`].
+/// A step of a world. A domain is named by its index, a ticket by its id, which the caller chooses,
+/// and a task by its number. Bandwidths and words are in 1/2^20 of a CPU. A step that does not fit
+/// is answered [`Outcome::Not`].
 #[derive(Clone, Copy, Debug, PartialEq, Eq)]
 pub enum Step {
     /// Reads a domain's word. It fits where the domain exists.
@@ -10,8 +12,8 @@ pub enum Step {
         /// Index of the domain, from 0.
         domain: usize,
     },
-    /// Takes a new ticket, if the word is the expected one and has room for it. It fits where no live ticket of any
-    /// domain has the id, the domain exists and `bw` is at most [`UNIT`].
+    /// Takes a new ticket, if the word is the expected one and has room for it. It fits where no
+    /// live ticket of any domain has the id, the domain exists and `bw` is at most [`UNIT`].
     Take {
         /// Id of the new ticket.
         ticket: u64,
@@ -22,8 +24,9 @@ pub enum Step {
         /// The word as the caller knows it.
         expected: u64,
     },
-    /// Gives a ticket another bandwidth, if the word is the expected one and has room for it. It fits a live ticket, in
-    /// hand or in an admitted task; in a task it is a change of the book too.
+    /// Gives a ticket another bandwidth, if the word is the expected one and has room for it. It
+    /// fits a live ticket, in hand or in an admitted task; in a task it is a change of the book
+    /// too.
     Regrade {
         /// Id of the ticket.
         ticket: u64,
@@ -37,16 +40,16 @@ pub enum Step {
         /// Id of the ticket.
         ticket: u64,
     },
-    /// Puts a ticket into a task, which is admitted so; the word stays. It fits a ticket in hand whose domain has no
-    /// admitted task of the number.
+    /// Puts a ticket into a task, which is admitted so; the word stays. It fits a ticket in hand
+    /// whose domain has no admitted task of the number.
     Enter {
         /// Id of the ticket.
         ticket: u64,
         /// Number of the task.
         number: u32,
     },
-    /// Takes a ticket out of its task, which is admitted no more; the ticket is in hand again, and the word stays. It
-    /// fits an admitted ticket.
+    /// Takes a ticket out of its task, which is admitted no more; the ticket is in hand again, and
+    /// the word stays. It fits an admitted ticket.
     Release {
         /// Id of the ticket.
         ticket: u64,
@@ -60,7 +63,8 @@ pub enum Outcome {
     Saw(u64),
     /// The step is done.
     Done,
-    /// EBUSY 16: the word is the expected one, and the step would lift it above the cap. Holds the word.
+    /// EBUSY 16: the word is the expected one, and the step would lift it above the cap. Holds the
+    /// word.
     Over(u64),
     /// The word is not the expected one. This is tested before Over. Holds the word.
     Lost(u64),

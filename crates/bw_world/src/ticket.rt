@@ -1,4 +1,4 @@
-ghost use Rattle.std.specs.Prelude.{◌≡◌, ◌==◌, not, find, map, filter};
+ghost use Rattle.std.specs.Prelude.{◌≡◌, ◌==◌, find, map};
 ghost use Rattle.std.specs.List.{list_any};
 ghost use Rattle.bw_world.specs.DomainStep.{with_bw, task_with_bw, without, without_task};
 

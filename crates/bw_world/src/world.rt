@@ -6,8 +6,8 @@ use no_memory::NoMemory;
 use std::alloc::Global;
 use std::marker::Model;
 
-/// Up to eight root domains, each with its bandwidth word, tickets, admitted tasks and book. To a contract it is plain
-/// lists.
+/// Up to eight root domains, each with its bandwidth word, tickets, admitted tasks and book. To a
+/// contract it is plain lists.
 #[derive(Debug, Drop)]
 pub struct World {
     domains: Vec<Domain>,
@@ -31,7 +31,8 @@ impl World {
     ghost use Rattle.bw_world.specs.Growing.{IsGrowing, IsGrowingAt};
     ghost use Rattle.bw_world.specs.ExactWord.{IsExact};
 
-    /// A world of one to eight domains, by their caps in 1/2^20 of a CPU, with no ticket, no task and words of 0.
+    /// A world of one to eight domains, by their caps in 1/2^20 of a CPU, with no ticket, no task
+    /// and words of 0.
     pub fn open(alloc: Global, caps: &[u64]) -> Result<World, NoMemory>
         requires some { 0 < length caps.now }
         requires few { length caps.now ≤ 8 }
@@ -49,8 +50,8 @@ impl World {
         })
     }
 
-    /// Applies one step. After an `Err` the world is as it was; it comes only where a step that would be done wants room
-    /// for a ticket, a task or a change of the book.
+    /// Applies one step. After an `Err` the world is as it was; it comes only where a step that
+    /// would be done wants room for a ticket, a task or a change of the book.
     pub fn apply(&mut self, step: Step) -> Result<Outcome, NoMemory>
         ensures outcome { IfOk result (λ outcome.
             outcome ≡ (stepped step self.old.domains).outcome) }
@@ -63,9 +64,10 @@ impl World {
         domains::apply(&mut self.domains, step)
     }
 
-    /// Applies steps, one after another, and gives the answer to each. It makes room for all answers before the first
-    /// step. After an `Err` a beginning of the steps is applied, of [`World::applied`] steps: none where there was no room
-    /// for the answers, else those before the step whose growth was refused.
+    /// Applies steps, one after another, and gives the answer to each. It makes room for all
+    /// answers before the first step. After an `Err` a beginning of the steps is applied, of
+    /// [`World::applied`] steps: none where there was no room for the answers, else those before
+    /// the step whose growth was refused.
     pub fn run_all(&mut self, steps: &[Step]) -> Result<Vec<Outcome>, NoMemory>
         ensures outcomes { IfOk result (λ outcomes.
             outcomes.items ≡ outcomes_of steps.now self.old.domains) }

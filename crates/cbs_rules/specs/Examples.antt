@@ -7,12 +7,20 @@ use Rattle.cbs_rules.specs.Serving.{woken, charged, replenished}
 
 -- runtime, relative deadline and period
 abbrev plain : ℕ → ℕ → ℕ → ParamsView
-plain runtime deadline period = record { runtime = runtime; deadline = deadline; period = period; reclaim = false; bw = ratio period runtime }
+plain runtime deadline period =
+    record {
+      runtime = runtime;
+      deadline = deadline;
+      period = period;
+      reclaim = false;
+      bw = ratio period runtime;
+    }
 
 abbrev server : ℕ → ℕ → Server
 server deadline left = record { deadline = Some deadline; left = pos left }
 
--- WAKE TEST IS STRICT: 2 us left of 4 in 8, and 8 the deadline. At 4 that is just the share, at 5 it is more
+-- WAKE TEST IS STRICT: 2 us left of 4 in 8, and 8 the deadline. At 4 that is just the share, at 5
+-- it is more
 kept_at_4 : woken (plain 4 8 8) 4 (server 8 2097152) ≡ server 8 2097152
 kept_at_4 = refl
 
@@ -30,12 +38,14 @@ renewed_after_the_deadline : woken (plain 4 8 8) 9 (server 8 0) ≡ server 17 41
 renewed_after_the_deadline = refl
 
 -- charged three ticks at one and a half
-charged_thrice : charged 1572864 3 (server 8 2097152) ≡ record { deadline = Some 8; left = neg_ℤ (pos 2621440) }
+charged_thrice : charged 1572864 3 (server 8 2097152)
+    ≡ record { deadline = Some 8; left = neg_ℤ (pos 2621440) }
 charged_thrice = refl
 
 -- replenished once where nothing is left, and again where a whole budget is missing
 replenished_once : replenished (plain 2 5 5) (server 5 0) ≡ server 10 2097152
 replenished_once = refl
 
-replenished_twice : replenished (plain 2 5 5) (record { deadline = Some 5; left = neg_ℤ (pos 2097152) }) ≡ server 15 2097152
+replenished_twice : replenished (plain 2 5 5)
+    (record { deadline = Some 5; left = neg_ℤ (pos 2097152) }) ≡ server 15 2097152
 replenished_twice = refl

@@ -1,7 +1,8 @@
-//! The rules of a constant bandwidth server (sched-deadline.rst, "Main algorithm"): wake, charge and replenishment.
+//! The rules of a constant bandwidth server (sched-deadline.rst, "Main algorithm"): wake, charge
+//! and replenishment.
 //!
-//! Meets the definition "Wake, charge, replenish" (`specs/Serving.antt`, over `specs/Budget.antt`). To the crates above it
-//! promises each rule as an equation with its definition. Takes no memory.
+//! Meets the definition "Wake, charge, replenish" (`specs/Serving.antt`, over `specs/Budget.antt`).
+//! To the crates above it promises each rule as an equation with its definition. Takes no memory.
 #![tactic(auto)]
 
 mod rules;

@@ -1,6 +1,6 @@
 //! The rules of a constant bandwidth server (sched-deadline.rst, "Main algorithm").
 
-ghost use Rattle.std.specs.Prelude.{◌≡◌, ◌<◌, ◌≤◌, ◌^◌, ◌+◌, ◌*◌, pos, neg_ℤ, ◌≤ℤ◌, ◌<ℤ◌, ◌-ℤ◌, ◌+ℤ◌, ◌/◌, IsSome, IsSomeAnd, IfSome, ◌↔◌, IsTrue};
+ghost use Rattle.std.specs.Prelude.{◌≡◌, ◌<◌, ◌≤◌, ◌^◌, ◌+◌, ◌*◌, pos, neg_ℤ, ◌≤ℤ◌, ◌<ℤ◌, ◌+ℤ◌, ◌/◌, IsSome, IsSomeAnd, IfSome};
 ghost use Rattle.std.specs.Option.{option_map};
 ghost use Rattle.cbs_rules.specs.Serving.{renewed, overflows, woken, charged, is_spent, replenished};
 ghost use Rattle.attr_check.specs.ParamsView.{IsOrdered};
@@ -44,8 +44,9 @@ fn is_outlived_at(params: &Params, time: u64, deadline: u64, left: i128) -> bool
     share < left * i128::from(params.period)
 }
 
-/// Deadline and budget after a wake at this time, in microseconds: new ones where there is no deadline, where it has passed,
-/// or where what is left would be more than the task's share until then (strictly); else they stay. Takes no memory.
+/// Deadline and budget after a wake at this time, in microseconds: new ones where there is no
+/// deadline, where it has passed, or where what is left would be more than the task's share until
+/// then (strictly); else they stay. Takes no memory.
 pub fn on_wake(server: Server, params: &Params, time: u64) -> Server
     requires early { time < 2 ^ 48 }
     requires near { IfSome server.deadline (λ d. d < 2 ^ 48) }
@@ -67,7 +68,8 @@ pub fn on_wake(server: Server, params: &Params, time: u64) -> Server
     }
 }
 
-/// The server after so many ticks of running at a rate in 1/2^20: its budget is less by `rate * ticks`. Takes no memory.
+/// The server after so many ticks of running at a rate in 1/2^20: its budget is less by `rate *
+/// ticks`. Takes no memory.
 pub fn charge(server: Server, rate: u64, ticks: u64) -> Server
     requires slow { rate ≤ 2 ^ 32 }
     requires few { ticks ≤ 2 ^ 42 }
@@ -81,8 +83,8 @@ pub fn charge(server: Server, rate: u64, ticks: u64) -> Server
     }
 }
 
-/// Whether nothing is left of the budget, which the definitions call spent (`is_spent`): a task that contends is then
-/// throttled.
+/// Whether nothing is left of the budget, which the definitions call spent (`is_spent`): a task
+/// that contends is then throttled.
 pub fn is_throttled(server: &Server) -> bool
     ensures { result ≡ is_spent server.now }
 {
@@ -119,8 +121,8 @@ fn postpone(server: Server, params: &Params, times: u64) -> Server
     }
 }
 
-/// Replenishes a spent server: its deadline is put off by a period and it gets a whole budget, again and again while nothing is
-/// left, by one division. Takes no memory.
+/// Replenishes a spent server: its deadline is put off by a period and it gets a whole budget,
+/// again and again while nothing is left, by one division. Takes no memory.
 pub fn replenish(server: Server, params: &Params) -> Server
     requires dated { IsSome server.deadline }
     requires near { IfSome server.deadline (λ d. d < 2 ^ 48) }

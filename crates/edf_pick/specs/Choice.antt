@@ -1,10 +1,12 @@
--- Which tasks run: the first M by deadline (sched-deadline.rst, "Main algorithm"; ties by number are own).
+-- Which tasks run: the first M by deadline (sched-deadline.rst, "Main algorithm"; ties by number
+-- are own).
 use Rattle.std.specs.Prelude.{ℕ, Bool, ◌&&◌, ◌||◌, ◌==◌, nat_lt, List, count_by, find, Option}
 use Rattle.edf_pick.specs.declared.candidate.Candidate.{Candidate}
 
 -- an earlier deadline, or the same and a smaller number
 abbrev pub is_before : Candidate → Candidate → Bool
-is_before a b = nat_lt a.deadline b.deadline || (a.deadline == b.deadline && nat_lt a.number b.number)
+is_before a b =
+    nat_lt a.deadline b.deadline || (a.deadline == b.deadline && nat_lt a.number b.number)
 
 -- how many ready tasks are before this one
 abbrev pub rank : List Candidate → Candidate → ℕ

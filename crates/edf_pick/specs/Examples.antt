@@ -7,16 +7,20 @@ use Rattle.edf_pick.specs.Places.{placed}
 abbrev ready : ℕ → ℕ → ℕ → Candidate
 ready deadline number home = record { deadline = deadline; number = number; home = home }
 
--- of three with one deadline the two with the smaller numbers, each on its own CPU; the order of the list means nothing
-two_of_three : placed 2 (ready 8 3 1 ∷ ready 8 2 0 ∷ ready 8 1 1 ∷ []) (None ∷ None ∷ []) ≡ Some 2 ∷ Some 1 ∷ []
+-- of three with one deadline the two with the smaller numbers, each on its own CPU; the order of
+-- the list means nothing
+two_of_three : placed 2 (ready 8 3 1 ∷ ready 8 2 0 ∷ ready 8 1 1 ∷ []) (None ∷ None ∷ [])
+    ≡ Some 2 ∷ Some 1 ∷ []
 two_of_three = refl
 
 -- an earlier deadline goes before a smaller number
 earlier_first : placed 1 (ready 8 1 0 ∷ ready 7 2 0 ∷ []) (Some 1 ∷ []) ≡ Some 2 ∷ []
 earlier_first = refl
 
--- a chosen task stays where it stood, though another of an earlier deadline belongs there; that one goes to the lowest free CPU
-chosen_stays : placed 3 (ready 5 1 2 ∷ ready 8 2 0 ∷ []) (None ∷ None ∷ Some 2 ∷ []) ≡ Some 1 ∷ None ∷ Some 2 ∷ []
+-- a chosen task stays where it stood, though another of an earlier deadline belongs there; that one
+-- goes to the lowest free CPU
+chosen_stays : placed 3 (ready 5 1 2 ∷ ready 8 2 0 ∷ []) (None ∷ None ∷ Some 2 ∷ [])
+    ≡ Some 1 ∷ None ∷ Some 2 ∷ []
 chosen_stays = refl
 
 -- of two that belong to one CPU the first of the choice has it
@@ -28,9 +32,11 @@ nobody : placed 2 [] (Some 1 ∷ Some 2 ∷ []) ≡ None ∷ None ∷ []
 nobody = refl
 
 -- the earliest deadline first, ties by number
-in_order : ordered (ready 8 2 0 ∷ ready 5 7 1 ∷ ready 8 1 0 ∷ []) ≡ ready 5 7 1 ∷ ready 8 1 0 ∷ ready 8 2 0 ∷ []
+in_order : ordered (ready 8 2 0 ∷ ready 5 7 1 ∷ ready 8 1 0 ∷ [])
+    ≡ ready 5 7 1 ∷ ready 8 1 0 ∷ ready 8 2 0 ∷ []
 in_order = refl
 
 -- who is taken out is known by deadline and number, wherever it belongs
-taken_out : without_candidate (ready 8 1 3) (ready 5 7 1 ∷ ready 8 1 0 ∷ ready 8 2 0 ∷ []) ≡ ready 5 7 1 ∷ ready 8 2 0 ∷ []
+taken_out : without_candidate (ready 8 1 3) (ready 5 7 1 ∷ ready 8 1 0 ∷ ready 8 2 0 ∷ [])
+    ≡ ready 5 7 1 ∷ ready 8 2 0 ∷ []
 taken_out = refl

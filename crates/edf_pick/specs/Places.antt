@@ -23,7 +23,8 @@ abbrev pub stands : ℕ → Places → Bool
 stands number places = list_any (is_task number) places
 
 abbrev pub is_chosen_number : ℕ → List Candidate → ℕ → Bool
-is_chosen_number cpus ready number = list_any (λ c. c.number == number && is_chosen cpus ready c) ready
+is_chosen_number cpus ready number =
+    list_any (λ c. c.number == number && is_chosen cpus ready c) ready
 
 -- an occupant that is chosen stays
 abbrev pub kept : ℕ → List Candidate → Option ℕ → Option ℕ
@@ -34,9 +35,12 @@ abbrev pub is_free : Option (Option ℕ) → Bool
 is_free None = false
 is_free (Some occupant) = is_none occupant
 
--- the CPU for a task that stands nowhere: the one to which it belongs where that is free, else the lowest free one
+-- the CPU for a task that stands nowhere: the one to which it belongs where that is free, else the
+-- lowest free one
 abbrev pub seat_of : Places → Candidate → Option ℕ
-seat_of places c = if is_free (slice_get places c.home) then Some c.home else position (λ occupant. is_none occupant) places
+seat_of places c =
+    if is_free (slice_get places c.home) then Some c.home
+    else position (λ occupant. is_none occupant) places
 
 abbrev pub put : Places → ℕ → Option ℕ → Places
 put places number None = places

@@ -1,10 +1,12 @@
-//! Which ready tasks run, and on which CPU: global EDF (sched-deadline.rst, "Main algorithm"; ties and placement are own).
+//! Which ready tasks run, and on which CPU: global EDF (sched-deadline.rst, "Main algorithm"; ties
+//! and placement are own).
 //!
-//! [`Queue`] keeps the ready tasks in the order of the choice, and [`pick`] moves the occupants of the CPUs, a [`Placement`], on
-//! by one tick. Both meet the definition "Choice and placement" (`specs/Choice.antt` and `specs/Places.antt` by counting,
-//! `specs/Order.antt` for the queue). To the crate above it promises that the occupants of the CPUs are exactly those, for a list
-//! in any order too (`proofs/CallerLemmas.antt`), and that neither a queue nor a placement grows: their types keep the room that
-//! they were opened with.
+//! [`Queue`] keeps the ready tasks in the order of the choice, and [`pick`] moves the occupants of
+//! the CPUs, a [`Placement`], on by one tick. Both meet the definition "Choice and placement"
+//! (`specs/Choice.antt` and `specs/Places.antt` by counting, `specs/Order.antt` for the queue). To
+//! the crate above it promises that the occupants of the CPUs are exactly those, for a list in any
+//! order too (`proofs/CallerLemmas.antt`), and that neither a queue nor a placement grows: their
+//! types keep the room that they were opened with.
 #![tactic(auto)]
 
 mod candidate;

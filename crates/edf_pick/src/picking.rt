@@ -30,7 +30,8 @@ fn staying(chosen: &[Candidate], occupant: Option<u32>) -> Option<u32>
     }
 }
 
-// The CPUs on which a chosen task stands and to which it belongs, which are nearly all: one look for each task.
+// The CPUs on which a chosen task stands and to which it belongs, which are nearly all: one look
+// for each task.
 fn marks_of(places: &[Option<u32>], chosen: &[Candidate]) -> [bool; 64]
     requires { length places.now ≤ 64 }
     ensures { spec.AreStaying chosen.now places.now result }

@@ -8,8 +8,9 @@ use crate::queue::Queue;
 use std::alloc::{AllocError, Global};
 use std::marker::Model;
 
-/// Who stands on each of the 1 to 64 CPUs of a root domain: the number of a task, or nobody where the CPU is idle. Contracts see
-/// it as the list of its occupants. A placement with room for more or fewer than its CPUs cannot be built.
+/// Who stands on each of the 1 to 64 CPUs of a root domain: the number of a task, or nobody where
+/// the CPU is idle. Contracts see it as the list of its occupants. A placement with room for more
+/// or fewer than its CPUs cannot be built.
 #[derive(Drop)]
 pub struct Placement {
     occupants: Vec<Option<u32>>,
@@ -61,9 +62,11 @@ impl Placement {
     }
 }
 
-/// Moves the occupants of the CPUs on by one tick. As many of the first tasks of the queue are chosen as there are CPUs (global
-/// EDF: sched-deadline.rst, "Main algorithm"; ties and the placement are own). A chosen task stays where it stands; the others, in
-/// the order of the queue, go to the CPU to which they belong where that is free, else to the lowest free one. Takes no memory.
+/// Moves the occupants of the CPUs on by one tick. As many of the first tasks of the queue are
+/// chosen as there are CPUs (global EDF: sched-deadline.rst, "Main algorithm"; ties and the
+/// placement are own). A chosen task stays where it stands; the others, in the order of the queue,
+/// go to the CPU to which they belong where that is free, else to the lowest free one. Takes no
+/// memory.
 pub fn pick(placement: &mut Placement, queue: &Queue)
     ensures { placement.new ≡ placed (length placement.old) queue.now placement.old }
 {

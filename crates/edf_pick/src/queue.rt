@@ -11,9 +11,10 @@ use std::marker::Model;
 /// At most so many tasks wait in a queue.
 const MOST: usize = 256;
 
-/// The ready tasks of a root domain in the order of the choice: the earliest deadline first (sched-deadline.rst, "Main
-/// algorithm"), ties by number (own). It holds at most 256 tasks, no two of one deadline and number, and a queue in another order, or
-/// with other room than for 256, cannot be built. Contracts see it as the list of its tasks.
+/// The ready tasks of a root domain in the order of the choice: the earliest deadline first
+/// (sched-deadline.rst, "Main algorithm"), ties by number (own). It holds at most 256 tasks, no two
+/// of one deadline and number, and a queue in another order, or with other room than for 256,
+/// cannot be built. Contracts see it as the list of its tasks.
 #[derive(Drop)]
 pub struct Queue {
     tasks: Vec<Candidate>,
@@ -32,7 +33,8 @@ impl Model for Queue {
 }
 
 impl Queue {
-    /// An empty queue with room for 256 tasks: no other call takes memory. `Err` where that room was refused.
+    /// An empty queue with room for 256 tasks: no other call takes memory. `Err` where that room
+    /// was refused.
     pub fn open(alloc: Global) -> Result<Queue, AllocError>
         ensures { IfOk result (λ queue. queue ≡ []) }
     {
@@ -71,7 +73,8 @@ impl Queue {
         find(&self.tasks, c).is_some()
     }
 
-    /// Takes in a task whose deadline and number are not there, at its place, found by binary search.
+    /// Takes in a task whose deadline and number are not there, at its place, found by binary
+    /// search.
     pub fn insert(&mut self, c: Candidate)
         requires few { length self.old < 256 }
         requires absent { order.has_candidate c self.old ≡ false }
@@ -81,8 +84,9 @@ impl Queue {
         self.tasks.insert(place, c).unwrap();
     }
 
-    /// Takes out the task of the deadline and the number of `c`, found by binary search, and answers whether it was there. Its
-    /// home does not matter. Where it is not there nothing changes.
+    /// Takes out the task of the deadline and the number of `c`, found by binary search, and
+    /// answers whether it was there. Its home does not matter. Where it is not there nothing
+    /// changes.
     pub fn remove(&mut self, c: &Candidate) -> bool
         ensures removed { self.new ≡ order.without_candidate c.now self.old }
         ensures there { result ≡ order.has_candidate c.now self.old }

@@ -1,7 +1,7 @@
-//! A seat for a task: it stays where it stands, which is mostly where it belongs, else it goes to the CPU to which it belongs where that is free, else to the lowest
-//! free one.
+//! A seat for a task: it stays where it stands, which is mostly where it belongs, else it goes to
+//! the CPU to which it belongs where that is free, else to the lowest free one.
 
-ghost use Rattle.std.specs.Prelude.{◌≡◌, map, vec_len, vec_capacity, is_none, slice_get, position, IsTrue, true, Some, None, length, slice_index_or, ◌<◌};
+ghost use Rattle.std.specs.Prelude.{◌≡◌, vec_len, vec_capacity, is_none, slice_get, position, IsTrue, true, Some, None, length, slice_index_or, ◌<◌};
 ghost use Rattle.edf_pick.specs.Places as spec;
 
 use crate::candidate::Candidate;

@@ -9,15 +9,30 @@ use Rattle.grub_rules.specs.Sums.{Share, total_bw, this_bw, running_bw, uinact}
 
 -- runtime, relative deadline and period, without and with reclaiming
 abbrev plain : ℕ → ℕ → ℕ → ParamsView
-plain runtime deadline period = record { runtime = runtime; deadline = deadline; period = period; reclaim = false; bw = ratio period runtime }
+plain runtime deadline period =
+    record {
+      runtime = runtime;
+      deadline = deadline;
+      period = period;
+      reclaim = false;
+      bw = ratio period runtime;
+    }
 
 abbrev reclaiming : ℕ → ℕ → ℕ → ParamsView
-reclaiming runtime deadline period = record { runtime = runtime; deadline = deadline; period = period; reclaim = true; bw = ratio period runtime }
+reclaiming runtime deadline period =
+    record {
+      runtime = runtime;
+      deadline = deadline;
+      period = period;
+      reclaim = true;
+      bw = ratio period runtime;
+    }
 
 abbrev server : ℕ → ℕ → Server
 server deadline left = record { deadline = Some deadline; left = pos left }
 
--- 2 us of 4 in 8 are left: they are in step with a deadline of 8 at 4, and not later. Without a deadline there is no such time
+-- 2 us of 4 in 8 are left: they are in step with a deadline of 8 at 4, and not later. Without a
+-- deadline there is no such time
 zero_lag_ahead : zero_lag (plain 4 8 8) 2 (server 8 2097152) ≡ Some 4
 zero_lag_ahead = refl
 
@@ -25,13 +40,15 @@ zero_lag_come : zero_lag (plain 4 8 8) 4 (server 8 2097152) ≡ None
 zero_lag_come = refl
 
 -- with nothing left, or less, it is the deadline
-zero_lag_of_nothing : zero_lag (plain 4 8 8) 2 (record { deadline = Some 8; left = neg_ℤ (pos 3) }) ≡ Some 8
+zero_lag_of_nothing : zero_lag (plain 4 8 8) 2 (record { deadline = Some 8; left = neg_ℤ (pos 3) })
+    ≡ Some 8
 zero_lag_of_nothing = refl
 
 zero_lag_of_no_deadline : zero_lag (plain 4 8 8) 2 (record { deadline = None; left = pos 0 }) ≡ None
 zero_lag_of_no_deadline = refl
 
--- RECLAIMING EXAMPLE: two halves of a CPU; while the other is active the rate is one, then it is its own half
+-- RECLAIMING EXAMPLE: two halves of a CPU; while the other is active the rate is one, then it is
+-- its own half
 rate_beside_an_active : rate (reclaiming 4 8 8) 0 1048576 1 1048576 ≡ 1048576
 rate_beside_an_active = refl
 
@@ -48,7 +65,8 @@ rate_of_a_fraction = refl
 rate_above_one : rate (reclaiming 8 8 8) 0 1048576 2 524288 ≡ 2097152
 rate_above_one = refl
 
--- UEXTRA BELOW ZERO: an eighth of a CPU has 0.75 of one beside it, and the limit is a half. The rate is that of all 0.875
+-- UEXTRA BELOW ZERO: an eighth of a CPU has 0.75 of one beside it, and the limit is a half. The
+-- rate is that of all 0.875
 extra_below_zero : extra 917504 1 524288 ≡ neg_ℤ (pos 393216)
 extra_below_zero = refl
 

@@ -1,4 +1,5 @@
--- The rate at which a running task uses its budget up, in 1/2^20 (sched-deadline.rst, "Bandwidth reclaiming").
+-- The rate at which a running task uses its budget up, in 1/2^20 (sched-deadline.rst, "Bandwidth
+-- reclaiming").
 use Rattle.std.specs.Prelude.{ℕ, ℤ, pos, ◌-ℤ◌, ◌+◌, ◌-◌, ◌*◌, ◌/◌, max, unsigned_abs, if◌then◌else◌}
 use Rattle.std.specs.Int.{int_max}
 use Rattle.attr_check.specs.Ratio.{unit}
@@ -8,14 +9,19 @@ use Rattle.attr_check.specs.ParamsView.{ParamsView}
 abbrev pub div_up : ℕ → ℕ → ℕ
 div_up a b = (a + b - 1) / b
 
--- Uextra: what the domain could still give to each CPU, below zero where its tasks have more than that. Umax is the limit
+-- Uextra: what the domain could still give to each CPU, below zero where its tasks have more than
+-- that. Umax is the limit
 abbrev pub extra : ℕ → ℕ → ℕ → ℤ
 extra sum cpus limit = pos limit -ℤ pos (sum / cpus)
 
 -- max (u, Umax - Uinact - Uextra), which is never below zero, since u is not
 abbrev pub charged_bw : ParamsView → ℕ → ℕ → ℕ → ℕ → ℤ
-charged_bw p inactive sum cpus limit = int_max (pos p.bw) (pos limit -ℤ pos inactive -ℤ extra sum cpus limit)
+charged_bw p inactive sum cpus limit =
+    int_max (pos p.bw) (pos limit -ℤ pos inactive -ℤ extra sum cpus limit)
 
--- dq = -(max (u, Umax - Uinact - Uextra) / Umax) dt, rounded up and at least 1 (own); one where the task does not reclaim
+-- dq = -(max (u, Umax - Uinact - Uextra) / Umax) dt, rounded up and at least 1 (own); one where the
+-- task does not reclaim
 abbrev pub rate : ParamsView → ℕ → ℕ → ℕ → ℕ → ℕ
-rate p inactive sum cpus limit = if p.reclaim then max 1 (div_up (unsigned_abs (charged_bw p inactive sum cpus limit) * unit) limit) else unit
+rate p inactive sum cpus limit =
+    if p.reclaim
+    then max 1 (div_up (unsigned_abs (charged_bw p inactive sum cpus limit) * unit) limit) else unit

@@ -1,6 +1,8 @@
--- The bandwidth of a CPU's tasks, and of those that are active (sched-deadline.rst, "Bandwidth reclaiming").
+-- The bandwidth of a CPU's tasks, and of those that are active (sched-deadline.rst, "Bandwidth
+-- reclaiming").
 use Rattle.std.specs.Prelude.{ℕ, ◌-◌, ◌==◌, ◌&&◌, List, filter, sum_by}
--- a task as the sums see it: the CPU to which it belongs, its bandwidth, and whether it contends or has a zero-lag time ahead
+-- a task as the sums see it: the CPU to which it belongs, its bandwidth, and whether it contends or
+-- has a zero-lag time ahead
 pub use Rattle.grub_rules.specs.declared.share.Share.{Share}
 
 -- all of a domain

@@ -1,17 +1,19 @@
 //! Running sums of the bandwidth of a domain's tasks (sched-deadline.rst, "Bandwidth reclaiming").
 
-ghost use Rattle.std.specs.Prelude.{◌≡◌, ◌<◌, ◌≤◌, ◌^◌, ◌+◌, ◌-◌, ◌==◌, ◌↔◌, IsTrue, ℕ, if◌then◌else◌, List, [], ◌∷◌, ◌++◌, length, slice_index, sum, replicate, vec_len, vec_capacity, IfOk};
+ghost use Rattle.std.specs.Prelude.{◌≡◌, ◌<◌, ◌≤◌, ◌^◌, ◌+◌, ◌-◌, ◌==◌, ◌↔◌, IsTrue, ℕ, if◌then◌else◌, [], ◌∷◌, length, slice_index, sum, replicate, vec_len, vec_capacity, IfOk};
 ghost use Rattle.grub_rules.specs.Accounts.{AreAccounts, Holds, Exchanges, active_share, inactive_share, inactive_at};
 
 use crate::share::Share;
 use std::alloc::{AllocError, Global};
 use std::marker::Model;
 
-/// The running sums of a domain (sched-deadline.rst, "Bandwidth reclaiming"): for each CPU the bandwidth of the tasks that belong
-/// to it, this_bw, and of those of them that are active, running_bw, in 1/2^20 of a CPU.
+/// The running sums of a domain (sched-deadline.rst, "Bandwidth reclaiming"): for each CPU the
+/// bandwidth of the tasks that belong to it, this_bw, and of those of them that are active,
+/// running_bw, in 1/2^20 of a CPU.
 ///
-/// Each call tells it of one change of the list of tasks. So, of every list that the sums count, in whatever order, they count
-/// the list with that change afterwards. Sums with room for more or fewer than the CPUs cannot be built.
+/// Each call tells it of one change of the list of tasks. So, of every list that the sums count, in
+/// whatever order, they count the list with that change afterwards. Sums with room for more or
+/// fewer than the CPUs cannot be built.
 #[derive(Debug, Drop)]
 pub struct Accounts {
     all: Vec<u64>,
@@ -27,7 +29,8 @@ impl Model for Accounts {
 
     ghost view = { λ a. record { all = a.all.items; active = a.active.items; total = a.total } };
 
-    ghost invariant = { λ a. IsBalanced (record { all = a.all.items; active = a.active.items; total = a.total }) (vec_capacity a.all) (vec_capacity a.active) };
+    ghost invariant = { λ a. IsBalanced (record { all = a.all.items; active = a.active.items; total = a.total })
+        (vec_capacity a.all) (vec_capacity a.active) };
 }
 
 // A sum of 0 for each CPU, with room for no more.
@@ -70,8 +73,8 @@ fn subtract(sums: &mut Vec<u64>, cpu: usize, bw: u64)
 }
 
 impl Accounts {
-    /// The sums of no tasks, for so many CPUs; a domain has 1 to 64. The only call that takes memory; `Err` where a growth was
-    /// refused.
+    /// The sums of no tasks, for so many CPUs; a domain has 1 to 64. The only call that takes
+    /// memory; `Err` where a growth was refused.
     pub fn open(alloc: Global, cpus: usize) -> Result<Accounts, AllocError>
         ensures cpus { IfOk result (λ accounts. length accounts.all ≡ cpus) }
         ensures sums { IfOk result (λ accounts. AreAccounts accounts []) }
@@ -90,7 +93,8 @@ impl Accounts {
         self.all.len()
     }
 
-    /// Whether a share may go: it belongs to a CPU of the domain, which has so much bandwidth of its kind, active or not.
+    /// Whether a share may go: it belongs to a CPU of the domain, which has so much bandwidth of
+    /// its kind, active or not.
     pub fn holds(&self, share: &Share) -> bool
         ensures { IsTrue result ↔ Holds self.now share.now }
     {
@@ -104,7 +108,8 @@ impl Accounts {
         }
     }
 
-    /// A task goes on the list. The bandwidth of all tasks stays below 2^64, which 256 tasks of at most 2^20 each never reach.
+    /// A task goes on the list. The bandwidth of all tasks stays below 2^64, which 256 tasks of at
+    /// most 2^20 each never reach.
     pub fn join(&mut self, share: &Share)
         requires home { share.now.cpu < length self.old.all }
         requires fits { self.old.total + share.now.bw < 2 ^ 64 }
@@ -137,8 +142,8 @@ impl Accounts {
         add(&mut self.active, cpu, bw);
     }
 
-    /// A listed task of this CPU and bandwidth, active until now, becomes inactive: it does not contend, and its zero-lag time has
-    /// come.
+    /// A listed task of this CPU and bandwidth, active until now, becomes inactive: it does not
+    /// contend, and its zero-lag time has come.
     pub fn idle(&mut self, cpu: usize, bw: u64)
         requires { Holds self.old (active_share cpu bw) }
         ensures { Exchanges self.old self.new (active_share cpu bw ∷ []) (inactive_share cpu bw ∷ []) }
@@ -146,7 +151,8 @@ impl Accounts {
         subtract(&mut self.active, cpu, bw);
     }
 
-    /// A listed task, active or not, belongs to the CPU `to` from now on, and its bandwidth goes with it.
+    /// A listed task, active or not, belongs to the CPU `to` from now on, and its bandwidth goes
+    /// with it.
     pub fn shift(&mut self, share: &Share, to: usize)
         requires held { Holds self.old share.now }
         requires home { to < length self.old.all }
@@ -160,8 +166,8 @@ impl Accounts {
         }
     }
 
-    /// The share of a listed task was `before` and is `after` now: its CPU, its bandwidth and whether it is active may all have
-    /// changed, or nothing.
+    /// The share of a listed task was `before` and is `after` now: its CPU, its bandwidth and
+    /// whether it is active may all have changed, or nothing.
     pub fn track(&mut self, before: &Share, after: &Share)
         requires held { Holds self.old before.now }
         requires home { after.now.cpu < length self.old.all }

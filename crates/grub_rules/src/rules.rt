@@ -1,7 +1,6 @@
 //! Zero-lag times and the reclaiming rate (sched-deadline.rst, "Bandwidth reclaiming").
 
-ghost use Rattle.std.specs.Prelude.{◌≡◌, ◌<◌, ◌≤◌, ◌^◌, ◌+◌, ◌*◌, ◌/◌, ◌-◌, max, pos, neg_ℤ, ◌≤ℤ◌, IfSome};
-ghost use Rattle.attr_check.specs.ParamsView.{IsOrdered};
+ghost use Rattle.std.specs.Prelude.{◌≡◌, ◌<◌, ◌≤◌, ◌^◌, ◌+◌, ◌*◌, ◌/◌, ◌-◌, max, pos, ◌≤ℤ◌};
 ghost use Rattle.attr_check.specs.Ratio.{cap};
 ghost use Rattle.cbs_rules.specs.Budget.{above_zero, budget};
 ghost use Rattle.grub_rules.specs.Lag as lag;
@@ -23,8 +22,8 @@ fn lag_of(server: &Server, params: &Params) -> u128
     left * u128::from(params.period) / u128::from(params.runtime * UNIT)
 }
 
-/// The zero-lag time of a task that stops contending at this time, in microseconds: until then its bandwidth stays active.
-/// None where it is inactive at once. Takes no memory.
+/// The zero-lag time of a task that stops contending at this time, in microseconds: until then its
+/// bandwidth stays active. None where it is inactive at once. Takes no memory.
 pub fn zero_lag(server: &Server, params: &Params, time: u64) -> Option<u64>
     requires { server.now.left ≤ℤ pos (2 ^ 63) }
     ensures { result ≡ lag.zero_lag params.now time server.now }
@@ -35,9 +34,10 @@ pub fn zero_lag(server: &Server, params: &Params, time: u64) -> Option<u64>
     if zero <= time { None } else { Some(zero) }
 }
 
-/// The rate at which a running task uses its budget up, in 1/2^20: one where it does not reclaim, else its share of the
-/// domain's limit, where what is inactive on its CPU and what the domain could still give away count as free. `sum` is the
-/// bandwidth of all tasks of the domain, `uinact` what is inactive on the task's CPU. Takes no memory.
+/// The rate at which a running task uses its budget up, in 1/2^20: one where it does not reclaim,
+/// else its share of the domain's limit, where what is inactive on its CPU and what the domain
+/// could still give away count as free. `sum` is the bandwidth of all tasks of the domain, `uinact`
+/// what is inactive on the task's CPU. Takes no memory.
 pub fn rate(params: &Params, uinact: u64, sum: u64, cpus: u64, limit: u64) -> u64
     requires uinact { uinact ≤ 2 ^ 26 }
     requires sum { sum ≤ 2 ^ 26 }

@@ -1,4 +1,5 @@
--- The steps on a spine's table (own). All are loads of its one word, each by one seat on its own view.
+-- The steps on a spine's table (own). All are loads of its one word, each by one seat on its own
+-- view.
 use Rattle.std.specs.Prelude.{ℕ, ◌≡◌, true, false, List, [], ◌∷◌, ◌++◌, map, take, drop, All}
 use Rattle.atomic_table.specs.Table.{Step, Me}
 use Rattle.pass_seats.specs.declared.view.Mine.{Mine}
@@ -39,7 +40,8 @@ module _ {E : Type 0} where
   abbrev pub Appends : {S : Type 0} → List E → Step S → Me S (View E) → ℕ → Me S (View E) → Type 0
   Appends said s me n after = after ≡ (with_entries said me.0, me.1)
 
-  -- agree: nothing changes, and each pass in the spine's view has exactly the spine's entries of its client
+  -- agree: nothing changes, and each pass in the spine's view has exactly the spine's entries of
+  -- its client
   abbrev pub Agrees : {S : Type 0} → Step S → Me S (View E) → ℕ → Me S (View E) → Type 0
   Agrees s me n after =
       (after ≡ me)

@@ -1,5 +1,6 @@
--- The table under a spine, and the rule that holds between any two steps on it (own): there is one list of entries, which
--- the spine has; each client has at most one pass; and each pass has exactly the list's entries of its client.
+-- The table under a spine, and the rule that holds between any two steps on it (own): there is one
+-- list of entries, which the spine has; each client has at most one pass; and each pass has exactly
+-- the list's entries of its client.
 use Rattle.std.specs.Prelude.{ℕ, true, ◌≡◌, ◌≤◌, ◌+◌, ◌==◌, if◌then◌else◌, List, [], ◌∷◌, zero, suc, sum_by, All}
 use Rattle.pass_seats.specs.declared.view.Mine.{Mine}
 use Rattle.pass_seats.specs.declared.view.View.{View}
@@ -13,8 +14,8 @@ module _ {E : Type 0} where
   abbrev pub spines : List (View E) → ℕ
   spines views = sum_by spine_in views
 
-  -- how many passes of a client all views have: a pass alone is a view of one, and while a spine works with a pass, both
-  -- are one view
+  -- how many passes of a client all views have: a pass alone is a view of one, and while a spine
+  -- works with a pass, both are one view
   abbrev pub pass_in : ℕ → Mine E → ℕ
   pass_in c p = if p.client == c then 1 else 0
 

@@ -7,7 +7,8 @@ pub record SpineView (E : Type 0) : Type 0 where
   pub spine : TableId
   pub log : List (ℕ × E)
 
--- a pass: the spine that it is used with, its client, and the entries that were made with it, oldest first
+-- a pass: the spine that it is used with, its client, and the entries that were made with it,
+-- oldest first
 pub record PassView (E : Type 0) : Type 0 where
   pub spine : TableId
   pub client : ℕ

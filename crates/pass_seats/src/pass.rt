@@ -2,8 +2,8 @@ use crate::view::View;
 use atomic_table::Badge;
 use std::marker::Model;
 
-/// A client's list of the entries that it made in one spine, oldest first. To a contract it is its spine, its client and the
-/// list. It may be dropped.
+/// A client's list of the entries that it made in one spine, oldest first. To a contract it is its
+/// spine, its client and the list. It may be dropped.
 #[derive(Drop)]
 pub struct Pass<E> {
     pub(crate) badge: Badge<View<E>>,
@@ -18,9 +18,14 @@ impl<E> Model for Pass<E> {
 
     ghost Value = { PassView E };
 
-    ghost view = { λ p. record { spine = p.badge.table_id; client = p.client; entries = entries_of p.badge.views } };
+    ghost view = { λ p. record {
+      spine = p.badge.table_id;
+      client = p.client;
+      entries = entries_of p.badge.views;
+    } };
 
-    ghost invariant = { λ p. (p.badge.views ≡ pass_view p.client (entries_of p.badge.views) ∷ []) × (p.made ≡ length (entries_of p.badge.views)) };
+    ghost invariant = { λ p. (p.badge.views ≡ pass_view p.client (entries_of p.badge.views) ∷ [])
+        × (p.made ≡ length (entries_of p.badge.views)) };
 }
 
 impl<E> Pass<E> {

@@ -9,7 +9,8 @@ use std::alloc::Global;
 use std::marker::{Brand, Model};
 use std::mem;
 
-/// A list of entries, each of a client. To a contract it is its identity and the list; no entry is kept when it runs.
+/// A list of entries, each of a client. To a contract it is its identity and the list; no entry is
+/// kept when it runs.
 #[derive(Drop)]
 pub struct Spine<E> {
     table: Table<(), View<E>, u32, Listed, Global>,
@@ -24,15 +25,17 @@ impl<E> Model for Spine<E> {
 
     ghost view = { λ s. record { spine = s.table.shared.table_id; log = s.seat.me.0.log } };
 
-    ghost invariant = { λ s. (s.table.shared.table_id.words ≡ 1) × (s.seat.table_id ≡ s.table.shared.table_id) × (s.seat.me ≡ (record { is_spine = true; log = s.seat.me.0.log; passes = [] }, [])) };
+    ghost invariant = { λ s. (s.table.shared.table_id.words ≡ 1) × (s.seat.table_id ≡ s.table.shared.table_id)
+        × (s.seat.me ≡ (record { is_spine = true; log = s.seat.me.0.log; passes = [] }, [])) };
 }
 
 impl<E> Spine<E> {
     ghost use Rattle.std.specs.Prelude.{◌≡◌, ◌<◌, ◌≤◌, ◌+◌, ◌^◌, ◌++◌, ◌∷◌, [], ℕ, length, slice_get, IfOk};
     ghost use Rattle.pass_seats.specs.Lists.{own};
 
-    /// A spine with no entry, and a pass for each of so many clients, numbered from 1. It is the one call that takes memory.
-    /// [`NoMemory`] (ENOMEM 12) where a growth was refused: nothing stands.
+    /// A spine with no entry, and a pass for each of so many clients, numbered from 1. It is the
+    /// one call that takes memory. [`NoMemory`] (ENOMEM 12) where a growth was refused: nothing
+    /// stands.
     pub fn open(alloc: Global, clients: u32) -> Result<(Spine<E>, Vec<Pass<E>>), NoMemory>
         ensures spine { IfOk result (λ r. r.0.log ≡ []) }
         ensures count { IfOk result (λ r. length r.1.items ≡ clients) }
@@ -45,8 +48,8 @@ impl<E> Spine<E> {
         Ok((Spine { table, seat }, passes))
     }
 
-    /// Adds an entry to both lists: to the spine as one of the pass's client, and to the pass. A pass is used with its own
-    /// spine, and has fewer than 2^32 entries.
+    /// Adds an entry to both lists: to the spine as one of the pass's client, and to the pass. A
+    /// pass is used with its own spine, and has fewer than 2^32 entries.
     pub fn append(&mut self, pass: &mut Pass<E>, entry: &E)
         requires own { pass.old.spine ≡ self.old.spine }
         requires room { length pass.old.entries < 2 ^ 32 }
@@ -60,7 +63,8 @@ impl<E> Spine<E> {
         self.append_as::<Brand>(pass, entry);
     }
 
-    // The same, with the entry named by a ghost member, since a step announces no value of a type of the caller's.
+    // The same, with the entry named by a ghost member, since a step announces no value of a type
+    // of the caller's.
     fn append_as<J: Said<E>>(&mut self, pass: &mut Pass<E>, entry: &E)
         requires said { J.said ≡ entry.now ∷ [] }
         requires own { pass.old.spine ≡ self.old.spine }
@@ -83,7 +87,8 @@ impl<E> Spine<E> {
         pass.made += 1;
     }
 
-    /// Compares a pass with its spine, which changes neither: the pass's list is exactly the spine's entries of its client.
+    /// Compares a pass with its spine, which changes neither: the pass's list is exactly the
+    /// spine's entries of its client.
     pub fn agree(&mut self, pass: &mut Pass<E>)
         requires { pass.old.spine ≡ self.old.spine }
         ensures spine { self.new ≡ self.old }

@@ -8,7 +8,8 @@ pub struct Mine<E> {
     pub entries: LinkedList<E>,
 }
 
-/// What a seat at the table knows: whether it is the spine's, and then its entries, and the passes. No value of it is made.
+/// What a seat at the table knows: whether it is the spine's, and then its entries, and the passes.
+/// No value of it is made.
 pub struct View<E> {
     pub is_spine: bool,
     pub log: LinkedList<(u32, E)>,

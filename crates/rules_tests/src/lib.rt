@@ -1,5 +1,5 @@
-//! The tests of the rules for attributes, budgets, reclaiming, placing and ticks, apart from them, so that the gate proves each of
-//! those crates once.
+//! The tests of the rules for attributes, budgets, reclaiming, placing and ticks, apart from them,
+//! so that the gate proves each of those crates once.
 #![tactic(auto)]
 
 #[cfg(test)]

@@ -194,7 +194,8 @@ fn charges_in_order<R: Threads + Wait + Clock + Sync>(
     Ok(!order.late.load(Ordering::SeqCst))
 }
 
-// all-workers-on-one-thread: in either order of two pieces, who works on the one waits for who works on the other.
+// all-workers-on-one-thread: in either order of two pieces, who works on the one waits for who
+// works on the other.
 #[test]
 fn two_workers_wait_for_each_other(rt: HostRuntime) -> Result<(), Fail> {
     assert!(rt; plans_in_order(&rt, rt.alloc(), 0)?);
@@ -272,8 +273,8 @@ fn each_piece_has_one_turn(rt: HostRuntime) -> Result<(), Fail> {
     Ok(())
 }
 
-// Run with each growth refused in turn, and where no thread or one alone can be started: the plans are as before, and one worker
-// then makes them.
+// Run with each growth refused in turn, and where no thread or one alone can be started: the plans
+// are as before, and one worker then makes them.
 #[test]
 fn refused_growth_of_plan_all(rt: HostRuntime) -> Result<(), Fail> {
     let mut all = plans()?;
@@ -285,8 +286,8 @@ fn refused_growth_of_plan_all(rt: HostRuntime) -> Result<(), Fail> {
     Ok(())
 }
 
-// Run with each growth refused in turn, and where no thread or one alone can be started: the slices are as before, and one worker
-// then charges them.
+// Run with each growth refused in turn, and where no thread or one alone can be started: the slices
+// are as before, and one worker then charges them.
 #[test]
 fn refused_growth_of_charge_all(rt: HostRuntime) -> Result<(), Fail> {
     let mut all = slices();

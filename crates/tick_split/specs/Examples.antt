@@ -17,7 +17,8 @@ just_spent = refl
 a_minute : charged (slice (pos 1) 1 60000000) ≡ slice (neg_ℤ (pos 59999999)) 1 60000000
 a_minute = refl
 
--- a plan with 4 us left at the rate of "fraction and carry": something is left after 7 ticks, and nothing after 8
+-- a plan with 4 us left at the rate of "fraction and carry": something is left after 7 ticks, and
+-- nothing after 8
 left_after_seven : (pos 4194304 -ℤ pos (551883 * 7)) ≡ pos 331123
 left_after_seven = refl
 

@@ -7,4 +7,5 @@ piece_start k pieces len = k * len / pieces
 
 -- piece k: from its beginning up to and without the next one's
 abbrev pub piece_of : {X : Type 0} → ℕ → ℕ → List X → List X
-piece_of k pieces xs = slice_range xs (piece_start k pieces (length xs)) (piece_start (k + 1) pieces (length xs))
+piece_of k pieces xs =
+    slice_range xs (piece_start k pieces (length xs)) (piece_start (k + 1) pieces (length xs))

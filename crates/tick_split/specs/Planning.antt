@@ -1,4 +1,5 @@
--- The rate of a running task, and when its budget ends (sched-deadline.rst, "Bandwidth reclaiming").
+-- The rate of a running task, and when its budget ends (sched-deadline.rst, "Bandwidth
+-- reclaiming").
 use Rattle.std.specs.Prelude.{ℕ, pos, ◌≡◌, ◌<◌, ◌≤◌, ◌*◌, ◌^◌, ◌-ℤ◌, ◌<ℤ◌, ◌≤ℤ◌}
 use Rattle.tick_split.specs.declared.element.Plan.{Plan}
 use Rattle.grub_rules.specs.Rate as rates
@@ -14,8 +15,8 @@ pub record IsPlannable (p : Plan) : Type 0 where
   pub some_left : pos 0 <ℤ p.left
   pub most_left : p.left ≤ℤ pos (2 ^ 63)
 
--- a plan and what becomes of it: the rate is the reclaiming rate; `spent` is the first tick, counted from 1, after which nothing
--- is left at that rate; all else stays
+-- a plan and what becomes of it: the rate is the reclaiming rate; `spent` is the first tick,
+-- counted from 1, after which nothing is left at that rate; all else stays
 pub record IsPlanned (before after : Plan) : Type 0 where
   pub rate : after.rate ≡ rates.rate before.params before.uinact before.sum before.cpus before.limit
   pub from_one : 1 ≤ after.spent

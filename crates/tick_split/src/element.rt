@@ -1,6 +1,7 @@
 use attr_check::Params;
 
-/// A running task before a jump: what its rate depends on, what is left of its budget, and the two numbers that are worked out.
+/// A running task before a jump: what its rate depends on, what is left of its budget, and the two
+/// numbers that are worked out.
 #[derive(Clone, Copy, Debug, PartialEq, Eq)]
 pub struct Plan {
     /// The task's parameters.
@@ -15,10 +16,11 @@ pub struct Plan {
     pub limit: u64,
     /// Budget left, in 1/2^20 us, above 0 and at most 2^63.
     pub left: i128,
-    /// Worked out: the rate at which the task uses its budget up, in 1/2^20, at least 1; at most 2^27 where the domain is within its
-    /// cap.
+    /// Worked out: the rate at which the task uses its budget up, in 1/2^20, at least 1; at most
+    /// 2^27 where the domain is within its cap.
     pub rate: u64,
-    /// Worked out: the first tick, counted from 1, after which nothing is left at that rate, in microseconds.
+    /// Worked out: the first tick, counted from 1, after which nothing is left at that rate, in
+    /// microseconds.
     pub spent: u64,
 }
 

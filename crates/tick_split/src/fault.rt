@@ -3,8 +3,8 @@ use std::error::Error;
 use std::fmt;
 use std::thread::SpawnError;
 
-/// A worker was not started, or a growth was refused. What the call worked on is as before, and the caller can do it with one
-/// worker, which needs neither. It prints as `no worker`.
+/// A worker was not started, or a growth was refused. What the call worked on is as before, and the
+/// caller can do it with one worker, which needs neither. It prints as `no worker`.
 #[derive(Clone, Copy, Debug, PartialEq, Eq)]
 pub struct StartFault;
 

@@ -1,8 +1,10 @@
 //! Rates and charges of many running tasks, by one worker or by several, with the same result.
 //!
-//! Meets the definitions "Plans" (`specs/Planning.antt`), "Charges" (`specs/Charging.antt`) and "Pieces" (`specs/Pieces.antt`). To the
-//! crates above it promises that each element of a list becomes exactly what it would alone, whatever the number of workers; that the
-//! list is as before where a worker was not started or a growth was refused; and that work in one piece needs neither.
+//! Meets the definitions "Plans" (`specs/Planning.antt`), "Charges" (`specs/Charging.antt`) and
+//! "Pieces" (`specs/Pieces.antt`). To the crates above it promises that each element of a list
+//! becomes exactly what it would alone, whatever the number of workers; that the list is as before
+//! where a worker was not started or a growth was refused; and that work in one piece needs
+//! neither.
 #![tactic(auto)]
 
 mod element;

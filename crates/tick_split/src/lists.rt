@@ -13,13 +13,15 @@ use std::alloc::Global;
 use std::sync::Wait;
 use std::thread::Threads;
 
-/// Plans each element as [`plan`](crate::plan) does, by so many workers at most (1 to 8 are meant). There are min(workers, elements)
-/// pieces, each worked on in a thread of its own; with one piece or none it is done here, which starts no thread, takes no memory and
-/// is always Ok. Each piece has its [`Turn`].
+/// Plans each element as [`plan`](crate::plan) does, by so many workers at most (1 to 8 are meant).
+/// There are min(workers, elements) pieces, each worked on in a thread of its own; with one piece
+/// or none it is done here, which starts no thread, takes no memory and is always Ok. Each piece
+/// has its [`Turn`].
 ///
 /// # Errors
 ///
-/// [`StartFault`] where a worker was not started or a growth was refused: all is as before, though turns may have been called.
+/// [`StartFault`] where a worker was not started or a growth was refused: all is as before, though
+/// turns may have been called.
 pub fn plan_all<R: Threads + Wait, G: Turn>(
     rt: &R,
     alloc: Global,
@@ -36,12 +38,13 @@ pub fn plan_all<R: Threads + Wait, G: Turn>(
     work_all(rt, alloc, plans, workers, turn)
 }
 
-/// Charges each element as [`charge`](crate::charge) does, by so many workers at most; pieces, threads and turns are those of
-/// [`plan_all`].
+/// Charges each element as [`charge`](crate::charge) does, by so many workers at most; pieces,
+/// threads and turns are those of [`plan_all`].
 ///
 /// # Errors
 ///
-/// [`StartFault`] where a worker was not started or a growth was refused: all is as before, though turns may have been called.
+/// [`StartFault`] where a worker was not started or a growth was refused: all is as before, though
+/// turns may have been called.
 pub fn charge_all<R: Threads + Wait, G: Turn>(
     rt: &R,
     alloc: Global,

@@ -8,8 +8,9 @@ ghost use Rattle.tick_split.specs.private.Planned.{planned};
 use crate::element::{Plan, Slice};
 use cbs_rules::Server;
 
-/// Sets the rate at which a running task uses its budget up, in 1/2^20, and the first tick, counted from 1, after which nothing is
-/// left at that rate; the ranges of [`Plan`] are conditions. Takes no memory and starts no thread.
+/// Sets the rate at which a running task uses its budget up, in 1/2^20, and the first tick, counted
+/// from 1, after which nothing is left at that rate; the ranges of [`Plan`] are conditions. Takes
+/// no memory and starts no thread.
 pub fn plan(plan: &mut Plan)
     requires { IsPlannable plan.old }
     ensures { IsPlanned plan.old plan.new }
@@ -27,8 +28,8 @@ pub(crate) fn work_out(plan: &mut Plan)
     plan.spent = (plan.left as u64).div_ceil(rate);
 }
 
-/// Lowers a running task's budget by its rate for each of its ticks, below zero too; the ranges of [`Slice`] are conditions. Takes no
-/// memory and starts no thread.
+/// Lowers a running task's budget by its rate for each of its ticks, below zero too; the ranges of
+/// [`Slice`] are conditions. Takes no memory and starts no thread.
 pub fn charge(slice: &mut Slice)
     requires { IsChargeable slice.old }
     ensures { slice.new ≡ charged slice.old }

@@ -41,7 +41,8 @@ impl Work for Slice {
     }
 }
 
-/// The promise of a worker that was given this piece: the piece comes back with each element worked on.
+/// The promise of a worker that was given this piece: the piece comes back with each element worked
+/// on.
 #[derive(Drop)]
 pub(crate) struct Worked<W>(pub(crate) Snapshot<Vec<W>>);
 

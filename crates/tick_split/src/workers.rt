@@ -95,7 +95,8 @@ fn put_back<W: Work>(items: &mut [W], parts: &[Vec<W>])
     }
 }
 
-/// Works on copies of the pieces, each in a worker of its own, into which it is moved and from which it comes back with the join.
+/// Works on copies of the pieces, each in a worker of its own, into which it is moved and from
+/// which it comes back with the join.
 fn work_apart<R: Threads + Wait, W: Work, G: Turn>(
     rt: &R,
     alloc: Global,
@@ -124,7 +125,8 @@ fn work_apart<R: Threads + Wait, W: Work, G: Turn>(
     )
 }
 
-/// Works on each element, in at most so many workers. In one piece it is done here, with no thread and no memory.
+/// Works on each element, in at most so many workers. In one piece it is done here, with no thread
+/// and no memory.
 pub(crate) fn work_all<R: Threads + Wait, W: Work, G: Turn>(
     rt: &R,
     alloc: Global,

@@ -1,4 +1,5 @@
-//! The tests of the bandwidth word, its gate and the passes, apart from them, so that the gate proves each of those crates once.
+//! The tests of the bandwidth word, its gate and the passes, apart from them, so that the gate
+//! proves each of those crates once.
 #![tactic(auto)]
 
 #[cfg(test)]

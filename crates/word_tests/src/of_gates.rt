@@ -1,4 +1,4 @@
-ghost use Rattle.std.specs.Prelude.{◌≡◌, ◌<◌, ◌≤◌, ◌^◌, length, All, IfOk, IfSome};
+ghost use Rattle.std.specs.Prelude.{◌≡◌, ◌<◌, ◌≤◌, ◌^◌, length, All, IfOk};
 ghost use Rattle.bw_world.specs.WorldStep.{unit};
 ghost use Rattle.bw_gate.specs.Pieces.{cap_of};
 
@@ -67,8 +67,8 @@ fn refused(rt: &impl Abort, gate: &Gate, blank: Blank, bw: u64) -> (Blank, u64)
     }
 }
 
-// full_domain_and_no_bandwidth: 500 / 1000 fills the domain, 2 / 100 is refused, and 2 us of 4 s, which is no bandwidth,
-// has room still.
+// full_domain_and_no_bandwidth: 500 / 1000 fills the domain, 2 / 100 is refused, and 2 us of 4 s,
+// which is no bandwidth, has room still.
 #[test]
 fn full_domain_and_no_bandwidth(rt: HostRuntime) -> Result<(), Fail> {
     let (gate, mut blanks) = opened(rt.alloc(), 524288, 3)?;
@@ -81,7 +81,8 @@ fn full_domain_and_no_bandwidth(rt: HostRuntime) -> Result<(), Fail> {
     Ok(())
 }
 
-// refused_then_given_back: two thirds of a CPU leave no room for as much again, until they are given back.
+// refused_then_given_back: two thirds of a CPU leave no room for as much again, until they are
+// given back.
 #[test]
 fn refused_then_given_back(rt: HostRuntime) -> Result<(), Fail> {
     let (gate, mut blanks) = opened(rt.alloc(), 1048576, 2)?;
@@ -146,7 +147,8 @@ fn regrade_changes_and_is_refused(rt: HostRuntime) -> Result<(), Fail> {
     Ok(())
 }
 
-// Run with each allocation refused in turn: a gate that was refused leaves nothing, and can be opened then.
+// Run with each allocation refused in turn: a gate that was refused leaves nothing, and can be
+// opened then.
 #[test]
 fn refused_growth_of_open(rt: HostRuntime) -> Result<(), Fail> {
     let (gate, blanks) = match opened(rt.alloc(), 1048576, 4096) {

@@ -25,8 +25,8 @@ fn opened(alloc: Global) -> Result<(Spine<u8>, Vec<Pass<u8>>), NoMemory>
     Spine::open(alloc, 2)
 }
 
-// Two clients append in turn, and both passes agree with the spine. Run with each allocation refused in turn: a spine that
-// was refused leaves nothing, and can be opened then.
+// Two clients append in turn, and both passes agree with the spine. Run with each allocation
+// refused in turn: a spine that was refused leaves nothing, and can be opened then.
 #[test]
 fn two_clients_append_in_turn(rt: HostRuntime) -> Result<(), Fail> {
     let (mut spine, mut passes) = match opened(rt.alloc()) {

@@ -68,7 +68,8 @@ fn world_steps_by_apply(rt: HostRuntime) -> Result<(), Fail> {
     Ok(())
 }
 
-// Run with each allocation refused in turn: the steps after those that are applied can be done then.
+// Run with each allocation refused in turn: the steps after those that are applied can be done
+// then.
 #[test]
 fn world_steps_by_run_all(rt: HostRuntime) -> Result<(), Fail> {
     let mut world = opened(rt.alloc())?;
@@ -85,7 +86,8 @@ fn world_steps_by_run_all(rt: HostRuntime) -> Result<(), Fail> {
     Ok(())
 }
 
-// Run with each allocation refused in turn: lists that outgrow their first room, by each step that lengthens one.
+// Run with each allocation refused in turn: lists that outgrow their first room, by each step that
+// lengthens one.
 #[test]
 fn refused_growth_of_full_lists(rt: HostRuntime) -> Result<(), Fail> {
     let mut world = opened(rt.alloc())?;

@@ -4,8 +4,8 @@ use crate::view::View;
 use atomic_table::Seat;
 use std::marker::Model;
 
-/// Which gate it is: a token for whoever keeps pieces of one gate and not the gate itself. It is no piece and holds no
-/// bandwidth. To a contract it is the gate's identity.
+/// Which gate it is: a token for whoever keeps pieces of one gate and not the gate itself. It is no
+/// piece and holds no bandwidth. To a contract it is the gate's identity.
 #[derive(Drop)]
 pub struct Mark {
     seat: Seat<(), View>,

@@ -11,7 +11,9 @@ staying chosen (Some n) = if list_any (λ c. c.number == n) chosen then Some n e
 
 -- whose CPU is marked stays
 abbrev pub AreStaying : List Candidate → Places → List Bool → Type 0
-AreStaying chosen places marks = (cpu : ℕ) → slice_index_or marks cpu false ≡ true → staying chosen (slice_index_or places cpu None) ≡ slice_index_or places cpu None
+AreStaying chosen places marks =
+    (cpu : ℕ) → slice_index_or marks cpu false ≡ true
+    → staying chosen (slice_index_or places cpu None) ≡ slice_index_or places cpu None
 
 -- the chosen tasks, seated one after another
 abbrev pub seated_all : List Candidate → Places → Places

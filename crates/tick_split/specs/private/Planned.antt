@@ -1,4 +1,5 @@
--- What becomes of a plan, as a function; that it is the one of specs/Planning.antt is proved in proofs/Spending.antt.
+-- What becomes of a plan, as a function; that it is the one of specs/Planning.antt is proved in
+-- proofs/Spending.antt.
 use Rattle.std.specs.Prelude.{ℕ}
 use Rattle.std.specs.Int.{div_ceil}
 use Rattle.cbs_rules.specs.Budget.{above_zero}

@@ -13,8 +13,8 @@ use std::thread::{Threads, join, map_vec, yield_now};
 
 const QUARTER: u64 = 262144;
 
-// Waits until all of so many clients are here, so that they run at once. It gives up after many turns: where a thread could
-// not be started, the clients come one after another.
+// Waits until all of so many clients are here, so that they run at once. It gives up after many
+// turns: where a thread could not be started, the clients come one after another.
 fn arrive(here: &AtomicUsize, all: usize) {
     here.fetch_add(1, Ordering::SeqCst);
     for _ in 0..1000000 {
@@ -99,7 +99,8 @@ fn four<R: Threads + Wait + Sync>(
     )
 }
 
-// Eight clients at once: what each of them has at its end, in one of two lists that have room for eight.
+// Eight clients at once: what each of them has at its end, in one of two lists that have room for
+// eight.
 fn eight<R: Threads + Wait + Sync + Abort>(
     rt: &R,
     gate: &Gate,
@@ -249,8 +250,8 @@ fn those_at(blanks: &[Blank], seen: u64) -> usize {
     blanks.iter().filter(|b| b.last() == seen).count()
 }
 
-// eight_threads_four_taken: one CPU has room for four quarters, whichever clients take them. The other four have seen it
-// full.
+// eight_threads_four_taken: one CPU has room for four quarters, whichever clients take them. The
+// other four have seen it full.
 #[test]
 fn eight_threads_four_taken(rt: HostRuntime) -> Result<(), Fail> {
     let (gate, blanks) = opened(rt.alloc(), 1048576, 8)?;
