@@ -24,6 +24,9 @@ admit 1 3 t-2 500 1000 1000 - 0 -1:1{r100,s900}
 pub(super) const TWO_DOMAINS: &[u8] =
     br#"{"tasks":{"a":{"instance":3,"cpus":[0],"policy":"SCHED_DEADLINE","dl-runtime":100,"dl-period":1000,"run":50,"timer":{"ref":"unique","period":1000}},"b":{"instance":3,"cpus":[1],"policy":"SCHED_DEADLINE","dl-runtime":100,"dl-period":1000,"run":50,"timer":{"ref":"unique","period":1000}}},"global":{"duration":1}}"#;
 
+const TWO_WORDS: &[u8] =
+    br#"{"tasks":{"a":{"instance":2,"cpus":[0],"policy":"SCHED_DEADLINE","dl-runtime":600,"dl-period":1000,"run":100},"b":{"cpus":[1],"policy":"SCHED_DEADLINE","dl-runtime":600,"dl-period":1000,"run":100}},"global":{"duration":0}}"#;
+
 pub(super) const MEMBER_ORDER: &[u8] =
     br#"{"tasks":{"p":{"policy":"SCHED_DEADLINE","dl-runtime":5,"dl-period":10,"phases":{"light":{"loop":2,"run0":3,"sleep1":7},"heavy":{"run0":4,"sleep1":2,"run2":1}}}},"global":{"duration":0}}"#;
 
@@ -172,6 +175,17 @@ fn two_domains(rt: HostRuntime) -> Result<(), Fail> {
         lines.next().is_some_and(|l| l.contains("[001] d..2.     0.000000: ")
             && l.contains("next_comm=b-0 next_pid=1004 "))
     );
+    Ok(())
+}
+
+// Two domains of one CPU, and one client: the word that refused task 2 in the first says nothing of the second.
+#[test]
+fn word_of_another_domain(rt: HostRuntime) -> Result<(), Fail> {
+    let options = options_on(vec![in rt.alloc(); 1, 1]?, 1, Print::Trace);
+    let (said, written, report) = ran(&rt, rt.alloc(), TWO_WORDS, &options)?;
+    assert_eq!(rt; said.as_str(), "task 2 EBUSY 16 seen 629145\n");
+    assert_eq!(rt; written.as_str(), HEADER);
+    assert!(rt; report.is_some_and(|r| r.words.as_slice() == [629145, 629145].as_slice()));
     Ok(())
 }
 
