@@ -4,3 +4,4 @@ pub mod Closed
 pub mod Admitted
 pub mod Advanced
 pub mod CallerLemmas
+pub mod Replied
