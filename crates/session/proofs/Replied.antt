@@ -1,5 +1,5 @@
 -- Calls under a domain's lock, other than admissions.
-use Rattle.std.proofs.Common.{◌≡◌, ℕ, Option, None, Ok, Err, sym, ap, subst}
+use Rattle.std.proofs.Common.{◌≡◌, ℕ, None, Ok, Err, sym, ap, subst}
 use Rattle.std.specs.Prelude.{Result, IfOk, IfErr}
 use Rattle.attr_check.specs.ParamsView.{ParamsView}
 use Rattle.pass_seats.specs.Lists.{PassView}

@@ -1,8 +1,7 @@
 use Rattle.std.proofs.Common.{◌≡◌, ◌<◌, length, map, set, get_or, sym, ap, subst, ◌∙◌, arith}
 use Rattle.pass_seats.specs.Lists.{PassView}
 use Rattle.call_book.specs.declared.section.Entry.{Entry}
-use Rattle.domain_run.specs.declared.call.Call.{Call}
-use Rattle.session.specs.Asks.{Answer, ClientView}
+use Rattle.session.specs.Asks.{ClientView}
 use Rattle.session.specs.private.Entering.{pass_after}
 use Rattle.session.proofs.Asked.{makes_at, done_for}
 use Rattle.session.proofs.client.Client.enter.Goals.{in-Some+in-Some-1, in-Some+in-None-1, in_default}
