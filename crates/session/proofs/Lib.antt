@@ -5,3 +5,4 @@ pub mod Admitted
 pub mod Advanced
 pub mod CallerLemmas
 pub mod Replied
+pub mod Passes
