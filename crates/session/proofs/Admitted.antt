@@ -11,7 +11,7 @@ use Rattle.bw_gate.specs.Pieces.{BlankView}
 use Rattle.call_book.specs.declared.section.Entry.{Entry}
 use Rattle.session.specs.declared.refusal.Refusal.{Refusal}
 use Rattle.session.specs.SessionId.{SessionId}
-use Rattle.session.specs.Asks.{Answer, IsLawful, Asked, Made, made_in, made_at, call_of, domain_of, entries_from, ClientView, pass_in, followed_by, Makes, Asks, IsHandAfterAll}
+use Rattle.session.specs.Asks.{Answer, IsLawful, Asked, Made, made_in, made_at, call_of, domain_of, entries_from, ClientView, pass_in, followed_by, Asks, IsHandAfterAll}
 use Rattle.session.specs.Admissions.{is_own, own_asked, refusal_of, refused_in}
 use Rattle.session.specs.Admissions.{AllAsked}
 use Rattle.session.proofs.Closed.{by_place_more}

@@ -14,12 +14,9 @@ use Rattle.call_book.specs.declared.section.Entry.{Entry}
 use Rattle.call_book.specs.Book.{BookView, IsFull, own_entries}
 use Rattle.call_book.specs.BookAnswers.{IsAdvanced}
 use Rattle.call_book.specs.SectionView.{SectionView}
-use Rattle.rtapp_scenario.specs.ScenarioView.{TaskSpecView}
 use Rattle.session.specs.declared.fault.EndFault.{EndFault}
 use Rattle.session.specs.declared.fault.EndFault.TheVariants as faults
-use Rattle.session.specs.declared.refusal.Refusal.{Refusal}
 use Rattle.session.specs.declared.report.Finished.{Finished}
-use Rattle.session.specs.Admissions.{AreNew, AllAsked}
 use Rattle.session.specs.SessionId.{SessionId}
 use Rattle.session.specs.Asks.{ClientView, Makes, Made, entries_from, pass_in, followed_by}
 use Rattle.session.specs.Report.{IsReport}
@@ -28,7 +25,7 @@ use Rattle.session.specs.private.Entering.{IsSessionBook, pass_after}
 use Rattle.session.specs.private.Parts.{AreSessionBooks}
 use Rattle.session.specs.private.Closing.{HaveEnded}
 use Rattle.session.specs.private.Ending.{MakesAll, IsEndBy, AllEnd, IsFullAmong}
-use Rattle.session.specs.RunEnd.{IsFirst, HaveAdvanced, IsFinished, IsFullWith, IsStopped}
+use Rattle.session.specs.RunEnd.{HaveAdvanced, IsFinished, IsFullWith, IsStopped}
 use Rattle.session.proofs.Asked.{makes_at, makes_nothing}
 
 -- ---- one domain

@@ -4,3 +4,5 @@ pub mod Closed
 pub mod Admitted
 pub mod Advanced
 pub mod CallerLemmas
+pub mod Replied
+pub mod Passes

@@ -1,6 +1,6 @@
 //! One domain of a session, behind its lock, and what a client may ask of it.
 
-ghost use Rattle.std.specs.Prelude.{◌≡◌, None, IfSome};
+ghost use Rattle.std.specs.Prelude.{◌≡◌, None, IfSome, IfOk, IfErr, Ok, Err};
 ghost use Rattle.attr_check.specs.Ratio.{cap};
 ghost use Rattle.domain_run.specs.declared.call.Call.TheVariants as calls;
 ghost use Rattle.call_book.specs.Book.{IsPassOf, IsMember};
@@ -84,6 +84,22 @@ fn admit(
     }
 }
 
+/// What a call other than an admission came to: it leaves no blank.
+fn outcome_of(made: Result<Reply, Full>) -> Outcome
+    ensures ok { IfOk made (λ reply. result.answer ≡ Ok reply) }
+    ensures err { IfErr made (λ _. result.answer ≡ Err Refusal.Full) }
+    ensures own { result.blank ≡ None }
+{
+    let answer = match made {
+        Ok(reply) => Ok(reply),
+        Err(Full) => Err(Refusal::Full),
+    };
+    Outcome {
+        answer,
+        blank: None,
+    }
+}
+
 fn regrade<R: Wait>(
     rt: &R,
     domain: &mut Domain,
@@ -99,14 +115,7 @@ fn regrade<R: Wait>(
     ensures replied { IsRegradedBy pass.old pass.new number params result.answer }
     ensures own { result.blank ≡ None }
 {
-    let answer = match domain.regrade(rt, pass, gate, number, params) {
-        Ok(reply) => Ok(reply),
-        Err(Full) => Err(Refusal::Full),
-    };
-    Outcome {
-        answer,
-        blank: None,
-    }
+    outcome_of(domain.regrade(rt, pass, gate, number, params))
 }
 
 fn wake(domain: &mut Domain, pass: &mut Pass, number: u32) -> Outcome
@@ -116,14 +125,7 @@ fn wake(domain: &mut Domain, pass: &mut Pass, number: u32) -> Outcome
     ensures replied { IsReplied pass.old pass.new (calls.Wake number) result.answer }
     ensures own { result.blank ≡ None }
 {
-    let answer = match domain.wake(pass, number) {
-        Ok(reply) => Ok(reply),
-        Err(Full) => Err(Refusal::Full),
-    };
-    Outcome {
-        answer,
-        blank: None,
-    }
+    outcome_of(domain.wake(pass, number))
 }
 
 fn leave(domain: &mut Domain, pass: &mut Pass, number: u32) -> Outcome
@@ -133,14 +135,7 @@ fn leave(domain: &mut Domain, pass: &mut Pass, number: u32) -> Outcome
     ensures replied { IsReplied pass.old pass.new (calls.Leave number) result.answer }
     ensures own { result.blank ≡ None }
 {
-    let answer = match domain.leave(pass, number) {
-        Ok(reply) => Ok(reply),
-        Err(Full) => Err(Refusal::Full),
-    };
-    Outcome {
-        answer,
-        blank: None,
-    }
+    outcome_of(domain.leave(pass, number))
 }
 
 impl<N: Names, const D: usize> LockedBook<N, D> {

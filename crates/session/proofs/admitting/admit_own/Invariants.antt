@@ -1,4 +1,4 @@
-use Rattle.std.proofs.Common.{◌≡◌, length, take, deque_capacity}
+use Rattle.std.proofs.Common.{◌≡◌, take, deque_capacity}
 use Rattle.session.specs.private.Admitting.{AsksOwn}
 use Rattle.session.proofs.admitting.admit_own.Given as goal
 

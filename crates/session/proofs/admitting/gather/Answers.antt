@@ -1,7 +1,6 @@
 use Rattle.std.proofs.Common.{◌≡◌, ℕ, ◌+◌, ◌-◌, ◌%◌, List, [], ◌∷◌, ◌++◌, length, get_or, set, drop, vec_capacity, sym, ap, subst, ◌∙◌, arith}
 use Rattle.std.proofs.lemmas.List.{drop_more, at_drop_all}
 use Rattle.rtapp_scenario.specs.ScenarioView.{TaskSpecView}
-use Rattle.session.specs.Asks.{Answer}
 use Rattle.session.specs.Admissions.{refused_in}
 use Rattle.session.proofs.Admitted.{IsLeft, left_next, some_left, told_few, union_of}
 use Rattle.session.proofs.admitting.gather.Goals as goal

@@ -1,4 +1,4 @@
-use Rattle.std.proofs.Common.{◌≡◌, ◌≤◌, length, drop, vec_capacity, deque_items}
+use Rattle.std.proofs.Common.{◌≡◌, ◌≤◌, length, drop, vec_capacity}
 use Rattle.session.proofs.Admitted.{IsLeft}
 use Rattle.session.proofs.admitting.gather.Given as goal
 

@@ -1,5 +1,5 @@
-use Rattle.std.proofs.Common.{◌≡◌, ℕ, ◌+◌, ◌<◌, List, [], ◌∷◌, ◌++◌, length, get_or, sym, ap, subst, ◌∙◌, arith, rules}
-use Rattle.session.specs.private.Admitting.{SeatView, AsksSeat}
+use Rattle.std.proofs.Common.{◌≡◌, ◌+◌, [], ◌∷◌, ◌++◌, length, get_or, sym, ap, subst, arith, rules}
+use Rattle.session.specs.private.Admitting.{AsksSeat}
 use Rattle.session.proofs.Admitted.{both_more, asked_of}
 use Rattle.session.proofs.admitting.join_all.Goals as goal
 

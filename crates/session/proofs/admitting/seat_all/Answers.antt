@@ -1,4 +1,4 @@
-use Rattle.std.proofs.Common.{◌≡◌, ℕ, ◌+◌, ◌<◌, List, [], ◌∷◌, ◌++◌, length, get_or, vec_len, sym, ap, subst, ◌∙◌, arith, rules}
+use Rattle.std.proofs.Common.{◌≡◌, ℕ, ◌+◌, List, length, get_or, vec_len, sym, ap, subst, ◌∙◌, arith, rules}
 use Rattle.session.specs.Asks.{ClientView}
 use Rattle.session.specs.private.Admitting.{SeatView, IsSeat}
 use Rattle.session.proofs.Closed.{by_place_more}

@@ -1,5 +1,4 @@
-use Rattle.std.proofs.Common.{◌≡◌, ℕ, ◌+◌, ◌<◌, length, get_or, vec_len, sym, ap, subst, ◌∙◌, arith, rules}
-use Rattle.session.specs.private.Admitting.{SeatView}
+use Rattle.std.proofs.Common.{◌≡◌, ℕ, ◌+◌, length, get_or, vec_len, sym, ap, subst, ◌∙◌, arith, rules}
 use Rattle.session.proofs.Closed.{by_place_more}
 use Rattle.session.proofs.admitting.start_all.Goals as goal
 

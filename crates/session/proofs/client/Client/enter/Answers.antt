@@ -1,4 +1,5 @@
-use Rattle.std.proofs.Common.{◌≡◌, ◌<◌, length, map, set, get_or, Option, sym, ap, subst, ◌∙◌, arith}
+use Rattle.std.proofs.Common.{◌≡◌, ◌<◌, length, map, set, get_or, Option, Some, sym, ap, subst, ◌∙◌, arith}
+use Rattle.std.specs.Prelude.{IfSome}
 use Rattle.pass_seats.specs.Lists.{PassView}
 use Rattle.bw_gate.specs.Pieces.{BlankView}
 use Rattle.call_book.specs.declared.section.Entry.{Entry}
@@ -6,6 +7,7 @@ use Rattle.domain_run.specs.declared.call.Call.{Call}
 use Rattle.session.specs.Asks.{Answer, ClientView}
 use Rattle.session.specs.private.Entering.{pass_after, NoneIsKept}
 use Rattle.session.proofs.Asked.{none_kept, makes_at, done_for}
+use Rattle.session.proofs.Passes.{done_kept, still_client}
 use Rattle.session.proofs.client.Client.enter.Goals.{in-Some+in-Some-1, in-Some+in-None-1, in_default}
 use Rattle.session.proofs.client.Client.enter.Goals as goal
 
@@ -41,3 +43,32 @@ returns g c =
     (λ call a becomes. makes_at c.args.self.now c.match-blank.self ps g.row.D p q call a (sym (ap (λ (v : ClientView). v.passes) c.self.view_is)) passes number inside owner (subst (λ (r : PassView Entry). q ≡ pass_after r call a) at becomes))
     c.make-answer.ensures.done
     given
+
+pub invariant_of-self : goal.invariant_of-self
+invariant_of-self g c =
+    let id = g.N.Names.id in
+    let ps = c.self.inside.passes.items in
+    let p = c.index_mut.result.now in
+    let q = c.make-answer.new.pass in
+    still_client id c.self.inside.number ps c.self.inside.hand (Some c.in-Some.blank) g.row.D p q c.self.invariant (omega (arith, c.requires.place, c.self.invariant.count)) c.index_mut.ensures.value
+    (done_kept id g.row.D p q c.args.ask c.make-answer.result.answer c.make-answer.ensures.done)
+    (subst (λ (o : Option BlankView). IfSome o (λ b. b.gate ≡ id.gate)) c.in-Some.is c.make-answer.ensures.own)
+
+pub invariant_of-self-in-Some-2 : goal.invariant_of-self-in-Some-2
+invariant_of-self-in-Some-2 g c =
+    let id = g.N.Names.id in
+    let ps = c.self.inside.passes.items in
+    let p = c.index_mut.result.now in
+    let q = c.make-answer.new.pass in
+    still_client id c.self.inside.number ps c.self.inside.hand (Some c.in-Some.blank) g.row.D p q c.self.invariant (omega (arith, c.requires.place, c.self.invariant.count)) c.index_mut.ensures.value
+    (done_kept id g.row.D p q c.args.ask c.make-answer.result.answer c.make-answer.ensures.done)
+    (subst (λ (o : Option BlankView). IfSome o (λ b. b.gate ≡ id.gate)) c.in-Some.is c.make-answer.ensures.own)
+
+pub invariant_of-self-in_default : goal.invariant_of-self-in_default
+invariant_of-self-in_default g c =
+    let id = g.N.Names.id in
+    let ps = c.self.inside.passes.items in
+    let p = c.index_mut.result.now in
+    let q = c.make-answer.new.pass in
+    still_client id c.self.inside.number ps c.self.inside.hand c.self.inside.hand g.row.D p q c.self.invariant (omega (arith, c.requires.place, c.self.invariant.count)) c.index_mut.ensures.value
+    (done_kept id g.row.D p q c.args.ask c.make-answer.result.answer c.make-answer.ensures.done) c.self.invariant.own

@@ -1,4 +1,4 @@
-use Rattle.std.proofs.Common.{◌≡◌, length, map, sym, subst, ◌∙◌}
+use Rattle.std.proofs.Common.{map, sym, subst, ◌∙◌}
 use Rattle.session.specs.private.Admitting.{AreAsked}
 use Rattle.session.proofs.Admitted.{threads_asked}
 use Rattle.session.proofs.admitting.fn.ask_apart.scope.Goals as goal

@@ -1,0 +1,28 @@
+use Rattle.std.proofs.Common.{◌≡◌, ℕ, List, length, sym, ap, subst, ◌∙◌}
+use Rattle.std.proofs.lemmas.List.{length-map}
+use Rattle.session.specs.private.Closing.{IsRoom}
+use Rattle.session.proofs.session.Session.unlock.Goals as goal
+
+pub shut-requires : goal.shut-requires
+shut-requires g c = λ k x inside. (c.unlock_all-books.ensures.named k x inside).gate ∙ sym c.shared.invariant.0
+
+pub pour_waiting-requires-clause-hands : goal.pour_waiting-requires-clause-hands
+pour_waiting-requires-clause-hands g c = c.self.invariant.2
+
+pub new-requires-clause-session : goal.new-requires-clause-session
+new-requires-clause-session g c = c.self.invariant.0
+
+pub new-requires-clause-gate : goal.new-requires-clause-gate
+new-requires-clause-gate g c = c.shared.invariant.0
+
+pub new-requires-clause-count : goal.new-requires-clause-count
+new-requires-clause-count g c = c.unlock_all-books.ensures.count
+
+pub new-requires-clause-named : goal.new-requires-clause-named
+new-requires-clause-named g c = c.unlock_all-books.ensures.named
+
+pub new-requires-clause-room : goal.new-requires-clause-room
+new-requires-clause-room g c =
+    let sets = c.shared.inside.cpu_sets in
+    let count : c.len.result ≡ length g.N.Names.id.cpu_sets = c.len.ensures ∙ sets.ok.0 ∙ sym (length-map sets.items (λ v. v.items)) ∙ ap (λ (l : List (List ℕ)). length l) c.shared.invariant.1 in
+    subst (λ (n : ℕ). IsRoom n c.in-Ok.room) count c.in-Ok.ensures
