@@ -1,40 +1,60 @@
--- What the words at the options of `run` mean.
-use Rattle.std.specs.Prelude.{◌≡◌, ◌≤◌, ℕ, List, Some, None, Bool, true, false, codes, decimal}
-use Rattle.clap.specs.Matches.{first_value, one_text}
-use Rattle.clap.specs.declared.parser.matches.Found.{Found}
-use Rattle.dl_session.specs.Words.{AreMeant}
+-- What the words at the options of `run` mean: of an option's name, clap finds a text, or none.
+use Rattle.std.specs.Prelude.{◌≡◌, ◌<◌, ◌^◌, ℕ, List, Some, None, Bool, true, false, codes, min, max}
+use Rattle.std.specs.Str.Parse.{IsNumeral, digits_value, without_leading_plus}
+use Rattle.clap.specs.Words.{Row, first_of, one_of}
+use Rattle.dl_session.specs.Words.{AreMeant, IsWordsFault}
 use Rattle.session.specs.declared.options.Options.{Options}
 use Rattle.session.specs.declared.options.Print.{Print}
 use Rattle.session.specs.declared.options.Print.TheVariants as prints
 use Rattle.dl_session.specs.declared.words.Words.{Words}
+use Rattle.dl_session.specs.declared.words.WordsFault.{WordsFault}
 
--- the number that an option's text spells, where it is one from 1 to the most
-abbrev pub IsNumberAt : Found → List ℕ → ℕ → ℕ → Type 0
-IsNumberAt found name most n = (v : ℕ) → one_text found name ≡ Some (decimal v) → 1 ≤ v → v ≤ most → n ≡ v
+-- the text is decimal digits that write the number, which is below 2^64; zeros may stand before them, and before these a plus
+pub record Spells (text : List ℕ) (number : ℕ) : Type 0 where
+  pub digits : IsNumeral 10 (without_leading_plus text)
+  pub value : digits_value 10 (without_leading_plus text) ≡ number
+  pub small : number < 2 ^ 64
 
--- the calls where the text at `print` is "calls", the trace where it is "trace"
-pub record IsPrintAt (found : Found) (print : Print) : Type 0 where
-  pub calls : first_value found (codes "print") ≡ Some (codes "calls") → print ≡ prints.Calls
-  pub trace : first_value found (codes "print") ≡ Some (codes "trace") → print ≡ prints.Trace
+-- the number that an option's text spells, moved into the range from 1 to the most; 1 where there is no text or it spells no number
+pub record IsNumberAt (rows : List Row) (name : List ℕ) (most n : ℕ) : Type 0 where
+  pub absent : one_of name rows ≡ None → n ≡ 1
+  pub spelled : (text : List ℕ) (v : ℕ) → one_of name rows ≡ Some text → Spells text v → n ≡ min (max v 1) most
+  pub other : (text : List ℕ) → one_of name rows ≡ Some text → ((v : ℕ) → Spells text v → ⊥) → n ≡ 1
+
+-- the calls where the text at `print` is "calls", else the trace
+pub record IsPrintAt (rows : List Row) (print : Print) : Type 0 where
+  pub calls : first_of (codes "print") rows ≡ Some (codes "calls") → print ≡ prints.Calls
+  pub trace : (first_of (codes "print") rows ≡ Some (codes "calls") → ⊥) → print ≡ prints.Trace
 
 -- a flag that is there, and one that is not
-pub record IsFlagAt (found : Found) (name : List ℕ) (flag : Bool) : Type 0 where
-  pub absent : one_text found name ≡ None → flag ≡ false
-  pub on : one_text found name ≡ Some (codes "true") → flag ≡ true
-  pub off : one_text found name ≡ Some (codes "false") → flag ≡ false
+pub record IsFlagAt (rows : List Row) (name : List ℕ) (flag : Bool) : Type 0 where
+  pub absent : one_of name rows ≡ None → flag ≡ false
+  pub on : one_of name rows ≡ Some (codes "true") → flag ≡ true
+  pub off : one_of name rows ≡ Some (codes "false") → flag ≡ false
+
+-- the text at an option, and the empty one where there is none
+pub record IsTextAt (rows : List Row) (name text : List ℕ) : Type 0 where
+  pub absent : first_of name rows ≡ None → text ≡ codes ""
+  pub some : (found : List ℕ) → first_of name rows ≡ Some found → text ≡ found
 
 -- each word is that of its own option
-pub record AreFound (found : Found) (words : Words) : Type 0 where
-  pub domains : (text : List ℕ) → first_value found (codes "domains") ≡ Some text → words.domains.now ≡ text
-  pub rt_runtime : IsNumberAt found (codes "rt-runtime") 1000000000 words.rt_runtime
-  pub rt_period : IsNumberAt found (codes "rt-period") 1000000000 words.rt_period
-  pub clients : IsNumberAt found (codes "clients") 64 words.clients
-  pub workers : IsNumberAt found (codes "workers") 8 words.workers
-  pub reclaim : IsFlagAt found (codes "reclaim") words.reclaim
-  pub print : IsPrintAt found words.print
+pub record AreFound (rows : List Row) (words : Words) : Type 0 where
+  pub domains : IsTextAt rows (codes "domains") words.domains.now
+  pub rt_runtime : IsNumberAt rows (codes "rt-runtime") 1000000000 words.rt_runtime
+  pub rt_period : IsNumberAt rows (codes "rt-period") 1000000000 words.rt_period
+  pub clients : IsNumberAt rows (codes "clients") 64 words.clients
+  pub workers : IsNumberAt rows (codes "workers") 8 words.workers
+  pub reclaim : IsFlagAt rows (codes "reclaim") words.reclaim
+  pub print : IsPrintAt rows words.print
 
 -- the options that the words at the options mean
-pub record AreMeantBy (found : Found) (options : Options) : Type 0 where
+pub record AreMeantBy (rows : List Row) (options : Options) : Type 0 where
   pub words : Words
-  pub are_found : AreFound found words
+  pub are_found : AreFound rows words
   pub meant : AreMeant words options
+
+-- why the words at the options mean no options
+pub record IsFaultOf (rows : List Row) (fault : WordsFault) : Type 0 where
+  pub words : Words
+  pub are_found : AreFound rows words
+  pub is_fault : IsWordsFault words fault

@@ -1,11 +1,26 @@
-use Rattle.std.proofs.Common.{arith, ◌≡◌, ◌∙◌, Some, decimal, ap}
+use Rattle.std.proofs.Common.{arith, ◌≡◌, ◌∙◌, None, Some, ap}
 use Rattle.std.specs.Prelude.{unwrap_or}
 use Rattle.std.specs.Str.Parse.{ExplainsUnsignedError, HasUnsignedDigitsIfOk}
-use Rattle.dlsim.proofs.Decimals.{read_decimal}
+use Rattle.clap.specs.Words.{found_of}
+use Rattle.clap.proofs.WalkLemmas.{one_text-rows}
+use Rattle.dlsim.proofs.Numbers.{read_other, read_spelled}
 use Rattle.dlsim.proofs.words.number.Goals as goal
 
 pub returns-clause-found : goal.returns-clause-found
-returns-clause-found c = λ v e least most.
-    let read : c.get_one.result ≡ Some v = read_decimal (λ bs q. ExplainsUnsignedError 10 bs q) (λ bs q. HasUnsignedDigitsIfOk bs q) v (omega (arith, most, c.ranges.most.fits)) c.get_one.result (c.get_one.ensures.value (decimal v) e) in
-    let is : c.unwrap_or.result ≡ v = c.unwrap_or.ensures ∙ ap (λ o. unwrap_or o 1) read in
-    omega (arith, c.clamp.ensures, is, least, most)
+returns-clause-found c =
+    let same = one_text-rows (found_of c.args.found.now) c.args.name.now in
+    let get = c.get_one in
+    record {
+      absent = λ none.
+          let read : get.result ≡ None = get.ensures.none (same ∙ none) in
+          let is : c.unwrap_or.result ≡ 1 = c.unwrap_or.ensures ∙ ap (λ o. unwrap_or o 1) read in
+          omega (arith, c.clamp.ensures, is);
+      spelled = λ text v at spells.
+          let read : get.result ≡ Some v = read_spelled (λ bs q. ExplainsUnsignedError 10 bs q) (λ bs q. HasUnsignedDigitsIfOk bs q) text v get.result spells (get.ensures.value text (same ∙ at)) in
+          let is : c.unwrap_or.result ≡ v = c.unwrap_or.ensures ∙ ap (λ o. unwrap_or o 1) read in
+          omega (arith, c.clamp.ensures, is);
+      other = λ text at none.
+          let read : get.result ≡ None = read_other (λ bs q. ExplainsUnsignedError 10 bs q) (λ bs q. HasUnsignedDigitsIfOk bs q) text get.result none (get.ensures.value text (same ∙ at)) in
+          let is : c.unwrap_or.result ≡ 1 = c.unwrap_or.ensures ∙ ap (λ o. unwrap_or o 1) read in
+          omega (arith, c.clamp.ensures, is);
+    }

@@ -1,0 +1,68 @@
+-- What clap reads of the program's command: the commands, their options, and what each option takes.
+use Rattle.std.specs.Prelude.{◌≡◌, ℕ, List, [], ◌∷◌, Some, true, false, fold, map, codes}
+use Rattle.std.specs.Borrow.{Bor}
+use Rattle.clap.specs.Words.{App, Rule, Text, app_of, new_app, new_rule, with_rule, with_subcommand}
+use Rattle.clap.specs.declared.builder.command.Command.TheViews.{out-Command}
+use Rattle.clap.specs.Simple.{on_top}
+use Rattle.clap.specs.declared.builder.action.ArgAction.TheVariants.{SetTrue}
+use Rattle.clap.specs.declared.builder.command.Command.{Command}
+use Rattle.clap.specs.declared.builder.value_parser.ValueParser.TheVariants.{Names, Unsigned}
+
+-- names as clap holds them: references to texts
+abbrev pub HeldNames : Type 0
+HeldNames = Bor (List (Bor Text))
+
+-- what `--print` takes
+abbrev pub AreTexts : HeldNames → Type 0
+AreTexts names = map (λ name. name.now) names.now ≡ codes "trace" ∷ codes "calls" ∷ []
+
+-- an option `--name TEXT` with a default
+abbrev pub option : Text → Text → Rule
+option name default = record (new_rule name) { long = Some name; value_names = 1; defaults = default ∷ [] }
+
+-- an option that takes a number from 1 to the most
+abbrev pub counted : Text → ℕ → Text → Rule
+counted name most default = record (option name default) { parser = Some (Unsigned 1 most) }
+
+-- `--print`, with the names that it takes
+abbrev pub print_option : HeldNames → Rule
+print_option names = record (option (codes "print") (codes "trace")) { parser = Some (Names names) }
+
+-- `--reclaim`, which takes no value
+abbrev pub reclaim_flag : Rule
+reclaim_flag = record (new_rule (codes "reclaim")) { long = Some (codes "reclaim"); action = Some SetTrue }
+
+-- the options of `run`
+abbrev pub run_options : HeldNames → List Rule
+run_options names =
+    option (codes "domains") (codes "1")
+    ∷ counted (codes "rt-runtime") 1000000000 (codes "950000")
+    ∷ counted (codes "rt-period") 1000000000 (codes "1000000")
+    ∷ counted (codes "clients") 64 (codes "1")
+    ∷ counted (codes "workers") 8 (codes "1")
+    ∷ reclaim_flag
+    ∷ print_option names
+    ∷ []
+
+-- `dlsim run`
+abbrev pub run_app : HeldNames → App
+run_app names = fold with_rule (new_app (codes "run")) (run_options names)
+
+-- `dlsim`, which wants one of its commands `run` and `replay`; `replay` has no options
+abbrev pub program_app : HeldNames → App
+program_app names =
+    let top = on_top (λ s. record s { subcommand_required = true }) (new_app (codes "dlsim")) in
+    with_subcommand (with_subcommand top (run_app names).top) (new_app (codes "replay")).top
+
+-- clap's command is `dlsim run`
+pub record IsRun (c : Command) : Type 0 where
+  pub names : HeldNames
+  pub are_texts : AreTexts names
+  pub app : app_of c ≡ run_app names
+  pub local : (out-Command c).has_globals ≡ false
+
+-- clap's command is `dlsim`
+pub record IsProgram (c : Command) : Type 0 where
+  pub names : HeldNames
+  pub are_texts : AreTexts names
+  pub app : app_of c ≡ program_app names

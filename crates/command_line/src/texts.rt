@@ -1,0 +1,79 @@
+//! The texts of `--help`.
+
+pub(crate) const ABOUT: &str =
+    "A model of Linux SCHED_DEADLINE: deadline tasks in, the trace of their switches out";
+
+pub(crate) const ABOUT_END: &str = "\
+`dlsim run` reads an rt-app file, `dlsim replay` recorded calls, both from
+standard input. The trace on standard output has the lines of ftrace's event
+sched_switch.
+
+  dlsim run < examples/periodic.json
+  dlsim replay < examples/reclaiming.calls
+
+Exit status: 0 done; 1 bad input; 2 wrong words; 3 reading or writing failed;
+4 out of memory. Where it is not 0, a line on standard error says why, and
+nothing was written, unless that line says `write failed after N`.
+docs/FORMATS.md explains every option, format and message.";
+
+pub(crate) const REPLAY_ABOUT: &str = "Reads recorded calls and writes the trace of their run";
+
+pub(crate) const REPLAY_END: &str = "\
+In:  a calls text on standard input: the line `dlcalls 1`, then for each root
+     domain a line `domain CPUS LIMIT` and a line for each call on it.
+Out: `# tracer: nop`, then a line for each switch of a CPU, as ftrace prints
+     its event sched_switch, by time and CPU.
+
+  dlsim replay < examples/reclaiming.calls
+
+Exit status: 0 done; 1 `dlsim: calls 30 line N`, the first bad line; 2 wrong
+words; 3 `dlsim: read failed` or `dlsim: write failed after N`; 4 `dlsim: out
+of memory`. docs/FORMATS.md explains the format and the messages.";
+
+pub(crate) const RUN_ABOUT: &str =
+    "Reads an rt-app scenario, admits its tasks, runs them and writes the trace";
+
+pub(crate) const RUN_END: &str = "\
+In:  an rt-app file (JSON) on standard input: `tasks` with the policy
+     SCHED_DEADLINE, dl-runtime, dl-deadline and dl-period in microseconds, and
+     their events run, sleep and timer; `global` with the `duration` in
+     seconds, 0 to 60.
+Out: `# tracer: nop`, then a line for each switch of a CPU, as ftrace prints
+     its event sched_switch, by time and CPU; with `--print calls` the calls
+     that were made, of which `dlsim replay` writes that same trace.
+Err: a line for each task that was not admitted, as
+     `dlsim: task 4 EBUSY 16 seen 1572864`; the others run.
+
+  dlsim run --domains 2 < examples/race.json > race.txt
+  dlsim run --reclaim < examples/reclaim.json
+
+Exit status: 0 done, refused tasks or not; 1 the input is no JSON (`dlsim: json
+KIND at BYTE`) or no scenario (`dlsim: scenario 22 key resources`); 2 wrong
+words, `dlsim: bad list` or `dlsim: limit out of range`; 3 `dlsim: read failed`,
+`dlsim: write failed after N`, `dlsim: no thread` or `dlsim: book full`;
+4 `dlsim: out of memory`.
+docs/FORMATS.md explains the options, the keys and the messages.";
+
+pub(crate) const DOMAINS_HELP: &str = "\
+CPUs of each root domain: 1 to 8 numbers from 1 to 64, with commas and no
+spaces. The first domain has the first CPUs of the machine";
+
+pub(crate) const RUNTIME_HELP: &str = "\
+What deadline tasks may take of each CPU in --rt-period: 1 to 1000000000
+microseconds, and 1 % to 100 % of that period";
+
+pub(crate) const PERIOD_HELP: &str = "The period of --rt-runtime: 1 to 1000000000 microseconds";
+
+pub(crate) const CLIENTS_HELP: &str = "\
+How many clients admit the tasks, 1 to 64, each in a thread of its own: the
+tasks 1, 2, .. go round them. Who is refused may depend on who came first";
+
+pub(crate) const WORKERS_HELP: &str = "\
+How many worker threads compute each domain, 1 to 8; the trace is the same
+for any number. More than one is slower in all that we measured";
+
+pub(crate) const RECLAIM_HELP: &str = "\
+Every task reclaims unused bandwidth (GRUB, SCHED_FLAG_RECLAIM); without it
+none does";
+
+pub(crate) const PRINT_HELP: &str = "What is written: the trace, or the calls that were made";

@@ -1,0 +1,58 @@
+-- What words ask for, from what is read of them.
+use Rattle.std.proofs.Common.{◌≡◌, ◌∙◌, List, Option, Some, None, Ok, Err, ap, ap₂, codes, option_map, refl, subst, sym, unwrap_or, true≢false, is_some}
+use Rattle.std.specs.Prelude.{Box}
+use Rattle.std.specs.Box.{box_value}
+use Rattle.clap.specs.Simple.{subcommand_rows}
+use Rattle.clap.specs.Words.{Row, Text, subcommand_name_of, subcommand_rows_of}
+use Rattle.clap.specs.declared.error.Error.{Error}
+use Rattle.clap.specs.declared.parser.matches.ArgMatches.{ArgMatches}
+use Rattle.clap.specs.declared.parser.matches.ArgMatches.TheViews.{out-ArgMatches, out-SubCommand}
+use Rattle.clap.specs.declared.parser.matches.SubCommand.{SubCommand}
+use Rattle.command_line.specs.Reading.{HasTextsOfRun, IsReading}
+use Rattle.dl_session.specs.declared.words.WordsFault.{WordsFault}
+use Rattle.dlsim.specs.Tasks.{IsAskedBy, IsMeant, IsRefused, IsTaskOf, name_of}
+use Rattle.dlsim.specs.declared.words.Task.{Task}
+use Rattle.dlsim.specs.declared.words.Wrong.TheVariants as wrong
+
+name_in : {Z : Type 0} (o : Option (Box SubCommand Z)) → name_of (subcommand_rows o) ≡ option_map (λ b. (out-SubCommand (box_value b)).name.now) o
+name_in None = refl
+name_in (Some b) = refl
+
+-- the name of the command with what is found there
+pub name_found : (m : ArgMatches) → name_of (subcommand_rows_of m) ≡ subcommand_name_of m
+name_found m = name_in (out-ArgMatches m).subcommand
+
+both_parts : (o : Option (Text × List Row)) (name : Text) (rows : List Row) → name_of o ≡ Some name → option_map (λ p. p.1) o ≡ Some rows → o ≡ Some (name, rows)
+both_parts None name rows is found = absurd (true≢false (sym (ap is_some is)))
+both_parts (Some p) name rows is found = ap₂ (λ (n : Text) (rs : List Row). Some (n, rs)) (ap (λ (o : Option Text). unwrap_or o name) is) (ap (λ (o : Option (List Row)). unwrap_or o rows) found)
+
+-- what is found for `run`
+pub run_found : (m : ArgMatches) (rows : List Row) → subcommand_name_of m ≡ Some (codes "run") → option_map (λ p. p.1) (subcommand_rows_of m) ≡ Some rows
+    → subcommand_rows_of m ≡ Some (codes "run", rows)
+run_found m rows is found = both_parts (subcommand_rows_of m) (codes "run") rows (name_found m ∙ is) found
+
+pub of_error : (words : List Text) (e : Error) → IsReading words (Err e) → IsAskedBy words (Err (wrong.Clap e))
+of_error words e read = record { names = read.names; are_texts = read.are_texts; named = tt; meant = tt; taken = tt; wrong = read.refused }
+
+pub of_fault : (words : List Text) (m : ArgMatches) (fault : WordsFault) → IsReading words (Ok m) → IsRefused (subcommand_rows_of m) fault
+    → IsAskedBy words (Err (wrong.Options fault))
+of_fault words m fault read refused = record {
+  names = read.names;
+  are_texts = read.are_texts;
+  named = tt;
+  meant = tt;
+  taken = tt;
+  wrong = subst (λ (command : Option (Text × List Row)). IsRefused command fault) read.found refused;
+}
+
+pub of_task : (words : List Text) (m : ArgMatches) (task : Task) → IsReading words (Ok m) → HasTextsOfRun m → IsTaskOf (subcommand_name_of m) task
+    → IsMeant (subcommand_rows_of m) task → IsAskedBy words (Ok task)
+of_task words m task read texts named meant = record {
+  names = read.names;
+  are_texts = read.are_texts;
+  named = subst (λ (command : Option (Text × List Row)). IsTaskOf (name_of command) task) read.found
+      (subst (λ (name : Option Text). IsTaskOf name task) (sym (name_found m)) named);
+  meant = subst (λ (command : Option (Text × List Row)). IsMeant command task) read.found meant;
+  taken = λ rows is. texts rows (read.found ∙ is);
+  wrong = tt;
+}
