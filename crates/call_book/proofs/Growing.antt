@@ -40,11 +40,11 @@ has_room full count room says empty within =
 
 -- The one lemma for every call: before it a book, the reply and the new state of the definition, tickets for the tasks that are
 -- listed then, and not too many ticks; with its entry a book again.
-pub book_grows : (cpus limit : ℕ) (l grown : LedgerView) (s t : StockView) (state next : Domain) (e : Entry) → IsBook (book_of cpus limit l s) state
+pub book_grows : (cpus limit workers : ℕ) (l grown : LedgerView) (s t : StockView) (state next : Domain) (e : Entry) → IsBook (book_of cpus limit workers l s) state
     → grown ≡ record l { history = l.history ++ e ∷ [] } → t ≡ record s { tickets = t.tickets; blanks = t.blanks }
     → e.reply ≡ Some (reply_to state e.call) → next ≡ after_call state e.call → HoldsTickets next t.tickets → ticks_of e.call ≤ 60000000
-    → IsBook (book_of cpus limit grown t) next
-book_grows cpus limit l grown s t state next e is more pieces lawful becomes held few =
+    → IsBook (book_of cpus limit workers grown t) next
+book_grows cpus limit workers l grown s t state next e is more pieces lawful becomes held few =
     let start = opened cpus limit in
     let calls = calls_of l.history in
     let calls_more : calls_of (l.history ++ e ∷ []) ≡ calls ++ e.call ∷ [] = map-append (λ (x : Entry). x.call) l.history (e ∷ []) in
@@ -59,7 +59,7 @@ book_grows cpus limit l grown s t state next e is more pieces lawful becomes hel
     let early = is.early in
     let machine = call_machine state e.call in
     let b : LedgerView = record l { history = l.history ++ e ∷ [] } in
-    let whole : IsBook (book_of cpus limit b t) next = record {
+    let whole : IsBook (book_of cpus limit workers b t) next = record {
       run = run;
       legal = legal;
       held = held;
@@ -69,7 +69,7 @@ book_grows cpus limit l grown s t state next e is more pieces lawful becomes hel
       high = is.high;
       capped = ap (λ (x : StockView). cap_of x.gate x.domain) pieces ∙ is.capped;
     } in
-    subst (λ (x : LedgerView). IsBook (book_of cpus limit x t) next) (sym more) whole
+    subst (λ (x : LedgerView). IsBook (book_of cpus limit workers x t) next) (sym more) whole
 
 -- a blank goes and a ticket comes
 pub moved : (s u t : StockView) (h : Held) → u ≡ record s { blanks = u.blanks } → t ≡ record u { tickets = u.tickets ++ h ∷ [] } → t ≡ record s { tickets = t.tickets; blanks = t.blanks }
@@ -80,60 +80,60 @@ moved s u t h spared held =
     ap (λ (g : GateId). made g t.domain) gate ∙ ap (made s.gate) domain
 
 -- wake and leave keep the keys
-pub wake_grows : (cpus limit : ℕ) (l grown : LedgerView) (s : StockView) (state next : Domain) (number : ℕ) (p : PassView Entry) (reply : Reply) → IsBook (book_of cpus limit l s) state
+pub wake_grows : (cpus limit workers : ℕ) (l grown : LedgerView) (s : StockView) (state next : Domain) (number : ℕ) (p : PassView Entry) (reply : Reply) → IsBook (book_of cpus limit workers l s) state
     → grown ≡ record l { history = l.history ++ entry_by p (Call.Wake number) reply ∷ [] } → reply ≡ reply_to state (Call.Wake number) → next ≡ after_call state (Call.Wake number)
-    → IsBook (book_of cpus limit grown s) next
-wake_grows cpus limit l grown s state next number p reply is more lawful becomes =
-    book_grows cpus limit l grown s s state next (entry_by p (Call.Wake number) reply) is more refl (ap Some lawful) becomes (is.held ∙ sym (wake_keys state number) ∙ ap (λ (d : Domain). keys d.tasks) (sym becomes)) (omega arith)
+    → IsBook (book_of cpus limit workers grown s) next
+wake_grows cpus limit workers l grown s state next number p reply is more lawful becomes =
+    book_grows cpus limit workers l grown s s state next (entry_by p (Call.Wake number) reply) is more refl (ap Some lawful) becomes (is.held ∙ sym (wake_keys state number) ∙ ap (λ (d : Domain). keys d.tasks) (sym becomes)) (omega arith)
 
-pub leave_grows : (cpus limit : ℕ) (l grown : LedgerView) (s : StockView) (state next : Domain) (number : ℕ) (p : PassView Entry) (reply : Reply) → IsBook (book_of cpus limit l s) state
+pub leave_grows : (cpus limit workers : ℕ) (l grown : LedgerView) (s : StockView) (state next : Domain) (number : ℕ) (p : PassView Entry) (reply : Reply) → IsBook (book_of cpus limit workers l s) state
     → grown ≡ record l { history = l.history ++ entry_by p (Call.Leave number) reply ∷ [] } → reply ≡ reply_to state (Call.Leave number) → next ≡ after_call state (Call.Leave number)
-    → IsBook (book_of cpus limit grown s) next
-leave_grows cpus limit l grown s state next number p reply is more lawful becomes =
-    book_grows cpus limit l grown s s state next (entry_by p (Call.Leave number) reply) is more refl (ap Some lawful) becomes (is.held ∙ sym (leave_keys state number) ∙ ap (λ (d : Domain). keys d.tasks) (sym becomes)) (omega arith)
+    → IsBook (book_of cpus limit workers grown s) next
+leave_grows cpus limit workers l grown s state next number p reply is more lawful becomes =
+    book_grows cpus limit workers l grown s s state next (entry_by p (Call.Leave number) reply) is more refl (ap Some lawful) becomes (is.held ∙ sym (leave_keys state number) ∙ ap (λ (d : Domain). keys d.tasks) (sym becomes)) (omega arith)
 
 -- an admission brings its ticket
-pub admitted_grows : (cpus limit : ℕ) (l grown : LedgerView) (s t : StockView) (state next : Domain) (a : AdmissionView) (ticket : TicketView) (number : ℕ) (call : Call) (p : PassView Entry) → IsBook (book_of cpus limit l s) state
+pub admitted_grows : (cpus limit workers : ℕ) (l grown : LedgerView) (s t : StockView) (state next : Domain) (a : AdmissionView) (ticket : TicketView) (number : ℕ) (call : Call) (p : PassView Entry) → IsBook (book_of cpus limit workers l s) state
     → grown ≡ record l { history = l.history ++ entry_by p call Reply.Admitted ∷ [] } → t ≡ record s { tickets = t.tickets; blanks = t.blanks } → t.tickets ≡ s.tickets ++ record { number = number; ticket = ticket } ∷ []
-    → Says state next a Reply.Admitted → number ≡ a.number → call ≡ admission a → ticket.bw ≡ a.params.bw → IsBook (book_of cpus limit grown t) next
-admitted_grows cpus limit l grown s t state next a ticket number call p is more pieces held says named same bw =
+    → Says state next a Reply.Admitted → number ≡ a.number → call ≡ admission a → ticket.bw ≡ a.params.bw → IsBook (book_of cpus limit workers grown t) next
+admitted_grows cpus limit workers l grown s t state next a ticket number call p is more pieces held says named same bw =
     let h : Held = record { number = number; ticket = ticket } in
     let after : keys next.tasks ≡ keys state.tasks ++ (a.number, a.params.bw) ∷ [] = ap (λ (d : Domain). keys d.tasks) says.state ∙ admitted_keys state a.number a.name a.params a.delay a.script says.reply in
     let key : held_key h ≡ (a.number, a.params.bw) = ap (λ (n : ℕ). (n, ticket.bw)) named ∙ ap (λ (n : ℕ). (a.number, n)) bw in
     let tickets : map held_key t.tickets ≡ keys next.tasks =
     ap (map held_key) held ∙ map-append held_key s.tickets (h ∷ []) ∙ ap (λ (ks : List (ℕ × ℕ)). ks ++ held_key h ∷ []) is.held ∙ ap (λ (k : ℕ × ℕ). keys state.tasks ++ k ∷ []) key ∙ sym after in
     let lawful : Some Reply.Admitted ≡ Some (reply_to state call) = ap Some (sym says.reply ∙ ap (reply_to state) (sym same)) in
-    book_grows cpus limit l grown s t state next (entry_by p call Reply.Admitted) is more pieces lawful (says.state ∙ ap (after_call state) (sym same)) tickets (rw same (omega arith))
+    book_grows cpus limit workers l grown s t state next (entry_by p call Reply.Admitted) is more pieces lawful (says.state ∙ ap (after_call state) (sym same)) tickets (rw same (omega arith))
 
 -- a refused admission changes the history alone
-pub busy_grows : (cpus limit : ℕ) (l grown : LedgerView) (s : StockView) (state next : Domain) (a : AdmissionView) (seen : ℕ) (call : Call) (p : PassView Entry) → IsBook (book_of cpus limit l s) state
-    → grown ≡ record l { history = l.history ++ entry_by p call (Reply.Busy seen) ∷ [] } → Says state next a (Reply.Busy seen) → call ≡ admission a → IsBook (book_of cpus limit grown s) next
-busy_grows cpus limit l grown s state next a seen call p is more says same =
+pub busy_grows : (cpus limit workers : ℕ) (l grown : LedgerView) (s : StockView) (state next : Domain) (a : AdmissionView) (seen : ℕ) (call : Call) (p : PassView Entry) → IsBook (book_of cpus limit workers l s) state
+    → grown ≡ record l { history = l.history ++ entry_by p call (Reply.Busy seen) ∷ [] } → Says state next a (Reply.Busy seen) → call ≡ admission a → IsBook (book_of cpus limit workers grown s) next
+busy_grows cpus limit workers l grown s state next a seen call p is more says same =
     let stays : after_call state (admission a) ≡ state = refused_keeps state (admission a) (ap is_refusal says.reply) in
     let lawful : Some (Reply.Busy seen) ≡ Some (reply_to state call) = ap Some (sym says.reply ∙ ap (reply_to state) (sym same)) in
-    book_grows cpus limit l grown s s state next (entry_by p call (Reply.Busy seen)) is more refl lawful (says.state ∙ ap (after_call state) (sym same)) (is.held ∙ ap (λ (d : Domain). keys d.tasks) (sym (says.state ∙ stays))) (rw same (omega arith))
+    book_grows cpus limit workers l grown s s state next (entry_by p call (Reply.Busy seen)) is more refl lawful (says.state ∙ ap (after_call state) (sym same)) (is.held ∙ ap (λ (d : Domain). keys d.tasks) (sym (says.state ∙ stays))) (rw same (omega arith))
 
 -- what a call that is entered alone says
-pub enters_alone : (b : BookView) (cpus limit : ℕ) (l grown : LedgerView) (s : StockView) (state : Domain) (p q : PassView Entry) (call : Call) (reply : Reply) → book_of cpus limit l s ≡ b → IsBook (book_of cpus limit l s) state → length l.history < l.room
-    → grown ≡ record l { history = l.history ++ entry_by p call reply ∷ [] } → q ≡ with_entry p call reply → reply_to state call ≡ reply → EntersAlone b (book_of cpus limit grown s) p q call reply
-enters_alone b cpus limit l grown s state p q call reply view is room more made says =
-    let whole : EntersAlone (book_of cpus limit l s) (book_of cpus limit grown s) p q call reply = record {
-      entered = record { free = room; lawful = sym says ∙ ap (λ (d : Domain). reply_to d call) is.run; book = ap (λ (x : LedgerView). book_of cpus limit x s) more; pass = made };
+pub enters_alone : (b : BookView) (cpus limit workers : ℕ) (l grown : LedgerView) (s : StockView) (state : Domain) (p q : PassView Entry) (call : Call) (reply : Reply) → book_of cpus limit workers l s ≡ b → IsBook (book_of cpus limit workers l s) state → length l.history < l.room
+    → grown ≡ record l { history = l.history ++ entry_by p call reply ∷ [] } → q ≡ with_entry p call reply → reply_to state call ≡ reply → EntersAlone b (book_of cpus limit workers grown s) p q call reply
+enters_alone b cpus limit workers l grown s state p q call reply view is room more made says =
+    let whole : EntersAlone (book_of cpus limit workers l s) (book_of cpus limit workers grown s) p q call reply = record {
+      entered = record { free = room; lawful = sym says ∙ ap (λ (d : Domain). reply_to d call) is.run; book = ap (λ (x : LedgerView). book_of cpus limit workers x s) more; pass = made };
       tickets = refl;
       blanks = refl;
     } in
-    subst (λ (x : BookView). EntersAlone x (book_of cpus limit grown s) p q call reply) view whole
+    subst (λ (x : BookView). EntersAlone x (book_of cpus limit workers grown s) p q call reply) view whole
 
-pub busy_answer : (b : BookView) (cpus limit : ℕ) (l grown : LedgerView) (s : StockView) (state next : Domain) (p q : PassView Entry) (a : AdmissionView) (ticket : TicketView) (seen : ℕ) (call : Call) → book_of cpus limit l s ≡ b → IsBook (book_of cpus limit l s) state
+pub busy_answer : (b : BookView) (cpus limit workers : ℕ) (l grown : LedgerView) (s : StockView) (state next : Domain) (p q : PassView Entry) (a : AdmissionView) (ticket : TicketView) (seen : ℕ) (call : Call) → book_of cpus limit workers l s ≡ b → IsBook (book_of cpus limit workers l s) state
     → length l.history < l.room → grown ≡ record l { history = l.history ++ entry_by p call (Reply.Busy seen) ∷ [] } → q ≡ with_entry p call (Reply.Busy seen) → Says state next a (Reply.Busy seen) → call ≡ admission a → LacksRoomFor state a.params.bw seen
-    → IsBusy b (book_of cpus limit grown s) p q a ticket ticket seen
-busy_answer b cpus limit l grown s state next p q a ticket seen call view is room more made says same lacks =
+    → IsBusy b (book_of cpus limit workers grown s) p q a ticket ticket seen
+busy_answer b cpus limit workers l grown s state next p q a ticket seen call view is room more made says same lacks =
     let caps : cap state.cpus state.limit ≡ cap b.cpus b.limit = ap (λ (n : ℕ). cap n state.limit) (is.machine.0 ∙ ap (λ (x : BookView). x.cpus) view) ∙ ap (cap b.cpus) (is.machine.1 ∙ ap (λ (x : BookView). x.limit) view) in
     let within = lacks.within in
     let above = lacks.above in
-    let alone = enters_alone b cpus limit l grown s state p q call (Reply.Busy seen) view is room more made (ap (reply_to state) same ∙ says.reply) in
+    let alone = enters_alone b cpus limit workers l grown s state p q call (Reply.Busy seen) view is room more made (ap (reply_to state) same ∙ says.reply) in
     record {
-      entered = subst (λ (c : Call). EntersAlone b (book_of cpus limit grown s) p q c (Reply.Busy seen)) same alone;
+      entered = subst (λ (c : Call). EntersAlone b (book_of cpus limit workers grown s) p q c (Reply.Busy seen)) same alone;
       within = subst (λ (n : ℕ). seen ≤ n) caps within;
       above = subst (λ (n : ℕ). n < seen + a.params.bw) caps above;
       ticket_back = refl;

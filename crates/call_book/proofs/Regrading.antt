@@ -155,35 +155,35 @@ asked_stock : (state : Domain) (old new : StockView) (number : ℕ) (params : Pa
 asked_stock state old new number params word (inl a) = a.2
 asked_stock state old new number params word (inr a) = a.2 ∙ ap (λ (x : StockView). record old { tickets = x.tickets }) (sym a.2)
 
-pub regrade_grows : (cpus limit : ℕ) (l grown : LedgerView) (s t : StockView) (state next : Domain) (number : ℕ) (params : ParamsView) (word : Option ℕ) (reply : Reply) (p : PassView Entry) → IsBook (book_of cpus limit l s) state
+pub regrade_grows : (cpus limit workers : ℕ) (l grown : LedgerView) (s t : StockView) (state next : Domain) (number : ℕ) (params : ParamsView) (word : Option ℕ) (reply : Reply) (p : PassView Entry) → IsBook (book_of cpus limit workers l s) state
     → grown ≡ record l { history = l.history ++ entry_by p (Call.Regrade number params word) reply ∷ [] } → IsAsked state s t number params word
-    → reply ≡ reply_to state (Call.Regrade number params word) → next ≡ after_call state (Call.Regrade number params word) → IsBook (book_of cpus limit grown t) next
-regrade_grows cpus limit l grown s t state next number params word reply p is more asked lawful becomes =
+    → reply ≡ reply_to state (Call.Regrade number params word) → next ≡ after_call state (Call.Regrade number params word) → IsBook (book_of cpus limit workers grown t) next
+regrade_grows cpus limit workers l grown s t state next number params word reply p is more asked lawful becomes =
     let stock = asked_stock state s t number params word asked in
     let pieces : t ≡ record s { tickets = t.tickets; blanks = t.blanks } = stock ∙ ap (λ (bs : List BlankView). record s { tickets = t.tickets; blanks = bs }) (sym (ap (λ (x : StockView). x.blanks) stock)) in
-    book_grows cpus limit l grown s t state next (entry_by p (Call.Regrade number params word) reply) is more pieces (ap Some lawful) becomes (regrade_holds state next s t number params word is.held asked becomes) (omega arith)
+    book_grows cpus limit workers l grown s t state next (entry_by p (Call.Regrade number params word) reply) is more pieces (ap Some lawful) becomes (regrade_holds state next s t number params word is.held asked becomes) (omega arith)
 
 -- the call has a spelling, since the cap of 64 CPUs is 2^26
-pub regrade_spelled : (cpus limit : ℕ) (l : LedgerView) (s t : StockView) (state : Domain) (number : ℕ) (params : ParamsView) (word : Option ℕ) → IsBook (book_of cpus limit l s) state → IsCall (Call.Regrade number params None) → IsAsked state s t number params word → IsCall (Call.Regrade number params word)
-regrade_spelled cpus limit l s t state number params None is call asked = call
-regrade_spelled cpus limit l s t state number params (Some seen) is call (inl a) =
+pub regrade_spelled : (cpus limit workers : ℕ) (l : LedgerView) (s t : StockView) (state : Domain) (number : ℕ) (params : ParamsView) (word : Option ℕ) → IsBook (book_of cpus limit workers l s) state → IsCall (Call.Regrade number params None) → IsAsked state s t number params word → IsCall (Call.Regrade number params word)
+regrade_spelled cpus limit workers l s t state number params None is call asked = call
+regrade_spelled cpus limit workers l s t state number params (Some seen) is call (inl a) =
     let capped = is.capped in
     let few = is.few in
     let high = is.high in
     let within = a.4 in
     (call.0, call.1, omega (arith, within, capped, mul-le-mul_right limit few, mul-le-mul_left 64 high))
-regrade_spelled cpus limit l s t state number params (Some seen) is call (inr a) = absurd (let e = a.1 in cc)
+regrade_spelled cpus limit workers l s t state number params (Some seen) is call (inr a) = absurd (let e = a.1 in cc)
 
-pub regrade_answer : (b : BookView) (cpus limit : ℕ) (l grown : LedgerView) (s t : StockView) (state : Domain) (number : ℕ) (params : ParamsView) (word : Option ℕ) (reply : Reply) (p q : PassView Entry) → book_of cpus limit l s ≡ b → IsBook (book_of cpus limit l s) state → length l.history < l.room
+pub regrade_answer : (b : BookView) (cpus limit workers : ℕ) (l grown : LedgerView) (s t : StockView) (state : Domain) (number : ℕ) (params : ParamsView) (word : Option ℕ) (reply : Reply) (p q : PassView Entry) → book_of cpus limit workers l s ≡ b → IsBook (book_of cpus limit workers l s) state → length l.history < l.room
     → grown ≡ record l { history = l.history ++ entry_by p (Call.Regrade number params word) reply ∷ [] } → q ≡ with_entry p (Call.Regrade number params word) reply → IsAsked state s t number params word → reply ≡ reply_to state (Call.Regrade number params word)
-    → IsRegraded b (book_of cpus limit grown t) p q number params reply
-regrade_answer b cpus limit l grown s t state number params word reply p q view is room more made asked lawful =
-    let old = book_of cpus limit l s in
-    let new = book_of cpus limit grown t in
+    → IsRegraded b (book_of cpus limit workers grown t) p q number params reply
+regrade_answer b cpus limit workers l grown s t state number params word reply p q view is room more made asked lawful =
+    let old = book_of cpus limit workers l s in
+    let new = book_of cpus limit workers grown t in
     let stock = asked_stock state s t number params word asked in
     let e : Entry = entry_by p (Call.Regrade number params word) reply in
     let book : new ≡ record old { history = l.history ++ e ∷ []; tickets = t.tickets; blanks = t.blanks } =
-    ap (λ (x : LedgerView). book_of cpus limit x t) more ∙ ap (λ (x : StockView). record old { gate = x.gate; domain = x.domain; history = l.history ++ e ∷ []; tickets = t.tickets; blanks = t.blanks }) stock in
+    ap (λ (x : LedgerView). book_of cpus limit workers x t) more ∙ ap (λ (x : StockView). record old { gate = x.gate; domain = x.domain; history = l.history ++ e ∷ []; tickets = t.tickets; blanks = t.blanks }) stock in
     let test : Own (state_of old) number params ≡ Own state number params = ap (λ (d : Domain). Own d number params) (sym is.run) in
     let whole : IsRegraded old new p q number params reply = record {
       word = word;

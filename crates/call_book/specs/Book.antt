@@ -35,6 +35,8 @@ pub record BookView : Type 0 where
   pub tickets : List Held
   -- the pieces of tasks that have gone, which wait to be handed out
   pub blanks : List BlankView
+  -- by how many workers an advance goes; no answer depends on them
+  pub workers : ℕ
 
 -- ---- histories
 

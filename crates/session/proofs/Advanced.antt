@@ -202,6 +202,7 @@ no_book id = record {
   history = [];
   tickets = [];
   blanks = [];
+  workers = 0;
 }
 
 pub is_finished : (id : SessionId) (duration : ℕ) (cs es : List ClientView) (books : List BookView) (f : Finished)

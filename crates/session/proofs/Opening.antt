@@ -259,7 +259,7 @@ pub cap_at : (domains : List ℕ) (limit d : ℕ) → d < length domains → get
 cap_at domains limit d inside = get_or-map (λ (cpus : ℕ). cap cpus limit) domains d 0 0 inside
 
 pub is_session : (o : Options) (gate : GateId) (books : List BookView) (sets : List (List ℕ)) (clients : ℕ) → AreOptions o → gate.terms ≡ terms_of o
-    → sets ≡ cpu_sets_from 0 o.domains.items → length books ≡ length o.domains.items → clients ≡ o.clients → IsSession (id_of gate books sets o.limit clients o.history)
+    → sets ≡ cpu_sets_from 0 o.domains.items → length books ≡ length o.domains.items → clients ≡ o.clients → IsSession (id_of gate books sets o.limit clients o.history o.workers)
 is_session o gate books sets clients are terms is count number =
     let domains = o.domains.items in
     let sets_count : length sets ≡ length domains = ap length is ∙ length_sets 0 domains in
@@ -282,8 +282,8 @@ is_session o gate books sets clients are terms is count number =
     }
 
 pub are_named : (o : Options) (gate : GateId) (books : List BookView) (sets : List (List ℕ)) (clients : ℕ)
-    → sets ≡ cpu_sets_from 0 o.domains.items → length books ≡ length o.domains.items → clients ≡ o.clients → AreBooks gate o.domains.items o.limit o.clients o.history books
-    → AreSessionBooks (id_of gate books sets o.limit clients o.history) books
+    → sets ≡ cpu_sets_from 0 o.domains.items → length books ≡ length o.domains.items → clients ≡ o.clients → AreBooks gate o.domains.items o.limit o.clients o.history o.workers books
+    → AreSessionBooks (id_of gate books sets o.limit clients o.history o.workers) books
 are_named o gate books sets clients is count number are d x inside =
     let here : d < length o.domains.items = omega (arith, inside, count) in
     let b = are d x inside in
@@ -295,6 +295,7 @@ are_named o gate books sets clients is count number are d x inside =
       limit = b.has_limit;
       clients = b.has_clients ∙ sym number;
       room = b.has_room;
+      workers = b.has_workers;
       place = omega (arith, here, ap length is, length_sets 0 o.domains.items);
     }
 

@@ -32,3 +32,4 @@ pub record IsSessionOf (o : Options) (id : SessionId) : Type 0 where
   pub limit : id.limit ≡ o.limit
   pub clients : id.clients ≡ o.clients
   pub max_calls : id.max_calls ≡ o.history
+  pub workers : id.workers ≡ o.workers

@@ -18,6 +18,8 @@ pub record SessionId : Type 0 where
   pub clients : ℕ
   -- how many calls the history of each domain has room for
   pub max_calls : ℕ
+  -- by how many workers each domain's book makes an advance; no answer depends on them
+  pub workers : ℕ
 
 -- no session in particular
 abbrev pub no_session : SessionId
@@ -31,6 +33,7 @@ no_session = record {
   limit = 0;
   clients = 0;
   max_calls = 0;
+  workers = 0;
 }
 
 -- the spine of a domain's book

@@ -32,6 +32,7 @@ pub struct Parts {
     pub(crate) cpu_sets: Vec<Vec<u32>>,
     pub(crate) limit: u64,
     pub(crate) history: usize,
+    pub(crate) workers: usize,
     pub(crate) books: Vec<Domain>,
     pub(crate) hands: Vec<Option<Hand>>,
     pub(crate) pool: Vec<Blank>,
@@ -45,10 +46,10 @@ impl Model for Parts {
     ghost Value = { SessionId };
 
     ghost view = { λ p.
-        id_of p.gate p.books.items (map (λ v. v.items) p.cpu_sets.items) p.limit (vec_len p.hands) p.history };
+        id_of p.gate p.books.items (map (λ v. v.items) p.cpu_sets.items) p.limit (vec_len p.hands) p.history p.workers };
 
     ghost invariant = { λ p. AreParts
-        (id_of p.gate p.books.items (map (λ v. v.items) p.cpu_sets.items) p.limit (vec_len p.hands) p.history)
+        (id_of p.gate p.books.items (map (λ v. v.items) p.cpu_sets.items) p.limit (vec_len p.hands) p.history p.workers)
         p.books.items p.hands.items p.pool.items };
 }
 
@@ -154,7 +155,7 @@ fn books_of(
     requires room { HaveRoom (length options.now.domains.items) hands.old.items }
     ensures count { IfOk result (λ v. length v.items ≡ length options.now.domains.items) }
     ensures books { let o = options.now in
-        IfOk result (λ v. AreBooks gate.now o.domains.items o.limit o.clients o.history v.items) }
+        IfOk result (λ v. AreBooks gate.now o.domains.items o.limit o.clients o.history o.workers v.items) }
     ensures hands { IfOk result (λ v.
         AreHands gate.now (map (λ b. b.spine) v.items) hands.new.items) }
     ensures some { OnOk result (map is_some hands.new.items ≡ replicate options.now.clients true) }
@@ -225,6 +226,7 @@ impl Parts {
             cpu_sets,
             limit: options.limit,
             history: options.history,
+            workers: options.workers,
             books,
             hands,
             pool,

@@ -61,6 +61,7 @@ impl<N: Names> Session<N> {
             cpu_sets,
             limit: _,
             history: _,
+            workers: _,
             mut books,
             hands,
             pool,

@@ -12,9 +12,9 @@ use Rattle.call_book.specs.Book.{BookView, state_of, IsLegal}
 use Rattle.call_book.specs.private.Ledger.{LedgerView}
 use Rattle.call_book.specs.private.Stock.{StockView}
 
--- a book as a contract sees it, of its CPUs and limit, its history and its pieces
-abbrev pub book_of : ℕ → ℕ → LedgerView → StockView → BookView
-book_of cpus limit l s = record {
+-- a book as a contract sees it, of its CPUs and limit, its workers, its history and its pieces
+abbrev pub book_of : ℕ → ℕ → ℕ → LedgerView → StockView → BookView
+book_of cpus limit workers l s = record {
   gate = s.gate;
   domain = s.domain;
   cpus = cpus;
@@ -25,6 +25,7 @@ book_of cpus limit l s = record {
   history = l.history;
   tickets = s.tickets;
   blanks = s.blanks;
+  workers = workers;
 }
 
 -- The state is the run of the history, which is legal; each listed task has a ticket; the domain is one of the gate's, with its

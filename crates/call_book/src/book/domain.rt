@@ -42,9 +42,9 @@ pub struct Domain {
     state: State,
     ledger: Ledger,
     stock: Stock,
-    // No contract sees them: they change no answer.
-    alloc: Global,
     workers: Workers,
+    // No contract sees it: it changes no answer.
+    alloc: Global,
 }
 
 impl Model for Domain {
@@ -53,9 +53,9 @@ impl Model for Domain {
 
     ghost Value = { BookView };
 
-    ghost view = { λ b. book_of b.cpus b.limit b.ledger b.stock };
+    ghost view = { λ b. book_of b.cpus b.limit b.workers.count b.ledger b.stock };
 
-    ghost invariant = { λ b. IsBook (book_of b.cpus b.limit b.ledger b.stock) b.state };
+    ghost invariant = { λ b. IsBook (book_of b.cpus b.limit b.workers.count b.ledger b.stock) b.state };
 }
 
 /// What [`Domain::admit`] answers.
@@ -176,6 +176,7 @@ impl Domain {
           history = [];
           tickets = [];
           blanks = [];
+          workers = 1;
         }) }
         ensures count { IfOk result (λ r. length r.1.items ≡ clients) }
         ensures passes { IfOk result (λ r. (k : ℕ) → k < clients
@@ -201,7 +202,7 @@ impl Domain {
     /// number, also where a worker cannot be started. It is no call of the history. Takes no memory.
     pub fn set_workers(&mut self, n: usize)
         requires { (1 ≤ n) × (n ≤ 8) }
-        ensures { self.new ≡ self.old }
+        ensures { self.new ≡ record self.old { workers = n } }
     {
         self.workers = Workers { count: n };
     }

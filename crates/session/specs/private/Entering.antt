@@ -27,6 +27,7 @@ pub record IsSessionBook (id : SessionId) (d : ℕ) (b : BookView) : Type 0 wher
   pub limit : b.limit ≡ id.limit
   pub clients : b.clients ≡ id.clients
   pub room : b.room ≡ id.max_calls
+  pub workers : b.workers ≡ id.workers
   pub place : IsDomainIndex id d
 
 -- a client's pass of a domain's book
@@ -82,6 +83,7 @@ pub record SameBook (old new : BookView) : Type 0 where
   pub limit : new.limit ≡ old.limit
   pub clients : new.clients ≡ old.clients
   pub room : new.room ≡ old.room
+  pub workers : new.workers ≡ old.workers
 
 -- the ticket of a task that the book refused was given back by a step of its own, and its blank is there for the client
 abbrev pub IsGivenBack : TicketView → Answer → Option BlankView → Type 0

@@ -38,17 +38,18 @@ AreNewPasses spine passes =
     → slice_index_or passes k x ≡ record { spine = spine; client = k + 1; entries = [] }
 
 -- the book of a domain of a gate
-pub record IsBookOf (gate : GateId) (d cpus limit clients room : ℕ) (b : BookView) : Type 0 where
+pub record IsBookOf (gate : GateId) (d cpus limit clients room workers : ℕ) (b : BookView) : Type 0 where
   pub of_gate : b.gate ≡ gate
   pub of_domain : b.domain ≡ d
   pub has_cpus : b.cpus ≡ cpus
   pub has_limit : b.limit ≡ limit
   pub has_clients : b.clients ≡ clients
   pub has_room : b.room ≡ room
+  pub has_workers : b.workers ≡ workers
 
-abbrev pub AreBooks : GateId → List ℕ → ℕ → ℕ → ℕ → List BookView → Type 0
-AreBooks gate domains limit clients room books =
-    (d : ℕ) (x : BookView) → d < length books → IsBookOf gate d (slice_index domains d) limit clients room (slice_index_or books d x)
+abbrev pub AreBooks : GateId → List ℕ → ℕ → ℕ → ℕ → ℕ → List BookView → Type 0
+AreBooks gate domains limit clients room workers books =
+    (d : ℕ) (x : BookView) → d < length books → IsBookOf gate d (slice_index domains d) limit clients room workers (slice_index_or books d x)
 
 -- the books of the domains 0, 1, ..
 abbrev pub AreSessionBooks : SessionId → List BookView → Type 0
@@ -58,14 +59,15 @@ abbrev pub AreBlanksOf : GateId → List BlankView → Type 0
 AreBlanksOf gate blanks = All (λ b. b.gate ≡ gate) blanks
 
 -- the session that these parts make
-abbrev pub id_of : GateId → List BookView → List (List ℕ) → ℕ → ℕ → ℕ → SessionId
-id_of gate books cpu_sets limit clients room = record {
+abbrev pub id_of : GateId → List BookView → List (List ℕ) → ℕ → ℕ → ℕ → ℕ → SessionId
+id_of gate books cpu_sets limit clients room workers = record {
   gate = gate;
   spines = map (λ b. b.spine) books;
   cpu_sets = cpu_sets;
   limit = limit;
   clients = clients;
   max_calls = room;
+  workers = workers;
 }
 
 pub record AreParts (id : SessionId) (books : List BookView) (hands : List (Option Hand)) (pool : List BlankView) : Type 0 where

@@ -1,4 +1,4 @@
-use Rattle.std.proofs.Common.{◌<◌, ℕ, ◌+◌, List, [], ◌∷◌, ◌++◌, get_or, length, map, ap, sym, subst, ◌∙◌, arith}
+use Rattle.std.proofs.Common.{◌<◌, ℕ, ◌+◌, List, [], ◌∷◌, ◌++◌, get_or, length, map, refl, ap, sym, subst, ◌∙◌, arith}
 use Rattle.std.specs.Prelude.{slice_index}
 use Rattle.std.proofs.lemmas.List.{length-map, length_push, map_push, get_or_read}
 use Rattle.atomic_table.specs.Seated.{TableId}
@@ -28,7 +28,8 @@ loop-d-preserved c =
     let d = c.loop-d.d in
     let was = c.loop-d.books.items in
     let items = c.push_reserved.ensures.items ∙ ap (λ (y : BookView). was ++ y ∷ []) c.set_workers.ensures in
-    let b = c.in-Ok.domain in
+    let given = c.in-Ok.domain in
+    let b : BookView = record given { workers = o.workers } in
     let told = c.in-Ok.ensures in
     let spine : BookView → TableId = λ x. x.spine in
     let here : d < length o.domains.items = omega (arith, c.len-count.ensures, o.domains.ok.0) in
@@ -37,8 +38,8 @@ loop-d-preserved c =
       count = ap length items ∙ length_push was b ∙ ap (λ (k : ℕ). k + 1) inv.count;
       capacity = omega (arith, c.push_reserved.ensures.capacity, inv.capacity);
       books = λ e x inside.
-          subst (λ (bs : List BookView). e < length bs → IsBookOf gate e (slice_index o.domains.items e) o.limit o.clients o.history (get_or bs e x)) (sym items)
-          (λ there. each_push (λ j y. IsBookOf gate j (slice_index o.domains.items j) o.limit o.clients o.history y) was d e b x inv.count there
+          subst (λ (bs : List BookView). e < length bs → IsBookOf gate e (slice_index o.domains.items e) o.limit o.clients o.history o.workers (get_or bs e x)) (sym items)
+          (λ there. each_push (λ j y. IsBookOf gate j (slice_index o.domains.items j) o.limit o.clients o.history o.workers y) was d e b x inv.count there
           (record {
             of_gate = ap (λ (y : BookView). y.gate) told.book;
             of_domain = ap (λ (y : BookView). y.domain) told.book;
@@ -46,6 +47,7 @@ loop-d-preserved c =
             has_limit = ap (λ (y : BookView). y.limit) told.book;
             has_clients = ap (λ (y : BookView). y.clients) told.book;
             has_room = ap (λ (y : BookView). y.room) told.book;
+            has_workers = refl;
           })
           (λ front. inv.books e x front))
           inside;

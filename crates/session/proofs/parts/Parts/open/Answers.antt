@@ -29,4 +29,5 @@ returns c =
       limit = refl;
       clients = hands.ok.0 ∙ count_hands hands.items o.clients c.in_ok-books.ensures.some;
       max_calls = refl;
+      workers = refl;
     }
