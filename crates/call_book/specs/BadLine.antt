@@ -12,11 +12,14 @@ IsAccepted text = (sections : List SectionView) × AreRead sections × (text ≡
 
 -- these are the first lines of some accepted text
 abbrev pub Begins : List (List ℕ) → Type 0
-Begins lines = (sections : List SectionView) × AreRead sections × (more : List (List ℕ)) × (lines_of sections ≡ lines ++ more)
+Begins lines =
+    (sections : List SectionView) × AreRead sections × (more : List (List ℕ))
+    × (lines_of sections ≡ lines ++ more)
 
--- Line n is the first at which the text stops being a front of whole lines of an accepted text: the lines before it begin an
--- accepted text, with line n they begin none, and the text itself is not accepted. So an unfinished last line is bad, and
--- where a text ends too early, the line that is missing.
+-- Line n is the first at which the text stops being a front of whole lines of an accepted text: the
+-- lines before it begin an accepted text, with line n they begin none, and the text itself is not
+-- accepted. So an unfinished last line is bad, and where a text ends too early, the line that is
+-- missing.
 pub record IsBadLine (text : List ℕ) (n : ℕ) : Type 0 where
   -- the lines before line n, and what follows them
   pub front : List (List ℕ)

@@ -1,4 +1,5 @@
--- A domain's book: the calls that were made on one domain, in their order, and the tickets of its tasks (own).
+-- A domain's book: the calls that were made on one domain, in their order, and the tickets of its
+-- tasks (own).
 use Rattle.std.specs.Prelude.{◌≡◌, ℕ, ◌<◌, ◌≤◌, List, [], ◌∷◌, ◌++◌, length, map, Some, All}
 use Rattle.attr_check.specs.ParamsView.{ParamsView}
 use Rattle.atomic_table.specs.Seated.{TableId}
@@ -49,7 +50,8 @@ state_of b = run_of b.cpus b.limit (calls_of b.history)
 
 -- a history is legal where each entry has the reply that the run gives to its call
 abbrev pub IsLegal : ℕ → ℕ → List Entry → Type 0
-IsLegal cpus limit history = map (λ e. e.reply) history ≡ map Some (replies_to (opened cpus limit) (calls_of history))
+IsLegal cpus limit history =
+    map (λ e. e.reply) history ≡ map Some (replies_to (opened cpus limit) (calls_of history))
 
 -- an entry beside its client, as a spine lists it
 abbrev pub keyed : Entry → ℕ × Entry
@@ -64,8 +66,8 @@ pub record IsMember (clients : ℕ) (client : ℕ) : Type 0 where
   pub some : 0 < client
   pub most : client ≤ clients
 
--- what each history keeps: it is legal; each client's entries are numbered 0, 1, 2, .. in their order; no stranger made one; and
--- each has a spelling as text
+-- what each history keeps: it is legal; each client's entries are numbered 0, 1, 2, .. in their
+-- order; no stranger made one; and each has a spelling as text
 pub record IsBookHistory (b : BookView) : Type 0 where
   pub legal : IsLegal b.cpus b.limit b.history
   pub numbered : IsNumbered b.history
@@ -83,7 +85,8 @@ pub record IsPassOf (b : BookView) (p : PassView Entry) : Type 0 where
 
 -- the entry of a call that is made with a pass: how many its client made before, and the reply
 abbrev pub entry_by : PassView Entry → Call → Reply → Entry
-entry_by p call reply = record { client = p.client; seq = length p.entries; call = call; reply = Some reply }
+entry_by p call reply =
+    record { client = p.client; seq = length p.entries; call = call; reply = Some reply }
 
 abbrev pub with_entry : PassView Entry → Call → Reply → PassView Entry
 with_entry p call reply = record p { entries = p.entries ++ entry_by p call reply ∷ [] }
@@ -92,16 +95,23 @@ with_entry p call reply = record p { entries = p.entries ++ entry_by p call repl
 abbrev pub IsFull : BookView → Type 0
 IsFull b = length b.history ≡ b.room
 
--- the call is answered as the definition of calls says, and stands behind the history and behind the pass's list; of the book
--- nothing else changes but tickets and blanks
-pub record Enters (old new : BookView) (p q : PassView Entry) (call : Call) (reply : Reply) : Type 0 where
+-- the call is answered as the definition of calls says, and stands behind the history and behind
+-- the pass's list; of the book nothing else changes but tickets and blanks
+pub record Enters (old new : BookView) (p q : PassView Entry) (call : Call)
+    (reply : Reply) : Type 0 where
   pub free : length old.history < old.room
   pub lawful : reply ≡ reply_to (state_of old) call
-  pub book : new ≡ record old { history = old.history ++ entry_by p call reply ∷ []; tickets = new.tickets; blanks = new.blanks }
+  pub book : new
+      ≡ record old {
+        history = old.history ++ entry_by p call reply ∷ [];
+        tickets = new.tickets;
+        blanks = new.blanks;
+      }
   pub pass : q ≡ with_entry p call reply
 
 -- the same, and no ticket and no blank moves
-pub record EntersAlone (old new : BookView) (p q : PassView Entry) (call : Call) (reply : Reply) : Type 0 where
+pub record EntersAlone (old new : BookView) (p q : PassView Entry) (call : Call)
+    (reply : Reply) : Type 0 where
   pub entered : Enters old new p q call reply
   pub tickets : new.tickets ≡ old.tickets
   pub blanks : new.blanks ≡ old.blanks

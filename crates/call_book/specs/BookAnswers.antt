@@ -18,7 +18,8 @@ use Rattle.call_book.specs.Pieces.{is_kept, is_gone, AreGiven, AsksTheWord}
 use Rattle.call_book.specs.Book.{BookView, state_of, AdmissionView, admission, IsFull, Enters, EntersAlone, Stays, IsRefusedFull}
 
 -- ADMIT. The task is listed, its ticket is held for it, and a blank is handed out where one is kept
-pub record IsAdmitted (old new : BookView) (p q : PassView Entry) (a : AdmissionView) (ticket : TicketView) (blank : Option BlankView) : Type 0 where
+pub record IsAdmitted (old new : BookView) (p q : PassView Entry) (a : AdmissionView)
+    (ticket : TicketView) (blank : Option BlankView) : Type 0 where
   pub entered : Enters old new p q (admission a) replies.Admitted
   pub tickets : new.tickets ≡ old.tickets ++ record { number = a.number; ticket = ticket } ∷ []
   pub handed : old.blanks ≡ new.blanks ++ option_to_list blank
@@ -26,38 +27,47 @@ pub record IsAdmitted (old new : BookView) (p q : PassView Entry) (a : Admission
   pub own : IfSome blank (λ b. b.gate ≡ old.gate)
 
 -- the sum of bandwidths has no room for the task, and the ticket comes back
-pub record IsBusy (old new : BookView) (p q : PassView Entry) (a : AdmissionView) (ticket back : TicketView) (seen : ℕ) : Type 0 where
+pub record IsBusy (old new : BookView) (p q : PassView Entry) (a : AdmissionView)
+    (ticket back : TicketView) (seen : ℕ) : Type 0 where
   pub entered : EntersAlone old new p q (admission a) (replies.Busy seen)
   pub within : seen ≤ cap old.cpus old.limit
   pub above : cap old.cpus old.limit < seen + a.params.bw
   pub ticket_back : back ≡ ticket
 
 -- nothing changes, and ticket and admission come back
-pub record ComesBack (old new : BookView) (p q : PassView Entry) (a b : AdmissionView) (ticket back : TicketView) : Type 0 where
+pub record ComesBack (old new : BookView) (p q : PassView Entry) (a b : AdmissionView)
+    (ticket back : TicketView) : Type 0 where
   pub stays : Stays old new p q
   pub ticket_back : back ≡ ticket
   pub admission_back : b ≡ a
 
-abbrev pub IsAdmit : BookView → BookView → PassView Entry → PassView Entry → AdmissionView → TicketView → Admit → Type 0
+abbrev pub IsAdmit : BookView → BookView → PassView Entry → PassView Entry → AdmissionView
+    → TicketView → Admit → Type 0
 IsAdmit old new p q a ticket (Admitted blank) = IsAdmitted old new p q a ticket blank
 IsAdmit old new p q a ticket (Busy back seen) = IsBusy old new p q a ticket back seen
 IsAdmit old new p q a ticket (Full back b) =
-    ComesBack old new p q a b ticket back × (IsFull old ⊎ (reply_to (state_of old) (admission a) ≡ replies.Full))
+    ComesBack old new p q a b ticket back
+    × (IsFull old ⊎ (reply_to (state_of old) (admission a) ≡ replies.Full))
 IsAdmit old new p q a ticket (Twice back b) =
-    ComesBack old new p q a b ticket back × (length old.history < old.room) × (reply_to (state_of old) (admission a) ≡ replies.Twice)
+    ComesBack old new p q a b ticket back × (length old.history < old.room)
+    × (reply_to (state_of old) (admission a) ≡ replies.Twice)
 
--- REGRADE. Where the domain's own test passes, the task's ticket asks the word, and its answer stands in the entry; elsewhere the
--- word is not asked, and no ticket changes
-pub record IsRegraded (old new : BookView) (p q : PassView Entry) (number : ℕ) (params : ParamsView) (reply : Reply) : Type 0 where
+-- REGRADE. Where the domain's own test passes, the task's ticket asks the word, and its answer
+-- stands in the entry; elsewhere the word is not asked, and no ticket changes
+pub record IsRegraded (old new : BookView) (p q : PassView Entry) (number : ℕ)
+    (params : ParamsView) (reply : Reply) : Type 0 where
   pub word : Option ℕ
   pub entered : Enters old new p q (Regrade number params word) reply
   pub blanks : new.blanks ≡ old.blanks
-  pub asked : reply_to (state_of old) (Regrade number params None) ≡ replies.Changed → AsksTheWord number params.bw old.tickets new.tickets word
-  pub unasked : reply_to (state_of old) (Regrade number params None) ≢ replies.Changed → (word ≡ None) × (new.tickets ≡ old.tickets)
+  pub asked : reply_to (state_of old) (Regrade number params None) ≡ replies.Changed
+      → AsksTheWord number params.bw old.tickets new.tickets word
+  pub unasked : reply_to (state_of old) (Regrade number params None) ≢ replies.Changed
+      → (word ≡ None) × (new.tickets ≡ old.tickets)
 
--- ADVANCE. So many ticks were made, at least one; the tickets of tasks that went off the list are given back and their blanks
--- kept, and no others
-pub record IsAdvanced (old new : BookView) (p q : PassView Entry) (n : ℕ) (reply : Reply) : Type 0 where
+-- ADVANCE. So many ticks were made, at least one; the tickets of tasks that went off the list are
+-- given back and their blanks kept, and no others
+pub record IsAdvanced (old new : BookView) (p q : PassView Entry) (n : ℕ)
+    (reply : Reply) : Type 0 where
   pub made : ℕ
   pub some : 0 < made
   pub most : made ≤ n
@@ -68,6 +78,7 @@ pub record IsAdvanced (old new : BookView) (p q : PassView Entry) (n : ℕ) (rep
   pub blanks : new.blanks ≡ old.blanks ++ given
   pub are_given : AreGiven (filter (is_gone (state_of new)) old.tickets) given
 
-abbrev pub IsNotAdvanced : BookView → BookView → PassView Entry → PassView Entry → AdvanceError → Type 0
+abbrev pub IsNotAdvanced : BookView → BookView → PassView Entry → PassView Entry → AdvanceError
+    → Type 0
 IsNotAdvanced old new p q stops.Full = IsRefusedFull old new p q
 IsNotAdvanced old new p q stops.Memory = (length old.history < old.room) × Stays old new p q

@@ -20,7 +20,8 @@ abbrev call : ℕ → Call → Entry
 call seq c = record { client = 1; seq = seq; call = c; reply = None }
 
 abbrev params : ℕ → ℕ → ℕ → ℕ → ParamsView
-params runtime deadline period bw = record { runtime = runtime; deadline = deadline; period = period; reclaim = false; bw = bw }
+params runtime deadline period bw =
+    record { runtime = runtime; deadline = deadline; period = period; reclaim = false; bw = bw }
 
 abbrev phase : ℕ → List Event → PhaseView
 phase count events = record { count = count; events = events }
@@ -29,7 +30,10 @@ abbrev one_section : ℕ → ℕ → List Entry → List SectionView
 one_section cpus limit entries = record { cpus = cpus; limit = limit; entries = entries } ∷ []
 
 -- a whole text: throttled inside a job
-pub throttled_inside_a_job : spelling (one_section 1 1048576 (call 0 (Admit 1 (codes "a") (params 2 5 5 419430) 0 (script_of (Some 1) (phase 1 (Run 4 ∷ []) ∷ []))) ∷ call 1 (Advance 11) ∷ []))
+pub throttled_inside_a_job : spelling
+    (one_section 1 1048576
+    (call 0 (Admit 1 (codes "a") (params 2 5 5 419430) 0
+    (script_of (Some 1) (phase 1 (Run 4 ∷ []) ∷ []))) ∷ call 1 (Advance 11) ∷ []))
     ≡ codes "dlcalls 1\ndomain 1 1048576\nadmit 1 1 a 2 5 5 - 0 1:1{r4}\nadvance 1 11\n"
 unfolding digits
 throttled_inside_a_job = refl
@@ -39,32 +43,52 @@ pub bare_section : spelling (one_section 1 1048576 []) ≡ codes "dlcalls 1\ndom
 unfolding digits
 bare_section = refl
 
-pub two_sections : spelling (record { cpus = 1; limit = 996147; entries = call 0 (Advance 1) ∷ [] } ∷ one_section 2 1048576 (call 0 (Advance 2) ∷ [])) ≡ codes "dlcalls 1\ndomain 1 996147\nadvance 1 1\ndomain 2 1048576\nadvance 1 2\n"
+pub two_sections : spelling
+    (record { cpus = 1; limit = 996147; entries = call 0 (Advance 1) ∷ [] }
+    ∷ one_section 2 1048576
+    (call 0 (Advance 2)
+    ∷ [])) ≡ codes "dlcalls 1\ndomain 1 996147\nadvance 1 1\ndomain 2 1048576\nadvance 1 2\n"
 unfolding digits
 two_sections = refl
 
--- the lines of each kind of call: a task that reclaims, phases in order, a timer, a wait; a regrade that the word refused
-pub reclaiming_line : entry_line (call 0 (Admit 1 (codes "T1") (record { runtime = 4; deadline = 8; period = 8; reclaim = true; bw = 524288 }) 0 (script_of None (phase 1 (Run 2 ∷ Sleep 6 ∷ []) ∷ [])))) ≡ codes "admit 1 1 T1 4 8 8 R 0 -1:1{r2,s6}"
+-- the lines of each kind of call: a task that reclaims, phases in order, a timer, a wait; a regrade
+-- that the word refused
+pub reclaiming_line : entry_line
+    (call 0 (Admit 1 (codes "T1")
+    (record { runtime = 4; deadline = 8; period = 8; reclaim = true; bw = 524288 }) 0
+    (script_of None
+    (phase 1 (Run 2 ∷ Sleep 6 ∷ []) ∷ [])))) ≡ codes "admit 1 1 T1 4 8 8 R 0 -1:1{r2,s6}"
 unfolding digits
 reclaiming_line = refl
 
-pub phases_line : entry_line (call 0 (Admit 1 (codes "p") (params 5 10 10 524288) 0 (script_of None (phase 2 (Run 3 ∷ Sleep 7 ∷ []) ∷ phase 1 (Run 4 ∷ Sleep 2 ∷ Run 1 ∷ []) ∷ [])))) ≡ codes "admit 1 1 p 5 10 10 - 0 -1:2{r3,s7}1{r4,s2,r1}"
+pub phases_line : entry_line
+    (call 0 (Admit 1 (codes "p") (params 5 10 10 524288) 0
+    (script_of None
+    (phase 2 (Run 3 ∷ Sleep 7 ∷ []) ∷ phase 1 (Run 4 ∷ Sleep 2 ∷ Run 1 ∷ [])
+    ∷ [])))) ≡ codes "admit 1 1 p 5 10 10 - 0 -1:2{r3,s7}1{r4,s2,r1}"
 unfolding digits
 phases_line = refl
 
-pub timer_and_wait_line : entry_line (call 0 (Admit 2 (codes "w") (params 2 10 10 209715) 1000 (script_of (Some 3) (phase 1 (Wait ∷ Run 1 ∷ Timer 8 ∷ []) ∷ [])))) ≡ codes "admit 1 2 w 2 10 10 - 1000 3:1{w,r1,t8}"
+pub timer_and_wait_line : entry_line
+    (call 0 (Admit 2 (codes "w") (params 2 10 10 209715) 1000
+    (script_of (Some 3)
+    (phase 1 (Wait ∷ Run 1 ∷ Timer 8 ∷ [])
+    ∷ [])))) ≡ codes "admit 1 2 w 2 10 10 - 1000 3:1{w,r1,t8}"
 unfolding digits
 timer_and_wait_line = refl
 
-pub regrade_line : entry_line (call 0 (Regrade 1 (params 4 8 8 524288) None)) ≡ codes "regrade 1 1 4 8 8 -"
+pub regrade_line : entry_line (call 0 (Regrade 1 (params 4 8 8 524288) None))
+    ≡ codes "regrade 1 1 4 8 8 -"
 unfolding digits
 regrade_line = refl
 
-pub refused_by_the_word_line : entry_line (call 0 (Regrade 1 (params 4 8 8 524288) (Some 393216))) ≡ codes "regrade 1 1 4 8 8 - busy 393216"
+pub refused_by_the_word_line : entry_line (call 0 (Regrade 1 (params 4 8 8 524288) (Some 393216)))
+    ≡ codes "regrade 1 1 4 8 8 - busy 393216"
 unfolding digits
 refused_by_the_word_line = refl
 
-pub wake_and_leave_lines : map entry_line (call 0 (Wake 7) ∷ call 1 (Leave 7) ∷ []) ≡ codes "wake 1 7" ∷ codes "leave 1 7" ∷ []
+pub wake_and_leave_lines : map entry_line (call 0 (Wake 7) ∷ call 1 (Leave 7) ∷ [])
+    ≡ codes "wake 1 7" ∷ codes "leave 1 7" ∷ []
 unfolding digits
 wake_and_leave_lines = refl
 
@@ -79,5 +103,8 @@ pub no_period : accepted (attr_of (params 2 8 0 262144)) ≡ Ok (params 2 8 8 26
 no_period = refl
 
 -- each client counts its own calls
-pub two_clients : IsNumbered (record { client = 1; seq = 0; call = Advance 1; reply = None } ∷ record { client = 2; seq = 0; call = Advance 1; reply = None } ∷ record { client = 1; seq = 1; call = Advance 1; reply = None } ∷ [])
+pub two_clients : IsNumbered
+    (record { client = 1; seq = 0; call = Advance 1; reply = None }
+    ∷ record { client = 2; seq = 0; call = Advance 1; reply = None }
+    ∷ record { client = 1; seq = 1; call = Advance 1; reply = None } ∷ [])
 two_clients = (refl, (refl, (refl, tt)))

@@ -19,8 +19,8 @@ IsClient c = (0 < c) × (c ≤ 64)
 abbrev pub IsNumber : ℕ → Type 0
 IsNumber n = (0 < n) × (n ≤ 65535)
 
--- a task's own times in nanoseconds, with SCHED_DEADLINE (policy 6) and, where it reclaims, SCHED_FLAG_RECLAIM (2)
--- (sched_setattr(2))
+-- a task's own times in nanoseconds, with SCHED_DEADLINE (policy 6) and, where it reclaims,
+-- SCHED_FLAG_RECLAIM (2) (sched_setattr(2))
 abbrev pub attr_of : ParamsView → SchedAttr
 attr_of p = record {
   policy = 6;
@@ -30,12 +30,13 @@ attr_of p = record {
   period = p.period * 1000;
 }
 
--- The attribute check gives these very parameters for their own times. So the period is written out: the check gives the
--- deadline for a period of 0.
+-- The attribute check gives these very parameters for their own times. So the period is written
+-- out: the check gives the deadline for a period of 0.
 abbrev pub IsChecked : ParamsView → Type 0
 IsChecked p = accepted (attr_of p) ≡ Ok p
 
-pub record IsAdmission (number : ℕ) (name : List ℕ) (params : ParamsView) (delay : ℕ) (script : ScriptView) : Type 0 where
+pub record IsAdmission (number : ℕ) (name : List ℕ) (params : ParamsView) (delay : ℕ)
+    (script : ScriptView) : Type 0 where
   pub numbered : IsNumber number
   pub named : IsName name
   pub checked : IsChecked params
@@ -44,7 +45,8 @@ pub record IsAdmission (number : ℕ) (name : List ℕ) (params : ParamsView) (d
 
 abbrev pub IsCall : Call → Type 0
 IsCall (Admit number name params delay script) = IsAdmission number name params delay script
-IsCall (Regrade number params word) = IsNumber number × IsChecked params × IfSome word (λ seen. seen ≤ 2 ^ 26)
+IsCall (Regrade number params word) =
+    IsNumber number × IsChecked params × IfSome word (λ seen. seen ≤ 2 ^ 26)
 IsCall (Wake number) = IsNumber number
 IsCall (Leave number) = IsNumber number
 IsCall (Advance ticks) = (0 < ticks) × (ticks ≤ 60000000)

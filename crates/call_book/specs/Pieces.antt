@@ -34,7 +34,8 @@ pub record IsTicketOf (gate : GateId) (domain : ℕ) (t : TicketView) : Type 0 w
   pub inside : t.domain ≡ domain
 
 -- all pieces are of this gate, the tickets of this domain too, and there are 256 at most
-pub record ArePieces (gate : GateId) (domain : ℕ) (tickets : List Held) (blanks : List BlankView) : Type 0 where
+pub record ArePieces (gate : GateId) (domain : ℕ) (tickets : List Held)
+    (blanks : List BlankView) : Type 0 where
   pub held : All (λ h. IsTicketOf gate domain h.ticket) tickets
   pub free : All (λ b. b.gate ≡ gate) blanks
   pub few : length tickets + length blanks ≤ 256
@@ -43,19 +44,22 @@ pub record ArePieces (gate : GateId) (domain : ℕ) (tickets : List Held) (blank
 abbrev pub AreGiven : List Held → List BlankView → Type 0
 AreGiven tickets blanks = AllZip (λ h b. IsGive h.ticket b) tickets blanks
 
--- what the word of a ticket's domain says of another bandwidth for it: the ticket has it, or the last word that it found has
--- no room for it in the place of the old one
+-- what the word of a ticket's domain says of another bandwidth for it: the ticket has it, or the
+-- last word that it found has no room for it in the place of the old one
 abbrev pub IsWord : TicketView → ℕ → TicketView → Option ℕ → Type 0
 IsWord t bw u None = u.bw ≡ bw
 IsWord t bw u (Some seen) =
-    (u.bw ≡ t.bw) × (last_of u.found ≡ seen) × (seen ≤ cap_of t.gate t.domain) × (cap_of t.gate t.domain < seen - t.bw + bw)
+    (u.bw ≡ t.bw) × (last_of u.found ≡ seen) × (seen ≤ cap_of t.gate t.domain)
+    × (cap_of t.gate t.domain < seen - t.bw + bw)
 
--- the gate's answer to a ticket that asked for another bandwidth: changed, or refused with the number that the word told
+-- the gate's answer to a ticket that asked for another bandwidth: changed, or refused with the
+-- number that the word told
 abbrev pub told_as : TicketView → Option ℕ → Regrade
 told_as u None = regrades.Changed u
 told_as u (Some seen) = regrades.Refused u seen
 
--- a ticket that asked for another bandwidth, by one call of the gate that ended as its last try did: it has found words, and is of its gate and domain still
+-- a ticket that asked for another bandwidth, by one call of the gate that ended as its last try
+-- did: it has found words, and is of its gate and domain still
 pub record IsAnswered (t : TicketView) (bw : ℕ) (u : TicketView) (word : Option ℕ) : Type 0 where
   pub words : List ℕ
   pub some : 0 < length words

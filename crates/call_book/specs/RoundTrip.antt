@@ -17,4 +17,5 @@ unanswered s = record s { entries = map bare s.entries }
 pub record IsReadAs (text : List ℕ) (sections : List SectionView) : Type 0 where
   pub accepted : AreRead sections
   pub spelled : text ≡ spelling sections
-  pub alone : (others : List SectionView) → AreRead others → text ≡ spelling others → others ≡ sections
+  pub alone : (others : List SectionView) → AreRead others → text ≡ spelling others
+      → others ≡ sections

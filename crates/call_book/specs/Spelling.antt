@@ -54,9 +54,12 @@ busy_fields (Some seen) = codes "busy" ∷ decimal seen ∷ []
 -- a call of a client; times are in microseconds
 abbrev pub call_fields : ℕ → Call → List (List ℕ)
 call_fields client (Admit number name params delay script) =
-    codes "admit" ∷ decimal client ∷ decimal number ∷ name ∷ decimal params.runtime ∷ decimal params.deadline ∷ decimal params.period ∷ flag_text params ∷ decimal delay ∷ script_text script ∷ []
+    codes "admit" ∷ decimal client ∷ decimal number ∷ name ∷ decimal params.runtime
+    ∷ decimal params.deadline ∷ decimal params.period ∷ flag_text params ∷ decimal delay
+    ∷ script_text script ∷ []
 call_fields client (Regrade number params word) =
-    codes "regrade" ∷ decimal client ∷ decimal number ∷ decimal params.runtime ∷ decimal params.deadline ∷ decimal params.period ∷ flag_text params ∷ busy_fields word
+    codes "regrade" ∷ decimal client ∷ decimal number ∷ decimal params.runtime
+    ∷ decimal params.deadline ∷ decimal params.period ∷ flag_text params ∷ busy_fields word
 call_fields client (Wake number) = codes "wake" ∷ decimal client ∷ decimal number ∷ []
 call_fields client (Leave number) = codes "leave" ∷ decimal client ∷ decimal number ∷ []
 call_fields client (Advance ticks) = codes "advance" ∷ decimal client ∷ decimal ticks ∷ []

@@ -1,4 +1,5 @@
-//! The book of one domain: its state, the history that it is the run of, and the tickets of its tasks.
+//! The book of one domain: its state, the history that it is the run of, and the tickets of its
+//! tasks.
 
 mod domain;
 mod ledger;

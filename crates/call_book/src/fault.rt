@@ -5,7 +5,8 @@ use std::fmt;
 /// Why a calls text was not read. Prints as `bad line 3` or `out of memory`.
 #[derive(Clone, Copy, Debug, PartialEq, Eq)]
 pub enum CallsFault {
-    /// 30: line `n`, from 1, is the first at which the text stops being a front of whole lines of a text that is accepted.
+    /// 30: line `n`, from 1, is the first at which the text stops being a front of whole lines of a
+    /// text that is accepted.
     BadLine { n: u64 },
     /// 31: a growth was refused. It may come before any bad line.
     Memory,

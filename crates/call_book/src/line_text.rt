@@ -1,4 +1,4 @@
-ghost use Rattle.std.specs.Prelude.{◌≡◌, ◌≤◌, IfOk};
+ghost use Rattle.std.specs.Prelude.{◌≤◌, IfOk};
 ghost use Rattle.call_book.specs.private.Reading.{Gives, field_at, name_at, times_at, AreTimes, flag_at, params_at, plan_at, admit_at, seen_at, answer_at, regrade_at, numbered_at, worded_at, call_at, domain_at};
 
 use crate::cut::cut;
@@ -144,7 +144,8 @@ fn admit_of(alloc: Global, text: &[u8]) -> Result<Call, PartFault>
     })
 }
 
-/// The number with which the bandwidth word refused, from what stands behind the flag of a `regrade` line.
+/// The number with which the bandwidth word refused, from what stands behind the flag of a
+/// `regrade` line.
 #[tactic(auto, unfolding(crate::specs::private::Reading::seen_at))]
 fn seen_of(text: &[u8]) -> Result<u64, PartFault>
     ensures { Gives (λ n. n) result (seen_at text.now) }
@@ -159,7 +160,8 @@ fn seen_of(text: &[u8]) -> Result<u64, PartFault>
     Ok(seen)
 }
 
-/// Whether the task of a `regrade` line reclaims, and with what the bandwidth word refused, where it did.
+/// Whether the task of a `regrade` line reclaims, and with what the bandwidth word refused, where
+/// it did.
 #[tactic(auto, unfolding(crate::specs::private::Reading::answer_at))]
 fn answer_of(text: &[u8]) -> Result<(bool, Option<u64>), PartFault>
     ensures { Gives (λ p. p) result (answer_at text.now) }

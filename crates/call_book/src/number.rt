@@ -1,4 +1,4 @@
-ghost use Rattle.std.specs.Prelude.{◌≡◌, ◌≤◌, IfOk};
+ghost use Rattle.std.specs.Prelude.{◌≤◌, IfOk};
 ghost use Rattle.call_book.specs.private.Reading.{Gives, number_at, number_within_at};
 
 use crate::fault::PartFault;

@@ -55,7 +55,8 @@ fn entry_of(alloc: Global, line: &[u8], made: &mut [u64; 64]) -> Result<Entry, P
     })
 }
 
-/// The entries at the front of a text, and the rest: from the first line on that is no entry's, or that is one too many.
+/// The entries at the front of a text, and the rest: from the first line on that is no entry's, or
+/// that is one too many.
 fn entries_of(alloc: Global, text: &[u8]) -> Result<(Vec<Entry>, &[u8]), PartFault>
     ensures found { IfOk result (λ p. AreEntries text.now p.1.now p.0.items) }
     ensures fault { IfErr result (λ e. e ≡ PartFault.Memory) }
@@ -143,12 +144,13 @@ fn whole_text(alloc: Global, text: &[u8]) -> Result<Vec<Section>, CallsFault>
     sections_of(alloc, rest)
 }
 
-/// The 1 to 8 sections that a calls text spells, in one pass over the text. Entries have no reply, and in each section each
-/// client's are numbered 0, 1, 2, .. in their order.
+/// The 1 to 8 sections that a calls text spells, in one pass over the text. Entries have no reply,
+/// and in each section each client's are numbered 0, 1, 2, .. in their order.
 ///
 /// # Errors
-/// 30 [`CallsFault::BadLine`]: the first line, from 1, at which the text stops being a front of whole lines of a text that is
-/// read. 31 [`CallsFault::Memory`]: a growth was refused; it may come before any bad line.
+/// 30 [`CallsFault::BadLine`]: the first line, from 1, at which the text stops being a front of
+/// whole lines of a text that is read. 31 [`CallsFault::Memory`]: a growth was refused; it may come
+/// before any bad line.
 pub fn read_calls(alloc: Global, text: &[u8]) -> Result<Vec<Section>, CallsFault>
     // What is read is spelled so.
     ensures found { IfOk result (λ v. AreRead v.items × (text.now ≡ spelling v.items)) }

@@ -1,4 +1,4 @@
-ghost use Rattle.std.specs.Prelude.{◌≡◌, IfOk};
+ghost use Rattle.std.specs.Prelude.{IfOk};
 ghost use Rattle.std.specs.Option.{option_map};
 ghost use Rattle.domain_run.specs.script.Segments.{rounds_of, IsLoops};
 ghost use Rattle.call_book.specs.private.Reading.{Gives, event_at, event_first_at, events_at, phase_at, phase_first_at, phases_at, rounds_at, script_at};
@@ -9,7 +9,8 @@ use crate::number::number_within;
 use domain_run::{Event, Phase, Script};
 use std::alloc::Global;
 
-/// The most microseconds of an event, the most repetitions of a phase, and the most rounds of a script.
+/// The most microseconds of an event, the most repetitions of a phase, and the most rounds of a
+/// script.
 const MOST: u64 = 1_000_000_000;
 /// The most events of a phase, and the most phases of a script.
 const MOST_ITEMS: u64 = 64;

@@ -9,7 +9,8 @@ pub struct Entry {
     /// How many calls the client made on this domain before this one.
     pub seq: u64,
     pub call: Call,
-    /// What the domain answered. Calls that were read from a text have no reply: it follows from the calls.
+    /// What the domain answered. Calls that were read from a text have no reply: it follows from
+    /// the calls.
     pub reply: Option<Reply>,
 }
 

@@ -207,17 +207,19 @@ fn put_section(out: &mut Vec<u8>, section: &Section) -> Result<(), NoMemory>
     put_entries(out, &section.entries)
 }
 
-/// The calls text of sections (own): the one spelling of them. Neither replies nor sequence numbers are looked at; where the
-/// text is read again, there are no replies, and each client's calls are numbered 0, 1, 2, .. No limit is tested: sections
-/// outside those of the format (1 to 8 of them, 1 to 64 CPUs, a limit of 10485 to 1048576, at most 65536 calls, clients 1 to
-/// 64, and so on) are written in the same way, as a text that is not accepted.
+/// The calls text of sections (own): the one spelling of them. Neither replies nor sequence numbers
+/// are looked at; where the text is read again, there are no replies, and each client's calls are
+/// numbered 0, 1, 2, .. No limit is tested: sections outside those of the format (1 to 8 of them, 1
+/// to 64 CPUs, a limit of 10485 to 1048576, at most 65536 calls, clients 1 to 64, and so on) are
+/// written in the same way, as a text that is not accepted.
 ///
 /// # Errors
 /// 12 [`NoMemory`]: a growth was refused; nothing of the text is left.
 pub fn write_calls(alloc: Global, sections: &[Section]) -> Result<Vec<u8>, NoMemory>
     // What is written is the spelling.
     ensures found { IfOk result (λ v. v.items ≡ spelling sections.now) }
-    // Where `read_calls` reads such sections, it reads the text as these, without their replies, and as no others.
+    // Where `read_calls` reads such sections, it reads the text as these, without their replies,
+    // and as no others.
     ensures back { IfOk result (λ v. AreRead (map unanswered sections.now)
         → IsReadAs v.items (map unanswered sections.now)) }
 {

@@ -1,4 +1,5 @@
--- What clap reads of the program's command: the commands, their options, and what each option takes.
+-- What clap reads of the program's command: the commands, their options, and what each option
+-- takes.
 use Rattle.std.specs.Prelude.{◌≡◌, ℕ, List, [], ◌∷◌, Some, true, false, fold, map, codes}
 use Rattle.std.specs.Borrow.{Bor}
 use Rattle.clap.specs.Words.{App, Rule, Text, app_of, new_app, new_rule, with_rule, with_subcommand}
@@ -18,7 +19,8 @@ AreTexts names = map (λ name. name.now) names.now ≡ codes "trace" ∷ codes "
 
 -- an option `--name TEXT` with a default
 abbrev pub option : Text → Text → Rule
-option name default = record (new_rule name) { long = Some name; value_names = 1; defaults = default ∷ [] }
+option name default =
+    record (new_rule name) { long = Some name; value_names = 1; defaults = default ∷ [] }
 
 -- an option that takes a number from 1 to the most
 abbrev pub counted : Text → ℕ → Text → Rule
@@ -30,7 +32,8 @@ print_option names = record (option (codes "print") (codes "trace")) { parser = 
 
 -- `--reclaim`, which takes no value
 abbrev pub reclaim_flag : Rule
-reclaim_flag = record (new_rule (codes "reclaim")) { long = Some (codes "reclaim"); action = Some SetTrue }
+reclaim_flag =
+    record (new_rule (codes "reclaim")) { long = Some (codes "reclaim"); action = Some SetTrue }
 
 -- the options of `run`
 abbrev pub run_options : HeldNames → List Rule

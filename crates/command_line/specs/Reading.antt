@@ -16,11 +16,14 @@ pub record HasTexts (rows : List Row) : Type 0 where
   pub rt_period : HasNumber rows (codes "rt-period") 1000000000
   pub clients : HasNumber rows (codes "clients") 64
   pub workers : HasNumber rows (codes "workers") 8
-  pub reclaim : (one_of (codes "reclaim") rows ≡ Some (codes "true")) ⊎ (one_of (codes "reclaim") rows ≡ Some (codes "false"))
-  pub print : (first_of (codes "print") rows ≡ Some (codes "trace")) ⊎ (first_of (codes "print") rows ≡ Some (codes "calls"))
+  pub reclaim : (one_of (codes "reclaim") rows ≡ Some (codes "true"))
+      ⊎ (one_of (codes "reclaim") rows ≡ Some (codes "false"))
+  pub print : (first_of (codes "print") rows ≡ Some (codes "trace"))
+      ⊎ (first_of (codes "print") rows ≡ Some (codes "calls"))
 
--- the command that the words name and what is found for each of its options are what clap's rules give for the words, of which the
--- first is the program's name; where it is refused, clap's rules refuse the words so, or memory ran out
+-- the command that the words name and what is found for each of its options are what clap's rules
+-- give for the words, of which the first is the program's name; where it is refused, clap's rules
+-- refuse the words so, or memory ran out
 pub record IsReading (words : List Text) (r : Result ArgMatches Error) : Type 0 where
   pub names : HeldNames
   pub are_texts : AreTexts names
@@ -29,4 +32,5 @@ pub record IsReading (words : List Text) (r : Result ArgMatches Error) : Type 0 
 
 -- what is found for `run`
 abbrev pub HasTextsOfRun : ArgMatches → Type 0
-HasTextsOfRun m = (rows : List Row) → subcommand_rows_of m ≡ Some (codes "run", rows) → HasTexts rows
+HasTextsOfRun m =
+    (rows : List Row) → subcommand_rows_of m ≡ Some (codes "run", rows) → HasTexts rows

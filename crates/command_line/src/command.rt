@@ -69,7 +69,8 @@ fn reclaim<'a>(alloc: Global) -> Arg<'a>
         .help(RECLAIM_HELP)
 }
 
-/// The command that runs a scenario. An option is made where it is added, so that none has to be let go where memory runs out.
+/// The command that runs a scenario. An option is made where it is added, so that none has to be
+/// let go where memory runs out.
 fn run_command<'a>(alloc: Global) -> Result<Command<'a>, AllocError>
     ensures { IfOk result IsRun }
 {

@@ -10,12 +10,14 @@ use clap::error::ErrorKind;
 use clap::{ArgMatches, Error};
 use std::alloc::{AllocError, Global};
 
-/// What clap finds in the words of a command line, of which the first is the program's name: the command that they name, `run` or
-/// `replay`, and for each option of `run` its text, or its default where the words have none.
+/// What clap finds in the words of a command line, of which the first is the program's name: the
+/// command that they name, `run` or `replay`, and for each option of `run` its text, or its default
+/// where the words have none.
 ///
 /// # Errors
-/// What clap has to say: of a word that it does not know or an option that is there twice, lacks its value or has one that it does not
-/// take; of no command; of `--help` and `help`, which are errors too; [`ErrorKind::OutOfMemory`] where a growth was refused.
+/// What clap has to say: of a word that it does not know or an option that is there twice, lacks
+/// its value or has one that it does not take; of no command; of `--help` and `help`, which are
+/// errors too; [`ErrorKind::OutOfMemory`] where a growth was refused.
 pub fn matches_of<'a>(alloc: Global, words: &'a [String]) -> Result<ArgMatches<'a>, Error>
     ensures reading { IsReading (map string_bytes words.now) result }
     ensures texts { IfOk result HasTextsOfRun }

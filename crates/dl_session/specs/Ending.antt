@@ -18,7 +18,8 @@ as_line text = text ++ (10 ∷ [])
 abbrev pub task_line : ℕ × Refusal → List ℕ
 task_line refused = as_line (refused_line (record { number = refused.0; refusal = refused.1 }))
 
--- what is said on standard error: a line for each refused task in their order, or the one line of the fault
+-- what is said on standard error: a line for each refused task in their order, or the one line of
+-- the fault
 abbrev pub ending_text : Ending → List ℕ
 ending_text (ends.Done refused) = flat_map task_line refused.now
 ending_text (ends.Fault fault) = as_line (codes "dlsim: " ++ fault_text fault.now)

@@ -1,4 +1,5 @@
--- The run of a scenario with its admissions in order: one and the same for every number of clients (own).
+-- The run of a scenario with its admissions in order: one and the same for every number of clients
+-- (own).
 use Rattle.std.specs.Prelude.{ℕ, ◌+◌, Bool, true, false, List, [], ◌∷◌, ◌++◌, length, filter}
 use Rattle.domain_run.specs.declared.call.Reply.{Reply}
 use Rattle.domain_run.specs.declared.call.Reply.TheVariants as replies
@@ -27,7 +28,8 @@ section_in_order id asked duration d cpus = record {
 -- these domains, from this one on
 abbrev pub sections_from : SessionId → List Asked → ℕ → ℕ → List (List ℕ) → List SectionView
 sections_from id asked duration d [] = []
-sections_from id asked duration d (cpus ∷ sets) = section_in_order id asked duration d cpus ∷ sections_from id asked duration (d + 1) sets
+sections_from id asked duration d (cpus ∷ sets) =
+    section_in_order id asked duration d cpus ∷ sections_from id asked duration (d + 1) sets
 
 -- all domains, in their order
 abbrev pub sections_in_order : SessionId → List Asked → ℕ → List SectionView

@@ -13,9 +13,13 @@ use Rattle.dl_session.specs.declared.fault.SessionFault.TheVariants as faults
 use Rattle.dl_session.specs.declared.fault.RefusedLine.{RefusedLine}
 use Rattle.session.specs.RefusalText.{refusal_text}
 
--- a character of a key: a control character as \u00 and its two digits, so that the line stays one line; any other as it is
+-- a character of a key: a control character as \u00 and its two digits, so that the line stays one
+-- line; any other as it is
 abbrev pub shown : ℕ → List ℕ
-shown c = if nat_lt c 32 || c == 127 then codes "\\u00" ++ (digit_glyph false (c / 16) ∷ digit_glyph false (c % 16) ∷ []) else encode_utf8 c
+shown c =
+    if nat_lt c 32 || c == 127
+    then codes "\\u00" ++ (digit_glyph false (c / 16) ∷ digit_glyph false (c % 16) ∷ [])
+    else encode_utf8 c
 
 -- the key to mend, on one line
 abbrev pub one_line : List ℕ → List ℕ
@@ -39,7 +43,8 @@ scenario_text fault = codes "scenario " ++ (decimal (fault_number fault) ++ key_
 
 -- the text of a fault: one line, without the program's name and the LF
 abbrev pub fault_text : SessionFault → List ℕ
-fault_text (faults.Json fault) = codes "json " ++ (decimal (number_of fault.kind) ++ (codes " at " ++ decimal fault.at))
+fault_text (faults.Json fault) =
+    codes "json " ++ (decimal (number_of fault.kind) ++ (codes " at " ++ decimal fault.at))
 fault_text (faults.Scenario fault) = scenario_text fault
 fault_text (faults.Calls n) = codes "calls 30 line " ++ decimal n
 fault_text faults.Read = codes "read failed"
@@ -50,4 +55,5 @@ fault_text faults.Memory = codes "out of memory"
 
 -- the line of a refused task
 abbrev pub refused_line : RefusedLine → List ℕ
-refused_line line = codes "dlsim: task " ++ (decimal line.number ++ (codes " " ++ refusal_text line.refusal))
+refused_line line =
+    codes "dlsim: task " ++ (decimal line.number ++ (codes " " ++ refusal_text line.refusal))

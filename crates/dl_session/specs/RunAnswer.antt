@@ -47,30 +47,38 @@ pub record IsScenario (s : Streams) (scenario : ScenarioView) : Type 0 where
   pub json : IsJson s value
   pub parsed : parsed value ≡ Ok scenario
 
--- a task as it is admitted: with SCHED_FLAG_RECLAIM (2) where the options ask for it (sched_setattr(2))
+-- a task as it is admitted: with SCHED_FLAG_RECLAIM (2) where the options ask for it
+-- (sched_setattr(2))
 abbrev pub flagged : Bool → TaskSpecView → TaskSpecView
 flagged reclaim t = if reclaim then record t { attr = record t.attr { flags = 2 } } else t
 
 -- ---- the run
 
--- the calls text of histories is read again, as the same calls, and its replay writes the same trace
+-- the calls text of histories is read again, as the same calls, and its replay writes the same
+-- trace
 pub record AreReplayed (histories : List SectionView) : Type 0 where
   pub read : AreRead (map unanswered histories)
   pub same : trace_of_sections (map unanswered histories) ≡ trace_of_sections histories
 
--- the session has the domains and clients of the options; each domain's history is legal and was made by its clients; their calls
--- text can be replayed; histories and refusals answer the scenario; and the trace is that of each domain's admitted tasks, entered in
--- their order, and then the advance: for every number of clients the same, where the same tasks are admitted
-pub record IsRun (s : Streams) (o : Options) (histories : List SectionView) (refused : List (ℕ × Refusal)) : Type 0 where
+-- the session has the domains and clients of the options; each domain's history is legal and was
+-- made by its clients; their calls text can be replayed; histories and refusals answer the
+-- scenario; and the trace is that of each domain's admitted tasks, entered in their order, and then
+-- the advance: for every number of clients the same, where the same tasks are admitted
+pub record IsRun (s : Streams) (o : Options) (histories : List SectionView)
+    (refused : List (ℕ × Refusal)) : Type 0 where
   pub scenario : ScenarioView
   pub input : IsScenario s scenario
   pub id : SessionId
   pub session : IsSessionOf o id
   pub count : length histories ≡ length id.cpu_sets
-  pub legal : (d : ℕ) (x : SectionView) → IsDomainIndex id d → IsHistoryOf id d [] (slice_index_or histories d x)
+  pub legal : (d : ℕ) (x : SectionView) → IsDomainIndex id d
+      → IsHistoryOf id d [] (slice_index_or histories d x)
   pub replayed : AreReplayed histories
-  pub answers : AnswersScenario id o.clients (map (flagged o.reclaim) scenario.tasks) scenario.duration_us (map (λ h. h.entries) histories) refused
-  pub in_order : trace_of_sections histories ≡ trace_of_sections (sections_in_order id answers.asked scenario.duration_us)
+  pub answers : AnswersScenario id o.clients
+      (map (flagged o.reclaim) scenario.tasks) scenario.duration_us
+      (map (λ h. h.entries) histories) refused
+  pub in_order : trace_of_sections histories
+      ≡ trace_of_sections (sections_in_order id answers.asked scenario.duration_us)
 
 -- what is written of histories: the trace of their run, or their calls text
 abbrev pub printed : Print → List SectionView → List ℕ
@@ -79,11 +87,13 @@ printed prints.Calls histories = spelling histories
 
 -- ---- what is answered
 
--- the histories and refusals of a run, the words that it left, and their text was written, and nothing else
+-- the histories and refusals of a run, the words that it left, and their text was written, and
+-- nothing else
 pub record IsRunAnswer (s : Streams) (o : Options) (r : Report) : Type 0 where
   pub run : IsRun s o r.histories.items r.refused.items
   pub left : IsLeft run.id [] r
-  pub written : Appends s.writer.before.bytes s.writer.after.bytes (printed o.print r.histories.items)
+  pub written : Appends s.writer.before.bytes s.writer.after.bytes
+      (printed o.print r.histories.items)
   pub reads : HasNoFault s.reader
   pub writes : HasNoFault s.writer
 
@@ -109,8 +119,9 @@ pub record IsNoScenario (s : Streams) (fault : ScenarioFault) : Type 0 where
   pub reads : HasNoFault s.reader
   pub writes : HasNoFault s.writer
 
--- the scenario asks for an advance, and in a session of the options a domain had no room for it, once the tasks were asked: its history
--- had as many entries as the options give it; nothing was written
+-- the scenario asks for an advance, and in a session of the options a domain had no room for it,
+-- once the tasks were asked: its history had as many entries as the options give it; nothing was
+-- written
 pub record LacksRoomToAdvance (s : Streams) (o : Options) : Type 0 where
   pub scenario : ScenarioView
   pub input : IsScenario s scenario
@@ -135,7 +146,8 @@ pub record IsRunCutOff (s : Streams) (o : Options) (written : ℕ) : Type 0 wher
   pub histories : List SectionView
   pub refused : List (ℕ × Refusal)
   pub run : IsRun s o histories refused
-  pub taken : TakesFront s.writer.before.bytes s.writer.after.bytes (printed o.print histories) written
+  pub taken : TakesFront s.writer.before.bytes s.writer.after.bytes
+      (printed o.print histories) written
   pub reads : HasNoFault s.reader
   pub writes : HasOneFault s.writer
 

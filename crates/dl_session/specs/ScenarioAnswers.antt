@@ -13,15 +13,20 @@ use Rattle.session.specs.RunEnd.{advance_of, EndsWith}
 abbrev pub history_of : List (List Entry) → ℕ → List Entry
 history_of histories d = slice_index_or histories d []
 
--- ANSWERS OF A SCENARIO, for so many clients. There is a lawful answer for each task; the refusals are those among the answers;
--- nobody but the clients entered anything; in each domain the entries of each client are the calls of its own tasks that were
--- answered there, in the order of tasks, and then its advance; and the advance is the last entry of all
-pub record AnswersScenario (id : SessionId) (clients : ℕ) (tasks : List TaskSpecView) (duration : ℕ) (histories : List (List Entry)) (refused : List (ℕ × Refusal)) : Type 0 where
+-- ANSWERS OF A SCENARIO, for so many clients. There is a lawful answer for each task; the refusals
+-- are those among the answers; nobody but the clients entered anything; in each domain the entries
+-- of each client are the calls of its own tasks that were answered there, in the order of tasks,
+-- and then its advance; and the advance is the last entry of all
+pub record AnswersScenario (id : SessionId) (clients : ℕ) (tasks : List TaskSpecView)
+    (duration : ℕ) (histories : List (List Entry)) (refused : List (ℕ × Refusal)) : Type 0 where
   pub asked : List Asked
   pub tasks_are : map (λ q. q.task) asked ≡ tasks
   pub lawful : All (λ q. IsLawful id q.task q.answer) asked
   pub refused_are : refused ≡ refused_in asked
-  pub members : (d : ℕ) → d < length histories → All (λ e. IsMember clients e.client) (history_of histories d)
+  pub members : (d : ℕ) → d < length histories
+      → All (λ e. IsMember clients e.client) (history_of histories d)
   pub entries : (d i : ℕ) → d < length histories → i < clients
-      → own_entries (i + 1) (history_of histories d) ≡ entries_from (i + 1) 0 (made_in id d (own_asked clients i asked) ++ advance_of duration (i + 1))
+      → own_entries (i + 1) (history_of histories d)
+      ≡ entries_from (i + 1) 0
+      (made_in id d (own_asked clients i asked) ++ advance_of duration (i + 1))
   pub ends : (d : ℕ) → d < length histories → EndsWith duration (history_of histories d)

@@ -11,18 +11,21 @@ use Rattle.dl_session.specs.declared.words.WordsFault.TheVariants as faults
 abbrev pub is_comma : ℕ → Bool
 is_comma byte = byte == 44
 
--- the text spells these numbers of CPUs: 1 to 8 numbers from 1 to 64, which in decimal are what stands between its commas
+-- the text spells these numbers of CPUs: 1 to 8 numbers from 1 to 64, which in decimal are what
+-- stands between its commas
 pub record IsList (text : List ℕ) (cpus : List ℕ) : Type 0 where
   pub some : 0 < length cpus
   pub few : length cpus ≤ 8
   pub range : All IsCpus cpus
   pub pieces : slice_split is_comma text ≡ map decimal cpus
 
--- the limit of each CPU: rt_runtime in rt_period, rounded down to 1/2^20, where that is at least a hundredth and at most the whole
--- (sched-deadline.rst, "Bandwidth management"; the hundredth and the rounding are own)
+-- the limit of each CPU: rt_runtime in rt_period, rounded down to 1/2^20, where that is at least a
+-- hundredth and at most the whole (sched-deadline.rst, "Bandwidth management"; the hundredth and
+-- the rounding are own)
 abbrev pub limit_of : ℕ → ℕ → Option ℕ
 limit_of runtime period =
-    if nat_lt 0 period && (nat_le runtime period && nat_le period (100 * runtime)) then Some (ratio period runtime) else None
+    if nat_lt 0 period && (nat_le runtime period && nat_le period (100 * runtime))
+    then Some (ratio period runtime) else None
 
 -- the options that the words mean
 pub record AreMeant (w : Words) (o : Options) : Type 0 where
@@ -34,10 +37,12 @@ pub record AreMeant (w : Words) (o : Options) : Type 0 where
   pub reclaim : o.reclaim ≡ w.reclaim
   pub print : o.print ≡ w.print
 
--- the domains are no list; or they are one, and the limit is none; want of memory may come before any
+-- the domains are no list; or they are one, and the limit is none; want of memory may come before
+-- any
 abbrev pub IsWordsFault : Words → WordsFault → Type 0
 IsWordsFault w faults.List = (cpus : List ℕ) → IsList w.domains.now cpus → ⊥
-IsWordsFault w faults.Limit = ((cpus : List ℕ) × IsList w.domains.now cpus) × (limit_of w.rt_runtime w.rt_period ≡ None)
+IsWordsFault w faults.Limit =
+    ((cpus : List ℕ) × IsList w.domains.now cpus) × (limit_of w.rt_runtime w.rt_period ≡ None)
 IsWordsFault w faults.Memory = Unit {0}
 
 -- 2 for wrong words, 4 for want of memory

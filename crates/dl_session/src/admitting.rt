@@ -11,12 +11,14 @@ use std::alloc::Global;
 use std::sync::Wait;
 use std::thread::Threads;
 
-/// Lets the clients admit a scenario's tasks, as [`session::admit_all`] does: each client in a thread of its own, with the turnstile
-/// round each admission. The clients come back at their places, with who was refused, in the order of tasks.
+/// Lets the clients admit a scenario's tasks, as [`session::admit_all`] does: each client in a
+/// thread of its own, with the turnstile round each admission. The clients come back at their
+/// places, with who was refused, in the order of tasks.
 ///
 /// # Errors
-/// [`SessionFault::Memory`] where a growth was refused: nothing was asked for. [`SessionFault::Start`] where the system started no
-/// thread for a client: those that were started have ended, and what the books list stays there. The clients are gone.
+/// [`SessionFault::Memory`] where a growth was refused: nothing was asked for.
+/// [`SessionFault::Start`] where the system started no thread for a client: those that were started
+/// have ended, and what the books list stays there. The clients are gone.
 pub fn admit_all<N: Names + Send + Sync, T: Turnstile, R: Threads + Wait + Sync>(
     rt: &R,
     alloc: Global,

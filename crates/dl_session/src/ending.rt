@@ -8,7 +8,8 @@ use crate::words::WordsFault;
 use session::{Refusal, Report};
 use std::fmt;
 
-/// How the program ends: what it says on standard error, which is what this displays, and its exit status.
+/// How the program ends: what it says on standard error, which is what this displays, and its exit
+/// status.
 #[derive(Clone, Copy)]
 pub enum Ending<'a> {
     /// The text was written; these tasks were refused, each with its number.
@@ -20,7 +21,8 @@ pub enum Ending<'a> {
 }
 
 impl<'a> Ending<'a> {
-    /// The end of a run: a line for each refused task in the order of the report, or the line of the fault.
+    /// The end of a run: a line for each refused task in the order of the report, or the line of
+    /// the fault.
     pub fn of_run(ended: &'a Result<Report, SessionFault>) -> Ending<'a>
         ensures { IsEndOfRun ended.now result }
     {
@@ -40,7 +42,8 @@ impl<'a> Ending<'a> {
         }
     }
 
-    /// The exit status of the program: 0 where the text was written, tasks refused or not; else that of the fault, 1 to 4.
+    /// The exit status of the program: 0 where the text was written, tasks refused or not; else
+    /// that of the fault, 1 to 4.
     pub fn status(&self) -> u8
         ensures { result ≡ ending_status self.now }
     {

@@ -10,8 +10,9 @@ use session::{AdmitFault, EndFault, Refusal};
 use std::error::Error;
 use std::fmt;
 
-/// Why a run or a replay ended without its text. Where it is not [`SessionFault::Write`], nothing was
-/// written. It prints on one line what went wrong, as `json 11 at 5` or `write failed after 100`.
+/// Why a run or a replay ended without its text. Where it is not [`SessionFault::Write`], nothing
+/// was written. It prints on one line what went wrong, as `json 11 at 5` or `write failed after
+/// 100`.
 #[derive(Debug, Drop)]
 pub enum SessionFault {
     /// 10 to 14: the input is no JSON as it is read here (RFC 8259, narrower).
@@ -97,8 +98,8 @@ impl From<TraceFault> for SessionFault {
 }
 
 impl SessionFault {
-    /// The exit status of the program: 1 for bad input; 3 where reading or writing failed, a thread was not started or a history was
-    /// full; 4 for want of memory.
+    /// The exit status of the program: 1 for bad input; 3 where reading or writing failed, a thread
+    /// was not started or a history was full; 4 for want of memory.
     pub fn status(&self) -> u8
         ensures { result ≡ exit_status self.now }
     {
@@ -113,8 +114,8 @@ impl SessionFault {
     }
 }
 
-/// Writes a character of a key: a control character (below 0x20, or 0x7f) as `\u00` and its two digits, so that the line
-/// stays one line, and any other as it is.
+/// Writes a character of a key: a control character (below 0x20, or 0x7f) as `\u00` and its two
+/// digits, so that the line stays one line, and any other as it is.
 fn write_shown<W: fmt::Write>(f: &mut fmt::Formatter<W>, c: char) -> fmt::Result
     ensures { WritesOnOk W.write_str_gives f.old result (shown c) f.new }
 {
@@ -169,7 +170,8 @@ impl fmt::Display for SessionFault {
     }
 }
 
-/// The line by which the program tells that a task was refused: `dlsim: task 4 EBUSY 16 seen 1572864`, without an LF.
+/// The line by which the program tells that a task was refused: `dlsim: task 4 EBUSY 16 seen
+/// 1572864`, without an LF.
 #[derive(Clone, Copy, Debug)]
 pub struct RefusedLine {
     /// The task's number, from 1.

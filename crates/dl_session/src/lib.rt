@@ -1,18 +1,20 @@
 //! What the program does between the bytes that it reads and the bytes that it writes.
 //!
-//! [`run`] is for scenarios. It meets the definitions "Answers of a scenario" (`specs/ScenarioAnswers.antt`) and "Run of a scenario"
-//! (`specs/RunAnswer.antt`), [`read_options`] the definition "Options of a run" (`specs/Words.antt`). To the crate above it promises
-//! the theorem on `run`: `Ok` means that the histories in the report are legal and answer the scenario together with the refusals,
-//! and that what was written is the text of their run, and nothing else.
+//! [`run`] is for scenarios. It meets the definitions "Answers of a scenario"
+//! (`specs/ScenarioAnswers.antt`) and "Run of a scenario" (`specs/RunAnswer.antt`),
+//! [`read_options`] the definition "Options of a run" (`specs/Words.antt`). To the crate above it
+//! promises the theorem on `run`: `Ok` means that the histories in the report are legal and answer
+//! the scenario together with the refusals, and that what was written is the text of their run, and
+//! nothing else.
 //!
 //! [`replay`] is for recorded calls. It is the crate `calls_trace`'s, with the faults of a session
 //! (`specs/Answer.antt`), and meets its definition of what a replay answers. To the crates above it
 //! promises the theorem on `replay`: `Ok` means that what was written is the trace of the runs of
-//! the sections that were read, each on a domain of its own, and nothing else; each fault means what
-//! it says, and where it is no fault of the writer, nothing was written.
+//! the sections that were read, each on a domain of its own, and nothing else; each fault means
+//! what it says, and where it is no fault of the writer, nothing was written.
 //!
-//! A [`Session`] with its [`Client`]s is the crate `session`'s, for whoever wants its calls without texts; [`admit_all`] is its call
-//! with the faults of a run.
+//! A [`Session`] with its [`Client`]s is the crate `session`'s, for whoever wants its calls without
+//! texts; [`admit_all`] is its call with the faults of a run.
 #![tactic(auto)]
 
 mod admitting;

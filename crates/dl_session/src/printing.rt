@@ -42,8 +42,8 @@ fn write_histories<W: Write>(
 /// Writes the text of histories that led to these states. Nothing is run again.
 ///
 /// # Errors
-/// [`TraceFault::Memory`]: a growth was refused, and nothing was written. [`TraceFault::Write`]: the writer failed; it took
-/// exactly so many bytes, the front of the text, and not all.
+/// [`TraceFault::Memory`]: a growth was refused, and nothing was written. [`TraceFault::Write`]:
+/// the writer failed; it took exactly so many bytes, the front of the text, and not all.
 pub(crate) fn write_run<W: Write>(
     alloc: Global,
     print: Print,

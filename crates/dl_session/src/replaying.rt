@@ -10,15 +10,18 @@ use std::alloc::Global;
 use std::io::{Read, Write};
 use switch_text::Counted;
 
-/// Reads a calls text to its end, runs the calls of each of its 1 to 8 sections on a domain of its own, and writes one trace of
-/// all domains, by time and CPU of the machine: the first domain has the first CPUs of the machine, the second the next ones.
+/// Reads a calls text to its end, runs the calls of each of its 1 to 8 sections on a domain of its
+/// own, and writes one trace of all domains, by time and CPU of the machine: the first domain has
+/// the first CPUs of the machine, the second the next ones.
 ///
-/// `Ok`: the input spells sections, and what was written is the trace of their run, and nothing else.
+/// `Ok`: the input spells sections, and what was written is the trace of their run, and nothing
+/// else.
 ///
 /// # Errors
-/// [`SessionFault::Calls`] with the first bad line of the input, [`SessionFault::Read`] where the reader failed,
-/// [`SessionFault::Memory`] where a growth was refused: nothing was written. [`SessionFault::Write`] where the writer failed: it
-/// took exactly so many bytes, the front of the trace, and not all.
+/// [`SessionFault::Calls`] with the first bad line of the input, [`SessionFault::Read`] where the
+/// reader failed, [`SessionFault::Memory`] where a growth was refused: nothing was written.
+/// [`SessionFault::Write`] where the writer failed: it took exactly so many bytes, the front of the
+/// trace, and not all.
 pub fn replay<R: Read, W: Write>(
     alloc: Global,
     reader: &mut Counted<R>,
@@ -27,9 +30,11 @@ pub fn replay<R: Read, W: Write>(
     requires reader { faults_of reader.old < 2 ^ 63 }
     requires writer { faults_of writer.old < 2 ^ 63 }
     ensures ok { OnOk result
-        (IsAnswered (streams (side R.remaining reader.old reader.new) (side W.contents writer.old writer.new))) }
+        (IsAnswered (streams (side R.remaining reader.old reader.new)
+        (side W.contents writer.old writer.new))) }
     ensures err { IfErr result
-        (IsFaultOf (streams (side R.remaining reader.old reader.new) (side W.contents writer.old writer.new))) }
+        (IsFaultOf (streams (side R.remaining reader.old reader.new)
+        (side W.contents writer.old writer.new))) }
 {
     match calls_trace::replay(alloc, reader, writer) {
         Ok(()) => Ok(()),

@@ -69,7 +69,8 @@ fn read_scenario<R: Read>(alloc: Global, reader: &mut Counted<R>) -> Result<Scen
     }
 }
 
-/// Sets the flag of reclaiming on all tasks, where it is asked for (sched_setattr(2), SCHED_FLAG_RECLAIM).
+/// Sets the flag of reclaiming on all tasks, where it is asked for (sched_setattr(2),
+/// SCHED_FLAG_RECLAIM).
 fn flag_all(tasks: &mut Vec<TaskSpec>, reclaim: bool)
     ensures { tasks.new.items ≡ map (flagged reclaim) tasks.old.items }
 {
@@ -100,8 +101,8 @@ fn take_clients<N: Names>(
     Ok(clients)
 }
 
-/// Runs tasks in a session of these parts: the admissions, then the advance of each domain by the whole duration, in microseconds,
-/// and the end.
+/// Runs tasks in a session of these parts: the admissions, then the advance of each domain by the
+/// whole duration, in microseconds, and the end.
 fn run_in<N: Names + Send + Sync, T: Turnstile, X: Threads + Wait + Sync>(
     rt: &X,
     alloc: Global,
@@ -136,19 +137,23 @@ fn run_in<N: Names + Send + Sync, T: Turnstile, X: Threads + Wait + Sync>(
     }
 }
 
-/// Reads a scenario to its end, opens a session, lets its clients admit the scenario's tasks by [`admit_all`](crate::admit_all), each
-/// in a thread of its own, with the turnstile round each admission. Then client 1 advances each domain by the scenario's duration as
-/// the last entry of its book, the session is closed, and the trace of all domains is written, or the calls text of the histories. A
-/// duration of 0 makes no advance.
+/// Reads a scenario to its end, opens a session, lets its clients admit the scenario's tasks by
+/// [`admit_all`](crate::admit_all), each in a thread of its own, with the turnstile round each
+/// admission. Then client 1 advances each domain by the scenario's duration as the last entry of
+/// its book, the session is closed, and the trace of all domains is written, or the calls text of
+/// the histories. A duration of 0 makes no advance.
 ///
-/// `Ok`: the histories in the report are legal and answer the scenario together with the refusals, and what was written is the text
-/// of their run, and nothing else. A task that is refused is no fault: it stands in the report.
+/// `Ok`: the histories in the report are legal and answer the scenario together with the refusals,
+/// and what was written is the text of their run, and nothing else. A task that is refused is no
+/// fault: it stands in the report.
 ///
 /// # Errors
-/// [`SessionFault::Json`] and [`SessionFault::Scenario`] where the input is no scenario, [`SessionFault::Read`] where the reader
-/// failed, [`SessionFault::Start`] where the system started no thread for a client, [`SessionFault::Full`] where a history has no
-/// room for the advance, [`SessionFault::Memory`] where a growth was refused: nothing was written. [`SessionFault::Write`] where the writer failed: it took exactly so many bytes, the front of the text, and
-/// not all.
+/// [`SessionFault::Json`] and [`SessionFault::Scenario`] where the input is no scenario,
+/// [`SessionFault::Read`] where the reader failed, [`SessionFault::Start`] where the system started
+/// no thread for a client, [`SessionFault::Full`] where a history has no room for the advance,
+/// [`SessionFault::Memory`] where a growth was refused: nothing was written.
+/// [`SessionFault::Write`] where the writer failed: it took exactly so many bytes, the front of the
+/// text, and not all.
 pub fn run<R: Read, W: Write, T: Turnstile, X: Threads + Wait + Sync>(
     rt: &X,
     alloc: Global,
@@ -161,9 +166,11 @@ pub fn run<R: Read, W: Write, T: Turnstile, X: Threads + Wait + Sync>(
     requires writer { faults_of writer.old < 2 ^ 63 }
     requires options { AreOptions options.now }
     ensures ok { IfOk result (IsRunAnswer
-        (streams (side R.remaining reader.old reader.new) (side W.contents writer.old writer.new)) options.now) }
+        (streams (side R.remaining reader.old reader.new)
+        (side W.contents writer.old writer.new)) options.now) }
     ensures err { IfErr result (IsRunFault
-        (streams (side R.remaining reader.old reader.new) (side W.contents writer.old writer.new)) options.now) }
+        (streams (side R.remaining reader.old reader.new)
+        (side W.contents writer.old writer.new)) options.now) }
 {
     let Scenario {
         duration_us,

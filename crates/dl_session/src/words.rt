@@ -23,10 +23,11 @@ const HISTORY: usize = 1024;
 /// The words that say how a scenario is run, as a command line has them.
 #[derive(Clone, Copy, Debug)]
 pub struct Words<'a> {
-    /// The list of root domains: the number of CPUs of each, 1 to 64, in decimal without leading zeros; 1 to 8 of them,
-    /// with commas between them and no spaces.
+    /// The list of root domains: the number of CPUs of each, 1 to 64, in decimal without leading
+    /// zeros; 1 to 8 of them, with commas between them and no spaces.
     pub domains: &'a str,
-    /// What deadline tasks may take of each CPU in `rt_period`, in any unit of time that both share.
+    /// What deadline tasks may take of each CPU in `rt_period`, in any unit of time that both
+    /// share.
     pub rt_runtime: u64,
     /// See `rt_runtime`.
     pub rt_period: u64,
@@ -91,7 +92,8 @@ impl From<AllocError> for WordsFault {
 
 /// What stands between the commas of a text.
 fn pieces_of(alloc: Global, text: &str) -> Result<Vec<&str>, AllocError>
-    ensures { IfOk result (λ pieces. map (λ piece. piece.now) pieces.items ≡ slice_split is_comma text.now) }
+    ensures { IfOk result (λ pieces. map (λ piece. piece.now) pieces.items
+        ≡ slice_split is_comma text.now) }
 {
     text.split(',').collect(alloc)
 }
@@ -121,11 +123,12 @@ fn read_cpus(piece: &str) -> Option<u32>
     }
 }
 
-/// The numbers of CPUs that a list spells: 1 to 8 numbers from 1 to 64, in decimal without leading zeros, with commas
-/// between them.
+/// The numbers of CPUs that a list spells: 1 to 8 numbers from 1 to 64, in decimal without leading
+/// zeros, with commas between them.
 ///
 /// # Errors
-/// [`WordsFault::List`]: the text spells no such list. [`WordsFault::Memory`]: a growth was refused.
+/// [`WordsFault::List`]: the text spells no such list. [`WordsFault::Memory`]: a growth was
+/// refused.
 pub fn read_list(alloc: Global, text: &str) -> Result<Vec<u32>, WordsFault>
     ensures ok { IfOk result (λ list. IsList text.now list.items) }
     ensures bad { IsErrOf result WordsFault.List → (cpus : List ℕ) → IsList text.now cpus → ⊥ }
@@ -145,8 +148,8 @@ pub fn read_list(alloc: Global, text: &str) -> Result<Vec<u32>, WordsFault>
     Ok(list)
 }
 
-/// What deadline tasks may take of each CPU, in 1/2^20, rounded down (sched-deadline.rst, "Bandwidth management"); none
-/// outside of a hundredth of the CPU to the whole. Takes no memory.
+/// What deadline tasks may take of each CPU, in 1/2^20, rounded down (sched-deadline.rst,
+/// "Bandwidth management"); none outside of a hundredth of the CPU to the whole. Takes no memory.
 pub fn read_limit(rt_runtime: u64, rt_period: u64) -> Option<u64>
     ensures limit { result ≡ limit_of rt_runtime rt_period }
     ensures range { IfSome result IsLimit }
@@ -161,8 +164,8 @@ pub fn read_limit(rt_runtime: u64, rt_period: u64) -> Option<u64>
 /// The options that the words mean; each history has room for 1024 calls.
 ///
 /// # Errors
-/// In the order of the tests: [`WordsFault::List`], [`WordsFault::Limit`]. [`WordsFault::Memory`] where a growth was
-/// refused, before any other.
+/// In the order of the tests: [`WordsFault::List`], [`WordsFault::Limit`]. [`WordsFault::Memory`]
+/// where a growth was refused, before any other.
 pub fn read_options(alloc: Global, words: &Words<'_>) -> Result<Options, WordsFault>
     requires a_client { 0 < words.now.clients }
     requires few_clients { words.now.clients ≤ 64 }

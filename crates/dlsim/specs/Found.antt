@@ -9,16 +9,19 @@ use Rattle.session.specs.declared.options.Print.TheVariants as prints
 use Rattle.dl_session.specs.declared.words.Words.{Words}
 use Rattle.dl_session.specs.declared.words.WordsFault.{WordsFault}
 
--- the text is decimal digits that write the number, which is below 2^64; zeros may stand before them, and before these a plus
+-- the text is decimal digits that write the number, which is below 2^64; zeros may stand before
+-- them, and before these a plus
 pub record Spells (text : List ℕ) (number : ℕ) : Type 0 where
   pub digits : IsNumeral 10 (without_leading_plus text)
   pub value : digits_value 10 (without_leading_plus text) ≡ number
   pub small : number < 2 ^ 64
 
--- the number that an option's text spells, moved into the range from 1 to the most; 1 where there is no text or it spells no number
+-- the number that an option's text spells, moved into the range from 1 to the most; 1 where there
+-- is no text or it spells no number
 pub record IsNumberAt (rows : List Row) (name : List ℕ) (most n : ℕ) : Type 0 where
   pub absent : one_of name rows ≡ None → n ≡ 1
-  pub spelled : (text : List ℕ) (v : ℕ) → one_of name rows ≡ Some text → Spells text v → n ≡ min (max v 1) most
+  pub spelled : (text : List ℕ) (v : ℕ) → one_of name rows ≡ Some text → Spells text v
+      → n ≡ min (max v 1) most
   pub other : (text : List ℕ) → one_of name rows ≡ Some text → ((v : ℕ) → Spells text v → ⊥) → n ≡ 1
 
 -- the calls where the text at `print` is "calls", else the trace

@@ -31,23 +31,30 @@ name_of = option_map (λ command. command.0)
 -- a run's options are those that the words at the options of `run` mean
 abbrev pub IsMeant : Command → Task → Type 0
 IsMeant command Replay = Unit {0}
-IsMeant command (Run options) = (rows : List Row) × (command ≡ Some (codes "run", rows)) × AreMeantBy rows options
+IsMeant command (Run options) =
+    (rows : List Row) × (command ≡ Some (codes "run", rows)) × AreMeantBy rows options
 
 -- the words at the options of `run` mean no options, for this reason
 abbrev pub IsRefused : Command → WordsFault → Type 0
-IsRefused command fault = (rows : List Row) × (command ≡ Some (codes "run", rows)) × IsFaultOf rows fault
+IsRefused command fault =
+    (rows : List Row) × (command ≡ Some (codes "run", rows)) × IsFaultOf rows fault
 
--- what is wrong: clap's rules refuse the words, or memory ran out; or they accept them, and the words at the options of `run` mean none
+-- what is wrong: clap's rules refuse the words, or memory ran out; or they accept them, and the
+-- words at the options of `run` mean none
 abbrev pub IsWrong : HeldNames → List Text → Wrong → Type 0
 IsWrong names words (wrong.Clap error) = HasKind (fault_of (program_app names) words) error
-IsWrong names words (wrong.Options fault) = IsRefused (subcommand_of (program_app names) words) fault
+IsWrong names words (wrong.Options fault) =
+    IsRefused (subcommand_of (program_app names) words) fault
 
--- what the words of a command line, of which the first is the program's name, ask for: the command that clap's rules find in them, a
--- run with the options that its words mean, each of which has a text that it takes; or what is wrong with them
+-- what the words of a command line, of which the first is the program's name, ask for: the command
+-- that clap's rules find in them, a run with the options that its words mean, each of which has a
+-- text that it takes; or what is wrong with them
 pub record IsAskedBy (words : List Text) (r : Result Task Wrong) : Type 0 where
   pub names : HeldNames
   pub are_texts : AreTexts names
   pub named : IfOk r (IsTaskOf (name_of (subcommand_of (program_app names) words)))
   pub meant : IfOk r (IsMeant (subcommand_of (program_app names) words))
-  pub taken : IfOk r (λ task. (rows : List Row) → subcommand_of (program_app names) words ≡ Some (codes "run", rows) → HasTexts rows)
+  pub taken : IfOk r
+      (λ task. (rows : List Row)
+      → subcommand_of (program_app names) words ≡ Some (codes "run", rows) → HasTexts rows)
   pub wrong : IfErr r (IsWrong names words)

@@ -1,7 +1,9 @@
-//! dlsim: a model of SCHED_DEADLINE that writes the switches of a scenario, or of recorded calls, as a trace.
+//! dlsim: a model of SCHED_DEADLINE that writes the switches of a scenario, or of recorded calls,
+//! as a trace.
 //!
-//! The program reads its words with clap (`words`), and calls [`dl_session::run`] or [`dl_session::replay`] with standard
-//! input and standard output. What it says on standard error then, and its exit status, are those of the [`Ending`].
+//! The program reads its words with clap (`words`), and calls [`dl_session::run`] or
+//! [`dl_session::replay`] with standard input and standard output. What it says on standard error
+//! then, and its exit status, are those of the [`Ending`].
 #![tactic(auto)]
 
 mod words;
@@ -18,7 +20,8 @@ fn end_with(rt: &impl Eprint, ending: &Ending<'_>) -> ExitCode {
     ExitCode::from(ending.status())
 }
 
-/// Tells what is wrong with the words. What clap has to say of `--help` goes to standard output, with status 0.
+/// Tells what is wrong with the words. What clap has to say of `--help` goes to standard output,
+/// with status 0.
 fn refuse(rt: &(impl Print + Eprint), wrong: &Wrong) -> ExitCode {
     match wrong {
         Wrong::Options(fault) => end_with(rt, &Ending::Words(*fault)),

@@ -68,7 +68,8 @@ fn number(found: &ArgMatches<'_>, name: &str, most: u64) -> u64
 
 /// The text at an option; the empty text where it has none, which clap does not let come.
 fn text_of<'a>(found: &ArgMatches<'a>, name: &str) -> &'a str
-    ensures some { (text : List ℕ) → first_value (found_of found.now) name.now ≡ Some text → result.now ≡ text }
+    ensures some { (text : List ℕ) → first_value (found_of found.now) name.now ≡ Some text
+        → result.now ≡ text }
     ensures none { first_value (found_of found.now) name.now ≡ None → result.now ≡ codes "" }
 {
     match found.get_str(name) {
@@ -108,8 +109,9 @@ fn words_of<'a>(found: &ArgMatches<'a>) -> Words<'a>
 /// The options of a run: what the words at each option mean.
 ///
 /// # Errors
-/// In the order of the tests: [`WordsFault::List`] where the text at `--domains` is no list of domains, [`WordsFault::Limit`] where
-/// `--rt-runtime` and `--rt-period` give no limit. [`WordsFault::Memory`] where a growth was refused, before any other.
+/// In the order of the tests: [`WordsFault::List`] where the text at `--domains` is no list of
+/// domains, [`WordsFault::Limit`] where `--rt-runtime` and `--rt-period` give no limit.
+/// [`WordsFault::Memory`] where a growth was refused, before any other.
 fn options_of(alloc: Global, found: &ArgMatches<'_>) -> Result<Options, WordsFault>
     ensures sound { IfOk result AreOptions }
     ensures meant { IfOk result (AreMeantBy (rows_of (found_of found.now))) }
@@ -134,11 +136,12 @@ fn task_of(alloc: Global, matches: &ArgMatches<'_>) -> Result<Task, WordsFault>
     }
 }
 
-/// What words ask for, of which the first is the program's name; or what is wrong with them: first what clap says of them, then the
-/// list of domains, then the limit.
+/// What words ask for, of which the first is the program's name; or what is wrong with them: first
+/// what clap says of them, then the list of domains, then the limit.
 ///
 /// # Errors
-/// [`Wrong::Clap`]: what clap says, also where it is asked for help. [`Wrong::Options`]: those of [`options_of`].
+/// [`Wrong::Clap`]: what clap says, also where it is asked for help. [`Wrong::Options`]: those of
+/// [`options_of`].
 fn task_in(alloc: Global, words: &[String]) -> Result<Task, Wrong>
     ensures fit { IfOk result IsFit }
     ensures asked { IsAskedBy (map string_bytes words.now) result }
@@ -147,11 +150,12 @@ fn task_in(alloc: Global, words: &[String]) -> Result<Task, Wrong>
     Ok(task_of(alloc, &matches)?)
 }
 
-/// What the words of this process ask for, or what is wrong with them ([`task_in`]); a word that is not UTF-8 is refused before any
-/// other is read.
+/// What the words of this process ask for, or what is wrong with them ([`task_in`]); a word that is
+/// not UTF-8 is refused before any other is read.
 ///
 /// # Errors
-/// Those of [`task_in`]; `OutOfMemory` of [`Wrong::Clap`] or [`WordsFault::Memory`] where the words themselves found no memory.
+/// Those of [`task_in`]; `OutOfMemory` of [`Wrong::Clap`] or [`WordsFault::Memory`] where the words
+/// themselves found no memory.
 pub(crate) fn read_words(rt: &(impl Env + Alloc<A = Global>)) -> Result<Task, Wrong>
     ensures { IfOk result IsFit }
 {

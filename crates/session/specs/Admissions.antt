@@ -25,12 +25,14 @@ refusal_of (Ok _) = None
 
 -- the refused tasks by number, in the order of tasks
 abbrev pub refused_in : List Asked → List (ℕ × Refusal)
-refused_in asked = filter_map (λ q. option_map (λ r. (q.task.number, r)) (refusal_of q.answer)) asked
+refused_in asked =
+    filter_map (λ q. option_map (λ r. (q.task.number, r)) (refusal_of q.answer)) asked
 
 -- the clients 1, 2, .., which have entered nothing
 pub record AreNew (id : SessionId) (clients : List ClientView) : Type 0 where
   pub count : length clients ≡ id.clients
-  pub each : (i : ℕ) (x : ClientView) → i < length clients → IsNew id (i + 1) (slice_index_or clients i x)
+  pub each : (i : ℕ) (x : ClientView) → i < length clients
+      → IsNew id (i + 1) (slice_index_or clients i x)
 
 -- there is a lawful answer for each task; the refusals are those among the answers; and each client
 -- asked for its own tasks, in their order, and got their answers
@@ -42,4 +44,5 @@ pub record AllAsked (id : SessionId) (tasks : List TaskSpecView) (before after :
   pub refused_are : refused ≡ refused_in asked
   pub places : length after ≡ length before
   pub each : (i : ℕ) (x : ClientView) → i < length before
-      → Asks id (slice_index_or before i x) (slice_index_or after i x) (own_asked (length before) i asked)
+      → Asks id (slice_index_or before i x) (slice_index_or after i x)
+      (own_asked (length before) i asked)

@@ -20,9 +20,11 @@ use Rattle.session.specs.SessionId.{SessionId, cap_in}
 
 -- the same CPUs, in any order
 abbrev pub same_cpus : List ℕ → List ℕ → Bool
-same_cpus xs ys = list_all (λ x. list_any (λ y. y == x) ys) xs && list_all (λ x. list_any (λ y. y == x) xs) ys
+same_cpus xs ys =
+    list_all (λ x. list_any (λ y. y == x) ys) xs && list_all (λ x. list_any (λ y. y == x) xs) ys
 
--- the domain that has exactly the task's CPUs; the first where the task names none (sched_setattr(2), EPERM)
+-- the domain that has exactly the task's CPUs; the first where the task names none
+-- (sched_setattr(2), EPERM)
 abbrev pub domain_of : List (List ℕ) → Option (List ℕ) → Option ℕ
 domain_of sets None = Some 0
 domain_of sets (Some cpus) = position (same_cpus cpus) sets
@@ -47,8 +49,8 @@ pub record IsOver (id : SessionId) (t : TaskSpecView) (d seen : ℕ) : Type 0 wh
   pub within : seen ≤ cap_in id d
   pub above : cap_in id d < seen + (params_of t.attr).bw
 
--- what an admission may be answered: EINVAL and EPERM exactly where the task is not to be admitted anywhere, and else any of the
--- others, EBUSY only with a lawful number
+-- what an admission may be answered: EINVAL and EPERM exactly where the task is not to be admitted
+-- anywhere, and else any of the others, EBUSY only with a lawful number
 abbrev pub IsLawful : SessionId → TaskSpecView → Answer → Type 0
 IsLawful id t (Err (refusals.Einval kind)) = accepted t.attr ≡ Err kind
 IsLawful id t (Err refusals.Eperm) =
@@ -68,7 +70,8 @@ pub record Asked : Type 0 where
 
 -- ---- the piece in a client's hand
 
--- the piece that an admission asks the gate with: the one in the client's hand, or else a new one, which has found nothing
+-- the piece that an admission asks the gate with: the one in the client's hand, or else a new one,
+-- which has found nothing
 abbrev pub piece_of : GateId → Option BlankView → BlankView
 piece_of gate (Some piece) = piece
 piece_of gate None = record { gate = gate; found = [] }
@@ -77,7 +80,8 @@ piece_of gate None = record { gate = gate; found = [] }
 abbrev pub IsGranted : BlankView → ℕ → ℕ → Type 0
 IsGranted piece d bw = (ticket : TicketView) × IsTake piece d bw (takes.Taken ticket)
 
--- the gate refused it with this number, and it came back: what it has found more are the words of this one call, this number last
+-- the gate refused it with this number, and it came back: what it has found more are the words of
+-- this one call, this number last
 abbrev pub IsGateRefusal : BlankView → ℕ → ℕ → ℕ → BlankView → Type 0
 IsGateRefusal piece d bw seen back = IsTake piece d bw (takes.Refused back seen)
 
@@ -87,28 +91,33 @@ pub record IsGivenBackAfter (piece : BlankView) (d bw : ℕ) (back : BlankView) 
   pub taken : IsTake piece d bw (takes.Taken ticket)
   pub given : IsGive ticket back
 
--- an admission of so much to a domain, with what is in hand before and after. EBUSY of the gate is its answer to this very
--- piece; without memory the gate was not asked; Full is told without a piece too, where there was none; and whatever else the
--- domain refused, the gate had granted, and it was given back
+-- an admission of so much to a domain, with what is in hand before and after. EBUSY of the gate is
+-- its answer to this very piece; without memory the gate was not asked; Full is told without a
+-- piece too, where there was none; and whatever else the domain refused, the gate had granted, and
+-- it was given back
 abbrev pub AsksGate : GateId → ℕ → ℕ → Option BlankView → Answer → Option BlankView → Type 0
 AsksGate gate d bw hand (Ok replies.Admitted) next = IsGranted (piece_of gate hand) d bw
 AsksGate gate d bw hand (Ok _) next = IsSomeAnd next (IsGivenBackAfter (piece_of gate hand) d bw)
-AsksGate gate d bw hand (Err (refusals.Busy seen)) next = IsSomeAnd next (IsGateRefusal (piece_of gate hand) d bw seen)
+AsksGate gate d bw hand (Err (refusals.Busy seen)) next =
+    IsSomeAnd next (IsGateRefusal (piece_of gate hand) d bw seen)
 AsksGate gate d bw hand (Err refusals.Enomem) next = next ≡ Some (piece_of gate hand)
 AsksGate gate d bw hand (Err refusals.Full) None = hand ≡ None
 AsksGate gate d bw hand (Err _) next = IsSomeAnd next (IsGivenBackAfter (piece_of gate hand) d bw)
 
 -- the same of a task: EINVAL and EPERM leave what was in hand
-abbrev pub IsHandAfter : SessionId → TaskSpecView → Option BlankView → Answer → Option BlankView → Type 0
+abbrev pub IsHandAfter : SessionId → TaskSpecView → Option BlankView → Answer → Option BlankView
+    → Type 0
 IsHandAfter id t hand (Err (refusals.Einval kind)) next = next ≡ hand
 IsHandAfter id t hand (Err refusals.Eperm) next = next ≡ hand
-IsHandAfter id t hand answer next = (d : ℕ) × Goes id t d × AsksGate id.gate d (params_of t.attr).bw hand answer next
+IsHandAfter id t hand answer next =
+    (d : ℕ) × Goes id t d × AsksGate id.gate d (params_of t.attr).bw hand answer next
 
 -- and of one task after the other: what is in hand after one is in hand before the next
 abbrev pub IsHandAfterAll : SessionId → Option BlankView → List Asked → Option BlankView → Type 0
 IsHandAfterAll id hand [] last = last ≡ hand
 IsHandAfterAll id hand (q ∷ asked) last =
-    (next : Option BlankView) × IsHandAfter id q.task hand q.answer next × IsHandAfterAll id next asked last
+    (next : Option BlankView) × IsHandAfter id q.task hand q.answer next
+    × IsHandAfterAll id next asked last
 
 -- ---- what stands in the books
 
@@ -128,13 +137,15 @@ made_at d None call answer = None
 made_at d (Some place) call answer = if place == d then made_of call answer else None
 
 abbrev pub made_in : SessionId → ℕ → List Asked → List Made
-made_in id d asked = filter_map (λ q. made_at d (domain_of id.cpu_sets q.task.cpus) (call_of q.task) q.answer) asked
+made_in id d asked =
+    filter_map (λ q. made_at d (domain_of id.cpu_sets q.task.cpus) (call_of q.task) q.answer) asked
 
 -- the entries of calls that a client makes, after so many earlier ones
 abbrev pub entries_from : ℕ → ℕ → List Made → List Entry
 entries_from client seq [] = []
 entries_from client seq (m ∷ made) =
-    record { client = client; seq = seq; call = m.call; reply = Some m.reply } ∷ entries_from client (seq + 1) made
+    record { client = client; seq = seq; call = m.call; reply = Some m.reply }
+    ∷ entries_from client (seq + 1) made
 
 -- ---- a client
 
@@ -151,14 +162,16 @@ pass_in c d = slice_index_or c.passes d []
 abbrev pub followed_by : ClientView → ℕ → List Made → List Entry
 followed_by c d made = pass_in c d ++ entries_from c.number (length (pass_in c d)) made
 
--- in each domain these calls stand behind what the client had entered, in their order, and nothing else does
+-- in each domain these calls stand behind what the client had entered, in their order, and nothing
+-- else does
 pub record Makes (c c' : ClientView) (made : ℕ → List Made) : Type 0 where
   pub number : c'.number ≡ c.number
   pub domains : length c'.passes ≡ length c.passes
   pub passes : (d : ℕ) → d < length c.passes → pass_in c' d ≡ followed_by c d (made d)
 
--- a client asked for these tasks and got these answers: each is lawful, in each domain the calls that were answered there are
--- what it made, and each EBUSY of the gate is by the piece that was in its hand
+-- a client asked for these tasks and got these answers: each is lawful, in each domain the calls
+-- that were answered there are what it made, and each EBUSY of the gate is by the piece that was in
+-- its hand
 pub record Asks (id : SessionId) (c c' : ClientView) (asked : List Asked) : Type 0 where
   pub lawful : All (λ q. IsLawful id q.task q.answer) asked
   pub made : Makes c c' (λ d. made_in id d asked)
@@ -172,7 +185,8 @@ made_by place call answer d = cons_option (made_at d (Some place) call answer) [
 
 -- the word that refused is the last one that the client's own piece found
 abbrev pub IsLastFound : Option BlankView → Answer → Type 0
-IsLastFound hand (Err (refusals.Busy seen)) = IfSome hand (λ b. last_of b.found ≡ seen) × IsSome hand
+IsLastFound hand (Err (refusals.Busy seen)) =
+    IfSome hand (λ b. last_of b.found ≡ seen) × IsSome hand
 IsLastFound hand _ = Unit {0}
 
 -- why a call other than an admission stands in no book: it is full, or a growth was refused
@@ -188,17 +202,20 @@ RefusesOnlyFullOrMemory (Err _) = ⊥
 RefusesOnlyFullOrMemory (Ok reply) = Unit {0}
 
 -- a regrade: some word, or none, was asked for it
-pub record MakesRegrade (c c' : ClientView) (d number : ℕ) (params : ParamsView) (answer : Answer) : Type 0 where
+pub record MakesRegrade (c c' : ClientView) (d number : ℕ) (params : ParamsView)
+    (answer : Answer) : Type 0 where
   pub word : Option ℕ
   pub made : Makes c c' (made_by d (Regrade number params word) answer)
 
--- an advance: the entry tells how many ticks were made, at least one and at most as many as were asked for
+-- an advance: the entry tells how many ticks were made, at least one and at most as many as were
+-- asked for
 pub record MakesTicks (c c' : ClientView) (d n ticks : ℕ) (answer : Answer) : Type 0 where
   pub some : 0 < ticks
   pub most : ticks ≤ n
   pub made : Makes c c' (made_by d (Advance ticks) answer)
 
 abbrev pub MakesAdvance : ClientView → ClientView → ℕ → ℕ → Answer → Type 0
-MakesAdvance c c' d n (Ok (replies.Done ticks)) = MakesTicks c c' d n ticks (Ok (replies.Done ticks))
+MakesAdvance c c' d n (Ok (replies.Done ticks)) =
+    MakesTicks c c' d n ticks (Ok (replies.Done ticks))
 MakesAdvance c c' d n (Ok _) = ⊥
 MakesAdvance c c' d n (Err refusal) = Makes c c' (λ d. [])

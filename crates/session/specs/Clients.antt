@@ -8,9 +8,10 @@ pub record IsNew (id : SessionId) (number : ℕ) (c : ClientView) : Type 0 where
   pub numbered : c.number ≡ number
   pub passes : c.passes ≡ replicate (length id.cpu_sets) []
 
--- whether the clients 1, 2, .. wait, before and after one was asked for. One that waits is handed out, and is new; one that does not
--- is not, and nothing changes
-pub record IsGivenOut (id : SessionId) (waiting left : List Bool) (number : ℕ) (c : ClientView) : Type 0 where
+-- whether the clients 1, 2, .. wait, before and after one was asked for. One that waits is handed
+-- out, and is new; one that does not is not, and nothing changes
+pub record IsGivenOut (id : SessionId) (waiting left : List Bool) (number : ℕ)
+    (c : ClientView) : Type 0 where
   pub some : 0 < number
   pub waits : slice_get waiting (number - 1) ≡ Some true
   pub others : left ≡ set waiting (number - 1) false

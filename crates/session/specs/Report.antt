@@ -10,9 +10,11 @@ use Rattle.session.specs.declared.report.Report.{Report}
 use Rattle.session.specs.SessionId.{SessionId, IsDomainIndex, cpus_of, cap_in}
 use Rattle.session.specs.Asks.{ClientView, pass_in}
 
--- the history of a domain: it is legal, each client's entries are numbered in their order, no stranger made one, it has a spelling,
--- and the entries of each of these clients are the list of its pass
-pub record IsHistoryOf (id : SessionId) (d : ℕ) (clients : List ClientView) (s : SectionView) : Type 0 where
+-- the history of a domain: it is legal, each client's entries are numbered in their order, no
+-- stranger made one, it has a spelling, and the entries of each of these clients are the list of
+-- its pass
+pub record IsHistoryOf (id : SessionId) (d : ℕ) (clients : List ClientView)
+    (s : SectionView) : Type 0 where
   pub cpus : s.cpus ≡ length (cpus_of id d)
   pub limit : s.limit ≡ id.limit
   pub legal : IsLegal s.cpus s.limit s.entries
@@ -25,16 +27,20 @@ pub record IsHistoryOf (id : SessionId) (d : ℕ) (clients : List ClientView) (s
 abbrev pub sum_left : SectionView → ℕ
 sum_left s = sum_of (run_of s.cpus s.limit (calls_of s.entries)).tasks
 
--- the histories of all domains, in their order; and the words, which have room for what the listed tasks have, are at most their
--- caps, and are exactly what these tasks have where all pieces came home
+-- the histories of all domains, in their order; and the words, which have room for what the listed
+-- tasks have, are at most their caps, and are exactly what these tasks have where all pieces came
+-- home
 pub record IsLeft (id : SessionId) (clients : List ClientView) (r : Report) : Type 0 where
   pub count : length r.histories.items ≡ length id.cpu_sets
-  pub histories : (d : ℕ) (x : SectionView) → IsDomainIndex id d → IsHistoryOf id d clients (slice_index_or r.histories.items d x)
+  pub histories : (d : ℕ) (x : SectionView) → IsDomainIndex id d
+      → IsHistoryOf id d clients (slice_index_or r.histories.items d x)
   pub words : length r.words.items ≡ length id.cpu_sets
-  pub room : (d : ℕ) (x : SectionView) → IsDomainIndex id d → sum_left (slice_index_or r.histories.items d x) ≤ slice_index r.words.items d
+  pub room : (d : ℕ) (x : SectionView) → IsDomainIndex id d
+      → sum_left (slice_index_or r.histories.items d x) ≤ slice_index r.words.items d
   pub capped : (d : ℕ) → IsDomainIndex id d → slice_index r.words.items d ≤ cap_in id d
   pub exact : r.home ≡ id.gate.terms.pieces
-      → (d : ℕ) (x : SectionView) → IsDomainIndex id d → slice_index r.words.items d ≡ sum_left (slice_index_or r.histories.items d x)
+      → (d : ℕ) (x : SectionView) → IsDomainIndex id d
+      → slice_index r.words.items d ≡ sum_left (slice_index_or r.histories.items d x)
 
 -- what the end of a session leaves: nobody stands among the refused
 pub record IsReport (id : SessionId) (clients : List ClientView) (r : Report) : Type 0 where

@@ -46,10 +46,12 @@ IsFirst clients = (x : ClientView) → (slice_index_or clients 0 x).number ≡ 1
 pub record HaveAdvanced (duration : ℕ) (before after : List ClientView) : Type 0 where
   pub places : length after ≡ length before
   pub each : (i : ℕ) (x : ClientView) → i < length before
-      → Makes (slice_index_or before i x) (slice_index_or after i x) (λ d. advance_of duration (i + 1))
+      → Makes (slice_index_or before i x) (slice_index_or after i x)
+      (λ d. advance_of duration (i + 1))
 
 -- what the end of a run leaves, by clients that had entered so much
-pub record IsFinished (id : SessionId) (duration : ℕ) (clients : List ClientView) (f : Finished) : Type 0 where
+pub record IsFinished (id : SessionId) (duration : ℕ) (clients : List ClientView)
+    (f : Finished) : Type 0 where
   pub after : List ClientView
   pub advanced : HaveAdvanced duration clients after
   pub report : IsReport id after f.report
@@ -60,8 +62,8 @@ pub record IsFinished (id : SessionId) (duration : ℕ) (clients : List ClientVi
 
 -- ---- why there is none
 
--- a domain that was to be advanced has no room for a call more, and the entries of each of these clients
--- in it are the list of its pass
+-- a domain that was to be advanced has no room for a call more, and the entries of each of these
+-- clients in it are the list of its pass
 pub record IsFullWith (id : SessionId) (duration : ℕ) (clients : List ClientView) : Type 0 where
   pub advances : 0 < duration
   pub domain : ℕ

@@ -25,7 +25,16 @@ pub record SessionId : Type 0 where
 abbrev pub no_session : SessionId
 no_session = record {
   gate = record {
-    table = record { words = 0; slots = 0; views_name = 0; atom = 0; block = 0; offset = 0; slot_names = [] };
+    table =
+        record {
+          words = 0;
+          slots = 0;
+          views_name = 0;
+          atom = 0;
+          block = 0;
+          offset = 0;
+          slot_names = [];
+        };
     terms = record { caps = []; pieces = 0 };
   };
   spines = [];
@@ -57,8 +66,8 @@ abbrev pub cpu_sets_from : ℕ → List ℕ → List (List ℕ)
 cpu_sets_from base [] = []
 cpu_sets_from base (cpus ∷ domains) = range_with_len base cpus ∷ cpu_sets_from (base + cpus) domains
 
--- what each session keeps: 1 to 8 domains, each of 1 to 64 CPUs, the limits of State, and a cap for each domain's word that the
--- gate has too
+-- what each session keeps: 1 to 8 domains, each of 1 to 64 CPUs, the limits of State, and a cap for
+-- each domain's word that the gate has too
 pub record IsSession (id : SessionId) : Type 0 where
   pub some : 0 < length id.cpu_sets
   pub few : length id.cpu_sets ≤ 8

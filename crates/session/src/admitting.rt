@@ -1,4 +1,5 @@
-//! The admissions of a scenario: each client admits its own tasks in a thread of its own, and their answers are put together.
+//! The admissions of a scenario: each client admits its own tasks in a thread of its own, and their
+//! answers are put together.
 
 ghost use Rattle.std.specs.Prelude.{◌≡◌, ◌<◌, ◌≤◌, ◌-◌, ◌%◌, ◌++◌, ◌∷◌, ℕ, List, [], length, map, All, IfOk, IfErr, vec_len, vec_capacity, slice_index_or};
 ghost use Rattle.session.specs.Admissions.{refused_in};
@@ -24,8 +25,8 @@ use std::sync::Wait;
 use std::thread;
 use std::thread::{Promise, PromisedHandle, Scope, Threads};
 
-/// A client at its place among so many, with room for the answers to its own tasks. Task k is asked for by the client at place
-/// (k - 1) mod `many`.
+/// A client at its place among so many, with room for the answers to its own tasks. Task k is asked
+/// for by the client at place (k - 1) mod `many`.
 #[derive(Drop)]
 struct Seat<N: Names> {
     client: Client<N>,
@@ -51,8 +52,8 @@ impl<N: Names> Model for Seat<N> {
     ghost invariant = { λ s. (0 < s.many) × (s.answers.items ≡ []) };
 }
 
-/// The tasks of one scenario: a type without data that stands for them, so that a thread's promise can tell them. Who starts the
-/// threads picks them.
+/// The tasks of one scenario: a type without data that stands for them, so that a thread's promise
+/// can tell them. Who starts the threads picks them.
 trait TasksBrand: Send + Sync {
     ghost tasks: { List TaskSpecView };
 }
@@ -285,8 +286,8 @@ fn gather(
     refused
 }
 
-/// Lets the clients of these seats ask for their own tasks, each in a thread of its own. Want of memory is answered before a thread
-/// is started.
+/// Lets the clients of these seats ask for their own tasks, each in a thread of its own. Want of
+/// memory is answered before a thread is started.
 fn ask_apart<N: Names + Send + Sync, A: TasksBrand, T: Turnstile, R: Threads + Wait + Sync>(
     rt: &R,
     alloc: Global,
@@ -323,13 +324,14 @@ fn ask_apart<N: Names + Send + Sync, A: TasksBrand, T: Turnstile, R: Threads + W
     )
 }
 
-/// Lets the clients admit a scenario's tasks, each client in a thread of its own, with the turnstile round each admission: the client
-/// at place (k - 1) mod so many asks for task k, in the order of k. The clients come back at their places, with who was refused, in
-/// the order of tasks.
+/// Lets the clients admit a scenario's tasks, each client in a thread of its own, with the
+/// turnstile round each admission: the client at place (k - 1) mod so many asks for task k, in the
+/// order of k. The clients come back at their places, with who was refused, in the order of tasks.
 ///
 /// # Errors
-/// [`AdmitFault::Memory`] where a growth was refused: nothing was asked for. [`AdmitFault::Start`] where the system started no
-/// thread for a client: those that were started have ended, and what the books list stays there. The clients are gone.
+/// [`AdmitFault::Memory`] where a growth was refused: nothing was asked for. [`AdmitFault::Start`]
+/// where the system started no thread for a client: those that were started have ended, and what
+/// the books list stays there. The clients are gone.
 pub fn admit_all<N: Names + Send + Sync, T: Turnstile, R: Threads + Wait + Sync>(
     rt: &R,
     alloc: Global,

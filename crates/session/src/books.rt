@@ -47,8 +47,8 @@ macro_rules! at_place {
 
 pub(crate) use at_place;
 
-/// Puts the last book behind its lock, where it is that of this place. The books are those of the first domains: at most one more
-/// than the place before, and at most as many after.
+/// Puts the last book behind its lock, where it is that of this place. The books are those of the
+/// first domains: at most one more than the place before, and at most as many after.
 fn locked<N: Names, const D: usize>(books: &mut Vec<Domain>) -> Option<Mutex<LockedBook<N, D>>>
     requires named { AreSessionBooks N.id books.old.items }
     requires count { length books.old.items ≡ min (D + 1) (length N.id.cpu_sets) }

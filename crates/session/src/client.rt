@@ -1,6 +1,6 @@
 //! A client: its passes, the piece in its hand, and the calls that it makes.
 
-ghost use Rattle.std.specs.Prelude.{◌≡◌, Some, None, IfSome, IfNone, IfOk, IfErr, OnOk, IsSome, Ok, Err, [], ◌∷◌, length};
+ghost use Rattle.std.specs.Prelude.{◌≡◌, Some, None, IfSome, IfNone, IfErr, OnOk, IsSome, Ok, Err, [], ◌∷◌, length};
 ghost use Rattle.attr_check.specs.Accepted.{accepted, params_of};
 ghost use Rattle.domain_run.specs.declared.call.Call.TheVariants as calls;
 ghost use Rattle.call_book.specs.Limits.{IsCall};
@@ -30,8 +30,9 @@ use std::marker::{Model, PhantomData};
 use std::sync::{Mutex, Wait};
 use std::thread::Threads;
 
-/// One of the clients of a session. It may be dropped; its pass and its piece are then missing at the session's end. To a contract
-/// it is its number, from 1, what it has entered in the book of each domain, and the piece in its hand.
+/// One of the clients of a session. It may be dropped; its pass and its piece are then missing at
+/// the session's end. To a contract it is its number, from 1, what it has entered in the book of
+/// each domain, and the piece in its hand.
 #[derive(Drop)]
 pub struct Client<N: Names> {
     number: u32,
@@ -151,9 +152,9 @@ impl<N: Names> Client<N> {
         domain.agree(&mut self.passes[place]);
     }
 
-    /// Makes exactly so many ticks of a domain that stands behind no lock, 1 to 60000000, as one entry of its book. `Full` where the
-    /// book is full: nothing has changed. `Memory` where there was no memory for all ticks: an entry of those that were made
-    /// stands, where there were any.
+    /// Makes exactly so many ticks of a domain that stands behind no lock, 1 to 60000000, as one
+    /// entry of its book. `Full` where the book is full: nothing has changed. `Memory` where there
+    /// was no memory for all ticks: an entry of those that were made stands, where there were any.
     pub(crate) fn advance_book<R: Threads + Wait>(
         &mut self,
         rt: &R,
@@ -221,8 +222,8 @@ impl<N: Names> Client<N> {
         at_place!(shared.books, place, book => self.enter_book(rt, book, gate, ask))
     }
 
-    /// A piece for an admission to a domain: the one in the client's hand, or else one of the pool, or else one that the domain
-    /// keeps.
+    /// A piece for an admission to a domain: the one in the client's hand, or else one of the pool,
+    /// or else one that the domain keeps.
     fn find_blank<R: Wait>(&mut self, rt: &R, shared: &Shared<N>, place: usize) -> Option<Blank>
         requires place { IsDomainIndex N.id place }
         ensures same { self.new ≡ record self.old { hand = None } }
@@ -300,11 +301,13 @@ impl<N: Names> Client<N> {
         }
     }
 
-    /// Admits a task to the domain that has exactly its CPUs, the first where it names none. Tested in this order: its attributes
-    /// (EINVAL); its CPUs (EPERM); a blank in the client's hand, in the pool or in the domain (Full); memory for the admission
-    /// (ENOMEM); the gate's word, without the domain's lock (EBUSY); and then the domain's book, under its lock, as
-    /// [`Domain::admit`](call_book::Domain::admit) tests. After a refusal the client holds no ticket. It waits for the gate, as
-    /// long as other clients come between, and for the locks of pool and domain.
+    /// Admits a task to the domain that has exactly its CPUs, the first where it names none. Tested
+    /// in this order: its attributes (EINVAL); its CPUs (EPERM); a blank in the client's hand, in
+    /// the pool or in the domain (Full); memory for the admission (ENOMEM); the gate's word,
+    /// without the domain's lock (EBUSY); and then the domain's book, under its lock, as
+    /// [`Domain::admit`](call_book::Domain::admit) tests. After a refusal the client holds no
+    /// ticket. It waits for the gate, as long as other clients come between, and for the locks of
+    /// pool and domain.
     pub fn admit<S: Shares<N>, R: Wait>(
         &mut self,
         rt: &R,
@@ -325,8 +328,9 @@ impl<N: Names> Client<N> {
         self.admit_at(rt, alloc, shared, task, params, place)
     }
 
-    /// Gives a listed task of a domain new parameters, as [`Domain::regrade`](call_book::Domain::regrade) does. `Full` where the
-    /// book is full: it changed nothing and stands nowhere. Every other answer stands in the book.
+    /// Gives a listed task of a domain new parameters, as
+    /// [`Domain::regrade`](call_book::Domain::regrade) does. `Full` where the book is full: it
+    /// changed nothing and stands nowhere. Every other answer stands in the book.
     pub fn regrade<S: Shares<N>, R: Wait>(
         &mut self,
         rt: &R,
@@ -348,7 +352,8 @@ impl<N: Names> Client<N> {
         )
     }
 
-    /// Wakes a task of a domain that waits, as [`Domain::wake`](call_book::Domain::wake) does. `Full` where the book is full.
+    /// Wakes a task of a domain that waits, as [`Domain::wake`](call_book::Domain::wake) does.
+    /// `Full` where the book is full.
     pub fn wake<S: Shares<N>, R: Wait>(
         &mut self,
         rt: &R,
@@ -364,7 +369,8 @@ impl<N: Names> Client<N> {
         self.enter_at(rt, session.shares(), domain, Ask::Wake { number })
     }
 
-    /// Ends a task of a domain, as [`Domain::leave`](call_book::Domain::leave) does. `Full` where the book is full.
+    /// Ends a task of a domain, as [`Domain::leave`](call_book::Domain::leave) does. `Full` where
+    /// the book is full.
     pub fn leave<S: Shares<N>, R: Wait>(
         &mut self,
         rt: &R,
@@ -380,8 +386,9 @@ impl<N: Names> Client<N> {
         self.enter_at(rt, session.shares(), domain, Ask::Leave { number })
     }
 
-    /// Makes up to `ticks` ticks of a domain, 1 to 60000000, as [`Domain::advance`](call_book::Domain::advance) does. `Full` where
-    /// the book is full, `Enomem` where there was no memory for the first tick: nothing has changed.
+    /// Makes up to `ticks` ticks of a domain, 1 to 60000000, as
+    /// [`Domain::advance`](call_book::Domain::advance) does. `Full` where the book is full,
+    /// `Enomem` where there was no memory for the first tick: nothing has changed.
     pub fn advance<S: Shares<N>, R: Threads + Wait>(
         &mut self,
         rt: &R,

@@ -1,9 +1,9 @@
 //! The end of a session: its books are closed, and every piece goes home to the gate.
 
-ghost use Rattle.std.specs.Prelude.{◌≡◌, ◌≢◌, ◌+◌, ◌*◌, ◌≤◌, ◌<◌, ℕ, [], ◌∷◌, ◌++◌, length, All, IfOk, IfSome, vec_capacity, slice_index};
+ghost use Rattle.std.specs.Prelude.{◌≡◌, ◌≢◌, ◌+◌, ◌*◌, ◌≤◌, ◌<◌, ℕ, [], length, All, IfOk, IfSome, vec_capacity, slice_index};
 ghost use Rattle.call_book.specs.Book.{own_entries};
 ghost use Rattle.bw_gate.specs.Pieces.{sum_of};
-ghost use Rattle.session.specs.SessionId.{IsSession, IsDomainIndex};
+ghost use Rattle.session.specs.SessionId.{IsSession};
 ghost use Rattle.session.specs.Asks.{pass_in};
 ghost use Rattle.session.specs.Report.{IsHistoryOf, IsReport, sum_left};
 ghost use Rattle.session.specs.private.Entering.{IsSessionBook};
@@ -230,8 +230,8 @@ fn put_words(closed: &Words, words: &mut Vec<u64>)
     }
 }
 
-/// A session whose domains stand behind no lock any more, with all room that its end needs. It is neither cloned nor dropped, but
-/// closed.
+/// A session whose domains stand behind no lock any more, with all room that its end needs. It is
+/// neither cloned nor dropped, but closed.
 pub(crate) struct Unlocked<N: Names> {
     pub(crate) gate: Gate,
     pub(crate) books: Vec<Domain>,

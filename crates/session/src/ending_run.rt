@@ -65,13 +65,15 @@ fn advance<N: Names, R: Threads + Wait>(
     advance_all(rt, &unlocked.gate, &mut unlocked.books, client, duration)
 }
 
-/// Takes each domain out of its lock and lets client 1 advance it by the whole duration, in microseconds, as the last entry of its
-/// book; no call is made where the duration is 0. Then all books are closed, also where an advance was not made: the pieces go
-/// home, and each pass is compared with its book.
+/// Takes each domain out of its lock and lets client 1 advance it by the whole duration, in
+/// microseconds, as the last entry of its book; no call is made where the duration is 0. Then all
+/// books are closed, also where an advance was not made: the pieces go home, and each pass is
+/// compared with its book.
 ///
 /// # Errors
-/// [`EndFault::Full`] where the history of a domain has no room for the advance. [`EndFault::Memory`] where a growth was refused.
-/// The session is gone, and its tickets were given back.
+/// [`EndFault::Full`] where the history of a domain has no room for the advance.
+/// [`EndFault::Memory`] where a growth was refused. The session is gone, and its tickets were given
+/// back.
 pub fn end_run<N: Names, R: Threads + Wait>(
     rt: &R,
     alloc: Global,

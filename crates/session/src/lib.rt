@@ -1,18 +1,22 @@
-//! A session: one gate with the domains that it admits to, each behind a lock of its own, for the calls of many clients.
+//! A session: one gate with the domains that it admits to, each behind a lock of its own, for the
+//! calls of many clients.
 //!
-//! A [`Session`] meets the definitions of which session it is (`specs/SessionId.antt`, `specs/Options.antt`), of the clients that
-//! it hands out (`specs/Clients.antt`), of what a [`Client`] is answered and what it leaves in the books (`specs/Asks.antt`), and
-//! of what the session leaves at its end (`specs/Report.antt`). To the crate above it promises: a call leaves exactly its entry,
-//! or none; an admission is answered EINVAL and EPERM exactly where the definition says; and at the end the histories are legal,
-//! and each client's entries in them are what it entered.
+//! A [`Session`] meets the definitions of which session it is (`specs/SessionId.antt`,
+//! `specs/Options.antt`), of the clients that it hands out (`specs/Clients.antt`), of what a
+//! [`Client`] is answered and what it leaves in the books (`specs/Asks.antt`), and of what the
+//! session leaves at its end (`specs/Report.antt`). To the crate above it promises: a call leaves
+//! exactly its entry, or none; an admission is answered EINVAL and EPERM exactly where the
+//! definition says; and at the end the histories are legal, and each client's entries in them are
+//! what it entered.
 //!
-//! [`admit_all`] lets many clients admit a scenario's tasks at once, each client in a thread of its own. It meets the definition
-//! "Admissions of many clients" (`specs/Admissions.antt`) and promises: each client is back at its place, with exactly its own
-//! tasks asked for, in their order; and each task has one lawful answer.
+//! [`admit_all`] lets many clients admit a scenario's tasks at once, each client in a thread of its
+//! own. It meets the definition "Admissions of many clients" (`specs/Admissions.antt`) and
+//! promises: each client is back at its place, with exactly its own tasks asked for, in their
+//! order; and each task has one lawful answer.
 //!
-//! [`end_run`] ends a session whose tasks are to run for a duration. It meets the definition "The end of a run"
-//! (`specs/RunEnd.antt`) and promises: client 1's advance is the last entry of each book, and nothing else was entered; or a book
-//! had no room for it.
+//! [`end_run`] ends a session whose tasks are to run for a duration. It meets the definition "The
+//! end of a run" (`specs/RunEnd.antt`) and promises: client 1's advance is the last entry of each
+//! book, and nothing else was entered; or a book had no room for it.
 #![tactic(auto)]
 
 mod admitting;

@@ -2,8 +2,8 @@ ghost use Rattle.session.specs.SessionId.{SessionId, no_session};
 
 use std::marker::Brand;
 
-/// The names of one session: a type without data that stands for it, so that the type of a lock tells which gate and which
-/// domain's book it keeps. Who opens a session picks them.
+/// The names of one session: a type without data that stands for it, so that the type of a lock
+/// tells which gate and which domain's book it keeps. Who opens a session picks them.
 pub trait Names {
     /// The session's gate and its domains.
     ghost id: { SessionId };

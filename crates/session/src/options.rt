@@ -7,14 +7,15 @@ pub enum Print {
     Calls,
 }
 
-/// With what a scenario is to be run. A session is opened from its domains, limit, clients, workers and history; a run reads
-/// `reclaim` and `print` too. No answer depends on `workers`.
+/// With what a scenario is to be run. A session is opened from its domains, limit, clients, workers
+/// and history; a run reads `reclaim` and `print` too. No answer depends on `workers`.
 #[derive(Clone, Debug, Drop)]
 pub struct Options {
-    /// How many CPUs each root domain has, 1 to 64; 1 to 8 domains. The first has the first CPUs of the machine, the second the
-    /// next ones, and so on.
+    /// How many CPUs each root domain has, 1 to 64; 1 to 8 domains. The first has the first CPUs of
+    /// the machine, the second the next ones, and so on.
     pub domains: Vec<u32>,
-    /// What deadline tasks may take of each CPU, 10485 to 1048576 in 1/2^20 (sched-deadline.rst, "Bandwidth management").
+    /// What deadline tasks may take of each CPU, 10485 to 1048576 in 1/2^20 (sched-deadline.rst,
+    /// "Bandwidth management").
     pub limit: u64,
     /// How many clients admit tasks, each in a thread of its own, 1 to 64.
     pub clients: u32,
@@ -22,7 +23,8 @@ pub struct Options {
     pub workers: usize,
     /// How many calls the history of each domain has room for, 1 to 65536.
     pub history: usize,
-    /// Whether every task is to ask for reclaiming (SCHED_FLAG_RECLAIM). A client admits a task with the flags that it has.
+    /// Whether every task is to ask for reclaiming (SCHED_FLAG_RECLAIM). A client admits a task
+    /// with the flags that it has.
     pub reclaim: bool,
     pub print: Print,
 }

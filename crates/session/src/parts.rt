@@ -25,8 +25,8 @@ pub(crate) struct Hand {
     pub(crate) blank: Option<Blank>,
 }
 
-/// What a session is opened from: gate, domains, passes and pieces. It is neither cloned nor dropped, since domains are not. To a
-/// contract it is the session's identity.
+/// What a session is opened from: gate, domains, passes and pieces. It is neither cloned nor
+/// dropped, since domains are not. To a contract it is the session's identity.
 pub struct Parts {
     pub(crate) gate: Gate,
     pub(crate) cpu_sets: Vec<Vec<u32>>,
@@ -49,7 +49,8 @@ impl Model for Parts {
         id_of p.gate p.books.items (map (λ v. v.items) p.cpu_sets.items) p.limit (vec_len p.hands) p.history p.workers };
 
     ghost invariant = { λ p. AreParts
-        (id_of p.gate p.books.items (map (λ v. v.items) p.cpu_sets.items) p.limit (vec_len p.hands) p.history p.workers)
+        (id_of p.gate p.books.items (map (λ v. v.items) p.cpu_sets.items) p.limit
+        (vec_len p.hands) p.history p.workers)
         p.books.items p.hands.items p.pool.items };
 }
 
@@ -210,9 +211,9 @@ fn give_all(gate: &Gate, mut tickets: Vec<Ticket>)
 }
 
 impl Parts {
-    /// Gate, domains, passes and pieces of a session: 256 pieces a domain, which stand in one pool, and one a client. It is the
-    /// only growth of a session apart from those of admissions and advances. [`NoMemory`] (ENOMEM 12) where a growth was refused:
-    /// nothing stands.
+    /// Gate, domains, passes and pieces of a session: 256 pieces a domain, which stand in one pool,
+    /// and one a client. It is the only growth of a session apart from those of admissions and
+    /// advances. [`NoMemory`] (ENOMEM 12) where a growth was refused: nothing stands.
     pub fn open(alloc: Global, options: &Options) -> Result<Parts, NoMemory>
         requires { AreOptions options.now }
         ensures { IfOk result (IsSessionOf options.now) }

@@ -2,7 +2,8 @@ use attr_check::AttrRefusal;
 use domain_run::Reply;
 use std::fmt;
 
-/// Why a call of a client stands in no book, or an admission was answered EBUSY there. The client holds no ticket then.
+/// Why a call of a client stands in no book, or an admission was answered EBUSY there. The client
+/// holds no ticket then.
 #[derive(Clone, Copy, Debug, PartialEq, Eq)]
 pub enum Refusal {
     /// EINVAL 22: the task's attributes are not accepted (sched_setattr(2)).
@@ -15,14 +16,16 @@ pub enum Refusal {
     Twice,
     /// ENOMEM 12: a growth was refused.
     Enomem,
-    /// EBUSY 16: the bandwidth found does not leave enough below the cap (sched-deadline.rst, "Bandwidth management").
+    /// EBUSY 16: the bandwidth found does not leave enough below the cap (sched-deadline.rst,
+    /// "Bandwidth management").
     Busy {
         /// The bandwidth found, in 1/2^20 of a CPU.
         seen: u64,
     },
 }
 
-/// What a client's call is answered: the reply that stands in the domain's book and in the client's list, or why there is none.
+/// What a client's call is answered: the reply that stands in the domain's book and in the client's
+/// list, or why there is none.
 pub type Answer = Result<Reply, Refusal>;
 
 impl fmt::Display for Refusal {

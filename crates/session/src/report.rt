@@ -7,7 +7,8 @@ use domain_run::State;
 pub struct Report {
     /// The history of each domain, with its CPUs and its limit, in the order of domains.
     pub histories: Vec<Section>,
-    /// The tasks that were refused, by number. A session's end leaves it empty; who ran a scenario fills it.
+    /// The tasks that were refused, by number. A session's end leaves it empty; who ran a scenario
+    /// fills it.
     pub refused: Vec<(u32, Refusal)>,
     /// The bandwidth word of each domain, in 1/2^20 of a CPU.
     pub words: Vec<u64>,
@@ -15,7 +16,8 @@ pub struct Report {
     pub home: usize,
 }
 
-/// What a run in a session left, with the state of each domain, in their order. For the crate above, which writes the run.
+/// What a run in a session left, with the state of each domain, in their order. For the crate
+/// above, which writes the run.
 #[derive(Drop)]
 pub struct Finished {
     /// As the session's end gives it; nobody stands among the refused.

@@ -18,9 +18,10 @@ use std::alloc::Global;
 use std::marker::Model;
 use std::sync::Mutex;
 
-/// One gate with the domains that it admits to, each behind its own lock, a pool of pieces, and the clients that were not handed
-/// out yet. It is neither cloned nor dropped, but closed, since its domains hold tickets. To a contract it is which of its
-/// clients, from 1 on, wait to be handed out.
+/// One gate with the domains that it admits to, each behind its own lock, a pool of pieces, and the
+/// clients that were not handed out yet. It is neither cloned nor dropped, but closed, since its
+/// domains hold tickets. To a contract it is which of its clients, from 1 on, wait to be handed
+/// out.
 pub struct Session<N: Names> {
     pub(crate) shared: Shared<N>,
     pub(crate) hands: Vec<Option<Hand>>,
@@ -113,9 +114,10 @@ impl<N: Names> Session<N> {
         Some(Client::new(number, hand))
     }
 
-    /// Ends the session: the books are closed and all pieces that the clients and the domains have go home to the gate. Each pass of
-    /// these clients is compared with its book. [`NoMemory`] (ENOMEM 12) where a growth was refused: the session is gone, and its
-    /// tickets were given back.
+    /// Ends the session: the books are closed and all pieces that the clients and the domains have
+    /// go home to the gate. Each pass of these clients is compared with its book. [`NoMemory`]
+    /// (ENOMEM 12) where a growth was refused: the session is gone, and its tickets were given
+    /// back.
     pub fn close(self, alloc: Global, clients: Vec<Client<N>>) -> Result<Report, NoMemory>
         ensures { IfOk result (IsReport N.id clients.items) }
     {
@@ -123,8 +125,9 @@ impl<N: Names> Session<N> {
         Ok(report)
     }
 
-    /// Takes each domain out of its lock, and reserves all room that the end needs. [`NoMemory`] (ENOMEM 12) where a growth was
-    /// refused: the session is gone, and its tickets were given back.
+    /// Takes each domain out of its lock, and reserves all room that the end needs. [`NoMemory`]
+    /// (ENOMEM 12) where a growth was refused: the session is gone, and its tickets were given
+    /// back.
     pub(crate) fn unlock(self, alloc: Global) -> Result<Unlocked<N>, NoMemory> {
         let Session {
             shared,

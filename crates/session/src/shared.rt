@@ -1,4 +1,5 @@
-//! What the clients of a session share: its gate, its domains behind their locks, and a pool of pieces.
+//! What the clients of a session share: its gate, its domains behind their locks, and a pool of
+//! pieces.
 
 ghost use Rattle.std.specs.Prelude.{◌≡◌, ◌==◌, map, Option, Some, None, Ok, Err, IfSome, IfOk, IfErr};
 ghost use Rattle.std.specs.List.{list_all, list_any};
@@ -18,9 +19,10 @@ use rtapp_scenario::TaskSpec;
 use std::marker::Model;
 use std::sync::{Mutex, Wait};
 
-/// What all clients of a session share: one gate with the domains that it admits to, each behind its own lock, and a pool of pieces.
-/// Threads may borrow it side by side, each with a client of its own, while the session itself, which keeps the clients that wait,
-/// stays with one. To a contract it is its gate.
+/// What all clients of a session share: one gate with the domains that it admits to, each behind
+/// its own lock, and a pool of pieces. Threads may borrow it side by side, each with a client of
+/// its own, while the session itself, which keeps the clients that wait, stays with one. To a
+/// contract it is its gate.
 pub struct Shared<N: Names> {
     pub(crate) gate: Gate,
     pub(crate) cpu_sets: Vec<Vec<u32>>,
@@ -75,7 +77,8 @@ impl<N: Names> Shared<N> {
         }
     }
 
-    /// A piece of the pool, or else one that the domain of a place keeps. It is new to the client: it has found nothing.
+    /// A piece of the pool, or else one that the domain of a place keeps. It is new to the client:
+    /// it has found nothing.
     pub(crate) fn find_blank<R: Wait>(&self, rt: &R, place: usize) -> Option<Blank>
         ensures { IfSome result (λ b. b ≡ piece_of N.id.gate None) }
     {

@@ -1,4 +1,5 @@
-//! The tests of sessions, of `run` and of `replay`, apart from the crates that they try, so that the gate proves each of those once.
+//! The tests of sessions, of `run` and of `replay`, apart from the crates that they try, so that
+//! the gate proves each of those once.
 #![tactic(auto)]
 
 #[cfg(test)]

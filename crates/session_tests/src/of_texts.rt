@@ -65,7 +65,8 @@ fn bad_lines(rt: HostRuntime) -> Result<(), Fail> {
     Ok(())
 }
 
-/// Whether the trace of a text is the header and these lines, each told by its CPU and time, who leaves and how, and who comes.
+/// Whether the trace of a text is the header and these lines, each told by its CPU and time, who
+/// leaves and how, and who comes.
 fn has_lines(alloc: Global, text: &[u8], lines: &[(&str, &str, &str)]) -> Result<bool, Fail> {
     let (said, written) = replayed(alloc, text)?;
     let trace = String::from_utf8(written)?;

@@ -28,8 +28,8 @@ book_of cpus limit workers l s = record {
   workers = workers;
 }
 
--- The state is the run of the history, which is legal; each listed task has a ticket; the domain is one of the gate's, with its
--- cap; and an entry makes at most 60000000 ticks.
+-- The state is the run of the history, which is legal; each listed task has a ticket; the domain is
+-- one of the gate's, with its cap; and an entry makes at most 60000000 ticks.
 pub record IsBook (b : BookView) (state : Domain) : Type 0 where
   pub run : state ≡ state_of b
   pub legal : IsLegal b.cpus b.limit b.history
@@ -40,9 +40,13 @@ pub record IsBook (b : BookView) (state : Domain) : Type 0 where
   pub high : b.limit ≤ 1048576
   pub capped : cap_of b.gate b.domain ≡ cap b.cpus b.limit
 
--- the word is asked exactly where the domain's own test passes; a word that refused is at most the cap
+-- the word is asked exactly where the domain's own test passes; a word that refused is at most the
+-- cap
 abbrev pub IsAsked : Domain → StockView → StockView → ℕ → ParamsView → Option ℕ → Type 0
 IsAsked state old new number params word =
-    ((regrade_reply state params None (task_of state number) ≡ Changed) × IsDomain state × (new ≡ record old { tickets = new.tickets })
-    × AsksTheWord number params.bw old.tickets new.tickets word × IfSome word (λ seen. seen ≤ cap_of old.gate old.domain))
-    ⊎ ((regrade_reply state params None (task_of state number) ≢ Changed) × (word ≡ None) × (new ≡ old))
+    ((regrade_reply state params None (task_of state number) ≡ Changed) × IsDomain state
+    × (new ≡ record old { tickets = new.tickets })
+    × AsksTheWord number params.bw old.tickets new.tickets word
+    × IfSome word (λ seen. seen ≤ cap_of old.gate old.domain))
+    ⊎ ((regrade_reply state params None (task_of state number) ≢ Changed) × (word ≡ None)
+    × (new ≡ old))

@@ -13,8 +13,8 @@ pub record LedgerView : Type 0 where
   pub room : ℕ
   pub history : List Entry
 
--- what every history of a book keeps: it is the spine's list; each client's entries are numbered 0, 1, 2, ..; no stranger
--- made one; and each has a spelling
+-- what every history of a book keeps: it is the spine's list; each client's entries are numbered 0,
+-- 1, 2, ..; no stranger made one; and each has a spelling
 pub record IsHistory (clients room : ℕ) (history : List Entry) : Type 0 where
   pub numbered : IsNumbered history
   pub members : All (λ e. IsMember clients e.client) history
@@ -23,7 +23,8 @@ pub record IsHistory (clients room : ℕ) (history : List Entry) : Type 0 where
   pub within : length history ≤ room
   pub short : room ≤ 65536
 
-pub record IsLedger (spine : SpineView Entry) (clients room : ℕ) (history : List Entry) (capacity : ℕ) : Type 0 where
+pub record IsLedger (spine : SpineView Entry) (clients room : ℕ) (history : List Entry)
+    (capacity : ℕ) : Type 0 where
   pub log : spine.log ≡ map keyed history
   pub kept : IsHistory clients room history
   pub reserved : room ≤ capacity

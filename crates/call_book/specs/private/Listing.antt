@@ -22,7 +22,9 @@ pub record IsCallOf (a : AdmissionView) (call : Call) : Type 0 where
   pub spelled : IsCall call
 
 abbrev pub IsListing : Domain → Domain → AdmissionView → Listing → Type 0
-IsListing old new a (Listed number call) = Says old new a Reply.Admitted × (number ≡ a.number) × IsCallOf a call
-IsListing old new a (Busy seen call) = Says old new a (Reply.Busy seen) × LacksRoomFor old a.params.bw seen × IsCallOf a call
+IsListing old new a (Listed number call) =
+    Says old new a Reply.Admitted × (number ≡ a.number) × IsCallOf a call
+IsListing old new a (Busy seen call) =
+    Says old new a (Reply.Busy seen) × LacksRoomFor old a.params.bw seen × IsCallOf a call
 IsListing old new a (Full prepared) = Says old new a Reply.Full × (prepared ≡ a)
 IsListing old new a (Twice prepared) = Says old new a Reply.Twice × (prepared ≡ a)

@@ -42,7 +42,9 @@ None >>= f = None
 
 -- what stands before and after the first byte of this code
 unfoldable pub cut_at : ℕ → List ℕ → Option (List ℕ × List ℕ)
-cut_at c text = if nat_lt (position_or_len (λ b. b == c) text) (length text) then Some (before_first (λ b. b == c) text, after_first (λ b. b == c) text) else None
+cut_at c text =
+    if nat_lt (position_or_len (λ b. b == c) text) (length text)
+    then Some (before_first (λ b. b == c) text, after_first (λ b. b == c) text) else None
 
 -- ---- numbers
 
@@ -53,7 +55,9 @@ digits_on n (c ∷ cs) = if is_ascii_digit c then digits_on (n * 10 + (c - 48)) 
 
 -- at most 19 digits, and no zero in front of another digit
 abbrev pub is_short : List ℕ → Bool
-is_short text = nat_lt 0 (length text) && nat_le (length text) 19 && (nat_le (length text) 1 || not (slice_index text 0 == 48))
+is_short text =
+    nat_lt 0 (length text) && nat_le (length text) 19
+    && (nat_le (length text) 1 || not (slice_index text 0 == 48))
 
 unfoldable pub number_at : List ℕ → Option ℕ
 number_at text = if is_short text then digits_on 0 text else None
@@ -78,15 +82,19 @@ event_at (c ∷ digits) =
     else (if c == 119 && length digits == 0 then Some Wait else None)))
 
 -- an item and what follows it, again and again, at most so many times
-unfoldable pub many_at : {X : Type 0} → (List ℕ → Option (X × Option (List ℕ))) → ℕ → List ℕ → Option (List X)
+unfoldable pub many_at : {X : Type 0} → (List ℕ → Option (X × Option (List ℕ))) → ℕ → List ℕ
+    → Option (List X)
 many_at item zero text = None
 many_at item (suc most) text = do
   first ← item text
-  option_map_or (λ rest. many_at item most rest >>= λ others. Some (first.0 ∷ others)) first.1 (Some (first.0 ∷ []))
+  option_map_or (λ rest. many_at item most rest >>= λ others. Some (first.0 ∷ others)) first.1
+      (Some (first.0 ∷ []))
 
 -- an event, and what follows the comma after it
 unfoldable pub event_first_at : List ℕ → Option (Event × Option (List ℕ))
-event_first_at text = option_map_or (λ p. event_at p.0 >>= λ e. Some (e, Some p.1)) (cut_at 44 text) (event_at text >>= λ e. Some (e, None))
+event_first_at text =
+    option_map_or (λ p. event_at p.0 >>= λ e. Some (e, Some p.1)) (cut_at 44 text)
+    (event_at text >>= λ e. Some (e, None))
 
 abbrev pub events_at : List ℕ → Option (List Event)
 events_at text = many_at event_first_at 64 text
@@ -110,7 +118,9 @@ abbrev pub phases_at : List ℕ → Option (List PhaseView)
 phases_at text = many_at phase_first_at 64 text
 
 unfoldable pub rounds_at : List ℕ → Option (Option ℕ)
-rounds_at text = if bytes_eq text (codes "-1") then Some None else (number_within_at 1 1000000000 text >>= λ n. Some (Some n))
+rounds_at text =
+    if bytes_eq text (codes "-1") then Some None
+    else (number_within_at 1 1000000000 text >>= λ n. Some (Some n))
 
 unfoldable pub script_at : List ℕ → Option ScriptView
 script_at text = do
@@ -144,15 +154,27 @@ pub record AreTimes (t : Times) : Type 0 where
 
 -- whether the task reclaims
 unfoldable pub flag_at : List ℕ → Option Bool
-flag_at text = if bytes_eq text (codes "R") then Some true else (if bytes_eq text (codes "-") then Some false else None)
+flag_at text =
+    if bytes_eq text (codes "R") then Some true
+    else (if bytes_eq text (codes "-") then Some false else None)
 
 -- the parameters that these times give to a task that reclaims or does not
 unfoldable pub params_at : Times → Bool → Option ParamsView
-params_at t reclaim = result_ok (accepted (record { policy = 6; flags = if reclaim then 2 else 0; runtime = t.runtime * 1000; deadline = t.deadline * 1000; period = t.period * 1000 }))
+params_at t reclaim =
+    result_ok (accepted
+    (record {
+      policy = 6;
+      flags = if reclaim then 2 else 0;
+      runtime = t.runtime * 1000;
+      deadline = t.deadline * 1000;
+      period = t.period * 1000;
+    }))
 
 -- 1 to 15 bytes of codes 0x21 to 0x7e
 abbrev pub is_name : List ℕ → Bool
-is_name text = nat_lt 0 (length text) && nat_le (length text) 15 && list_all (λ b. nat_le 33 b && nat_le b 126) text
+is_name text =
+    nat_lt 0 (length text) && nat_le (length text) 15
+    && list_all (λ b. nat_le 33 b && nat_le b 126) text
 
 unfoldable pub name_at : List ℕ → Option (List ℕ)
 name_at text = if is_name text then Some text else None
@@ -187,10 +209,13 @@ seen_at text = do
 abbrev pub answer : Bool → Option ℕ → Option (Bool × Option ℕ)
 answer reclaim word = Some (reclaim, word)
 
--- what follows the times in a regrade: whether the task reclaims, and with what the bandwidth word refused, where it did
+-- what follows the times in a regrade: whether the task reclaims, and with what the bandwidth word
+-- refused, where it did
 unfoldable pub answer_at : List ℕ → Option (Bool × Option ℕ)
 answer_at text =
-    option_map_or (λ p. flag_at p.0 >>= λ reclaim. seen_at p.1 >>= λ seen. answer reclaim (Some seen)) (cut_at 32 text) (flag_at text >>= λ reclaim. answer reclaim None)
+    option_map_or
+    (λ p. flag_at p.0 >>= λ reclaim. seen_at p.1 >>= λ seen. answer reclaim (Some seen))
+    (cut_at 32 text) (flag_at text >>= λ reclaim. answer reclaim None)
 
 -- what follows the client in a regrade
 unfoldable pub regrade_at : List ℕ → Option Call
@@ -254,7 +279,8 @@ pub record SoFar (text rest : List ℕ) (entries : List Entry) : Type 0 where
 
 -- how many calls each client made
 abbrev pub Counts : List ℕ → List Entry → Type 0
-Counts made entries = (client : ℕ) → IsClient client → slice_index made (client - 1) ≡ made_by client entries
+Counts made entries =
+    (client : ℕ) → IsClient client → slice_index made (client - 1) ≡ made_by client entries
 
 -- the entry of a line, where a client made so many calls before
 pub record IsNext (line : List ℕ) (made : List ℕ) (e : Entry) : Type 0 where
@@ -265,7 +291,8 @@ pub record IsNext (line : List ℕ) (made : List ℕ) (e : Entry) : Type 0 where
 
 -- the text does not begin with the line of an entry
 abbrev pub LacksEntry : List ℕ → Type 0
-LacksEntry text = (e : Entry) (after : List ℕ) → IsEntryRead e → text ≡ entry_line e ++ 10 ∷ after → ⊥
+LacksEntry text =
+    (e : Entry) (after : List ℕ) → IsEntryRead e → text ≡ entry_line e ++ 10 ∷ after → ⊥
 
 -- the entries at the front of a text: as many as stand there, and as a section may have
 pub record AreEntries (text rest : List ℕ) (entries : List Entry) : Type 0 where
@@ -292,7 +319,8 @@ pub record IsFirstSection (text rest : List ℕ) (s : SectionView) : Type 0 wher
 
 -- the text does not begin with the line of a domain
 abbrev pub LacksDomain : List ℕ → Type 0
-LacksDomain text = (s : SectionView) (after : List ℕ) → IsSectionRead s → text ≡ domain_line s ++ 10 ∷ after → ⊥
+LacksDomain text =
+    (s : SectionView) (after : List ℕ) → IsSectionRead s → text ≡ domain_line s ++ 10 ∷ after → ⊥
 
 abbrev pub IsNoSection : List ℕ → PartFault → Type 0
 IsNoSection text Bad = LacksDomain text

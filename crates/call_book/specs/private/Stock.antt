@@ -10,7 +10,8 @@ pub record StockView : Type 0 where
   pub tickets : List Held
   pub blanks : List BlankView
 
-pub record IsStock (gate : GateId) (domain : ℕ) (tickets : List Held) (blanks : List BlankView) (home : List TicketView) (held_room free_room home_room : ℕ) : Type 0 where
+pub record IsStock (gate : GateId) (domain : ℕ) (tickets : List Held) (blanks : List BlankView)
+    (home : List TicketView) (held_room free_room home_room : ℕ) : Type 0 where
   pub pieces : ArePieces gate domain tickets blanks
   pub empty : home ≡ []
   pub room : (256 ≤ held_room) × (256 ≤ free_room) × (256 ≤ home_room)

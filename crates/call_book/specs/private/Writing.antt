@@ -9,7 +9,8 @@ head_text word client n = line_of (word ∷ decimal client ∷ decimal n ∷ [])
 
 -- the times and the flag of a task
 abbrev pub params_text : ParamsView → List ℕ
-params_text p = line_of (decimal p.runtime ∷ decimal p.deadline ∷ decimal p.period ∷ flag_text p ∷ [])
+params_text p =
+    line_of (decimal p.runtime ∷ decimal p.deadline ∷ decimal p.period ∷ flag_text p ∷ [])
 
 -- what follows them in a regrade
 abbrev pub busy_text : Option ℕ → List ℕ

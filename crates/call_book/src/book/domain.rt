@@ -1,6 +1,6 @@
 //! The book of a domain: what a client does to it under its lock.
 
-ghost use Rattle.std.specs.Prelude.{◌≡◌, ◌<◌, ◌≤◌, ◌+◌, ◌^◌, ◌++◌, ◌∷◌, [], ℕ, length, map, All, IfOk, IfErr, IfSome, IfNone, slice_get};
+ghost use Rattle.std.specs.Prelude.{◌≡◌, ◌<◌, ◌≤◌, ◌+◌, ◌^◌, ◌++◌, [], ℕ, length, map, All, IfOk, IfErr, IfSome, IfNone, slice_get};
 ghost use Rattle.std.specs.Option.{option_to_list};
 ghost use Rattle.attr_check.specs.Ratio.{cap};
 ghost use Rattle.bw_gate.specs.Pieces.{cap_of};
@@ -34,8 +34,8 @@ struct Workers {
     ghost some: { 0 < count },
 }
 
-/// One root domain with the history of its calls and the tickets of its tasks. It has room for so many calls; it is neither
-/// cloned nor dropped, but closed, since it holds tickets.
+/// One root domain with the history of its calls and the tickets of its tasks. It has room for so
+/// many calls; it is neither cloned nor dropped, but closed, since it holds tickets.
 pub struct Domain {
     cpus: u32,
     limit: u64,
@@ -65,7 +65,8 @@ pub enum Admit {
         /// A kept blank, where there is one: it is the caller's.
         blank: Option<Blank>,
     },
-    /// EBUSY 16: the sum of bandwidths found does not leave room for the task. The call stands in the history.
+    /// EBUSY 16: the sum of bandwidths found does not leave room for the task. The call stands in
+    /// the history.
     Busy {
         /// The ticket, as it was.
         ticket: Ticket,
@@ -104,7 +105,8 @@ impl fmt::Display for Full {
 
 impl Error for Full {}
 
-/// Why [`Domain::advance`] made no tick. Nothing has changed. It prints as `the history is full` or `out of memory`.
+/// Why [`Domain::advance`] made no tick. Nothing has changed. It prints as `the history is full` or
+/// `out of memory`.
 #[derive(Clone, Copy, Debug, PartialEq, Eq)]
 pub enum AdvanceError {
     /// 40: the history is full.
@@ -148,9 +150,10 @@ impl Domain {
     ghost use Rattle.call_book.specs.Book.{own_entries, state_of, IsBookHistory, IsPassOf, EntersAlone, IsRefusedFull};
     ghost use Rattle.call_book.specs.BookAnswers.{IsAdmit, IsRegraded, IsAdvanced, IsNotAdvanced};
 
-    /// An empty book of one of the gate's domains, of 1 to 64 CPUs that may give away `limit` of each (10485 to 1048576 in
-    /// 1/2^20), so that the cap of its word is their product; with a pass for each of 0 to 64 clients, numbered from 1, and room
-    /// for 1 to 65536 calls and for 256 tickets and blanks. [`NoMemory`] (ENOMEM 12) where a growth was refused: nothing stands.
+    /// An empty book of one of the gate's domains, of 1 to 64 CPUs that may give away `limit` of
+    /// each (10485 to 1048576 in 1/2^20), so that the cap of its word is their product; with a pass
+    /// for each of 0 to 64 clients, numbered from 1, and room for 1 to 65536 calls and for 256
+    /// tickets and blanks. [`NoMemory`] (ENOMEM 12) where a growth was refused: nothing stands.
     pub fn open(
         alloc: Global,
         gate: &Gate,
@@ -180,7 +183,8 @@ impl Domain {
         }) }
         ensures count { IfOk result (λ r. length r.1.items ≡ clients) }
         ensures passes { IfOk result (λ r. (k : ℕ) → k < clients
-            → slice_get r.1.items k ≡ Some (record { spine = r.0.spine; client = k + 1; entries = [] })) }
+            → slice_get r.1.items k
+            ≡ Some (record { spine = r.0.spine; client = k + 1; entries = [] })) }
     {
         let (ledger, passes) = Ledger::open(alloc, clients, history)?;
         let state = State::open(alloc, cpus, limit)?;
@@ -197,9 +201,10 @@ impl Domain {
         Ok((book, passes))
     }
 
-    /// How many workers an advance may have, 1 to 8; 1 where this was never called. They share the work on the tasks that run, which
-    /// starts threads and takes memory for each event of an advance; what an advance answers and enters is the same with every
-    /// number, also where a worker cannot be started. It is no call of the history. Takes no memory.
+    /// How many workers an advance may have, 1 to 8; 1 where this was never called. They share the
+    /// work on the tasks that run, which starts threads and takes memory for each event of an
+    /// advance; what an advance answers and enters is the same with every number, also where a
+    /// worker cannot be started. It is no call of the history. Takes no memory.
     pub fn set_workers(&mut self, n: usize)
         requires { (1 ≤ n) × (n ≤ 8) }
         ensures { self.new ≡ record self.old { workers = n } }
@@ -207,9 +212,9 @@ impl Domain {
         self.workers = Workers { count: n };
     }
 
-    /// Admits a task whose bandwidth its ticket has. Tested in this order: the history is full; then as
-    /// [`State::admit`](domain_run::State::admit) tests. The book tests the sum of bandwidths itself, since one ticket says
-    /// nothing of the others. Takes no memory.
+    /// Admits a task whose bandwidth its ticket has. Tested in this order: the history is full;
+    /// then as [`State::admit`](domain_run::State::admit) tests. The book tests the sum of
+    /// bandwidths itself, since one ticket says nothing of the others. Takes no memory.
     pub fn admit(&mut self, pass: &mut Pass, prepared: Prepared, ticket: Ticket) -> Admit
         requires pass { IsPassOf self.old pass.old }
         requires ticket { IsTicketOf self.old.gate self.old.domain ticket }
@@ -235,8 +240,8 @@ impl Domain {
         }
     }
 
-    /// Wakes a task that waits, as [`State::wake`](domain_run::State::wake) does; the reply is entered, a refusal too. Takes no
-    /// memory.
+    /// Wakes a task that waits, as [`State::wake`](domain_run::State::wake) does; the reply is
+    /// entered, a refusal too. Takes no memory.
     pub fn wake(&mut self, pass: &mut Pass, number: u32) -> Result<Reply, Full>
         requires pass { IsPassOf self.old pass.old }
         requires call { IsCall (Call.Wake number) }
@@ -251,8 +256,8 @@ impl Domain {
         Ok(reply)
     }
 
-    /// Ends a task, as [`State::leave`](domain_run::State::leave) does; the reply is entered, a refusal too. Its ticket stays
-    /// until an advance takes the task off the list. Takes no memory.
+    /// Ends a task, as [`State::leave`](domain_run::State::leave) does; the reply is entered, a
+    /// refusal too. Its ticket stays until an advance takes the task off the list. Takes no memory.
     pub fn leave(&mut self, pass: &mut Pass, number: u32) -> Result<Reply, Full>
         requires pass { IsPassOf self.old pass.old }
         requires call { IsCall (Call.Leave number) }
@@ -267,10 +272,11 @@ impl Domain {
         Ok(reply)
     }
 
-    /// Gives a listed task new parameters, as [`State::regrade`](domain_run::State::regrade) does. Only where the domain's own
-    /// test passes, its ticket asks the gate's word, again as long as other clients come between; where the word refuses, the
-    /// reply is `Busy` with the number that the ticket found last, and else the ticket has the new bandwidth. The reply is entered,
-    /// a refusal too. Takes no memory.
+    /// Gives a listed task new parameters, as [`State::regrade`](domain_run::State::regrade) does.
+    /// Only where the domain's own test passes, its ticket asks the gate's word, again as long as
+    /// other clients come between; where the word refuses, the reply is `Busy` with the number that
+    /// the ticket found last, and else the ticket has the new bandwidth. The reply is entered, a
+    /// refusal too. Takes no memory.
     pub fn regrade<R: Wait>(
         &mut self,
         rt: &R,
@@ -299,9 +305,10 @@ impl Domain {
         Ok(reply)
     }
 
-    /// Makes up to `n` ticks, 1 to 60000000, and enters how many were made: fewer only where a growth was refused. The tickets of
-    /// tasks that went off the list are given back, and their blanks kept. It goes from event to event, by as many workers as
-    /// [`Domain::set_workers`] said, and waits for them; with one it starts no thread.
+    /// Makes up to `n` ticks, 1 to 60000000, and enters how many were made: fewer only where a
+    /// growth was refused. The tickets of tasks that went off the list are given back, and their
+    /// blanks kept. It goes from event to event, by as many workers as [`Domain::set_workers`]
+    /// said, and waits for them; with one it starts no thread.
     pub fn advance<R: Threads + Wait>(
         &mut self,
         rt: &R,
@@ -338,7 +345,8 @@ impl Domain {
         self.stock.spare()
     }
 
-    /// Compares a pass with the book, which changes neither: the pass's list is exactly its client's entries.
+    /// Compares a pass with the book, which changes neither: the pass's list is exactly its
+    /// client's entries.
     pub fn agree(&mut self, pass: &mut Pass)
         requires { pass.old.spine ≡ self.old.spine }
         ensures book { self.new ≡ self.old }
@@ -348,8 +356,8 @@ impl Domain {
         self.ledger.agree(pass);
     }
 
-    /// Ends a book: hands out its state, its history and its pieces. Each pass that is handed in is compared with the history.
-    /// Takes no memory.
+    /// Ends a book: hands out its state, its history and its pieces. Each pass that is handed in is
+    /// compared with the history. Takes no memory.
     pub fn close(self, passes: Vec<Pass>) -> Closed
         requires { All (λ p. p.spine ≡ self.spine) passes.items }
         ensures state { result.state ≡ state_of self }
@@ -385,7 +393,8 @@ impl Domain {
     }
 }
 
-/// Asks the word where the domain's own test passes: the number with which it refused, where it did.
+/// Asks the word where the domain's own test passes: the number with which it refused, where it
+/// did.
 fn ask_word<R: Wait>(
     rt: &R,
     gate: &Gate,

@@ -12,7 +12,8 @@ use pass_seats::Spine;
 use std::alloc::Global;
 use std::marker::Model;
 
-/// The entries of a book with room for so many, and the spine in which its clients' passes agree with them.
+/// The entries of a book with room for so many, and the spine in which its clients' passes agree
+/// with them.
 #[derive(Drop)]
 pub(crate) struct Ledger {
     spine: Spine<Entry>,
@@ -27,7 +28,12 @@ impl Model for Ledger {
 
     ghost Value = { LedgerView };
 
-    ghost view = { λ l. record { spine = l.spine.spine; clients = l.clients; room = l.room; history = l.entries.items } };
+    ghost view = { λ l. record {
+      spine = l.spine.spine;
+      clients = l.clients;
+      room = l.room;
+      history = l.entries.items;
+    } };
 
     ghost invariant = { λ l. IsLedger l.spine l.clients l.room l.entries.items (vec_capacity l.entries) };
 }
@@ -41,10 +47,12 @@ impl Ledger {
     ) -> Result<(Ledger, Vec<Pass>), NoMemory>
         requires clients { clients ≤ 64 }
         requires room { room ≤ 65536 }
-        ensures ledger { IfOk result (λ r. r.0 ≡ record { spine = r.0.spine; clients = clients; room = room; history = [] }) }
+        ensures ledger { IfOk result (λ r. r.0
+            ≡ record { spine = r.0.spine; clients = clients; room = room; history = [] }) }
         ensures count { IfOk result (λ r. length r.1.items ≡ clients) }
         ensures passes { IfOk result (λ r. (k : ℕ) → k < clients
-            → slice_get r.1.items k ≡ Some (record { spine = r.0.spine; client = k + 1; entries = [] })) }
+            → slice_get r.1.items k
+            ≡ Some (record { spine = r.0.spine; client = k + 1; entries = [] })) }
     {
         let entries = Vec::with_capacity(alloc, room)?;
         let Ok((spine, passes)) = Spine::open(alloc, clients) else {
@@ -72,7 +80,10 @@ impl Ledger {
         requires member { IsMember self.old.clients pass.old.client }
         requires free { length self.old.history < self.old.room }
         requires call { IsCall call }
-        ensures ledger { self.new ≡ record self.old { history = self.old.history ++ entry_by pass.old call reply ∷ [] } }
+        ensures ledger { self.new ≡ record self.old {
+          history = self.old.history ++ entry_by pass.old call reply
+              ∷ [];
+        } }
         ensures pass { pass.new ≡ with_entry pass.old call reply }
     {
         self.spine.agree(pass);

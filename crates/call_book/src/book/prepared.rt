@@ -1,7 +1,6 @@
 //! An admission that is ready to be made, for which no memory is needed any more.
 
-ghost use Rattle.std.specs.Prelude.{◌≡◌, ◌≤◌, ◌^◌, IfOk, List, length, map, vec_len};
-ghost use Rattle.domain_run.specs.script.ScriptView.{PhaseView};
+ghost use Rattle.std.specs.Prelude.{◌≡◌, ◌≤◌, ◌^◌, IfOk};
 ghost use Rattle.call_book.specs.Limits.{IsAdmission};
 ghost use Rattle.call_book.specs.Book.{AdmissionView};
 ghost use Rattle.call_book.specs.private.Listing.{IsListing};
@@ -11,7 +10,8 @@ use domain_run::{Call, Name, NoMemory, Phase, Refused, Reply, Script, State};
 use std::alloc::Global;
 use std::marker::Model;
 
-/// A task that is ready to be admitted, with its own copies of name and script, one for the domain and one for the history.
+/// A task that is ready to be admitted, with its own copies of name and script, one for the domain
+/// and one for the history.
 #[derive(Debug, Drop)]
 pub struct Prepared {
     number: u32,
@@ -30,9 +30,16 @@ impl Model for Prepared {
 
     ghost Value = { AdmissionView };
 
-    ghost view = { λ p. record { number = p.number; name = p.name; params = p.params; delay = p.delay; script = p.script } };
+    ghost view = { λ p. record {
+      number = p.number;
+      name = p.name;
+      params = p.params;
+      delay = p.delay;
+      script = p.script;
+    } };
 
-    ghost invariant = { λ p. (p.entry_name ≡ p.name) × (p.entry_script ≡ p.script) × IsAdmission p.number p.name p.params p.delay p.script };
+    ghost invariant = { λ p. (p.entry_name ≡ p.name) × (p.entry_script ≡ p.script)
+        × IsAdmission p.number p.name p.params p.delay p.script };
 }
 
 /// What a domain says to an admission.
@@ -47,9 +54,9 @@ pub(crate) enum Listing {
     Twice { prepared: Prepared },
 }
 
-/// All growths of an admission: copies of the name and the script, for the domain and for the history. The admission starts a
-/// task of a number from 1 to 65535 after a delay of at most 10^9 us. [`NoMemory`] (ENOMEM 12) where a growth was refused:
-/// nothing stands.
+/// All growths of an admission: copies of the name and the script, for the domain and for the
+/// history. The admission starts a task of a number from 1 to 65535 after a delay of at most 10^9
+/// us. [`NoMemory`] (ENOMEM 12) where a growth was refused: nothing stands.
 pub fn prepare(
     alloc: Global,
     number: u32,
@@ -59,7 +66,14 @@ pub fn prepare(
     script: &Script,
 ) -> Result<Prepared, NoMemory>
     requires { IsAdmission number name.now params delay script.now }
-    ensures { IfOk result (λ p. p ≡ record { number = number; name = name.now; params = params; delay = delay; script = script.now }) }
+    ensures { IfOk result (λ p. p
+        ≡ record {
+          number = number;
+          name = name.now;
+          params = params;
+          delay = delay;
+          script = script.now;
+        }) }
 {
     Ok(Prepared {
         number,
@@ -106,7 +120,8 @@ fn copy_of_script(alloc: Global, script: &Script) -> Result<Script, NoMemory>
 }
 
 impl Prepared {
-    /// The bandwidth of the task, in 1/2^20 of a CPU, at most the whole: that of the ticket with which it is admitted.
+    /// The bandwidth of the task, in 1/2^20 of a CPU, at most the whole: that of the ticket with
+    /// which it is admitted.
     pub fn bw(&self) -> u64
         ensures value { result ≡ self.now.params.bw }
         ensures most { result ≤ 2 ^ 20 }

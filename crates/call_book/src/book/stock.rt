@@ -1,4 +1,5 @@
-//! The pieces of the gate in a book: a ticket for each listed task, and the blanks of tasks that have gone.
+//! The pieces of the gate in a book: a ticket for each listed task, and the blanks of tasks that
+//! have gone.
 
 ghost use Rattle.std.specs.Prelude.{◌≡◌, ◌<◌, ◌≤◌, ◌+◌, ◌^◌, ◌++◌, ◌∷◌, [], ℕ, length, map, filter, true, All, IfOk, IfSome, IfNone, List, vec_len, vec_capacity, slice_index_or};
 ghost use Rattle.std.specs.List.{list_any};
@@ -38,15 +39,22 @@ impl Model for Stock {
 
     ghost Value = { StockView };
 
-    ghost view = { λ s. record { gate = s.gate; domain = s.domain; tickets = s.held.items; blanks = s.blanks.items } };
+    ghost view = { λ s. record {
+      gate = s.gate;
+      domain = s.domain;
+      tickets = s.held.items;
+      blanks = s.blanks.items;
+    } };
 
-    ghost invariant = { λ s. IsStock s.gate s.domain s.held.items s.blanks.items s.home.items (vec_capacity s.held) (vec_capacity s.blanks) (vec_capacity s.home) };
+    ghost invariant = { λ s. IsStock s.gate s.domain s.held.items s.blanks.items s.home.items (vec_capacity s.held)
+        (vec_capacity s.blanks) (vec_capacity s.home) };
 }
 
 impl Stock {
     /// No piece, with room for 256.
     pub(crate) fn open(alloc: Global, gate: &Gate, domain: usize) -> Result<Stock, NoMemory>
-        ensures { IfOk result (λ s. s ≡ record { gate = gate.now; domain = domain; tickets = []; blanks = [] }) }
+        ensures { IfOk result (λ s. s
+            ≡ record { gate = gate.now; domain = domain; tickets = []; blanks = [] }) }
     {
         let blanks = Vec::with_capacity(alloc, MOST)?;
         let held = Vec::with_capacity(alloc, MOST)?;
@@ -68,7 +76,10 @@ impl Stock {
     pub(crate) fn hold(&mut self, number: u32, ticket: Ticket)
         requires own { IsTicketOf self.old.gate self.old.domain ticket }
         requires room { length self.old.tickets + length self.old.blanks < 256 }
-        ensures { self.new ≡ record self.old { tickets = self.old.tickets ++ record { number = number; ticket = ticket } ∷ [] } }
+        ensures { self.new ≡ record self.old {
+          tickets = self.old.tickets
+              ++ record { number = number; ticket = ticket } ∷ [];
+        } }
     {
         self.held.push_reserved(Held { number, ticket });
     }
@@ -84,7 +95,8 @@ impl Stock {
         self.blanks.pop()
     }
 
-    /// The ticket of a task asks the gate for another bandwidth: the number with which the word refused, where it did.
+    /// The ticket of a task asks the gate for another bandwidth: the number with which the word
+    /// refused, where it did.
     pub(crate) fn regrade<R: Wait>(
         &mut self,
         rt: &R,
@@ -102,11 +114,15 @@ impl Stock {
         regrade_held(rt, gate, &mut self.held, number, bw)
     }
 
-    /// Gives the tickets of tasks that are no longer listed back, and keeps their blanks. The others are those of the list.
+    /// Gives the tickets of tasks that are no longer listed back, and keeps their blanks. The
+    /// others are those of the list.
     pub(crate) fn sweep(&mut self, gate: &Gate, state: &State)
         requires gate { gate.now ≡ self.old.gate }
         requires listed { HoldsTickets state.now (filter (is_kept state.now) self.old.tickets) }
-        ensures stock { self.new ≡ record self.old { tickets = filter (is_kept state.now) self.old.tickets; blanks = self.new.blanks } }
+        ensures stock { self.new ≡ record self.old {
+          tickets = filter (is_kept state.now) self.old.tickets;
+          blanks = self.new.blanks;
+        } }
         ensures given { (given : List BlankView) × (self.new.blanks ≡ self.old.blanks ++ given)
             × AreGiven (filter (is_gone state.now) self.old.tickets) given }
     {
@@ -187,7 +203,8 @@ fn regrade_held<R: Wait>(
     }
 }
 
-// One walk, since the tickets stand in the order of the tasks: a ticket stays exactly where the task at its place is its own.
+// One walk, since the tickets stand in the order of the tasks: a ticket stays exactly where the
+// task at its place is its own.
 fn sweep_held(gate: &Gate, state: &State, held: &mut Vec<Held>, blanks: &mut Vec<Blank>)
     requires own { All (λ h. h.ticket.gate ≡ gate.now) held.old.items }
     requires listed { HoldsTickets state.now (filter (is_kept state.now) held.old.items) }

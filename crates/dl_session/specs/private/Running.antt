@@ -1,4 +1,5 @@
--- The steps of a run: the input is told, tasks are run in a session, and the text of their run is written.
+-- The steps of a run: the input is told, tasks are run in a session, and the text of their run is
+-- written.
 use Rattle.std.specs.Prelude.{◌≡◌, ◌≢◌, ℕ, List, [], length, map}
 use Rattle.json_order.specs.declared.fault.JsonFault.{JsonFault}
 use Rattle.json_order.specs.declared.fault.JsonKind.TheVariants as kinds
@@ -26,15 +27,18 @@ abbrev pub IsScenarioTold : ScenarioFault → SessionFault → Type 0
 IsScenarioTold found = IsOrMemory (λ e. (e ≡ Scenario found) × (found ≢ scenario_faults.Memory))
 
 -- what a run of tasks leaves: the histories and the refusals answer them
-pub record IsRan (id : SessionId) (tasks : List TaskSpecView) (duration : ℕ) (f : Finished) : Type 0 where
+pub record IsRan (id : SessionId) (tasks : List TaskSpecView) (duration : ℕ)
+    (f : Finished) : Type 0 where
   pub left : IsLeft id [] f.report
-  pub answers : AnswersScenario id id.clients tasks duration (map (λ h. h.entries) f.report.histories.items) f.report.refused.items
+  pub answers : AnswersScenario id id.clients tasks duration
+      (map (λ h. h.entries) f.report.histories.items) f.report.refused.items
   pub count : length f.states.items ≡ length f.report.histories.items
   pub runs : AreRuns f.report.histories.items f.states.items
 
 -- ---- why it did not come to its end
 
--- a client's thread was not started; or a book was full, of which this is said; or memory was refused
+-- a client's thread was not started; or a book was full, of which this is said; or memory was
+-- refused
 abbrev pub IsHalted : Type 0 → SessionFault → Type 0
 IsHalted full Start = Unit {0}
 IsHalted full Full = full

@@ -23,8 +23,10 @@ answered (t ∷ tasks) (a ∷ answers) = record { task = t; answer = a } ∷ ans
 abbrev pub AreAnswers : ℕ → ℕ → List TaskSpecView → List Answer → Type 0
 AreAnswers n i tasks answers = length answers ≡ length (own_tasks n i tasks)
 
--- the client at a place among so many asked for its own tasks, in their order, and got these answers
-pub record AsksOwn (id : SessionId) (n i : ℕ) (tasks : List TaskSpecView) (c c' : ClientView) (answers : List Answer) : Type 0 where
+-- the client at a place among so many asked for its own tasks, in their order, and got these
+-- answers
+pub record AsksOwn (id : SessionId) (n i : ℕ) (tasks : List TaskSpecView) (c c' : ClientView)
+    (answers : List Answer) : Type 0 where
   pub each : AreAnswers n i tasks answers
   pub asks : Asks id c c' (answered (own_tasks n i tasks) answers)
 
@@ -44,30 +46,36 @@ abbrev pub AsksSeat : SessionId → List TaskSpecView → SeatView → ClientVie
 AsksSeat id tasks s c answers = AsksOwn id s.many s.place tasks s.client c answers
 
 -- a client at its place
-pub record IsSeat (tasks : List TaskSpecView) (n i : ℕ) (c : ClientView) (s : SeatView) : Type 0 where
+pub record IsSeat (tasks : List TaskSpecView) (n i : ℕ) (c : ClientView)
+    (s : SeatView) : Type 0 where
   pub client : s.client ≡ c
   pub place : s.place ≡ i
   pub many : s.many ≡ n
   pub room : HasRoom tasks s
 
 -- the clients in their order, each at its place
-pub record AreSeats (tasks : List TaskSpecView) (clients : List ClientView) (seats : List SeatView) : Type 0 where
+pub record AreSeats (tasks : List TaskSpecView) (clients : List ClientView)
+    (seats : List SeatView) : Type 0 where
   pub count : length seats ≡ length clients
   pub each : (i : ℕ) (x : ClientView) (s : SeatView) → i < length clients
       → IsSeat tasks (length clients) i (slice_index_or clients i x) (slice_index_or seats i s)
 
 -- the client of each seat has asked
-pub record AreAsked (id : SessionId) (tasks : List TaskSpecView) (seats : List SeatView) (clients : List ClientView) (shares : List (List Answer)) : Type 0 where
+pub record AreAsked (id : SessionId) (tasks : List TaskSpecView) (seats : List SeatView)
+    (clients : List ClientView) (shares : List (List Answer)) : Type 0 where
   pub count : length clients ≡ length seats
   pub shared : length shares ≡ length seats
   pub each : (i : ℕ) (s : SeatView) (x : ClientView) → i < length seats
-      → AsksSeat id tasks (slice_index_or seats i s) (slice_index_or clients i x) (slice_index_or shares i [])
+      → AsksSeat id tasks (slice_index_or seats i s) (slice_index_or clients i x)
+      (slice_index_or shares i [])
 
--- the clients' answers put together: one for each task; those of the tasks of each client are its own; and the refusals are those
--- among them
-pub record IsUnion (tasks : List TaskSpecView) (shares : List (List Answer)) (refused : List (ℕ × Refusal)) : Type 0 where
+-- the clients' answers put together: one for each task; those of the tasks of each client are its
+-- own; and the refusals are those among them
+pub record IsUnion (tasks : List TaskSpecView) (shares : List (List Answer))
+    (refused : List (ℕ × Refusal)) : Type 0 where
   pub asked : List Asked
   pub tasks_are : map (λ q. q.task) asked ≡ tasks
   pub refused_are : refused ≡ refused_in asked
   pub own : (i : ℕ) (x : List Answer) → i < length shares
-      → own_asked (length shares) i asked ≡ answered (own_tasks (length shares) i tasks) (slice_index_or shares i x)
+      → own_asked (length shares) i asked
+      ≡ answered (own_tasks (length shares) i tasks) (slice_index_or shares i x)

@@ -16,12 +16,14 @@ AreTicketsOf gate tickets = All (λ t. t.gate ≡ gate) tickets
 -- the histories of the domains 0, 1, ..
 abbrev pub AreHistories : SessionId → List ClientView → List SectionView → Type 0
 AreHistories id clients histories =
-    (d : ℕ) (x : SectionView) → d < length histories → IsHistoryOf id d clients (slice_index_or histories d x)
+    (d : ℕ) (x : SectionView) → d < length histories
+    → IsHistoryOf id d clients (slice_index_or histories d x)
 
 -- the tickets of each of these domains have the bandwidths of the tasks that its history leaves
 abbrev pub AreSums : List SectionView → List TicketView → Type 0
 AreSums histories tickets =
-    (d : ℕ) (x : SectionView) → d < length histories → sum_of d tickets ≡ sum_left (slice_index_or histories d x)
+    (d : ℕ) (x : SectionView) → d < length histories
+    → sum_of d tickets ≡ sum_left (slice_index_or histories d x)
 
 -- what a closed book leaves: its history, and the state that this leads to
 pub record IsEnded (b : BookView) (history : SectionView) (state : Domain) : Type 0 where
@@ -29,10 +31,12 @@ pub record IsEnded (b : BookView) (history : SectionView) (state : Domain) : Typ
   pub run : state ≡ run_of history.cpus history.limit (calls_of history.entries)
 
 -- and so the first of these books, one for each history
-pub record HaveEnded (books : List BookView) (histories : List SectionView) (states : List Domain) : Type 0 where
+pub record HaveEnded (books : List BookView) (histories : List SectionView)
+    (states : List Domain) : Type 0 where
   pub states_count : length states ≡ length histories
   pub each : (d : ℕ) (b : BookView) (s : SectionView) (x : Domain) → d < length histories
-      → IsEnded (slice_index_or books d b) (slice_index_or histories d s) (slice_index_or states d x)
+      → IsEnded (slice_index_or books d b) (slice_index_or histories d s)
+      (slice_index_or states d x)
 
 -- nothing yet, with room for the end of so many domains
 pub record IsRoom (domains : ℕ) (r : Room) : Type 0 where

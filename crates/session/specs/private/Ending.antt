@@ -16,7 +16,12 @@ pub record IsEndBy (client duration : ℕ) (history : List Entry) : Type 0 where
   pub before : List Entry
   pub seq : ℕ
   pub all : history ≡ before
-      ++ record { client = client; seq = seq; call = Advance duration; reply = Some (replies.Done duration) } ∷ []
+      ++ record {
+        client = client;
+        seq = seq;
+        call = Advance duration;
+        reply = Some (replies.Done duration);
+      } ∷ []
 
 -- the books end with client 1's advance
 abbrev pub AllEnd : ℕ → List BookView → Type 0

@@ -35,16 +35,21 @@ pub record IsPassAt (id : SessionId) (client d : ℕ) (p : PassView Entry) : Typ
   pub spine : p.spine ≡ spine_of id d
   pub owner : p.client ≡ client
 
--- what a client keeps: it is one of the session's, it has a pass of each domain's book, and a piece of the session's gate
-pub record IsClientOf (id : SessionId) (number : ℕ) (passes : List (PassView Entry)) (hand : Option BlankView) : Type 0 where
+-- what a client keeps: it is one of the session's, it has a pass of each domain's book, and a piece
+-- of the session's gate
+pub record IsClientOf (id : SessionId) (number : ℕ) (passes : List (PassView Entry))
+    (hand : Option BlankView) : Type 0 where
   pub member : IsMember id.clients number
   pub count : length passes ≡ length id.cpu_sets
-  pub each : (d : ℕ) (x : PassView Entry) → d < length passes → IsPassAt id number d (slice_index_or passes d x)
+  pub each : (d : ℕ) (x : PassView Entry) → d < length passes
+      → IsPassAt id number d (slice_index_or passes d x)
   pub own : IfSome hand (λ b. b.gate ≡ id.gate)
 
--- what a call asks for, in a domain: an admission has a ticket of this domain, of the task's bandwidth
+-- what a call asks for, in a domain: an admission has a ticket of this domain, of the task's
+-- bandwidth
 abbrev pub IsAsk : SessionId → ℕ → Ask → Type 0
-IsAsk id d (asks.Admit prepared ticket) = IsTicketOf id.gate d ticket × (ticket.bw ≡ prepared.params.bw)
+IsAsk id d (asks.Admit prepared ticket) =
+    IsTicketOf id.gate d ticket × (ticket.bw ≡ prepared.params.bw)
 IsAsk id d (asks.Regrade number params) = IsCall (calls.Regrade number params None)
 IsAsk id d (asks.Wake number) = IsCall (calls.Wake number)
 IsAsk id d (asks.Leave number) = IsCall (calls.Leave number)
@@ -85,7 +90,8 @@ pub record SameBook (old new : BookView) : Type 0 where
   pub room : new.room ≡ old.room
   pub workers : new.workers ≡ old.workers
 
--- the ticket of a task that the book refused was given back by a step of its own, and its blank is there for the client
+-- the ticket of a task that the book refused was given back by a step of its own, and its blank is
+-- there for the client
 abbrev pub IsGivenBack : TicketView → Answer → Option BlankView → Type 0
 IsGivenBack ticket (Ok replies.Admitted) blank = Unit {0}
 IsGivenBack ticket _ blank = IfSome blank (IsGive ticket) × IsSome blank
@@ -97,7 +103,8 @@ NoneIsKept _ answer blank = Unit {0}
 -- ---- what a call comes to, under the domain's lock
 
 -- an admission
-pub record IsOffered (cap : ℕ) (p q : PassView Entry) (a : AdmissionView) (answer : Answer) : Type 0 where
+pub record IsOffered (cap : ℕ) (p q : PassView Entry) (a : AdmissionView)
+    (answer : Answer) : Type 0 where
   pub pass : q ≡ pass_after p (admission a) answer
   pub verdict : IsBookVerdict cap a.params.bw answer
 
@@ -106,7 +113,8 @@ pub record IsReplied (p q : PassView Entry) (call : Call) (answer : Answer) : Ty
   pub pass : q ≡ pass_after p call answer
   pub full : RefusesOnlyFull answer
 
-pub record IsRegradedBy (p q : PassView Entry) (number : ℕ) (params : ParamsView) (answer : Answer) : Type 0 where
+pub record IsRegradedBy (p q : PassView Entry) (number : ℕ) (params : ParamsView)
+    (answer : Answer) : Type 0 where
   pub word : Option ℕ
   pub replied : IsReplied p q (calls.Regrade number params word) answer
 
@@ -133,11 +141,15 @@ IsDone id d p q (asks.Leave number) answer = IsReplied p q (calls.Leave number) 
 
 abbrev pub IsDoneFor : SessionId → ℕ → ClientView → ClientView → Ask → Answer → Type 0
 IsDoneFor id d c e (asks.Admit prepared ticket) answer =
-    Makes c e (made_by d (admission prepared) answer) × IsBookVerdict (cap_in id d) prepared.params.bw answer
+    Makes c e (made_by d (admission prepared) answer)
+    × IsBookVerdict (cap_in id d) prepared.params.bw answer
     × IsGivenBack ticket answer e.hand
-IsDoneFor id d c e (asks.Regrade number params) answer = MakesRegrade c e d number params answer × RefusesOnlyFull answer
-IsDoneFor id d c e (asks.Wake number) answer = Makes c e (made_by d (calls.Wake number) answer) × RefusesOnlyFull answer
-IsDoneFor id d c e (asks.Leave number) answer = Makes c e (made_by d (calls.Leave number) answer) × RefusesOnlyFull answer
+IsDoneFor id d c e (asks.Regrade number params) answer =
+    MakesRegrade c e d number params answer × RefusesOnlyFull answer
+IsDoneFor id d c e (asks.Wake number) answer =
+    Makes c e (made_by d (calls.Wake number) answer) × RefusesOnlyFull answer
+IsDoneFor id d c e (asks.Leave number) answer =
+    Makes c e (made_by d (calls.Leave number) answer) × RefusesOnlyFull answer
 
 -- an advance
 abbrev pub IsAdvancedFor : ℕ → ClientView → ClientView → ℕ → Answer → Type 0

@@ -21,15 +21,19 @@ pub record IsHand (gate : GateId) (spines : List TableId) (client : ℕ) (h : Ha
 -- the hands of the clients 1, 2, .. that were not given out
 abbrev pub AreHands : GateId → List TableId → List (Option Hand) → Type 0
 AreHands gate spines hands =
-    (i : ℕ) (x : Option Hand) → i < length hands → IfSome (slice_index_or hands i x) (IsHand gate spines (i + 1))
+    (i : ℕ) (x : Option Hand) → i < length hands
+    → IfSome (slice_index_or hands i x) (IsHand gate spines (i + 1))
 
 -- room for so many passes in each hand, and for one more than it has
 abbrev pub HaveRoom : ℕ → List (Option Hand) → Type 0
-HaveRoom n hands = (i : ℕ) (x : Option Hand) → i < length hands → IfSome (slice_index_or hands i x) (λ h. n ≤ vec_capacity h.passes)
+HaveRoom n hands =
+    (i : ℕ) (x : Option Hand) → i < length hands
+    → IfSome (slice_index_or hands i x) (λ h. n ≤ vec_capacity h.passes)
 
 abbrev pub HaveRoomForOne : List (Option Hand) → Type 0
 HaveRoomForOne hands =
-    (i : ℕ) (x : Option Hand) → i < length hands → IfSome (slice_index_or hands i x) (λ h. length h.passes.items < vec_capacity h.passes)
+    (i : ℕ) (x : Option Hand) → i < length hands
+    → IfSome (slice_index_or hands i x) (λ h. length h.passes.items < vec_capacity h.passes)
 
 -- the new passes of a book, of the clients 1, 2, ..
 abbrev pub AreNewPasses : TableId → List (PassView Entry) → Type 0
@@ -38,7 +42,8 @@ AreNewPasses spine passes =
     → slice_index_or passes k x ≡ record { spine = spine; client = k + 1; entries = [] }
 
 -- the book of a domain of a gate
-pub record IsBookOf (gate : GateId) (d cpus limit clients room workers : ℕ) (b : BookView) : Type 0 where
+pub record IsBookOf (gate : GateId) (d cpus limit clients room workers : ℕ)
+    (b : BookView) : Type 0 where
   pub of_gate : b.gate ≡ gate
   pub of_domain : b.domain ≡ d
   pub has_cpus : b.cpus ≡ cpus
@@ -49,11 +54,14 @@ pub record IsBookOf (gate : GateId) (d cpus limit clients room workers : ℕ) (b
 
 abbrev pub AreBooks : GateId → List ℕ → ℕ → ℕ → ℕ → ℕ → List BookView → Type 0
 AreBooks gate domains limit clients room workers books =
-    (d : ℕ) (x : BookView) → d < length books → IsBookOf gate d (slice_index domains d) limit clients room workers (slice_index_or books d x)
+    (d : ℕ) (x : BookView) → d < length books
+    → IsBookOf gate d (slice_index domains d) limit clients room workers
+    (slice_index_or books d x)
 
 -- the books of the domains 0, 1, ..
 abbrev pub AreSessionBooks : SessionId → List BookView → Type 0
-AreSessionBooks id books = (d : ℕ) (x : BookView) → d < length books → IsSessionBook id d (slice_index_or books d x)
+AreSessionBooks id books =
+    (d : ℕ) (x : BookView) → d < length books → IsSessionBook id d (slice_index_or books d x)
 
 abbrev pub AreBlanksOf : GateId → List BlankView → Type 0
 AreBlanksOf gate blanks = All (λ b. b.gate ≡ gate) blanks
@@ -70,7 +78,8 @@ id_of gate books cpu_sets limit clients room workers = record {
   workers = workers;
 }
 
-pub record AreParts (id : SessionId) (books : List BookView) (hands : List (Option Hand)) (pool : List BlankView) : Type 0 where
+pub record AreParts (id : SessionId) (books : List BookView) (hands : List (Option Hand))
+    (pool : List BlankView) : Type 0 where
   pub session : IsSession id
   pub named : AreSessionBooks id books
   pub some : map is_some hands ≡ replicate id.clients true

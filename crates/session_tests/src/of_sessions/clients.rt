@@ -115,7 +115,8 @@ fn section_of(rt: &impl Abort, alloc: Global, text: &[u8]) -> Result<Section, Fa
     Ok(section)
 }
 
-// Makes the calls of a text in a session of its domain, with room for so many: the answers, and what the session left.
+// Makes the calls of a text in a session of its domain, with room for so many: the answers, and
+// what the session left.
 fn ran<R: Abort + Threads + Wait>(
     rt: &R,
     alloc: Global,
@@ -185,7 +186,8 @@ fn regrade(rt: HostRuntime) -> Result<(), Fail> {
     Ok(())
 }
 
-// Three of eight tasks of half a CPU find room on two CPUs, and the others are refused by the word alone.
+// Three of eight tasks of half a CPU find room on two CPUs, and the others are refused by the word
+// alone.
 #[test]
 fn admission_race(rt: HostRuntime) -> Result<(), Fail> {
     let mut text = String::from_str(rt.alloc(), "dlcalls 1\ndomain 2 996147\n")?;
@@ -218,8 +220,8 @@ fn full_book(rt: HostRuntime) -> Result<(), Fail> {
     Ok(())
 }
 
-// 256 tasks that want two millionths of a CPU each are listed. There is a piece for one more, and room at the word, but no place in
-// the list: its ticket goes back.
+// 256 tasks that want two millionths of a CPU each are listed. There is a piece for one more, and
+// room at the word, but no place in the list: its ticket goes back.
 #[test]
 fn number_257_is_full(rt: HostRuntime) -> Result<(), Fail> {
     let mut text = String::from_str(rt.alloc(), "dlcalls 1\ndomain 1 996147\n")?;

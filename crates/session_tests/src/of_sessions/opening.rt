@@ -68,8 +68,8 @@ fn waiting_clients_lose_no_piece(rt: HostRuntime) -> Result<(), Fail> {
     Ok(())
 }
 
-// Run with one allocation refused: parts that were refused leave nothing, and can be opened then, and a session that could
-// not be ended is gone.
+// Run with one allocation refused: parts that were refused leave nothing, and can be opened then,
+// and a session that could not be ended is gone.
 #[test]
 fn refused_growths(rt: HostRuntime) -> Result<(), Fail> {
     let parts = match opened(rt.alloc()) {

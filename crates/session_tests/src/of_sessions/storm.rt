@@ -20,8 +20,8 @@ struct Crowd {
     granted: AtomicUsize,
 }
 
-// Waits until all clients are here, so that they run at once. It gives up after many turns: where a thread could not be started,
-// the clients come one after another.
+// Waits until all clients are here, so that they run at once. It gives up after many turns: where a
+// thread could not be started, the clients come one after another.
 fn arrive(here: &AtomicUsize) {
     here.fetch_add(1, Ordering::SeqCst);
     for _ in 0..1000000 {
@@ -32,7 +32,8 @@ fn arrive(here: &AtomicUsize) {
     }
 }
 
-// A client's calls: an admission of half a CPU and a regrade to a quarter, and where it leaves, a tick and the task's end.
+// A client's calls: an admission of half a CPU and a regrade to a quarter, and where it leaves, a
+// tick and the task's end.
 fn text_of(alloc: Global, client: u32, leaves: bool) -> Option<String> {
     let mut text = format!(in alloc;
         "dlcalls 1\ndomain 64 1048576\nadmit {client} {client} t 4 8 8 - 0 -1:1{{r2,s6}}\nregrade {client} {client} 2 8 8 -\n"
@@ -89,7 +90,8 @@ fn play<N: Names, R: Threads + Wait>(
     client
 }
 
-// All clients at once. When they have ended, and where they left, the first one advances the domain until all bandwidth is free.
+// All clients at once. When they have ended, and where they left, the first one advances the domain
+// until all bandwidth is free.
 fn rage<N: Names + Send + Sync, R: Threads + Wait + Sync>(
     rt: &R,
     alloc: Global,

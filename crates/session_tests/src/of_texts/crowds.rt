@@ -17,7 +17,8 @@ use std::thread::{Threads, sleep};
 use std::time::{Clock, Duration};
 use switch_text::Counted;
 
-/// Lets eight clients in one after the other, by their numbers or the other way round. Who waits for ten seconds is late.
+/// Lets eight clients in one after the other, by their numbers or the other way round. Who waits
+/// for ten seconds is late.
 #[derive(Drop)]
 struct InTurn<C> {
     clock: C,
@@ -56,7 +57,8 @@ fn in_turn<C: Clock>(clock: C, falling: bool) -> InTurn<C> {
     }
 }
 
-/// Who entered an admission of which task, in the order of the first domain's history, and then who was refused what.
+/// Who entered an admission of which task, in the order of the first domain's history, and then who
+/// was refused what.
 fn admitted(alloc: Global, report: &Report) -> Result<String, Fail> {
     let mut said = String::new(alloc);
     for history in &report.histories {
@@ -76,7 +78,8 @@ const RISING: &str =
 const FALLING: &str =
     "8 7 6 1 EBUSY 16 seen 1572864; 2 EBUSY 16 seen 1572864; 3 EBUSY 16 seen 1572864; 4 EBUSY 16 seen 1572864; 5 EBUSY 16 seen 1572864; ";
 
-// Eight tasks of half a CPU on two CPUs: what a run admits in this order, and whether somebody was late.
+// Eight tasks of half a CPU on two CPUs: what a run admits in this order, and whether somebody was
+// late.
 fn admitted_by_run<R: Threads + Wait + Clock + Sync>(
     rt: &R,
     alloc: Global,
@@ -141,7 +144,8 @@ fn admitted_by_all<R: Threads + Wait + Abort + Clock + Sync>(
     Ok((admitted(alloc, &report)?, order.late.load(Ordering::SeqCst)))
 }
 
-// A run that admitted beside its clients' threads, or on one thread, would be late, or enter them in another order.
+// A run that admitted beside its clients' threads, or on one thread, would be late, or enter them
+// in another order.
 #[test]
 fn clients_let_in_one_by_one(rt: HostRuntime) -> Result<(), Fail> {
     for (falling, wanted) in [(false, RISING), (true, FALLING)] {
@@ -191,7 +195,8 @@ fn two_by_eight<R: Threads + Wait + Abort + Sync>(
     Ok(written)
 }
 
-// The trace is that of one client, for any number of workers; and so is that of the calls, replayed.
+// The trace is that of one client, for any number of workers; and so is that of the calls,
+// replayed.
 #[test]
 fn two_domains_eight_clients(rt: HostRuntime) -> Result<(), Fail> {
     let alone = options_on(vec![in rt.alloc(); 1, 1]?, 1, Print::Trace);

@@ -18,8 +18,9 @@ fn told<R: Threads + Wait + Sync>(
     Ok((said, written))
 }
 
-/// Inputs that no scenario begins with: a key twice, once escaped; lone surrogates, escaped and as bytes; a character in more
-/// bytes than it needs, above the last one, cut, or in its middle; NUL in a text and before it; a byte order mark.
+/// Inputs that no scenario begins with: a key twice, once escaped; lone surrogates, escaped and as
+/// bytes; a character in more bytes than it needs, above the last one, cut, or in its middle; NUL
+/// in a text and before it; a byte order mark.
 const HOSTILE: [(&[u8], &str); 12] = [
     (b"{\"a\":1,\"\\u0061\":2}", "dlsim: json 13 at 14"),
     (b"{\"a\":\"\\udc00\"}", "dlsim: json 10 at 9"),
@@ -50,7 +51,8 @@ fn cut_and_hostile_bytes(rt: HostRuntime) -> Result<(), Fail> {
     Ok(())
 }
 
-// Each front of a scenario ends too early; the whole has the duration 0, and so the trace without a switch.
+// Each front of a scenario ends too early; the whole has the duration 0, and so the trace without a
+// switch.
 #[test]
 fn each_front_of_a_scenario(rt: HostRuntime) -> Result<(), Fail> {
     for n in 0..MEMBER_ORDER.len() {
@@ -63,7 +65,8 @@ fn each_front_of_a_scenario(rt: HostRuntime) -> Result<(), Fail> {
     Ok(())
 }
 
-// An unfinished line is bad, and so is a line that is missing; behind a section's line each whole line ends a text.
+// An unfinished line is bad, and so is a line that is missing; behind a section's line each whole
+// line ends a text.
 #[test]
 fn each_front_of_a_calls_text(rt: HostRuntime) -> Result<(), Fail> {
     for n in 0..THROTTLED.len() {
@@ -81,8 +84,8 @@ fn each_front_of_a_calls_text(rt: HostRuntime) -> Result<(), Fail> {
     Ok(())
 }
 
-/// Texts with their first bad line: carriage returns; NUL in a name, behind the text, and in place of its last line's end; bytes
-/// that are no UTF-8; no text at all.
+/// Texts with their first bad line: carriage returns; NUL in a name, behind the text, and in place
+/// of its last line's end; bytes that are no UTF-8; no text at all.
 const BAD_TEXTS: [(&[u8], &str); 8] = [
     (
         b"dlcalls 1\r\ndomain 1 1048576\r\nadvance 1 1\r\n",

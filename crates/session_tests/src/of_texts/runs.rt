@@ -133,7 +133,8 @@ fn member_order(rt: HostRuntime) -> Result<(), Fail> {
     Ok(())
 }
 
-// The first three of eight tasks find room; the histories' text replays to a trace without switches.
+// The first three of eight tasks find room; the histories' text replays to a trace without
+// switches.
 #[test]
 fn calls_text_of_the_race(rt: HostRuntime) -> Result<(), Fail> {
     let (said, written, report) = ran_on(&rt, rt.alloc(), RACE, 2, 1024, Print::Calls)?;
@@ -178,7 +179,8 @@ fn two_domains(rt: HostRuntime) -> Result<(), Fail> {
     Ok(())
 }
 
-// Two domains of one CPU, and one client: the word that refused task 2 in the first says nothing of the second.
+// Two domains of one CPU, and one client: the word that refused task 2 in the first says nothing of
+// the second.
 #[test]
 fn word_of_another_domain(rt: HostRuntime) -> Result<(), Fail> {
     let options = options_on(vec![in rt.alloc(); 1, 1]?, 1, Print::Trace);

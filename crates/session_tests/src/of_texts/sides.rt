@@ -16,8 +16,8 @@ use switch_text::Counted;
 const THROTTLED_TASK: &[u8] =
     br#"{"tasks":{"a":{"policy":"SCHED_DEADLINE","dl-runtime":2,"dl-period":5,"loop":1,"run":4}},"global":{"duration":1}}"#;
 
-/// A reader or a writer of at most `step` bytes a call, whose call `bad`, counted from 0, fails. The calls behind it go on where it
-/// stopped, so that a fault which is tried again is no fault.
+/// A reader or a writer of at most `step` bytes a call, whose call `bad`, counted from 0, fails.
+/// The calls behind it go on where it stopped, so that a fault which is tried again is no fault.
 #[derive(Drop)]
 struct Stumbler<T> {
     inner: T,
