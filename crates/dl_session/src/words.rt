@@ -33,7 +33,7 @@ pub struct Words<'a> {
     pub rt_period: u64,
     /// How many clients admit tasks, 1 to 64.
     pub clients: u32,
-    /// How many workers reckon in each domain, 1 to 8.
+    /// How many worker threads compute each domain, 1 to 8.
     pub workers: usize,
     /// Whether every task asks for reclaiming.
     pub reclaim: bool,

@@ -22,6 +22,7 @@ same_entered old new p q call reply e = record {
   limit = ap (λ (b : BookView). b.limit) e.book;
   clients = ap (λ (b : BookView). b.clients) e.book;
   room = ap (λ (b : BookView). b.room) e.book;
+  workers = ap (λ (b : BookView). b.workers) e.book;
 }
 
 same_stays : (old new : BookView) (p q : PassView Entry) → Stays old new p q → SameBook old new
@@ -33,6 +34,7 @@ same_stays old new p q s = record {
   limit = ap (λ (b : BookView). b.limit) s.book;
   clients = ap (λ (b : BookView). b.clients) s.book;
   room = ap (λ (b : BookView). b.room) s.book;
+  workers = ap (λ (b : BookView). b.workers) s.book;
 }
 
 -- a wake or a leave

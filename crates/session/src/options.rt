@@ -19,7 +19,7 @@ pub struct Options {
     pub limit: u64,
     /// How many clients admit tasks, each in a thread of its own, 1 to 64.
     pub clients: u32,
-    /// How many workers reckon in each domain, 1 to 8.
+    /// How many worker threads compute each domain, 1 to 8.
     pub workers: usize,
     /// How many calls the history of each domain has room for, 1 to 65536.
     pub history: usize,
