@@ -15,13 +15,13 @@ use Rattle.domain_run.specs.script.ScriptView.{ScriptView}
 use Rattle.domain_run.specs.declared.task.Task.{Task}
 use Rattle.domain_run.specs.declared.task.Condition.TheVariants.{Leaving}
 use Rattle.domain_run.specs.declared.call.Call.{Call}
-use Rattle.domain_run.specs.declared.call.Call.TheVariants.{Admit, Regrade, Wake, Leave, Advance}
+use Rattle.domain_run.specs.declared.call.Call.TheVariants.{Admit, Regrade, Wake, Leave, Limit, Advance}
 use Rattle.domain_run.specs.declared.call.Reply.TheVariants.{Admitted, Changed, Full, Twice, Busy}
 use Rattle.domain_run.specs.Conditions.{is_contending, is_leaving}
 use Rattle.domain_run.specs.Parts.{stopped}
 use Rattle.domain_run.specs.Domain.{Domain}
 use Rattle.domain_run.specs.Tick.{share_of, shares, sum_of, ticked, ticks}
-use Rattle.domain_run.specs.Calls.{admit_reply, new_task, listed, task_of, of_number, changed, regraded, regrade_reply, wake_reply, released, leave_reply, ended, reply_to, is_refusal, granted, after_call}
+use Rattle.domain_run.specs.Calls.{admit_reply, new_task, listed, task_of, of_number, changed, regraded, regrade_reply, limit_reply, wake_reply, released, leave_reply, ended, reply_to, is_refusal, granted, after_call}
 use Rattle.domain_run.specs.Views.{view_of, view_in, name_in}
 use Rattle.domain_run.specs.Busy.{LacksRoomFor, LacksRoomToChange}
 use Rattle.domain_run.specs.Keys.{key_of, keys, has_task, listed_keys, AreKept, with_bw}
@@ -203,6 +203,7 @@ ticks_of (Admit number name params delay script) = 0
 ticks_of (Regrade number params word) = 0
 ticks_of (Wake number) = 0
 ticks_of (Leave number) = 0
+ticks_of (Limit limit word) = 0
 ticks_of (Advance n) = n
 
 either_time : (b : Bool) (d e : Domain) → e.time ≡ d.time → (cond b d e).time ≡ d.time + 0
@@ -214,6 +215,7 @@ call_time d (Admit number name params delay script) = either_time (is_refusal (a
 call_time d (Regrade number params word) = either_time (is_refusal (regrade_reply d params word (task_of d number))) d (granted d (Regrade number params word)) refl
 call_time d (Wake number) = either_time (is_refusal (wake_reply (task_of d number))) d (granted d (Wake number)) refl
 call_time d (Leave number) = either_time (is_refusal (leave_reply (task_of d number))) d (granted d (Leave number)) refl
+call_time d (Limit limit word) = either_time (is_refusal (limit_reply d limit word)) d (granted d (Limit limit word)) refl
 call_time d (Advance n) = ticks_time n d
 
 -- the same CPUs and the same limit, and so the same cap
@@ -225,12 +227,31 @@ either_machine : (b : Bool) (d e : Domain) → SameMachine d e → SameMachine d
 either_machine true d e same = record { cpus = refl; limit = refl }
 either_machine false d e same = same
 
-pub call_machine : (d : Domain) (c : Call) → SameMachine d (after_call d c)
-call_machine d (Admit number name params delay script) = either_machine (is_refusal (admit_reply d number params)) d (granted d (Admit number name params delay script)) (record { cpus = refl; limit = refl })
-call_machine d (Regrade number params word) = either_machine (is_refusal (regrade_reply d params word (task_of d number))) d (granted d (Regrade number params word)) (record { cpus = refl; limit = refl })
-call_machine d (Wake number) = either_machine (is_refusal (wake_reply (task_of d number))) d (granted d (Wake number)) (record { cpus = refl; limit = refl })
-call_machine d (Leave number) = either_machine (is_refusal (leave_reply (task_of d number))) d (granted d (Leave number)) (record { cpus = refl; limit = refl })
-call_machine d (Advance n) = record { cpus = ticks_cpus n d; limit = ticks_limit n d }
+-- a call that sets no limit
+abbrev pub SetsNoLimit : Call → Type 0
+SetsNoLimit (Limit limit word) = ⊥
+SetsNoLimit _ = Unit {0}
+
+pub call_machine : (d : Domain) (c : Call) → SetsNoLimit c → SameMachine d (after_call d c)
+call_machine d (Limit limit word) none = absurd none
+call_machine d (Admit number name params delay script) none = either_machine (is_refusal (admit_reply d number params)) d (granted d (Admit number name params delay script)) (record { cpus = refl; limit = refl })
+call_machine d (Regrade number params word) none = either_machine (is_refusal (regrade_reply d params word (task_of d number))) d (granted d (Regrade number params word)) (record { cpus = refl; limit = refl })
+call_machine d (Wake number) none = either_machine (is_refusal (wake_reply (task_of d number))) d (granted d (Wake number)) (record { cpus = refl; limit = refl })
+call_machine d (Leave number) none = either_machine (is_refusal (leave_reply (task_of d number))) d (granted d (Leave number)) (record { cpus = refl; limit = refl })
+call_machine d (Advance n) none = record { cpus = ticks_cpus n d; limit = ticks_limit n d }
+
+-- every call keeps the CPUs
+either_cpus : (b : Bool) (d e : Domain) → e.cpus ≡ d.cpus → (cond b d e).cpus ≡ d.cpus
+either_cpus true d e same = refl
+either_cpus false d e same = same
+
+pub call_cpus : (d : Domain) (c : Call) → (after_call d c).cpus ≡ d.cpus
+call_cpus d (Admit number name params delay script) = (call_machine d (Admit number name params delay script) tt).cpus
+call_cpus d (Regrade number params word) = (call_machine d (Regrade number params word) tt).cpus
+call_cpus d (Wake number) = (call_machine d (Wake number) tt).cpus
+call_cpus d (Leave number) = (call_machine d (Leave number) tt).cpus
+call_cpus d (Limit limit word) = either_cpus (is_refusal (limit_reply d limit word)) d (granted d (Limit limit word)) refl
+call_cpus d (Advance n) = ticks_cpus n d
 
 -- ---- what Busy tells, by the definitions alone
 

@@ -8,6 +8,7 @@ pub mod Seating
 pub mod Placing
 pub mod Counting
 pub mod Changing
+pub mod Limiting
 pub mod Ticking
 pub mod Tracing
 pub mod KeptKeys

@@ -3,7 +3,7 @@
 use Rattle.std.specs.Prelude.{ℕ, ◌+◌, ◌-◌, ◌≤◌, ◌<◌, IsSomeAnd}
 use Rattle.attr_check.specs.Ratio.{cap}
 use Rattle.domain_run.specs.declared.call.Reply.{Reply}
-use Rattle.domain_run.specs.declared.call.Reply.TheVariants.{Admitted, Changed, Woken, Left, Done, Full, Twice, Busy, NotListed, NotWaiting}
+use Rattle.domain_run.specs.declared.call.Reply.TheVariants.{Admitted, Changed, Woken, Left, Set, Done, Full, Twice, Busy, NotListed, NotWaiting}
 use Rattle.domain_run.specs.Domain.{Domain}
 use Rattle.domain_run.specs.Calls.{task_of}
 
@@ -14,6 +14,7 @@ IfBusy Admitted P = Unit {0}
 IfBusy Changed P = Unit {0}
 IfBusy Woken P = Unit {0}
 IfBusy Left P = Unit {0}
+IfBusy Set P = Unit {0}
 IfBusy (Done n) P = Unit {0}
 IfBusy Full P = Unit {0}
 IfBusy Twice P = Unit {0}
@@ -30,3 +31,8 @@ pub record LacksRoomFor (d : Domain) (bw seen : ℕ) : Type 0 where
 pub record LacksRoomToChange (d : Domain) (number bw seen : ℕ) : Type 0 where
   pub within : seen ≤ cap d.cpus d.limit
   pub above : IsSomeAnd (task_of d number) (λ t. cap d.cpus d.limit < seen - t.params.bw + bw)
+
+-- a sum within the domain's cap, and above the cap that it would have by another limit
+pub record LacksRoomUnder (d : Domain) (limit seen : ℕ) : Type 0 where
+  pub within : seen ≤ cap d.cpus d.limit
+  pub above : cap d.cpus limit < seen

@@ -9,9 +9,9 @@ use Rattle.domain_run.specs.script.Segments.{begun_at}
 use Rattle.domain_run.specs.declared.task.Task.{Task}
 use Rattle.domain_run.specs.declared.task.Condition.TheVariants.{Blocked, Leaving}
 use Rattle.domain_run.specs.declared.call.Call.{Call}
-use Rattle.domain_run.specs.declared.call.Call.TheVariants.{Admit, Regrade, Wake, Leave, Advance}
+use Rattle.domain_run.specs.declared.call.Call.TheVariants.{Admit, Regrade, Wake, Leave, Limit, Advance}
 use Rattle.domain_run.specs.declared.call.Reply.{Reply}
-use Rattle.domain_run.specs.declared.call.Reply.TheVariants.{Admitted, Changed, Woken, Left, Done, Full, Twice, Busy, NotListed, NotWaiting}
+use Rattle.domain_run.specs.declared.call.Reply.TheVariants.{Admitted, Changed, Woken, Left, Set, Done, Full, Twice, Busy, NotListed, NotWaiting}
 use Rattle.domain_run.specs.Conditions.{is_contending, is_waiting, is_leaving}
 use Rattle.domain_run.specs.Parts.{stopped}
 use Rattle.domain_run.specs.Domain.{Domain}
@@ -93,12 +93,30 @@ abbrev pub ended : ℕ → Task → Task
 ended time t =
     if is_contending t.condition then stopped time Leaving t else record t { condition = Leaving }
 
+-- LIMIT. More is listed than the CPUs would have by the new limit, or the domain's bandwidth word
+-- refused it. So a write to sched_rt_runtime_us is answered (sched-deadline.rst, "System wide
+-- settings"; EBUSY where the admitted tasks would not fit). A sum equal to the new cap is granted
+-- (own)
+abbrev pub limit_word_reply : Option ℕ → Reply
+limit_word_reply None = Set
+limit_word_reply (Some s) = Busy s
+
+abbrev pub limit_reply : Domain → ℕ → Option ℕ → Reply
+limit_reply d limit word =
+    if nat_lt (cap d.cpus limit) (sum_of d.tasks) then Busy (sum_of d.tasks)
+    else limit_word_reply word
+
+-- the tests of later calls and the rates of later ticks read the new limit; nothing else changes
+abbrev pub with_limit : ℕ → Domain → Domain
+with_limit limit d = record d { limit = limit }
+
 -- the reply to a call
 abbrev pub reply_to : Domain → Call → Reply
 reply_to d (Admit number name params delay script) = admit_reply d number params
 reply_to d (Regrade number params word) = regrade_reply d params word (task_of d number)
 reply_to d (Wake number) = wake_reply (task_of d number)
 reply_to d (Leave number) = leave_reply (task_of d number)
+reply_to d (Limit limit word) = limit_reply d limit word
 reply_to d (Advance n) = Done n
 
 abbrev pub is_refusal : Reply → Bool
@@ -106,6 +124,7 @@ is_refusal Admitted = false
 is_refusal Changed = false
 is_refusal Woken = false
 is_refusal Left = false
+is_refusal Set = false
 is_refusal (Done n) = false
 is_refusal _ = true
 
@@ -116,6 +135,7 @@ granted d (Admit number name params delay script) =
 granted d (Regrade number params word) = changed d number (regraded params)
 granted d (Wake number) = changed d number (released d.time)
 granted d (Leave number) = changed d number (ended d.time)
+granted d (Limit limit word) = with_limit limit d
 granted d (Advance n) = ticks n d
 
 -- a refused call changes nothing

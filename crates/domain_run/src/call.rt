@@ -30,6 +30,13 @@ pub enum Call {
     Leave {
         number: u32,
     },
+    /// Gives the domain another limit.
+    Limit {
+        /// 10485 to 1048576, in 1/2^20 of a CPU.
+        limit: u64,
+        /// The number with which the domain's bandwidth word refused, where it did.
+        word: Option<u64>,
+    },
     /// Goes on by so many ticks, 1 to 60000000.
     Advance {
         ticks: u64,
@@ -47,6 +54,8 @@ pub enum Reply {
     Woken,
     /// The task has ended.
     Left,
+    /// The domain has the new limit.
+    Set,
     /// So many ticks were made.
     Done { ticks: u64 },
     /// 40: 256 tasks are listed.
