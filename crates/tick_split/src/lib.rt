@@ -7,6 +7,7 @@
 //! neither.
 #![tactic(auto)]
 
+mod apart;
 mod element;
 mod fault;
 mod lists;

@@ -5,6 +5,7 @@ ghost use Rattle.std.specs.List.{AllZip};
 ghost use Rattle.tick_split.specs.Planning.{IsPlannable, IsPlanned};
 ghost use Rattle.tick_split.specs.Charging.{IsChargeable, charged};
 
+use crate::apart::Apart;
 use crate::element::{Plan, Slice};
 use crate::fault::StartFault;
 use crate::turn::Turn;
@@ -35,7 +36,7 @@ pub fn plan_all<R: Threads + Wait, G: Turn>(
     ensures as_before { OnErr result (plans.new ≡ plans.old) }
     ensures alone { min workers (length plans.old) ≤ 1 → IsOk result }
 {
-    work_all(rt, alloc, plans, workers, turn)
+    work_all(Apart::of(rt, alloc, workers, plans.len()), plans, turn)
 }
 
 /// Charges each element as [`charge`](crate::charge) does, by so many workers at most; pieces,
@@ -58,5 +59,5 @@ pub fn charge_all<R: Threads + Wait, G: Turn>(
     ensures as_before { OnErr result (slices.new ≡ slices.old) }
     ensures alone { min workers (length slices.old) ≤ 1 → IsOk result }
 {
-    work_all(rt, alloc, slices, workers, turn)
+    work_all(Apart::of(rt, alloc, workers, slices.len()), slices, turn)
 }

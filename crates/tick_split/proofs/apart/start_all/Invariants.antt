@@ -1,6 +1,6 @@
 use Rattle.std.proofs.Common.{◌≡◌, ℕ, ◌<◌, get_or, vec_len, vec_capacity}
 use Rattle.tick_split.specs.Pieces.{piece_of}
-use Rattle.tick_split.proofs.workers.start_all.Given as goal
+use Rattle.tick_split.proofs.apart.start_all.Given as goal
 
 abbrev pub invariant-loop-k : goal.invariant-loop-k
 invariant-loop-k g l = record {
