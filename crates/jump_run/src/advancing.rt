@@ -45,7 +45,6 @@ fn jump_with<R: Threads + Wait, G: Turn>(
     lists: &mut Lists,
     room: &mut Room,
 ) -> Result<u64, NoMemory>
-    requires workers { 0 < crew.now.workers }
     requires some { 0 < most }
     requires early { state.old.time + most ≤ 2 ^ 42 }
     requires plans { vec_capacity lists.old.plans ≡ 64 }
@@ -89,7 +88,6 @@ fn advance_by<R: Threads + Wait, G: Turn>(
     n: u64,
     mut lists: Lists,
 ) -> Done
-    requires workers { 0 < crew.now.workers }
     requires early { state.old.time + n ≤ 2 ^ 42 }
     requires plans { vec_capacity lists.plans ≡ 64 }
     requires slices { vec_capacity lists.slices ≡ 64 }
@@ -143,17 +141,11 @@ pub fn advance_with<R: Threads + Wait, G: Turn>(
     ensures most { result.ticks ≤ n }
     ensures keys { AreKept state.old.tasks state.new.tasks }
 {
-    if workers == 1 {
-        return advance_alone(state, n, turn);
-    }
-    let Ok(lists) = Lists::open(alloc) else {
+    let Some(crew) = Crew::of(rt, alloc, workers, turn) else {
         return advance_alone(state, n, turn);
     };
-    let crew = Crew {
-        rt,
-        alloc,
-        workers,
-        turn,
+    let Ok(lists) = crew.lists() else {
+        return advance_alone(state, n, turn);
     };
     advance_by(&crew, state, n, lists)
 }

@@ -1,6 +1,6 @@
 //! The running tasks planned and charged by several workers.
 
-ghost use Rattle.std.specs.Prelude.{◌≡◌, ◌<◌, ◌≤◌, ◌^◌, IfOk, All, map, take, length, vec_capacity};
+ghost use Rattle.std.specs.Prelude.{◌≡◌, ◌<◌, ◌≤◌, ◌^◌, IfOk, IfSome, IsNone, IsSome, All, map, take, length, vec_capacity};
 ghost use Rattle.std.specs.List.{AllZip};
 ghost use Rattle.domain_run.specs.Jump as jump;
 ghost use Rattle.tick_split.specs.Planning.{IsPlannable, IsPlanned};
@@ -14,13 +14,50 @@ use std::sync::Wait;
 use std::thread::Threads;
 use tick_split::{Plan, Slice, Turn, charge_all, plan_all};
 
-/// So many workers, who are told their turns.
+/// So many workers, more than one, who are told their turns, and what they are started with. One
+/// worker has no such value at hand, so an advance by one starts no thread and takes no memory here.
 #[derive(Drop)]
 pub(crate) struct Crew<'a, R, G> {
-    pub(crate) rt: &'a R,
-    pub(crate) alloc: Global,
-    pub(crate) workers: usize,
-    pub(crate) turn: &'a G,
+    rt: &'a R,
+    alloc: Global,
+    workers: usize,
+    turn: &'a G,
+    ghost many: { 1 < workers },
+}
+
+impl<'a, R, G> Crew<'a, R, G> {
+    /// So many workers; none where that is one.
+    pub(crate) fn of(
+        rt: &'a R,
+        alloc: Global,
+        workers: usize,
+        turn: &'a G,
+    ) -> Option<Crew<'a, R, G>>
+        ensures many { 1 < workers → IsSome result }
+        ensures workers { IfSome result (λ c. c.workers ≡ workers) }
+        ensures alone { workers ≤ 1 → IsNone result }
+    {
+        if workers > 1 {
+            return Some(Crew {
+                rt,
+                alloc,
+                workers,
+                turn,
+            });
+        }
+        None
+    }
+
+    /// The lists that they share.
+    pub(crate) fn lists(&self) -> Result<Lists, NoMemory>
+        ensures plans { IfOk result (λ l. vec_capacity l.plans ≡ 64) }
+        ensures slices { IfOk result (λ l. vec_capacity l.slices ≡ 64) }
+    {
+        Ok(Lists {
+            plans: Vec::with_capacity(self.alloc, 64)?,
+            slices: Vec::with_capacity(self.alloc, 64)?,
+        })
+    }
 }
 
 /// Lists for the running tasks of a jump, at most 64. They are made once for all jumps of an
@@ -29,18 +66,6 @@ pub(crate) struct Crew<'a, R, G> {
 pub(crate) struct Lists {
     pub(crate) plans: Vec<Plan>,
     pub(crate) slices: Vec<Slice>,
-}
-
-impl Lists {
-    pub(crate) fn open(alloc: Global) -> Result<Lists, NoMemory>
-        ensures plans { IfOk result (λ l. vec_capacity l.plans ≡ 64) }
-        ensures slices { IfOk result (λ l. vec_capacity l.slices ≡ 64) }
-    {
-        Ok(Lists {
-            plans: Vec::with_capacity(alloc, 64)?,
-            slices: Vec::with_capacity(alloc, 64)?,
-        })
-    }
 }
 
 /// Lists the running tasks by CPU, and tells for how many ticks, at most `most`, nothing comes due
@@ -72,7 +97,6 @@ fn gather(state: &State, most: u64, plans: &mut Vec<Plan>) -> u64
 
 /// Works out all plans, in one piece where a worker was not started or a growth was refused.
 fn plan<R: Threads + Wait, G: Turn>(crew: &Crew<'_, R, G>, plans: &mut [Plan])
-    requires workers { 0 < crew.now.workers }
     requires plans { All IsPlannable plans.old }
     ensures each { AllZip IsPlanned plans.old plans.new }
     ensures len { length plans.new ≡ length plans.old }
@@ -86,7 +110,6 @@ fn plan<R: Threads + Wait, G: Turn>(crew: &Crew<'_, R, G>, plans: &mut [Plan])
 
 /// Charges all slices, in one piece where a worker was not started or a growth was refused.
 fn charge<R: Threads + Wait, G: Turn>(crew: &Crew<'_, R, G>, slices: &mut [Slice])
-    requires workers { 0 < crew.now.workers }
     requires slices { All IsChargeable slices.old }
     ensures { slices.new ≡ map charged slices.old }
 {
@@ -142,7 +165,6 @@ fn put_lefts(slices: &[Slice], room: &mut Room)
 
 /// Works out all plans of a list.
 fn plan_list<R: Threads + Wait, G: Turn>(crew: &Crew<'_, R, G>, plans: &mut Vec<Plan>)
-    requires workers { 0 < crew.now.workers }
     requires plans { All IsFit plans.old.items }
     ensures each { AllZip IsPlanned plans.old.items plans.new.items }
     ensures room { vec_capacity plans.new ≡ vec_capacity plans.old }
@@ -152,7 +174,6 @@ fn plan_list<R: Threads + Wait, G: Turn>(crew: &Crew<'_, R, G>, plans: &mut Vec<
 
 /// Charges all slices of a list.
 fn charge_list<R: Threads + Wait, G: Turn>(crew: &Crew<'_, R, G>, slices: &mut Vec<Slice>)
-    requires workers { 0 < crew.now.workers }
     requires slices { All IsChargeable slices.old.items }
     ensures each { slices.new.items ≡ map charged slices.old.items }
     ensures room { vec_capacity slices.new ≡ vec_capacity slices.old }
@@ -171,7 +192,6 @@ pub(crate) fn make<R: Threads + Wait, G: Turn>(
     lists: &mut Lists,
     room: &mut Room,
 ) -> Span
-    requires workers { 0 < crew.now.workers }
     requires begun { jump.IsUnderWay state.now }
     requires some { 0 < most }
     requires plans { vec_capacity lists.old.plans ≡ 64 }
