@@ -2,7 +2,9 @@
 
 mod against_ticks;
 mod by_workers;
+mod turns;
 
+use self::against_ticks::single_ticks;
 use crate::workers::{UNIT, Worker, forever, once, params, reclaiming, script, switch};
 use domain_run::{Event, Name, PrevState, State, Switch};
 use jump_run::{Done, advance};
@@ -133,10 +135,15 @@ fn two_cpus(rt: HostRuntime) -> Result<(), Fail> {
     shows(&rt, rt.alloc(), (2, UNIT), &three(), 5, &on_two_cpus())
 }
 
+/// Two ticks are left, one that is made singly and one of an advance.
 #[test]
 fn an_empty_domain_in_one_call(rt: HostRuntime) -> Result<(), Fail> {
-    let (state, done) = played(rt.alloc(), 2, UNIT, &[], 1 << 41)?;
-    assert_eq!(rt; done, Done { ticks: 1 << 41 });
-    assert_eq!(rt; state.now(), 1 << 41);
+    let (mut state, done) = played(rt.alloc(), 2, UNIT, &[], (1 << 42) - 2)?;
+    assert_eq!(rt; (done.ticks, state.now()), ((1 << 42) - 2, (1 << 42) - 2));
+    single_ticks(&mut state, 1)?;
+    assert_eq!(rt; state.now(), (1 << 42) - 1);
+    let left = (1_u64 << 42).saturating_sub(state.now());
+    assert_eq!(rt; advance(&mut state, left), Done { ticks: 1 });
+    assert_eq!(rt; state.now(), 1 << 42);
     Ok(())
 }

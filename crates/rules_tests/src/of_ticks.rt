@@ -3,7 +3,9 @@ ghost use Rattle.tick_split.specs.Planning.{IsPlannable};
 ghost use Rattle.tick_split.specs.Charging.{IsChargeable};
 
 use attr_check::{AttrRefusal, SchedAttr, check};
-use std::alloc::Global;
+use std::alloc::{AllocError, Global};
+use std::fs;
+use std::io::Read;
 use std::sync::Wait;
 use std::sync::atomic::{AtomicBool, AtomicUsize, Ordering};
 use std::test::Fail;
@@ -270,6 +272,94 @@ fn each_piece_has_one_turn(rt: HostRuntime) -> Result<(), Fail> {
     assert_eq!(rt; turns_of_three(&rt, alloc, 2)?, (0x11, 0x11));
     assert_eq!(rt; turns_of_three(&rt, alloc, 8)?, (0x111, 0x111));
     assert_eq!(rt; turns_of(&rt, alloc, &mut [], 8)?, (0, 0));
+    Ok(())
+}
+
+// The number of the thread that calls, as Linux tells it, or else 0.
+fn thread_number(rt: &HostRuntime) -> usize {
+    let mut bytes = [0; 32];
+    let Ok(mut file) = fs::open(rt, "/proc/thread-self/stat") else {
+        return 0;
+    };
+    if file.read(&mut bytes).is_err() {
+        return 0;
+    }
+    let mut number: usize = 0;
+    for byte in bytes {
+        if !byte.is_ascii_digit() {
+            return number;
+        }
+        number = number
+            .wrapping_mul(10)
+            .wrapping_add(usize::from(byte.wrapping_sub(48)));
+    }
+    number
+}
+
+// How many turns were taken in another thread than the caller's.
+#[derive(Drop)]
+struct Elsewhere {
+    rt: HostRuntime,
+    caller: usize,
+    turns: AtomicUsize,
+}
+
+impl Turn for Elsewhere {
+    fn begin(&self, _piece: usize) {
+        if thread_number(&self.rt) != self.caller {
+            self.turns.fetch_add(1, Ordering::SeqCst);
+        }
+    }
+
+    fn end(&self, piece: usize) {
+        self.begin(piece);
+    }
+}
+
+// When three plans are made, and when three slices are charged.
+fn turns_elsewhere<R: Threads + Wait>(
+    rt: &R,
+    host: HostRuntime,
+    alloc: Global,
+    workers: usize,
+) -> Result<(usize, usize), Fail>
+    requires { 0 < workers }
+{
+    let turn = Elsewhere {
+        rt: host,
+        caller: thread_number(&host),
+        turns: AtomicUsize::new(0),
+    };
+    plan_all(rt, alloc, &mut plans()?, workers, &turn)?;
+    let of_plans = turn.turns.swap(0, Ordering::SeqCst);
+    charge_all(rt, alloc, &mut slices(), workers, &turn)?;
+    Ok((of_plans, turn.turns.load(Ordering::SeqCst)))
+}
+
+// One piece is worked on by the caller itself, and each of several by somebody else.
+#[test]
+fn one_piece_in_the_callers_thread(rt: HostRuntime) -> Result<(), Fail> {
+    assert_eq!(rt; turns_elsewhere(&rt, rt, rt.alloc(), 1)?, (0, 0));
+    assert_eq!(rt; turns_elsewhere(&rt, rt, rt.alloc(), 2)?, (4, 4));
+    assert_eq!(rt; turns_elsewhere(&rt, rt, rt.alloc(), 8)?, (6, 6));
+    Ok(())
+}
+
+// Whether memory is there, behind plans and charges by one worker.
+fn has_memory_behind_one_piece<R: Threads + Wait>(rt: &R, alloc: Global) -> Result<bool, Fail> {
+    let mut all = plans()?;
+    plan_all(rt, alloc, &mut all, 1, &Silent)?;
+    charge_all(rt, alloc, &mut slices(), 1, &Silent)?;
+    let block: Result<Vec<u8>, AllocError> = Vec::with_capacity(alloc, 1);
+    Ok(block.is_ok())
+}
+
+// With the first growth refused (`rt try --test --fail-alloc 1`) this fails at its assertion, since
+// that growth is the one behind: one piece asked for none.
+#[test]
+fn one_piece_takes_no_memory(rt: HostRuntime) -> Result<(), Fail> {
+    let has_memory = has_memory_behind_one_piece(&rt, rt.alloc())?;
+    assert!(rt; has_memory);
     Ok(())
 }
 

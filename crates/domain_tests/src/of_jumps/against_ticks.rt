@@ -53,7 +53,7 @@ fn admit_both(alloc: Global, pair: &mut Pair, number: u32, draws: &mut Draws) ->
     Ok(())
 }
 
-fn single_ticks(state: &mut State, ticks: u64) -> Result<(), Fail> {
+pub(super) fn single_ticks(state: &mut State, ticks: u64) -> Result<(), Fail> {
     for _ in 0..ticks {
         if state.now() < 1 << 42 {
             state.tick()?;
@@ -139,7 +139,7 @@ fn many_switches(alloc: Global) -> Result<(Done, bool), Fail> {
     let worker = forever((2, 8, 8), &events);
     admit(alloc, &mut pair.jumping, 1, worker)?;
     admit(alloc, &mut pair.ticking, 1, worker)?;
-    let done = advance_both(&mut pair, 500)?;
+    let done = advance_both(&mut pair, 2100)?;
     let same = are_same(&pair, 2);
     Ok((done, same))
 }
@@ -150,6 +150,6 @@ fn many_switches(alloc: Global) -> Result<(Done, bool), Fail> {
 fn cut_short_by_memory(rt: HostRuntime) -> Result<(), Fail> {
     let (done, same) = many_switches(rt.alloc())?;
     assert!(rt; same);
-    assert_eq!(rt; done.ticks, 500);
+    assert_eq!(rt; done.ticks, 2100);
     Ok(())
 }

@@ -2,9 +2,9 @@
 
 ghost use Rattle.std.specs.Prelude.{◌<◌};
 
-use super::{CARRYING, admitted, carried, on_two_cpus, three};
-use crate::workers::{UNIT, Worker, once, reclaiming};
-use domain_run::{State, Switch};
+use super::{CARRYING, admit, admitted, carried, on_two_cpus, three};
+use crate::workers::{UNIT, Worker, forever, once, reclaiming};
+use domain_run::{Event, State, Switch};
 use jump_run::{Done, Silent, Turn, advance_with};
 use std::alloc::Global;
 use std::process::Abort;
@@ -15,7 +15,7 @@ use std::thread::{Threads, sleep};
 use std::time::{Clock, Duration};
 
 /// So many ticks, by so many workers.
-fn advanced<R: Threads + Wait, G: Turn>(
+pub(super) fn advanced<R: Threads + Wait, G: Turn>(
     rt: &R,
     alloc: Global,
     state: &mut State,
@@ -27,7 +27,7 @@ fn advanced<R: Threads + Wait, G: Turn>(
     advance_with(rt, alloc, state, ticks.min(left), workers.max(1), turn)
 }
 
-/// The tasks bring these switches in so many ticks, by 1, 2 and 8 workers.
+/// The tasks bring these switches in so many ticks, by 1, 2, 3 and 8 workers.
 fn shows_by<R: Abort + Threads + Wait>(
     rt: &R,
     alloc: Global,
@@ -37,7 +37,7 @@ fn shows_by<R: Abort + Threads + Wait>(
     switches: &[Switch],
 ) -> Result<(), Fail> {
     let (cpus, limit) = machine;
-    for workers in [1, 2, 8] {
+    for workers in [1, 2, 3, 8] {
         let mut state = admitted(alloc, cpus, limit, tasks)?;
         let done = advanced(rt, alloc, &mut state, ticks, workers, &Silent);
         assert_eq!(rt; done.ticks, ticks);
@@ -57,6 +57,39 @@ fn fraction_and_carry(rt: HostRuntime) -> Result<(), Fail> {
 #[test]
 fn two_cpus(rt: HostRuntime) -> Result<(), Fail> {
     shows_by(&rt, rt.alloc(), (2, UNIT), &three(), 5, &on_two_cpus())
+}
+
+const FOUR_OF_32_US: [Event; 2] = [Event::Run(4), Event::Timer(32)];
+
+/// An advance of 2100 ticks of two tasks, each admitted at this time: how many were made, whether
+/// the clock says so, and whether there were many events.
+fn made_from<R: Threads + Wait>(
+    rt: &R,
+    alloc: Global,
+    start: u64,
+    workers: usize,
+) -> Result<(u64, bool, bool), Fail> {
+    let mut state = admitted(alloc, 2, UNIT, &[])?;
+    advanced(rt, alloc, &mut state, start, 1, &Silent);
+    for number in 1..3 {
+        let worker = forever((4, 32, 32), &FOUR_OF_32_US);
+        admit(alloc, &mut state, number, worker)?;
+    }
+    let done = advanced(rt, alloc, &mut state, 2100, workers, &Silent);
+    let told = state.now() == start.wrapping_add(done.ticks);
+    Ok((done.ticks, told, state.switches().len() > 200))
+}
+
+/// Each advance makes all that it was asked for, also up to the end of time.
+#[test]
+fn all_ticks_of_a_call(rt: HostRuntime) -> Result<(), Fail> {
+    for workers in [1, 2, 3, 8] {
+        for start in [0, (1 << 42) - 2100] {
+            let made = made_from(&rt, rt.alloc(), start, workers)?;
+            assert_eq!(rt; made, (2100, true, true), "{workers} workers from {start}");
+        }
+    }
+    Ok(())
 }
 
 /// Two pieces in an order, each time that both are worked on: the second begins when the first has
