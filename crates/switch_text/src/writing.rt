@@ -173,6 +173,7 @@ pub fn write_text<W: Write>(text: &[u8], writer: &mut Counted<W>) -> Result<(), 
         (W.contents (inner_of writer.old)) (W.contents (inner_of writer.new)) text.now) }
     ensures err { IfErr result (λ f. TakesFront
         (W.contents (inner_of writer.old)) (W.contents (inner_of writer.new)) text.now f.written) }
+    ensures empty { length text.now ≡ 0 → writer.new ≡ writer.old }
     ensures faults { faults_of writer.new ≡ one_more_unless (is_ok result) (faults_of writer.old) }
 {
     match writer.write_all(text) {

@@ -55,7 +55,7 @@ impl Write for Taker {
 #[derive(Drop)]
 pub(crate) struct Giver<'a> {
     rest: &'a [u8],
-    calls: usize,
+    pub(crate) calls: usize,
     bad: usize,
 }
 

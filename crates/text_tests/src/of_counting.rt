@@ -23,6 +23,21 @@ fn all_is_read(rt: HostRuntime) -> Result<(), Fail> {
     Ok(())
 }
 
+// A long input that comes byte by byte is read whole: far more reads than a small bound would let
+// through.
+#[test]
+fn all_is_read_in_5000_reads(rt: HostRuntime) -> Result<(), Fail> {
+    let mut text = Vec::new(rt.alloc());
+    for i in 0..5000u64 {
+        text.push((i % 251) as u8)?;
+    }
+    let mut reader = Counted::new(Giver::new(&text, usize::MAX));
+    assert_eq!(rt; reader.read_all(rt.alloc())?.as_slice(), text.as_slice());
+    assert_eq!(rt; reader.faults(), 0);
+    assert_eq!(rt; reader.into_inner().calls, 5001);
+    Ok(())
+}
+
 // The call that gives each byte fails once, and that which would tell the end; the others give all
 // bytes.
 #[test]
