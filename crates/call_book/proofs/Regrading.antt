@@ -190,6 +190,7 @@ regrade_answer b cpus limit workers l grown s t state number params word reply p
       entered = record { free = room; lawful = lawful ∙ ap (λ (d : Domain). reply_to d (Call.Regrade number params word)) is.run; book = book; pass = made };
       blanks = ap (λ (x : StockView). x.blanks) stock;
       asked = λ e. elim asked [ inl a ↦ a.3 | inr a ↦ absurd (a.0 (sym test ∙ e)) ];
+      own = λ e. elim asked [ inl a ↦ a.5 | inr a ↦ absurd (a.0 (sym test ∙ e)) ];
       unasked = λ differ. elim asked [ inl a ↦ absurd (differ (test ∙ a.0)) | inr a ↦ (a.1, ap (λ (x : StockView). x.tickets) a.2) ];
     } in
     subst (λ (x : BookView). IsRegraded x new p q number params reply) view whole

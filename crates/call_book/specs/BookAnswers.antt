@@ -1,5 +1,5 @@
 -- What the calls of a book answer.
-use Rattle.std.specs.Prelude.{◌≡◌, ◌≢◌, ℕ, ◌+◌, ◌<◌, ◌≤◌, ◌⊎◌, List, [], ◌∷◌, ◌++◌, length, filter, Option, None, IfNone, IfSome}
+use Rattle.std.specs.Prelude.{◌≡◌, ◌≢◌, ℕ, ◌+◌, ◌<◌, ◌≤◌, ◌⊎◌, List, [], ◌∷◌, ◌++◌, length, filter, Option, None, IfNone, IfSome, All}
 use Rattle.std.specs.Option.{option_to_list}
 use Rattle.attr_check.specs.ParamsView.{ParamsView}
 use Rattle.attr_check.specs.Ratio.{cap}
@@ -14,7 +14,7 @@ use Rattle.call_book.specs.declared.book.domain.AdvanceError.{AdvanceError}
 use Rattle.call_book.specs.declared.book.domain.AdvanceError.TheVariants as stops
 use Rattle.call_book.specs.declared.book.domain.Admit.{Admit}
 use Rattle.call_book.specs.declared.book.domain.Admit.TheVariants.{Admitted, Busy, Full, Twice}
-use Rattle.call_book.specs.Pieces.{is_kept, is_gone, AreGiven, AsksTheWord}
+use Rattle.call_book.specs.Pieces.{is_kept, is_gone, AreGiven, IsTicketOf, AsksTheWord}
 use Rattle.call_book.specs.Book.{BookView, state_of, AdmissionView, admission, IsFull, Enters, EntersAlone, Stays, IsRefusedFull}
 
 -- ADMIT. The task is listed, its ticket is held for it, and a blank is handed out where one is kept
@@ -52,8 +52,9 @@ IsAdmit old new p q a ticket (Twice back b) =
     ComesBack old new p q a b ticket back × (length old.history < old.room)
     × (reply_to (state_of old) (admission a) ≡ replies.Twice)
 
--- REGRADE. Where the domain's own test passes, the task's ticket asks the word, and its answer
--- stands in the entry; elsewhere the word is not asked, and no ticket changes
+-- REGRADE. Where the domain's own test passes, the task's ticket, like all of the book's gate and
+-- domain, asks the word, and its answer stands in the entry; elsewhere the word is not asked, and no
+-- ticket changes
 pub record IsRegraded (old new : BookView) (p q : PassView Entry) (number : ℕ)
     (params : ParamsView) (reply : Reply) : Type 0 where
   pub word : Option ℕ
@@ -61,6 +62,8 @@ pub record IsRegraded (old new : BookView) (p q : PassView Entry) (number : ℕ)
   pub blanks : new.blanks ≡ old.blanks
   pub asked : reply_to (state_of old) (Regrade number params None) ≡ replies.Changed
       → AsksTheWord number params.bw old.tickets new.tickets word
+  pub own : reply_to (state_of old) (Regrade number params None) ≡ replies.Changed
+      → All (λ h. IsTicketOf old.gate old.domain h.ticket) old.tickets
   pub unasked : reply_to (state_of old) (Regrade number params None) ≢ replies.Changed
       → (word ≡ None) × (new.tickets ≡ old.tickets)
 

@@ -1,5 +1,5 @@
 -- What every book keeps.
-use Rattle.std.specs.Prelude.{◌≡◌, ◌≢◌, ◌⊎◌, ℕ, ◌≤◌, ◌*◌, length, Option, None, IfSome}
+use Rattle.std.specs.Prelude.{◌≡◌, ◌≢◌, ◌⊎◌, ℕ, ◌≤◌, ◌*◌, length, Option, None, IfSome, All}
 use Rattle.attr_check.specs.Ratio.{cap}
 use Rattle.bw_gate.specs.Pieces.{cap_of}
 use Rattle.attr_check.specs.ParamsView.{ParamsView}
@@ -7,7 +7,7 @@ use Rattle.domain_run.specs.declared.call.Reply.TheVariants.{Changed}
 use Rattle.domain_run.specs.Domain.{Domain}
 use Rattle.domain_run.specs.Sound.{IsDomain}
 use Rattle.domain_run.specs.Calls.{regrade_reply, task_of}
-use Rattle.call_book.specs.Pieces.{HoldsTickets, AsksTheWord}
+use Rattle.call_book.specs.Pieces.{HoldsTickets, IsTicketOf, AsksTheWord}
 use Rattle.call_book.specs.Book.{BookView, state_of, IsLegal}
 use Rattle.call_book.specs.private.Ledger.{LedgerView}
 use Rattle.call_book.specs.private.Stock.{StockView}
@@ -40,13 +40,14 @@ pub record IsBook (b : BookView) (state : Domain) : Type 0 where
   pub high : b.limit ≤ 1048576
   pub capped : cap_of b.gate b.domain ≡ cap b.cpus b.limit
 
--- the word is asked exactly where the domain's own test passes; a word that refused is at most the
--- cap
+-- the word is asked exactly where the domain's own test passes, by a ticket of its gate and domain; a
+-- word that refused is at most the cap
 abbrev pub IsAsked : Domain → StockView → StockView → ℕ → ParamsView → Option ℕ → Type 0
 IsAsked state old new number params word =
     ((regrade_reply state params None (task_of state number) ≡ Changed) × IsDomain state
     × (new ≡ record old { tickets = new.tickets })
     × AsksTheWord number params.bw old.tickets new.tickets word
-    × IfSome word (λ seen. seen ≤ cap_of old.gate old.domain))
+    × IfSome word (λ seen. seen ≤ cap_of old.gate old.domain)
+    × All (λ h. IsTicketOf old.gate old.domain h.ticket) old.tickets)
     ⊎ ((regrade_reply state params None (task_of state number) ≢ Changed) × (word ≡ None)
     × (new ≡ old))

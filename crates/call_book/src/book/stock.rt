@@ -110,6 +110,7 @@ impl Stock {
         ensures stock { self.new ≡ record self.old { tickets = self.new.tickets } }
         ensures asked { AsksTheWord number bw self.old.tickets self.new.tickets result }
         ensures within { IfSome result (λ seen. seen ≤ cap_of self.old.gate self.old.domain) }
+        ensures own { All (λ h. IsTicketOf self.old.gate self.old.domain h.ticket) self.old.tickets }
     {
         regrade_held(rt, gate, &mut self.held, number, bw)
     }
