@@ -21,7 +21,7 @@ use Rattle.call_book.specs.declared.section.Entry.{Entry}
 use Rattle.session.specs.declared.refusal.Refusal.{Refusal}
 use Rattle.session.specs.declared.refusal.Refusal.TheVariants as refusals
 use Rattle.session.specs.SessionId.{SessionId, IsSession, IsDomainIndex, cap_in}
-use Rattle.session.specs.Asks.{Answer, IsLawful, Goes, IsOver, domain_of, same_cpus, call_of, ClientView, Asks, Makes, made_by, made_in, made_of, made_at, Made, entries_from, pass_in, piece_of, IsGivenBackAfter, AsksGate, IsHandAfter}
+use Rattle.session.specs.Asks.{Answer, IsLawful, Goes, domain_of, same_cpus, call_of, ClientView, Asks, Makes, made_by, made_in, made_of, made_at, Made, entries_from, pass_in, piece_of, IsGivenBackAfter, AsksGate, IsHandAfter}
 use Rattle.call_book.specs.Book.{admission}
 use Rattle.domain_run.specs.declared.call.Call.TheVariants as calls
 use Rattle.session.specs.declared.locked_book.Ask.{Ask}
@@ -233,7 +233,7 @@ pub done_for : (id : SessionId) (d : ℕ) (c e : ClientView) (p q : PassView Ent
     → IsDone id d p q ask answer → NoneIsKept ask answer e.hand → IsDoneFor id d c e ask answer
 done_for id d c e p q (asks.Admit prepared ticket) answer m done given = (m (admission prepared) answer done.pass, done.verdict, given)
 done_for id d c e p q (asks.Regrade number params) answer m done given =
-    (record { word = done.word; made = m (calls.Regrade number params done.word) answer done.replied.pass }, done.replied.full)
+    (record { word = done.word; made = m (calls.Regrade number params done.word) answer done.replied.pass; reply = done.reply }, done.replied.full)
 done_for id d c e p q (asks.Wake number) answer m done given = (m (calls.Wake number) answer done.pass, done.full)
 done_for id d c e p q (asks.Leave number) answer m done given = (m (calls.Leave number) answer done.pass, done.full)
 

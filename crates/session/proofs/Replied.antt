@@ -1,16 +1,26 @@
 -- Calls under a domain's lock, other than admissions.
-use Rattle.std.proofs.Common.{◌≡◌, ℕ, None, Ok, Err, sym, ap, subst}
-use Rattle.std.specs.Prelude.{Result, IfOk, IfErr}
+use Rattle.std.proofs.Common.{◌≡◌, ◌≢◌, ℕ, ◌+◌, ◌-◌, Bool, true, false, cond, List, ◌∷◌, ◌++◌, length, length-append, arith, Option, Some, None, Ok, Err, refl, sym, ap, subst}
+use Rattle.std.specs.Prelude.{Result, IfOk, IfErr, All, nat_lt}
+use Rattle.std.proofs.lemmas.List.{get_or-append-add}
 use Rattle.attr_check.specs.ParamsView.{ParamsView}
+use Rattle.attr_check.specs.Ratio.{cap}
 use Rattle.pass_seats.specs.Lists.{PassView}
 use Rattle.domain_run.specs.declared.call.Call.{Call}
 use Rattle.domain_run.specs.declared.call.Reply.{Reply}
+use Rattle.domain_run.specs.declared.call.Reply.TheVariants as replies
+use Rattle.domain_run.specs.declared.task.Task.{Task}
+use Rattle.domain_run.specs.Domain.{Domain}
+use Rattle.domain_run.specs.Tick.{sum_of}
+use Rattle.domain_run.specs.Calls.{regrade_reply, word_reply, task_of}
+use Rattle.bw_gate.specs.Pieces.{GateId}
 use Rattle.call_book.specs.declared.book.domain.Full.{Full}
 use Rattle.call_book.specs.declared.section.Entry.{Entry}
-use Rattle.call_book.specs.Book.{BookView, Enters, EntersAlone, Stays, IsRefusedFull}
+use Rattle.call_book.specs.declared.book.stock.Held.{Held}
+use Rattle.call_book.specs.Pieces.{IsTicketOf, AsksTheWord}
+use Rattle.call_book.specs.Book.{BookView, calls_of, state_of, Enters, EntersAlone, Stays, IsRefusedFull}
 use Rattle.call_book.specs.BookAnswers.{IsRegraded}
 use Rattle.session.specs.declared.refusal.Refusal.TheVariants as refusals
-use Rattle.session.specs.Asks.{Answer}
+use Rattle.session.specs.Asks.{Answer, AsksWord, IsByWord}
 use Rattle.session.specs.private.Entering.{SameBook, IsReplied, IsRegradedBy}
 
 same_entered : (old new : BookView) (p q : PassView Entry) (call : Call) (reply : Reply) → Enters old new p q call reply → SameBook old new
@@ -58,13 +68,69 @@ pub same_regraded : (old new : BookView) (p q : PassView Entry) (number : ℕ) (
 same_regraded old new p q number params (Ok reply) entered full = same_entered old new p q _ reply entered.entered
 same_regraded old new p q number params (Err e) entered full = same_stays old new p q full.stays
 
+-- ---- what the word has to do with the reply to a regrade
+
+among : {X : Type 0} (P : X → Type 0) (before : List X) (x : X) (behind : List X) → All P (before ++ x ∷ behind) → P x
+among P before x behind all =
+    subst P (get_or-append-add before (x ∷ behind) 0 x) (all (length before + 0) x (omega (arith, length-append before (x ∷ behind))))
+
+asks_word : (b : BookView) (number bw : ℕ) (tickets : List Held) (word : Option ℕ) → All (λ h. IsTicketOf b.gate b.domain h.ticket) b.tickets → AsksTheWord number bw b.tickets tickets word → AsksWord b.gate b.domain bw word
+asks_word b number bw tickets word all asked =
+    let P : Held → Type 0 = λ h. IsTicketOf b.gate b.domain h.ticket in
+    let x : Held = record { number = number; ticket = asked.was } in
+    record { was = asked.was; becomes = asked.becomes; own = among P asked.before x asked.behind (subst (All P) asked.old_tickets all); answered = asked.answered }
+
+none_asked : (gate : GateId) (d bw : ℕ) (word : Option ℕ) (reply other : Reply) → word ≡ None → reply ≡ other → other ≢ replies.Changed → IsByWord gate d bw word reply
+none_asked gate d bw (Some seen) reply other none is differ = absurd cc
+none_asked gate d bw None replies.Changed other none is differ = absurd (differ (sym is))
+none_asked gate d bw None replies.Admitted other none is differ = tt
+none_asked gate d bw None replies.Woken other none is differ = tt
+none_asked gate d bw None replies.Left other none is differ = tt
+none_asked gate d bw None (replies.Done n) other none is differ = tt
+none_asked gate d bw None replies.Full other none is differ = tt
+none_asked gate d bw None replies.Twice other none is differ = tt
+none_asked gate d bw None (replies.Busy seen) other none is differ = tt
+none_asked gate d bw None replies.NotListed other none is differ = tt
+none_asked gate d bw None replies.NotWaiting other none is differ = tt
+
+granted : (gate : GateId) (d bw : ℕ) (word : Option ℕ) (reply : Reply) → reply ≡ word_reply word → AsksWord gate d bw word → IsByWord gate d bw word reply
+granted gate d bw None reply is asks = subst (IsByWord gate d bw None) (sym is) asks
+granted gate d bw (Some seen) reply is asks = (is, asks)
+
+by_test : (over : Bool) (gate : GateId) (d bw sum : ℕ) (word : Option ℕ) (reply : Reply)
+    → reply ≡ cond over (replies.Busy sum) (word_reply word)
+    → (cond over (replies.Busy sum) replies.Changed ≡ replies.Changed → AsksWord gate d bw word)
+    → (cond over (replies.Busy sum) replies.Changed ≢ replies.Changed → word ≡ None)
+    → IsByWord gate d bw word reply
+by_test true gate d bw sum word reply lawful asked unasked = none_asked gate d bw word reply (replies.Busy sum) (unasked (λ e. absurd cc)) lawful (λ e. absurd cc)
+by_test false gate d bw sum word reply lawful asked unasked = granted gate d bw word reply lawful (asked refl)
+
+by_word : (gate : GateId) (d : ℕ) (state : Domain) (params : ParamsView) (word : Option ℕ) (t : Option Task) (reply : Reply)
+    → reply ≡ regrade_reply state params word t
+    → (regrade_reply state params None t ≡ replies.Changed → AsksWord gate d params.bw word)
+    → (regrade_reply state params None t ≢ replies.Changed → word ≡ None)
+    → IsByWord gate d params.bw word reply
+by_word gate d state params word None reply lawful asked unasked = none_asked gate d params.bw word reply replies.NotListed (unasked (λ e. absurd cc)) lawful (λ e. absurd cc)
+by_word gate d state params word (Some t) reply lawful asked unasked =
+    by_test (nat_lt (cap state.cpus state.limit) (sum_of state.tasks - t.params.bw + params.bw)) gate d params.bw (sum_of state.tasks) word reply lawful asked unasked
+
 pub regraded : (old new : BookView) (p q : PassView Entry) (number : ℕ) (params : ParamsView) (made : Result Reply Full) (answer : Answer)
     → IfOk made (IsRegraded old new p q number params) → IfErr made (λ _. IsRefusedFull old new p q)
     → IfOk made (λ reply. answer ≡ Ok reply) → IfErr made (λ _. answer ≡ Err refusals.Full)
-    → IsRegradedBy p q number params answer
+    → IsRegradedBy old.gate old.domain old.cpus old.limit p q number params answer
 regraded old new p q number params (Ok reply) answer entered full ok err =
-    subst (λ (a : Answer). IsRegradedBy p q number params a) (sym ok)
-    (record { word = entered.word; replied = record { pass = entered.entered.pass; full = tt } })
+    subst (λ (a : Answer). IsRegradedBy old.gate old.domain old.cpus old.limit p q number params a) (sym ok)
+    (record {
+      word = entered.word;
+      replied = record { pass = entered.entered.pass; full = tt };
+      reply = record {
+        before = calls_of old.history;
+        lawful = entered.entered.lawful;
+        by_word = by_word old.gate old.domain (state_of old) params entered.word (task_of (state_of old) number) reply entered.entered.lawful
+            (λ e. asks_word old number params.bw new.tickets entered.word (entered.own e) (entered.asked e))
+            (λ differ. (entered.unasked differ).0);
+      };
+    })
 regraded old new p q number params (Err e) answer entered full ok err =
-    subst (λ (a : Answer). IsRegradedBy p q number params a) (sym err)
-    (record { word = None; replied = record { pass = full.stays.pass; full = tt } })
+    subst (λ (a : Answer). IsRegradedBy old.gate old.domain old.cpus old.limit p q number params a) (sym err)
+    (record { word = None; replied = record { pass = full.stays.pass; full = tt }; reply = tt })

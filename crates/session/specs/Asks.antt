@@ -1,5 +1,5 @@
 -- What a client is answered, and what it leaves in the books (own).
-use Rattle.std.specs.Prelude.{◌≡◌, ℕ, ◌+◌, ◌≤◌, ◌<◌, ◌==◌, Bool, ◌&&◌, List, [], ◌∷◌, ◌++◌, length, position, filter_map, Option, Some, None, IfSome, IsSome, IsSomeAnd, Result, Ok, Err, All, slice_index_or, if◌then◌else◌}
+use Rattle.std.specs.Prelude.{◌≡◌, ℕ, ◌+◌, ◌≤◌, ◌<◌, ◌==◌, Bool, ◌&&◌, List, [], ◌∷◌, ◌++◌, length, position, filter_map, Option, Some, None, IfSome, IsSome, IsSomeAnd, IfOk, Result, Ok, Err, All, slice_index_or, if◌then◌else◌}
 use Rattle.std.specs.List.{list_all, list_any, cons_option}
 use Rattle.attr_check.specs.ParamsView.{ParamsView}
 use Rattle.attr_check.specs.Accepted.{accepted, params_of}
@@ -10,11 +10,14 @@ use Rattle.domain_run.specs.declared.call.Call.{Call}
 use Rattle.domain_run.specs.declared.call.Call.TheVariants.{Admit, Regrade, Advance}
 use Rattle.domain_run.specs.declared.call.Reply.{Reply}
 use Rattle.domain_run.specs.declared.call.Reply.TheVariants as replies
+use Rattle.domain_run.specs.Calls.{reply_to}
+use Rattle.domain_run.specs.Run.{run_of}
 use Rattle.rtapp_scenario.specs.ScenarioView.{TaskSpecView}
 use Rattle.call_book.specs.declared.section.Entry.{Entry}
+use Rattle.call_book.specs.Pieces.{IsTicketOf, IsAnswered}
 use Rattle.session.specs.declared.refusal.Refusal.{Refusal}
 use Rattle.session.specs.declared.refusal.Refusal.TheVariants as refusals
-use Rattle.session.specs.SessionId.{SessionId, cap_in}
+use Rattle.session.specs.SessionId.{SessionId, cap_in, cpus_of}
 
 -- ---- a task: its domain and its call
 
@@ -201,11 +204,36 @@ RefusesOnlyFullOrMemory (Err refusals.Enomem) = Unit {0}
 RefusesOnlyFullOrMemory (Err _) = ⊥
 RefusesOnlyFullOrMemory (Ok reply) = Unit {0}
 
--- a regrade: some word, or none, was asked for it
-pub record MakesRegrade (c c' : ClientView) (d number : ℕ) (params : ParamsView)
+-- the word's answer to a regrade to so much, by one call of the gate: a ticket of the domain asked.
+-- Where the word refused, the number is at most the cap, and leaves no room for so much in the place
+-- of what the ticket has
+pub record AsksWord (gate : GateId) (d bw : ℕ) (word : Option ℕ) : Type 0 where
+  pub was : TicketView
+  pub becomes : TicketView
+  pub own : IsTicketOf gate d was
+  pub answered : IsAnswered was bw becomes word
+
+-- what the word has to do with the reply to a regrade: where it refused, the reply is EBUSY with its
+-- number; where it did not, a change is one that it granted; and no other reply asked it
+abbrev pub IsByWord : GateId → ℕ → ℕ → Option ℕ → Reply → Type 0
+IsByWord gate d bw (Some seen) reply = (reply ≡ replies.Busy seen) × AsksWord gate d bw (Some seen)
+IsByWord gate d bw None replies.Changed = AsksWord gate d bw None
+IsByWord gate d bw None _ = Unit {0}
+
+-- the reply to a regrade is that of a state of the domain to which some calls led, and of the word
+pub record IsRegradeReply (gate : GateId) (d cpus limit number : ℕ) (params : ParamsView)
+    (word : Option ℕ) (reply : Reply) : Type 0 where
+  pub before : List Call
+  pub lawful : reply ≡ reply_to (run_of cpus limit before) (Regrade number params word)
+  pub by_word : IsByWord gate d params.bw word reply
+
+-- a regrade: with the word, which is the gate's answer in this very call, or none
+pub record MakesRegrade (id : SessionId) (c c' : ClientView) (d number : ℕ) (params : ParamsView)
     (answer : Answer) : Type 0 where
   pub word : Option ℕ
   pub made : Makes c c' (made_by d (Regrade number params word) answer)
+  pub reply : IfOk answer
+      (IsRegradeReply id.gate d (length (cpus_of id d)) id.limit number params word)
 
 -- an advance: the entry tells how many ticks were made, at least one and at most as many as were
 -- asked for

@@ -341,7 +341,7 @@ impl<N: Names> Client<N> {
     ) -> Answer
         requires domain { IsDomainIndex N.id domain }
         requires call { IsCall (calls.Regrade number params None) }
-        ensures made { MakesRegrade self.old self.new domain number params result }
+        ensures made { MakesRegrade N.id self.old self.new domain number params result }
         ensures full { RefusesOnlyFull result }
     {
         self.enter_at(

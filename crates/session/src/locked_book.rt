@@ -112,7 +112,8 @@ fn regrade<R: Wait>(
     requires pass { IsPassOf domain.old pass.old }
     requires call { IsCall (calls.Regrade number params None) }
     ensures same { SameBook domain.old domain.new }
-    ensures replied { IsRegradedBy pass.old pass.new number params result.answer }
+    ensures replied { IsRegradedBy domain.old.gate domain.old.domain domain.old.cpus domain.old.limit
+        pass.old pass.new number params result.answer }
     ensures own { result.blank ≡ None }
 {
     outcome_of(domain.regrade(rt, pass, gate, number, params))

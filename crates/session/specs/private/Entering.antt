@@ -1,8 +1,8 @@
 -- What a call under a domain's lock comes to.
-use Rattle.std.specs.Prelude.{◌≡◌, ℕ, ◌+◌, ◌≤◌, ◌<◌, List, length, Option, None, IfSome, IsSome, Ok, Err, slice_index_or}
+use Rattle.std.specs.Prelude.{◌≡◌, ℕ, ◌+◌, ◌≤◌, ◌<◌, List, length, Option, None, IfSome, IsSome, IfOk, Ok, Err, slice_index_or}
 use Rattle.attr_check.specs.ParamsView.{ParamsView}
 use Rattle.pass_seats.specs.Lists.{PassView}
-use Rattle.bw_gate.specs.Pieces.{BlankView, TicketView}
+use Rattle.bw_gate.specs.Pieces.{GateId, BlankView, TicketView}
 use Rattle.bw_gate.specs.Answers.{IsGive}
 use Rattle.domain_run.specs.declared.call.Call.{Call}
 use Rattle.domain_run.specs.declared.call.Call.TheVariants as calls
@@ -11,12 +11,11 @@ use Rattle.call_book.specs.declared.section.Entry.{Entry}
 use Rattle.call_book.specs.Pieces.{IsTicketOf}
 use Rattle.call_book.specs.Limits.{IsCall}
 use Rattle.call_book.specs.Book.{BookView, IsMember, AdmissionView, admission, with_entry}
-use Rattle.session.specs.declared.refusal.Refusal.{Refusal}
 use Rattle.session.specs.declared.refusal.Refusal.TheVariants as refusals
 use Rattle.session.specs.declared.locked_book.Ask.{Ask}
 use Rattle.session.specs.declared.locked_book.Ask.TheVariants as asks
 use Rattle.session.specs.SessionId.{SessionId, cap_in, cpus_of, spine_of, IsDomainIndex}
-use Rattle.session.specs.Asks.{Answer, ClientView, Makes, made_by, MakesRegrade, MakesAdvance, RefusesOnlyFull, RefusesOnlyFullOrMemory}
+use Rattle.session.specs.Asks.{Answer, ClientView, Makes, made_by, IsRegradeReply, MakesRegrade, MakesAdvance, RefusesOnlyFull, RefusesOnlyFullOrMemory}
 
 -- the book of a domain of the session
 pub record IsSessionBook (id : SessionId) (d : ℕ) (b : BookView) : Type 0 where
@@ -113,10 +112,11 @@ pub record IsReplied (p q : PassView Entry) (call : Call) (answer : Answer) : Ty
   pub pass : q ≡ pass_after p call answer
   pub full : RefusesOnlyFull answer
 
-pub record IsRegradedBy (p q : PassView Entry) (number : ℕ) (params : ParamsView)
-    (answer : Answer) : Type 0 where
+pub record IsRegradedBy (gate : GateId) (d cpus limit : ℕ) (p q : PassView Entry) (number : ℕ)
+    (params : ParamsView) (answer : Answer) : Type 0 where
   pub word : Option ℕ
   pub replied : IsReplied p q (calls.Regrade number params word) answer
+  pub reply : IfOk answer (IsRegradeReply gate d cpus limit number params word)
 
 -- an advance
 pub record AreTicks (p q : PassView Entry) (n ticks : ℕ) : Type 0 where
@@ -133,7 +133,8 @@ IsAdvancedBy p q n (Err _) = ⊥
 
 abbrev pub IsDone : SessionId → ℕ → PassView Entry → PassView Entry → Ask → Answer → Type 0
 IsDone id d p q (asks.Admit prepared ticket) answer = IsOffered (cap_in id d) p q prepared answer
-IsDone id d p q (asks.Regrade number params) answer = IsRegradedBy p q number params answer
+IsDone id d p q (asks.Regrade number params) answer =
+    IsRegradedBy id.gate d (length (cpus_of id d)) id.limit p q number params answer
 IsDone id d p q (asks.Wake number) answer = IsReplied p q (calls.Wake number) answer
 IsDone id d p q (asks.Leave number) answer = IsReplied p q (calls.Leave number) answer
 
@@ -145,7 +146,7 @@ IsDoneFor id d c e (asks.Admit prepared ticket) answer =
     × IsBookVerdict (cap_in id d) prepared.params.bw answer
     × IsGivenBack ticket answer e.hand
 IsDoneFor id d c e (asks.Regrade number params) answer =
-    MakesRegrade c e d number params answer × RefusesOnlyFull answer
+    MakesRegrade id c e d number params answer × RefusesOnlyFull answer
 IsDoneFor id d c e (asks.Wake number) answer =
     Makes c e (made_by d (calls.Wake number) answer) × RefusesOnlyFull answer
 IsDoneFor id d c e (asks.Leave number) answer =

@@ -3,8 +3,7 @@ use Rattle.std.specs.Prelude.{IfSome}
 use Rattle.pass_seats.specs.Lists.{PassView}
 use Rattle.bw_gate.specs.Pieces.{BlankView}
 use Rattle.call_book.specs.declared.section.Entry.{Entry}
-use Rattle.domain_run.specs.declared.call.Call.{Call}
-use Rattle.session.specs.Asks.{Answer, ClientView}
+use Rattle.session.specs.Asks.{ClientView}
 use Rattle.session.specs.private.Entering.{pass_after, NoneIsKept}
 use Rattle.session.proofs.Asked.{none_kept, makes_at, done_for}
 use Rattle.session.proofs.Passes.{done_kept, still_client}
