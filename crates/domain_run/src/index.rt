@@ -2,34 +2,59 @@
 //! last noted, and looks there first; a place that is not right any more costs a walk, and nothing
 //! else.
 
-ghost use Rattle.std.specs.Prelude.{◌≡◌, ◌≢◌, ◌==◌, AllPairs, IfSome, IfNone, find, option_copied, ◌&&◌, not};
+ghost use Rattle.std.specs.Prelude.{◌≡◌, ◌≢◌, ◌==◌, AllPairs, IfOk, IfSome, IfNone, find, option_copied, vec_capacity, ◌&&◌, not};
 ghost use Rattle.domain_run.specs.Conditions.{is_leaving};
 ghost use Rattle.domain_run.specs.private.Index.{IsAt, IsAbsent};
 
 use crate::task::Task;
 use no_memory::NoMemory;
-use std::alloc::Global;
+use std::alloc::{AllocError, Global};
+use std::marker::Model;
 
 const COUNT: usize = 65536;
 
-/// For each number below 65536 the place at which it was last noted.
+/// For each number below 65536 the place at which it was last noted. An index with room for more or
+/// fewer numbers cannot be built.
 #[derive(Drop)]
 pub(crate) struct Index {
     noted: Vec<u16>,
+}
+
+impl Model for Index {
+    ghost use Rattle.std.specs.Prelude.{ℕ, List, vec_capacity};
+    ghost use Rattle.domain_run.specs.private.Index.{IsIndex};
+
+    ghost Value = { List ℕ };
+
+    ghost view = { λ i. i.noted.items };
+
+    ghost invariant = { λ i. IsIndex (vec_capacity i.noted) };
+}
+
+// A place for each number, with room for no more.
+fn first_places(alloc: Global) -> Result<Vec<u16>, AllocError>
+    ensures { IfOk result (λ places. vec_capacity places ≡ 65536) }
+{
+    let mut places = Vec::with_capacity(alloc, COUNT)?;
+    for _ in 0..COUNT {
+        places.push_reserved(0);
+    }
+    Ok(places)
 }
 
 impl Index {
     /// Nothing is noted. No other call takes memory.
     pub(crate) fn open(alloc: Global) -> Result<Index, NoMemory> {
         Ok(Index {
-            noted: vec![in alloc; 0; COUNT]?,
+            noted: first_places(alloc)?,
         })
     }
 
     /// A number is at a place now.
     pub(crate) fn note(&mut self, number: u32, place: usize) {
-        if let Some(noted) = self.noted.get_mut(number as usize) {
-            *noted = place.min(65535) as u16;
+        let at = number as usize;
+        if at < self.noted.len() {
+            self.noted[at] = place.min(65535) as u16;
         }
     }
 

@@ -1,39 +1,52 @@
 //! The numbers ever admitted: a mark for each, so that the test is one look.
 
-ghost use Rattle.std.specs.Prelude.{◌≡◌, ℕ, ◌<◌, ◌==◌, false, List, [], IfOk};
+ghost use Rattle.std.specs.Prelude.{◌≡◌, ℕ, ◌<◌, ◌==◌, false, List, [], IfOk, replicate, vec_len, vec_capacity};
 ghost use Rattle.std.specs.List.{list_any};
 ghost use Rattle.domain_run.specs.Calls.{with_number};
 
 use no_memory::NoMemory;
-use std::alloc::Global;
+use std::alloc::{AllocError, Global};
 use std::marker::Model;
 
 const COUNT: usize = 65536;
 
-/// A set of numbers below 65536.
+/// A set of numbers below 65536. One with room for more or fewer marks cannot be built.
 #[derive(Drop)]
 pub(crate) struct Numbers {
     marks: Vec<bool>,
 }
 
 impl Model for Numbers {
-    ghost use Rattle.std.specs.Prelude.{◌≡◌, ℕ, List, vec_len};
-    ghost use Rattle.domain_run.specs.private.Numbers.{marked};
+    ghost use Rattle.std.specs.Prelude.{ℕ, List, vec_len, vec_capacity};
+    ghost use Rattle.domain_run.specs.private.Numbers.{marked, AreMarks};
 
     ghost Value = { List ℕ };
 
     ghost view = { λ n. marked 0 n.marks.items };
 
-    ghost invariant = { λ n. vec_len n.marks ≡ 65536 };
+    ghost invariant = { λ n. AreMarks (vec_len n.marks) (vec_capacity n.marks) };
+}
+
+// So many places without a mark, with room for no more.
+fn no_marks(alloc: Global, count: usize) -> Result<Vec<bool>, AllocError>
+    ensures marks { IfOk result (λ marks. marks.items ≡ replicate count false) }
+    ensures len { IfOk result (λ marks. vec_len marks ≡ count) }
+    ensures room { IfOk result (λ marks. vec_capacity marks ≡ count) }
+{
+    let mut marks = Vec::with_capacity(alloc, count)?;
+    for _ in 0..count {
+        marks.push_reserved(false);
+    }
+    Ok(marks)
 }
 
 impl Numbers {
-    /// No number.
+    /// No number. No other call takes memory.
     pub(crate) fn open(alloc: Global) -> Result<Numbers, NoMemory>
         ensures { IfOk result (λ n. n ≡ []) }
     {
         Ok(Numbers {
-            marks: vec![in alloc; false; COUNT]?,
+            marks: no_marks(alloc, COUNT)?,
         })
     }
 

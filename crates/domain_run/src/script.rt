@@ -1,5 +1,4 @@
-//! Scripts: what a task does, as phases of events, and the cursor that goes through them (own;
-//! rt-app's phases and loops).
+//! Scripts: what a task does, as phases of events (own; rt-app's phases and loops).
 
 ghost use Rattle.std.specs.Prelude.{◌≡◌, ◌<◌, ◌≤◌, ◌+◌, ◌^◌, ◌↔◌, ◌%◌, ◌*◌, IsTrue, IsOk, MatchResult, sum_by, IsSome, IfSome, All, length, slice_get};
 ghost use Rattle.domain_run.specs.script.ScriptView.{IsEvent, IsPhase, IsScript, IsPlace, script_of, phase_len, round_len};
@@ -55,25 +54,6 @@ impl Model for Script {
     ghost view = { λ s. record { rounds = s.rounds; phases = s.phases.items } };
 
     ghost invariant = { λ s. IsScript (record { rounds = s.rounds; phases = s.phases.items }) };
-}
-
-/// A script, the place of its next event, and its timer reference. In a script without end that
-/// place is kept within the first round, as each is like the first.
-#[derive(Debug, Drop)]
-pub struct Cursor {
-    script: Script,
-    place: u128,
-    reference: u64,
-}
-
-impl Model for Cursor {
-    ghost use Rattle.domain_run.specs.script.ScriptView.{CursorView, IsCursor};
-
-    ghost Value = { CursorView };
-
-    ghost view = { λ c. record { script = c.script; place = c.place; reference = c.reference } };
-
-    ghost invariant = { λ c. IsCursor (record { script = c.script; place = c.place; reference = c.reference }) };
 }
 
 /// What a script answers when it is asked.
@@ -168,20 +148,6 @@ impl Script {
     {
         &self.phases
     }
-
-    /// A cursor at the script's beginning, for a task that starts at this time, in microseconds.
-    /// Asked at any times, it gives what the script gives written out, event by event.
-    #[tactic(auto, using(crate::proofs::Unrolling::begun_written, crate::proofs::Unrolling::place_at_first))]
-    pub fn cursor(self, start: u64) -> Cursor
-        ensures begun { result ≡ begun_at self start }
-        ensures written { GivesAsWritten result }
-    {
-        Cursor {
-            script: self,
-            place: 0,
-            reference: start,
-        }
-    }
 }
 
 // The remainder; nearly all places are in the first round, and need no division.
@@ -252,7 +218,7 @@ fn rounds_len(rounds: u64, round: u128) -> u128
 }
 
 #[tactic(auto, using(crate::proofs::Unrolling::event_by_is))]
-fn event_of(script: &Script, place: u128) -> Option<Event>
+pub(crate) fn event_of(script: &Script, place: u128) -> Option<Event>
     ensures value { result ≡ event_at script.now place }
     ensures within { IsScript script.now }
     ensures event { IfSome result IsEvent }
@@ -267,7 +233,7 @@ fn event_of(script: &Script, place: u128) -> Option<Event>
 }
 
 #[tactic(auto, using(crate::proofs::Unrolling::behind_within, crate::proofs::Unrolling::behind_place))]
-fn place_behind(script: &Script, place: u128) -> u128
+pub(crate) fn place_behind(script: &Script, place: u128) -> u128
     requires short { place ≤ 2 ^ 80 }
     requires more { IsSome (event_at script.now place) }
     ensures value { result ≡ first_place script.now.rounds (round_len script.now) (place + 1) }
@@ -278,91 +244,5 @@ fn place_behind(script: &Script, place: u128) -> u128
     match script.rounds {
         None => remainder(place + 1, round),
         Some(_) => place + 1,
-    }
-}
-
-fn is_late_at(event: Option<Event>, reference: u64, time: u64) -> bool
-    requires event { IfSome event IsEvent }
-    requires early { reference < 2 ^ 48 }
-    ensures { result ≡ is_late event reference time }
-{
-    match event {
-        Some(Event::Timer(n)) => reference + n <= time,
-        _ => false,
-    }
-}
-
-impl Cursor {
-    /// The whole script, wherever the cursor stands.
-    pub(crate) fn script(&self) -> &Script
-        ensures { result.now ≡ self.now.script }
-    {
-        &self.script
-    }
-
-    fn event(&self) -> Option<Event>
-        ensures value { result ≡ event_at self.now.script self.now.place }
-        ensures within { IsScript self.now.script }
-        ensures event { IfSome result IsEvent }
-    {
-        event_of(&self.script, self.place)
-    }
-
-    fn step(&mut self, reference: u64)
-        requires more { IsSome (event_at self.old.script self.old.place) }
-        ensures { self.new ≡ kept_cursor (moved self.old reference) }
-    {
-        self.place = place_behind(&self.script, self.place);
-        self.reference = reference;
-    }
-
-    #[tactic(auto, using(crate::proofs::Unrolling::kept_itself))]
-    fn give(&mut self, time: u64) -> Segment
-        requires early { time < 2 ^ 48 }
-        requires reference { self.old.reference < 2 ^ 48 }
-        ensures segment { result ≡ (given_at self.old time).segment }
-        ensures cursor { self.new ≡ kept_cursor (given_at self.old time).cursor }
-        ensures within { IsSegment result }
-        ensures in_order { self.old.reference ≤ time →
-            self.new.reference ≤ next_ask time result }
-    {
-        let reference = self.reference;
-        match self.event() {
-            None => Segment::End,
-            Some(Event::Run(n)) => {
-                self.step(reference);
-                Segment::Run(n)
-            }
-            Some(Event::Sleep(n)) => {
-                self.step(reference);
-                Segment::Until(time + n)
-            }
-            Some(Event::Timer(n)) => {
-                self.step(reference + n);
-                Segment::Until(reference + n)
-            }
-            Some(Event::Wait) => {
-                self.step(reference);
-                Segment::Wait
-            }
-        }
-    }
-
-    /// What the task does next, asked at this time, in microseconds below 2^48. The timer's
-    /// reference is below 2^48 wherever no ask is before the start, or before the end of the last
-    /// segment [`Segment::Until`]; so asked, it is never behind the next ask. Takes no memory.
-    pub fn next(&mut self, time: u64) -> Segment
-        requires early { time < 2 ^ 48 }
-        requires reference { self.old.reference < 2 ^ 48 }
-        ensures segment { result ≡ (asked self.old time).segment }
-        ensures cursor { self.new ≡ (asked self.old time).cursor }
-        ensures within { IsSegment result }
-        ensures in_order { self.old.reference ≤ time →
-            self.new.reference ≤ next_ask time result }
-    {
-        if is_late_at(self.event(), self.reference, time) {
-            self.step(time);
-        }
-        self.give(time)
     }
 }

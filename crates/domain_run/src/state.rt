@@ -1,6 +1,6 @@
 //! A root domain: the state between two ticks, and what changes it.
 
-ghost use Rattle.std.specs.Prelude.{◌≡◌, ◌<◌, ◌≤◌, ◌^◌, OnOk, IfOk, None, vec_len, IsTrue, IfErr};
+ghost use Rattle.std.specs.Prelude.{◌≡◌, ◌<◌, ◌≤◌, ◌^◌, OnOk, IfOk, None, vec_len, vec_capacity, IsTrue, IfErr};
 ghost use Rattle.domain_run.specs.declared.call.Call.TheVariants as Call;
 ghost use Rattle.domain_run.specs.declared.call.Reply.TheVariants as Reply;
 ghost use Rattle.domain_run.specs.Domain.{IsCpus, IsLimit, opened};
@@ -30,7 +30,7 @@ use crate::task::{TaskView, view_of};
 use attr_check::Params;
 use edf_pick::Placement;
 use no_memory::NoMemory;
-use std::alloc::Global;
+use std::alloc::{AllocError, Global};
 use std::marker::Model;
 
 /// A root domain of 1 to 64 CPUs: its tasks, who stands on each CPU, and the switches so far.
@@ -79,7 +79,20 @@ impl Model for State {
               s.curr;
           switches =
               s.switches.items;
-        }) s.roster.cpus s.running.items (vec_len s.before) (vec_capacity s.running) };
+        }) s.roster.cpus s.running.items (vec_len s.before) (vec_capacity s.before)
+        (vec_capacity s.running) };
+}
+
+// A place for each CPU, with room for no more.
+fn nobody(alloc: Global, cpus: usize) -> Result<Vec<Option<u32>>, AllocError>
+    ensures len { IfOk result (λ places. vec_len places ≡ cpus) }
+    ensures room { IfOk result (λ places. vec_capacity places ≡ cpus) }
+{
+    let mut places = Vec::with_capacity(alloc, cpus)?;
+    for _ in 0..cpus {
+        places.push_reserved(None);
+    }
+    Ok(places)
 }
 
 impl State {
@@ -101,7 +114,7 @@ impl State {
             curr: Placement::open(alloc, cpus)?,
             switches: Vec::new(alloc),
             running: Vec::with_capacity(alloc, cpus)?,
-            before: vec![in alloc; None; cpus]?,
+            before: nobody(alloc, cpus)?,
         })
     }
 

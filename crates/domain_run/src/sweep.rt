@@ -136,6 +136,7 @@ fn copy_places(before: &mut Vec<Option<u32>>, places: &[Option<u32>])
     requires { vec_len before.old ≡ length places.now }
     ensures places { before.new.items ≡ places.now }
     ensures len { vec_len before.new ≡ vec_len before.old }
+    ensures room { vec_capacity before.new ≡ vec_capacity before.old }
 {
     before.copy_from_slice(places);
 }
@@ -183,6 +184,7 @@ pub(crate) fn begin(
         ++ switches_spec.switches_from time
         (tick_spec.prepared time roster.old.tasks) 0 places.old places.new }
     ensures before_len { vec_len before.new ≡ vec_len before.old }
+    ensures before_room { vec_capacity before.new ≡ vec_capacity before.old }
     ensures running { running.new.items ≡ jump.running_numbers places.new }
     ensures runners { vec_capacity running.new ≡ vec_capacity running.old }
 {

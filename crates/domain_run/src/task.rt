@@ -5,8 +5,8 @@ ghost use Rattle.domain_run.specs.Conditions as conditions;
 ghost use Rattle.domain_run.specs.Jump as jump;
 ghost use Rattle.domain_run.specs.Views as views;
 
+use crate::cursor::Cursor;
 use crate::name::Name;
-use crate::script::Cursor;
 use attr_check::Params;
 use cbs_rules::Server;
 

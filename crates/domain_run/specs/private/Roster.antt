@@ -18,10 +18,11 @@ pub record RosterView : Type 0 where
   pub cpus : ℕ
   pub tasks : List Task
 
--- what a roster keeps: its run queue counts its list, and there is room for 256 tasks
+-- what a roster keeps: its run queue counts its list, and the room for 256 tasks that it was opened
+-- with, so it takes no more
 pub record IsKept (queue : RunQueue) (tasks : List Task) (capacity : ℕ) : Type 0 where
   pub counted : IsCounted (length queue.accounts.all) queue tasks
-  pub room : 256 ≤ capacity
+  pub room : capacity ≡ 256
 
 -- CHANGES of one task at a time: what a part of a tick does to it, or a call
 abbrev pub after_change : ℕ → Change → Task → Task

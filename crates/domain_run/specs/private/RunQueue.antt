@@ -73,12 +73,14 @@ pub record HasTurned (place : ℕ) (before after : Standing) (old new : RunQueue
 abbrev pub AreHomed : Places → List Task → Type 0
 AreHomed places tasks = All (λ t. with_last_cpu places t ≡ t) tasks
 
--- what a state keeps: a domain, whose CPUs its roster has too, who stands on its CPUs, and a place
--- for each CPU
-pub record IsState (d : Domain) (cpus : ℕ) (running : List ℕ) (before runners : ℕ) : Type 0 where
+-- what a state keeps: a domain, whose CPUs its roster has too, who stands on its CPUs, a place for
+-- each CPU, and for both lists the room for so many that they were opened with, so they take no more
+pub record IsState (d : Domain) (cpus : ℕ) (running : List ℕ)
+    (before before_capacity running_capacity : ℕ) : Type 0 where
   pub domain : IsDomain d
   pub wide : cpus ≡ d.cpus
   pub homed : AreHomed d.curr d.tasks
   pub running_is : running ≡ running_numbers d.curr
   pub before_len : before ≡ d.cpus
-  pub runners_room : d.cpus ≤ runners
+  pub before_room : before_capacity ≡ d.cpus
+  pub running_room : running_capacity ≡ d.cpus

@@ -42,12 +42,12 @@ AreLater due time from end =
     (place : ℕ) → from ≤ place → place < end → place < length due
     → time < slice_index_or due place 0
 
--- what the timers of a list keep: room for 256 tasks, a time for each block, and one that is not
--- after any, or is the first
+-- what the timers of a list keep: the room for 256 tasks that they were opened with, so they take no
+-- more, a time for each block, and one that is not after any, or is the first
 pub record AreTimers (due : List ℕ) (capacity : ℕ) (bounds : List ℕ) (first : ℕ)
     (known : Bool) : Type 0 where
   pub few : length due ≤ 256
-  pub room : 256 ≤ capacity
+  pub room : capacity ≡ 256
   pub bounds_are : AreBounds bounds due
   pub before : first ≤ least due
   pub first_is : known ≡ true → first ≡ least due

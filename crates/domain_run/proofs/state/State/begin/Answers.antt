@@ -10,7 +10,7 @@ pub begin-requires-clause-cpus : goal.begin-requires-clause-cpus
 begin-requires-clause-cpus c = c.self.invariant.domain.steady.wide ∙ sym c.self.invariant.wide
 
 pub begin-requires-clause-runners : goal.begin-requires-clause-runners
-begin-requires-clause-runners c = omega (arith, c.self.invariant.domain.steady.wide, c.self.invariant.runners_room)
+begin-requires-clause-runners c = omega (arith, c.self.invariant.domain.steady.wide, c.self.invariant.running_room)
 
 pub invariant_of-self-2 : goal.invariant_of-self-2
 invariant_of-self-2 c =
@@ -26,7 +26,8 @@ invariant_of-self-2 c =
       before_len = c.begin.ensures.before_len ∙ c.self.invariant.before_len;
       homed = c.begin.ensures.homed;
       running_is = c.begin.ensures.running;
-      runners_room = omega (arith, c.begin.ensures.runners, c.self.invariant.runners_room);
+      before_room = c.begin.ensures.before_room ∙ c.self.invariant.before_room;
+      running_room = c.begin.ensures.runners ∙ c.self.invariant.running_room;
     }
 
 pub returns-clause-ok : goal.returns-clause-ok

@@ -28,5 +28,6 @@ invariant_of-self c = record {
       let is = one_change c.args.number (regraded c.args.params.now) (record { number = λ t. refl; cpu = λ t. refl }) in
       subst (AreHomed c.self.inside.curr) (sym c.turn_number.ensures.tasks) (homed_map c.self.inside.curr (of_number c.args.number (regraded c.args.params.now)) c.self.inside.roster.tasks is.number is.cpu c.self.invariant.homed);
   running_is = c.self.invariant.running_is;
-  runners_room = c.self.invariant.runners_room;
+  before_room = c.self.invariant.before_room;
+  running_room = c.self.invariant.running_room;
 }

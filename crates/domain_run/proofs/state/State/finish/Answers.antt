@@ -49,7 +49,8 @@ invariant_of-self c =
           let same = same_paid end (running_numbers s.curr) c.args.ticks c.args.budgets.now in
           subst (AreHomed s.curr) (sym tasks_are) (homed_map s.curr (paid end (running_numbers s.curr) c.args.ticks c.args.budgets.now) s.roster.tasks (λ t. (same t).number) (λ t. (same t).cpu) c.self.invariant.homed);
       running_is = c.self.invariant.running_is;
-      runners_room = c.self.invariant.runners_room;
+      before_room = c.self.invariant.before_room;
+      running_room = c.self.invariant.running_room;
     }
 
 pub returns : goal.returns

@@ -70,7 +70,8 @@ invariant_of-self c = record {
       let fresh : list_any (λ n. eqb n t.number) d.used ≡ false = ap (λ (x : Task). list_any (λ n. eqb n x.number) d.used) is ∙ new.fresh in
       subst (AreHomed d.curr) (sym c.push.ensures.tasks) (All-push (λ u. with_last_cpu d.curr u ≡ u) d.tasks t c.self.invariant.homed (homed_stranger d.curr d.used t c.self.invariant.domain.traced.standing fresh));
   running_is = c.self.invariant.running_is;
-  runners_room = c.self.invariant.runners_room;
+  before_room = c.self.invariant.before_room;
+  running_room = c.self.invariant.running_room;
 }
 
 pub returns : goal.returns

@@ -11,6 +11,7 @@ invariant_of-result c = record {
   wide = ap (λ (r : RosterView). r.cpus) c.in_ok-open.ensures;
   homed = rw c.in_ok-open.ensures (All-nil _);
   running_is = rw (c.in_ok-with_capacity.ensures.items, c.in_ok-open-3.ensures) (sym (standing_opened c.args.cpus));
-  before_len = c.in_ok-vec.ensures.len;
-  runners_room = omega (arith, c.in_ok-with_capacity.ensures.exact);
+  before_len = c.in_ok-nobody.ensures.len;
+  before_room = c.in_ok-nobody.ensures.room;
+  running_room = c.in_ok-with_capacity.ensures.exact;
 }

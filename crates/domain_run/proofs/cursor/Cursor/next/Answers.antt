@@ -3,8 +3,8 @@ use Rattle.std.proofs.lemmas.Grind.{common_steps}
 use Rattle.domain_run.specs.script.Unrolled.{event_at}
 use Rattle.domain_run.specs.script.Segments.{moved, kept_cursor, given_at, is_late}
 use Rattle.domain_run.proofs.Unrolling.{answered_late, answered_due}
-use Rattle.domain_run.proofs.script.Cursor.next.Goals as goal
-use Rattle.domain_run.proofs.script.Cursor.next.Goals.{then-is_late_at, else-is_late_at}
+use Rattle.domain_run.proofs.cursor.Cursor.next.Goals as goal
+use Rattle.domain_run.proofs.cursor.Cursor.next.Goals.{then-is_late_at, else-is_late_at}
 
 pub returns-clause-segment : goal.returns-clause-segment
 returns-clause-segment c =
