@@ -207,10 +207,4 @@ impl Roster {
     {
         listing::drop_left(&mut self.tasks, &mut self.queue, &mut self.index);
     }
-
-    /// The room for tasks.
-    #[cfg(test)]
-    pub(crate) fn capacity(&self) -> usize {
-        self.tasks.capacity()
-    }
 }

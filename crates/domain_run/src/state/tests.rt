@@ -28,16 +28,6 @@ fn params() -> Result<Params, Fail> {
     })?)
 }
 
-/// The room of each vector of a state.
-fn rooms(state: &State) -> [usize; 4] {
-    [
-        state.roster.capacity(),
-        state.switches.capacity(),
-        state.running.capacity(),
-        state.before.capacity(),
-    ]
-}
-
 /// A task that is not admitted yet.
 #[derive(Drop)]
 struct Newcomer {
@@ -73,14 +63,15 @@ fn with_waiting(alloc: Global, task: Newcomer) -> Result<State, Fail> {
     Ok(state)
 }
 
-/// Each call once, and granted, and the state's room is what it was.
+/// Each call once, and granted, and the room for switches is what it was. The state's other room
+/// is kept by its types.
 fn keeps_its_room(mut state: State, params: Params, task: Newcomer) -> bool {
-    let before = rooms(&state);
+    let before = state.switches.capacity();
     is_admitted(&mut state, 2, task)
         && state.regrade(1, params, None) == Reply::Changed
         && state.wake(1) == Reply::Woken
         && state.leave(1) == Reply::Left
-        && rooms(&state) == before
+        && state.switches.capacity() == before
 }
 
 fn has_memory(alloc: Global) -> bool {
