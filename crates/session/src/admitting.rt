@@ -8,7 +8,7 @@ ghost use Rattle.rtapp_scenario.specs.ScenarioView.{TaskSpecView};
 ghost use Rattle.session.specs.private.Admitting.{SeatView, own_tasks, HasRoom, AreSeats, AsksSeat, AreAsked, AreAnswers, IsUnion};
 
 use crate::client::Client;
-use crate::fault::AdmitFault;
+use crate::fault::{AdmitFault, NotStarted};
 use crate::names::Names;
 use crate::refusal::{Answer, Refusal};
 use crate::session::Session;
@@ -180,11 +180,10 @@ fn start_one<
     tasks: &'s [TaskSpec],
     turnstile: &'s T,
     seat: Seat<N>,
-) -> Result<PromisedHandle<ClientAnswers<N>, AdmitPromise<N, A>>, AdmitFault>
+) -> Result<PromisedHandle<ClientAnswers<N>, AdmitPromise<N, A>>, NotStarted>
     requires tasks { tasks.now ≡ A.tasks }
     requires room { HasRoom tasks.now seat }
-    ensures ok { IfOk result (λ h. h.promise.seat.value ≡ seat) }
-    ensures err { IfErr result (λ e. e ≡ AdmitFault.Start) }
+    ensures { IfOk result (λ h. h.promise.seat.value ≡ seat) }
 {
     let promise = AdmitPromise::<N, A> {
         seat: Snapshot::of(&seat),
@@ -196,11 +195,12 @@ fn start_one<
     { admit_own(rt, alloc, shared, tasks, turnstile, seat) };
     match scope.spawn_with(promise, asking) {
         Ok(handle) => Ok(handle),
-        Err(_) => Err(AdmitFault::Start),
+        Err(_) => Err(NotStarted),
     }
 }
 
-/// Starts a thread for each client. Where one is not started, those before it were.
+/// Starts a thread for each client, with room for their handles. Where one is not started, those
+/// before it were.
 fn start_all<
     's,
     E,
@@ -216,14 +216,16 @@ fn start_all<
     tasks: &'s [TaskSpec],
     turnstile: &'s T,
     seats: Vec<Seat<N>>,
-) -> Result<Vec<PromisedHandle<ClientAnswers<N>, AdmitPromise<N, A>>>, AdmitFault>
+    mut handles: Vec<PromisedHandle<ClientAnswers<N>, AdmitPromise<N, A>>>,
+) -> Result<Vec<PromisedHandle<ClientAnswers<N>, AdmitPromise<N, A>>>, NotStarted>
     requires tasks { tasks.now ≡ A.tasks }
     requires room { All (HasRoom tasks.now) seats.items }
+    requires nobody { handles.items ≡ [] }
+    requires enough { length seats.items ≤ vec_capacity handles }
     ensures len { IfOk result (λ v. vec_len v ≡ length seats.items) }
     ensures each { IfOk result (λ v. (k : ℕ) (d : _) (s : SeatView) → k < length seats.items
         → (slice_index_or v.items k d).promise.seat.value ≡ slice_index_or seats.items k s) }
 {
-    let mut handles = Vec::with_capacity(alloc, seats.len())?;
     for seat in seats {
         handles.push_reserved(start_one(scope, rt, alloc, shared, tasks, turnstile, seat)?);
     }
@@ -286,8 +288,56 @@ fn gather(
     refused
 }
 
-/// Lets the clients of these seats ask for their own tasks, each in a thread of its own. Want of
-/// memory is answered before a thread is started.
+/// All that the admissions of a scenario grow, taken before a thread is started: each client in its
+/// seat, with room for its answers, for the threads' handles, for who is back, and for who is
+/// refused.
+#[derive(Drop)]
+struct Reserved<N: Names, A: TasksBrand> {
+    clients: Snapshot<Vec<Client<N>>>,
+    seats: Vec<Seat<N>>,
+    handles: Vec<PromisedHandle<ClientAnswers<N>, AdmitPromise<N, A>>>,
+    joined: Joined<N>,
+    refused: Vec<(u32, Refusal)>,
+    ghost some: { 0 < length clients.value.items },
+    ghost no_handles: { handles.items ≡ [] },
+    ghost for_handles: { length seats.items ≤ vec_capacity handles },
+    ghost nobody: { (joined.clients.items ≡ []) × (joined.shares.items ≡ []) },
+    ghost for_clients: { length seats.items ≤ vec_capacity joined.clients },
+    ghost for_shares: { length seats.items ≤ vec_capacity joined.shares },
+    ghost none_refused: { refused.items ≡ [] },
+}
+
+/// Takes the room that these clients need for these tasks.
+fn reserve<N: Names, A: TasksBrand>(
+    alloc: Global,
+    clients: Vec<Client<N>>,
+    tasks: &[TaskSpec],
+) -> Result<Reserved<N, A>, NoMemory>
+    requires { 0 < length clients.items }
+    ensures clients { IfOk result (λ r. r.clients.value.items ≡ clients.items) }
+    ensures seats { IfOk result (λ r. AreSeats tasks.now r.clients.value.items r.seats.items) }
+    ensures refused { IfOk result (λ r. length tasks.now ≤ vec_capacity r.refused) }
+{
+    let before = Snapshot::of(&clients);
+    let handles = Vec::with_capacity(alloc, clients.len())?;
+    let back = Vec::with_capacity(alloc, clients.len())?;
+    let shares = Vec::with_capacity(alloc, clients.len())?;
+    let refused = Vec::with_capacity(alloc, tasks.len())?;
+    let seats = seat_all(alloc, clients, tasks)?;
+    let joined = Joined {
+        clients: back,
+        shares,
+    };
+    Ok(Reserved {
+        clients: before,
+        seats,
+        handles,
+        joined,
+        refused,
+    })
+}
+
+/// Lets the clients of these seats ask for their own tasks, each in a thread of its own.
 fn ask_apart<N: Names + Send + Sync, A: TasksBrand, T: Turnstile, R: Threads + Wait + Sync>(
     rt: &R,
     alloc: Global,
@@ -295,33 +345,82 @@ fn ask_apart<N: Names + Send + Sync, A: TasksBrand, T: Turnstile, R: Threads + W
     tasks: &[TaskSpec],
     turnstile: &T,
     seats: Vec<Seat<N>>,
-) -> Result<Joined<N>, AdmitFault>
+    handles: Vec<PromisedHandle<ClientAnswers<N>, AdmitPromise<N, A>>>,
+    joined: Joined<N>,
+) -> Result<Joined<N>, NotStarted>
     requires tasks { tasks.now ≡ A.tasks }
-    requires room { All (HasRoom tasks.now) seats.items }
+    requires seats { All (HasRoom tasks.now) seats.items }
+    requires handles { (handles.items ≡ []) × (length seats.items ≤ vec_capacity handles) }
+    requires nobody { (joined.clients.items ≡ []) × (joined.shares.items ≡ []) }
+    requires room { (length seats.items ≤ vec_capacity joined.clients)
+        × (length seats.items ≤ vec_capacity joined.shares) }
     ensures ok { IfOk result (λ j. AreAsked N.id tasks.now seats.items
         j.clients.items (map (λ q. q.items) j.shares.items)) }
 {
-    let clients = Vec::with_capacity(alloc, seats.len())?;
-    let shares = Vec::with_capacity(alloc, seats.len())?;
-    let joined = Joined { clients, shares };
     thread::scope(
         thread::scope_env(),
         rt,
-        |scope| -> Result<Joined<N>, AdmitFault>
+        |scope| -> Result<Joined<N>, NotStarted>
             requires tasks { tasks.now ≡ A.tasks }
             requires seats { All (HasRoom tasks.now) seats.items }
+            requires handles { (handles.items ≡ []) × (length seats.items ≤ vec_capacity handles) }
             requires nobody { (joined.clients.items ≡ []) × (joined.shares.items ≡ []) }
             requires room { (length seats.items ≤ vec_capacity joined.clients)
                 × (length seats.items ≤ vec_capacity joined.shares) }
             ensures ok { IfOk result (λ j. AreAsked N.id tasks.entry.now seats.items
                 j.clients.items (map (λ q. q.items) j.shares.items)) }
         {
-            let handles: Vec<PromisedHandle<ClientAnswers<N>, AdmitPromise<N, A>>> = start_all(
-                scope, rt, alloc, shared, tasks, turnstile, seats,
-            )?;
-            Ok(join_all(rt, handles, joined))
+            let started = start_all(scope, rt, alloc, shared, tasks, turnstile, seats, handles)?;
+            Ok(join_all(rt, started, joined))
         },
     )
+}
+
+/// Lets the clients for which all room was taken ask for their own tasks, and puts their answers
+/// together. What it may fail of is a thread that was not started.
+fn admit_reserved<N: Names + Send + Sync, A: TasksBrand, T: Turnstile, R: Threads + Wait + Sync>(
+    rt: &R,
+    alloc: Global,
+    shared: &Shared<N>,
+    tasks: &[TaskSpec],
+    turnstile: &T,
+    reserved: Reserved<N, A>,
+) -> Result<(Vec<Client<N>>, Vec<(u32, Refusal)>), NotStarted>
+    requires tasks { tasks.now ≡ A.tasks }
+    requires seats { AreSeats tasks.now reserved.clients.value.items reserved.seats.items }
+    requires refused { length tasks.now ≤ vec_capacity reserved.refused }
+    ensures { let before = reserved.clients.value.items in
+        IfOk result (λ r. AllAsked N.id tasks.now before r.0.items r.1.items) }
+{
+    let Reserved {
+        clients: _,
+        seats,
+        handles,
+        joined,
+        refused,
+    } = reserved;
+    let Joined { clients, shares } = ask_apart(
+        rt, alloc, shared, tasks, turnstile, seats, handles, joined,
+    )?;
+    Ok((clients, gather(tasks, shares, refused)))
+}
+
+/// Takes all room, and then lets the clients ask.
+fn admit_tasks<N: Names + Send + Sync, A: TasksBrand, T: Turnstile, R: Threads + Wait + Sync>(
+    rt: &R,
+    alloc: Global,
+    shared: &Shared<N>,
+    clients: Vec<Client<N>>,
+    tasks: &[TaskSpec],
+    turnstile: &T,
+) -> Result<(Vec<Client<N>>, Vec<(u32, Refusal)>), AdmitFault>
+    requires tasks { tasks.now ≡ A.tasks }
+    requires some { 0 < length clients.items }
+    ensures { IfOk result (λ r. AllAsked N.id tasks.now clients.items r.0.items r.1.items) }
+{
+    let reserved: Reserved<N, A> = reserve(alloc, clients, tasks)?;
+    let asked = admit_reserved(rt, alloc, shared, tasks, turnstile, reserved)?;
+    Ok(asked)
 }
 
 /// Lets the clients admit a scenario's tasks, each client in a thread of its own, with the
@@ -331,7 +430,7 @@ fn ask_apart<N: Names + Send + Sync, A: TasksBrand, T: Turnstile, R: Threads + W
 /// # Errors
 /// [`AdmitFault::Memory`] where a growth was refused: nothing was asked for. [`AdmitFault::Start`]
 /// where the system started no thread for a client: those that were started have ended, and what
-/// the books list stays there. The clients are gone.
+/// the books list stays there. The clients are gone, and no clause says what they left.
 pub fn admit_all<N: Names + Send + Sync, T: Turnstile, R: Threads + Wait + Sync>(
     rt: &R,
     alloc: Global,
@@ -343,15 +442,5 @@ pub fn admit_all<N: Names + Send + Sync, T: Turnstile, R: Threads + Wait + Sync>
     requires some { 0 < length clients.items }
     ensures ok { IfOk result (λ r. AllAsked N.id tasks.now clients.items r.0.items r.1.items) }
 {
-    let refused = Vec::with_capacity(alloc, tasks.len())?;
-    let seats = seat_all(alloc, clients, tasks)?;
-    let Joined { clients, shares } = ask_apart::<N, Brand, T, R>(
-        rt,
-        alloc,
-        &session.shared,
-        tasks,
-        turnstile,
-        seats,
-    )?;
-    Ok((clients, gather(tasks, shares, refused)))
+    admit_tasks::<N, Brand, T, R>(rt, alloc, &session.shared, clients, tasks, turnstile)
 }

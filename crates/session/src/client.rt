@@ -265,6 +265,44 @@ impl<N: Names> Client<N> {
         }
     }
 
+    /// Admits a task with a piece that was found for it: where there is no memory, the piece is in
+    /// hand again.
+    fn admit_with<R: Wait>(
+        &mut self,
+        rt: &R,
+        alloc: Global,
+        shared: &Shared<N>,
+        task: &TaskSpec,
+        params: Params,
+        place: usize,
+        blank: Blank,
+    ) -> Answer
+        requires place { IsDomainIndex N.id place }
+        requires checked { accepted task.now.attr ≡ Ok params }
+        requires own { blank.gate ≡ N.id.gate }
+        ensures made { Makes self.old self.new (made_by place (call_of task.now) result) }
+        ensures verdict { IsVerdict (cap_in N.id place) (params_of task.now.attr).bw result }
+        ensures last { IsLastFound self.new.hand result }
+        ensures gate { AsksGate N.id.gate place (params_of task.now.attr).bw
+            (Some blank) result self.new.hand }
+    {
+        match prepare(
+            alloc,
+            task.number,
+            &task.name,
+            params,
+            task.delay,
+            &task.script,
+        ) {
+            Ok(prepared) => self.submit(rt, shared, place, blank, prepared),
+            Err(NoMemory) => {
+                self.hand = Some(blank);
+                Err(Refusal::Enomem)
+            }
+        }
+    }
+
+    /// The same with a piece that is to be found.
     fn admit_at<R: Wait>(
         &mut self,
         rt: &R,
@@ -282,22 +320,9 @@ impl<N: Names> Client<N> {
         ensures gate { AsksGate N.id.gate place (params_of task.now.attr).bw
             self.old.hand result self.new.hand }
     {
-        let Some(blank) = self.find_blank(rt, shared, place) else {
-            return Err(Refusal::Full);
-        };
-        match prepare(
-            alloc,
-            task.number,
-            &task.name,
-            params,
-            task.delay,
-            &task.script,
-        ) {
-            Ok(prepared) => self.submit(rt, shared, place, blank, prepared),
-            Err(NoMemory) => {
-                self.hand = Some(blank);
-                Err(Refusal::Enomem)
-            }
+        match self.find_blank(rt, shared, place) {
+            Some(blank) => self.admit_with(rt, alloc, shared, task, params, place, blank),
+            None => Err(Refusal::Full),
         }
     }
 

@@ -72,8 +72,8 @@ fn advance<N: Names, R: Threads + Wait>(
 ///
 /// # Errors
 /// [`EndFault::Full`] where the history of a domain has no room for the advance.
-/// [`EndFault::Memory`] where a growth was refused. The session is gone, and its tickets were given
-/// back.
+/// [`EndFault::Memory`] where a growth was refused. The session is gone, and no clause says what it
+/// left. Its tickets were given back.
 pub fn end_run<N: Names, R: Threads + Wait>(
     rt: &R,
     alloc: Global,

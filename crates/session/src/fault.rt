@@ -1,7 +1,6 @@
 //! Why a session's admissions, or the end of a run in it, were not made.
 
 use call_book::NoMemory;
-use std::alloc::AllocError;
 use thiserror::Error;
 
 /// Why the clients of a session could not admit their tasks.
@@ -15,14 +14,18 @@ pub enum AdmitFault {
     Memory,
 }
 
-impl From<AllocError> for AdmitFault {
+/// The system started no thread for a client: all that can be told once the first was started.
+#[derive(Clone, Copy, Debug, PartialEq, Eq)]
+pub(crate) struct NotStarted;
+
+impl From<NotStarted> for AdmitFault {
     ghost use Rattle.std.specs.Prelude.{◌≡◌};
-    ghost use Rattle.session.specs.declared.fault.AdmitFault.TheVariants.{Memory};
+    ghost use Rattle.session.specs.declared.fault.AdmitFault.TheVariants.{Start};
 
-    ghost from_gives = { λ _ fault. fault ≡ Memory };
+    ghost from_gives = { λ _ fault. fault ≡ Start };
 
-    fn from(_e: AllocError) -> AdmitFault {
-        AdmitFault::Memory
+    fn from(_e: NotStarted) -> AdmitFault {
+        AdmitFault::Start
     }
 }
 

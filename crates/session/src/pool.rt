@@ -1,15 +1,34 @@
+//! The pieces that no client and no domain holds, behind a lock that nobody outside this module can
+//! take.
+
 ghost use Rattle.std.specs.Prelude.{◌≡◌, All, IfSome};
 
 use crate::names::Names;
 use bw_gate::Blank;
 use std::marker::PhantomData;
+use std::sync::{Mutex, Wait};
 
-/// The pieces that no client and no domain holds.
+/// The pieces themselves.
 #[derive(Drop)]
-pub(crate) struct Pool<N: Names> {
+struct Stored<N: Names> {
     blanks: Vec<Blank>,
     of: PhantomData<N>,
     ghost own: { All (λ b. b.gate ≡ N.id.gate) blanks.items },
+}
+
+impl<N: Names> Stored<N> {
+    /// A piece, where there is one. Takes no memory.
+    fn take(&mut self) -> Option<Blank>
+        ensures { IfSome result (λ b. b.gate ≡ N.id.gate) }
+    {
+        self.blanks.pop()
+    }
+}
+
+/// The pieces that no client and no domain holds. Its lock is held while one is taken out.
+#[derive(Drop)]
+pub(crate) struct Pool<N: Names> {
+    stored: Mutex<Stored<N>>,
 }
 
 impl<N: Names> Pool<N> {
@@ -17,22 +36,25 @@ impl<N: Names> Pool<N> {
         requires { All (λ b. b.gate ≡ N.id.gate) blanks.items }
     {
         Pool {
-            blanks,
-            of: PhantomData,
+            stored: Mutex::new(Stored {
+                blanks,
+                of: PhantomData,
+            }),
         }
     }
 
     /// A piece, where there is one. Takes no memory.
-    pub(crate) fn take(&mut self) -> Option<Blank>
+    pub(crate) fn take<R: Wait>(&self, rt: &R) -> Option<Blank>
         ensures { IfSome result (λ b. b.gate ≡ N.id.gate) }
     {
-        self.blanks.pop()
+        self.stored.lock(rt).take()
     }
 
     pub(crate) fn into_blanks(self) -> Vec<Blank>
         ensures { All (λ b. b.gate ≡ N.id.gate) result.items }
     {
-        let Pool { blanks, of: _ } = self;
+        let Pool { stored } = self;
+        let Stored { blanks, of: _ } = stored.into_inner();
         blanks
     }
 }

@@ -16,7 +16,6 @@ use bw_gate::Gate;
 use call_book::{Domain, NoMemory};
 use std::alloc::Global;
 use std::marker::Model;
-use std::sync::Mutex;
 
 /// One gate with the domains that it admits to, each behind its own lock, a pool of pieces, and the
 /// clients that were not handed out yet. It is neither cloned nor dropped, but closed, since its
@@ -71,7 +70,7 @@ impl<N: Names> Session<N> {
             gate,
             cpu_sets,
             books: Books::new(&mut books),
-            pool: Mutex::new(Pool::new(pool)),
+            pool: Pool::new(pool),
         };
         Session {
             shared,
@@ -116,8 +115,8 @@ impl<N: Names> Session<N> {
 
     /// Ends the session: the books are closed and all pieces that the clients and the domains have
     /// go home to the gate. Each pass of these clients is compared with its book. [`NoMemory`]
-    /// (ENOMEM 12) where a growth was refused: the session is gone, and its tickets were given
-    /// back.
+    /// (ENOMEM 12) where a growth was refused: the session is gone, and no clause says what it
+    /// left. Its tickets were given back.
     pub fn close(self, alloc: Global, clients: Vec<Client<N>>) -> Result<Report, NoMemory>
         ensures { IfOk result (IsReport N.id clients.items) }
     {
@@ -145,7 +144,7 @@ impl<N: Names> Session<N> {
             shut(alloc, &gate, books);
             return Err(NoMemory);
         };
-        let mut blanks = pool.into_inner().into_blanks();
+        let mut blanks = pool.into_blanks();
         pour_waiting::<N>(&mut blanks, hands);
         Ok(Unlocked::new(gate, books, blanks, room))
     }

@@ -17,7 +17,7 @@ use attr_check::{Params, check};
 use bw_gate::{Blank, Gate};
 use rtapp_scenario::TaskSpec;
 use std::marker::Model;
-use std::sync::{Mutex, Wait};
+use std::sync::Wait;
 
 /// What all clients of a session share: one gate with the domains that it admits to, each behind
 /// its own lock, and a pool of pieces. Threads may borrow it side by side, each with a client of
@@ -27,7 +27,7 @@ pub struct Shared<N: Names> {
     pub(crate) gate: Gate,
     pub(crate) cpu_sets: Vec<Vec<u32>>,
     pub(crate) books: Books<N>,
-    pub(crate) pool: Mutex<Pool<N>>,
+    pub(crate) pool: Pool<N>,
 }
 
 impl<N: Names> Model for Shared<N> {
@@ -82,8 +82,7 @@ impl<N: Names> Shared<N> {
     pub(crate) fn find_blank<R: Wait>(&self, rt: &R, place: usize) -> Option<Blank>
         ensures { IfSome result (λ b. b ≡ piece_of N.id.gate None) }
     {
-        let pooled = self.pool.lock(rt).take();
-        let blank = match pooled {
+        let blank = match self.pool.take(rt) {
             Some(blank) => blank,
             None => self.books.spare_at(rt, place)?,
         };

@@ -17,6 +17,6 @@ loop-seat-preserved g c =
           let next : c.in-Some.seat ≡ get_or seats (vec_len old) s = let h = was.next 0 s in grind rules in
           subst (λ l. (get_or l k d).promise.seat.value ≡ get_or seats k s) (sym items)
           (by_place_more (λ j h. h.promise.seat.value ≡ get_or seats j s) old.items c.in_ok-start_one.field-0 (λ j h low. was.started j h s (omega (arith, low, old.ok.0)))
-          (c.in_ok-start_one.ensures.ok ∙ next ∙ ap (λ (m : ℕ). get_or seats m s) old.ok.0) k d (omega (arith, inside, c.push_reserved.new.self.ok.0, ap length items)));
+          (c.in_ok-start_one.ensures ∙ next ∙ ap (λ (m : ℕ). get_or seats m s) old.ok.0) k d (omega (arith, inside, c.push_reserved.new.self.ok.0, ap length items)));
       room = omega (arith, c.push_reserved.ensures.capacity, was.room);
     }
