@@ -52,6 +52,21 @@ fn plans() -> Result<[Plan; 3], AttrRefusal>
     Ok([half(4194304)?, half(551883)?, half(551884)?])
 }
 
+fn eight_plans() -> Result<[Plan; 8], AttrRefusal>
+    ensures { IfOk result (All IsPlannable) }
+{
+    Ok([
+        half(1)?,
+        half(2)?,
+        half(3)?,
+        half(4)?,
+        half(5)?,
+        half(6)?,
+        half(7)?,
+        half(8)?,
+    ])
+}
+
 const PLANNED: [(u64, u64); 3] = [(551883, 8), (551883, 1), (551883, 2)];
 
 fn outcomes(plans: &[Plan; 3]) -> [(u64, u64); 3] {
@@ -219,7 +234,12 @@ fn digit(piece: usize) -> usize {
         0 => 0x1,
         1 => 0x10,
         2 => 0x100,
-        _ => 0x1000,
+        3 => 0x1000,
+        4 => 0x10000,
+        5 => 0x100000,
+        6 => 0x1000000,
+        7 => 0x10000000,
+        _ => 0x100000000,
     }
 }
 
@@ -233,6 +253,20 @@ impl Turn for Tally {
     }
 }
 
+impl Tally {
+    fn new() -> Tally {
+        Tally {
+            begun: AtomicUsize::new(0),
+            ended: AtomicUsize::new(0),
+        }
+    }
+
+    fn told(&self) -> (usize, usize) {
+        let begun = self.begun.load(Ordering::SeqCst);
+        (begun, self.ended.load(Ordering::SeqCst))
+    }
+}
+
 fn turns_of<R: Threads + Wait>(
     rt: &R,
     alloc: Global,
@@ -242,15 +276,9 @@ fn turns_of<R: Threads + Wait>(
     requires some { 0 < workers }
     requires all { All IsChargeable all.old }
 {
-    let tally = Tally {
-        begun: AtomicUsize::new(0),
-        ended: AtomicUsize::new(0),
-    };
+    let tally = Tally::new();
     charge_all(rt, alloc, all, workers, &tally)?;
-    Ok((
-        tally.begun.load(Ordering::SeqCst),
-        tally.ended.load(Ordering::SeqCst),
-    ))
+    Ok(tally.told())
 }
 
 // With three slices, by so many workers.
@@ -264,6 +292,31 @@ fn turns_of_three<R: Threads + Wait>(
     turns_of(rt, alloc, &mut slices(), workers)
 }
 
+// With eight slices, by so many workers.
+fn turns_of_eight<R: Threads + Wait>(
+    rt: &R,
+    alloc: Global,
+    workers: usize,
+) -> Result<(usize, usize), StartFault>
+    requires { 0 < workers }
+{
+    let [a, b, c] = slices();
+    turns_of(rt, alloc, &mut [a, b, c, a, b, c, a, b], workers)
+}
+
+// With eight plans, by so many workers.
+fn turns_of_eight_plans<R: Threads + Wait>(
+    rt: &R,
+    alloc: Global,
+    workers: usize,
+) -> Result<(usize, usize), Fail>
+    requires { 0 < workers }
+{
+    let tally = Tally::new();
+    plan_all(rt, alloc, &mut eight_plans()?, workers, &tally)?;
+    Ok(tally.told())
+}
+
 // There are as many pieces as workers, but no more than elements.
 #[test]
 fn each_piece_has_one_turn(rt: HostRuntime) -> Result<(), Fail> {
@@ -272,6 +325,10 @@ fn each_piece_has_one_turn(rt: HostRuntime) -> Result<(), Fail> {
     assert_eq!(rt; turns_of_three(&rt, alloc, 2)?, (0x11, 0x11));
     assert_eq!(rt; turns_of_three(&rt, alloc, 8)?, (0x111, 0x111));
     assert_eq!(rt; turns_of(&rt, alloc, &mut [], 8)?, (0, 0));
+    for (workers, ones) in [(1, 0x1), (3, 0x111), (8, 0x11111111), (9, 0x11111111)] {
+        assert_eq!(rt; turns_of_eight(&rt, alloc, workers)?, (ones, ones));
+        assert_eq!(rt; turns_of_eight_plans(&rt, alloc, workers)?, (ones, ones));
+    }
     Ok(())
 }
 

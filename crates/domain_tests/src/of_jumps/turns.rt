@@ -1,11 +1,11 @@
 //! The turns of an advance: which are taken, in what order, and in whose thread.
 
 use super::by_workers::advanced;
-use super::{admitted, three};
-use crate::workers::UNIT;
+use super::{CARRYING, HALF_OF_8_US, admitted, single_ticks, three};
+use crate::workers::{UNIT, forever, once};
 use domain_run::State;
-use jump_run::Turn;
-use std::alloc::Global;
+use jump_run::{Silent, Turn};
+use std::alloc::{AllocError, Global};
 use std::fs;
 use std::io::Read;
 use std::sync::Wait;
@@ -68,6 +68,20 @@ fn turns_of_one_piece(rt: HostRuntime) -> Result<(), Fail> {
     Ok(())
 }
 
+/// Nothing comes due for 1000 us, so that these are one jump.
+#[test]
+fn one_jump_of_many_ticks(rt: HostRuntime) -> Result<(), Fail> {
+    let tasks = [once((1000, 2000, 2000), &CARRYING)];
+    for workers in [1, 2, 8] {
+        let mut state = admitted(rt.alloc(), 1, UNIT, &tasks)?;
+        assert_eq!(rt;
+            order_of(&rt, rt.alloc(), &mut state, 1000, workers),
+            0x1212
+        );
+    }
+    Ok(())
+}
+
 /// How often each piece was begun and ended: a hexadecimal digit for each, the lowest for piece 0.
 #[derive(Drop)]
 struct Tally {
@@ -80,7 +94,12 @@ fn digit(piece: usize) -> usize {
         0 => 0x1,
         1 => 0x10,
         2 => 0x100,
-        _ => 0x1000,
+        3 => 0x1000,
+        4 => 0x10000,
+        5 => 0x100000,
+        6 => 0x1000000,
+        7 => 0x10000000,
+        _ => 0x100000000,
     }
 }
 
@@ -94,13 +113,15 @@ impl Turn for Tally {
     }
 }
 
-/// The turns of one jump of three running tasks.
+/// The turns of one jump of so many running tasks, at most nine.
 fn tally_of<R: Threads + Wait>(
     rt: &R,
     alloc: Global,
+    tasks: usize,
     workers: usize,
 ) -> Result<(usize, usize), Fail> {
-    let mut state = admitted(alloc, 3, UNIT, &three())?;
+    let nine = [forever((4, 8, 8), &HALF_OF_8_US); 9];
+    let mut state = admitted(alloc, 9, UNIT, &nine[..tasks.min(9)])?;
     let tally = Tally {
         begun: AtomicUsize::new(0),
         ended: AtomicUsize::new(0),
@@ -114,10 +135,12 @@ fn tally_of<R: Threads + Wait>(
 #[test]
 fn pieces_of_each_step(rt: HostRuntime) -> Result<(), Fail> {
     let alloc = rt.alloc();
-    assert_eq!(rt; tally_of(&rt, alloc, 1)?, (0x2, 0x2));
-    assert_eq!(rt; tally_of(&rt, alloc, 2)?, (0x22, 0x22));
-    assert_eq!(rt; tally_of(&rt, alloc, 3)?, (0x222, 0x222));
-    assert_eq!(rt; tally_of(&rt, alloc, 8)?, (0x222, 0x222));
+    for (workers, twos) in [(1, 0x2), (2, 0x22), (3, 0x222), (8, 0x222)] {
+        assert_eq!(rt; tally_of(&rt, alloc, 3, workers)?, (twos, twos));
+    }
+    for (workers, twos) in [(1, 0x2), (3, 0x222), (8, 0x22222222), (9, 0x222222222)] {
+        assert_eq!(rt; tally_of(&rt, alloc, 9, workers)?, (twos, twos));
+    }
     Ok(())
 }
 
@@ -188,5 +211,28 @@ fn one_piece_in_the_callers_thread(rt: HostRuntime) -> Result<(), Fail> {
     assert_eq!(rt; turns_elsewhere(&rt, rt, alloc, 1, 8)?, 0);
     assert_eq!(rt; turns_elsewhere(&rt, rt, alloc, 3, 2)?, 8);
     assert_eq!(rt; turns_elsewhere(&rt, rt, alloc, 3, 8)?, 12);
+    Ok(())
+}
+
+/// Whether memory is there, behind ticks by one worker of a domain that has room for its switches.
+fn has_memory_behind_one_worker<R: Threads + Wait>(
+    rt: &R,
+    alloc: Global,
+    state: &mut State,
+) -> bool {
+    advanced(rt, alloc, state, 4, 1, &Silent);
+    let block: Result<Vec<u8>, AllocError> = Vec::with_capacity(alloc, 1);
+    block.is_ok()
+}
+
+/// A tick of an empty domain takes room for switches once. With the growth after that refused (`rt
+/// try --test --fail-alloc 8`) this fails at its assertion, since that growth is the one behind:
+/// one worker asked for none.
+#[test]
+fn one_worker_takes_no_memory(rt: HostRuntime) -> Result<(), Fail> {
+    let mut state = admitted(rt.alloc(), 1, UNIT, &[])?;
+    single_ticks(&mut state, 1)?;
+    let has_memory = has_memory_behind_one_worker(&rt, rt.alloc(), &mut state);
+    assert!(rt; has_memory);
     Ok(())
 }
