@@ -1,4 +1,4 @@
-use Rattle.std.proofs.Common.{ap, arith, sym}
+use Rattle.std.proofs.Common.{ap, sym}
 use Rattle.std.proofs.lemmas.List.Elements.{All-nil}
 use Rattle.domain_run.specs.private.Roster.{RosterView}
 use Rattle.domain_run.proofs.Homing.{standing_opened}
