@@ -3,3 +3,4 @@
 mod clients;
 mod opening;
 mod storm;
+mod turns;

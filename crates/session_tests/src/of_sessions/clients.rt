@@ -6,7 +6,7 @@ use attr_check::{Params, SchedAttr};
 use call_book::{Call, Entry, NoMemory, Section, read_calls};
 use rtapp_scenario::TaskSpec;
 use session::{Answer, Client, Names, Options, Parts, Print, Report, Session, Shares};
-use std::alloc::Global;
+use std::alloc::{AllocError, Global};
 use std::fmt::Write;
 use std::marker::Brand;
 use std::process::Abort;
@@ -216,6 +216,50 @@ fn full_book(rt: HostRuntime) -> Result<(), Fail> {
     let (said, report) = ran(&rt, rt.alloc(), text, 1)?;
     assert_eq!(rt; said.as_str(), "Admitted; Full 40; Full 40; Full 40; ");
     assert_eq!(rt; report.words.as_slice(), [262144].as_slice());
+    assert_eq!(rt; report.home, 257);
+    Ok(())
+}
+
+// A number is admitted once. That the book is full is found first.
+#[test]
+fn number_twice(rt: HostRuntime) -> Result<(), Fail> {
+    let text =
+        b"dlcalls 1\ndomain 1 1048576\nadmit 1 1 a 2 8 8 - 0 1:1{r2}\nadmit 1 1 b 2 8 8 - 0 1:1{r2}\nadmit 1 2 b 2 8 8 - 0 1:1{r2}\nadmit 1 1 c 2 8 8 - 0 1:1{r2}\n";
+    for (room, wanted) in [
+        (1024, "Admitted; Twice 41; Admitted; Twice 41; "),
+        (2, "Admitted; Twice 41; Admitted; Full 40; "),
+    ] {
+        let (said, report) = ran(&rt, rt.alloc(), text, room)?;
+        assert_eq!(rt; said.as_str(), wanted);
+        assert_eq!(rt; report.words.as_slice(), [524288].as_slice());
+        assert_eq!(rt; report.home, 257);
+    }
+    Ok(())
+}
+
+// The calls by which these tasks come and go: in the end none is listed.
+fn come_and_go(text: &mut String, first: u32, end: u32) -> Result<(), AllocError> {
+    for k in first..end {
+        write!(text, "admit 1 {k} t 2 1000000 1000000 - 0 -1:1{{r1,s9}}\n")?;
+    }
+    for k in first..end {
+        write!(text, "leave 1 {k}\n")?;
+    }
+    write!(text, "advance 1 4\n")
+}
+
+// 256 tasks come and go three times, with 257 pieces: the pieces of those that went are those of
+// who comes.
+#[test]
+fn pieces_come_round(rt: HostRuntime) -> Result<(), Fail> {
+    let mut text = String::from_str(rt.alloc(), "dlcalls 1\ndomain 1 996147\n")?;
+    for (first, end) in [(1, 257), (257, 513), (513, 769)] {
+        come_and_go(&mut text, first, end)?;
+    }
+    let (said, report) = ran(&rt, rt.alloc(), text.as_bytes(), 2048)?;
+    let answers = said.as_str().split("; ");
+    assert_eq!(rt; answers.filter(|answer| *answer == "Admitted").count(), 768);
+    assert_eq!(rt; report.words.as_slice(), [0].as_slice());
     assert_eq!(rt; report.home, 257);
     Ok(())
 }
