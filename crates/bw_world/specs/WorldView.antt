@@ -8,7 +8,7 @@ use Rattle.bw_world.specs.declared.ticket.Task.{Task}
 -- admitted tasks, each with its ticket; and the changes of its book, oldest first
 pub record DomainView : Type 0 where
   pub cap : ℕ
-  pub word : ℕ
+  pub used : ℕ
   pub in_hand : List Ticket
   pub admitted : List Task
   pub changes : List Change
