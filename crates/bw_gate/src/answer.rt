@@ -45,11 +45,33 @@ pub enum Regrade {
     },
 }
 
-/// The words of a closed gate.
+/// What [`Gate::try_limit`](crate::Gate::try_limit) answers.
+pub enum Limit {
+    /// The domain's word carries the new cap.
+    Set(Blank),
+    /// EBUSY 16: more is used of the word that was found than the new cap. The word is as it was.
+    Refused {
+        /// The blank, as it was but for what it found.
+        blank: Blank,
+        /// The word that was found.
+        seen: u64,
+    },
+    /// Another client changed the word between the two steps. The word is as that client left it.
+    Raced {
+        /// The blank, as it was but for what it found.
+        blank: Blank,
+        /// The word that the first step found.
+        expected: u64,
+        /// The word that the second step found.
+        seen: u64,
+    },
+}
+
+/// The used parts of the words of a closed gate.
 #[derive(Clone, Copy, Debug, PartialEq, Eq)]
 pub struct Words {
     /// How many domains the gate had.
     pub count: usize,
-    /// The word of each, in 1/2^20 of a CPU, and zeros behind.
+    /// What is used of the word of each, in 1/2^20 of a CPU, and zeros behind.
     pub word: [u64; 8],
 }

@@ -58,7 +58,7 @@ impl Model for Ticket {
     ghost invariant = { λ t. (t.seat.me.1 ≡ [])
         × (t.seat.me.0.pieces ≡ ticket t.domain t.bw ∷ [])
         × (t.last ≡ last_of t.seat.me.0.found)
-        × (t.domain < length t.seat.me.0.terms.caps)
+        × (t.domain < length t.seat.me.0.terms.cpus)
         × (t.bw ≤ unit) };
 }
 
@@ -82,7 +82,7 @@ impl Ticket {
     /// The domain of whose word it holds bandwidth, by its index from 0.
     pub fn domain(&self) -> usize
         ensures domain { result ≡ self.now.domain }
-        ensures inside { result < length self.now.gate.terms.caps }
+        ensures inside { result < length self.now.gate.terms.cpus }
     {
         self.domain
     }

@@ -73,8 +73,8 @@ refusal_of expected wanted d =
     else if nat_lt d.cap wanted then Some (Over (word_in d))
     else None
 
--- why the cap is not exchanged for another: the word is not the expected one, else more is used than
--- the other cap. A cap equal to what is used is granted. So a write to sched_rt_runtime_us is
+-- why the cap is not exchanged for another: the word is not the expected one, else more is used
+-- than the other cap. A cap equal to what is used is granted. So a write to sched_rt_runtime_us is
 -- answered, EBUSY where the tasks that are admitted would not fit (sched-deadline.rst, "System wide
 -- settings"; that Lost comes first is our own)
 abbrev pub limit_refusal_of : Word → ℕ → DomainView → Option Outcome
