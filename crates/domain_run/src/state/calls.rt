@@ -147,7 +147,7 @@ impl State {
         }
         match word {
             None => Reply::Set,
-            Some(seen) => Reply::Busy { seen },
+            Some(found) => Reply::Busy { seen: found },
         }
     }
 
