@@ -1,4 +1,4 @@
-use Rattle.std.proofs.Common.{◌<◌, ◌≤◌, ◌*◌, length, ap, arith}
+use Rattle.std.proofs.Common.{◌≡◌, ◌<◌, ◌*◌, length, ap, arith}
 use Rattle.bw_gate.specs.Pieces.{cpus_of}
 use Rattle.word_tests.proofs.Quarters.{quarters}
 use Rattle.word_tests.proofs.of_gates.threads.closed.Goals as goal
