@@ -29,6 +29,6 @@ fn limit_changes_the_rate(rt: HostRuntime) -> Result<(), Fail> {
         switch(7, 0, Some(1), PrevState::Preempted, None),
         switch(8, 0, None, PrevState::Running, Some(1)),
     ];
-    assert_eq!(rt; state.switches(), switches);
+    assert_eq!(rt; state.switches(), switches.as_slice());
     Ok(())
 }
