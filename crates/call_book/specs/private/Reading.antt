@@ -382,6 +382,11 @@ pub record AreSectionsOf (limits : Bool) (text rest : List ℕ) (sections : List
   pub most : length sections ≤ 8
   pub ends : length sections < 8 → LacksDomain rest
 
+-- they are all of the text, and what its header says of them
+abbrev pub is_whole : Bool → List ℕ → List SectionView → Bool
+is_whole limits rest sections =
+    length rest == 0 && not (length sections == 0) && (not limits || has_limit sections)
+
 -- ---- the first bad line of a text that is not of sections alone
 
 -- the last section has as many calls as it may have
@@ -390,10 +395,13 @@ last_full [] = false
 last_full (s ∷ []) = length s.entries == 65536
 last_full (s ∷ t ∷ sections) = last_full (t ∷ sections)
 
+-- and there are as many sections as a text may have
+abbrev pub is_full : List SectionView → Bool
+is_full sections = length sections == 8 && last_full sections
+
 -- the header has changes of a limit, these sections have none, and none can follow
 abbrev pub is_stuck : Bool → List SectionView → Bool
-is_stuck limits sections =
-    limits && not (has_limit sections) && (length sections == 8 && last_full sections)
+is_stuck limits sections = limits && not (has_limit sections) && is_full sections
 
 -- then the last of their lines is bad, and else the one behind it; the header is line 1
 abbrev pub bad_place : Bool → List SectionView → ℕ
