@@ -69,11 +69,7 @@ fn empty_and_bare_texts(rt: HostRuntime) -> Result<(), Fail> {
 
 /// The length of the first front of a text with another bad line than its last: an unfinished line
 /// is bad, and whole lines are a text from line `least` on.
-fn first_wrong_front(
-    alloc: Global,
-    text: &[u8],
-    least: u64,
-) -> Result<Option<usize>, CallsFault> {
+fn first_wrong_front(alloc: Global, text: &[u8], least: u64) -> Result<Option<usize>, CallsFault> {
     let mut lines: u64 = 0;
     for (i, b) in text.iter().enumerate() {
         let whole = lines >= least && text[..i].ends_with(b"\n");
@@ -91,10 +87,7 @@ fn first_wrong_front(
 #[test]
 fn fronts_of_a_text(rt: HostRuntime) -> Result<(), Fail> {
     for text in [THROTTLED, ALL_KINDS, TWO_SECTIONS] {
-        assert_eq!(rt;
-            first_wrong_front(rt.alloc(), text.as_bytes(), 2)?,
-            None
-        );
+        assert_eq!(rt; first_wrong_front(rt.alloc(), text.as_bytes(), 2)?, None);
     }
     Ok(())
 }

@@ -1,7 +1,7 @@
 -- Sections one after the other.
-use Rattle.std.proofs.Common.{◌≡◌, ℕ, ◌+◌, ◌≤◌, ◌<◌, eqb, Bool, false, List, [], ◌∷◌, ◌++◌, length, Some, None, refl, sym, ap, ◌∙◌, append_assoc, append-nil, arith, length-append}
+use Rattle.std.proofs.Common.{◌≡◌, ℕ, ◌+◌, ◌<◌, Bool, false, List, [], ◌∷◌, ◌++◌, length, Some, None, refl, sym, ap, ◌∙◌, append_assoc, length-append}
 use Rattle.std.specs.Prelude.{codes}
-use Rattle.std.specs.List.{AllByRecursion, flat_map}
+use Rattle.std.specs.List.{flat_map}
 use Rattle.std.proofs.lemmas.Grind.{flat_map-append}
 use Rattle.std.proofs.lemmas.List.Folds.{list_any-append}
 use Rattle.std.proofs.lemmas.Option.{some_pair_parts}
@@ -10,7 +10,7 @@ use Rattle.call_book.specs.declared.fault.PartFault.{PartFault}
 use Rattle.call_book.specs.declared.fault.PartFault.TheVariants.{Bad, Memory}
 use Rattle.call_book.specs.SectionView.{SectionView}
 use Rattle.call_book.specs.Spelling.{domain_line, section_lines, some_limit, has_limit, text_of}
-use Rattle.call_book.specs.private.Reading.{cut_at, domain_at, Fails, Knows, entries_text, AreEntries, IsSectionRead, IsFirstSection, LacksDomain, IsNoSection, sections_text, HasRoom, SectionsSoFar, AreSectionsOf, last_full}
+use Rattle.call_book.specs.private.Reading.{cut_at, domain_at, Fails, Knows, entries_text, AreEntries, IsSectionRead, IsFirstSection, LacksDomain, IsNoSection, sections_text, HasRoom, SectionsSoFar}
 use Rattle.call_book.proofs.Cuts.{cut_takes, cut_again}
 use Rattle.call_book.proofs.Lines.{domain_takes, domain_again, domain_lacks}
 use Rattle.call_book.proofs.Flags.{none_of}

@@ -1,5 +1,5 @@
 -- The first bad line of a text that is no sections'.
-use Rattle.std.proofs.Common.{◌≡◌, ℕ, zero, suc, ◌+◌, ◌-◌, ◌≤◌, ◌<◌, Bool, true, false, not, eqb, cond, ◌&&◌, ◌||◌, List, [], ◌∷◌, ◌++◌, ◌⊎◌, length, get_or, map, Option, Some, None, refl, sym, ap, subst, ◌∙◌, append_assoc, append-nil, inl, inr, arith, length-append}
+use Rattle.std.proofs.Common.{◌≡◌, ℕ, zero, suc, ◌+◌, ◌-◌, ◌≤◌, ◌<◌, Bool, true, false, not, eqb, cond, ◌&&◌, ◌||◌, List, [], ◌∷◌, ◌++◌, ◌⊎◌, length, get_or, map, Some, None, refl, sym, ap, subst, ◌∙◌, append_assoc, append-nil, inl, inr, arith, length-append}
 use Rattle.std.specs.Prelude.{codes}
 use Rattle.std.specs.List.{AllByRecursion, flat_map}
 use Rattle.std.specs.Str.{bytes_eq}
@@ -453,8 +453,8 @@ no_header text cut = bad_header text (λ limits after same. absurd (let f = sym 
 pub other_header : (text header rest : List ℕ) → cut_at 10 text ≡ Some (header, rest) → header_at header ≡ None → IsBadLine text 1
 other_header text header rest cut other = bad_header text
     (λ limits after same.
-        let is = (some_pair_parts header (header_line limits) rest after (sym cut ∙ ap (cut_at 10) same ∙ header_cut limits after)).0 in
-        absurd (let f = sym other ∙ ap header_at is ∙ header_again limits in cc))
+    let is = (some_pair_parts header (header_line limits) rest after (sym cut ∙ ap (cut_at 10) same ∙ header_cut limits after)).0 in
+    absurd (let f = sym other ∙ ap header_at is ∙ header_again limits in cc))
 
 pub header_first : (text header rest : List ℕ) (limits : Bool) → cut_at 10 text ≡ Some (header, rest) → header_at header ≡ Some limits → text ≡ header_line limits ++ (10 ∷ rest)
 header_first text header rest limits cut read = cut_takes 10 text (header, rest) cut ∙ ap (λ (h : List ℕ). h ++ (10 ∷ rest)) (header_takes header limits read)

@@ -55,11 +55,7 @@ fn entry_of(
 
 /// The entries at the front of a text, and the rest: from the first line on that is no entry's, or
 /// that is one too many.
-fn entries_of(
-    alloc: Global,
-    text: &[u8],
-    limits: bool,
-) -> Result<(Vec<Entry>, &[u8]), PartFault>
+fn entries_of(alloc: Global, text: &[u8], limits: bool) -> Result<(Vec<Entry>, &[u8]), PartFault>
     ensures found { IfOk result (λ p. AreEntries limits text.now p.1.now p.0.items) }
     ensures fault { IfErr result (λ e. e ≡ PartFault.Memory) }
 {
@@ -82,11 +78,7 @@ fn entries_of(
 }
 
 /// The section at the front of a text, and the rest, which does not go on with it.
-fn section_of(
-    alloc: Global,
-    text: &[u8],
-    limits: bool,
-) -> Result<(Section, &[u8]), PartFault>
+fn section_of(alloc: Global, text: &[u8], limits: bool) -> Result<(Section, &[u8]), PartFault>
     ensures found { IfOk result (λ p. IsFirstSection limits text.now p.1.now p.0) }
     ensures fault { IfErr result (IsNoSection text.now) }
 {
@@ -106,11 +98,7 @@ fn section_of(
 /// The sections at the front of a text, which stands behind the header, and the rest: from the
 /// first line on that neither goes on with the last of them nor is a domain's, or that is one too
 /// many.
-fn sections_of(
-    alloc: Global,
-    text: &[u8],
-    limits: bool,
-) -> Result<(Vec<Section>, &[u8]), PartFault>
+fn sections_of(alloc: Global, text: &[u8], limits: bool) -> Result<(Vec<Section>, &[u8]), PartFault>
     ensures found { IfOk result (λ p. AreSectionsOf limits text.now p.1.now p.0.items) }
     ensures fault { IfErr result (λ e. e ≡ PartFault.Memory) }
 {

@@ -70,12 +70,21 @@ fn bad_limits(rt: HostRuntime) -> Result<(), Fail> {
 fn header_of_another_text(rt: HostRuntime) -> Result<(), Fail> {
     for (text, want) in [
         ("dlcalls 1\ndomain 1 1048576\nlimit 1 1048576\n", 3),
-        ("dlcalls 1\ndomain 1 1048576\nwake 1 1\nlimit 1 10485 busy 1\nwake 1 0\n", 4),
+        (
+            "dlcalls 1\ndomain 1 1048576\nwake 1 1\nlimit 1 10485 busy 1\nwake 1 0\n",
+            4,
+        ),
         ("dlcalls 2\n", 2),
         ("dlcalls 2\ndomain 1 1048576\n", 3),
         ("dlcalls 2\ndomain 1 1048576\nadvance 1 1\n", 4),
-        ("dlcalls 2\ndomain 1 1048576\nadvance 1 1\nwake 1 0\nlimit 1 10485\n", 4),
-        ("dlcalls 2\ndomain 1 1048576\nadvance 1 1\ndomain 1 1048576\nwake 1 1\n", 6),
+        (
+            "dlcalls 2\ndomain 1 1048576\nadvance 1 1\nwake 1 0\nlimit 1 10485\n",
+            4,
+        ),
+        (
+            "dlcalls 2\ndomain 1 1048576\nadvance 1 1\ndomain 1 1048576\nwake 1 1\n",
+            6,
+        ),
     ] {
         assert_eq!(rt; bad_line(rt.alloc(), text.as_bytes())?, want, "{text}");
     }
@@ -112,7 +121,11 @@ fn no_room_for_a_limit(rt: HostRuntime) -> Result<(), Fail> {
         ("limit 1 10485\n", 65536, "wake 1 1\n", 65547),
     ] {
         let text = eight(rt.alloc(), first, count, last)?;
-        assert_eq!(rt; bad_line(rt.alloc(), text.as_slice())?, want, "{count} calls");
+        assert_eq!(rt;
+            bad_line(rt.alloc(), text.as_slice())?,
+            want,
+            "{count} calls"
+        );
     }
     Ok(())
 }

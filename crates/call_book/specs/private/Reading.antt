@@ -14,8 +14,6 @@ use Rattle.domain_run.specs.declared.call.Call.{Call}
 use Rattle.domain_run.specs.declared.call.Call.TheVariants.{Admit, Regrade, Wake, Leave, Advance, Limit}
 use Rattle.call_book.specs.declared.fault.PartFault.{PartFault}
 use Rattle.call_book.specs.declared.fault.PartFault.TheVariants.{Bad, Memory}
-use Rattle.call_book.specs.declared.fault.CallsFault.{CallsFault}
-use Rattle.call_book.specs.declared.fault.CallsFault.TheVariants as faults
 use Rattle.call_book.specs.declared.times.Times.{Times}
 use Rattle.call_book.specs.declared.section.Entry.{Entry}
 use Rattle.call_book.specs.SectionView.{SectionView}
@@ -241,7 +239,7 @@ unfoldable pub change_at : List ℕ → Option (ℕ × Option ℕ)
 change_at text =
     option_map_or
     (λ p. number_within_at 10485 1048576 p.0 >>= λ limit. seen_at p.1
-          >>= λ seen. change limit (Some seen))
+    >>= λ seen. change limit (Some seen))
     (cut_at 32 text) (number_within_at 10485 1048576 text >>= λ limit. change limit None)
 
 -- what follows the client in a change of the limit

@@ -1,5 +1,5 @@
 use Rattle.std.proofs.Common.{◌∷◌, [], arith, length-append}
-use Rattle.call_book.proofs.SectionSteps.{section_more, sections_start}
+use Rattle.call_book.proofs.SectionSteps.{section_more}
 use Rattle.call_book.proofs.reading.sections_of.Goals as goal
 
 pub loop-preserved : goal.loop-preserved
