@@ -6,8 +6,7 @@ use Rattle.attr_check.specs.Accepted.{accepted}
 use Rattle.domain_run.specs.NameView.{IsName}
 use Rattle.domain_run.specs.script.ScriptView.{ScriptView, IsScript}
 use Rattle.domain_run.specs.declared.call.Call.{Call}
-use Rattle.domain_run.specs.declared.call.Call.TheVariants.{Admit, Regrade, Wake, Leave, Advance, Limit}
-use Rattle.domain_run.specs.Domain.{IsLimit}
+use Rattle.domain_run.specs.declared.call.Call.TheVariants.{Admit, Regrade, Wake, Leave, Advance}
 use Rattle.call_book.specs.declared.section.Entry.{Entry}
 use Rattle.call_book.specs.SectionView.{SectionView}
 use Rattle.call_book.specs.OwnCalls.{IsNumbered}
@@ -51,7 +50,6 @@ IsCall (Regrade number params word) =
 IsCall (Wake number) = IsNumber number
 IsCall (Leave number) = IsNumber number
 IsCall (Advance ticks) = (0 < ticks) × (ticks ≤ 60000000)
-IsCall (Limit limit word) = IsLimit limit × IfSome word (λ seen. seen ≤ 2 ^ 26)
 
 -- ---- entries
 

@@ -6,7 +6,7 @@ use Rattle.domain_run.specs.declared.script.Event.{Event}
 use Rattle.domain_run.specs.declared.script.Event.TheVariants.{Run, Sleep, Timer, Wait}
 use Rattle.domain_run.specs.script.ScriptView.{PhaseView, ScriptView}
 use Rattle.domain_run.specs.declared.call.Call.{Call}
-use Rattle.domain_run.specs.declared.call.Call.TheVariants.{Admit, Regrade, Wake, Leave, Advance, Limit}
+use Rattle.domain_run.specs.declared.call.Call.TheVariants.{Admit, Regrade, Wake, Leave, Advance}
 use Rattle.call_book.specs.declared.section.Entry.{Entry}
 use Rattle.call_book.specs.SectionView.{SectionView}
 
@@ -63,8 +63,6 @@ call_fields client (Regrade number params word) =
 call_fields client (Wake number) = codes "wake" ∷ decimal client ∷ decimal number ∷ []
 call_fields client (Leave number) = codes "leave" ∷ decimal client ∷ decimal number ∷ []
 call_fields client (Advance ticks) = codes "advance" ∷ decimal client ∷ decimal ticks ∷ []
-call_fields client (Limit limit word) =
-    codes "limit" ∷ decimal client ∷ decimal limit ∷ busy_fields word
 
 -- neither the sequence number nor the reply is written
 abbrev pub entry_line : Entry → List ℕ

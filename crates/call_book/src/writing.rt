@@ -176,10 +176,6 @@ fn put_call(out: &mut Vec<u8>, client: u32, call: &Call) -> Result<(), NoMemory>
         Call::Wake { number } => put_head(out, b"wake", client, u64::from(*number)),
         Call::Leave { number } => put_head(out, b"leave", client, u64::from(*number)),
         Call::Advance { ticks } => put_head(out, b"advance", client, *ticks),
-        Call::Limit { limit, word } => {
-            put_head(out, b"limit", client, *limit)?;
-            put_busy(out, *word)
-        }
     }
 }
 
