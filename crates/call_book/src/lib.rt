@@ -16,6 +16,7 @@
 mod book;
 mod cut;
 mod fault;
+mod header;
 mod line_text;
 mod number;
 mod reading;
