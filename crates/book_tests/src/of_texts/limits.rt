@@ -65,27 +65,26 @@ fn bad_limits(rt: HostRuntime) -> Result<(), Fail> {
     Ok(())
 }
 
-/// The header does not fit: a change behind `dlcalls 1`, and none behind `dlcalls 2`.
+/// A change behind `dlcalls 1`, and none behind `dlcalls 2`, each with its bad line.
+const OTHER_HEADERS: [(&str, u64); 7] = [
+    ("dlcalls 1\ndomain 1 1048576\nlimit 1 1048576\n", 3),
+    (
+        "dlcalls 1\ndomain 1 1048576\nwake 1 1\nlimit 1 10485 busy 1\n",
+        4,
+    ),
+    ("dlcalls 2\n", 2),
+    ("dlcalls 2\ndomain 1 1048576\n", 3),
+    ("dlcalls 2\ndomain 1 1048576\nadvance 1 1\n", 4),
+    ("dlcalls 2\ndomain 1 1048576\nadvance 1 1\nwake 1 0\n", 4),
+    (
+        "dlcalls 2\ndomain 1 10485\nwake 1 1\ndomain 1 10485\nwake 1 1\n",
+        6,
+    ),
+];
+
 #[test]
 fn header_of_another_text(rt: HostRuntime) -> Result<(), Fail> {
-    for (text, want) in [
-        ("dlcalls 1\ndomain 1 1048576\nlimit 1 1048576\n", 3),
-        (
-            "dlcalls 1\ndomain 1 1048576\nwake 1 1\nlimit 1 10485 busy 1\nwake 1 0\n",
-            4,
-        ),
-        ("dlcalls 2\n", 2),
-        ("dlcalls 2\ndomain 1 1048576\n", 3),
-        ("dlcalls 2\ndomain 1 1048576\nadvance 1 1\n", 4),
-        (
-            "dlcalls 2\ndomain 1 1048576\nadvance 1 1\nwake 1 0\nlimit 1 10485\n",
-            4,
-        ),
-        (
-            "dlcalls 2\ndomain 1 1048576\nadvance 1 1\ndomain 1 1048576\nwake 1 1\n",
-            6,
-        ),
-    ] {
+    for (text, want) in OTHER_HEADERS {
         assert_eq!(rt; bad_line(rt.alloc(), text.as_bytes())?, want, "{text}");
     }
     Ok(())
@@ -106,20 +105,23 @@ fn eight(alloc: Global, first: &str, count: u64, last: &str) -> Result<Vec<u8>, 
     Ok(text)
 }
 
-/// Where no change of a limit can follow any more, the last line is the bad one.
+/// Lines of the first section, how many calls the eighth has, the lines behind them, and the bad
+/// line: the last where no change of a limit can follow it, 0 where the text is read.
+const ENDINGS: [(&str, u64, &str, u64); 9] = [
+    ("", 0, "", 10),
+    ("", 65535, "", 65545),
+    ("", 65536, "", 65545),
+    ("", 65536, "wake 1 1\n", 65545),
+    ("", 65536, "limit 1 10485\n", 65545),
+    ("", 65535, "limit 1 10485\n", 0),
+    ("", 65535, "limit 1 10485\nwake 1 1\n", 65546),
+    ("limit 1 10485\n", 65536, "", 0),
+    ("limit 1 10485\n", 65536, "wake 1 1\n", 65547),
+];
+
 #[test]
 fn no_room_for_a_limit(rt: HostRuntime) -> Result<(), Fail> {
-    for (first, count, last, want) in [
-        ("", 0, "", 10),
-        ("", 65535, "", 65545),
-        ("", 65536, "", 65545),
-        ("", 65536, "wake 1 1\n", 65545),
-        ("", 65536, "limit 1 10485\n", 65545),
-        ("", 65535, "limit 1 10485\n", 0),
-        ("", 65535, "limit 1 10485\nwake 1 1\n", 65546),
-        ("limit 1 10485\n", 65536, "", 0),
-        ("limit 1 10485\n", 65536, "wake 1 1\n", 65547),
-    ] {
+    for (first, count, last, want) in ENDINGS {
         let text = eight(rt.alloc(), first, count, last)?;
         assert_eq!(rt;
             bad_line(rt.alloc(), text.as_slice())?,
