@@ -87,6 +87,7 @@ none_asked gate d bw None replies.Admitted other none is differ = tt
 none_asked gate d bw None replies.Woken other none is differ = tt
 none_asked gate d bw None replies.Left other none is differ = tt
 none_asked gate d bw None (replies.Done n) other none is differ = tt
+none_asked gate d bw None replies.Set other none is differ = tt
 none_asked gate d bw None replies.Full other none is differ = tt
 none_asked gate d bw None replies.Twice other none is differ = tt
 none_asked gate d bw None (replies.Busy seen) other none is differ = tt

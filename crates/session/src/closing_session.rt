@@ -155,6 +155,7 @@ pub(crate) struct Room {
     histories: Vec<Section>,
     states: Vec<State>,
     words: Vec<u64>,
+    caps: Vec<u64>,
     refused: Vec<(u32, Refusal)>,
 }
 
@@ -167,6 +168,7 @@ impl Room {
         let histories = Vec::with_capacity(alloc, domains)?;
         let states = Vec::with_capacity(alloc, domains)?;
         let words = Vec::with_capacity(alloc, domains)?;
+        let caps = Vec::with_capacity(alloc, domains)?;
         let Ok(tickets) = Vec::with_capacity(alloc, domains * PIECES) else {
             return Err(NoMemory);
         };
@@ -175,6 +177,7 @@ impl Room {
             histories,
             states,
             words,
+            caps,
             refused: Vec::new(alloc),
         })
     }
@@ -216,17 +219,17 @@ pub(crate) fn pour_waiting<N: Names>(home: &mut Vec<Blank>, mut hands: Vec<Optio
     }
 }
 
-/// The words of a closed gate.
-fn put_words(closed: &Words, words: &mut Vec<u64>)
-    requires empty { words.old.items ≡ [] }
-    requires count { closed.now.count ≤ 8 }
-    requires room { closed.now.count ≤ vec_capacity words.old }
-    ensures count { length words.new.items ≡ closed.now.count }
-    ensures words { (d : ℕ) → d < closed.now.count →
-        slice_index words.new.items d ≡ slice_index closed.now.word d }
+/// The first so many numbers of a row: what is used of the words of a closed gate, or their caps.
+fn put_row(row: &[u64; 8], count: usize, numbers: &mut Vec<u64>)
+    requires empty { numbers.old.items ≡ [] }
+    requires count { count ≤ 8 }
+    requires room { count ≤ vec_capacity numbers.old }
+    ensures count { length numbers.new.items ≡ count }
+    ensures numbers { (d : ℕ) → d < count →
+        slice_index numbers.new.items d ≡ slice_index row.now d }
 {
-    for d in 0..closed.count {
-        words.push_reserved(closed.word[d]);
+    for d in 0..count {
+        numbers.push_reserved(row[d]);
     }
 }
 
@@ -281,6 +284,7 @@ impl<N: Names> Unlocked<N> {
             mut histories,
             mut states,
             mut words,
+            mut caps,
             refused,
         } = room;
         let mut home = Home {
@@ -303,11 +307,14 @@ impl<N: Names> Unlocked<N> {
         } = home;
         pour_hands(&mut blanks, clients);
         let home = blanks.len() + tickets.len();
-        put_words(&gate.close(blanks, tickets), &mut words);
+        let Words { count, word, cap } = gate.close(blanks, tickets);
+        put_row(&word, count, &mut words);
+        put_row(&cap, count, &mut caps);
         let report = Report {
             histories,
             refused,
             words,
+            caps,
             home,
         };
         Finished { report, states }

@@ -2,7 +2,7 @@ use Rattle.std.proofs.Common.{ap, refl}
 use Rattle.call_book.specs.Book.{admission}
 use Rattle.session.specs.declared.refusal.Refusal.TheVariants as refusals
 use Rattle.session.specs.Asks.{ClientView}
-use Rattle.session.proofs.Asked.{refused_makes, last_seen}
+use Rattle.session.proofs.Asked.{refused_makes, last_seen, gate_over, gate_refused}
 use Rattle.session.proofs.client.Client.submit.Goals as goal
 
 pub returns-in-Refused-clause-made : goal.returns-in-Refused-clause-made
