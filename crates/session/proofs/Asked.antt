@@ -1,6 +1,6 @@
 -- What a client is answered, and what its passes have then.
 use Rattle.std.proofs.Common.{◌≡◌, ◌≢◌, ℕ, ◌+◌, ◌<◌, Bool, true, false, not, cond, eqb, List, [], ◌∷◌, ◌++◌, length, map, set, get_or, Option, Some, None, Ok, Err, refl, sym, ap, subst, ◌∙◌, arith}
-use Rattle.std.specs.Prelude.{slice_index_or, position, nat_lt, IfSome, IsSome, IsSomeAnd}
+use Rattle.std.specs.Prelude.{slice_index_or, position, nat_lt, IfSome, IsSome, IsSomeAnd, IfOk, IfErr}
 use Rattle.std.specs.List.{position_or_len, prefix_len, cons_option}
 use Rattle.std.proofs.lemmas.Bool.{ltb-true, eqb-true, eqb-false}
 use Rattle.std.proofs.lemmas.Option.{same_Some}
@@ -22,12 +22,12 @@ use Rattle.call_book.specs.declared.section.Entry.{Entry}
 use Rattle.session.specs.declared.refusal.Refusal.{Refusal}
 use Rattle.session.specs.declared.refusal.Refusal.TheVariants as refusals
 use Rattle.session.specs.SessionId.{SessionId, IsSession, IsDomainIndex, cpus_of}
-use Rattle.session.specs.Asks.{Answer, IsOverCap, IsLawful, Goes, domain_of, same_cpus, call_of, ClientView, Asks, Makes, made_by, made_in, made_of, made_at, Made, entries_from, pass_in, piece_of, IsGateRefusal, IsGivenBackAfter, AsksGate, IsHandAfter}
+use Rattle.session.specs.Asks.{Answer, IsOverCap, IsLawful, Goes, domain_of, same_cpus, call_of, ClientView, Asks, Makes, made_by, made_in, made_of, made_at, Made, entries_from, pass_in, piece_of, IsGateRefusal, IsGivenBackAfter, AsksGate, IsHandAfter, IsLimitReply, IsHandUnasked, MakesLimit}
 use Rattle.call_book.specs.Book.{admission}
 use Rattle.domain_run.specs.declared.call.Call.TheVariants as calls
 use Rattle.session.specs.declared.locked_book.Ask.{Ask}
 use Rattle.session.specs.declared.locked_book.Ask.TheVariants as asks
-use Rattle.session.specs.private.Entering.{IsVerdict, IsBookVerdict, IsGivenBack, NoneIsKept, pass_after, IsDone, IsDoneFor, IsAdvancedBy, IsAdvancedFor}
+use Rattle.session.specs.private.Entering.{IsVerdict, IsBookVerdict, IsGivenBack, NoneIsKept, pass_after, IsDone, IsDoneFor, MakesLimitWith, IsAdvancedBy, IsAdvancedFor}
 
 -- ---- attributes
 
@@ -275,6 +275,31 @@ advanced_for d c e p q n (Err refusals.Eperm) m done = absurd done
 advanced_for d c e p q n (Err refusals.Twice) m done = absurd done
 advanced_for d c e p q n (Err (refusals.Einval k)) m done = absurd done
 advanced_for d c e p q n (Err (refusals.Busy seen)) m done = absurd done
+
+-- ---- a change of the limit
+
+hand_unasked : (gate : GateId) (hand next : Option BlankView) (piece : BlankView) (answer : Answer) → piece ≡ piece_of gate hand → IfErr answer (λ _. next ≡ Some piece) → IfErr answer (λ _. IsHandUnasked gate hand next)
+hand_unasked gate hand next piece (Ok reply) is same = tt
+hand_unasked gate hand next piece (Err refusal) is same = subst (λ (h : Option BlankView). IsHandUnasked gate hand h) (sym same) is
+
+-- by a piece that was found for it
+pub limit_made : (id : SessionId) (c e : ClientView) (d limit : ℕ) (piece : BlankView) (answer : Answer) → piece ≡ piece_of id.gate c.hand
+    → MakesLimitWith id (record c { hand = None }) e d limit piece answer → MakesLimit id c e d limit answer
+limit_made id c e d limit piece answer is m = record {
+  word = m.word;
+  made = record { number = m.made.number; domains = m.made.domains; passes = m.made.passes };
+  reply = subst (λ (b : BlankView). IfOk answer (IsLimitReply d (length (cpus_of id d)) id.limit limit b m.word e.hand)) is m.reply;
+  unasked = hand_unasked id.gate c.hand e.hand piece answer is m.unasked;
+}
+
+-- without one
+pub limit_unmade : (id : SessionId) (c : ClientView) (d limit : ℕ) → c.hand ≡ None → MakesLimit id c (record c { hand = None }) d limit (Err refusals.Full)
+limit_unmade id c d limit none = record {
+  word = None;
+  made = refused_makes c (record c { hand = None }) d (calls.Limit limit None) refusals.Full refl refl;
+  reply = tt;
+  unasked = none;
+}
 
 -- ---- admissions
 

@@ -3,6 +3,7 @@
 ghost use Rattle.std.specs.Prelude.{◌≡◌, Some, None, IfSome, IfNone, IfErr, OnOk, IsSome, Ok, Err, [], ◌∷◌, length};
 ghost use Rattle.attr_check.specs.Accepted.{accepted, params_of};
 ghost use Rattle.domain_run.specs.declared.call.Call.TheVariants as calls;
+ghost use Rattle.domain_run.specs.Domain.{IsLimit};
 ghost use Rattle.call_book.specs.Limits.{IsCall};
 ghost use Rattle.call_book.specs.Book.{IsMember, IsFull, admission, own_entries};
 ghost use Rattle.session.specs.SessionId.{IsSession, IsDomainIndex, cpus_of, spine_of};
@@ -428,7 +429,7 @@ impl<N: Names> Client<N> {
         limit: u64,
     ) -> Answer
         requires domain { IsDomainIndex N.id domain }
-        requires call { IsCall (calls.Limit limit None) }
+        requires limit { IsLimit limit }
         ensures made { MakesLimit N.id self.old self.new domain limit result }
         ensures full { RefusesOnlyFull result }
     {

@@ -78,15 +78,18 @@ struct Ended {
     state: State,
 }
 
-/// Closes a book: its history and its state, and its pieces go home.
+/// Closes a book, which was opened with this limit: its history and its state, and its pieces go
+/// home.
 fn close_book<N: Names>(
     alloc: Global,
     mut domain: Domain,
     clients: &mut Vec<Client<N>>,
     place: usize,
+    limit: u64,
     home: &mut Home<N>,
 ) -> Ended
     requires session { IsSession N.id }
+    requires limit { limit ≡ N.id.limit }
     requires named { IsSessionBook N.id place domain }
     requires room { length home.old.tickets.items + 256 ≤ vec_capacity home.old.tickets }
     ensures history { IsHistoryOf N.id place clients.new.items result.history }
@@ -110,7 +113,7 @@ fn close_book<N: Names>(
     pour_blanks::<N>(&mut home.blanks, blanks);
     let history = Section {
         cpus: state.cpus(),
-        limit: state.limit(),
+        limit,
         entries,
     };
     Ended { history, state }
@@ -120,12 +123,14 @@ fn close_book<N: Names>(
 fn close_all<N: Names>(
     alloc: Global,
     books: Vec<Domain>,
+    limit: u64,
     clients: &mut Vec<Client<N>>,
     home: &mut Home<N>,
     histories: &mut Vec<Section>,
     states: &mut Vec<State>,
 )
     requires session { IsSession N.id }
+    requires limit { limit ≡ N.id.limit }
     requires named { AreSessionBooks N.id books.items }
     requires count { length books.items ≡ length N.id.cpu_sets }
     requires pieces { home.old.tickets.items ≡ [] }
@@ -142,7 +147,8 @@ fn close_all<N: Names>(
     let mut rest = books.into_iter();
     while let Some(domain) = rest.next() {
         let place = histories.len();
-        let Ended { history, state } = close_book(alloc, domain, clients, place, home);
+        let Ended { history, state } =
+            close_book(alloc, domain, clients, place, limit, home);
         histories.push_reserved(history);
         states.push_reserved(state);
     }
@@ -238,10 +244,12 @@ fn put_row(row: &[u64; 8], count: usize, numbers: &mut Vec<u64>)
 pub(crate) struct Unlocked<N: Names> {
     pub(crate) gate: Gate,
     pub(crate) books: Vec<Domain>,
+    limit: u64,
     blanks: Vec<Blank>,
     room: Room,
     of: PhantomData<N>,
     ghost session: { IsSession N.id },
+    ghost same_limit: { limit ≡ N.id.limit },
     ghost same_gate: { gate ≡ N.id.gate },
     ghost count: { length books.items ≡ length N.id.cpu_sets },
     ghost named: { AreSessionBooks N.id books.items },
@@ -250,8 +258,15 @@ pub(crate) struct Unlocked<N: Names> {
 }
 
 impl<N: Names> Unlocked<N> {
-    pub(crate) fn new(gate: Gate, books: Vec<Domain>, blanks: Vec<Blank>, room: Room) -> Unlocked<N>
+    pub(crate) fn new(
+        gate: Gate,
+        books: Vec<Domain>,
+        limit: u64,
+        blanks: Vec<Blank>,
+        room: Room,
+    ) -> Unlocked<N>
         requires session { IsSession N.id }
+        requires limit { limit ≡ N.id.limit }
         requires gate { gate ≡ N.id.gate }
         requires count { length books.items ≡ length N.id.cpu_sets }
         requires named { AreSessionBooks N.id books.items }
@@ -261,6 +276,7 @@ impl<N: Names> Unlocked<N> {
         Unlocked {
             gate,
             books,
+            limit,
             blanks,
             room,
             of: PhantomData,
@@ -275,6 +291,7 @@ impl<N: Names> Unlocked<N> {
         let Unlocked {
             gate,
             books,
+            limit,
             blanks,
             room,
             of: _,
@@ -295,6 +312,7 @@ impl<N: Names> Unlocked<N> {
         close_all(
             alloc,
             books,
+            limit,
             &mut clients,
             &mut home,
             &mut histories,

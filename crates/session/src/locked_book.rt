@@ -2,6 +2,7 @@
 
 ghost use Rattle.std.specs.Prelude.{◌≡◌, None, IfSome, IsSome, IfOk, IfErr, Ok, Err};
 ghost use Rattle.domain_run.specs.declared.call.Call.TheVariants as calls;
+ghost use Rattle.domain_run.specs.Domain.{IsLimit};
 ghost use Rattle.call_book.specs.Book.{IsPassOf, IsMember};
 ghost use Rattle.call_book.specs.Limits.{IsCall};
 ghost use Rattle.call_book.specs.Pieces.{IsTicketOf};
@@ -150,7 +151,7 @@ fn set_limit<R: Wait>(
     requires gate { gate.now ≡ domain.old.gate }
     requires pass { IsPassOf domain.old pass.old }
     requires blank { blank.gate ≡ gate.now }
-    requires call { IsCall (calls.Limit limit None) }
+    requires limit { IsLimit limit }
     ensures same { SameBook domain.old domain.new }
     ensures limited { IsLimitedBy domain.old.domain domain.old.cpus domain.old.limit
         pass.old pass.new blank limit result.answer result.blank }

@@ -7,6 +7,7 @@ use Rattle.bw_gate.specs.Answers.{IsGive}
 use Rattle.domain_run.specs.declared.call.Call.{Call}
 use Rattle.domain_run.specs.declared.call.Call.TheVariants as calls
 use Rattle.domain_run.specs.declared.call.Reply.TheVariants as replies
+use Rattle.domain_run.specs.Domain.{IsLimit}
 use Rattle.call_book.specs.declared.section.Entry.{Entry}
 use Rattle.call_book.specs.Pieces.{IsTicketOf}
 use Rattle.call_book.specs.Limits.{IsCall}
@@ -52,8 +53,7 @@ IsAsk id d (asks.Admit prepared ticket) =
 IsAsk id d (asks.Regrade number params) = IsCall (calls.Regrade number params None)
 IsAsk id d (asks.Wake number) = IsCall (calls.Wake number)
 IsAsk id d (asks.Leave number) = IsCall (calls.Leave number)
-IsAsk id d (asks.Limit blank limit) =
-    (blank.gate ≡ id.gate) × IsCall (calls.Limit limit None)
+IsAsk id d (asks.Limit blank limit) = (blank.gate ≡ id.gate) × IsLimit limit
 
 -- the pass has the entry of a call where there is a reply, and is as it was where there is none
 abbrev pub pass_after : PassView Entry → Call → Answer → PassView Entry
