@@ -2,7 +2,7 @@
 use Rattle.std.proofs.Common.{◌≡◌, ◌≢◌, ◌≤◌, ◌<◌, ℕ, ◌+◌, ◌-◌, ◌*◌, ◌%◌, ◌^◌, ◌==◌, Bool, true, false, List, [], ◌∷◌, ◌++◌, length, set, get_or, take, drop, sym, refl, ap, ◌∙◌, subst, arith, eq-eqb, ne_eqb}
 use Rattle.std.specs.Prelude.{MatchBool, slice_index}
 use Rattle.std.specs.List.{sum_by}
-use Rattle.std.proofs.Math.Nat.{add-mul-mod_self_left, mul-le-mul_left}
+use Rattle.std.proofs.Math.Nat.{add-mul-mod_self_left}
 use Rattle.std.proofs.Math.Decide.{dec_lt}
 use Rattle.std.proofs.lemmas.List.{length-set, length-append, length-replicate, take-append-drop, get_or-set_same, get_or-set_other}
 use Rattle.std.proofs.lemmas.List.Elements.{All-set, All-push, All-cons}
@@ -271,16 +271,13 @@ ends terms words views id v d kept at = (
   (λ all. kept.exact d ∙ alone d views id v at (kept.pieces ∙ sym all)),
 )
 
--- what is used is at most so many whole CPUs
+-- what is used is at most the cap, where there is no domain too
 module _ (terms : TermsView) (words : List ℕ) (views : List View) (d : ℕ) (kept : IsKept terms words views) where
-  used_by_case : Dec (d < length terms.cpus) → used_of (slice_index words d) ≤ cpus_in terms d * 1048576
-  used_by_case (yes lt) =
-      let word = kept.sound d lt in
-      let most : cpus_in terms d * word.cap.limit ≤ cpus_in terms d * 1048576 = mul-le-mul_left (cpus_in terms d) word.cap.a_limit.most in
-      omega (arith, word.within, word.cap.product, most)
-  used_by_case (no ge) =
+  within_by_case : Dec (d < length terms.cpus) → used_of (slice_index words d) ≤ cap_of (slice_index words d)
+  within_by_case (yes lt) = (kept.sound d lt).within
+  within_by_case (no ge) =
       let none = ap used_of (past_end words d (omega (arith, kept.count, ge))) in
       omega (arith, none)
 
-  pub used_within : used_of (slice_index words d) ≤ cpus_in terms d * 1048576
-  used_within = used_by_case (dec_lt d (length terms.cpus))
+  pub within : used_of (slice_index words d) ≤ cap_of (slice_index words d)
+  within = within_by_case (dec_lt d (length terms.cpus))

@@ -67,11 +67,13 @@ pub enum Limit {
     },
 }
 
-/// The used parts of the words of a closed gate.
+/// The two parts of the words of a closed gate.
 #[derive(Clone, Copy, Debug, PartialEq, Eq)]
 pub struct Words {
     /// How many domains the gate had.
     pub count: usize,
     /// What is used of the word of each, in 1/2^20 of a CPU, and zeros behind.
     pub word: [u64; 8],
+    /// The cap that the word of each carries, in 1/2^20 of a CPU, and zeros behind.
+    pub cap: [u64; 8],
 }

@@ -2,7 +2,7 @@ mod limits;
 mod mark;
 
 use crate::answer::{Regrade, Take, Words};
-use crate::dealing::{deal, gather_blanks, gather_tickets, words_of};
+use crate::dealing::{caps_of, deal, gather_blanks, gather_tickets, words_of};
 use crate::piece::{Blank, Ticket};
 use crate::terms::{Room, Terms, first_words};
 use crate::view;
@@ -18,9 +18,11 @@ use std::sync::Wait;
 /// The bandwidth words of one to eight root domains, from which many clients take at once, without
 /// a lock and without waiting for one another. All bandwidths and words are in 1/2^20 of a CPU.
 ///
-/// To a contract a gate is its identity: which table of words it is, and its terms, the CPUs and
-/// the number of pieces. Between any two steps of any clients each word is exactly the sum of the
-/// bandwidths of the tickets of its domain, and at most its cap. A piece is used with its own gate.
+/// A word carries a cap, which is the domain's CPUs times a limit, and what is used of it. To a
+/// contract a gate is its identity: which table of words it is, and its terms, the CPUs and the
+/// number of pieces. Between any two steps of any clients the used part of each word is exactly the
+/// sum of the bandwidths of the tickets of its domain, and at most the cap that the word then
+/// carries. A piece is used with its own gate.
 #[derive(Drop)]
 pub struct Gate {
     table: Table<(), View, Terms, Exact, Global>,
@@ -43,10 +45,10 @@ impl Model for Gate {
 }
 
 impl Gate {
-    ghost use Rattle.std.specs.Prelude.{◌≡◌, ◌<◌, ◌≤◌, ◌+◌, ◌*◌, ◌^◌, [], ℕ, length, replicate, slice_index, All, IfOk};
+    ghost use Rattle.std.specs.Prelude.{◌≡◌, ◌<◌, ◌≤◌, ◌+◌, ◌^◌, [], ℕ, length, replicate, slice_index, All, IfOk};
     ghost use Rattle.bw_world.specs.WorldStep.{unit};
     ghost use Rattle.bw_gate.specs.Terms.{AreRooms, terms_of};
-    ghost use Rattle.bw_gate.specs.Word.{used_of as used_part};
+    ghost use Rattle.bw_gate.specs.Word.{used_of as used_part, IsCap};
     ghost use Rattle.bw_gate.specs.Pieces.{cpus_of, sum_of};
     ghost use Rattle.bw_gate.specs.Answers.{IsTryOfTake, IsTryOfRegrade, IsTake, IsRegrade, IsGive, IsLoad};
 
@@ -68,16 +70,20 @@ impl Gate {
         Ok((Gate { table, terms }, blanks))
     }
 
-    /// Ends a gate, and tells what is used of its words. They have room for the tickets that are
-    /// handed in, and are at most what the domain's CPUs have; and where all pieces are handed in,
-    /// what is used of each word is exactly the sum of the bandwidths of that domain's tickets.
+    /// Ends a gate, and tells both parts of its words. Each cap is the domain's CPUs times a limit of
+    /// 10485 to 1048576; what is used is at most the cap, and has room for the tickets that are
+    /// handed in; and where all pieces are handed in, it is exactly the sum of the bandwidths of that
+    /// domain's tickets.
     pub fn close(self, blanks: Vec<Blank>, tickets: Vec<Ticket>) -> Words
         requires blanks { All (λ b. b.gate ≡ self) blanks.items }
         requires tickets { All (λ t. t.gate ≡ self) tickets.items }
         ensures count { result.count ≡ length self.terms.cpus }
         ensures behind { (d : ℕ) → length self.terms.cpus ≤ d → slice_index result.word d ≡ 0 }
         ensures room { (d : ℕ) → sum_of d tickets.items ≤ slice_index result.word d }
-        ensures capped { (d : ℕ) → slice_index result.word d ≤ cpus_of self d * 1048576 }
+        ensures capped { (d : ℕ) → slice_index result.word d ≤ slice_index result.cap d }
+        ensures caps { (d : ℕ) → d < length self.terms.cpus
+            → IsCap (cpus_of self d) (slice_index result.cap d) }
+        ensures caps_behind { (d : ℕ) → length self.terms.cpus ≤ d → slice_index result.cap d ≡ 0 }
         ensures exact { length blanks.items + length tickets.items ≡ self.terms.pieces →
             (d : ℕ) → slice_index result.word d ≡ sum_of d tickets.items }
     {
@@ -88,8 +94,9 @@ impl Gate {
         let closed = table.close_with(seat);
         let count = terms.count();
         let word = words_of(&closed, count);
+        let cap = caps_of(&closed, count);
         closed.free();
-        Words { count, word }
+        Words { count, word, cap }
     }
 
     /// How many pieces the gate has, 1 to 4096: blanks and tickets together, those that were
