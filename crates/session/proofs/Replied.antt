@@ -24,7 +24,7 @@ use Rattle.call_book.specs.BookAnswers.{IsBusy, IsRegraded}
 use Rattle.call_book.specs.LimitAnswers.{IsLimitSet, AnswersLimit}
 use Rattle.session.specs.declared.refusal.Refusal.TheVariants as refusals
 use Rattle.session.specs.Asks.{Answer, IsOverCap, AsksWord, IsByWord}
-use Rattle.session.specs.private.Entering.{SameBook, IsReplied, IsRegradedBy, IsLimitedBy}
+use Rattle.session.specs.private.Entering.{SameBook, IsReplied, IsRegradedBy, limit_answer, limit_back, IsLimitedBy}
 
 same_entered : (old new : BookView) (p q : PassView Entry) (call : Call) (reply : Reply) → Enters old new p q call reply → SameBook old new
 same_entered old new p q call reply e = record {
@@ -140,17 +140,6 @@ regraded old new p q number params (Err e) answer entered full ok err =
     (record { word = None; replied = record { pass = full.stays.pass; full = tt }; reply = tt })
 
 -- ---- a change of the limit
-
--- what the client is answered, and the blank that comes back
-abbrev pub limit_answer : Limit → Answer
-limit_answer (limits.Set back) = Ok replies.Set
-limit_answer (limits.Busy back seen) = Ok (replies.Busy seen)
-limit_answer (limits.Full back) = Err refusals.Full
-
-abbrev pub limit_back : Limit → BlankView
-limit_back (limits.Set back) = back
-limit_back (limits.Busy back seen) = back
-limit_back (limits.Full back) = back
 
 set_same : (old new : BookView) (p q : PassView Entry) (limit : ℕ) (blank back : BlankView) → IsLimitSet old new p q limit blank back → SameBook old new
 set_same old new p q limit blank back e = record {

@@ -1,13 +1,13 @@
 //! One domain of a session, behind its lock, and what a client may ask of it.
 
-ghost use Rattle.std.specs.Prelude.{◌≡◌, None, IfSome, IsSome, IfOk, IfErr, Ok, Err};
+ghost use Rattle.std.specs.Prelude.{◌≡◌, Some, None, IfSome, IsSome, IfOk, IfErr, Ok, Err};
 ghost use Rattle.domain_run.specs.declared.call.Call.TheVariants as calls;
 ghost use Rattle.domain_run.specs.Domain.{IsLimit};
 ghost use Rattle.call_book.specs.Book.{IsPassOf, IsMember};
 ghost use Rattle.call_book.specs.Limits.{IsCall};
 ghost use Rattle.call_book.specs.Pieces.{IsTicketOf};
 ghost use Rattle.session.specs.SessionId.{IsSession, spine_of};
-ghost use Rattle.session.specs.private.Entering.{IsSessionBook, SameBook, IsAsk, IsGivenBack, NoneIsKept, IsDone, IsOffered, IsReplied, IsRegradedBy, IsLimitedBy, IsAdvancedBy};
+ghost use Rattle.session.specs.private.Entering.{IsSessionBook, SameBook, IsAsk, IsGivenBack, NoneIsKept, IsDone, IsOffered, IsReplied, IsRegradedBy, limit_answer, limit_back, IsLimitedBy, IsAdvancedBy};
 
 use crate::names::Names;
 use crate::refusal::{Answer, Refusal};
@@ -139,6 +139,22 @@ fn leave(domain: &mut Domain, pass: &mut Pass, number: u32) -> Outcome
     outcome_of(domain.leave(pass, number))
 }
 
+/// What a change of the limit came to: it leaves the blank that was handed in.
+fn outcome_of_limit(made: Limit) -> Outcome
+    ensures answer { result.answer ≡ limit_answer made }
+    ensures blank { result.blank ≡ Some (limit_back made) }
+{
+    let (answer, blank) = match made {
+        Limit::Set { blank } => (Ok(Reply::Set), blank),
+        Limit::Busy { blank, seen } => (Ok(Reply::Busy { seen }), blank),
+        Limit::Full { blank } => (Err(Refusal::Full), blank),
+    };
+    Outcome {
+        answer,
+        blank: Some(blank),
+    }
+}
+
 /// Sets the limit; the blank comes back.
 fn set_limit<R: Wait>(
     rt: &R,
@@ -158,15 +174,7 @@ fn set_limit<R: Wait>(
     ensures some { IsSome result.blank }
     ensures own { IfSome result.blank (λ b. b.gate ≡ gate.now) }
 {
-    let (answer, blank) = match domain.limit(rt, pass, gate, blank, limit) {
-        Limit::Set { blank } => (Ok(Reply::Set), blank),
-        Limit::Busy { blank, seen } => (Ok(Reply::Busy { seen }), blank),
-        Limit::Full { blank } => (Err(Refusal::Full), blank),
-    };
-    Outcome {
-        answer,
-        blank: Some(blank),
-    }
+    outcome_of_limit(domain.limit(rt, pass, gate, blank, limit))
 }
 
 impl<N: Names, const D: usize> LockedBook<N, D> {

@@ -9,6 +9,8 @@ use Rattle.domain_run.specs.declared.call.Call.TheVariants as calls
 use Rattle.domain_run.specs.declared.call.Reply.TheVariants as replies
 use Rattle.domain_run.specs.Domain.{IsLimit}
 use Rattle.call_book.specs.declared.section.Entry.{Entry}
+use Rattle.call_book.specs.declared.book.domain.Limit.{Limit}
+use Rattle.call_book.specs.declared.book.domain.Limit.TheVariants as limits
 use Rattle.call_book.specs.Pieces.{IsTicketOf}
 use Rattle.call_book.specs.Limits.{IsCall}
 use Rattle.call_book.specs.Book.{BookView, IsMember, AdmissionView, admission, with_entry}
@@ -120,6 +122,17 @@ pub record IsRegradedBy (gate : GateId) (d cpus limit : ℕ) (p q : PassView Ent
   pub word : Option ℕ
   pub replied : IsReplied p q (calls.Regrade number params word) answer
   pub reply : IfOk answer (IsRegradeReply gate d cpus limit number params word)
+
+-- what a client is answered to a change of the limit, and the blank that comes back
+abbrev pub limit_answer : Limit → Answer
+limit_answer (limits.Set back) = Ok replies.Set
+limit_answer (limits.Busy back seen) = Ok (replies.Busy seen)
+limit_answer (limits.Full back) = Err refusals.Full
+
+abbrev pub limit_back : Limit → BlankView
+limit_back (limits.Set back) = back
+limit_back (limits.Busy back seen) = back
+limit_back (limits.Full back) = back
 
 -- a change of the limit, by this piece, with what came back of it
 pub record IsLimitedBy (d cpus limit : ℕ) (p q : PassView Entry) (piece : BlankView) (wanted : ℕ)
