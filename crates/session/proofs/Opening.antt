@@ -81,11 +81,14 @@ cpus_are : (limit : ℕ) (domains : List ℕ) → map (λ (r : Room). r.cpus) (m
 cpus_are limit [] = refl
 cpus_are limit (cpus ∷ domains) = ap (λ (ns : List ℕ). cpus ∷ ns) (cpus_are limit domains)
 
+abbrev terms_with : List ℕ → ℕ → TermsView
+terms_with cpus pieces = record { cpus = cpus; pieces = pieces }
+
 pub terms_are : (o : Options) (rooms : List Room) (n : ℕ) → rooms ≡ map (room_of o.limit) o.domains.items → n ≡ length o.domains.items → gate_terms rooms (n * 256 + o.clients) ≡ terms_of o
 terms_are o rooms n are count =
     ap (λ (rs : List Room). gate_terms rs (n * 256 + o.clients)) are
-    ∙ ap (λ (ns : List ℕ). record { cpus = ns; pieces = n * 256 + o.clients }) (cpus_are o.limit o.domains.items)
-    ∙ ap (λ (k : ℕ). record { cpus = o.domains.items; pieces = k * 256 + o.clients }) count
+    ∙ ap (λ (ns : List ℕ). terms_with ns (n * 256 + o.clients)) (cpus_are o.limit o.domains.items)
+    ∙ ap (λ (k : ℕ). terms_with o.domains.items (k * 256 + o.clients)) count
 
 pub are_rooms : (o : Options) (rooms : List Room) → AreOptions o → rooms ≡ map (room_of o.limit) o.domains.items
     → AreRooms rooms (length o.domains.items * 256 + o.clients)
@@ -95,7 +98,7 @@ are_rooms o rooms are is = record {
       (record {
         some = are.some_domains;
         few = are.few_domains;
-        small = All-weaker IsCpus IsMachine (λ cpus h. record { one = h.0; most = h.1 }) o.domains.items are.cpus;
+        small = All-weaker IsCpus IsMachine (λ cpus h. let some = h.0 in record { one = omega (arith, some); most = h.1 }) o.domains.items are.cpus;
         a_piece = omega (arith, are.a_client);
         not_many = omega (arith, are.few_domains, are.few_clients);
       });

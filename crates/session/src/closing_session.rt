@@ -147,8 +147,7 @@ fn close_all<N: Names>(
     let mut rest = books.into_iter();
     while let Some(domain) = rest.next() {
         let place = histories.len();
-        let Ended { history, state } =
-            close_book(alloc, domain, clients, place, limit, home);
+        let Ended { history, state } = close_book(alloc, domain, clients, place, limit, home);
         histories.push_reserved(history);
         states.push_reserved(state);
     }

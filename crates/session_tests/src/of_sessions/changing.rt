@@ -31,7 +31,8 @@ fn text_of(alloc: Global, client: u32) -> Option<String> {
     let version = if client == 9 { 2 } else { 1 };
     let mut text = format!(in alloc; "dlcalls {version}\ndomain 4 1048576\n").ok()?;
     for round in 1..7 {
-        text.push_str(round_of(alloc, client, round)?.as_str()).ok()?;
+        text.push_str(round_of(alloc, client, round)?.as_str())
+            .ok()?;
     }
     Some(text)
 }
@@ -100,7 +101,8 @@ fn change_in<R: Threads + Wait + Sync>(
 fn sum_of(entries: &Vec<Entry>) -> u64 {
     let mut held = [0; 100];
     for entry in entries {
-        if let Call::Admit { number, params, .. } | Call::Regrade { number, params, .. } = &entry.call
+        if let Call::Admit { number, params, .. }
+        | Call::Regrade { number, params, .. } = &entry.call
             && let Some(Reply::Admitted | Reply::Changed) = &entry.reply
             && let Some(bandwidth) = held.get_mut(*number as usize)
         {

@@ -207,8 +207,7 @@ fn limit_calls(rt: HostRuntime) -> Result<(), Fail> {
 // A book that is full changes no limit.
 #[test]
 fn limit_in_a_full_book(rt: HostRuntime) -> Result<(), Fail> {
-    let text =
-        b"dlcalls 2\ndomain 1 1048576\nadmit 1 1 a 2 8 8 - 0 1:1{r2}\nlimit 1 524288\n";
+    let text = b"dlcalls 2\ndomain 1 1048576\nadmit 1 1 a 2 8 8 - 0 1:1{r2}\nlimit 1 524288\n";
     let (said, report) = ran(&rt, rt.alloc(), text, 1)?;
     assert_eq!(rt; said.as_str(), "Admitted; Full 40; ");
     assert_eq!(rt; report.words.as_slice(), [262144].as_slice());
