@@ -20,4 +20,5 @@ pub mod Asking
 pub mod Growing
 pub mod Sifting
 pub mod Regrading
+pub mod Limiting
 pub mod TicketSums

@@ -30,8 +30,8 @@ pub record IsAdmitted (old new : BookView) (p q : PassView Entry) (a : Admission
 pub record IsBusy (old new : BookView) (p q : PassView Entry) (a : AdmissionView)
     (ticket back : TicketView) (seen : ℕ) : Type 0 where
   pub entered : EntersAlone old new p q (admission a) (replies.Busy seen)
-  pub within : seen ≤ cap old.cpus old.limit
-  pub above : cap old.cpus old.limit < seen + a.params.bw
+  pub within : seen ≤ cap old.cpus (state_of old).limit
+  pub above : cap old.cpus (state_of old).limit < seen + a.params.bw
   pub ticket_back : back ≡ ticket
 
 -- nothing changes, and ticket and admission come back
