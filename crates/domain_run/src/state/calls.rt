@@ -135,6 +135,7 @@ impl State {
         }
         reply
     }
+
     /// The reply to a change of the limit, by the tests in their order.
     fn limit_reply(&self, limit: u64, word: Option<u64>) -> Reply
         requires limit { IsLimit limit }
@@ -151,8 +152,8 @@ impl State {
         }
     }
 
-    /// Whether the listed tasks fit below a new limit: [`State::set_limit`] then answers
-    /// [`Reply::Set`], unless the bandwidth word refused.
+    /// Whether the listed tasks fit below a new limit, 10485 to 1048576 in 1/2^20 of a CPU:
+    /// [`State::set_limit`] then answers [`Reply::Set`], unless the bandwidth word refused.
     pub fn may_limit(&self, limit: u64) -> bool
         requires limit { IsLimit limit }
         ensures room { IsTrue result ↔ (calls.limit_reply self.now limit None ≡ Reply.Set) }
@@ -167,7 +168,8 @@ impl State {
     /// now: admissions, regrades and the rates of tasks that reclaim go by it from the next call or
     /// tick on. Tested in this order: [`Reply::Busy`] with the sum of bandwidths where that sum is
     /// above the number of CPUs times the new limit; `Busy` with the number with which the domain's
-    /// bandwidth word refused, where `word` says that it did; else [`Reply::Set`]. Where it
+    /// bandwidth word refused, where `word` says that it did; else [`Reply::Set`], and equality is
+    /// set (as a write to `sched_rt_runtime_us`, sched-deadline.rst). No task changes. Where it
     /// refuses, nothing has changed. Takes no memory.
     pub fn set_limit(&mut self, limit: u64, word: Option<u64>) -> Reply
         requires limit { IsLimit limit }
