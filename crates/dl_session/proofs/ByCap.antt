@@ -178,16 +178,20 @@ by_cap id n d duration asked history some lawful members own ends legal =
     let most = cap_in id d in
     let start = opened (length (cpus_of id d)) id.limit in
     let few = others_most id n d duration asked history lawful members own in
-    let all = history_capped most duration start history (refl, omega arith) few ends legal in
+    let none : sum_of start.tasks ≡ 0 = refl in
+    let all = history_capped most duration start history (refl, omega (arith, none)) few ends legal in
     of_clients (λ (q : Asked). IsByCap id d q.task q.answer) n asked some (λ i below.
     let made = made_in id d (own_asked n i asked) in
-    let of_client : All (EntryCapped most) (own_entries (i + 1) history) = subst (All (EntryCapped most)) (sym (own_is n i history members)) (All-filter (λ e. eqb (kind_of e) i) (EntryCapped most) history all) in
+    let of_client : All (EntryCapped most) (own_entries (i + 1) history) = subst (All (EntryCapped most)) (sym (own_is n i history members)) (All-filter (λ (e : Entry). eqb (kind_of e) i) (EntryCapped most) history all) in
     let both = made_capped most (i + 1) 0 (made ++ advance_of duration (i + 1)) (subst (All (EntryCapped most)) (own i below) of_client) in
     asked_capped id d (own_asked n i asked) (all_front (MadeCapped most) made (advance_of duration (i + 1)) both))
 
 -- no advance where the duration is 0
+abbrev no_ticks : List Made
+no_ticks = record { call = calls.Advance 0; reply = Done 0 } ∷ []
+
 none_advanced : (client : ℕ) → advance_of 0 client ≡ []
-none_advanced client = elim (eqb client 1) as (λ b. cond (b && ltb 0 0) (record { call = calls.Advance 0; reply = Done 0 } ∷ []) [] ≡ []) [ true ↦ refl | false ↦ refl ]
+none_advanced client = elim (eqb client 1) as (λ b. cond (b && ltb 0 0) no_ticks [] ≡ []) [ true ↦ refl | false ↦ refl ]
 
 -- the same of the admissions alone
 pub by_cap_alone : (id : SessionId) (n d : ℕ) (asked : List Asked) (history : List Entry) → 0 < n
