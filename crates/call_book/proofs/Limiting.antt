@@ -51,7 +51,7 @@ set_answer cpus domain limit blank back machine asked =
     let last : word_of_blank back ≡ left = ap last_of found ∙ last_of_two (blank.found ++ words) seen left in
     let parts = left_parts most (used_of seen) (omega arith) in
     let caps : most ≡ cap cpus limit = ap (λ (n : ℕ). n * limit) machine in
-    let room = h.room in
+    let room : used_of seen ≤ most = h.room in
     let used = ap used_of last ∙ parts.1 in
     record {
       asked = asked;
@@ -67,7 +67,7 @@ busy_answer cpus domain limit blank back seen used machine asked told =
     let found : back.found ≡ (blank.found ++ words) ++ seen ∷ [] = ap (λ (x : BlankView). x.found) h.blank in
     let last : word_of_blank back ≡ seen = ap last_of found ∙ last_of_push (blank.found ++ words) seen in
     let caps : cap_by blank.gate domain limit ≡ cap cpus limit = ap (λ (n : ℕ). n * limit) machine in
-    let over = h.over in
+    let over : cap_by blank.gate domain limit < used_of seen = h.over in
     (record {
       asked = subst (λ (n : ℕ). IsLimited blank domain limit (gate.Refused back n)) (sym last) asked;
       answer = (ap used_of last ∙ sym told, omega (arith, told, caps, over));
@@ -104,6 +104,15 @@ by_sum d limit differ =
 
 set_after : (d : Domain) (limit : ℕ) → limit_reply d limit None ≡ replies.Set → after_call d (Call.Limit limit None) ≡ with_limit limit d
 set_after d limit e = ap (λ (r : Reply). cond (is_refusal r) d (with_limit limit d)) e
+
+either : (d : Domain) (limit : ℕ) (word : Option ℕ) (b : Bool) → ((seen : ℕ) → cond b (replies.Busy (sum_of d.tasks)) (set_reply word) ≡ replies.Busy seen → ⊥) → cond b (replies.Busy (sum_of d.tasks)) (set_reply word) ≡ replies.Set
+either d limit word true not = absurd (not (sum_of d.tasks) refl)
+either d limit None false not = refl
+either d limit (Some seen) false not = absurd (not seen refl)
+
+-- a reply to a new limit that is not a refusal
+pub not_refused : (d : Domain) (limit : ℕ) (word : Option ℕ) (reply : Reply) → reply ≡ limit_reply d limit word → ((seen : ℕ) → reply ≡ replies.Busy seen → ⊥) → limit_reply d limit word ≡ replies.Set
+not_refused d limit word reply is not = either d limit word (ltb (cap d.cpus limit) (sum_of d.tasks)) (λ seen e. not seen (is ∙ e))
 
 -- the number of a refusal
 abbrev told_number : Reply → ℕ
@@ -154,12 +163,12 @@ limit_set_grows cpus limit workers left l grown s state next wanted word p is a_
 
 -- the call has a spelling, since 64 CPUs have 2^26
 pub limit_spelled : (cpus limit workers : ℕ) (left : Option ℕ) (l : LedgerView) (s : StockView) (state : Domain) (wanted : ℕ) (blank back : BlankView) (word : Option ℕ) → IsBook (book_of cpus limit workers left l s) state → IsLimit wanted → IsLimitAsked state s.gate s.domain wanted blank back word → IsCall (Call.Limit wanted word)
-limit_spelled cpus limit workers left l s state wanted blank back None is a_limit asked = (a_limit, tt)
+limit_spelled cpus limit workers left l s state wanted blank back None is a_limit asked = (a_limit.0, a_limit.1, tt)
 limit_spelled cpus limit workers left l s state wanted blank back (Some used) is a_limit (inl a) =
     let capped = is.capped in
     let few = is.few in
     let within = a.2 in
-    (a_limit, omega (arith, within, capped, few))
+    (a_limit.0, a_limit.1, omega (arith, within, capped, few))
 limit_spelled cpus limit workers left l s state wanted blank back (Some used) is a_limit (inr a) = absurd (let e = a.1 in cc)
 
 -- ---- what is answered
@@ -241,7 +250,25 @@ limit_busy_answer b cpus limit workers left l grown s state next wanted blank ba
     let new = book_of cpus limit workers left grown s in
     inl (subst (λ (x : BookView). IsBusyBySum x new p q wanted blank back seen) view (by_the_sum cpus limit workers left l grown s state next wanted blank back seen p q is room more made a.0 a.2 lawful becomes))
 
+-- the entry of a limit that was set, by what its word and its reply are
+pub set_entry : (l grown : LedgerView) (p : PassView Entry) (wanted : ℕ) (word : Option ℕ) (reply : Reply) → grown ≡ record l { history = l.history ++ entry_by p (Call.Limit wanted word) reply ∷ [] } → word ≡ None → reply ≡ replies.Set → grown ≡ record l { history = l.history ++ entry_by p (Call.Limit wanted None) replies.Set ∷ [] }
+set_entry l grown p wanted word reply more none set =
+    more ∙ ap (λ (w : Option ℕ). record l { history = l.history ++ entry_by p (Call.Limit wanted w) reply ∷ [] }) none ∙ ap (λ (r : Reply). record l { history = l.history ++ entry_by p (Call.Limit wanted None) r ∷ [] }) set
+
+pub set_pass : (p q : PassView Entry) (wanted : ℕ) (word : Option ℕ) (reply : Reply) → q ≡ with_entry p (Call.Limit wanted word) reply → word ≡ None → reply ≡ replies.Set → q ≡ with_entry p (Call.Limit wanted None) replies.Set
+set_pass p q wanted word reply made none set =
+    made ∙ ap (λ (w : Option ℕ). with_entry p (Call.Limit wanted w) reply) none ∙ ap (λ (r : Reply). with_entry p (Call.Limit wanted None) r) set
+
+-- the state of a limit that was set
+pub set_state : (state next : Domain) (wanted : ℕ) (word : Option ℕ) → next ≡ after_call state (Call.Limit wanted word) → limit_reply state wanted word ≡ replies.Set → next ≡ with_limit wanted state
+set_state state next wanted word becomes set = becomes ∙ ap (λ (r : Reply). cond (is_refusal r) state (with_limit wanted state)) set
+
 -- ---- the domain is one of the gate's
+
+-- what a blank was told of the domain of a book's own gate
+pub asked_of_book : (state : Domain) (id own : GateId) (domain place wanted : ℕ) (blank back : BlankView) (word : Option ℕ) → id ≡ own → domain ≡ place → IsLimitAsked state id domain wanted blank back word → IsLimitAsked state own place wanted blank back word
+asked_of_book state id own domain place wanted blank back word same there asked =
+    subst (λ (d : ℕ). IsLimitAsked state own d wanted blank back word) there (subst (λ (i : GateId). IsLimitAsked state i domain wanted blank back word) same asked)
 
 -- a domain that has CPUs is one of them
 pub inside : (cpus : List ℕ) (d n : ℕ) → 0 < n → slice_index cpus d ≡ n → d < length cpus

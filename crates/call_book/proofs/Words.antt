@@ -7,7 +7,7 @@ use Rattle.bw_gate.specs.Answers.{words_of, IsRegrade}
 use Rattle.bw_gate.specs.declared.answer.Regrade.TheVariants.{Refused}
 use Rattle.call_book.specs.Pieces.{IsAnswered}
 
-last_of_push : (words : List ℕ) (n : ℕ) → last_of (words ++ n ∷ []) ≡ n
+pub last_of_push : (words : List ℕ) (n : ℕ) → last_of (words ++ n ∷ []) ≡ n
 last_of_push [] n = refl
 last_of_push (a ∷ []) n = refl
 last_of_push (a ∷ b ∷ words) n = last_of_push (b ∷ words) n

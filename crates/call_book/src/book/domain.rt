@@ -363,8 +363,7 @@ impl Domain {
         let domain = self.stock.domain();
         let (blank, word) = ask_limit(rt, gate, &self.state, domain, blank, limit);
         let reply = self.state.set_limit(limit, word);
-        self.ledger
-            .enter(pass, Call::Limit { limit, word }, reply);
+        self.ledger.enter(pass, Call::Limit { limit, word }, reply);
         match reply {
             Reply::Busy { seen } => Limit::Busy { blank, seen },
             _ => {
