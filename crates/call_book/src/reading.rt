@@ -4,7 +4,7 @@ ghost use Rattle.call_book.specs.SectionView.{SectionView};
 ghost use Rattle.call_book.specs.Spelling.{section_lines, spelling};
 ghost use Rattle.call_book.specs.Limits.{IsClient, AreRead};
 ghost use Rattle.call_book.specs.BadLine.{IsBadLine, IsReadFault};
-ghost use Rattle.call_book.specs.private.Reading.{Fails, known_at, IsNext, AreEntries, IsSectionRead, IsFirstSection, IsNoSection, AreSectionsOf, is_stuck, bad_place};
+ghost use Rattle.call_book.specs.private.Reading.{Fails, known_at, IsNext, AreEntries, IsSectionRead, IsFirstSection, IsNoSection, AreSectionsOf, is_full, is_stuck, bad_place, is_whole};
 
 use crate::cut::cut_line;
 use crate::fault::{CallsFault, PartFault};
@@ -55,11 +55,7 @@ fn entry_of(
 
 /// The entries at the front of a text, and the rest: from the first line on that is no entry's, or
 /// that is one too many.
-fn entries_of(
-    alloc: Global,
-    text: &[u8],
-    limits: bool,
-) -> Result<(Vec<Entry>, &[u8]), PartFault>
+fn entries_of(alloc: Global, text: &[u8], limits: bool) -> Result<(Vec<Entry>, &[u8]), PartFault>
     ensures found { IfOk result (λ p. AreEntries limits text.now p.1.now p.0.items) }
     ensures fault { IfErr result (λ e. e ≡ PartFault.Memory) }
 {
@@ -82,11 +78,7 @@ fn entries_of(
 }
 
 /// The section at the front of a text, and the rest, which does not go on with it.
-fn section_of(
-    alloc: Global,
-    text: &[u8],
-    limits: bool,
-) -> Result<(Section, &[u8]), PartFault>
+fn section_of(alloc: Global, text: &[u8], limits: bool) -> Result<(Section, &[u8]), PartFault>
     ensures found { IfOk result (λ p. IsFirstSection limits text.now p.1.now p.0) }
     ensures fault { IfErr result (IsNoSection text.now) }
 {
@@ -106,11 +98,7 @@ fn section_of(
 /// The sections at the front of a text, which stands behind the header, and the rest: from the
 /// first line on that neither goes on with the last of them nor is a domain's, or that is one too
 /// many.
-fn sections_of(
-    alloc: Global,
-    text: &[u8],
-    limits: bool,
-) -> Result<(Vec<Section>, &[u8]), PartFault>
+fn sections_of(alloc: Global, text: &[u8], limits: bool) -> Result<(Vec<Section>, &[u8]), PartFault>
     ensures found { IfOk result (λ p. AreSectionsOf limits text.now p.1.now p.0.items) }
     ensures fault { IfErr result (λ e. e ≡ PartFault.Memory) }
 {
@@ -150,16 +138,23 @@ fn lines_in(sections: &[Section]) -> u64
     n
 }
 
-/// Whether the header has changes of a limit, these sections have none, and none can follow: there
-/// are as many sections as a text may have, and the last has as many calls as it may have.
-fn stuck(sections: &[Section], limits: bool) -> bool
-    ensures { result ≡ is_stuck limits sections.now }
+/// Whether there are as many sections as a text may have, and the last has as many calls as it may
+/// have.
+fn all_full(sections: &[Section]) -> bool
+    ensures { result ≡ is_full sections.now }
 {
-    if !limits || limit_changes(sections) || sections.len() as u64 != MOST_SECTIONS {
+    if sections.len() as u64 != MOST_SECTIONS {
         return false;
     }
     let last = &sections[sections.len() - 1];
     last.entries.len() as u64 == MOST_CALLS
+}
+
+/// Whether the header has changes of a limit, these sections have none, and none can follow.
+fn stuck(sections: &[Section], limits: bool) -> bool
+    ensures { result ≡ is_stuck limits sections.now }
+{
+    limits && !limit_changes(sections) && all_full(sections)
 }
 
 /// The first bad line of a text that goes on behind these sections, or has none, or none of the
@@ -170,6 +165,13 @@ fn bad_line(sections: &[Section], limits: bool) -> u64
     ensures { result ≡ bad_place limits sections.now }
 {
     lines_in(sections) + if stuck(sections, limits) { 1 } else { 2 }
+}
+
+/// Whether these sections are all of a text, and what its header says of them.
+fn fits(sections: &[Section], limits: bool, rest: &[u8]) -> bool
+    ensures { result ≡ is_whole limits rest.now sections.now }
+{
+    rest.is_empty() && !sections.is_empty() && (!limits || limit_changes(sections))
 }
 
 /// The sections that a whole calls text spells.
@@ -186,7 +188,7 @@ fn whole_text(alloc: Global, text: &[u8]) -> Result<Vec<Section>, CallsFault>
     let Ok((sections, rest)) = sections_of(alloc, body, limits) else {
         return Err(CallsFault::Memory);
     };
-    if rest.is_empty() && !sections.is_empty() && (!limits || limit_changes(&sections)) {
+    if fits(&sections, limits, rest) {
         return Ok(sections);
     }
     Err(CallsFault::BadLine {

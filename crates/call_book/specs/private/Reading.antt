@@ -14,8 +14,6 @@ use Rattle.domain_run.specs.declared.call.Call.{Call}
 use Rattle.domain_run.specs.declared.call.Call.TheVariants.{Admit, Regrade, Wake, Leave, Advance, Limit}
 use Rattle.call_book.specs.declared.fault.PartFault.{PartFault}
 use Rattle.call_book.specs.declared.fault.PartFault.TheVariants.{Bad, Memory}
-use Rattle.call_book.specs.declared.fault.CallsFault.{CallsFault}
-use Rattle.call_book.specs.declared.fault.CallsFault.TheVariants as faults
 use Rattle.call_book.specs.declared.times.Times.{Times}
 use Rattle.call_book.specs.declared.section.Entry.{Entry}
 use Rattle.call_book.specs.SectionView.{SectionView}
@@ -241,7 +239,7 @@ unfoldable pub change_at : List ℕ → Option (ℕ × Option ℕ)
 change_at text =
     option_map_or
     (λ p. number_within_at 10485 1048576 p.0 >>= λ limit. seen_at p.1
-          >>= λ seen. change limit (Some seen))
+    >>= λ seen. change limit (Some seen))
     (cut_at 32 text) (number_within_at 10485 1048576 text >>= λ limit. change limit None)
 
 -- what follows the client in a change of the limit
@@ -382,6 +380,11 @@ pub record AreSectionsOf (limits : Bool) (text rest : List ℕ) (sections : List
   pub most : length sections ≤ 8
   pub ends : length sections < 8 → LacksDomain rest
 
+-- they are all of the text, and what its header says of them
+abbrev pub is_whole : Bool → List ℕ → List SectionView → Bool
+is_whole limits rest sections =
+    length rest == 0 && not (length sections == 0) && (not limits || has_limit sections)
+
 -- ---- the first bad line of a text that is not of sections alone
 
 -- the last section has as many calls as it may have
@@ -390,10 +393,13 @@ last_full [] = false
 last_full (s ∷ []) = length s.entries == 65536
 last_full (s ∷ t ∷ sections) = last_full (t ∷ sections)
 
+-- and there are as many sections as a text may have
+abbrev pub is_full : List SectionView → Bool
+is_full sections = length sections == 8 && last_full sections
+
 -- the header has changes of a limit, these sections have none, and none can follow
 abbrev pub is_stuck : Bool → List SectionView → Bool
-is_stuck limits sections =
-    limits && not (has_limit sections) && (length sections == 8 && last_full sections)
+is_stuck limits sections = limits && not (has_limit sections) && is_full sections
 
 -- then the last of their lines is bad, and else the one behind it; the header is line 1
 abbrev pub bad_place : Bool → List SectionView → ℕ
