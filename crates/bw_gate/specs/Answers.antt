@@ -31,7 +31,7 @@ words_of [] = []
 words_of (race ∷ races) = race.expected ∷ race.seen ∷ words_of races
 
 -- a raced try to take so much in a domain: an exchange is made only where the word that the load
--- found has room for it
+-- found has room for it under the cap that it carries
 pub record IsRaceOfTake (gate : GateId) (d bw : ℕ) (race : Race) : Type 0 where
   pub word : IsWord (cpus_of gate d) race.expected
   pub room : used_of race.expected + bw ≤ cap_of race.expected
@@ -120,8 +120,8 @@ pub record IsRegrade (t : TicketView) (bw : ℕ) (answer : Regrade) : Type 0 whe
   pub last : IsTryOfRegrade (ticket_found t (words_of races)) bw answer
   pub decided : IsRegradeDecided answer
 
--- give by a ticket: its one step found a word that has room for the ticket's bandwidth and is at
--- most the cap, and a blank comes back
+-- give by a ticket: its one step found a sound word, of which at least the ticket's bandwidth is
+-- used, and a blank comes back
 pub record IsGive (t : TicketView) (b : BlankView) : Type 0 where
   pub seen : ℕ
   pub room : t.bw ≤ used_of seen

@@ -1,6 +1,6 @@
 -- The gate's steps are those of the pure core (own). To the core a domain of a gate is one with the
--- gate's cap and word, all of whose tickets are in hand, each under the number of its seat as its
--- id.
+-- two parts of its word, the cap and what is used, all of whose tickets are in hand, each under the
+-- number of its seat as its id.
 use Rattle.std.specs.Prelude.{ℕ, ◌≡◌, ◌+◌, ◌-◌, ◌==◌, if◌then◌else◌, List, [], ◌∷◌, ◌++◌, Some, map, slice_index}
 use Rattle.bw_world.specs.declared.step.Outcome.TheVariants.{Saw, Over, Lost}
 use Rattle.bw_world.specs.declared.step.Word.{Word}

@@ -13,7 +13,7 @@ abbrev pub cpus_of : GateId → ℕ → ℕ
 cpus_of gate d = cpus_in gate.terms d
 
 -- a blank: the gate that it is used with, and the words that its steps have found since it was
--- dealt or renewed, oldest first
+-- dealt or renewed, oldest first; of a step that set a limit, the word that it left
 pub record BlankView : Type 0 where
   pub gate : GateId
   pub found : List ℕ
@@ -25,7 +25,7 @@ pub record TicketView : Type 0 where
   pub bw : ℕ
   pub found : List ℕ
 
--- the word that the last step found; 0 before any
+-- the word that the last step found, or left where it set a limit; 0 before any
 abbrev pub last_of : List ℕ → ℕ
 last_of [] = 0
 last_of (n ∷ []) = n

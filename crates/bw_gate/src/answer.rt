@@ -4,20 +4,21 @@ use crate::piece::{Blank, Ticket};
 pub enum Take {
     /// The bandwidth is taken.
     Taken(Ticket),
-    /// EBUSY 16: the word that was found has no room for the bandwidth. The word is as it was.
+    /// EBUSY 16: what is used of the word that was found and the bandwidth are above the cap that
+    /// this word carries. The word is as it was.
     Refused {
         /// The blank, as it was but for what it found.
         blank: Blank,
-        /// The word that was found.
+        /// The whole word that was found.
         seen: u64,
     },
     /// Another client changed the word between the two steps. The word is as that client left it.
     Raced {
         /// The blank, as it was but for what it found.
         blank: Blank,
-        /// The word that the first step found.
+        /// The whole word that the first step found.
         expected: u64,
-        /// The word that the second step found.
+        /// The whole word that the second step found.
         seen: u64,
     },
 }
@@ -26,21 +27,21 @@ pub enum Take {
 pub enum Regrade {
     /// The ticket has its new bandwidth.
     Changed(Ticket),
-    /// EBUSY 16: the word that was found has no room for the new bandwidth in place of the old one.
-    /// The word is as it was.
+    /// EBUSY 16: what is used of the word that was found, with the new bandwidth in place of the old
+    /// one, is above the cap that this word carries. The word is as it was.
     Refused {
         /// The ticket, as it was but for what it found.
         ticket: Ticket,
-        /// The word that was found.
+        /// The whole word that was found.
         seen: u64,
     },
     /// Another client changed the word between the two steps. The word is as that client left it.
     Raced {
         /// The ticket, as it was but for what it found.
         ticket: Ticket,
-        /// The word that the first step found.
+        /// The whole word that the first step found.
         expected: u64,
-        /// The word that the second step found.
+        /// The whole word that the second step found.
         seen: u64,
     },
 }
@@ -53,16 +54,16 @@ pub enum Limit {
     Refused {
         /// The blank, as it was but for what it found.
         blank: Blank,
-        /// The word that was found.
+        /// The whole word that was found.
         seen: u64,
     },
     /// Another client changed the word between the two steps. The word is as that client left it.
     Raced {
         /// The blank, as it was but for what it found.
         blank: Blank,
-        /// The word that the first step found.
+        /// The whole word that the first step found.
         expected: u64,
-        /// The word that the second step found.
+        /// The whole word that the second step found.
         seen: u64,
     },
 }

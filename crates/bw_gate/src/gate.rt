@@ -119,10 +119,11 @@ impl Gate {
 
     /// One try to take a ticket of so much in a domain: by the piece's seat one load, and then at
     /// most one compare_exchange. The rule is the admission test of sched-deadline.rst, "Bandwidth
-    /// management"; a word that then equals its cap is granted. The contract tells what the piece
-    /// found; a look at the word that needs no seat would not show in it.
+    /// management", of the used part and the cap of the word that the load found; as much as the cap
+    /// is granted. The contract tells what the piece found; a look at the word that needs no seat
+    /// would not show in it.
     ///
-    /// [`Take::Refused`] (EBUSY 16) where the word that the load found has no room for `bw`:
+    /// [`Take::Refused`] (EBUSY 16) where what is used of that word and `bw` are above its cap:
     /// nothing has changed, and the blank comes back. [`Take::Raced`] where the exchange found
     /// another word than the load, since another client came between: the word is as that one left
     /// it, and the blank comes back. Nothing is claimed of which try wins.
@@ -182,8 +183,8 @@ impl Gate {
     }
 
     /// One try to give a ticket another bandwidth, larger or smaller: by the ticket's seat one
-    /// load, and then at most one compare_exchange. It answers as [`Gate::try_take`], by the word
-    /// without the ticket's old bandwidth. A ticket that is not [`Regrade::Changed`] keeps its
+    /// load, and then at most one compare_exchange. It answers as [`Gate::try_take`], by the used
+    /// part less the ticket's old bandwidth. A ticket that is not [`Regrade::Changed`] keeps its
     /// domain and its bandwidth.
     pub fn try_regrade(&self, mut ticket: Ticket, bw: u64) -> Regrade
         requires own { ticket.gate ≡ self.now }
@@ -235,8 +236,9 @@ impl Gate {
         unreachable!()
     }
 
-    /// Gives a ticket's bandwidth back, by one fetch_sub, which always succeeds. The piece is then
-    /// a blank, which found the word with the bandwidth still in it.
+    /// Gives a ticket's bandwidth back, by one fetch_sub, which always succeeds: the used part falls
+    /// by it, and the cap stays. The piece is then a blank, which found the word with the bandwidth
+    /// still in its used part.
     pub fn give(&self, ticket: Ticket) -> Blank
         requires { ticket.gate ≡ self.now }
         ensures { IsGive ticket result }

@@ -63,15 +63,6 @@ impl Play<(), View> for Give {
     ghost then = { Gives };
 }
 
-/// Exchanges a word's cap.
-pub(crate) struct Limit;
-
-impl Play<(), View> for Limit {
-    ghost use Rattle.bw_gate.specs.Kinds.{Limits};
-
-    ghost then = { Limits };
-}
-
 /// Splits the first piece off.
 pub(crate) struct Deal;
 

@@ -68,7 +68,7 @@ misfits : outcomes_of misfitting two
     ≡ Not ∷ Not ∷ Not ∷ Done ∷ Not ∷ Done ∷ Not ∷ Done ∷ Not ∷ Not ∷ Done ∷ Done ∷ Not ∷ Not ∷ []
 misfits = refl
 
--- Lost before Over, in a Take and in a Regrade; a word equal to the cap is granted; a Regrade may
+-- Lost before Over, in a Take and in a Regrade; as much as the cap is granted; a Regrade may
 -- go above one CPU
 abbrev exchanges : List Step
 exchanges =

@@ -52,7 +52,7 @@ impl Domain {
         }
     }
 
-    /// The bandwidth word.
+    /// The bandwidth word: the cap, and what is used of it.
     pub fn word(&self) -> Word
         ensures { result ≡ word_in self.now }
     {

@@ -1,5 +1,5 @@
 -- A history of a book with one entry more.
-use Rattle.std.proofs.Common.{◌≡◌, ℕ, ◌+◌, ◌<◌, ◌≤◌, true, false, cond, eqb, List, [], ◌∷◌, ◌++◌, length, map, refl, sym, ap, ◌∙◌, arith, append_assoc, length-append}
+use Rattle.std.proofs.Common.{◌≡◌, ℕ, ◌+◌, ◌<◌, ◌≤◌, true, false, cond, eqb, List, [], ◌∷◌, ◌++◌, length, map, refl, sym, ap, ◌∙◌, arith, length-append}
 use Rattle.std.proofs.lemmas.List.{map-append}
 use Rattle.std.proofs.lemmas.List.Elements.{All-push}
 use Rattle.std.proofs.lemmas.List.Sums.{sum_by-cons, count_by-le-length}
@@ -8,12 +8,7 @@ use Rattle.call_book.specs.Limits.{IsCall, IsEntry}
 use Rattle.call_book.specs.OwnCalls.{made_by}
 use Rattle.call_book.specs.Book.{keyed, own_entries, IsMember}
 use Rattle.call_book.specs.private.Ledger.{IsHistory}
-use Rattle.std.proofs.lemmas.List.{append-nil}
-use Rattle.call_book.specs.OwnCalls.{IsNumberedAfter}
-
-numbered_more : (before entries : List Entry) (e : Entry) → IsNumberedAfter before entries → e.seq ≡ made_by e.client (before ++ entries) → IsNumberedAfter before (entries ++ e ∷ [])
-numbered_more before [] e is h = (h ∙ ap (made_by e.client) (append-nil before), tt)
-numbered_more before (x ∷ entries) e is h = (is.0, numbered_more (before ++ x ∷ []) entries e is.1 (h ∙ ap (made_by e.client) (sym (append_assoc before (x ∷ []) entries))))
+use Rattle.call_book.proofs.Entries.{numbered_more}
 
 -- a client's own entries are as many as it made
 pub length-own : (client : ℕ) (history : List Entry) → length (own_entries client history) ≡ made_by client history

@@ -202,6 +202,7 @@ fn limit_calls(rt: HostRuntime) -> Result<(), Fail> {
         ((false, 524288, 262144), (true, 262144, 262144))
     );
     assert_eq!(rt; (full, high), (262144, (true, 1048576, 262144)));
-    assert_eq!(rt; (word, words.word[0]), (4503599627894784, 524288));
+    let end = (word, words.word[0], words.cap[0]);
+    assert_eq!(rt; end, (4503599627894784, 524288, 1048576));
     Ok(())
 }

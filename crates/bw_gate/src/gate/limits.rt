@@ -1,8 +1,11 @@
+mod new_cap;
+
 use super::Gate;
 use crate::answer::Limit;
 use crate::piece::Blank;
-use crate::view;
+use crate::view::Load;
 use crate::word::used_of;
+use new_cap::NewCap;
 use std::sync::Wait;
 
 impl Gate {
@@ -29,14 +32,14 @@ impl Gate {
         let Blank { mut seat, last: _ } = blank;
         let cap = self.cpus(domain) * limit;
         let shared = &self.table.shared;
-        let seen = shared.load::<view::Load>(&mut seat, domain);
+        let seen = shared.load::<Load>(&mut seat, domain);
         let used = used_of(seen);
         if used > cap {
             let blank = Blank { seat, last: seen };
             return Limit::Refused { blank, seen };
         }
         let wanted = cap * (1 << 32) + used;
-        let found = shared.compare_exchange::<view::Limit>(&mut seat, domain, seen, wanted);
+        let found = shared.compare_exchange::<NewCap>(&mut seat, domain, seen, wanted);
         if found == seen {
             return Limit::Set(Blank { seat, last: wanted });
         }
