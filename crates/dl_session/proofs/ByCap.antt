@@ -1,6 +1,6 @@
 -- A book whose limit nobody changed refuses an admission by the cap that it was opened with.
-use Rattle.std.proofs.Common.{◌≡◌, ℕ, ◌+◌, ◌-◌, ◌*◌, ◌%◌, ◌<◌, ◌≤◌, Bool, true, false, cond, eqb, ltb, ◌&&◌, ◌||◌, Option, Some, None, Ok, Err, List, [], ◌∷◌, ◌++◌, length, refl, sym, ap, ◌∙◌, subst, arith, inl, inr, mod-lt, eq-eqb, ltb-true, append-nil}
-use Rattle.std.specs.Prelude.{All, filter, not}
+use Rattle.std.proofs.Common.{◌≡◌, ℕ, ◌+◌, ◌-◌, ◌<◌, ◌≤◌, Bool, true, false, cond, eqb, ltb, ◌&&◌, Option, Some, None, Ok, Err, List, [], ◌∷◌, ◌++◌, length, refl, sym, ap, ◌∙◌, subst, arith, inl, inr, mod-lt, eq-eqb, ltb-true, append-nil}
+use Rattle.std.specs.Prelude.{All, not}
 use Rattle.std.specs.List.{cons_option}
 use Rattle.std.proofs.lemmas.Bool.{cases_Bool}
 use Rattle.std.proofs.lemmas.Option.{same_Some}
@@ -20,9 +20,9 @@ use Rattle.rtapp_scenario.specs.ScenarioView.{TaskSpecView}
 use Rattle.call_book.specs.declared.section.Entry.{Entry}
 use Rattle.call_book.specs.Book.{AdmissionView, admission, IsMember, IsLegal, own_entries}
 use Rattle.session.specs.SessionId.{SessionId, cap_in, cpus_of}
-use Rattle.session.specs.Asks.{Answer, IsLawful, Goes, Asked, Made, call_of, domain_of, made_at, made_in, entries_from}
+use Rattle.session.specs.Asks.{Answer, IsLawful, Asked, Made, call_of, domain_of, made_at, made_in, entries_from}
 use Rattle.session.specs.Admissions.{own_asked}
-use Rattle.session.specs.RunEnd.{advance_of, IsEnd, EndsWith}
+use Rattle.session.specs.RunEnd.{advance_of, EndsWith}
 use Rattle.dl_session.specs.InOrder.{is_admitted}
 use Rattle.dl_session.specs.ScenarioAnswers.{IsByCap}
 use Rattle.dl_session.proofs.OrderAdmissions.{with_admitted, admitted_as, task_from, is_admission}

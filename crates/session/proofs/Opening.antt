@@ -1,10 +1,10 @@
 -- What the parts of a session are, step by step.
-use Rattle.std.proofs.Common.{◌≡◌, ◌≢◌, ℕ, zero, suc, ◌+◌, ◌-◌, ◌*◌, ◌≤◌, ◌<◌, Bool, true, false, eqb, List, [], ◌∷◌, ◌++◌, length, map, set, take, drop, replicate, get_or, Option, Some, None, All, refl, sym, ap, subst, ◌∙◌, arith}
+use Rattle.std.proofs.Common.{◌≡◌, ◌≢◌, ℕ, zero, suc, ◌+◌, ◌-◌, ◌*◌, ◌≤◌, ◌<◌, Bool, true, false, eqb, List, [], ◌∷◌, ◌++◌, length, map, set, drop, replicate, get_or, Option, Some, None, All, refl, sym, ap, subst, ◌∙◌, arith}
 use Rattle.std.specs.Prelude.{IfSome, is_some, slice_get}
 use Rattle.std.specs.List.{range_with_len}
 use Rattle.std.specs.Option.{option_map}
 use Rattle.std.proofs.lemmas.Bool.{eqb-true, eqb-false}
-use Rattle.std.proofs.lemmas.List.{append_assoc, drop_more, get_or-map, get_or-set_same, get_or-set_other, get_or_append_left, get_or_push, map-set, length-map, length-replicate, length-set, length_push, map_push, take_more_set, map_more}
+use Rattle.std.proofs.lemmas.List.{append_assoc, drop_more, get_or-map, get_or-set_same, get_or-set_other, get_or_append_left, get_or_push, map-set, length-map, length-replicate, length-set, length_push, map_push}
 use Rattle.std.proofs.lemmas.List.Elements.{All-nil, All-cons, All-head, All-tail, All-map, All-same, All-weaker}
 use Rattle.std.proofs.lemmas.List.FromFn.{length-range_with_len}
 use Rattle.std.proofs.lemmas.Option.{get_or_from_slice_get, slice_get-map, slice_get_read}
@@ -68,14 +68,6 @@ all_sets P base (cpus ∷ domains) all =
 
 abbrev pub room_of : ℕ → ℕ → Room
 room_of limit cpus = record { cpus = cpus; limit = limit }
-
-pub rooms_more : (rooms : List Room) (domains : List ℕ) (limit d cpus : ℕ) → d < length rooms → d < length domains → cpus ≡ get_or domains d 0
-    → take d rooms ≡ map (room_of limit) (take d domains)
-    → take (d + 1) (set rooms d (room_of limit cpus)) ≡ map (room_of limit) (take (d + 1) domains)
-rooms_more rooms domains limit d cpus short inside is was =
-    take_more_set rooms d (room_of limit cpus) short ∙ ap (λ (xs : List Room). xs ++ room_of limit cpus ∷ []) was
-    ∙ ap (λ (x : ℕ). map (room_of limit) (take d domains) ++ room_of limit x ∷ []) is
-    ∙ sym (map_more (room_of limit) domains d 0 inside)
 
 cpus_are : (limit : ℕ) (domains : List ℕ) → map (λ (r : Room). r.cpus) (map (room_of limit) domains) ≡ domains
 cpus_are limit [] = refl

@@ -2,7 +2,7 @@ use Rattle.std.proofs.Common.{◌≡◌, Option, sym, ap, subst, ◌∙◌}
 use Rattle.std.specs.Prelude.{IfSome, is_some}
 use Rattle.bw_gate.specs.Pieces.{BlankView}
 use Rattle.session.specs.Asks.{Answer}
-use Rattle.session.specs.private.Entering.{limit_answer, limit_back, IsLimitedBy}
+use Rattle.session.specs.private.Entering.{limit_answer, IsLimitedBy}
 use Rattle.session.proofs.Replied.{same_limited, limited_own, limited}
 use Rattle.session.proofs.locked_book.set_limit.Goals as goal
 
