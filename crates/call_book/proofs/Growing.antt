@@ -158,6 +158,7 @@ busy_answer b cpus limit workers left l grown s state next p q a ticket seen cal
     let alone = enters_alone b cpus limit workers left l grown s state p q call (Reply.Busy seen) view is room more made (ap (reply_to state) same ∙ says.reply) in
     record {
       entered = subst (λ (c : Call). EntersAlone b (book_of cpus limit workers left grown s) p q c (Reply.Busy seen)) same alone;
+      a_limit = subst (λ (d : Domain). IsLimit d.limit) (is.run ∙ ap (λ (x : BookView). state_of x) view) is.machine.1;
       within = subst (λ (n : ℕ). seen ≤ n) caps within;
       above = subst (λ (n : ℕ). n < seen + a.params.bw) caps above;
       ticket_back = refl;
