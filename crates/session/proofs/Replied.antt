@@ -21,7 +21,7 @@ use Rattle.call_book.specs.Book.{BookView, calls_of, state_of, Enters, EntersAlo
 use Rattle.call_book.specs.BookAnswers.{IsRegraded}
 use Rattle.session.specs.declared.refusal.Refusal.TheVariants as refusals
 use Rattle.session.specs.Asks.{Answer, AsksWord, IsByWord}
-use Rattle.session.specs.private.Entering.{SameBook, IsReplied, IsRegradedBy}
+use Rattle.session.specs.private.Entering.{SameBook, IsReplied, IsRegradedBy, IsWhyNotMade}
 
 same_entered : (old new : BookView) (p q : PassView Entry) (call : Call) (reply : Reply) → Enters old new p q call reply → SameBook old new
 same_entered old new p q call reply e = record {
@@ -61,6 +61,14 @@ replied old new p q call (Ok reply) answer entered full ok err =
     subst (λ (a : Answer). IsReplied p q call a) (sym ok) (record { pass = entered.entered.pass; full = tt })
 replied old new p q call (Err e) answer entered full ok err =
     subst (λ (a : Answer). IsReplied p q call a) (sym err) (record { pass = full.stays.pass; full = tt })
+
+-- why it stands in no book
+pub why_not : (old new : BookView) (p q : PassView Entry) (made : Result Reply Full) (answer : Answer)
+    → IfErr made (λ _. IsRefusedFull old new p q)
+    → IfOk made (λ reply. answer ≡ Ok reply) → IfErr made (λ _. answer ≡ Err refusals.Full)
+    → IsWhyNotMade old answer
+why_not old new p q (Ok reply) answer full ok err = subst (λ (a : Answer). IsWhyNotMade old a) (sym ok) tt
+why_not old new p q (Err e) answer full ok err = subst (λ (a : Answer). IsWhyNotMade old a) (sym err) full.full
 
 -- a regrade
 pub same_regraded : (old new : BookView) (p q : PassView Entry) (number : ℕ) (params : ParamsView) (made : Result Reply Full)
