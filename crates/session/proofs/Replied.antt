@@ -24,7 +24,7 @@ use Rattle.call_book.specs.BookAnswers.{IsBusy, IsRegraded}
 use Rattle.call_book.specs.LimitAnswers.{IsLimitSet, AnswersLimit}
 use Rattle.session.specs.declared.refusal.Refusal.TheVariants as refusals
 use Rattle.session.specs.Asks.{Answer, IsOverCap, AsksWord, IsByWord}
-use Rattle.session.specs.private.Entering.{SameBook, IsReplied, IsRegradedBy, limit_answer, limit_back, IsLimitedBy}
+use Rattle.session.specs.private.Entering.{SameBook, IsReplied, IsRegradedBy, limit_answer, limit_back, IsLimitedBy, IsWhyNotMade}
 
 same_entered : (old new : BookView) (p q : PassView Entry) (call : Call) (reply : Reply) → Enters old new p q call reply → SameBook old new
 same_entered old new p q call reply e = record {
@@ -64,6 +64,14 @@ replied old new p q call (Ok reply) answer entered full ok err =
     subst (λ (a : Answer). IsReplied p q call a) (sym ok) (record { pass = entered.entered.pass; full = tt })
 replied old new p q call (Err e) answer entered full ok err =
     subst (λ (a : Answer). IsReplied p q call a) (sym err) (record { pass = full.stays.pass; full = tt })
+
+-- why it stands in no book
+pub why_not : (old new : BookView) (p q : PassView Entry) (made : Result Reply Full) (answer : Answer)
+    → IfErr made (λ _. IsRefusedFull old new p q)
+    → IfOk made (λ reply. answer ≡ Ok reply) → IfErr made (λ _. answer ≡ Err refusals.Full)
+    → IsWhyNotMade old answer
+why_not old new p q (Ok reply) answer full ok err = subst (λ (a : Answer). IsWhyNotMade old a) (sym ok) tt
+why_not old new p q (Err e) answer full ok err = subst (λ (a : Answer). IsWhyNotMade old a) (sym err) full.full
 
 -- a regrade
 pub same_regraded : (old new : BookView) (p q : PassView Entry) (number : ℕ) (params : ParamsView) (made : Result Reply Full)
@@ -158,6 +166,12 @@ same_limited old new p q limit blank (limits.Set back) a = set_same old new p q 
 same_limited old new p q limit blank (limits.Busy back seen) (inl a) = same_entered old new p q _ (replies.Busy seen) a.entered.entered
 same_limited old new p q limit blank (limits.Busy back seen) (inr a) = same_entered old new p q _ (replies.Busy seen) a.entered.entered
 same_limited old new p q limit blank (limits.Full back) a = same_stays old new p q a.0.stays
+
+-- why a change of the limit stands in no book
+pub limit_why_not : (old new : BookView) (p q : PassView Entry) (limit : ℕ) (blank : BlankView) (made : Limit) → AnswersLimit old new p q limit blank made → IsWhyNotMade old (limit_answer made)
+limit_why_not old new p q limit blank (limits.Set back) a = tt
+limit_why_not old new p q limit blank (limits.Busy back seen) a = tt
+limit_why_not old new p q limit blank (limits.Full back) a = a.0.full
 
 pub limited_own : (old new : BookView) (p q : PassView Entry) (limit : ℕ) (blank : BlankView) (made : Limit) → AnswersLimit old new p q limit blank made → (limit_back made).gate ≡ blank.gate
 limited_own old new p q limit blank (limits.Set back) a = a.asked.own

@@ -3,11 +3,11 @@
 ghost use Rattle.std.specs.Prelude.{◌≡◌, Some, None, IfSome, IsSome, IfOk, IfErr, Ok, Err};
 ghost use Rattle.domain_run.specs.declared.call.Call.TheVariants as calls;
 ghost use Rattle.domain_run.specs.Domain.{IsLimit};
-ghost use Rattle.call_book.specs.Book.{IsPassOf, IsMember};
+ghost use Rattle.call_book.specs.Book.{IsPassOf, IsMember, admission};
 ghost use Rattle.call_book.specs.Limits.{IsCall};
 ghost use Rattle.call_book.specs.Pieces.{IsTicketOf};
 ghost use Rattle.session.specs.SessionId.{IsSession, spine_of};
-ghost use Rattle.session.specs.private.Entering.{IsSessionBook, SameBook, IsAsk, IsGivenBack, NoneIsKept, IsDone, IsOffered, IsReplied, IsRegradedBy, limit_answer, limit_back, IsLimitedBy, IsAdvancedBy};
+ghost use Rattle.session.specs.private.Entering.{IsSessionBook, SameBook, IsAsk, IsGivenBack, NoneIsKept, IsDone, IsOffered, IsReplied, IsRegradedBy, limit_answer, limit_back, IsLimitedBy, IsAdvancedBy, IsWhyNotAdmitted, IsWhyNotMade, IsWhyNot};
 
 use crate::names::Names;
 use crate::refusal::{Answer, Refusal};
@@ -56,6 +56,7 @@ fn admit(
     ensures same { SameBook domain.old domain.new }
     ensures offered { IsOffered domain.old.cpus pass.old pass.new prepared result.answer }
     ensures given { IsGivenBack ticket result.answer result.blank }
+    ensures told { IsWhyNotAdmitted domain.old (admission prepared) result.answer }
     ensures own { IfSome result.blank (λ b. b.gate ≡ gate.now) }
 {
     match domain.admit(pass, prepared, ticket) {
@@ -114,6 +115,7 @@ fn regrade<R: Wait>(
     ensures same { SameBook domain.old domain.new }
     ensures replied { IsRegradedBy domain.old.gate domain.old.domain domain.old.cpus domain.old.limit
         pass.old pass.new number params result.answer }
+    ensures told { IsWhyNotMade domain.old result.answer }
     ensures own { result.blank ≡ None }
 {
     outcome_of(domain.regrade(rt, pass, gate, number, params))
@@ -124,6 +126,7 @@ fn wake(domain: &mut Domain, pass: &mut Pass, number: u32) -> Outcome
     requires call { IsCall (calls.Wake number) }
     ensures same { SameBook domain.old domain.new }
     ensures replied { IsReplied pass.old pass.new (calls.Wake number) result.answer }
+    ensures told { IsWhyNotMade domain.old result.answer }
     ensures own { result.blank ≡ None }
 {
     outcome_of(domain.wake(pass, number))
@@ -134,6 +137,7 @@ fn leave(domain: &mut Domain, pass: &mut Pass, number: u32) -> Outcome
     requires call { IsCall (calls.Leave number) }
     ensures same { SameBook domain.old domain.new }
     ensures replied { IsReplied pass.old pass.new (calls.Leave number) result.answer }
+    ensures told { IsWhyNotMade domain.old result.answer }
     ensures own { result.blank ≡ None }
 {
     outcome_of(domain.leave(pass, number))
@@ -171,6 +175,7 @@ fn set_limit<R: Wait>(
     ensures same { SameBook domain.old domain.new }
     ensures limited { IsLimitedBy domain.old.domain domain.old.cpus domain.old.limit
         pass.old pass.new blank limit result.answer result.blank }
+    ensures told { IsWhyNotMade domain.old result.answer }
     ensures some { IsSome result.blank }
     ensures own { IfSome result.blank (λ b. b.gate ≡ gate.now) }
 {
@@ -195,7 +200,7 @@ impl<N: Names, const D: usize> LockedBook<N, D> {
         domain
     }
 
-    /// Makes a call with a client's pass.
+    /// Makes a call with a client's pass. A refusal is told of the book as it was.
     pub(crate) fn make<R: Wait>(
         &mut self,
         rt: &R,
@@ -210,6 +215,7 @@ impl<N: Names, const D: usize> LockedBook<N, D> {
         requires ask { IsAsk N.id D ask }
         ensures done { IsDone N.id D pass.old pass.new ask result.answer result.blank }
         ensures given { NoneIsKept ask result.answer result.blank }
+        ensures told { IsWhyNot self.old.domain ask result.answer }
         ensures own { IfSome result.blank (λ b. b.gate ≡ N.id.gate) }
     {
         let domain = &mut self.domain;
@@ -234,7 +240,8 @@ impl<N: Names, const D: usize> LockedBook<N, D> {
         requires pass { pass.old.spine ≡ spine_of N.id D }
         requires member { IsMember N.id.clients pass.old.client }
         requires call { IsCall (calls.Advance ticks) }
-        ensures { IsAdvancedBy pass.old pass.new ticks result }
+        ensures made { IsAdvancedBy pass.old pass.new ticks result }
+        ensures told { IsWhyNotMade self.old.domain result }
     {
         match self.domain.advance(rt, pass, gate, ticks) {
             Ok(reply) => Ok(reply),

@@ -1,5 +1,5 @@
 -- What a call under a domain's lock comes to.
-use Rattle.std.specs.Prelude.{◌≡◌, ℕ, ◌≤◌, ◌<◌, List, length, Option, Some, None, IfSome, IsSome, IfOk, IfErr, Ok, Err, slice_index_or}
+use Rattle.std.specs.Prelude.{◌≡◌, ◌⊎◌, ℕ, ◌≤◌, ◌<◌, List, length, Option, Some, None, IfSome, IsSome, IfOk, IfErr, Ok, Err, slice_index_or}
 use Rattle.attr_check.specs.ParamsView.{ParamsView}
 use Rattle.pass_seats.specs.Lists.{PassView}
 use Rattle.bw_gate.specs.Pieces.{GateId, BlankView, TicketView}
@@ -7,13 +7,14 @@ use Rattle.bw_gate.specs.Answers.{IsGive}
 use Rattle.domain_run.specs.declared.call.Call.{Call}
 use Rattle.domain_run.specs.declared.call.Call.TheVariants as calls
 use Rattle.domain_run.specs.declared.call.Reply.TheVariants as replies
+use Rattle.domain_run.specs.Calls.{reply_to}
 use Rattle.domain_run.specs.Domain.{IsLimit}
 use Rattle.call_book.specs.declared.section.Entry.{Entry}
 use Rattle.call_book.specs.declared.book.domain.Limit.{Limit}
 use Rattle.call_book.specs.declared.book.domain.Limit.TheVariants as limits
 use Rattle.call_book.specs.Pieces.{IsTicketOf}
 use Rattle.call_book.specs.Limits.{IsCall}
-use Rattle.call_book.specs.Book.{BookView, IsMember, AdmissionView, admission, with_entry}
+use Rattle.call_book.specs.Book.{BookView, IsMember, IsFull, AdmissionView, admission, state_of, with_entry}
 use Rattle.session.specs.declared.refusal.Refusal.TheVariants as refusals
 use Rattle.session.specs.declared.locked_book.Ask.{Ask}
 use Rattle.session.specs.declared.locked_book.Ask.TheVariants as asks
@@ -103,6 +104,29 @@ abbrev pub NoneIsKept : Ask → Answer → Option BlankView → Type 0
 NoneIsKept (asks.Admit prepared ticket) answer blank = IsGivenBack ticket answer blank
 NoneIsKept (asks.Limit asked limit) answer blank = IsSome blank
 NoneIsKept _ answer blank = Unit {0}
+
+-- ---- why a call stands in no book, of the book before
+
+-- an admission: Full where the book is full or lists 256 tasks, Twice where the number was admitted
+-- before
+abbrev pub IsWhyNotAdmitted : BookView → Call → Answer → Type 0
+IsWhyNotAdmitted b call (Err refusals.Full) =
+    IsFull b ⊎ (reply_to (state_of b) call ≡ replies.Full)
+IsWhyNotAdmitted b call (Err refusals.Twice) = reply_to (state_of b) call ≡ replies.Twice
+IsWhyNotAdmitted b call _ = Unit {0}
+
+-- any other call: Full where the book is full; ENOMEM where it is not
+abbrev pub IsWhyNotMade : BookView → Answer → Type 0
+IsWhyNotMade b (Err refusals.Full) = IsFull b
+IsWhyNotMade b (Err refusals.Enomem) = length b.history < b.room
+IsWhyNotMade b _ = Unit {0}
+
+abbrev pub IsWhyNot : BookView → Ask → Answer → Type 0
+IsWhyNot b (asks.Admit prepared ticket) answer = IsWhyNotAdmitted b (admission prepared) answer
+IsWhyNot b (asks.Regrade number params) answer = IsWhyNotMade b answer
+IsWhyNot b (asks.Wake number) answer = IsWhyNotMade b answer
+IsWhyNot b (asks.Leave number) answer = IsWhyNotMade b answer
+IsWhyNot b (asks.Limit piece limit) answer = IsWhyNotMade b answer
 
 -- ---- what a call comes to, under the domain's lock
 
