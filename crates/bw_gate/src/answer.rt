@@ -27,8 +27,8 @@ pub enum Take {
 pub enum Regrade {
     /// The ticket has its new bandwidth.
     Changed(Ticket),
-    /// EBUSY 16: what is used of the word that was found, with the new bandwidth in place of the old
-    /// one, is above the cap that this word carries. The word is as it was.
+    /// EBUSY 16: what is used of the word that was found, with the new bandwidth in place of the
+    /// old one, is above the cap that this word carries. The word is as it was.
     Refused {
         /// The ticket, as it was but for what it found.
         ticket: Ticket,

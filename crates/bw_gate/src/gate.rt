@@ -70,10 +70,10 @@ impl Gate {
         Ok((Gate { table, terms }, blanks))
     }
 
-    /// Ends a gate, and tells both parts of its words. Each cap is the domain's CPUs times a limit of
-    /// 10485 to 1048576; what is used is at most the cap, and has room for the tickets that are
-    /// handed in; and where all pieces are handed in, it is exactly the sum of the bandwidths of that
-    /// domain's tickets.
+    /// Ends a gate, and tells both parts of its words. Each cap is the domain's CPUs times a limit
+    /// of 10485 to 1048576; what is used is at most the cap, and has room for the tickets that are
+    /// handed in; and where all pieces are handed in, it is exactly the sum of the bandwidths of
+    /// that domain's tickets.
     pub fn close(self, blanks: Vec<Blank>, tickets: Vec<Ticket>) -> Words
         requires blanks { All (λ b. b.gate ≡ self) blanks.items }
         requires tickets { All (λ t. t.gate ≡ self) tickets.items }
@@ -119,9 +119,9 @@ impl Gate {
 
     /// One try to take a ticket of so much in a domain: by the piece's seat one load, and then at
     /// most one compare_exchange. The rule is the admission test of sched-deadline.rst, "Bandwidth
-    /// management", of the used part and the cap of the word that the load found; as much as the cap
-    /// is granted. The contract tells what the piece found; a look at the word that needs no seat
-    /// would not show in it.
+    /// management", of the used part and the cap of the word that the load found; as much as the
+    /// cap is granted. The contract tells what the piece found; a look at the word that needs no
+    /// seat would not show in it.
     ///
     /// [`Take::Refused`] (EBUSY 16) where what is used of that word and `bw` are above its cap:
     /// nothing has changed, and the blank comes back. [`Take::Raced`] where the exchange found
@@ -236,9 +236,9 @@ impl Gate {
         unreachable!()
     }
 
-    /// Gives a ticket's bandwidth back, by one fetch_sub, which always succeeds: the used part falls
-    /// by it, and the cap stays. The piece is then a blank, which found the word with the bandwidth
-    /// still in its used part.
+    /// Gives a ticket's bandwidth back, by one fetch_sub, which always succeeds: the used part
+    /// falls by it, and the cap stays. The piece is then a blank, which found the word with the
+    /// bandwidth still in its used part.
     pub fn give(&self, ticket: Ticket) -> Blank
         requires { ticket.gate ≡ self.now }
         ensures { IsGive ticket result }
