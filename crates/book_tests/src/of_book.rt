@@ -359,11 +359,17 @@ const LIMITS: &[u8] =
 // The word of the domain, which a ticket of no bandwidth finds.
 fn whole_word(rt: &impl Abort, desk: &mut Desk) -> u64 {
     let blank = next_blank(rt, desk);
-    let Take::Taken(ticket) = desk.gate.try_take(blank, 0, 0) else {
-        panic!(rt; "not taken")
+    let blank = match desk.gate.try_take(blank, 0, 0) {
+        Take::Taken(ticket) => desk.gate.give(ticket),
+        Take::Refused { blank, seen: _ } => blank,
+        Take::Raced {
+            blank,
+            expected: _,
+            seen: _,
+        } => blank,
     };
-    let word = ticket.last();
-    let _ = desk.blanks.push(desk.gate.give(ticket));
+    let word = blank.last();
+    let _ = desk.blanks.push(blank);
     word
 }
 

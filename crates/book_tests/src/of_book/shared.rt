@@ -8,8 +8,8 @@ ghost use Rattle.call_book.specs.Limits.{IsCall, IsNumber};
 ghost use Rattle.call_book.specs.Book.{IsMember};
 ghost use Rattle.call_book.specs.Pieces.{IsTicketOf};
 
-use attr_check::Params;
 use super::room_of;
+use attr_check::Params;
 use bw_gate::{Blank, Gate, Take, Ticket};
 use call_book::{Admit, Closed, Domain, Pass, Prepared, prepare};
 use domain_run::{Call, NoMemory};
