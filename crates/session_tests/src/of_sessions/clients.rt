@@ -173,6 +173,20 @@ fn waiting(rt: HostRuntime) -> Result<(), Fail> {
     Ok(())
 }
 
+// All ticks of a call are made, up to the most that one may ask for.
+#[test]
+fn most_ticks_of_a_call(rt: HostRuntime) -> Result<(), Fail> {
+    let text =
+        b"dlcalls 1\ndomain 1 1048576\nadvance 1 60000000\nadmit 1 1 a 2 8 8 - 0 -1:1{r1,t8}\nadvance 1 3000\n";
+    let (said, report) = ran(&rt, rt.alloc(), text, 4)?;
+    assert_eq!(rt;
+        said.as_str(),
+        "Done { ticks: 60000000 }; Admitted; Done { ticks: 3000 }; "
+    );
+    assert_eq!(rt; entered(&report), 3);
+    Ok(())
+}
+
 #[test]
 fn regrade(rt: HostRuntime) -> Result<(), Fail> {
     let text =
