@@ -1,11 +1,11 @@
 -- A book whose domain's limit was to change.
-use Rattle.std.proofs.Common.{◌≡◌, inl, inr, ℕ, ◌+◌, ◌*◌, ◌<◌, ◌≤◌, ◌^◌, Bool, true, false, cond, ltb, Option, Some, None, List, [], ◌∷◌, ◌++◌, length, refl, sym, ap, ◌∙◌, subst, arith, append_assoc}
+use Rattle.std.proofs.Common.{◌≡◌, inl, inr, ℕ, ◌*◌, ◌<◌, ◌≤◌, ◌^◌, Bool, true, false, cond, ltb, Option, Some, None, List, [], ◌∷◌, ◌++◌, length, refl, sym, ap, ◌∙◌, subst, arith, append_assoc}
 use Rattle.std.specs.Prelude.{◌≢◌, ◌⊎◌, IfNone, IfSome, slice_index}
 use Rattle.std.proofs.lemmas.Bool.{cases_lt, ltb-false, ltb-true}
 use Rattle.std.proofs.lemmas.List.{get_or_past}
 use Rattle.attr_check.specs.Ratio.{cap}
 use Rattle.pass_seats.specs.Lists.{PassView}
-use Rattle.bw_gate.specs.Word.{used_of, cap_of, word_of, IsWord}
+use Rattle.bw_gate.specs.Word.{used_of, cap_of, word_of}
 use Rattle.bw_gate.specs.Pieces.{GateId, BlankView, cpus_of, last_of}
 use Rattle.bw_gate.specs.Answers.{words_of, IsLimited, cap_by}
 use Rattle.bw_gate.specs.declared.answer.Limit.TheVariants as gate
@@ -13,14 +13,13 @@ use Rattle.domain_run.specs.declared.call.Call.TheVariants as Call
 use Rattle.domain_run.specs.declared.call.Reply.{Reply}
 use Rattle.domain_run.specs.declared.call.Reply.TheVariants as replies
 use Rattle.domain_run.specs.Domain.{Domain, IsLimit}
-use Rattle.domain_run.specs.Calls.{reply_to, after_call, is_refusal, limit_reply, set_reply, with_limit}
+use Rattle.domain_run.specs.Calls.{after_call, is_refusal, limit_reply, set_reply, with_limit}
 use Rattle.domain_run.specs.Tick.{sum_of}
 use Rattle.domain_run.specs.Keys.{keys}
 use Rattle.domain_run.specs.Run.{run_of}
-use Rattle.domain_run.proofs.CallerLemmas.{refused_keeps, limit_tasks}
+use Rattle.domain_run.proofs.CallerLemmas.{refused_keeps}
 use Rattle.call_book.specs.declared.section.Entry.{Entry}
 use Rattle.call_book.specs.Limits.{IsCall}
-use Rattle.call_book.specs.Pieces.{HoldsTickets}
 use Rattle.call_book.specs.Book.{BookView, calls_of, state_of, entry_by, with_entry, EntersAlone, HasItsLimit}
 use Rattle.call_book.specs.LimitAnswers.{word_of_blank, AsksForLimit, IsLimitSet, IsBusyBySum, IsBusyByWord}
 use Rattle.call_book.specs.private.Ledger.{LedgerView}
@@ -67,12 +66,14 @@ busy_answer cpus domain limit blank back seen used machine asked told =
     let found : back.found ≡ (blank.found ++ words) ++ seen ∷ [] = ap (λ (x : BlankView). x.found) h.blank in
     let last : word_of_blank back ≡ seen = ap last_of found ∙ last_of_push (blank.found ++ words) seen in
     let caps : cap_by blank.gate domain limit ≡ cap cpus limit = ap (λ (n : ℕ). n * limit) machine in
-    let over : cap_by blank.gate domain limit < used_of seen = h.over in
-    (record {
-      asked = subst (λ (n : ℕ). IsLimited blank domain limit (gate.Refused back n)) (sym last) asked;
-      answer = (ap used_of last ∙ sym told, omega (arith, told, caps, over));
-      own = ap (λ (x : BlankView). x.gate) h.blank;
-    }, used_within (cpus_of blank.gate domain) seen used h.word (sym told))
+    let over : cap_by blank.gate domain limit < used_of seen = h.over in (
+      record {
+        asked = subst (λ (n : ℕ). IsLimited blank domain limit (gate.Refused back n)) (sym last) asked;
+        answer = (ap used_of last ∙ sym told, omega (arith, told, caps, over));
+        own = ap (λ (x : BlankView). x.gate) h.blank;
+      },
+      used_within (cpus_of blank.gate domain) seen used h.word (sym told),
+    )
 
 -- ---- replies
 

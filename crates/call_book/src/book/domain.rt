@@ -338,7 +338,7 @@ impl Domain {
     /// [`State::set_limit`](domain_run::State::set_limit) does, in the gate's word too: it stands
     /// for a write to sched_rt_runtime_us (sched-deadline.rst, "System wide settings"). Tested in
     /// this order: the history is full; the sum of bandwidths is above CPUs times the new limit, and
-    /// then the word is not asked; more of the word is used than that, and so it is asked by
+    /// then the word is not asked; more than that is used of the word, which is asked by
     /// [`Gate::limit`](bw_gate::Gate::limit), again as long as other clients come between. Where it
     /// is set, the word carries the new cap and the state has the new limit. The reply is entered, a
     /// refusal too, and the blank comes back in each case. Takes no memory.
