@@ -52,9 +52,9 @@ def trace(*switches):
     return HEADER + calls(*(switch(*one) for one in switches))
 
 
-def replayed(name, lines, *switches):
+def replayed(name, lines, *switches, header="dlcalls 1"):
     """A calls text, one line after the other, and the switches of its trace."""
-    return Row(name, "replay", calls("dlcalls 1", *lines), 0, trace(*switches), "")
+    return Row(name, "replay", calls(header, *lines), 0, trace(*switches), "")
 
 
 def bad(name, text, line):
@@ -130,6 +130,15 @@ TEXTS = [
         (0, IDLE, "R", A),
         (1, A, "X", IDLE),
     ),
+    replayed(
+        "the limit changes the rate of a task that reclaims",
+        [DOMAIN, "admit 1 1 a 4 8 8 R 0 1:1{r1000}", "advance 1 4", "limit 1 786432", "advance 1 5"],
+        (0, IDLE, "R", A),
+        (7, A, "R+", IDLE),
+        (8, IDLE, "R", A),
+        header="dlcalls 2",
+    ),
+    replayed("a limit that the word refused", ["domain 1 524288", "limit 1 131072 busy 262144"], header="dlcalls 2"),
     Row("members in the order of the text", "run --print calls", MEMBER_ORDER, 0, calls("dlcalls 1", "domain 1 996147", "admit 1 1 p 5 10 10 - 0 -1:2{r3,s7}1{r4,s2,r1}"), ""),
     Row("the first three of eight find room", "run --domains 2 --print calls", RACE, 0, RACE_CALLS, BUSY),
     Row("the calls that were made, replayed", "replay", RACE_CALLS, 0, HEADER, ""),
@@ -137,7 +146,7 @@ TEXTS = [
     Row("CPUs of no domain", "run --domains 2", ELSEWHERE, 0, HEADER, "dlsim: task 1 EPERM 1\n"),
 ]
 
-# The first line at which a text stops being the front of one that is read: no CPU, a ninth section, a line that is cut; carriage returns;
+# The first line at which a text stops being the front of one that is read: a header of another text; no CPU, a ninth section, a line that is cut; carriage returns;
 # NUL in a name, behind the text and in place of a line's end; bytes that are no UTF-8; no text at all; a line of 16 MB.
 BAD_LINES = [
     bad("no CPU", calls("dlcalls 1", DOMAIN, "domain 0 1048576"), 3),
@@ -155,6 +164,13 @@ BAD_LINES = [
         bad(f"16 MB of {line[-1]}", calls("dlcalls 1", DOMAIN, line + line[-1] * 16777216), 3)
         for line in ("admit 1 1 a", "advance 1 1", "admit 1 1 a 2 5 5 - 0 1:1{r4")
     ),
+    bad("a limit behind dlcalls 1", calls("dlcalls 1", DOMAIN, "limit 1 10485"), 3),
+    bad("a limit that is too low", calls("dlcalls 2", DOMAIN, "limit 1 10484"), 3),
+    bad("more than the word holds", calls("dlcalls 2", DOMAIN, "limit 1 10485 busy 67108865"), 3),
+    bad("dlcalls 2 alone", calls("dlcalls 2"), 2),
+    bad("no limit behind dlcalls 2", calls("dlcalls 2", DOMAIN, "advance 1 1"), 4),
+    bad("no room for a limit", calls("dlcalls 2", *["domain 1 10485"] * 8, *["wake 1 1"] * 65536), 65545),
+    Row("room for one limit", "replay", calls("dlcalls 2", *["domain 1 10485"] * 8, *["wake 1 1"] * 65535, "limit 1 10485"), 0, HEADER, ""),
     Row("65,536 calls", "replay", calls("dlcalls 1", DOMAIN, *["wake 1 1"] * 65536), 0, HEADER, ""),
     bad("65,537 calls", calls("dlcalls 1", DOMAIN, *["wake 1 1"] * 65537), 65539),
 ]

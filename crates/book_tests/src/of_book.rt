@@ -1,8 +1,10 @@
 ghost use Rattle.std.specs.Prelude.{◌≡◌, ◌<◌, ◌≤◌, IfOk, IfSome, All, length};
 ghost use Rattle.call_book.specs.Limits.{IsCall, IsEntry};
 
-use bw_gate::{Blank, Gate, Take, Ticket};
-use call_book::{Admit, Closed, Domain, Entry, Pass, Prepared, Section, prepare, read_calls};
+use bw_gate::{Blank, Gate, Room, Take, Ticket, used_of};
+use call_book::{
+    Admit, Closed, Domain, Entry, Limit, Pass, Prepared, Section, prepare, read_calls,
+};
 use domain_run::{Call, NoMemory, Reply, State};
 use std::alloc::Global;
 use std::process::Abort;
@@ -24,11 +26,19 @@ struct Desk {
     blanks: Vec<Blank>,
     ghost own: { domain.gate ≡ gate },
     ghost first: { domain.domain ≡ 0 },
-    ghost one: { 0 < length gate.terms.caps },
+    ghost one: { 0 < length gate.terms.cpus },
     ghost spine: { pass.spine ≡ domain.spine },
     ghost some: { 0 < pass.client },
     ghost most: { pass.client ≤ domain.clients },
     ghost blanks_own: { All (λ b. b.gate ≡ gate) blanks.items },
+}
+
+// What a gate of one domain has room for.
+fn room_of(cpus: u32, limit: u64) -> Room
+    ensures { (result.cpus ≡ cpus) × (result.limit ≡ limit) }
+{
+    let cpus = u64::from(cpus);
+    Room { cpus, limit }
 }
 
 fn opened(rt: &impl Abort, alloc: Global, limit: u64, history: usize) -> Result<Desk, NoMemory>
@@ -52,7 +62,7 @@ fn opened_with(
     requires history { (0 < history) × (history ≤ 65536) }
     requires pieces { (0 < pieces) × (pieces ≤ 4096) }
 {
-    let Ok((gate, blanks)) = Gate::open(alloc, &[u64::from(cpus) * limit], pieces) else {
+    let Ok((gate, blanks)) = Gate::open(alloc, &[room_of(cpus, limit)], pieces) else {
         return Err(NoMemory);
     };
     let (domain, mut passes) = Domain::open(alloc, &gate, 0, cpus, limit, 1, history)?;
@@ -103,7 +113,11 @@ fn admit(rt: &impl Abort, desk: &mut Desk, prepared: Prepared) -> Reply
     let blank = next_blank(rt, desk);
     let ticket = match desk.gate.try_take(blank, 0, prepared.bw()) {
         Take::Taken(ticket) => ticket,
-        Take::Refused { blank: _, seen } => return Reply::Busy { seen },
+        Take::Refused { blank: _, seen } => {
+            return Reply::Busy {
+                seen: used_of(seen),
+            };
+        }
         Take::Raced {
             blank: _,
             expected: _,
@@ -123,6 +137,24 @@ fn admit(rt: &impl Abort, desk: &mut Desk, prepared: Prepared) -> Reply
         } => (ticket, Reply::Twice),
     };
     desk.gate.give(ticket);
+    reply
+}
+
+// Changes the limit by a blank, which the client has again then.
+fn set_limit(rt: &(impl Abort + Wait), desk: &mut Desk, limit: u64) -> Reply
+    requires { (10485 ≤ limit) × (limit ≤ 1048576) }
+    ensures { desk.new.gate ≡ desk.old.gate }
+{
+    let blank = next_blank(rt, desk);
+    let (blank, reply) = match desk
+        .domain
+        .limit(rt, &mut desk.pass, &desk.gate, blank, limit)
+    {
+        Limit::Set { blank } => (blank, Reply::Set),
+        Limit::Busy { blank, seen } => (blank, Reply::Busy { seen }),
+        Limit::Full { blank } => (blank, Reply::Full),
+    };
+    let _ = desk.blanks.push(blank);
     reply
 }
 
@@ -169,6 +201,7 @@ fn make<R: Abort + Threads + Wait>(
         Call::Advance { ticks } => {
             Ok(desk.domain.advance(rt, &mut desk.pass, &desk.gate, *ticks)?)
         }
+        Call::Limit { limit, word: _ } => Ok(set_limit(rt, desk, *limit)),
     }
 }
 
@@ -189,8 +222,8 @@ fn replies<R: Abort + Threads + Wait>(
     Ok(replies)
 }
 
-// Closes book and gate: the state, the word, and how many calls were entered.
-fn closed(alloc: Global, desk: Desk) -> (State, u64, usize) {
+// Closes book and gate: the state, what is used of the word, and the calls that were entered.
+fn closed(alloc: Global, desk: Desk) -> (State, u64, Vec<Entry>) {
     let Desk {
         gate,
         domain,
@@ -206,13 +239,13 @@ fn closed(alloc: Global, desk: Desk) -> (State, u64, usize) {
         blanks: _,
     } = domain.close(passes);
     let words = gate.close(blanks, tickets);
-    (state, words.word[0], entries.len())
+    (state, words.word[0], entries)
 }
 
 // The same with the sum of bandwidths in place of the state.
 fn end(alloc: Global, desk: Desk) -> (u64, u64, usize) {
     let (state, word, calls) = closed(alloc, desk);
-    (state.sum(), word, calls)
+    (state.sum(), word, calls.len())
 }
 
 // A book of one entry: the second admission is Full and its ticket comes back, as the word shows.
@@ -317,6 +350,69 @@ fn refused_by_the_word(rt: HostRuntime) -> Result<(), Fail> {
     let busy = Reply::Busy { seen: 524288 };
     assert_eq!(rt; got?.as_slice(), [busy].as_slice());
     assert_eq!(rt; ends, (262144, 262144, 2));
+    Ok(())
+}
+
+const LIMITS: &[u8] =
+    b"dlcalls 2\ndomain 1 524288\nadmit 1 1 a 2 8 8 - 0 1:1{r1}\nlimit 1 131072\nlimit 1 262144\nadmit 1 2 b 2 8 8 - 0 1:1{r1}\nlimit 1 1048576\nadmit 1 3 b 2 8 8 - 0 1:1{r1}\n";
+
+// The word of the domain, which a ticket of no bandwidth finds.
+fn whole_word(rt: &impl Abort, desk: &mut Desk) -> u64 {
+    let blank = next_blank(rt, desk);
+    let blank = match desk.gate.try_take(blank, 0, 0) {
+        Take::Taken(ticket) => desk.gate.give(ticket),
+        Take::Refused { blank, seen: _ } => blank,
+        Take::Raced {
+            blank,
+            expected: _,
+            seen: _,
+        } => blank,
+    };
+    let word = blank.last();
+    let _ = desk.blanks.push(blank);
+    word
+}
+
+// limit_calls: a limit below what the task has is refused, and so is a second task below the next
+// limit, by the word; below the last one there is room. The word carries its cap of 2^20 then.
+#[test]
+fn limit_calls(rt: HostRuntime) -> Result<(), Fail> {
+    let mut desk = opened(&rt, rt.alloc(), 524288, 9)?;
+    let got = replies(&rt, rt.alloc(), &mut desk, LIMITS);
+    let word = whole_word(&rt, &mut desk);
+    let ends = end(rt.alloc(), desk);
+    let (granted, busy) = (Reply::Admitted, Reply::Busy { seen: 262144 });
+    assert_eq!(rt;
+        got?.as_slice(),
+        [granted, busy, Reply::Set, busy, Reply::Set, granted].as_slice()
+    );
+    assert_eq!(rt; word, 4503599627894784);
+    assert_eq!(rt; ends, (524288, 524288, 5));
+    Ok(())
+}
+
+// A limit for which a rival's ticket leaves no room at the word.
+fn limit_beside_a_rival(rt: &(impl Abort + Wait), desk: &mut Desk) -> Reply {
+    let other = rival(rt, desk);
+    let reply = set_limit(rt, desk, 131072);
+    desk.gate.give(other);
+    reply
+}
+
+// limit_refused_by_the_word: the domain lists no task, and a ticket that no task has yet is above
+// the new limit.
+#[test]
+fn limit_refused_by_the_word(rt: HostRuntime) -> Result<(), Fail> {
+    let mut desk = opened(&rt, rt.alloc(), 524288, 9)?;
+    let reply = limit_beside_a_rival(&rt, &mut desk);
+    let (state, word, entries) = closed(rt.alloc(), desk);
+    assert_eq!(rt; reply, Reply::Busy { seen: 262144 });
+    assert_eq!(rt; (state.limit(), word), (524288, 0));
+    let shown = format!(in rt.alloc(); "{entries:?}")?;
+    assert_eq!(rt;
+        shown.as_str(),
+        "[Entry { client: 1, seq: 0, call: Limit { limit: 131072, word: Some(262144) }, reply: Some(Busy { seen: 262144 }) }]"
+    );
     Ok(())
 }
 

@@ -1,5 +1,6 @@
 mod bad_lines;
 mod hostile;
+mod limits;
 mod written;
 
 use call_book::{CallsFault, read_calls};
@@ -67,11 +68,11 @@ fn empty_and_bare_texts(rt: HostRuntime) -> Result<(), Fail> {
 }
 
 /// The length of the first front of a text with another bad line than its last: an unfinished line
-/// is bad, and whole lines of a section are a text.
-fn first_wrong_front(alloc: Global, text: &[u8]) -> Result<Option<usize>, CallsFault> {
+/// is bad, and whole lines are a text from line `least` on.
+fn first_wrong_front(alloc: Global, text: &[u8], least: u64) -> Result<Option<usize>, CallsFault> {
     let mut lines: u64 = 0;
     for (i, b) in text.iter().enumerate() {
-        let whole = lines >= 2 && text[..i].ends_with(b"\n");
+        let whole = lines >= least && text[..i].ends_with(b"\n");
         let want = if whole { 0 } else { lines.saturating_add(1) };
         if bad_line(alloc, &text[..i])? != want {
             return Ok(Some(i));
@@ -85,12 +86,9 @@ fn first_wrong_front(alloc: Global, text: &[u8]) -> Result<Option<usize>, CallsF
 
 #[test]
 fn fronts_of_a_text(rt: HostRuntime) -> Result<(), Fail> {
-    assert_eq!(rt; first_wrong_front(rt.alloc(), THROTTLED.as_bytes())?, None);
-    assert_eq!(rt; first_wrong_front(rt.alloc(), ALL_KINDS.as_bytes())?, None);
-    assert_eq!(rt;
-        first_wrong_front(rt.alloc(), TWO_SECTIONS.as_bytes())?,
-        None
-    );
+    for text in [THROTTLED, ALL_KINDS, TWO_SECTIONS] {
+        assert_eq!(rt; first_wrong_front(rt.alloc(), text.as_bytes(), 2)?, None);
+    }
     Ok(())
 }
 

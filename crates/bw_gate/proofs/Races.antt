@@ -4,8 +4,9 @@ use Rattle.std.proofs.lemmas.List.{append-nil, append_assoc}
 use Rattle.std.proofs.lemmas.List.Elements.{All-nil, All-push}
 use Rattle.bw_gate.specs.declared.answer.Take.{Take}
 use Rattle.bw_gate.specs.declared.answer.Regrade.{Regrade}
+use Rattle.bw_gate.specs.declared.answer.Limit.{Limit}
 use Rattle.bw_gate.specs.Pieces.{GateId, BlankView, TicketView}
-use Rattle.bw_gate.specs.Answers.{blank_found, ticket_found, Race, words_of, IsRaceOfTake, IsRaceOfRegrade, IsTakeRaced, IsRegradeRaced, IsTryOfTake, IsTryOfRegrade, IsTakeDecided, IsRegradeDecided, IsTake, IsRegrade}
+use Rattle.bw_gate.specs.Answers.{blank_found, ticket_found, Race, words_of, IsRaceOfTake, IsRaceOfRegrade, IsTakeRaced, IsRegradeRaced, IsTryOfTake, IsTryOfRegrade, IsTakeDecided, IsRegradeDecided, IsTake, IsRegrade, IsRaceOfLimit, IsLimitRaced, IsTryOfLimit, IsLimitDecided, IsLimited}
 
 words_push : (races : List Race) (race : Race) → words_of (races ++ race ∷ []) ≡ words_of races ++ race.expected ∷ race.seen ∷ []
 words_push [] race = refl
@@ -63,7 +64,7 @@ not_yet_changed t bw = record {
 pub changes_again : (t : TicketView) (bw : ℕ) (u w : TicketView) (race : Race) → HasRacedToChange t bw u → IsRegradeRaced u bw w race → HasRacedToChange t bw w
 changes_again t bw u w race before h = record {
   races = before.races ++ race ∷ [];
-  raced = All-push (IsRaceOfRegrade t bw) before.races race before.raced (let r = subst (λ (x : TicketView). IsRaceOfRegrade x bw race) before.ticket h.raced in record { held = r.held; room = r.room; other = r.other });
+  raced = All-push (IsRaceOfRegrade t bw) before.races race before.raced (let r = subst (λ (x : TicketView). IsRaceOfRegrade x bw race) before.ticket h.raced in record { word = r.word; held = r.held; room = r.room; other = r.other });
   ticket =
       h.ticket ∙ ap (λ (x : TicketView). ticket_found x (race.expected ∷ race.seen ∷ [])) before.ticket
       ∙ ap (with_words t) (found_more t.found before.races race);
@@ -74,5 +75,35 @@ regrade_decided t bw u answer before last decided = record {
   races = before.races;
   raced = before.raced;
   last = subst (λ (x : TicketView). IsTryOfRegrade x bw answer) before.ticket last;
+  decided = decided;
+}
+
+-- a blank, after some raced tries to set a limit
+pub record HasRacedToLimit (b : BlankView) (d limit : ℕ) (c : BlankView) : Type 0 where
+  pub races : List Race
+  pub raced : All (IsRaceOfLimit b.gate d limit) races
+  pub blank : c ≡ blank_found b (words_of races)
+
+pub not_yet_set : (b : BlankView) (d limit : ℕ) → HasRacedToLimit b d limit b
+not_yet_set b d limit = record {
+  races = [];
+  raced = All-nil (IsRaceOfLimit b.gate d limit);
+  blank = ap (λ ws. record { gate = b.gate; found = ws }) (sym (append-nil b.found));
+}
+
+pub limits_again : (b : BlankView) (d limit : ℕ) (c e : BlankView) (race : Race) → HasRacedToLimit b d limit c → IsLimitRaced c d limit e race → HasRacedToLimit b d limit e
+limits_again b d limit c e race before h = record {
+  races = before.races ++ race ∷ [];
+  raced = All-push (IsRaceOfLimit b.gate d limit) before.races race before.raced (subst (λ (g : GateId). IsRaceOfLimit g d limit race) (ap (λ (x : BlankView). x.gate) before.blank) h.raced);
+  blank =
+      h.blank ∙ ap (λ (x : BlankView). blank_found x (race.expected ∷ race.seen ∷ [])) before.blank
+      ∙ ap (λ ws. record { gate = b.gate; found = ws }) (found_more b.found before.races race);
+}
+
+pub limit_decided : (b : BlankView) (d limit : ℕ) (c : BlankView) (answer : Limit) → HasRacedToLimit b d limit c → IsTryOfLimit c d limit answer → IsLimitDecided answer → IsLimited b d limit answer
+limit_decided b d limit c answer before last decided = record {
+  races = before.races;
+  raced = before.raced;
+  last = subst (λ (x : BlankView). IsTryOfLimit x d limit answer) before.blank last;
   decided = decided;
 }

@@ -1,11 +1,12 @@
 -- The gate's steps are those of the pure core (own). To the core a domain of a gate is one with the
--- gate's cap and word, all of whose tickets are in hand, each under the number of its seat as its
--- id.
+-- two parts of its word, the cap and what is used, all of whose tickets are in hand, each under the
+-- number of its seat as its id.
 use Rattle.std.specs.Prelude.{ℕ, ◌≡◌, ◌+◌, ◌-◌, ◌==◌, if◌then◌else◌, List, [], ◌∷◌, ◌++◌, Some, map, slice_index}
 use Rattle.bw_world.specs.declared.step.Outcome.TheVariants.{Saw, Over, Lost}
+use Rattle.bw_world.specs.declared.step.Word.{Word}
 use Rattle.bw_world.specs.declared.ticket.Ticket.{Ticket}
 use Rattle.bw_world.specs.WorldView.{DomainView}
-use Rattle.bw_world.specs.DomainStep.{stays, done, in_hand_of, without, with_bw, loaded, taken, regraded_in_hand, given}
+use Rattle.bw_world.specs.DomainStep.{stays, done, word_in, limited, in_hand_of, without, with_bw, loaded, taken, regraded_in_hand, given}
 use Rattle.bw_world.specs.ExactWord.{IsExactDomain}
 use Rattle.bw_gate.specs.declared.answer.Take.{Take}
 use Rattle.bw_gate.specs.declared.answer.Take.TheVariants as takes
@@ -14,10 +15,13 @@ use Rattle.bw_gate.specs.declared.answer.Regrade.TheVariants as regrades
 use Rattle.bw_gate.specs.declared.view.Piece.{Piece}
 use Rattle.bw_gate.specs.declared.view.Piece.TheVariants as pieces
 use Rattle.bw_gate.specs.declared.view.View.{View}
-use Rattle.bw_gate.specs.Terms.{TermsView, cap_in}
-use Rattle.bw_gate.specs.Pieces.{BlankView, TicketView, cap_of}
+use Rattle.bw_gate.specs.declared.answer.Limit.{Limit}
+use Rattle.bw_gate.specs.declared.answer.Limit.TheVariants as limits
+use Rattle.bw_gate.specs.Terms.{TermsView}
+use Rattle.bw_gate.specs.Word.{used_of, cap_of, word_of}
+use Rattle.bw_gate.specs.Pieces.{BlankView, TicketView}
 use Rattle.bw_gate.specs.Table.{IsKept}
-use Rattle.bw_gate.specs.Answers.{IsTryOfTake, IsTryOfRegrade, IsGive, IsLoad}
+use Rattle.bw_gate.specs.Answers.{cap_by, IsTryOfTake, IsTryOfRegrade, IsTryOfLimit, IsGive, IsLoad}
 
 -- the tickets of a domain among some pieces, with one id
 abbrev pub tickets_in : ℕ → ℕ → List Piece → List Ticket
@@ -31,11 +35,15 @@ abbrev pub tickets_from : ℕ → ℕ → List View → List Ticket
 tickets_from d id [] = []
 tickets_from d id (v ∷ views) = tickets_in d id v.pieces ++ tickets_from d (id + 1) views
 
+-- a word, as the core sees it
+abbrev pub core_word : ℕ → Word
+core_word n = record { cap = cap_of n; used = used_of n }
+
 -- a domain of a gate's table, as the core sees it
-abbrev pub core_of : TermsView → List ℕ → List View → ℕ → DomainView
-core_of terms words views d = record {
-  cap = cap_in terms d;
-  word = slice_index words d;
+abbrev pub core_of : List ℕ → List View → ℕ → DomainView
+core_of words views d = record {
+  cap = cap_of (slice_index words d);
+  used = used_of (slice_index words d);
   in_hand = tickets_from d 0 views;
   admitted = [];
   changes = [];
@@ -45,62 +53,62 @@ core_of terms words views d = record {
 abbrev pub KeepsTheLaw : Type 0
 KeepsTheLaw =
     (terms : TermsView) (words : List ℕ) (views : List View) (d : ℕ)
-    → IsKept terms words views → IsExactDomain (core_of terms words views d)
+    → IsKept terms words views → IsExactDomain (core_of words views d)
 
 -- a domain, in which a ticket was taken; in which a ticket in hand has another bandwidth in the
 -- place of `was`; to which a ticket was given back
 abbrev pub with_taken : ℕ → ℕ → DomainView → DomainView
 with_taken id bw c =
-    record c { word = c.word + bw; in_hand = c.in_hand ++ record { id = id; bw = bw } ∷ [] }
+    record c { used = c.used + bw; in_hand = c.in_hand ++ record { id = id; bw = bw } ∷ [] }
 
 abbrev pub with_regraded : ℕ → ℕ → ℕ → DomainView → DomainView
 with_regraded id was bw c =
-    record c { word = c.word - was + bw; in_hand = map (with_bw id bw) c.in_hand }
+    record c { used = c.used - was + bw; in_hand = map (with_bw id bw) c.in_hand }
 
 abbrev pub with_given : ℕ → ℕ → DomainView → DomainView
-with_given id bw c = record c { word = c.word - bw; in_hand = without id c.in_hand }
+with_given id bw c = record c { used = c.used - bw; in_hand = without id c.in_hand }
 
--- a fact of whatever domain of this cap has this word, and of whatever id
-abbrev pub Everywhere : ℕ → ℕ → (ℕ → DomainView → Type 0) → Type 0
-Everywhere cap word Fact = (id : ℕ) (c : DomainView) → c.cap ≡ cap → c.word ≡ word → Fact id c
+-- a fact of whatever domain has this word, and of whatever id
+abbrev pub Everywhere : ℕ → (ℕ → DomainView → Type 0) → Type 0
+Everywhere n Fact = (id : ℕ) (c : DomainView) → word_in c ≡ core_word n → Fact id c
 
 -- what the core's Take answers and does where the domain has the word that the last step of a try
 -- found
 pub record IsCoreTaken (b : BlankView) (d bw : ℕ) (t : TicketView) : Type 0 where
   pub seen : ℕ
   pub found : t.found ≡ b.found ++ seen ∷ seen ∷ []
-  pub core : Everywhere (cap_of b.gate d) seen
-      (λ id c. taken id bw seen c ≡ done (with_taken id t.bw c))
+  pub core : Everywhere seen
+      (λ id c. taken id bw (core_word seen) c ≡ done (with_taken id t.bw c))
 
 abbrev pub IsCoreTake : BlankView → ℕ → ℕ → Take → Type 0
 IsCoreTake b d bw (takes.Taken t) = IsCoreTaken b d bw t
 IsCoreTake b d bw (takes.Refused e seen) =
-    Everywhere (cap_of b.gate d) seen (λ id c. taken id bw seen c ≡ stays c (Over c.word))
+    Everywhere seen (λ id c. taken id bw (core_word seen) c ≡ stays c (Over (word_in c)))
 IsCoreTake b d bw (takes.Raced e expected seen) =
-    Everywhere (cap_of b.gate d) seen (λ id c. taken id bw expected c ≡ stays c (Lost c.word))
+    Everywhere seen (λ id c. taken id bw (core_word expected) c ≡ stays c (Lost (word_in c)))
 
 -- what the core's Regrade answers and does to a ticket in hand, likewise
 pub record IsCoreChanged (t : TicketView) (bw : ℕ) (u : TicketView) : Type 0 where
   pub seen : ℕ
   pub found : u.found ≡ t.found ++ seen ∷ seen ∷ []
-  pub core : Everywhere (cap_of t.gate t.domain) seen
-      (λ id c. regraded_in_hand id t.bw bw seen c ≡ done (with_regraded id t.bw u.bw c))
+  pub core : Everywhere seen
+      (λ id c. regraded_in_hand id t.bw bw (core_word seen) c ≡ done (with_regraded id t.bw u.bw c))
 
 abbrev pub IsCoreRegrade : TicketView → ℕ → Regrade → Type 0
 IsCoreRegrade t bw (regrades.Changed u) = IsCoreChanged t bw u
 IsCoreRegrade t bw (regrades.Refused u seen) =
-    Everywhere (cap_of t.gate t.domain) seen
-    (λ id c. regraded_in_hand id t.bw bw seen c ≡ stays c (Over c.word))
+    Everywhere seen
+    (λ id c. regraded_in_hand id t.bw bw (core_word seen) c ≡ stays c (Over (word_in c)))
 IsCoreRegrade t bw (regrades.Raced u expected seen) =
-    Everywhere (cap_of t.gate t.domain) seen
-    (λ id c. regraded_in_hand id t.bw bw expected c ≡ stays c (Lost c.word))
+    Everywhere seen
+    (λ id c. regraded_in_hand id t.bw bw (core_word expected) c ≡ stays c (Lost (word_in c)))
 
 -- what the core's Give does, at whatever domain has the word that the step found and this ticket in
 -- hand
 pub record IsCoreGive (t : TicketView) (b : BlankView) : Type 0 where
   pub seen : ℕ
   pub found : b.found ≡ t.found ++ seen ∷ []
-  pub core : (id : ℕ) (c : DomainView) → c.word ≡ seen
+  pub core : (id : ℕ) (c : DomainView) → word_in c ≡ core_word seen
       → in_hand_of id c ≡ Some (record { id = id; bw = t.bw })
       → given id c ≡ done (with_given id t.bw c)
 
@@ -108,7 +116,7 @@ pub record IsCoreGive (t : TicketView) (b : BlankView) : Type 0 where
 -- nothing
 pub record IsCoreLoad (t : TicketView) (n : ℕ) (u : TicketView) : Type 0 where
   pub found : u.found ≡ t.found ++ n ∷ []
-  pub core : (c : DomainView) → c.word ≡ n → loaded c ≡ stays c (Saw n)
+  pub core : (c : DomainView) → word_in c ≡ core_word n → loaded c ≡ stays c (Saw (core_word n))
 
 -- a try of the gate answers as the core does
 abbrev pub TakesAsTheCore : Type 0
@@ -127,3 +135,26 @@ GivesAsTheCore = (t : TicketView) (b : BlankView) → IsGive t b → IsCoreGive 
 
 abbrev pub LoadsAsTheCore : Type 0
 LoadsAsTheCore = (t : TicketView) (n : ℕ) (u : TicketView) → IsLoad t n u → IsCoreLoad t n u
+
+-- what the core's Limit answers and does where the domain has the word that the last step of a try
+-- found; where it is done, the word left has the domain's new cap and what was used
+pub record IsCoreSet (b : BlankView) (d limit : ℕ) (e : BlankView) : Type 0 where
+  pub seen : ℕ
+  pub found : e.found ≡ b.found ++ seen ∷ word_of (cap_by b.gate d limit) (used_of seen) ∷ []
+  pub core : Everywhere seen (λ id c.
+      limited (cap_by b.gate d limit) (core_word seen) c
+      ≡ done (record c { cap = cap_by b.gate d limit }))
+
+abbrev pub IsCoreLimit : BlankView → ℕ → ℕ → Limit → Type 0
+IsCoreLimit b d limit (limits.Set e) = IsCoreSet b d limit e
+IsCoreLimit b d limit (limits.Refused e seen) =
+    Everywhere seen
+    (λ id c. limited (cap_by b.gate d limit) (core_word seen) c ≡ stays c (Over (word_in c)))
+IsCoreLimit b d limit (limits.Raced e expected seen) =
+    Everywhere seen
+    (λ id c. limited (cap_by b.gate d limit) (core_word expected) c ≡ stays c (Lost (word_in c)))
+
+abbrev pub LimitsAsTheCore : Type 0
+LimitsAsTheCore =
+    (b : BlankView) (d limit : ℕ) (answer : Limit)
+    → IsTryOfLimit b d limit answer → IsCoreLimit b d limit answer

@@ -5,7 +5,8 @@ use Rattle.atomic_table.specs.Table.{Step, Me}
 use Rattle.bw_gate.specs.declared.view.Piece.{Piece}
 use Rattle.bw_gate.specs.declared.view.Piece.TheVariants.{Blank, Ticket}
 use Rattle.bw_gate.specs.declared.view.View.{View}
-use Rattle.bw_gate.specs.Terms.{cap_in}
+use Rattle.bw_gate.specs.Terms.{cpus_in}
+use Rattle.bw_gate.specs.Word.{used_of, cap_of, IsWord}
 use Rattle.bw_gate.specs.Table.{held_by}
 
 -- the view after a step that found this word
@@ -16,22 +17,29 @@ told n v = record v { found = v.found ++ n ∷ [] }
 abbrev pub made : Piece → ℕ → View → View
 made piece n v = record v { pieces = piece ∷ []; found = v.found ++ n ∷ [] }
 
--- a word that a view can find: it has room for what the view's pieces hold of it, and is at most
--- its cap
+-- a word that a view can find: what it carries as used has room for what the view's pieces hold of
+-- it, and is at most the cap that it carries, which is one that the domain's CPUs can have
 pub record IsFound (d : ℕ) (v : View) (n : ℕ) : Type 0 where
-  pub room : held_by d v ≤ n
-  pub capped : n ≤ cap_in v.terms d
+  pub room : held_by d v ≤ used_of n
+  pub word : IsWord (cpus_in v.terms d) n
 
 module _ {S : Type 0} where
+  -- a step that only reads: no exchange, sum or store but of zeros has these numbers, and no word of
+  -- a gate is zero. The rule leaves the cap free, so that each kind of step that is no limit says by
+  -- its numbers that the cap stays
+  abbrev pub Reads : Step S → Type 0
+  Reads s = (s.first ≡ 0) × (s.second ≡ 0)
+
   -- load: the word stays
   abbrev pub Loads : Step S → Me S View → ℕ → Me S View → Type 0
-  Loads s me n after = IsFound s.word me.0 n × (after ≡ (told n me.0, me.1))
+  Loads s me n after = (IsFound s.word me.0 n × Reads s) × (after ≡ (told n me.0, me.1))
 
   -- take: compare_exchange of `first` for `second`; where `first` was found, the blank has become a
   -- ticket of this domain and of the bandwidth that the word gained
   abbrev pub Takes : Step S → Me S View → ℕ → Me S View → Type 0
   Takes s me n after =
-      MatchBool (n == s.first)
+      (cap_of s.second ≡ cap_of s.first)
+      × MatchBool (n == s.first)
       (after ≡ (made (Ticket s.word (s.second - s.first)) n me.0, me.1))
       (after ≡ (told n me.0, me.1))
 
@@ -39,15 +47,27 @@ module _ {S : Type 0} where
   -- word gained or lost
   abbrev pub Regrades : Step S → Me S View → ℕ → Me S View → Type 0
   Regrades s me n after =
-      MatchBool (n == s.first)
+      (cap_of s.second ≡ cap_of s.first)
+      × MatchBool (n == s.first)
       (after ≡ (made (Ticket s.word (s.second + held_by s.word me.0 - s.first)) n me.0, me.1))
       (after ≡ (told n me.0, me.1))
 
   -- give: fetch_sub of the ticket's bandwidth; it has become a blank
   abbrev pub Gives : Step S → Me S View → ℕ → Me S View → Type 0
-  Gives s me n after = IsFound s.word me.0 n × (after ≡ (made Blank n me.0, me.1))
+  Gives s me n after =
+      (IsFound s.word me.0 n × (s.first ≡ held_by s.word me.0) × (s.second ≡ 0))
+      × (after ≡ (made Blank n me.0, me.1))
 
--- Beside these four, open splits pieces off, renew makes a piece as open deals it, and close joins
+  -- limit: compare_exchange of `first` for `second`, by a blank that stays one; where `first` was
+  -- found, the word that the step left is appended in its place
+  abbrev pub Limits : Step S → Me S View → ℕ → Me S View → Type 0
+  Limits s me n after =
+      (me.0.pieces ≡ Blank ∷ [])
+      × MatchBool (n == s.first)
+      (after ≡ (told s.second me.0, me.1))
+      (after ≡ (told n me.0, me.1))
+
+-- Beside these five, open splits pieces off, renew makes a piece as open deals it, and close joins
 -- pieces, by loads that append nothing.
 
 -- open: the first piece goes to a new seat, and the others stay
@@ -62,18 +82,18 @@ abbrev pub renewed : View → View
 renewed v = record v { found = [] }
 
 abbrev pub Renews : {S : Type 0} → Step S → Me S View → ℕ → Me S View → Type 0
-Renews s me n after = after ≡ (renewed me.0, me.1)
+Renews s me n after = (after ≡ (renewed me.0, me.1)) × Reads s
 
 -- close: a new seat comes, which has no piece and knows the terms
 abbrev pub without_piece : View → View
 without_piece v = record v { pieces = []; found = [] }
 
 abbrev pub Comes : {S : Type 0} → Step S → Me S View → ℕ → Me S View → Type 0
-Comes s me n after = after ≡ (without_piece me.0, me.1)
+Comes s me n after = (after ≡ (without_piece me.0, me.1)) × Reads s
 
 -- close: it takes the pieces of all other seats in, and each of these is left with none
 abbrev pub gathered : View → View → View
 gathered v w = record v { pieces = v.pieces ++ w.pieces }
 
 abbrev pub spent : View
-spent = record { pieces = []; found = []; terms = record { caps = []; pieces = 0 } }
+spent = record { pieces = []; found = []; terms = record { cpus = []; pieces = 0 } }

@@ -1,3 +1,4 @@
+pub mod Word
 pub mod Terms
 pub mod Pieces
 pub mod Answers

@@ -1,19 +1,19 @@
 -- What a contract sees of a gate, a blank and a ticket (own).
 use Rattle.std.specs.Prelude.{ℕ, ◌==◌, if◌then◌else◌, List, [], ◌∷◌, sum_by}
 use Rattle.atomic_table.specs.Seated.{TableId}
-use Rattle.bw_gate.specs.Terms.{TermsView, cap_in}
+use Rattle.bw_gate.specs.Terms.{TermsView, cpus_in}
 
 -- a gate: which table of words it is, and its terms
 pub record GateId : Type 0 where
   pub table : TableId
   pub terms : TermsView
 
--- the cap of a domain of a gate
-abbrev pub cap_of : GateId → ℕ → ℕ
-cap_of gate d = cap_in gate.terms d
+-- the CPUs of a domain of a gate
+abbrev pub cpus_of : GateId → ℕ → ℕ
+cpus_of gate d = cpus_in gate.terms d
 
 -- a blank: the gate that it is used with, and the words that its steps have found since it was
--- dealt or renewed, oldest first
+-- dealt or renewed, oldest first; of a step that set a limit, the word that it left
 pub record BlankView : Type 0 where
   pub gate : GateId
   pub found : List ℕ
@@ -25,7 +25,7 @@ pub record TicketView : Type 0 where
   pub bw : ℕ
   pub found : List ℕ
 
--- the word that the last step found; 0 before any
+-- the word that the last step found, or left where it set a limit; 0 before any
 abbrev pub last_of : List ℕ → ℕ
 last_of [] = 0
 last_of (n ∷ []) = n

@@ -1,12 +1,13 @@
--- The table under a gate, and the rule that holds between any two steps on it (own): each word is
--- the sum of the bandwidths of the tickets of its domain, and at most its cap; and there are
--- exactly as many pieces as there were at the start, so that all pieces at home leave no bandwidth
--- elsewhere.
-use Rattle.std.specs.Prelude.{ℕ, ◌≡◌, ◌≤◌, ◌<◌, ◌==◌, if◌then◌else◌, List, [], length, replicate, sum_by, slice_index, All}
+-- The table under a gate, and the rule that holds between any two steps on it (own): what each word
+-- carries as used is the sum of the bandwidths of the tickets of its domain, and at most the cap
+-- that it carries, which is one that the domain's CPUs can have; and there are exactly as many pieces
+-- as there were at the start, so that all pieces at home leave no bandwidth elsewhere.
+use Rattle.std.specs.Prelude.{ℕ, ◌≡◌, ◌<◌, ◌==◌, if◌then◌else◌, List, [], length, replicate, sum_by, slice_index, All}
 use Rattle.bw_gate.specs.declared.view.Piece.{Piece}
 use Rattle.bw_gate.specs.declared.view.Piece.TheVariants.{Blank, Ticket}
 use Rattle.bw_gate.specs.declared.view.View.{View}
-use Rattle.bw_gate.specs.Terms.{TermsView, cap_in}
+use Rattle.bw_gate.specs.Terms.{TermsView, cpus_in}
+use Rattle.bw_gate.specs.Word.{used_of, IsWord}
 
 -- what a piece holds of a domain's word
 abbrev pub held : ℕ → Piece → ℕ
@@ -31,9 +32,9 @@ Carries terms v = 0 < length v.pieces → v.terms ≡ terms
 
 -- the rule
 pub record IsKept (terms : TermsView) (words : List ℕ) (views : List View) : Type 0 where
-  pub count : length words ≡ length terms.caps
-  pub exact : (d : ℕ) → slice_index words d ≡ held_by_all d views
-  pub capped : (d : ℕ) → slice_index words d ≤ cap_in terms d
+  pub count : length words ≡ length terms.cpus
+  pub exact : (d : ℕ) → used_of (slice_index words d) ≡ held_by_all d views
+  pub sound : (d : ℕ) → d < length terms.cpus → IsWord (cpus_in terms d) (slice_index words d)
   pub pieces : pieces_of_all views ≡ terms.pieces
   pub carried : All (Carries terms) views
 

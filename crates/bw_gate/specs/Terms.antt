@@ -1,20 +1,35 @@
 -- What a gate is opened with, and never changes (own).
-use Rattle.std.specs.Prelude.{ℕ, ◌<◌, ◌≤◌, ◌^◌, List, length, All, slice_index}
+use Rattle.std.specs.Prelude.{ℕ, ◌<◌, ◌≤◌, List, length, All, map, slice_index}
+use Rattle.bw_gate.specs.declared.terms.Room.{Room}
+use Rattle.bw_gate.specs.Word.{IsLimit}
 
--- the cap of each domain's word, in 1/2^20 of a CPU, and how many pieces there are: blanks and
--- tickets together
+-- the CPUs of each domain, and how many pieces there are: blanks and tickets together
 pub record TermsView : Type 0 where
-  pub caps : List ℕ
+  pub cpus : List ℕ
   pub pieces : ℕ
 
--- the cap of a domain
-abbrev pub cap_in : TermsView → ℕ → ℕ
-cap_in terms d = slice_index terms.caps d
+-- the CPUs of a domain
+abbrev pub cpus_in : TermsView → ℕ → ℕ
+cpus_in terms d = slice_index terms.cpus d
 
--- one to eight domains, each of a cap that no domain of 64 CPUs passes, and 1 to 4096 pieces
+-- 1 to 64 CPUs
+pub record IsMachine (cpus : ℕ) : Type 0 where
+  pub one : 1 ≤ cpus
+  pub most : cpus ≤ 64
+
+-- one to eight domains, each of 1 to 64 CPUs, and 1 to 4096 pieces
 pub record AreTerms (terms : TermsView) : Type 0 where
-  pub some : 0 < length terms.caps
-  pub few : length terms.caps ≤ 8
-  pub small : All (λ cap. cap ≤ 2 ^ 26) terms.caps
+  pub some : 0 < length terms.cpus
+  pub few : length terms.cpus ≤ 8
+  pub small : All IsMachine terms.cpus
   pub a_piece : 0 < terms.pieces
   pub not_many : terms.pieces ≤ 4096
+
+-- the terms of a gate that is opened with some rooms
+abbrev pub terms_of : List Room → ℕ → TermsView
+terms_of rooms n = record { cpus = map (λ r. r.cpus) rooms; pieces = n }
+
+-- rooms that a gate can be opened with
+pub record AreRooms (rooms : List Room) (n : ℕ) : Type 0 where
+  pub terms : AreTerms (terms_of rooms n)
+  pub limits : All (λ r. IsLimit r.limit) rooms

@@ -4,20 +4,21 @@ use crate::piece::{Blank, Ticket};
 pub enum Take {
     /// The bandwidth is taken.
     Taken(Ticket),
-    /// EBUSY 16: the word that was found has no room for the bandwidth. The word is as it was.
+    /// EBUSY 16: what is used of the word that was found and the bandwidth are above the cap that
+    /// this word carries. The word is as it was.
     Refused {
         /// The blank, as it was but for what it found.
         blank: Blank,
-        /// The word that was found.
+        /// The whole word that was found.
         seen: u64,
     },
     /// Another client changed the word between the two steps. The word is as that client left it.
     Raced {
         /// The blank, as it was but for what it found.
         blank: Blank,
-        /// The word that the first step found.
+        /// The whole word that the first step found.
         expected: u64,
-        /// The word that the second step found.
+        /// The whole word that the second step found.
         seen: u64,
     },
 }
@@ -26,30 +27,54 @@ pub enum Take {
 pub enum Regrade {
     /// The ticket has its new bandwidth.
     Changed(Ticket),
-    /// EBUSY 16: the word that was found has no room for the new bandwidth in place of the old one.
-    /// The word is as it was.
+    /// EBUSY 16: what is used of the word that was found, with the new bandwidth in place of the
+    /// old one, is above the cap that this word carries. The word is as it was.
     Refused {
         /// The ticket, as it was but for what it found.
         ticket: Ticket,
-        /// The word that was found.
+        /// The whole word that was found.
         seen: u64,
     },
     /// Another client changed the word between the two steps. The word is as that client left it.
     Raced {
         /// The ticket, as it was but for what it found.
         ticket: Ticket,
-        /// The word that the first step found.
+        /// The whole word that the first step found.
         expected: u64,
-        /// The word that the second step found.
+        /// The whole word that the second step found.
         seen: u64,
     },
 }
 
-/// The words of a closed gate.
+/// What [`Gate::try_limit`](crate::Gate::try_limit) answers.
+pub enum Limit {
+    /// The domain's word carries the new cap.
+    Set(Blank),
+    /// EBUSY 16: more is used of the word that was found than the new cap. The word is as it was.
+    Refused {
+        /// The blank, as it was but for what it found.
+        blank: Blank,
+        /// The whole word that was found.
+        seen: u64,
+    },
+    /// Another client changed the word between the two steps. The word is as that client left it.
+    Raced {
+        /// The blank, as it was but for what it found.
+        blank: Blank,
+        /// The whole word that the first step found.
+        expected: u64,
+        /// The whole word that the second step found.
+        seen: u64,
+    },
+}
+
+/// The two parts of the words of a closed gate.
 #[derive(Clone, Copy, Debug, PartialEq, Eq)]
 pub struct Words {
     /// How many domains the gate had.
     pub count: usize,
-    /// The word of each, in 1/2^20 of a CPU, and zeros behind.
+    /// What is used of the word of each, in 1/2^20 of a CPU, and zeros behind.
     pub word: [u64; 8],
+    /// The cap that the word of each carries, in 1/2^20 of a CPU, and zeros behind.
+    pub cap: [u64; 8],
 }

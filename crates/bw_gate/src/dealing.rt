@@ -2,10 +2,12 @@ ghost use Rattle.std.specs.Prelude.{◌≡◌, ◌<◌, ◌≤◌, ◌+◌, ℕ,
 ghost use Rattle.std.specs.Mem.Slots.{slots_items, slots_len, IsFull};
 ghost use Rattle.bw_gate.specs.Pieces.{sum_of};
 ghost use Rattle.bw_gate.specs.Table.{held_by, opened};
+ghost use Rattle.bw_gate.specs.Word.{used_of as used_part, cap_of as cap_part};
 
 use crate::piece::{Blank, Ticket};
 use crate::terms::{DOMAINS, Terms};
 use crate::view::{Deal, Exact, Gather, View};
+use crate::word::{cap_of, used_of};
 use atomic_table::{Closed, Seat, Shared};
 use std::alloc::Global;
 
@@ -84,16 +86,32 @@ pub(crate) fn gather_tickets(
     tickets.destroy_empty();
 }
 
-/// The words of a closed table, and zeros behind.
+/// What is used of the words of a closed table, and zeros behind.
 pub(crate) fn words_of(closed: &Closed<(), Global>, count: usize) -> [u64; DOMAINS]
     requires full { IsFull closed.now.words }
     requires count { (count ≡ slots_len closed.now.words)
         × (count ≡ length (slots_items closed.now.words)) × (count ≤ 8) }
-    ensures { (d : ℕ) → slice_index result d ≡ slice_index (slots_items closed.now.words) d }
+    ensures { (d : ℕ) →
+        slice_index result d ≡ used_part (slice_index (slots_items closed.now.words) d) }
 {
     let mut word = [0; DOMAINS];
     for i in 0..count {
-        word[i] = closed.word(i);
+        word[i] = used_of(closed.word(i));
     }
     word
+}
+
+/// The caps that the words of a closed table carry, and zeros behind.
+pub(crate) fn caps_of(closed: &Closed<(), Global>, count: usize) -> [u64; DOMAINS]
+    requires full { IsFull closed.now.words }
+    requires count { (count ≡ slots_len closed.now.words)
+        × (count ≡ length (slots_items closed.now.words)) × (count ≤ 8) }
+    ensures { (d : ℕ) →
+        slice_index result d ≡ cap_part (slice_index (slots_items closed.now.words) d) }
+{
+    let mut cap = [0; DOMAINS];
+    for i in 0..count {
+        cap[i] = cap_of(closed.word(i));
+    }
+    cap
 }

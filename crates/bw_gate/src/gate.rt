@@ -1,11 +1,13 @@
+mod limits;
 mod mark;
 
 use crate::answer::{Regrade, Take, Words};
-use crate::dealing::{deal, gather_blanks, gather_tickets, words_of};
+use crate::dealing::{caps_of, deal, gather_blanks, gather_tickets, words_of};
 use crate::piece::{Blank, Ticket};
-use crate::terms::{DOMAINS, Terms};
+use crate::terms::{Room, Terms, first_words};
 use crate::view;
 use crate::view::{Exact, View};
+use crate::word::{cap_of, used_of};
 use atomic_table::Table;
 use bw_world::NoMemory;
 pub use mark::Mark;
@@ -16,9 +18,11 @@ use std::sync::Wait;
 /// The bandwidth words of one to eight root domains, from which many clients take at once, without
 /// a lock and without waiting for one another. All bandwidths and words are in 1/2^20 of a CPU.
 ///
-/// To a contract a gate is its identity: which table of words it is, and its terms, the caps and
-/// the number of pieces. Between any two steps of any clients each word is exactly the sum of the
-/// bandwidths of the tickets of its domain, and at most its cap. A piece is used with its own gate.
+/// A word carries a cap, which is the domain's CPUs times a limit, and what is used of it. To a
+/// contract a gate is its identity: which table of words it is, and its terms, the CPUs and the
+/// number of pieces. Between any two steps of any clients the used part of each word is exactly the
+/// sum of the bandwidths of the tickets of its domain, and at most the cap that the word then
+/// carries. A piece is used with its own gate.
 #[derive(Drop)]
 pub struct Gate {
     table: Table<(), View, Terms, Exact, Global>,
@@ -35,7 +39,7 @@ impl Model for Gate {
     ghost view = { λ g. record { table = g.table.shared.table_id; terms = g.terms } };
 
     ghost invariant = { λ g. (g.table.shared.key ≡ g.terms)
-        × (g.table.shared.table_id.words ≡ length g.terms.caps)
+        × (g.table.shared.table_id.words ≡ length g.terms.cpus)
         × AreTerms g.terms
         × (g.table.shared.table_id.slots ≡ 0) };
 }
@@ -43,37 +47,43 @@ impl Model for Gate {
 impl Gate {
     ghost use Rattle.std.specs.Prelude.{◌≡◌, ◌<◌, ◌≤◌, ◌+◌, ◌^◌, [], ℕ, length, replicate, slice_index, All, IfOk};
     ghost use Rattle.bw_world.specs.WorldStep.{unit};
-    ghost use Rattle.bw_gate.specs.Terms.{AreTerms};
-    ghost use Rattle.bw_gate.specs.Pieces.{cap_of, sum_of};
+    ghost use Rattle.bw_gate.specs.Terms.{AreRooms, terms_of};
+    ghost use Rattle.bw_gate.specs.Word.{used_of as used_part, IsCap};
+    ghost use Rattle.bw_gate.specs.Pieces.{cpus_of, sum_of};
     ghost use Rattle.bw_gate.specs.Answers.{IsTryOfTake, IsTryOfRegrade, IsTake, IsRegrade, IsGive, IsLoad};
 
-    /// A gate of one to eight domains, by the caps of their words, each at most 2^26, with words of
-    /// 0; and its 1 to 4096 pieces, all of them blanks. It is the one call of a gate that takes
-    /// memory. [`NoMemory`] (ENOMEM 12) where a growth was refused: nothing stands.
-    pub fn open(alloc: Global, caps: &[u64], n: usize) -> Result<(Gate, Vec<Blank>), NoMemory>
-        requires { AreTerms (record { caps = caps.now; pieces = n }) }
-        ensures gate { IfOk result (λ r. r.0.terms ≡ record { caps = caps.now; pieces = n }) }
+    /// A gate of one to eight domains, by their rooms, with words that carry the caps of the rooms
+    /// and of which nothing is used; and its 1 to 4096 pieces, all of them blanks. It is the one
+    /// call of a gate that takes memory. [`NoMemory`] (ENOMEM 12) where a growth was refused:
+    /// nothing stands.
+    pub fn open(alloc: Global, rooms: &[Room], n: usize) -> Result<(Gate, Vec<Blank>), NoMemory>
+        requires { AreRooms rooms.now n }
+        ensures gate { IfOk result (λ r. r.0.terms ≡ terms_of rooms.now n) }
         ensures blanks { IfOk result (λ r.
             r.1.items ≡ replicate n (record { gate = r.0; found = [] })) }
     {
-        let terms = Terms::new(caps, n);
+        let terms = Terms::new(rooms, n);
         let mut blanks = Vec::with_capacity(alloc, n)?;
-        let zeros = [0; DOMAINS];
-        let (table, seat) = Table::of_words(alloc, &zeros[..caps.len()], &terms)?;
+        let words = first_words(rooms, n);
+        let (table, seat) = Table::of_words(alloc, &words[..rooms.len()], &terms)?;
         deal(&table.shared, seat, &mut blanks, n);
         Ok((Gate { table, terms }, blanks))
     }
 
-    /// Ends a gate, and tells its words. They have room for the tickets that are handed in, and are
-    /// at most their caps; and where all pieces are handed in, each word is exactly the sum of the
-    /// bandwidths of that domain's tickets.
+    /// Ends a gate, and tells both parts of its words. Each cap is the domain's CPUs times a limit
+    /// of 10485 to 1048576; what is used is at most the cap, and has room for the tickets that are
+    /// handed in; and where all pieces are handed in, it is exactly the sum of the bandwidths of
+    /// that domain's tickets.
     pub fn close(self, blanks: Vec<Blank>, tickets: Vec<Ticket>) -> Words
         requires blanks { All (λ b. b.gate ≡ self) blanks.items }
         requires tickets { All (λ t. t.gate ≡ self) tickets.items }
-        ensures count { result.count ≡ length self.terms.caps }
-        ensures behind { (d : ℕ) → length self.terms.caps ≤ d → slice_index result.word d ≡ 0 }
+        ensures count { result.count ≡ length self.terms.cpus }
+        ensures behind { (d : ℕ) → length self.terms.cpus ≤ d → slice_index result.word d ≡ 0 }
         ensures room { (d : ℕ) → sum_of d tickets.items ≤ slice_index result.word d }
-        ensures capped { (d : ℕ) → slice_index result.word d ≤ cap_of self d }
+        ensures capped { (d : ℕ) → slice_index result.word d ≤ slice_index result.cap d }
+        ensures caps { (d : ℕ) → d < length self.terms.cpus
+            → IsCap (cpus_of self d) (slice_index result.cap d) }
+        ensures caps_behind { (d : ℕ) → length self.terms.cpus ≤ d → slice_index result.cap d ≡ 0 }
         ensures exact { length blanks.items + length tickets.items ≡ self.terms.pieces →
             (d : ℕ) → slice_index result.word d ≡ sum_of d tickets.items }
     {
@@ -84,8 +94,9 @@ impl Gate {
         let closed = table.close_with(seat);
         let count = terms.count();
         let word = words_of(&closed, count);
+        let cap = caps_of(&closed, count);
         closed.free();
-        Words { count, word }
+        Words { count, word, cap }
     }
 
     /// How many pieces the gate has, 1 to 4096: blanks and tickets together, those that were
@@ -96,35 +107,36 @@ impl Gate {
         self.terms.pieces()
     }
 
-    /// The cap of a domain's word, in 1/2^20 of a CPU: at most 2^26, as 64 whole CPUs have.
-    pub fn cap(&self, domain: usize) -> u64
-        requires { domain < length self.now.terms.caps }
-        ensures cap { result ≡ cap_of self.now domain }
-        ensures small { result ≤ 2 ^ 26 }
+    /// The CPUs of a domain, 1 to 64.
+    pub fn cpus(&self, domain: usize) -> u64
+        requires { domain < length self.now.terms.cpus }
+        ensures cpus { result ≡ cpus_of self.now domain }
+        ensures one { 1 ≤ result }
+        ensures most { result ≤ 64 }
     {
-        self.terms.cap(domain)
+        self.terms.cpus(domain)
     }
 
     /// One try to take a ticket of so much in a domain: by the piece's seat one load, and then at
     /// most one compare_exchange. The rule is the admission test of sched-deadline.rst, "Bandwidth
-    /// management"; a word that then equals its cap is granted. The contract tells what the piece
-    /// found; a look at the word that needs no seat would not show in it.
+    /// management", of the used part and the cap of the word that the load found; as much as the
+    /// cap is granted. The contract tells what the piece found; a look at the word that needs no
+    /// seat would not show in it.
     ///
-    /// [`Take::Refused`] (EBUSY 16) where the word that the load found has no room for `bw`:
+    /// [`Take::Refused`] (EBUSY 16) where what is used of that word and `bw` are above its cap:
     /// nothing has changed, and the blank comes back. [`Take::Raced`] where the exchange found
     /// another word than the load, since another client came between: the word is as that one left
     /// it, and the blank comes back. Nothing is claimed of which try wins.
     pub fn try_take(&self, blank: Blank, domain: usize, bw: u64) -> Take
         requires own { blank.gate ≡ self.now }
-        requires inside { domain < length self.now.terms.caps }
+        requires inside { domain < length self.now.terms.cpus }
         requires one_cpu { bw ≤ unit }
         ensures { IsTryOfTake blank domain bw result }
     {
         let Blank { mut seat, last: _ } = blank;
-        let cap = self.terms.cap(domain);
         let shared = &self.table.shared;
         let seen = shared.load::<view::Load>(&mut seat, domain);
-        if seen + bw > cap {
+        if used_of(seen) + bw > cap_of(seen) {
             let blank = Blank { seat, last: seen };
             return Take::Refused { blank, seen };
         }
@@ -152,7 +164,7 @@ impl Gate {
     #[tactic(auto, using(crate::proofs::Races::not_yet_raced, crate::proofs::Races::take_decided))]
     pub fn take<R: Wait>(&self, rt: &R, mut blank: Blank, domain: usize, bw: u64) -> Take
         requires own { blank.gate ≡ self.now }
-        requires inside { domain < length self.now.terms.caps }
+        requires inside { domain < length self.now.terms.cpus }
         requires one_cpu { bw ≤ unit }
         ensures { IsTake blank domain bw result }
     {
@@ -171,8 +183,8 @@ impl Gate {
     }
 
     /// One try to give a ticket another bandwidth, larger or smaller: by the ticket's seat one
-    /// load, and then at most one compare_exchange. It answers as [`Gate::try_take`], by the word
-    /// without the ticket's old bandwidth. A ticket that is not [`Regrade::Changed`] keeps its
+    /// load, and then at most one compare_exchange. It answers as [`Gate::try_take`], by the used
+    /// part less the ticket's old bandwidth. A ticket that is not [`Regrade::Changed`] keeps its
     /// domain and its bandwidth.
     pub fn try_regrade(&self, mut ticket: Ticket, bw: u64) -> Regrade
         requires own { ticket.gate ≡ self.now }
@@ -181,10 +193,10 @@ impl Gate {
     {
         let seen = self.load(&mut ticket);
         let domain = ticket.domain;
-        let wanted = seen - ticket.bw + bw;
-        if wanted > self.terms.cap(domain) {
+        if used_of(seen) - ticket.bw + bw > cap_of(seen) {
             return Regrade::Refused { ticket, seen };
         }
+        let wanted = seen - ticket.bw + bw;
         let found = self
             .table
             .shared
@@ -224,8 +236,9 @@ impl Gate {
         unreachable!()
     }
 
-    /// Gives a ticket's bandwidth back, by one fetch_sub, which always succeeds. The piece is then
-    /// a blank, which found the word with the bandwidth still in it.
+    /// Gives a ticket's bandwidth back, by one fetch_sub, which always succeeds: the used part
+    /// falls by it, and the cap stays. The piece is then a blank, which found the word with the
+    /// bandwidth still in its used part.
     pub fn give(&self, ticket: Ticket) -> Blank
         requires { ticket.gate ≡ self.now }
         ensures { IsGive ticket result }
@@ -254,12 +267,12 @@ impl Gate {
         Blank { seat, last: 0 }
     }
 
-    /// The word of a ticket's domain, by one load: at least the ticket's bandwidth and at most the
-    /// cap. Other clients may change it at any time.
+    /// The word of a ticket's domain, by one load: what is used of it is at least the ticket's
+    /// bandwidth and at most the cap that it carries. Other clients may change it at any time.
     pub fn load(&self, ticket: &mut Ticket) -> u64
         requires { ticket.old.gate ≡ self.now }
         ensures load { IsLoad ticket.old result ticket.new }
-        ensures small { result ≤ 2 ^ 26 }
+        ensures small { used_part result ≤ 2 ^ 26 }
     {
         let domain = ticket.domain;
         let found = self

@@ -4,7 +4,7 @@ use std::marker::Model;
 
 /// A piece of a gate that holds no bandwidth: what a client needs to take a ticket. It may be
 /// dropped, and is then missing at [`Gate::close`](crate::Gate::close). To a contract it is its
-/// gate and the words that its steps have found.
+/// gate and the words that its steps have found, or left where they set a limit.
 #[derive(Drop)]
 pub struct Blank {
     pub(crate) seat: Seat<(), View>,
@@ -58,7 +58,7 @@ impl Model for Ticket {
     ghost invariant = { λ t. (t.seat.me.1 ≡ [])
         × (t.seat.me.0.pieces ≡ ticket t.domain t.bw ∷ [])
         × (t.last ≡ last_of t.seat.me.0.found)
-        × (t.domain < length t.seat.me.0.terms.caps)
+        × (t.domain < length t.seat.me.0.terms.cpus)
         × (t.bw ≤ unit) };
 }
 
@@ -66,7 +66,8 @@ impl Blank {
     ghost use Rattle.std.specs.Prelude.{◌≡◌};
     ghost use Rattle.bw_gate.specs.Pieces.{last_of};
 
-    /// The word that this piece's last step found, also while it was a ticket; 0 before any.
+    /// The whole word that this piece's last step found, or left where that step set a limit, also
+    /// while it was a ticket; 0 before any.
     pub fn last(&self) -> u64
         ensures { result ≡ last_of self.now.found }
     {
@@ -82,7 +83,7 @@ impl Ticket {
     /// The domain of whose word it holds bandwidth, by its index from 0.
     pub fn domain(&self) -> usize
         ensures domain { result ≡ self.now.domain }
-        ensures inside { result < length self.now.gate.terms.caps }
+        ensures inside { result < length self.now.gate.terms.cpus }
     {
         self.domain
     }
@@ -95,7 +96,8 @@ impl Ticket {
         self.bw
     }
 
-    /// The word that this piece's last step found, also while it was a blank; 0 before any.
+    /// The whole word that this piece's last step found, or left where that step set a limit, also
+    /// while it was a blank; 0 before any.
     pub fn last(&self) -> u64
         ensures { result ≡ last_of self.now.found }
     {

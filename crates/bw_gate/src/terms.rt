@@ -1,12 +1,26 @@
+ghost use Rattle.std.specs.Prelude.{◌≡◌, length, take, map};
+ghost use Rattle.bw_gate.specs.Terms.{AreRooms};
+ghost use Rattle.bw_gate.specs.Word.{first_word};
+
 use std::marker::Model;
 
 /// The most domains that one gate has.
 pub(crate) const DOMAINS: usize = 8;
 
-/// What a gate is opened with: the cap of each domain's word, and how many pieces there are.
+/// What one domain of a gate has room for when the gate is opened: its CPUs, and what each of them
+/// gives to its tasks.
+#[derive(Clone, Copy, Debug, PartialEq, Eq)]
+pub struct Room {
+    /// How many CPUs, 1 to 64.
+    pub cpus: u64,
+    /// What each of them gives, in 1/2^20 of a CPU: 10485 to 1048576.
+    pub limit: u64,
+}
+
+/// What a gate is opened with: the CPUs of each domain, and how many pieces there are.
 #[derive(Drop)]
 pub struct Terms {
-    caps: [u64; DOMAINS],
+    cpus: [u64; DOMAINS],
     count: usize,
     pieces: usize,
 }
@@ -17,31 +31,33 @@ impl Model for Terms {
 
     ghost Value = { TermsView };
 
-    ghost view = { λ t. record { caps = take t.count t.caps; pieces = t.pieces } };
+    ghost view = { λ t. record { cpus = take t.count t.cpus; pieces = t.pieces } };
 
     ghost invariant = { λ t. (t.count ≤ 8)
-        × AreTerms (record { caps = take t.count t.caps; pieces = t.pieces }) };
+        × AreTerms (record { cpus = take t.count t.cpus; pieces = t.pieces }) };
 }
 
 impl Terms {
     ghost use Rattle.std.specs.Prelude.{◌≡◌, ◌<◌, length};
-    ghost use Rattle.bw_gate.specs.Terms.{AreTerms, cap_in};
+    ghost use Rattle.bw_gate.specs.Terms.{AreTerms, terms_of, cpus_in};
 
-    pub(crate) fn new(caps: &[u64], pieces: usize) -> Terms
-        requires { AreTerms (record { caps = caps.now; pieces = pieces }) }
-        ensures { result ≡ record { caps = caps.now; pieces = pieces } }
+    pub(crate) fn new(rooms: &[Room], pieces: usize) -> Terms
+        requires { AreTerms (terms_of rooms.now pieces) }
+        ensures { result ≡ terms_of rooms.now pieces }
     {
         let mut row = [0; DOMAINS];
-        row[..caps.len()].copy_from_slice(caps);
+        for i in 0..rooms.len() {
+            row[i] = rooms[i].cpus;
+        }
         Terms {
-            caps: row,
-            count: caps.len(),
+            cpus: row,
+            count: rooms.len(),
             pieces,
         }
     }
 
     pub(crate) fn count(&self) -> usize
-        ensures { result ≡ length self.now.caps }
+        ensures { result ≡ length self.now.cpus }
     {
         self.count
     }
@@ -52,11 +68,23 @@ impl Terms {
         self.pieces
     }
 
-    pub(crate) fn cap(&self, domain: usize) -> u64
-        requires { domain < length self.now.caps }
-        ensures { result ≡ cap_in self.now domain }
+    pub(crate) fn cpus(&self, domain: usize) -> u64
+        requires { domain < length self.now.cpus }
+        ensures { result ≡ cpus_in self.now domain }
     {
-        let caps = &self.caps;
-        caps[domain]
+        let cpus = &self.cpus;
+        cpus[domain]
     }
+}
+
+/// The words that a gate is opened with: each carries its cap, and nothing is used.
+pub(crate) fn first_words(rooms: &[Room], pieces: usize) -> [u64; DOMAINS]
+    requires { AreRooms rooms.now pieces }
+    ensures { take (length rooms.now) result ≡ map first_word rooms.now }
+{
+    let mut row = [0; DOMAINS];
+    for i in 0..rooms.len() {
+        row[i] = rooms[i].cpus * rooms[i].limit * (1 << 32);
+    }
+    row
 }

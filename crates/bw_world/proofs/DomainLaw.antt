@@ -8,10 +8,11 @@ use Rattle.std.proofs.lemmas.List.Sums.{sum_by_push, fold_push}
 use Rattle.bw_world.specs.declared.book.Change.{Change}
 use Rattle.bw_world.specs.declared.book.Change.TheVariants.{Entered, Regraded, Released}
 use Rattle.bw_world.specs.declared.step.Outcome.{Outcome}
+use Rattle.bw_world.specs.declared.step.Word.{Word}
 use Rattle.bw_world.specs.declared.ticket.Ticket.{Ticket}
 use Rattle.bw_world.specs.declared.ticket.Task.{Task}
 use Rattle.bw_world.specs.WorldView.{DomainView}
-use Rattle.bw_world.specs.DomainStep.{in_hand_of, admitted_of, is_admitted, refusal_of, unless_refused, with_bw, task_with_bw, without, taken, regraded, regraded_found, given, given_found, entered, entered_with, entered_found, released, released_found}
+use Rattle.bw_world.specs.DomainStep.{in_hand_of, admitted_of, is_admitted, refusal_of, limit_refusal_of, limited, unless_refused, with_bw, task_with_bw, without, taken, regraded, regraded_found, given, given_found, entered, entered_with, entered_found, released, released_found}
 use Rattle.bw_world.specs.ExactWord.{IsExactDomain, told, after_change, numbered_with_bw, live_in}
 use Rattle.bw_world.proofs.Counted.{one_if, none_counted, sum_by-without, sum_by-changed, count_by-changed, one_kept, one_changed, found_passes}
 
@@ -28,7 +29,7 @@ stays_kept : (d : DomainView) → IsExactDomain d → Keeps d d
 stays_kept d exact = record { exact = exact; ids = λ id. omega arith }
 
 -- where an exchange is granted, the wanted word is within the cap
-room : (expected wanted : ℕ) (d : DomainView) → refusal_of expected wanted d ≡ None → wanted ≤ d.cap
+room : (expected : Word) (wanted : ℕ) (d : DomainView) → refusal_of expected wanted d ≡ None → wanted ≤ d.cap
 room expected wanted d none = grind (arith, nat_tests)
 
 unless_kept : (d changed : DomainView) (refusal : Option Outcome) → IsExactDomain d → (refusal ≡ None → Keeps d changed) → Keeps d (unless_refused d refusal changed).domain
@@ -67,7 +68,7 @@ task_with_bw-ticket id bw t = grind (arith, nat_tests)
 task_with_bw-number : (id bw : ℕ) (t : Task) → (task_with_bw id bw t).number ≡ t.number
 task_with_bw-number id bw t = grind (arith, nat_tests)
 
-regraded_in_hand_kept : (id bw : ℕ) (d : DomainView) (t : Ticket) → IsExactDomain d → IsSingle d → in_hand_of id d ≡ Some t → d.word - t.bw + bw ≤ d.cap → Keeps d (record d { word = d.word - t.bw + bw; in_hand = map (with_bw id bw) d.in_hand })
+regraded_in_hand_kept : (id bw : ℕ) (d : DomainView) (t : Ticket) → IsExactDomain d → IsSingle d → in_hand_of id d ≡ Some t → d.used - t.bw + bw ≤ d.cap → Keeps d (record d { used = d.used - t.bw + bw; in_hand = map (with_bw id bw) d.in_hand })
 regraded_in_hand_kept id bw d t exact ids is within =
     let one : count_by (λ (x : Ticket). x.id == id) d.in_hand ≤ 1 = omega (arith, ids id) in
     record {
@@ -80,7 +81,7 @@ regraded_in_hand_kept id bw d t exact ids is within =
       ids = λ other. omega (arith, count_by-changed (λ (x : Ticket). x.id == other) (with_bw id bw) (λ x. ap (λ n. n == other) (with_bw-id id bw x)) d.in_hand);
     }
 
-regraded_admitted_kept : (id bw : ℕ) (d : DomainView) (t : Task) → IsExactDomain d → IsSingle d → admitted_of id d ≡ Some t → d.word - t.bw + bw ≤ d.cap → Keeps d (record d { word = d.word - t.bw + bw; admitted = map (task_with_bw id bw) d.admitted; changes = d.changes ++ Regraded t.number bw ∷ [] })
+regraded_admitted_kept : (id bw : ℕ) (d : DomainView) (t : Task) → IsExactDomain d → IsSingle d → admitted_of id d ≡ Some t → d.used - t.bw + bw ≤ d.cap → Keeps d (record d { used = d.used - t.bw + bw; admitted = map (task_with_bw id bw) d.admitted; changes = d.changes ++ Regraded t.number bw ∷ [] })
 regraded_admitted_kept id bw d t exact ids is within =
     let one : count_by (λ (x : Task). x.ticket == id) d.admitted ≤ 1 = omega (arith, ids id) in
     record {
@@ -95,14 +96,14 @@ regraded_admitted_kept id bw d t exact ids is within =
       ids = λ other. omega (arith, count_by-changed (λ (x : Task). x.ticket == other) (task_with_bw id bw) (λ x. ap (λ n. n == other) (task_with_bw-ticket id bw x)) d.admitted);
     }
 
-regraded_kept : (id bw expected : ℕ) (d : DomainView) (hand : Option Ticket) (task : Option Task) → IsExactDomain d → IsSingle d → in_hand_of id d ≡ hand → admitted_of id d ≡ task → Keeps d (regraded_found id bw expected d hand task).domain
+regraded_kept : (id bw : ℕ) (expected : Word) (d : DomainView) (hand : Option Ticket) (task : Option Task) → IsExactDomain d → IsSingle d → in_hand_of id d ≡ hand → admitted_of id d ≡ task → Keeps d (regraded_found id bw expected d hand task).domain
 regraded_kept id bw expected d (Some t) task exact ids is is' =
-    unless_kept d _ (refusal_of expected (d.word - t.bw + bw) d) exact (λ none. regraded_in_hand_kept id bw d t exact ids is (room expected (d.word - t.bw + bw) d none))
+    unless_kept d _ (refusal_of expected (d.used - t.bw + bw) d) exact (λ none. regraded_in_hand_kept id bw d t exact ids is (room expected (d.used - t.bw + bw) d none))
 regraded_kept id bw expected d None (Some t) exact ids is is' =
-    unless_kept d _ (refusal_of expected (d.word - t.bw + bw) d) exact (λ none. regraded_admitted_kept id bw d t exact ids is' (room expected (d.word - t.bw + bw) d none))
+    unless_kept d _ (refusal_of expected (d.used - t.bw + bw) d) exact (λ none. regraded_admitted_kept id bw d t exact ids is' (room expected (d.used - t.bw + bw) d none))
 regraded_kept id bw expected d None None exact ids is is' = stays_kept d exact
 
-pub regrade_keeps : (id bw expected : ℕ) (d : DomainView) → IsExactDomain d → IsSingle d → Keeps d (regraded id bw expected d).domain
+pub regrade_keeps : (id bw : ℕ) (expected : Word) (d : DomainView) → IsExactDomain d → IsSingle d → Keeps d (regraded id bw expected d).domain
 regrade_keeps id bw expected d exact ids = regraded_kept id bw expected d (in_hand_of id d) (admitted_of id d) exact ids refl refl
 
 -- Enter
@@ -174,7 +175,7 @@ pub record KeepsButFor (id : ℕ) (d e : DomainView) : Type 0 where
   pub exact : IsExactDomain e
   pub ids : (other : ℕ) → live_in other e ≤ live_in other d + one_if (id == other)
 
-taken_kept : (id bw : ℕ) (d : DomainView) (refusal : Option Outcome) → IsExactDomain d → (refusal ≡ None → d.word + bw ≤ d.cap) → KeepsButFor id d (unless_refused d refusal (record d { word = d.word + bw; in_hand = d.in_hand ++ record { id = id; bw = bw } ∷ [] })).domain
+taken_kept : (id bw : ℕ) (d : DomainView) (refusal : Option Outcome) → IsExactDomain d → (refusal ≡ None → d.used + bw ≤ d.cap) → KeepsButFor id d (unless_refused d refusal (record d { used = d.used + bw; in_hand = d.in_hand ++ record { id = id; bw = bw } ∷ [] })).domain
 taken_kept id bw d (Some outcome) exact within = record { exact = exact; ids = λ other. omega arith }
 taken_kept id bw d None exact within =
     let ticket : Ticket = record { id = id; bw = bw } in
@@ -188,5 +189,17 @@ taken_kept id bw d None exact within =
       ids = λ other. omega (arith, count_push (λ (x : Ticket). x.id == other) d.in_hand ticket);
     }
 
-pub take_keeps : (id bw expected : ℕ) (d : DomainView) → IsExactDomain d → KeepsButFor id d (taken id bw expected d).domain
-take_keeps id bw expected d exact = taken_kept id bw d (refusal_of expected (d.word + bw) d) exact (room expected (d.word + bw) d)
+pub take_keeps : (id bw : ℕ) (expected : Word) (d : DomainView) → IsExactDomain d → KeepsButFor id d (taken id bw expected d).domain
+take_keeps id bw expected d exact = taken_kept id bw d (refusal_of expected (d.used + bw) d) exact (room expected (d.used + bw) d)
+
+-- Limit
+limit_room : (expected : Word) (cap : ℕ) (d : DomainView) → limit_refusal_of expected cap d ≡ None → d.used ≤ cap
+limit_room expected cap d none = grind (arith, nat_tests)
+
+pub limit_keeps : (cap : ℕ) (expected : Word) (d : DomainView) → IsExactDomain d → IsSingle d → Keeps d (limited cap expected d).domain
+limit_keeps cap expected d exact ids =
+    unless_kept d (record d { cap = cap }) (limit_refusal_of expected cap d) exact
+    (λ none. record {
+      exact = record { sum = exact.sum; capped = limit_room expected cap d none; book = exact.book; numbers = exact.numbers };
+      ids = λ id. omega arith;
+    })

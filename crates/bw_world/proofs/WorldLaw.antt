@@ -1,5 +1,5 @@
 -- Every step keeps the law.
-use Rattle.std.proofs.Common.{◌≡◌, ◌≤◌, ◌<◌, ◌+◌, ℕ, Bool, true, false, not, List, [], ◌∷◌, ◌++◌, length, take, Option, Some, None, Result, Ok, Err, map, get_or, refl, sym, ap, ◌∙◌, subst, ⊎_elim, inr, arith, nat_le}
+use Rattle.std.proofs.Common.{◌^◌, ◌≡◌, ◌≤◌, ◌<◌, ◌+◌, ℕ, Bool, true, false, not, List, [], ◌∷◌, ◌++◌, length, take, Option, Some, None, Result, Ok, Err, map, get_or, refl, sym, ap, ◌∙◌, subst, ⊎_elim, inr, arith, nat_le}
 use Rattle.std.specs.Prelude.{◌==◌, position, slice_get, slice_set, OnOk, OnErr, IsSomeAnd}
 use Rattle.std.specs.List.{list_any, All}
 use Rattle.std.proofs.lemmas.Bool.{eqb-true, cases_Bool, or_parts, and_parts, not-true}
@@ -11,16 +11,17 @@ use Rattle.std.proofs.lemmas.Option.{slice_get-get_or, get_or_from_slice_get, sl
 use Rattle.no_memory.specs.declared.NoMemory.{NoMemory}
 use Rattle.bw_world.specs.declared.step.Outcome.{Outcome}
 use Rattle.bw_world.specs.declared.step.Step.{Step}
-use Rattle.bw_world.specs.declared.step.Step.TheVariants.{Load, Take, Regrade, Give, Enter, Release}
+use Rattle.bw_world.specs.declared.step.Step.TheVariants.{Load, Take, Regrade, Give, Enter, Release, Limit}
+use Rattle.bw_world.specs.declared.step.Word.{Word}
 use Rattle.bw_world.specs.declared.ticket.Ticket.{Ticket}
 use Rattle.bw_world.specs.declared.ticket.Task.{Task}
 use Rattle.bw_world.specs.WorldView.{DomainView}
-use Rattle.bw_world.specs.DomainStep.{DomainStep, opened, is_live_in, loaded, taken, regraded, given, entered, released}
+use Rattle.bw_world.specs.DomainStep.{DomainStep, opened, is_live_in, loaded, taken, regraded, given, entered, released, limited}
 use Rattle.bw_world.specs.WorldStep.{unit, may_take, is_live, at_found, at_place, at_home, stepped, after, outcomes_of}
 use Rattle.bw_world.specs.Growing.{IsGrowing, IsGrowingAt}
 use Rattle.bw_world.specs.ExactWord.{IsExactDomain, IsExact, live_in, live}
 use Rattle.bw_world.proofs.Counted.{one_if, none_counted}
-use Rattle.bw_world.proofs.DomainLaw.{Keeps, IsSingle, give_keeps, regrade_keeps, enter_keeps, release_keeps, take_keeps}
+use Rattle.bw_world.proofs.DomainLaw.{Keeps, IsSingle, give_keeps, regrade_keeps, enter_keeps, release_keeps, take_keeps, limit_keeps}
 
 -- an id that is not live
 pub not_live : (id : ℕ) (ds : List DomainView) → is_live id ds ≡ false → live id ds ≡ 0
@@ -71,7 +72,7 @@ taken_once id other ds exact fresh =
     (λ (no : (id == other) ≡ false). omega (arith, exact.ids other, ap one_if no))
     (cases_Bool (id == other))
 
-taken_exact : (ds : List DomainView) (k id bw expected : ℕ) (found : Option DomainView) → slice_get ds k ≡ found → IsExact ds → is_live id ds ≡ false → IsExact (at_found ds k (taken id bw expected) found).domains
+taken_exact : (ds : List DomainView) (k id bw : ℕ) (expected : Word) (found : Option DomainView) → slice_get ds k ≡ found → IsExact ds → is_live id ds ≡ false → IsExact (at_found ds k (taken id bw expected) found).domains
 taken_exact ds k id bw expected None is exact fresh = exact
 taken_exact ds k id bw expected (Some d) is exact fresh =
     let kept = take_keeps id bw expected d (exact_at ds k d is exact) in
@@ -80,11 +81,19 @@ taken_exact ds k id bw expected (Some d) is exact fresh =
       ids = λ other. omega (arith, taken_once id other ds exact fresh, kept.ids other, live-set ds k d (taken id bw expected d).domain other is);
     }
 
-take_exact : (ds : List DomainView) (k id bw expected : ℕ) → IsExact ds → IsExact (stepped (Take id k bw expected) ds).domains
+take_exact : (ds : List DomainView) (k id bw : ℕ) (expected : Word) → IsExact ds → IsExact (stepped (Take id k bw expected) ds).domains
 take_exact ds k id bw expected exact =
     let test : Bool = may_take id bw ds in
     ⊎_elim
     (λ (yes : test ≡ true). rw yes (taken_exact ds k id bw expected (slice_get ds k) refl exact (not-true (is_live id ds) (and_parts (nat_le bw unit) (not (is_live id ds)) yes).1)))
+    (λ (no : test ≡ false). rw no exact)
+    (cases_Bool test)
+
+limit_exact : (ds : List DomainView) (k cap : ℕ) (expected : Word) → IsExact ds → IsExact (stepped (Limit k cap expected) ds).domains
+limit_exact ds k cap expected exact =
+    let test : Bool = nat_le cap (2 ^ 26) in
+    ⊎_elim
+    (λ (yes : test ≡ true). rw yes (found_exact ds k (limited cap expected) (slice_get ds k) refl exact (limit_keeps cap expected)))
     (λ (no : test ≡ false). rw no exact)
     (cases_Bool test)
 
@@ -96,6 +105,7 @@ step_exact (Regrade id bw expected) ds exact = home_exact ds id (regraded id bw 
 step_exact (Give id) ds exact = home_exact ds id (given id) exact (give_keeps id)
 step_exact (Enter id number) ds exact = home_exact ds id (entered id number) exact (enter_keeps id number)
 step_exact (Release id) ds exact = home_exact ds id (released id) exact (release_keeps id)
+step_exact (Limit k cap expected) ds exact = limit_exact ds k cap expected exact
 
 -- after every step of every list
 pub after_exact : (steps : List Step) (ds : List DomainView) → IsExact ds → IsExact (after steps ds)

@@ -1,18 +1,19 @@
--- What a step does within one domain (own). The word is the sum of bandwidths that
+-- What a step does within one domain (own). What is used of a word is the sum of bandwidths that
 -- sched-deadline.rst, "Bandwidth management", compares with M * limit, the cap, when a task is
 -- admitted.
-use Rattle.std.specs.Prelude.{ℕ, Bool, not, ◌||◌, ◌==◌, nat_lt, if◌then◌else◌, ◌+◌, ◌-◌, List, [], ◌∷◌, ◌++◌, map, filter, find, Option, Some, None}
+use Rattle.std.specs.Prelude.{ℕ, Bool, not, ◌||◌, ◌&&◌, ◌==◌, nat_lt, if◌then◌else◌, ◌+◌, ◌-◌, List, [], ◌∷◌, ◌++◌, map, filter, find, Option, Some, None}
 use Rattle.std.specs.List.{list_any}
 use Rattle.bw_world.specs.declared.book.Change.TheVariants.{Entered, Regraded, Released}
 use Rattle.bw_world.specs.declared.step.Outcome.{Outcome}
 use Rattle.bw_world.specs.declared.step.Outcome.TheVariants.{Saw, Done, Over, Lost, Not}
+use Rattle.bw_world.specs.declared.step.Word.{Word}
 use Rattle.bw_world.specs.declared.ticket.Ticket.{Ticket}
 use Rattle.bw_world.specs.declared.ticket.Task.{Task}
 use Rattle.bw_world.specs.WorldView.{DomainView}
 
 -- a domain before its first step
 abbrev pub opened : ℕ → DomainView
-opened cap = record { cap = cap; word = 0; in_hand = []; admitted = []; changes = [] }
+opened cap = record { cap = cap; used = 0; in_hand = []; admitted = []; changes = [] }
 
 -- the ticket in hand with this id
 abbrev pub in_hand_of : ℕ → DomainView → Option Ticket
@@ -56,12 +57,30 @@ stays d outcome = record { domain = d; outcome = outcome }
 abbrev pub done : DomainView → DomainStep
 done d = record { domain = d; outcome = Done }
 
--- why the word is not exchanged for a wanted one: it is not the expected one, else the wanted one
--- is above the cap. One equal to the cap is granted
-abbrev pub refusal_of : ℕ → ℕ → DomainView → Option Outcome
+-- the word: the cap, and what is used of it
+abbrev pub word_in : DomainView → Word
+word_in d = record { cap = d.cap; used = d.used }
+
+-- the word is the one that the caller expects, in both parts
+abbrev pub is_expected : Word → DomainView → Bool
+is_expected expected d = (d.used == expected.used) && (d.cap == expected.cap)
+
+-- why the used part is not exchanged for a wanted one: the word is not the expected one, else the
+-- wanted one is above the cap. One equal to the cap is granted
+abbrev pub refusal_of : Word → ℕ → DomainView → Option Outcome
 refusal_of expected wanted d =
-    if not (d.word == expected) then Some (Lost d.word)
-    else if nat_lt d.cap wanted then Some (Over d.word)
+    if not (is_expected expected d) then Some (Lost (word_in d))
+    else if nat_lt d.cap wanted then Some (Over (word_in d))
+    else None
+
+-- why the cap is not exchanged for another: the word is not the expected one, else more is used
+-- than the other cap. A cap equal to what is used is granted. So a write to sched_rt_runtime_us is
+-- answered, EBUSY where the tasks that are admitted would not fit (sched-deadline.rst, "System wide
+-- settings"; that Lost comes first is our own)
+abbrev pub limit_refusal_of : Word → ℕ → DomainView → Option Outcome
+limit_refusal_of expected cap d =
+    if not (is_expected expected d) then Some (Lost (word_in d))
+    else if nat_lt cap d.used then Some (Over (word_in d))
     else None
 
 -- the changed domain, unless the exchange is refused
@@ -71,42 +90,42 @@ unless_refused d None changed = done changed
 
 -- Load
 abbrev pub loaded : DomainView → DomainStep
-loaded d = stays d (Saw d.word)
+loaded d = stays d (Saw (word_in d))
 
 -- Take: where the exchange is granted, a new ticket is in hand
-abbrev pub taken : ℕ → ℕ → ℕ → DomainView → DomainStep
+abbrev pub taken : ℕ → ℕ → Word → DomainView → DomainStep
 taken id bw expected d =
-    unless_refused d (refusal_of expected (d.word + bw) d)
-    (record d { word = d.word + bw; in_hand = d.in_hand ++ record { id = id; bw = bw } ∷ [] })
+    unless_refused d (refusal_of expected (d.used + bw) d)
+    (record d { used = d.used + bw; in_hand = d.in_hand ++ record { id = id; bw = bw } ∷ [] })
 
 -- Regrade of a ticket in hand that had the bandwidth `was`
-abbrev pub regraded_in_hand : ℕ → ℕ → ℕ → ℕ → DomainView → DomainStep
+abbrev pub regraded_in_hand : ℕ → ℕ → ℕ → Word → DomainView → DomainStep
 regraded_in_hand id was bw expected d =
-    unless_refused d (refusal_of expected (d.word - was + bw) d)
-    (record d { word = d.word - was + bw; in_hand = map (with_bw id bw) d.in_hand })
+    unless_refused d (refusal_of expected (d.used - was + bw) d)
+    (record d { used = d.used - was + bw; in_hand = map (with_bw id bw) d.in_hand })
 
 -- Regrade of the ticket in the task t, which is a change of the book too
-abbrev pub regraded_admitted : ℕ → Task → ℕ → ℕ → DomainView → DomainStep
+abbrev pub regraded_admitted : ℕ → Task → ℕ → Word → DomainView → DomainStep
 regraded_admitted id t bw expected d =
-    unless_refused d (refusal_of expected (d.word - t.bw + bw) d)
+    unless_refused d (refusal_of expected (d.used - t.bw + bw) d)
     (record d {
-      word = d.word - t.bw + bw;
+      used = d.used - t.bw + bw;
       admitted = map (task_with_bw id bw) d.admitted;
       changes = d.changes ++ Regraded t.number bw ∷ [];
     })
 
-abbrev pub regraded_found : ℕ → ℕ → ℕ → DomainView → Option Ticket → Option Task → DomainStep
+abbrev pub regraded_found : ℕ → ℕ → Word → DomainView → Option Ticket → Option Task → DomainStep
 regraded_found id bw expected d (Some t) task = regraded_in_hand id t.bw bw expected d
 regraded_found id bw expected d None (Some t) = regraded_admitted id t bw expected d
 regraded_found id bw expected d None None = stays d Not
 
 -- Regrade, which fits a live ticket
-abbrev pub regraded : ℕ → ℕ → ℕ → DomainView → DomainStep
+abbrev pub regraded : ℕ → ℕ → Word → DomainView → DomainStep
 regraded id bw expected d = regraded_found id bw expected d (in_hand_of id d) (admitted_of id d)
 
 abbrev pub given_found : ℕ → DomainView → Option Ticket → DomainStep
 given_found id d None = stays d Not
-given_found id d (Some t) = done (record d { word = d.word - t.bw; in_hand = without id d.in_hand })
+given_found id d (Some t) = done (record d { used = d.used - t.bw; in_hand = without id d.in_hand })
 
 -- Give, which fits a ticket in hand: its bandwidth goes back and it is gone
 abbrev pub given : ℕ → DomainView → DomainStep
@@ -142,3 +161,7 @@ released_found id d (Some t) =
 -- Release, which fits an admitted ticket: it is in hand again, and the word stays
 abbrev pub released : ℕ → DomainView → DomainStep
 released id d = released_found id d (admitted_of id d)
+
+-- Limit: where the exchange is granted, the word carries another cap
+abbrev pub limited : ℕ → Word → DomainView → DomainStep
+limited cap expected d = unless_refused d (limit_refusal_of expected cap d) (record d { cap = cap })

@@ -1,5 +1,5 @@
--- The law that every word keeps (own): it is exactly what is in hand plus what is admitted, and
--- never above its cap.
+-- The law that every word keeps (own): what is used of it is exactly what is in hand plus what is
+-- admitted, and never above the cap that the word then carries.
 use Rattle.std.specs.Prelude.{ℕ, ◌≡◌, ◌≤◌, ◌+◌, ◌==◌, not, if◌then◌else◌, List, [], ◌∷◌, ◌++◌, map, filter, fold, sum_by, count_by, All}
 use Rattle.bw_world.specs.declared.book.Change.{Change}
 use Rattle.bw_world.specs.declared.book.Change.TheVariants.{Entered, Regraded, Released}
@@ -37,8 +37,8 @@ live id domains = sum_by (live_in id) domains
 
 -- of one domain
 pub record IsExactDomain (d : DomainView) : Type 0 where
-  pub sum : d.word ≡ sum_in_hand d + sum_admitted d
-  pub capped : d.word ≤ d.cap
+  pub sum : d.used ≡ sum_in_hand d + sum_admitted d
+  pub capped : d.used ≤ d.cap
   pub book : d.admitted ≡ told d.changes
   pub numbers : (number : ℕ) → count_by (λ t. t.number == number) d.admitted ≤ 1
 

@@ -1,12 +1,12 @@
 -- What one step makes of a world's domains, and what it answers (own).
-use Rattle.std.specs.Prelude.{ℕ, Bool, not, ◌&&◌, nat_le, if◌then◌else◌, List, [], ◌∷◌, map, position, slice_get, slice_set, Option, Some, None}
+use Rattle.std.specs.Prelude.{ℕ, ◌^◌, Bool, not, ◌&&◌, nat_le, if◌then◌else◌, List, [], ◌∷◌, map, position, slice_get, slice_set, Option, Some, None}
 use Rattle.std.specs.List.{list_any}
 use Rattle.bw_world.specs.declared.step.Step.{Step}
-use Rattle.bw_world.specs.declared.step.Step.TheVariants.{Load, Take, Regrade, Give, Enter, Release}
+use Rattle.bw_world.specs.declared.step.Step.TheVariants.{Load, Take, Regrade, Give, Enter, Release, Limit}
 use Rattle.bw_world.specs.declared.step.Outcome.{Outcome}
 use Rattle.bw_world.specs.declared.step.Outcome.TheVariants.{Not}
 use Rattle.bw_world.specs.WorldView.{DomainView, WorldView}
-use Rattle.bw_world.specs.DomainStep.{DomainStep, opened, is_live_in, loaded, taken, regraded, given, entered, released}
+use Rattle.bw_world.specs.DomainStep.{DomainStep, opened, is_live_in, loaded, taken, regraded, given, entered, released, limited}
 
 -- one whole CPU, the most that one ticket is taken for
 abbrev pub unit : ℕ
@@ -60,6 +60,8 @@ stepped (Regrade id bw expected) domains = at_home domains id (regraded id bw ex
 stepped (Give id) domains = at_home domains id (given id)
 stepped (Enter id number) domains = at_home domains id (entered id number)
 stepped (Release id) domains = at_home domains id (released id)
+stepped (Limit k cap expected) domains =
+    if nat_le cap (2 ^ 26) then at_domain domains k (limited cap expected) else misfit domains
 
 -- the domains after steps, one after another
 abbrev pub after : List Step → List DomainView → List DomainView

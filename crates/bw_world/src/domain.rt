@@ -1,5 +1,5 @@
 use crate::book::Change;
-use crate::step::Outcome;
+use crate::step::{Outcome, Word};
 use crate::ticket::{
     Task, Ticket, any_number, any_task, any_ticket, remove_task, remove_ticket, set_task_bw,
     set_ticket_bw, task_of, ticket_of,
@@ -12,7 +12,7 @@ use std::marker::Model;
 #[derive(Debug, Drop)]
 pub(crate) struct Domain {
     cap: u64,
-    word: u64,
+    used: u64,
     in_hand: Vec<Ticket>,
     admitted: Vec<Task>,
     changes: Vec<Change>,
@@ -25,7 +25,7 @@ impl Model for Domain {
 
     ghost view = { λ d. record {
       cap = d.cap;
-      word = d.word;
+      used = d.used;
       in_hand = d.in_hand.items;
       admitted = d.admitted.items;
       changes = d.changes.items;
@@ -37,7 +37,7 @@ impl Domain {
     ghost use Rattle.std.specs.List.{list_any};
     ghost use Rattle.bw_world.specs.declared.step.Outcome.TheVariants.{Done};
     ghost use Rattle.bw_world.specs.ExactWord.{IsExactDomain};
-    ghost use Rattle.bw_world.specs.DomainStep.{opened, in_hand_of, admitted_of, is_live_in, refusal_of, taken, regraded, regraded_in_hand, regraded_admitted, given, entered, entered_with, released};
+    ghost use Rattle.bw_world.specs.DomainStep.{opened, in_hand_of, admitted_of, is_live_in, word_in, is_expected, refusal_of, limited, taken, regraded, regraded_in_hand, regraded_admitted, given, entered, entered_with, released};
 
     /// A domain before its first step. Takes no memory.
     pub fn open(alloc: Global, cap: u64) -> Domain
@@ -45,18 +45,28 @@ impl Domain {
     {
         Domain {
             cap,
-            word: 0,
+            used: 0,
             in_hand: Vec::new(alloc),
             admitted: Vec::new(alloc),
             changes: Vec::new(alloc),
         }
     }
 
-    /// The bandwidth word.
-    pub fn word(&self) -> u64
-        ensures { result ≡ self.now.word }
+    /// The bandwidth word: the cap, and what is used of it.
+    pub fn word(&self) -> Word
+        ensures { result ≡ word_in self.now }
     {
-        self.word
+        Word {
+            cap: self.cap,
+            used: self.used,
+        }
+    }
+
+    // Whether the word is the expected one.
+    fn is_expected(&self, expected: Word) -> bool
+        ensures { result ≡ is_expected expected self.now }
+    {
+        self.used == expected.used && self.cap == expected.cap
     }
 
     /// The changes of the book, oldest first.
@@ -87,52 +97,52 @@ impl Domain {
         task_of(self.admitted.as_slice(), id)
     }
 
-    // Why the word is not exchanged for `rest + bw`, where `rest` is the word without what goes.
-    fn refusal(&self, expected: u64, rest: u64, bw: u64) -> Option<Outcome>
+    // Why the used part is not exchanged for `rest + bw`, where `rest` is it without what goes.
+    fn refusal(&self, expected: Word, rest: u64, bw: u64) -> Option<Outcome>
         requires { rest ≤ self.now.cap }
         ensures refusal { result ≡ refusal_of expected (rest + bw) self.now }
         ensures fits { IfNone result (rest + bw < 2 ^ 64) }
     {
-        if self.word != expected {
-            return Some(Outcome::Lost(self.word));
+        if !self.is_expected(expected) {
+            return Some(Outcome::Lost(self.word()));
         }
         if bw > self.cap - rest {
-            return Some(Outcome::Over(self.word));
+            return Some(Outcome::Over(self.word()));
         }
         None
     }
 
     /// Takes a new ticket.
-    pub fn take(&mut self, id: u64, bw: u64, expected: u64) -> Result<Outcome, NoMemory>
-        requires { self.old.word ≤ self.old.cap }
+    pub fn take(&mut self, id: u64, bw: u64, expected: Word) -> Result<Outcome, NoMemory>
+        requires { self.old.used ≤ self.old.cap }
         ensures outcome { IfOk result (λ outcome.
             outcome ≡ (taken id bw expected self.old).outcome) }
         ensures domain { OnOk result (self.new ≡ (taken id bw expected self.old).domain) }
         ensures err { OnErr result (self.new ≡ self.old) }
         ensures err_only { OnErr result ((taken id bw expected self.old).outcome ≡ Done) }
     {
-        if let Some(refusal) = self.refusal(expected, self.word, bw) {
+        if let Some(refusal) = self.refusal(expected, self.used, bw) {
             return Ok(refusal);
         }
         self.in_hand.try_reserve(1)?;
         self.in_hand.push_reserved(Ticket { id, bw });
-        self.word += bw;
+        self.used += bw;
         Ok(Outcome::Done)
     }
 
     // Gives a ticket in hand another bandwidth in the place of `was`.
-    fn regrade_in_hand(&mut self, id: u64, was: u64, bw: u64, expected: u64) -> Outcome
-        requires held { was ≤ self.old.word }
-        requires capped { self.old.word ≤ self.old.cap }
+    fn regrade_in_hand(&mut self, id: u64, was: u64, bw: u64, expected: Word) -> Outcome
+        requires held { was ≤ self.old.used }
+        requires capped { self.old.used ≤ self.old.cap }
         ensures outcome { result ≡ (regraded_in_hand id was bw expected self.old).outcome }
         ensures domain { self.new ≡ (regraded_in_hand id was bw expected self.old).domain }
     {
-        let rest = self.word - was;
+        let rest = self.used - was;
         if let Some(refusal) = self.refusal(expected, rest, bw) {
             return refusal;
         }
         set_ticket_bw(&mut self.in_hand, id, bw);
-        self.word = rest + bw;
+        self.used = rest + bw;
         Outcome::Done
     }
 
@@ -142,10 +152,10 @@ impl Domain {
         id: u64,
         task: Task,
         bw: u64,
-        expected: u64,
+        expected: Word,
     ) -> Result<Outcome, NoMemory>
-        requires held { task.bw ≤ self.old.word }
-        requires capped { self.old.word ≤ self.old.cap }
+        requires held { task.bw ≤ self.old.used }
+        requires capped { self.old.used ≤ self.old.cap }
         ensures outcome { IfOk result (λ outcome.
             outcome ≡ (regraded_admitted id task bw expected self.old).outcome) }
         ensures domain { OnOk result (
@@ -154,7 +164,7 @@ impl Domain {
         ensures err_only { OnErr result (
             (regraded_admitted id task bw expected self.old).outcome ≡ Done) }
     {
-        let rest = self.word - task.bw;
+        let rest = self.used - task.bw;
         if let Some(refusal) = self.refusal(expected, rest, bw) {
             return Ok(refusal);
         }
@@ -165,13 +175,13 @@ impl Domain {
         };
         self.changes.push_reserved(regraded);
         set_task_bw(&mut self.admitted, id, bw);
-        self.word = rest + bw;
+        self.used = rest + bw;
         Ok(Outcome::Done)
     }
 
     /// Gives a live ticket another bandwidth.
     #[tactic(auto, using(crate::proofs::Counted::found_any))]
-    pub fn regrade(&mut self, id: u64, bw: u64, expected: u64) -> Result<Outcome, NoMemory>
+    pub fn regrade(&mut self, id: u64, bw: u64, expected: Word) -> Result<Outcome, NoMemory>
         requires { IsExactDomain self.old }
         ensures outcome { IfOk result (λ outcome.
             outcome ≡ (regraded id bw expected self.old).outcome) }
@@ -199,7 +209,7 @@ impl Domain {
         match self.in_hand_of(id) {
             None => Outcome::Not,
             Some(ticket) => {
-                self.word -= ticket.bw;
+                self.used -= ticket.bw;
                 remove_ticket(&mut self.in_hand, id);
                 Outcome::Done
             }
@@ -264,5 +274,20 @@ impl Domain {
         });
         remove_task(&mut self.admitted, id);
         Ok(Outcome::Done)
+    }
+
+    /// Gives the word another cap, if no more is used of it.
+    pub fn limit(&mut self, cap: u64, expected: Word) -> Outcome
+        ensures outcome { result ≡ (limited cap expected self.old).outcome }
+        ensures domain { self.new ≡ (limited cap expected self.old).domain }
+    {
+        if !self.is_expected(expected) {
+            return Outcome::Lost(self.word());
+        }
+        if self.used > cap {
+            return Outcome::Over(self.word());
+        }
+        self.cap = cap;
+        Outcome::Done
     }
 }

@@ -1,13 +1,13 @@
 ghost use Rattle.std.specs.Prelude.{◌≡◌, ◌<◌, length, position, IsTrue, IfOk, IfSome, OnOk, OnErr};
 ghost use Rattle.bw_world.specs.declared.step.Outcome.TheVariants.{Done};
-ghost use Rattle.bw_world.specs.declared.step.Step.TheVariants.{Load, Take, Regrade, Give, Enter, Release};
+ghost use Rattle.bw_world.specs.declared.step.Step.TheVariants.{Load, Take, Regrade, Give, Enter, Release, Limit};
 ghost use Rattle.bw_world.specs.ExactWord.{IsExact};
 ghost use Rattle.bw_world.specs.DomainStep.{is_live_in};
 ghost use Rattle.bw_world.specs.WorldStep.{is_live, stepped};
 ghost use Rattle.bw_world.specs.Growing.{lengthens, IsGrowing};
 
 use crate::domain::Domain;
-use crate::step::{Outcome, Step, UNIT};
+use crate::step::{Outcome, Step, UNIT, WIDEST, Word};
 use no_memory::NoMemory;
 
 // Whether the ticket is live in some domain.
@@ -43,7 +43,7 @@ fn take(
     ticket: u64,
     domain: usize,
     bw: u64,
-    expected: u64,
+    expected: Word,
 ) -> Result<Outcome, NoMemory>
     requires { IsExact domains.old.items }
     ensures outcome { IfOk result (λ outcome.
@@ -65,7 +65,7 @@ fn regrade(
     domains: &mut Vec<Domain>,
     ticket: u64,
     bw: u64,
-    expected: u64,
+    expected: Word,
 ) -> Result<Outcome, NoMemory>
     requires { IsExact domains.old.items }
     ensures outcome { IfOk result (λ outcome.
@@ -130,6 +130,18 @@ fn release(domains: &mut Vec<Domain>, ticket: u64) -> Result<Outcome, NoMemory>
     d.release(ticket)
 }
 
+// Limit, which lengthens no list.
+fn limit(domains: &mut Vec<Domain>, domain: usize, cap: u64, expected: Word) -> Outcome
+    ensures outcome { result ≡ (stepped (Limit domain cap expected) domains.old.items).outcome }
+    ensures domains { domains.new.items ≡ (stepped (Limit domain cap expected) domains.old.items).domains }
+{
+    if cap > WIDEST || domain >= domains.len() {
+        return Outcome::Not;
+    }
+    let d = &mut domains[domain];
+    d.limit(cap, expected)
+}
+
 /// Applies one step to the domains of a world. After an `Err` they are as they were.
 pub(crate) fn apply(domains: &mut Vec<Domain>, step: Step) -> Result<Outcome, NoMemory>
     requires { IsExact domains.old.items }
@@ -154,5 +166,10 @@ pub(crate) fn apply(domains: &mut Vec<Domain>, step: Step) -> Result<Outcome, No
         Step::Give { ticket } => Ok(give(domains, ticket)),
         Step::Enter { ticket, number } => enter(domains, ticket, number),
         Step::Release { ticket } => release(domains, ticket),
+        Step::Limit {
+            domain,
+            cap,
+            expected,
+        } => Ok(limit(domains, domain, cap, expected)),
     }
 }

@@ -2,6 +2,18 @@
 /// taken for.
 pub const UNIT: u64 = 1048576;
 
+/// The most that the cap of a word may be changed to: 2^26, which is 64 whole CPUs.
+pub const WIDEST: u64 = 67108864;
+
+/// A bandwidth word, in 1/2^20 of a CPU.
+#[derive(Clone, Copy, Debug, PartialEq, Eq)]
+pub struct Word {
+    /// The cap: number of CPUs times the limit of one CPU.
+    pub cap: u64,
+    /// What is used of it.
+    pub used: u64,
+}
+
 /// A step of a world. A domain is named by its index, a ticket by its id, which the caller chooses,
 /// and a task by its number. Bandwidths and words are in 1/2^20 of a CPU. A step that does not fit
 /// is answered [`Outcome::Not`].
@@ -22,7 +34,7 @@ pub enum Step {
         /// Bandwidth of the ticket.
         bw: u64,
         /// The word as the caller knows it.
-        expected: u64,
+        expected: Word,
     },
     /// Gives a ticket another bandwidth, if the word is the expected one and has room for it. It
     /// fits a live ticket, in hand or in an admitted task; in a task it is a change of the book
@@ -33,7 +45,7 @@ pub enum Step {
         /// Its new bandwidth.
         bw: u64,
         /// The word as the caller knows it.
-        expected: u64,
+        expected: Word,
     },
     /// Gives a ticket's bandwidth back; the ticket is gone. It fits a ticket in hand.
     Give {
@@ -54,20 +66,30 @@ pub enum Step {
         /// Id of the ticket.
         ticket: u64,
     },
+    /// Gives the word another cap, if it is the expected one and no more is used of it than the new
+    /// cap. It fits where the domain exists and the new cap is at most [`WIDEST`].
+    Limit {
+        /// Index of the domain, from 0.
+        domain: usize,
+        /// The new cap.
+        cap: u64,
+        /// The word as the caller knows it.
+        expected: Word,
+    },
 }
 
 /// What a world answers to a step. All but [`Outcome::Done`] change nothing.
 #[derive(Clone, Copy, Debug, PartialEq, Eq)]
 pub enum Outcome {
     /// The word, to a Load.
-    Saw(u64),
+    Saw(Word),
     /// The step is done.
     Done,
-    /// EBUSY 16: the word is the expected one, and the step would lift it above the cap. Holds the
-    /// word.
-    Over(u64),
+    /// EBUSY 16: the word is the expected one, and the step would leave more used than its cap.
+    /// Holds the word.
+    Over(Word),
     /// The word is not the expected one. This is tested before Over. Holds the word.
-    Lost(u64),
+    Lost(Word),
     /// The step does not fit.
     Not,
 }

@@ -31,8 +31,9 @@ impl World {
     ghost use Rattle.bw_world.specs.Growing.{IsGrowing, IsGrowingAt};
     ghost use Rattle.bw_world.specs.ExactWord.{IsExact};
 
-    /// A world of one to eight domains, by their caps in 1/2^20 of a CPU, with no ticket, no task
-    /// and words of 0.
+    /// A world of one to eight domains, by their caps in 1/2^20 of a CPU, at most 2^26 each, with
+    /// no ticket and no task: the words carry these caps, and nothing is used of them. [`NoMemory`]
+    /// (ENOMEM 12) where there is no room for the list of domains: nothing stands.
     pub fn open(alloc: Global, caps: &[u64]) -> Result<World, NoMemory>
         requires some { 0 < length caps.now }
         requires few { length caps.now ≤ 8 }

@@ -1,5 +1,5 @@
 -- A text has one bad line, and what a reader whose answers are right says to each text.
-use Rattle.std.proofs.Common.{◌≡◌, ℕ, ◌+◌, List, ◌++◌, ◌⊎◌, length, Result, Ok, Err, refl, sym, ap, subst, ◌∙◌, append_assoc, inl, inr}
+use Rattle.std.proofs.Common.{◌≡◌, ℕ, ◌+◌, List, ◌++◌, ◌⊎◌, length, Result, Ok, Err, refl, sym, ap, ◌∙◌, append_assoc, inl, inr}
 use Rattle.std.specs.Prelude.{IfOk, IfErr, IsErrOf, MatchResult}
 use Rattle.std.specs.Global.{Vec}
 use Rattle.call_book.specs.declared.fault.CallsFault.{CallsFault}
@@ -8,12 +8,9 @@ use Rattle.call_book.specs.SectionView.{SectionView}
 use Rattle.call_book.specs.Spelling.{spelling}
 use Rattle.call_book.specs.Limits.{AreRead}
 use Rattle.call_book.specs.BadLine.{Begins, IsBadLine, IsReadFault}
-use Rattle.call_book.proofs.Fronts.{AreLines, front_lines, sections_lines, GoesOn, compared}
-use Rattle.call_book.proofs.Sections.{each_read, same_sections}
-
--- the lines at the front of an accepted text
-begun_lines : (front : List (List ℕ)) → Begins front → AreLines front
-begun_lines front begins = front_lines front begins.2 (subst AreLines begins.3 (sections_lines begins.0 (each_read begins.0 begins.1)))
+use Rattle.call_book.proofs.Fronts.{GoesOn, compared}
+use Rattle.call_book.proofs.Sections.{same_sections}
+use Rattle.call_book.proofs.Stops.{begun_lines}
 
 -- the shorter front goes on as an accepted text does
 never_longer : (text : List ℕ) (n : ℕ) (bad : IsBadLine text n) (other : List (List ℕ)) → Begins other → GoesOn bad.front other bad.rest → ⊥

@@ -1,3 +1,4 @@
+pub mod Flags
 pub mod Cuts
 pub mod Digits
 pub mod Names
@@ -11,6 +12,7 @@ pub mod Entries
 pub mod Fronts
 pub mod Sections
 pub mod SectionSteps
+pub mod Stops
 pub mod Written
 pub mod BadLines
 pub mod Histories
@@ -20,4 +22,5 @@ pub mod Asking
 pub mod Growing
 pub mod Sifting
 pub mod Regrading
+pub mod Limiting
 pub mod TicketSums

@@ -1,5 +1,5 @@
 -- A line that is read is spelled so, and a line that is spelled is read.
-use Rattle.std.proofs.Common.{◌≡◌, ℕ, suc, ◌≤◌, ◌<◌, ◌^◌, Bool, true, false, cond, leb, List, [], ◌∷◌, ◌++◌, All, Option, Some, None, refl, sym, ap, subst, ◌∙◌, arith}
+use Rattle.std.proofs.Common.{◌≡◌, ℕ, suc, ◌≤◌, ◌<◌, ◌^◌, Bool, true, false, not, ◌&&◌, cond, leb, List, [], ◌∷◌, ◌++◌, All, Option, Some, None, refl, sym, ap, subst, ◌∙◌, arith}
 use Rattle.std.specs.Prelude.{decimal, codes, IfSome}
 use Rattle.std.specs.Option.{option_map_or}
 use Rattle.std.specs.List.{list_all}
@@ -11,11 +11,11 @@ use Rattle.attr_check.specs.ParamsView.{ParamsView}
 use Rattle.domain_run.specs.NameView.{IsName}
 use Rattle.domain_run.specs.script.ScriptView.{ScriptView, IsScript}
 use Rattle.domain_run.specs.declared.call.Call.{Call}
-use Rattle.domain_run.specs.declared.call.Call.TheVariants.{Admit, Regrade, Wake, Leave, Advance}
+use Rattle.domain_run.specs.declared.call.Call.TheVariants.{Admit, Regrade, Wake, Leave, Advance, Limit}
 use Rattle.call_book.specs.declared.times.Times.{Times}
-use Rattle.call_book.specs.Spelling.{line_of, call_fields, flag_text, script_text}
+use Rattle.call_book.specs.Spelling.{line_of, call_fields, flag_text, script_text, is_limit}
 use Rattle.call_book.specs.Limits.{IsClient, IsNumber, IsAdmission, IsCall}
-use Rattle.call_book.specs.private.Reading.{◌>>=◌, cut_at, number_within_at, field_at, times_at, flag_at, params_at, name_at, script_at, plan_at, admit_at, seen_at, answer, answer_at, regrade_at, numbered_at, worded_at, call_at, domain_at}
+use Rattle.call_book.specs.private.Reading.{◌>>=◌, cut_at, number_within_at, field_at, times_at, flag_at, params_at, name_at, script_at, plan_at, admit_at, seen_at, answer, answer_at, regrade_at, numbered_at, change, change_at, limit_at, worded_at, call_at, known_at, Knows, domain_at}
 use Rattle.call_book.proofs.Cuts.{Lacks, Lacks-append, Lacks-written, cut_takes, cut_none, cut_again}
 use Rattle.call_book.proofs.Numbers.{bind_some, within_takes, within_again, decimal_lacks}
 use Rattle.call_book.proofs.Names.{name_yes, name_takes}
@@ -125,12 +125,17 @@ answer_text params (Some seen) = flag_text params ++ (32 ∷ seen_text seen)
 abbrev regrade_text : ℕ → ParamsView → Option ℕ → List ℕ
 regrade_text number params word = decimal number ++ (32 ∷ times_text (times_of params) (answer_text params word))
 
+abbrev change_text : ℕ → Option ℕ → List ℕ
+change_text limit None = decimal limit
+change_text limit (Some seen) = decimal limit ++ (32 ∷ seen_text seen)
+
 abbrev call_text : Call → List ℕ
 call_text (Admit number name params delay script) = admit_text number name params delay script
 call_text (Regrade number params word) = regrade_text number params word
 call_text (Wake number) = decimal number
 call_text (Leave number) = decimal number
 call_text (Advance ticks) = decimal ticks
+call_text (Limit limit word) = change_text limit word
 
 abbrev word_text : Call → List ℕ
 word_text (Admit number name params delay script) = codes "admit"
@@ -138,6 +143,7 @@ word_text (Regrade number params word) = codes "regrade"
 word_text (Wake number) = codes "wake"
 word_text (Leave number) = codes "leave"
 word_text (Advance ticks) = codes "advance"
+word_text (Limit limit word) = codes "limit"
 
 -- what was read of a call
 pub record TookCall (word text : List ℕ) (call : Call) : Type 0 where
@@ -345,25 +351,74 @@ advance_takes text call h =
     let t = numbered_takes 60000000 Advance text call h in
     subst (TookCall (codes "advance") text) t.read_is (record { is_read = (t.some, t.high); text_is = t.text_is; word_is = refl })
 
+-- ---- changes of the limit
+
+-- what was read behind the client of a change
+record TookChange (text : List ℕ) (limit : ℕ) (word : Option ℕ) : Type 0 where
+  text_is : text ≡ change_text limit word
+  low : 10485 ≤ limit
+  high : limit ≤ 1048576
+  seen : IfSome word (λ seen. seen ≤ 2 ^ 26)
+
+change_by : (text : List ℕ) (a : ℕ × Option ℕ) (o : Option (List ℕ × List ℕ)) → cut_at 32 text ≡ o
+    → option_map_or (λ p. number_within_at 10485 1048576 p.0 >>= λ limit. seen_at p.1 >>= λ seen. change limit (Some seen)) o (number_within_at 10485 1048576 text >>= λ limit. change limit None) ≡ Some a
+    → TookChange text a.0 a.1
+change_by text a None cut h =
+    let b = bind_some (number_within_at 10485 1048576 text) (λ limit. change limit None) a h in
+    let w = within_takes 10485 1048576 text b.0 b.1 in
+    subst (λ (q : ℕ × Option ℕ). TookChange text q.0 q.1) (same_Some (b.0, None) a b.2) (record { text_is = w.0; low = w.1; high = w.2; seen = tt })
+change_by text a (Some p) cut h =
+    let b = bind_some (number_within_at 10485 1048576 p.0) (λ limit. seen_at p.1 >>= λ seen. change limit (Some seen)) a h in
+    let c = bind_some (seen_at p.1) (λ seen. change b.0 (Some seen)) a b.2 in
+    let w = within_takes 10485 1048576 p.0 b.0 b.1 in
+    let t = seen_takes p.1 c.0 c.1 in
+    subst (λ (q : ℕ × Option ℕ). TookChange text q.0 q.1) (same_Some (b.0, Some c.0) a c.2)
+    (record { text_is = cut_takes 32 text p cut ∙ ap (λ (x : List ℕ). x ++ 32 ∷ p.1) w.0 ∙ after (decimal b.0) t.0; low = w.1; high = w.2; seen = t.1 })
+
+change_takes : (text : List ℕ) (a : ℕ × Option ℕ) → change_at text ≡ Some a → TookChange text a.0 a.1
+unfolding change_at
+change_takes text a h = change_by text a (cut_at 32 text) refl h
+
+change_again : (limit : ℕ) (word : Option ℕ) → IsCall (Limit limit word) → change_at (change_text limit word) ≡ change limit word
+unfolding change_at
+change_again limit None is = rw (cut_none 32 (decimal limit) (decimal_lacks 32 limit refl (omega (arith, is.1))), within_again 10485 1048576 limit is.0 is.1 (omega arith)) refl
+change_again limit (Some seen) is =
+    rw (cut_again 32 (decimal limit) (seen_text seen) (decimal_lacks 32 limit refl (omega (arith, is.1))), within_again 10485 1048576 limit is.0 is.1 (omega arith), seen_again seen is.2) refl
+
+abbrev made_limit : ℕ → Option ℕ → Option Call
+made_limit limit word = Some (Limit limit word)
+
+limit_takes : (text : List ℕ) (call : Call) → limit_at text ≡ Some call → TookCall (codes "limit") text call
+unfolding limit_at
+limit_takes text call h =
+    let a = bind_some (change_at text) (λ c. made_limit c.0 c.1) call h in
+    let t = change_takes text a.0 a.1 in
+    subst (TookCall (codes "limit") text) (same_Some (Limit a.0.0 a.0.1) call a.2) (record { is_read = (t.low, t.high, t.seen); text_is = t.text_is; word_is = refl })
+
+limit_again : (limit : ℕ) (word : Option ℕ) → IsCall (Limit limit word) → limit_at (change_text limit word) ≡ made_limit limit word
+unfolding limit_at
+limit_again limit word is = rw (change_again limit word is) refl
+
 -- ---- words
 
 -- a word that was read as this one
 as_word : (word known text : List ℕ) (call : Call) → bytes_eq word known ≡ true → TookCall known text call → TookCall word text call
 as_word word known text call is took = subst (λ (w : List ℕ). TookCall w text call) (sym ((bytes_eq-Decides word known).0 is)) took
 
-by_word : (word text : List ℕ) (call : Call) (admit regrade wake leave advance : Bool) → bytes_eq word (codes "admit") ≡ admit → bytes_eq word (codes "regrade") ≡ regrade → bytes_eq word (codes "wake") ≡ wake → bytes_eq word (codes "leave") ≡ leave → bytes_eq word (codes "advance") ≡ advance
-    → cond admit (admit_at text) (cond regrade (regrade_at text) (cond wake (numbered_at 65535 Wake text) (cond leave (numbered_at 65535 Leave text) (cond advance (numbered_at 60000000 Advance text) None)))) ≡ Some call → TookCall word text call
-by_word word text call true regrade wake leave advance is e2 e3 e4 e5 h = as_word word (codes "admit") text call is (admit_takes text call h)
-by_word word text call false true wake leave advance e1 is e3 e4 e5 h = as_word word (codes "regrade") text call is (regrade_takes text call h)
-by_word word text call false false true leave advance e1 e2 is e4 e5 h = as_word word (codes "wake") text call is (wake_takes text call h)
-by_word word text call false false false true advance e1 e2 e3 is e5 h = as_word word (codes "leave") text call is (leave_takes text call h)
-by_word word text call false false false false true e1 e2 e3 e4 is h = as_word word (codes "advance") text call is (advance_takes text call h)
-by_word word text call false false false false false e1 e2 e3 e4 e5 h = absurd cc
+by_word : (word text : List ℕ) (call : Call) (admit regrade wake leave advance limit : Bool) → bytes_eq word (codes "admit") ≡ admit → bytes_eq word (codes "regrade") ≡ regrade → bytes_eq word (codes "wake") ≡ wake → bytes_eq word (codes "leave") ≡ leave → bytes_eq word (codes "advance") ≡ advance → bytes_eq word (codes "limit") ≡ limit
+    → cond admit (admit_at text) (cond regrade (regrade_at text) (cond wake (numbered_at 65535 Wake text) (cond leave (numbered_at 65535 Leave text) (cond advance (numbered_at 60000000 Advance text) (cond limit (limit_at text) None))))) ≡ Some call → TookCall word text call
+by_word word text call true regrade wake leave advance limit is e2 e3 e4 e5 e6 h = as_word word (codes "admit") text call is (admit_takes text call h)
+by_word word text call false true wake leave advance limit e1 is e3 e4 e5 e6 h = as_word word (codes "regrade") text call is (regrade_takes text call h)
+by_word word text call false false true leave advance limit e1 e2 is e4 e5 e6 h = as_word word (codes "wake") text call is (wake_takes text call h)
+by_word word text call false false false true advance limit e1 e2 e3 is e5 e6 h = as_word word (codes "leave") text call is (leave_takes text call h)
+by_word word text call false false false false true limit e1 e2 e3 e4 is e6 h = as_word word (codes "advance") text call is (advance_takes text call h)
+by_word word text call false false false false false true e1 e2 e3 e4 e5 is h = as_word word (codes "limit") text call is (limit_takes text call h)
+by_word word text call false false false false false false e1 e2 e3 e4 e5 e6 h = absurd cc
 
 worded_takes : (word text : List ℕ) (call : Call) → worded_at word text ≡ Some call → TookCall word text call
 unfolding worded_at
 worded_takes word text call h =
-    by_word word text call (bytes_eq word (codes "admit")) (bytes_eq word (codes "regrade")) (bytes_eq word (codes "wake")) (bytes_eq word (codes "leave")) (bytes_eq word (codes "advance")) refl refl refl refl refl h
+    by_word word text call (bytes_eq word (codes "admit")) (bytes_eq word (codes "regrade")) (bytes_eq word (codes "wake")) (bytes_eq word (codes "leave")) (bytes_eq word (codes "advance")) (bytes_eq word (codes "limit")) refl refl refl refl refl refl h
 
 worded_again : (call : Call) → IsCall call → worded_at (word_text call) (call_text call) ≡ Some call
 unfolding worded_at
@@ -372,6 +427,7 @@ worded_again (Regrade number params word) is = regrade_again number params word 
 worded_again (Wake number) is = numbered_again 65535 Wake number is.0 is.1 (omega arith)
 worded_again (Leave number) is = numbered_again 65535 Leave number is.0 is.1 (omega arith)
 worded_again (Advance ticks) is = numbered_again 60000000 Advance ticks is.0 is.1 (omega arith)
+worded_again (Limit limit word) is = limit_again limit word is
 
 -- ---- the lines of calls
 
@@ -382,6 +438,8 @@ line_is client (Regrade number params (Some seen)) = refl
 line_is client (Wake number) = refl
 line_is client (Leave number) = refl
 line_is client (Advance ticks) = refl
+line_is client (Limit limit None) = refl
+line_is client (Limit limit (Some seen)) = refl
 
 abbrev made_call : ℕ → Call → Option (ℕ × Call)
 made_call client call = Some (client, call)
@@ -420,6 +478,7 @@ word_lacks c (Regrade number params word) low = letters_lack c (codes "regrade")
 word_lacks c (Wake number) low = letters_lack c (codes "wake") low refl
 word_lacks c (Leave number) low = letters_lack c (codes "leave") low refl
 word_lacks c (Advance ticks) low = letters_lack c (codes "advance") low refl
+word_lacks c (Limit limit word) low = letters_lack c (codes "limit") low refl
 
 pub call_again : (client : ℕ) (call : Call) → IsClient client → IsCall call → call_at (line_of (call_fields client call)) ≡ made_call client call
 unfolding call_at
@@ -430,6 +489,32 @@ call_again client call is read =
       field_again 1 64 client (call_text call) (omega (arith, is.0)) is.1 (omega arith),
       worded_again call read,
     ) refl
+
+-- ---- behind a header
+
+-- a call is read where the header has such calls
+known_by : (limits has : Bool) (p q : ℕ × Call) → has ≡ is_limit p.1 → cond (has && not limits) None (Some p) ≡ Some q → (p ≡ q) × Knows limits (is_limit q.1)
+known_by false false p q is h = let same = same_Some p q h in (same, λ no. ap (λ (x : ℕ × Call). is_limit x.1) (sym same) ∙ sym is)
+known_by false true p q is h = absurd cc
+known_by true false p q is h = (same_Some p q h, λ no. absurd cc)
+known_by true true p q is h = (same_Some p q h, λ no. absurd cc)
+
+pub known_takes : (limits : Bool) (line : List ℕ) (p : ℕ × Call) → known_at limits line ≡ Some p → (call_at line ≡ Some p) × Knows limits (is_limit p.1)
+unfolding known_at
+known_takes limits line p h =
+    let a = bind_some (call_at line) (λ q. cond (is_limit q.1 && not limits) None (Some q)) p h in
+    let b = known_by limits (is_limit a.0.1) a.0 p refl a.2 in
+    (a.1 ∙ ap (λ (x : ℕ × Call). Some x) b.0, b.1)
+
+read_by : (limits has : Bool) (client : ℕ) (call : Call) → Knows limits has → cond (has && not limits) None (Some (client, call)) ≡ made_call client call
+read_by false false client call knows = refl
+read_by false true client call knows = absurd (let e = knows refl in cc)
+read_by true false client call knows = refl
+read_by true true client call knows = refl
+
+pub known_again : (limits : Bool) (client : ℕ) (call : Call) → IsClient client → IsCall call → Knows limits (is_limit call) → known_at limits (line_of (call_fields client call)) ≡ made_call client call
+unfolding known_at
+known_again limits client call is read knows = rw (call_again client call is read) (read_by limits (is_limit call) client call knows)
 
 -- ---- a line has no line break
 
@@ -463,6 +548,10 @@ call_lacks (Regrade number params word) read =
 call_lacks (Wake number) read = decimal_lacks 10 number refl (omega (arith, read.1))
 call_lacks (Leave number) read = decimal_lacks 10 number refl (omega (arith, read.1))
 call_lacks (Advance ticks) read = decimal_lacks 10 ticks refl (omega (arith, read.1))
+call_lacks (Limit limit None) read = decimal_lacks 10 limit refl (omega (arith, read.1))
+call_lacks (Limit limit (Some seen)) read =
+    between_lacks (decimal limit) (seen_text seen) (decimal_lacks 10 limit refl (omega (arith, read.1)))
+    (between_lacks (codes "busy") (decimal seen) (Lacks-written 10 (codes "busy") refl) (decimal_lacks 10 seen refl (omega (arith, read.2))))
 
 pub line_lacks : (client : ℕ) (call : Call) → IsClient client → IsCall call → Lacks 10 (line_of (call_fields client call))
 line_lacks client call is read =

@@ -1,14 +1,15 @@
 -- A book in which a task was regraded.
 use Rattle.std.proofs.Common.{◌≡◌, inl, inr, ℕ, zero, suc, ◌+◌, ◌-◌, ◌<◌, ◌≤◌, Bool, true, false, cond, ◌||◌, eqb, ltb, Option, Some, None, List, [], ◌∷◌, ◌++◌, length, map, refl, sym, ap, ◌∙◌, subst, arith, eq-eqb}
-use Rattle.std.specs.Prelude.{All, AllPairs, ◌≢◌, Contains, IfSome}
+use Rattle.std.specs.Prelude.{All, AllPairs, ◌≢◌, ◌*◌, Contains, IfSome}
 use Rattle.std.specs.List.{list_any}
 use Rattle.std.proofs.lemmas.Bool.{eqb-true}
 use Rattle.std.proofs.lemmas.List.{map-append}
 use Rattle.std.proofs.lemmas.List.Folds.{list_any_at}
-use Rattle.std.proofs.Math.Nat.{mul-le-mul_left, mul-le-mul_right}
+use Rattle.std.proofs.Math.Nat.{mul-le-mul_left}
 use Rattle.attr_check.specs.ParamsView.{ParamsView}
 use Rattle.attr_check.specs.Ratio.{cap}
-use Rattle.bw_gate.specs.Pieces.{GateId, BlankView, cap_of}
+use Rattle.bw_gate.specs.Word.{used_of, IsWord}
+use Rattle.bw_gate.specs.Pieces.{GateId, BlankView, cpus_of}
 use Rattle.pass_seats.specs.Lists.{PassView}
 use Rattle.domain_run.specs.declared.task.Task.{Task}
 use Rattle.domain_run.specs.declared.call.Call.TheVariants as Call
@@ -22,7 +23,7 @@ use Rattle.domain_run.proofs.CallerLemmas.{live_key, regraded_keys, refused_keep
 use Rattle.call_book.specs.declared.section.Entry.{Entry}
 use Rattle.call_book.specs.declared.book.stock.Held.{Held}
 use Rattle.call_book.specs.Limits.{IsCall}
-use Rattle.call_book.specs.Pieces.{held_key, is_held, IsTicketOf, AsksTheWord, HoldsTickets}
+use Rattle.call_book.specs.Pieces.{held_key, is_held, word_at, IsTicketOf, AsksTheWord, HoldsTickets}
 use Rattle.call_book.specs.Book.{BookView, state_of, entry_by, with_entry}
 use Rattle.call_book.specs.BookAnswers.{IsRegraded}
 use Rattle.call_book.specs.private.Ledger.{LedgerView}
@@ -109,15 +110,23 @@ refused_keys number bw seen old new asked =
     let is : map held_key new ≡ front ++ (number, asked.becomes.bw) ∷ behind = ap (map held_key) asked.new_tickets ∙ map-append held_key asked.before (y ∷ asked.behind) in
     is ∙ ap (λ (n : ℕ). front ++ (number, n) ∷ behind) asked.answered.answer.0 ∙ sym was
 
--- a word that refused is at most the cap
-pub asked_within : (gate : GateId) (domain number bw : ℕ) (old new : List Held) (word : Option ℕ) → AsksTheWord number bw old new word → All (λ h. IsTicketOf gate domain h.ticket) old → IfSome word (λ seen. seen ≤ cap_of gate domain)
+-- what is used of a word is at most what its CPUs have
+pub used_within : (cpus word used : ℕ) → IsWord cpus word → used_of word ≡ used → used ≤ cpus * 1048576
+used_within cpus word used is same =
+    let within = is.within in
+    let product = is.cap.product in
+    omega (arith, same, within, product, mul-le-mul_left cpus is.cap.a_limit.most)
+
+pub asked_within : (gate : GateId) (domain number bw : ℕ) (old new : List Held) (word : Option ℕ) → AsksTheWord number bw old new word → All (λ h. IsTicketOf gate domain h.ticket) old → IfSome word (λ used. used ≤ cpus_of gate domain * 1048576)
 asked_within gate domain number bw old new None asked all = tt
 asked_within gate domain number bw old new (Some seen) asked all =
     let P : Held → Type 0 = λ h. IsTicketOf gate domain h.ticket in
     let x : Held = record { number = number; ticket = asked.was } in
     let tail : All P (x ∷ asked.behind) = all_behind P asked.before (x ∷ asked.behind) (subst (All P) asked.old_tickets all) in
     let was : IsTicketOf gate domain asked.was = tail 0 x (omega arith) in
-    subst (λ (n : ℕ). seen ≤ n) (ap (λ (g : GateId). cap_of g asked.was.domain) was.own ∙ ap (cap_of gate) was.inside) asked.answered.answer.2
+    let answer = asked.answered.answer in
+    let within = used_within (cpus_of asked.was.gate asked.was.domain) (word_at asked.becomes) seen answer.2 answer.1 in
+    subst (λ (n : ℕ). seen ≤ n * 1048576) (ap (λ (g : GateId). cpus_of g asked.was.domain) was.own ∙ ap (cpus_of gate) was.inside) within
 
 -- ---- replies
 
@@ -155,35 +164,34 @@ asked_stock : (state : Domain) (old new : StockView) (number : ℕ) (params : Pa
 asked_stock state old new number params word (inl a) = a.2
 asked_stock state old new number params word (inr a) = a.2 ∙ ap (λ (x : StockView). record old { tickets = x.tickets }) (sym a.2)
 
-pub regrade_grows : (cpus limit workers : ℕ) (l grown : LedgerView) (s t : StockView) (state next : Domain) (number : ℕ) (params : ParamsView) (word : Option ℕ) (reply : Reply) (p : PassView Entry) → IsBook (book_of cpus limit workers l s) state
+pub regrade_grows : (cpus limit workers : ℕ) (left : Option ℕ) (l grown : LedgerView) (s t : StockView) (state next : Domain) (number : ℕ) (params : ParamsView) (word : Option ℕ) (reply : Reply) (p : PassView Entry) → IsBook (book_of cpus limit workers left l s) state
     → grown ≡ record l { history = l.history ++ entry_by p (Call.Regrade number params word) reply ∷ [] } → IsAsked state s t number params word
-    → reply ≡ reply_to state (Call.Regrade number params word) → next ≡ after_call state (Call.Regrade number params word) → IsBook (book_of cpus limit workers grown t) next
-regrade_grows cpus limit workers l grown s t state next number params word reply p is more asked lawful becomes =
+    → reply ≡ reply_to state (Call.Regrade number params word) → next ≡ after_call state (Call.Regrade number params word) → IsBook (book_of cpus limit workers left grown t) next
+regrade_grows cpus limit workers left l grown s t state next number params word reply p is more asked lawful becomes =
     let stock = asked_stock state s t number params word asked in
     let pieces : t ≡ record s { tickets = t.tickets; blanks = t.blanks } = stock ∙ ap (λ (bs : List BlankView). record s { tickets = t.tickets; blanks = bs }) (sym (ap (λ (x : StockView). x.blanks) stock)) in
-    book_grows cpus limit workers l grown s t state next (entry_by p (Call.Regrade number params word) reply) is more pieces (ap Some lawful) becomes (regrade_holds state next s t number params word is.held asked becomes) (omega arith)
+    book_grows cpus limit workers left l grown s t state next (entry_by p (Call.Regrade number params word) reply) is more pieces refl (ap Some lawful) becomes (regrade_holds state next s t number params word is.held asked becomes) (omega arith)
 
--- the call has a spelling, since the cap of 64 CPUs is 2^26
-pub regrade_spelled : (cpus limit workers : ℕ) (l : LedgerView) (s t : StockView) (state : Domain) (number : ℕ) (params : ParamsView) (word : Option ℕ) → IsBook (book_of cpus limit workers l s) state → IsCall (Call.Regrade number params None) → IsAsked state s t number params word → IsCall (Call.Regrade number params word)
-regrade_spelled cpus limit workers l s t state number params None is call asked = call
-regrade_spelled cpus limit workers l s t state number params (Some seen) is call (inl a) =
+-- the call has a spelling, since 64 CPUs have 2^26
+pub regrade_spelled : (cpus limit workers : ℕ) (left : Option ℕ) (l : LedgerView) (s t : StockView) (state : Domain) (number : ℕ) (params : ParamsView) (word : Option ℕ) → IsBook (book_of cpus limit workers left l s) state → IsCall (Call.Regrade number params None) → IsAsked state s t number params word → IsCall (Call.Regrade number params word)
+regrade_spelled cpus limit workers left l s t state number params None is call asked = call
+regrade_spelled cpus limit workers left l s t state number params (Some seen) is call (inl a) =
     let capped = is.capped in
     let few = is.few in
-    let high = is.high in
     let within = a.4 in
-    (call.0, call.1, omega (arith, within, capped, mul-le-mul_right limit few, mul-le-mul_left 64 high))
-regrade_spelled cpus limit workers l s t state number params (Some seen) is call (inr a) = absurd (let e = a.1 in cc)
+    (call.0, call.1, omega (arith, within, capped, few))
+regrade_spelled cpus limit workers left l s t state number params (Some seen) is call (inr a) = absurd (let e = a.1 in cc)
 
-pub regrade_answer : (b : BookView) (cpus limit workers : ℕ) (l grown : LedgerView) (s t : StockView) (state : Domain) (number : ℕ) (params : ParamsView) (word : Option ℕ) (reply : Reply) (p q : PassView Entry) → book_of cpus limit workers l s ≡ b → IsBook (book_of cpus limit workers l s) state → length l.history < l.room
+pub regrade_answer : (b : BookView) (cpus limit workers : ℕ) (left : Option ℕ) (l grown : LedgerView) (s t : StockView) (state : Domain) (number : ℕ) (params : ParamsView) (word : Option ℕ) (reply : Reply) (p q : PassView Entry) → book_of cpus limit workers left l s ≡ b → IsBook (book_of cpus limit workers left l s) state → length l.history < l.room
     → grown ≡ record l { history = l.history ++ entry_by p (Call.Regrade number params word) reply ∷ [] } → q ≡ with_entry p (Call.Regrade number params word) reply → IsAsked state s t number params word → reply ≡ reply_to state (Call.Regrade number params word)
-    → IsRegraded b (book_of cpus limit workers grown t) p q number params reply
-regrade_answer b cpus limit workers l grown s t state number params word reply p q view is room more made asked lawful =
-    let old = book_of cpus limit workers l s in
-    let new = book_of cpus limit workers grown t in
+    → IsRegraded b (book_of cpus limit workers left grown t) p q number params reply
+regrade_answer b cpus limit workers left l grown s t state number params word reply p q view is room more made asked lawful =
+    let old = book_of cpus limit workers left l s in
+    let new = book_of cpus limit workers left grown t in
     let stock = asked_stock state s t number params word asked in
     let e : Entry = entry_by p (Call.Regrade number params word) reply in
     let book : new ≡ record old { history = l.history ++ e ∷ []; tickets = t.tickets; blanks = t.blanks } =
-    ap (λ (x : LedgerView). book_of cpus limit workers x t) more ∙ ap (λ (x : StockView). record old { gate = x.gate; domain = x.domain; history = l.history ++ e ∷ []; tickets = t.tickets; blanks = t.blanks }) stock in
+    ap (λ (x : LedgerView). book_of cpus limit workers left x t) more ∙ ap (λ (x : StockView). record old { gate = x.gate; domain = x.domain; history = l.history ++ e ∷ []; tickets = t.tickets; blanks = t.blanks }) stock in
     let test : Own (state_of old) number params ≡ Own state number params = ap (λ (d : Domain). Own d number params) (sym is.run) in
     let whole : IsRegraded old new p q number params reply = record {
       word = word;

@@ -1,5 +1,5 @@
 -- The tickets of a book after some ticks.
-use Rattle.std.proofs.Common.{◌≡◌, ℕ, ◌<◌, ◌≤◌, Bool, true, false, cond, List, [], ◌∷◌, ◌++◌, length, map, refl, sym, ap, ◌∙◌, subst}
+use Rattle.std.proofs.Common.{◌≡◌, ℕ, ◌<◌, ◌≤◌, Bool, true, false, cond, Option, List, [], ◌∷◌, ◌++◌, length, map, refl, sym, ap, ◌∙◌, subst}
 use Rattle.std.specs.Prelude.{filter}
 use Rattle.std.proofs.lemmas.List.Elements.{filter_agree}
 use Rattle.pass_seats.specs.Lists.{PassView}
@@ -34,24 +34,24 @@ sifted_holds state next tickets held kept =
     ap (map held_key) same ∙ filter_keys test tickets ∙ ap (filter test) held ∙ sym kept
 
 -- so many ticks of a book
-pub advance_grows : (cpus limit workers : ℕ) (l grown : LedgerView) (s t : StockView) (state next : Domain) (k : ℕ) (p : PassView Entry) → IsBook (book_of cpus limit workers l s) state
+pub advance_grows : (cpus limit workers : ℕ) (left : Option ℕ) (l grown : LedgerView) (s t : StockView) (state next : Domain) (k : ℕ) (p : PassView Entry) → IsBook (book_of cpus limit workers left l s) state
     → grown ≡ record l { history = l.history ++ entry_by p (Call.Advance k) (Reply.Done k) ∷ [] } → next ≡ ticks k state → AreKept state.tasks next.tasks
-    → t ≡ record s { tickets = filter (is_kept next) s.tickets; blanks = t.blanks } → k ≤ 60000000 → IsBook (book_of cpus limit workers grown t) next
-advance_grows cpus limit workers l grown s t state next k p is more becomes kept swept few =
+    → t ≡ record s { tickets = filter (is_kept next) s.tickets; blanks = t.blanks } → k ≤ 60000000 → IsBook (book_of cpus limit workers left grown t) next
+advance_grows cpus limit workers left l grown s t state next k p is more becomes kept swept few =
     let tickets : t.tickets ≡ filter (is_kept next) s.tickets = ap (λ (x : StockView). x.tickets) swept in
     let pieces : t ≡ record s { tickets = t.tickets; blanks = t.blanks } = swept ∙ ap (λ (hs : List Held). record s { tickets = hs; blanks = t.blanks }) (sym tickets) in
     let held : HoldsTickets next t.tickets = ap (map held_key) tickets ∙ sifted_holds state next s.tickets is.held kept in
-    book_grows cpus limit workers l grown s t state next (entry_by p (Call.Advance k) (Reply.Done k)) is more pieces refl becomes held few
+    book_grows cpus limit workers left l grown s t state next (entry_by p (Call.Advance k) (Reply.Done k)) is more pieces refl refl becomes held few
 
 -- what an advance answers
-pub advance_answer : (b : BookView) (cpus limit workers : ℕ) (l grown : LedgerView) (s t : StockView) (state next : Domain) (k n : ℕ) (p q : PassView Entry) → book_of cpus limit workers l s ≡ b → IsBook (book_of cpus limit workers l s) state → IsBook (book_of cpus limit workers grown t) next
+pub advance_answer : (b : BookView) (cpus limit workers : ℕ) (left : Option ℕ) (l grown : LedgerView) (s t : StockView) (state next : Domain) (k n : ℕ) (p q : PassView Entry) → book_of cpus limit workers left l s ≡ b → IsBook (book_of cpus limit workers left l s) state → IsBook (book_of cpus limit workers left grown t) next
     → length l.history < l.room → 0 < k → k ≤ n → grown ≡ record l { history = l.history ++ entry_by p (Call.Advance k) (Reply.Done k) ∷ [] } → q ≡ with_entry p (Call.Advance k) (Reply.Done k)
     → t ≡ record s { tickets = filter (is_kept next) s.tickets; blanks = t.blanks } → ((given : List BlankView) × (t.blanks ≡ s.blanks ++ given) × AreGiven (filter (is_gone next) s.tickets) given)
-    → IsAdvanced b (book_of cpus limit workers grown t) p q n (Reply.Done k)
-advance_answer b cpus limit workers l grown s t state next k n p q view is after room some most more made swept given =
-    let new = book_of cpus limit workers grown t in
-    let old = book_of cpus limit workers l s in
-    let made_of : StockView → LedgerView → BookView = λ x y. book_of cpus limit workers y x in
+    → IsAdvanced b (book_of cpus limit workers left grown t) p q n (Reply.Done k)
+advance_answer b cpus limit workers left l grown s t state next k n p q view is after room some most more made swept given =
+    let new = book_of cpus limit workers left grown t in
+    let old = book_of cpus limit workers left l s in
+    let made_of : StockView → LedgerView → BookView = λ x y. book_of cpus limit workers left y x in
     let book : new ≡ record old { history = l.history ++ entry_by p (Call.Advance k) (Reply.Done k) ∷ []; tickets = t.tickets; blanks = t.blanks } =
     ap (made_of t) more ∙ ap (λ (x : StockView). record old { gate = x.gate; domain = x.domain; history = l.history ++ entry_by p (Call.Advance k) (Reply.Done k) ∷ []; tickets = t.tickets; blanks = t.blanks }) swept in
     let whole : IsAdvanced old new p q n (Reply.Done k) = record {

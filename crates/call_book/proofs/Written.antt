@@ -1,5 +1,5 @@
 -- A text that grows piece by piece.
-use Rattle.std.proofs.Common.{◌≡◌, ℕ, ◌-◌, ◌≤◌, List, [], ◌∷◌, ◌++◌, length, get_or, map, take, drop, Option, Some, None, refl, sym, ap, ◌∙◌, append_assoc, arith}
+use Rattle.std.proofs.Common.{◌≡◌, ℕ, ◌-◌, ◌≤◌, Bool, ◌||◌, List, [], ◌∷◌, ◌++◌, length, get_or, map, take, drop, Option, Some, None, refl, sym, ap, ◌∙◌, append_assoc, arith}
 use Rattle.std.specs.Prelude.{codes}
 use Rattle.std.specs.Fmt.{digits, signed_decimal}
 use Rattle.std.specs.List.{flat_map, join_with_byte}
@@ -9,7 +9,7 @@ use Rattle.call_book.specs.declared.section.Entry.{Entry}
 use Rattle.call_book.specs.SectionView.{SectionView}
 use Rattle.domain_run.specs.declared.script.Event.{Event}
 use Rattle.domain_run.specs.script.Segments.{loops_of}
-use Rattle.call_book.specs.Spelling.{event_text, events_text, loops_text, entry_line, domain_line, section_lines, lines_of, text_of, spelling}
+use Rattle.call_book.specs.Spelling.{event_text, events_text, loops_text, entry_line, domain_line, section_lines, is_limit, some_limit, has_limit, header_line, text_of, spelling}
 use Rattle.call_book.specs.Limits.{AreRead}
 use Rattle.call_book.specs.RoundTrip.{bare, unanswered, IsReadAs}
 use Rattle.call_book.proofs.Cuts.{rest_is}
@@ -33,10 +33,10 @@ abbrev line_break : List ℕ → List ℕ
 line_break line = line ++ codes "\n"
 
 -- one more section
-pub spelling_more : (sections : List SectionView) (s : SectionView) → spelling (sections ++ s ∷ []) ≡ spelling sections ++ text_of (section_lines s)
-spelling_more sections s =
-    ap (λ (ls : List (List ℕ)). text_of (codes "dlcalls 1" ∷ ls)) (flat_map-append section_lines sections (s ∷ []) ∙ ap (λ (ls : List (List ℕ)). flat_map section_lines sections ++ ls) (append-nil (section_lines s)))
-    ∙ flat_map-append line_break (lines_of sections) (section_lines s)
+pub headed_more : (limits : Bool) (sections : List SectionView) (s : SectionView) → text_of (header_line limits ∷ flat_map section_lines (sections ++ s ∷ [])) ≡ text_of (header_line limits ∷ flat_map section_lines sections) ++ text_of (section_lines s)
+headed_more limits sections s =
+    ap (λ (ls : List (List ℕ)). text_of (header_line limits ∷ ls)) (flat_map-append section_lines sections (s ∷ []) ∙ ap (λ (ls : List (List ℕ)). flat_map section_lines sections ++ ls) (append-nil (section_lines s)))
+    ∙ flat_map-append line_break (header_line limits ∷ flat_map section_lines sections) (section_lines s)
 
 -- the loop count, as a signed number
 pub loops_said : (rounds : Option ℕ) → signed_decimal (loops_of rounds) ≡ loops_text rounds
@@ -56,9 +56,18 @@ lines_bare (s ∷ sections) =
     ap (λ (ls : List (List ℕ)). (domain_line s ∷ ls) ++ flat_map section_lines (map unanswered sections)) (entries_bare s.entries)
     ∙ ap (λ (ls : List (List ℕ)). section_lines s ++ ls) (lines_bare sections)
 
+some_bare : (entries : List Entry) → some_limit (map bare entries) ≡ some_limit entries
+some_bare [] = refl
+some_bare (e ∷ entries) = ap (λ (b : Bool). is_limit e.call || b) (some_bare entries)
+
+has_bare : (sections : List SectionView) → has_limit (map unanswered sections) ≡ has_limit sections
+has_bare [] = refl
+has_bare (s ∷ sections) = ap (λ (b : Bool). b || has_limit (map unanswered sections)) (some_bare s.entries) ∙ ap (λ (b : Bool). some_limit s.entries || b) (has_bare sections)
+
 -- no reply is written
 spelling_bare : (sections : List SectionView) → spelling (map unanswered sections) ≡ spelling sections
-spelling_bare sections = ap (λ (ls : List (List ℕ)). text_of (codes "dlcalls 1" ∷ ls)) (lines_bare sections)
+spelling_bare sections =
+    ap (λ (b : Bool). text_of (header_line b ∷ flat_map section_lines (map unanswered sections))) (has_bare sections) ∙ ap (λ (ls : List (List ℕ)). text_of (header_line (has_limit sections) ∷ ls)) (lines_bare sections)
 
 -- what is written is read as what was written
 pub read_as : (text : List ℕ) (sections : List SectionView) → text ≡ spelling sections → AreRead (map unanswered sections) → IsReadAs text (map unanswered sections)

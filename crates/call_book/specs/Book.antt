@@ -1,10 +1,12 @@
 -- A domain's book: the calls that were made on one domain, in their order, and the tickets of its
 -- tasks (own).
-use Rattle.std.specs.Prelude.{◌≡◌, ℕ, ◌<◌, ◌≤◌, List, [], ◌∷◌, ◌++◌, length, map, Some, All}
+use Rattle.std.specs.Prelude.{◌≡◌, ℕ, ◌<◌, ◌≤◌, List, [], ◌∷◌, ◌++◌, length, map, Option, Some, IfNone, IfSome, All}
 use Rattle.attr_check.specs.ParamsView.{ParamsView}
+use Rattle.attr_check.specs.Ratio.{cap}
 use Rattle.atomic_table.specs.Seated.{TableId}
 use Rattle.pass_seats.specs.Lists.{PassView, own}
 use Rattle.bw_gate.specs.Pieces.{GateId, BlankView}
+use Rattle.bw_gate.specs.Word.{cap_of}
 use Rattle.domain_run.specs.script.ScriptView.{ScriptView}
 use Rattle.domain_run.specs.declared.call.Call.{Call}
 use Rattle.domain_run.specs.declared.call.Call.TheVariants.{Admit}
@@ -23,7 +25,8 @@ pub record BookView : Type 0 where
   -- the gate whose bandwidth the tasks have, and which of its domains this is
   pub gate : GateId
   pub domain : ℕ
-  -- how many CPUs it has, and what may be given away of each, in 1/2^20
+  -- how many CPUs it has, and what might be given away of each, in 1/2^20, when it was opened; what
+  -- may be given away now is the limit of its state
   pub cpus : ℕ
   pub limit : ℕ
   -- its clients are 1 to so many, and their passes are those of this spine
@@ -38,6 +41,8 @@ pub record BookView : Type 0 where
   pub blanks : List BlankView
   -- by how many workers an advance goes; no answer depends on them
   pub workers : ℕ
+  -- the word that the last change of the limit by this book left; none before any
+  pub left : Option ℕ
 
 -- ---- histories
 
@@ -75,6 +80,13 @@ pub record IsBookHistory (b : BookView) : Type 0 where
   pub spelled : All IsEntry b.history
   pub within : length b.history ≤ b.room
   pub short : b.room ≤ 65536
+
+-- The limit and the word do not part as far as the book's own calls go: before any change of the
+-- limit it is that of the opening, and after one the word that was left carries CPUs times the limit
+-- that the state has. Another client of the gate may have changed the word since.
+pub record HasItsLimit (b : BookView) : Type 0 where
+  pub first : IfNone b.left ((state_of b).limit ≡ b.limit)
+  pub since : IfSome b.left (λ word. cap_of word ≡ cap b.cpus (state_of b).limit)
 
 -- ---- entries
 

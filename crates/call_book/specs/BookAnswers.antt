@@ -8,6 +8,7 @@ use Rattle.bw_gate.specs.Pieces.{BlankView, TicketView}
 use Rattle.domain_run.specs.declared.call.Call.TheVariants.{Regrade, Advance}
 use Rattle.domain_run.specs.declared.call.Reply.{Reply}
 use Rattle.domain_run.specs.declared.call.Reply.TheVariants as replies
+use Rattle.domain_run.specs.Domain.{IsLimit}
 use Rattle.domain_run.specs.Calls.{reply_to}
 use Rattle.call_book.specs.declared.section.Entry.{Entry}
 use Rattle.call_book.specs.declared.book.domain.AdvanceError.{AdvanceError}
@@ -26,12 +27,14 @@ pub record IsAdmitted (old new : BookView) (p q : PassView Entry) (a : Admission
   pub none : IfNone blank (old.blanks ≡ [])
   pub own : IfSome blank (λ b. b.gate ≡ old.gate)
 
--- the sum of bandwidths has no room for the task, and the ticket comes back
+-- the sum of bandwidths has no room for the task under the limit that the state has, and the ticket
+-- comes back
 pub record IsBusy (old new : BookView) (p q : PassView Entry) (a : AdmissionView)
     (ticket back : TicketView) (seen : ℕ) : Type 0 where
   pub entered : EntersAlone old new p q (admission a) (replies.Busy seen)
-  pub within : seen ≤ cap old.cpus old.limit
-  pub above : cap old.cpus old.limit < seen + a.params.bw
+  pub a_limit : IsLimit (state_of old).limit
+  pub within : seen ≤ cap old.cpus (state_of old).limit
+  pub above : cap old.cpus (state_of old).limit < seen + a.params.bw
   pub ticket_back : back ≡ ticket
 
 -- nothing changes, and ticket and admission come back

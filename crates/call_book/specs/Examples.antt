@@ -8,10 +8,10 @@ use Rattle.domain_run.specs.declared.script.Event.{Event}
 use Rattle.domain_run.specs.declared.script.Event.TheVariants.{Run, Sleep, Timer, Wait}
 use Rattle.domain_run.specs.script.ScriptView.{PhaseView, script_of}
 use Rattle.domain_run.specs.declared.call.Call.{Call}
-use Rattle.domain_run.specs.declared.call.Call.TheVariants.{Admit, Regrade, Wake, Leave, Advance}
+use Rattle.domain_run.specs.declared.call.Call.TheVariants.{Admit, Regrade, Wake, Leave, Advance, Limit}
 use Rattle.call_book.specs.declared.section.Entry.{Entry}
 use Rattle.call_book.specs.SectionView.{SectionView}
-use Rattle.call_book.specs.Spelling.{entry_line, spelling}
+use Rattle.call_book.specs.Spelling.{entry_line, has_limit, spelling}
 use Rattle.call_book.specs.OwnCalls.{IsNumbered}
 use Rattle.call_book.specs.Limits.{IsChecked, attr_of}
 
@@ -51,6 +51,37 @@ pub two_sections : spelling
 unfolding digits
 two_sections = refl
 
+-- a whole text: the limit changes the rate of a task that reclaims
+pub limit_changes_the_rate : spelling
+    (one_section 1 1048576
+    (call 0 (Admit 1 (codes "a")
+    (record { runtime = 4; deadline = 8; period = 8; reclaim = true; bw = 524288 }) 0
+    (script_of (Some 1) (phase 1 (Run 1000 ∷ []) ∷ []))) ∷ call 1 (Advance 4)
+    ∷ call 2 (Limit 786432 None) ∷ call 3 (Advance 5) ∷ [])) ≡ codes
+    "dlcalls 2\ndomain 1 1048576\nadmit 1 1 a 4 8 8 R 0 1:1{r1000}\nadvance 1 4\nlimit 1 786432\nadvance 1 5\n"
+unfolding digits
+limit_changes_the_rate = refl
+
+-- a change in any section makes the header 2, one that the word refused too; a section of a low
+-- limit does not, nor does a regrade that the word refused
+pub refused_by_the_word : spelling
+    (record { cpus = 1; limit = 524288; entries = call 0 (Limit 131072 (Some 262144)) ∷ [] } ∷ [])
+    ≡ codes "dlcalls 2\ndomain 1 524288\nlimit 1 131072 busy 262144\n"
+unfolding digits
+refused_by_the_word = refl
+
+pub changed_in_the_second : spelling
+    (record { cpus = 1; limit = 10485; entries = call 0 (Advance 1) ∷ [] }
+    ∷ one_section 2 1048576 (call 0 (Limit 10485 None) ∷ []))
+    ≡ codes "dlcalls 2\ndomain 1 10485\nadvance 1 1\ndomain 2 1048576\nlimit 1 10485\n"
+unfolding digits
+changed_in_the_second = refl
+
+pub never_changed : has_limit
+    (one_section 1 10485 (call 0 (Regrade 1 (params 4 8 8 524288) (Some 0)) ∷ call 1 (Wake 1)
+    ∷ call 2 (Leave 1) ∷ call 3 (Advance 1) ∷ [])) ≡ false
+never_changed = refl
+
 -- the lines of each kind of call: a task that reclaims, phases in order, a timer, a wait; a regrade
 -- that the word refused
 pub reclaiming_line : entry_line
@@ -86,6 +117,11 @@ pub refused_by_the_word_line : entry_line (call 0 (Regrade 1 (params 4 8 8 52428
     ≡ codes "regrade 1 1 4 8 8 - busy 393216"
 unfolding digits
 refused_by_the_word_line = refl
+
+pub limit_lines : map entry_line (call 0 (Limit 786432 None) ∷ call 1 (Limit 10485 (Some 0)) ∷ [])
+    ≡ codes "limit 1 786432" ∷ codes "limit 1 10485 busy 0" ∷ []
+unfolding digits
+limit_lines = refl
 
 pub wake_and_leave_lines : map entry_line (call 0 (Wake 7) ∷ call 1 (Leave 7) ∷ [])
     ≡ codes "wake 1 7" ∷ codes "leave 1 7" ∷ []

@@ -9,5 +9,6 @@ pub mod Book
 pub mod Histories
 pub mod Pieces
 pub mod BookAnswers
+pub mod LimitAnswers
 pub mod Examples
 pub mod private

@@ -1,7 +1,8 @@
 -- The pieces of the gate in a book: a ticket for each listed task (own).
 use Rattle.std.specs.Prelude.{◌≡◌, ℕ, ◌+◌, ◌-◌, ◌<◌, ◌≤◌, ◌==◌, Bool, not, List, ◌∷◌, ◌++◌, length, map, Option, Some, None, is_some, All}
 use Rattle.std.specs.List.{AllZip}
-use Rattle.bw_gate.specs.Pieces.{GateId, BlankView, TicketView, cap_of, last_of}
+use Rattle.bw_gate.specs.Word.{used_of, cap_of, IsWord as IsWholeWord}
+use Rattle.bw_gate.specs.Pieces.{GateId, BlankView, TicketView, cpus_of, last_of}
 use Rattle.bw_gate.specs.Answers.{IsGive, IsRegrade}
 use Rattle.bw_gate.specs.declared.answer.Regrade.{Regrade}
 use Rattle.bw_gate.specs.declared.answer.Regrade.TheVariants as regrades
@@ -44,19 +45,24 @@ pub record ArePieces (gate : GateId) (domain : ℕ) (tickets : List Held)
 abbrev pub AreGiven : List Held → List BlankView → Type 0
 AreGiven tickets blanks = AllZip (λ h b. IsGive h.ticket b) tickets blanks
 
--- what the word of a ticket's domain says of another bandwidth for it: the ticket has it, or the
--- last word that it found has no room for it in the place of the old one
+-- the last word that a piece found
+abbrev pub word_at : TicketView → ℕ
+word_at u = last_of u.found
+
+-- what the word of a ticket's domain says of another bandwidth for it: the ticket has it; or so much
+-- is used of the last word that it found, a whole word of the domain's CPUs, that the cap which this
+-- same word carries has no room for it in the place of the old one
 abbrev pub IsWord : TicketView → ℕ → TicketView → Option ℕ → Type 0
 IsWord t bw u None = u.bw ≡ bw
-IsWord t bw u (Some seen) =
-    (u.bw ≡ t.bw) × (last_of u.found ≡ seen) × (seen ≤ cap_of t.gate t.domain)
-    × (cap_of t.gate t.domain < seen - t.bw + bw)
+IsWord t bw u (Some used) =
+    (u.bw ≡ t.bw) × (used_of (word_at u) ≡ used) × IsWholeWord (cpus_of t.gate t.domain) (word_at u)
+    × (cap_of (word_at u) < used - t.bw + bw)
 
 -- the gate's answer to a ticket that asked for another bandwidth: changed, or refused with the
--- number that the word told
+-- whole word that it found last
 abbrev pub told_as : TicketView → Option ℕ → Regrade
 told_as u None = regrades.Changed u
-told_as u (Some seen) = regrades.Refused u seen
+told_as u (Some used) = regrades.Refused u (word_at u)
 
 -- a ticket that asked for another bandwidth, by one call of the gate that ended as its last try
 -- did: it has found words, and is of its gate and domain still

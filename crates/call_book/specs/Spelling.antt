@@ -1,12 +1,12 @@
 -- Calls text: the one spelling of a list of sections (own).
-use Rattle.std.specs.Prelude.{ℕ, List, [], ◌∷◌, ◌++◌, map, Option, Some, None, if◌then◌else◌, codes, decimal}
-use Rattle.std.specs.List.{flat_map, join_with_byte}
+use Rattle.std.specs.Prelude.{ℕ, Bool, true, false, List, [], ◌∷◌, ◌++◌, map, Option, Some, None, if◌then◌else◌, codes, decimal}
+use Rattle.std.specs.List.{flat_map, join_with_byte, list_any}
 use Rattle.attr_check.specs.ParamsView.{ParamsView}
 use Rattle.domain_run.specs.declared.script.Event.{Event}
 use Rattle.domain_run.specs.declared.script.Event.TheVariants.{Run, Sleep, Timer, Wait}
 use Rattle.domain_run.specs.script.ScriptView.{PhaseView, ScriptView}
 use Rattle.domain_run.specs.declared.call.Call.{Call}
-use Rattle.domain_run.specs.declared.call.Call.TheVariants.{Admit, Regrade, Wake, Leave, Advance}
+use Rattle.domain_run.specs.declared.call.Call.TheVariants.{Admit, Regrade, Wake, Leave, Advance, Limit}
 use Rattle.call_book.specs.declared.section.Entry.{Entry}
 use Rattle.call_book.specs.SectionView.{SectionView}
 
@@ -63,6 +63,8 @@ call_fields client (Regrade number params word) =
 call_fields client (Wake number) = codes "wake" ∷ decimal client ∷ decimal number ∷ []
 call_fields client (Leave number) = codes "leave" ∷ decimal client ∷ decimal number ∷ []
 call_fields client (Advance ticks) = codes "advance" ∷ decimal client ∷ decimal ticks ∷ []
+call_fields client (Limit limit word) =
+    codes "limit" ∷ decimal client ∷ decimal limit ∷ busy_fields word
 
 -- neither the sequence number nor the reply is written
 abbrev pub entry_line : Entry → List ℕ
@@ -74,8 +76,30 @@ domain_line s = line_of (codes "domain" ∷ decimal s.cpus ∷ decimal s.limit �
 abbrev pub section_lines : SectionView → List (List ℕ)
 section_lines s = domain_line s ∷ map entry_line s.entries
 
+-- ---- the header
+
+-- a call that changes the limit of its domain
+abbrev pub is_limit : Call → Bool
+is_limit (Admit number name params delay script) = false
+is_limit (Regrade number params word) = false
+is_limit (Wake number) = false
+is_limit (Leave number) = false
+is_limit (Advance ticks) = false
+is_limit (Limit limit word) = true
+
+abbrev pub some_limit : List Entry → Bool
+some_limit entries = list_any (λ e. is_limit e.call) entries
+
+-- whether some section has such a call
+abbrev pub has_limit : List SectionView → Bool
+has_limit sections = list_any (λ s. some_limit s.entries) sections
+
+-- the first line: 2 where some section has such a call, and 1 where none has
+abbrev pub header_line : Bool → List ℕ
+header_line limits = if limits then codes "dlcalls 2" else codes "dlcalls 1"
+
 abbrev pub lines_of : List SectionView → List (List ℕ)
-lines_of sections = codes "dlcalls 1" ∷ flat_map section_lines sections
+lines_of sections = header_line (has_limit sections) ∷ flat_map section_lines sections
 
 -- ---- texts
 

@@ -6,7 +6,7 @@ mod ledger;
 mod prepared;
 mod stock;
 
-pub use domain::{Admit, AdvanceError, Closed, Domain, Full};
+pub use domain::{Admit, AdvanceError, Closed, Domain, Full, Limit};
 pub use prepared::{Prepared, prepare};
 
 /// A client's pass: the list of the calls that it made on one domain.

@@ -16,6 +16,7 @@
 mod book;
 mod cut;
 mod fault;
+mod header;
 mod line_text;
 mod number;
 mod reading;
@@ -24,7 +25,7 @@ mod section;
 mod times;
 mod writing;
 
-pub use book::{Admit, AdvanceError, Closed, Domain, Full, Pass, Prepared, prepare};
+pub use book::{Admit, AdvanceError, Closed, Domain, Full, Limit, Pass, Prepared, prepare};
 pub use domain_run::{Call, NoMemory, Reply};
 pub use fault::CallsFault;
 pub use reading::read_calls;

@@ -1,8 +1,9 @@
 ghost use Rattle.std.specs.Prelude.{◌≤◌, IfOk};
-ghost use Rattle.call_book.specs.private.Reading.{Gives, field_at, name_at, times_at, AreTimes, flag_at, params_at, plan_at, admit_at, seen_at, answer_at, regrade_at, numbered_at, worded_at, call_at, domain_at};
+ghost use Rattle.call_book.specs.private.Reading.{Gives, field_at, name_at, times_at, AreTimes, flag_at, params_at, plan_at, admit_at, seen_at, answer_at, regrade_at, numbered_at, change_at, limit_at, worded_at, call_at, known_at, domain_at};
 
 use crate::cut::cut;
 use crate::fault::PartFault;
+use crate::header::changes_limit;
 use crate::number::number_within;
 use crate::script_text::script_of;
 use crate::times::Times;
@@ -145,7 +146,7 @@ fn admit_of(alloc: Global, text: &[u8]) -> Result<Call, PartFault>
 }
 
 /// The number with which the bandwidth word refused, from what stands behind the flag of a
-/// `regrade` line.
+/// `regrade` line, and behind the limit of a `limit` line.
 #[tactic(auto, unfolding(crate::specs::private::Reading::seen_at))]
 fn seen_of(text: &[u8]) -> Result<u64, PartFault>
     ensures { Gives (λ n. n) result (seen_at text.now) }
@@ -218,6 +219,29 @@ fn advance_of(text: &[u8]) -> Result<Call, PartFault>
     Ok(Call::Advance { ticks })
 }
 
+/// A new limit, and with what the bandwidth word refused it, where it did.
+#[tactic(auto, unfolding(crate::specs::private::Reading::change_at))]
+fn change_of(text: &[u8]) -> Result<(u64, Option<u64>), PartFault>
+    ensures { Gives (λ p. p) result (change_at text.now) }
+{
+    let Some((limit, rest)) = cut(text, b' ') else {
+        let limit = number_within(text, LEAST_LIMIT, MOST_LIMIT)?;
+        return Ok((limit, None));
+    };
+    let limit = number_within(limit, LEAST_LIMIT, MOST_LIMIT)?;
+    let seen = seen_of(rest)?;
+    Ok((limit, Some(seen)))
+}
+
+/// What follows the client in a `limit` line.
+#[tactic(auto, unfolding(crate::specs::private::Reading::limit_at))]
+fn limit_of(text: &[u8]) -> Result<Call, PartFault>
+    ensures { Gives (λ c. c) result (limit_at text.now) }
+{
+    let (limit, word) = change_of(text)?;
+    Ok(Call::Limit { limit, word })
+}
+
 /// What follows the client in a line of this word.
 #[tactic(auto, unfolding(crate::specs::private::Reading::worded_at))]
 fn worded(alloc: Global, word: &[u8], text: &[u8]) -> Result<Call, PartFault>
@@ -238,12 +262,15 @@ fn worded(alloc: Global, word: &[u8], text: &[u8]) -> Result<Call, PartFault>
     if word == b"advance".as_slice() {
         return advance_of(text);
     }
+    if word == b"limit".as_slice() {
+        return limit_of(text);
+    }
     Err(PartFault::Bad)
 }
 
 /// The client and the call that a line spells.
 #[tactic(auto, unfolding(crate::specs::private::Reading::call_at))]
-pub(crate) fn call_of(alloc: Global, line: &[u8]) -> Result<(u32, Call), PartFault>
+fn call_of(alloc: Global, line: &[u8]) -> Result<(u32, Call), PartFault>
     ensures gives { Gives (λ p. p) result (call_at line.now) }
     ensures within { IfOk result (λ p. (1 ≤ p.0) × (p.0 ≤ 64)) }
 {
@@ -253,6 +280,20 @@ pub(crate) fn call_of(alloc: Global, line: &[u8]) -> Result<(u32, Call), PartFau
     let (client, rest) = field(rest, 1, MOST_CLIENT)?;
     let call = worded(alloc, word, rest)?;
     Ok((client as u32, call))
+}
+
+/// The client and the call that a line spells, behind a header that has changes of a limit or has
+/// none.
+#[tactic(auto, unfolding(crate::specs::private::Reading::known_at))]
+pub(crate) fn known_call(alloc: Global, line: &[u8], limits: bool) -> Result<(u32, Call), PartFault>
+    ensures gives { Gives (λ p. p) result (known_at limits line.now) }
+    ensures within { IfOk result (λ p. (1 ≤ p.0) × (p.0 ≤ 64)) }
+{
+    let (client, call) = call_of(alloc, line)?;
+    if changes_limit(&call) && !limits {
+        return Err(PartFault::Bad);
+    }
+    Ok((client, call))
 }
 
 /// The CPUs and the limit of the domain that a section's line spells.

@@ -1,13 +1,15 @@
-ghost use Rattle.std.specs.Prelude.{◌≡◌, ◌+◌, ◌-◌, ◌≤◌, ℕ, List, length, slice_index, slice_set, IfOk, IfErr, IsErrOf, MatchResult, ◌⊎◌};
+ghost use Rattle.std.specs.Prelude.{◌≡◌, ◌+◌, ◌-◌, ◌*◌, ◌≤◌, ℕ, List, length, slice_index, slice_set, IfOk, IfErr, IsErrOf, MatchResult, ◌⊎◌};
+ghost use Rattle.std.specs.List.{flat_map, AllByRecursion};
 ghost use Rattle.call_book.specs.SectionView.{SectionView};
 ghost use Rattle.call_book.specs.Spelling.{section_lines, spelling};
 ghost use Rattle.call_book.specs.Limits.{IsClient, AreRead};
 ghost use Rattle.call_book.specs.BadLine.{IsBadLine, IsReadFault};
-ghost use Rattle.call_book.specs.private.Reading.{Fails, fault_from, call_at, IsNext, AreEntries, IsFirstSection, IsNoSection, AreSectionsOf, IsSectionsFault};
+ghost use Rattle.call_book.specs.private.Reading.{Fails, known_at, IsNext, AreEntries, IsSectionRead, IsFirstSection, IsNoSection, AreSectionsOf, is_full, is_stuck, bad_place, is_whole};
 
 use crate::cut::cut_line;
 use crate::fault::{CallsFault, PartFault};
-use crate::line_text::{call_of, domain_of};
+use crate::header::{header_of, limit_changes};
+use crate::line_text::{domain_of, known_call};
 use crate::section::{Entry, Section};
 use std::alloc::Global;
 
@@ -15,16 +17,6 @@ use std::alloc::Global;
 const MOST_CALLS: u64 = 65536;
 /// The most sections of a text.
 const MOST_SECTIONS: u64 = 8;
-
-/// A part that is bad, or has no memory, makes this fault in line `n`.
-fn fault_at(n: u64, fault: PartFault) -> CallsFault
-    ensures { result ≡ fault_from n fault }
-{
-    match fault {
-        PartFault::Bad => CallsFault::BadLine { n },
-        PartFault::Memory => CallsFault::Memory,
-    }
-}
 
 /// Counts a call of a client, and answers how many it made before.
 fn counted(made: &mut [u64; 64], client: u32) -> u64
@@ -39,14 +31,20 @@ fn counted(made: &mut [u64; 64], client: u32) -> u64
     seq
 }
 
-/// The entry of a line, after so many calls of each client.
-fn entry_of(alloc: Global, line: &[u8], made: &mut [u64; 64]) -> Result<Entry, PartFault>
+/// The entry of a line, after so many calls of each client. `limits` says whether the header has
+/// changes of a limit, here and below.
+fn entry_of(
+    alloc: Global,
+    line: &[u8],
+    limits: bool,
+    made: &mut [u64; 64],
+) -> Result<Entry, PartFault>
     requires { (k : ℕ) → slice_index made.old k ≤ 65536 }
-    ensures found { IfOk result (IsNext line.now made.old) }
+    ensures found { IfOk result (IsNext limits line.now made.old) }
     ensures made { IfOk result (λ e. made.new ≡ slice_set made.old (e.client - 1) (e.seq + 1)) }
-    ensures fault { IfErr result (λ e. Fails e (call_at line.now)) }
+    ensures fault { IfErr result (λ e. Fails e (known_at limits line.now)) }
 {
-    let (client, call) = call_of(alloc, line)?;
+    let (client, call) = known_call(alloc, line, limits)?;
     Ok(Entry {
         client,
         seq: counted(made, client),
@@ -57,8 +55,8 @@ fn entry_of(alloc: Global, line: &[u8], made: &mut [u64; 64]) -> Result<Entry, P
 
 /// The entries at the front of a text, and the rest: from the first line on that is no entry's, or
 /// that is one too many.
-fn entries_of(alloc: Global, text: &[u8]) -> Result<(Vec<Entry>, &[u8]), PartFault>
-    ensures found { IfOk result (λ p. AreEntries text.now p.1.now p.0.items) }
+fn entries_of(alloc: Global, text: &[u8], limits: bool) -> Result<(Vec<Entry>, &[u8]), PartFault>
+    ensures found { IfOk result (λ p. AreEntries limits text.now p.1.now p.0.items) }
     ensures fault { IfErr result (λ e. e ≡ PartFault.Memory) }
 {
     let mut entries = Vec::new(alloc);
@@ -68,7 +66,7 @@ fn entries_of(alloc: Global, text: &[u8]) -> Result<(Vec<Entry>, &[u8]), PartFau
         let Some((line, after)) = cut_line(rest) else {
             return Ok((entries, rest));
         };
-        let entry = match entry_of(alloc, line, &mut made) {
+        let entry = match entry_of(alloc, line, limits, &mut made) {
             Ok(entry) => entry,
             Err(PartFault::Bad) => return Ok((entries, rest)),
             Err(PartFault::Memory) => return Err(PartFault::Memory),
@@ -80,21 +78,42 @@ fn entries_of(alloc: Global, text: &[u8]) -> Result<(Vec<Entry>, &[u8]), PartFau
 }
 
 /// The section at the front of a text, and the rest, which does not go on with it.
-fn section_of(alloc: Global, text: &[u8]) -> Result<(Section, &[u8]), PartFault>
-    ensures found { IfOk result (λ p. IsFirstSection text.now p.1.now p.0) }
+fn section_of(alloc: Global, text: &[u8], limits: bool) -> Result<(Section, &[u8]), PartFault>
+    ensures found { IfOk result (λ p. IsFirstSection limits text.now p.1.now p.0) }
     ensures fault { IfErr result (IsNoSection text.now) }
 {
     let Some((line, rest)) = cut_line(text) else {
         return Err(PartFault::Bad);
     };
     let (cpus, limit) = domain_of(line)?;
-    let (entries, rest) = entries_of(alloc, rest)?;
+    let (entries, rest) = entries_of(alloc, rest, limits)?;
     let section = Section {
         cpus: cpus as u32,
         limit,
         entries,
     };
     Ok((section, rest))
+}
+
+/// The sections at the front of a text, which stands behind the header, and the rest: from the
+/// first line on that neither goes on with the last of them nor is a domain's, or that is one too
+/// many.
+fn sections_of(alloc: Global, text: &[u8], limits: bool) -> Result<(Vec<Section>, &[u8]), PartFault>
+    ensures found { IfOk result (λ p. AreSectionsOf limits text.now p.1.now p.0.items) }
+    ensures fault { IfErr result (λ e. e ≡ PartFault.Memory) }
+{
+    let mut sections = Vec::new(alloc);
+    let mut rest = text;
+    for _ in 0..MOST_SECTIONS {
+        let (section, after) = match section_of(alloc, rest, limits) {
+            Ok(found) => found,
+            Err(PartFault::Bad) => return Ok((sections, rest)),
+            Err(PartFault::Memory) => return Err(PartFault::Memory),
+        };
+        sections.push(section)?;
+        rest = after;
+    }
+    Ok((sections, rest))
 }
 
 /// The lines of a section: its domain's, and one for each call.
@@ -105,29 +124,54 @@ fn line_count(section: &Section) -> u64
     section.entries.len() as u64 + 1
 }
 
-/// The sections that a text spells behind its header, which is line 1.
-fn sections_of(alloc: Global, text: &[u8]) -> Result<Vec<Section>, CallsFault>
-    ensures found { IfOk result (λ v. AreSectionsOf text.now v.items) }
-    ensures fault { IfErr result (IsSectionsFault text.now) }
+/// The lines of sections.
+fn lines_in(sections: &[Section]) -> u64
+    requires each { AllByRecursion IsSectionRead sections.now }
+    requires most { length sections.now ≤ 8 }
+    ensures count { result ≡ length (flat_map section_lines sections.now) }
+    ensures few { result ≤ 8 * 65537 }
 {
-    let mut sections = Vec::new(alloc);
-    let mut rest = text;
-    let mut n = 2;
-    for _ in 0..MOST_SECTIONS {
-        let (section, after) = match section_of(alloc, rest) {
-            Ok(found) => found,
-            Err(fault) => return Err(fault_at(n, fault)),
-        };
-        n += line_count(&section);
-        match sections.push(section) {
-            Ok(()) => rest = after,
-            Err(_) => return Err(CallsFault::Memory),
-        }
-        if rest.is_empty() {
-            return Ok(sections);
-        }
+    let mut n = 0;
+    for section in sections {
+        n += line_count(section);
     }
-    Err(CallsFault::BadLine { n })
+    n
+}
+
+/// Whether there are as many sections as a text may have, and the last has as many calls as it may
+/// have.
+fn all_full(sections: &[Section]) -> bool
+    ensures { result ≡ is_full sections.now }
+{
+    if sections.len() as u64 != MOST_SECTIONS {
+        return false;
+    }
+    let last = &sections[sections.len() - 1];
+    last.entries.len() as u64 == MOST_CALLS
+}
+
+/// Whether the header has changes of a limit, these sections have none, and none can follow.
+fn stuck(sections: &[Section], limits: bool) -> bool
+    ensures { result ≡ is_stuck limits sections.now }
+{
+    limits && !limit_changes(sections) && all_full(sections)
+}
+
+/// The first bad line of a text that goes on behind these sections, or has none, or none of the
+/// changes that its header has.
+fn bad_line(sections: &[Section], limits: bool) -> u64
+    requires each { AllByRecursion IsSectionRead sections.now }
+    requires most { length sections.now ≤ 8 }
+    ensures { result ≡ bad_place limits sections.now }
+{
+    lines_in(sections) + if stuck(sections, limits) { 1 } else { 2 }
+}
+
+/// Whether these sections are all of a text, and what its header says of them.
+fn fits(sections: &[Section], limits: bool, rest: &[u8]) -> bool
+    ensures { result ≡ is_whole limits rest.now sections.now }
+{
+    rest.is_empty() && !sections.is_empty() && (!limits || limit_changes(sections))
 }
 
 /// The sections that a whole calls text spells.
@@ -135,16 +179,25 @@ fn whole_text(alloc: Global, text: &[u8]) -> Result<Vec<Section>, CallsFault>
     ensures found { IfOk result (λ v. AreRead v.items × (text.now ≡ spelling v.items)) }
     ensures fault { IfErr result (IsReadFault text.now) }
 {
-    let Some((header, rest)) = cut_line(text) else {
+    let Some((header, body)) = cut_line(text) else {
         return Err(CallsFault::BadLine { n: 1 });
     };
-    if header != b"dlcalls 1".as_slice() {
+    let Some(limits) = header_of(header) else {
         return Err(CallsFault::BadLine { n: 1 });
+    };
+    let Ok((sections, rest)) = sections_of(alloc, body, limits) else {
+        return Err(CallsFault::Memory);
+    };
+    if fits(&sections, limits, rest) {
+        return Ok(sections);
     }
-    sections_of(alloc, rest)
+    Err(CallsFault::BadLine {
+        n: bad_line(&sections, limits),
+    })
 }
 
-/// The 1 to 8 sections that a calls text spells, in one pass over the text. Entries have no reply,
+/// The 1 to 8 sections that a calls text spells, in one pass over the text. The limit of a domain
+/// changes in a text with the header `dlcalls 2`, and in none with `dlcalls 1`. Entries have no reply,
 /// and in each section each client's are numbered 0, 1, 2, .. in their order.
 ///
 /// # Errors

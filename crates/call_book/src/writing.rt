@@ -2,12 +2,13 @@
 
 ghost use Rattle.std.specs.Prelude.{ℕ, ◌≡◌, ◌∷◌, ◌++◌, List, map, codes, decimal, IfOk, OnOk};
 ghost use Rattle.std.specs.List.{flat_map};
-ghost use Rattle.call_book.specs.Spelling.{event_text, events_text, phase_text, loops_text, script_text, line_of, call_fields, entry_line, section_lines, text_of, spelling};
+ghost use Rattle.call_book.specs.Spelling.{event_text, events_text, phase_text, loops_text, script_text, line_of, call_fields, entry_line, section_lines, header_line, text_of, spelling};
 ghost use Rattle.call_book.specs.Limits.{AreRead};
 ghost use Rattle.call_book.specs.private.Reading.{entries_text};
 ghost use Rattle.call_book.specs.private.Writing.{params_text, head_text, busy_text};
 ghost use Rattle.call_book.specs.RoundTrip.{unanswered, IsReadAs};
 
+use crate::header::limit_changes;
 use crate::section::{Entry, Section};
 use attr_check::Params;
 use domain_run::{Call, Event, NoMemory, Phase, Script};
@@ -124,7 +125,7 @@ fn put_head(out: &mut Vec<u8>, word: &[u8], client: u32, n: u64) -> Result<(), N
     put_field(out, n)
 }
 
-/// What follows the parameters of a regrade.
+/// What follows the parameters of a regrade, and a new limit.
 fn put_busy(out: &mut Vec<u8>, word: Option<u64>) -> Result<(), NoMemory>
     ensures { OnOk result (out.new.items ≡ out.old.items ++ busy_text word) }
 {
@@ -176,6 +177,10 @@ fn put_call(out: &mut Vec<u8>, client: u32, call: &Call) -> Result<(), NoMemory>
         Call::Wake { number } => put_head(out, b"wake", client, u64::from(*number)),
         Call::Leave { number } => put_head(out, b"leave", client, u64::from(*number)),
         Call::Advance { ticks } => put_head(out, b"advance", client, *ticks),
+        Call::Limit { limit, word } => {
+            put_head(out, b"limit", client, *limit)?;
+            put_busy(out, *word)
+        }
     }
 }
 
@@ -207,7 +212,19 @@ fn put_section(out: &mut Vec<u8>, section: &Section) -> Result<(), NoMemory>
     put_entries(out, &section.entries)
 }
 
-/// The calls text of sections (own): the one spelling of them. Neither replies nor sequence numbers
+/// The first line of a text in which the limit of a domain changes or does not.
+fn put_header(out: &mut Vec<u8>, limits: bool) -> Result<(), NoMemory>
+    ensures { OnOk result (out.new.items ≡ out.old.items ++ (header_line limits ++ codes "\n")) }
+{
+    if limits {
+        put(out, b"dlcalls 2\n")
+    } else {
+        put(out, b"dlcalls 1\n")
+    }
+}
+
+/// The calls text of sections (own): the one spelling of them, with the header `dlcalls 2` where a
+/// call changes the limit of its domain, and else `dlcalls 1`. Neither replies nor sequence numbers
 /// are looked at; where the text is read again, there are no replies, and each client's calls are
 /// numbered 0, 1, 2, .. No limit is tested: sections outside those of the format (1 to 8 of them, 1
 /// to 64 CPUs, a limit of 10485 to 1048576, at most 65536 calls, clients 1 to 64, and so on) are
@@ -224,7 +241,7 @@ pub fn write_calls(alloc: Global, sections: &[Section]) -> Result<Vec<u8>, NoMem
         → IsReadAs v.items (map unanswered sections.now)) }
 {
     let mut out = Vec::new(alloc);
-    put(&mut out, b"dlcalls 1\n")?;
+    put_header(&mut out, limit_changes(sections))?;
     for section in sections {
         put_section(&mut out, section)?;
     }

@@ -9,7 +9,7 @@ use Rattle.domain_run.specs.Domain.{Domain, opened}
 use Rattle.domain_run.specs.Calls.{after_call}
 use Rattle.domain_run.specs.Run.{after_calls, run_of}
 use Rattle.domain_run.specs.Sound.{IsAdmitted, IsSwitch, IsDomain}
-use Rattle.domain_run.proofs.CallerLemmas.{call_machine}
+use Rattle.domain_run.proofs.CallerLemmas.{call_cpus}
 use Rattle.call_book.specs.SectionView.{SectionView}
 use Rattle.switch_text.specs.Names.{Names, named, HasName, HasLine}
 use Rattle.switch_text.specs.declared.run.Run.{Run}
@@ -41,7 +41,7 @@ view_is r s is =
 -- calls change no CPUs
 calls_cpus : (d : Domain) (calls : List Call) → (after_calls d calls).cpus ≡ d.cpus
 calls_cpus d [] = refl
-calls_cpus d (c ∷ calls) = calls_cpus (after_call d c) calls ∙ (call_machine d c).cpus
+calls_cpus d (c ∷ calls) = calls_cpus (after_call d c) calls ∙ call_cpus d c
 
 -- a run on CPUs of the machine that are behind those of the runs before
 pub placed_is : (r : PlacedRun) (s : SectionView) → IsRunOf s r.run.state r.run.names → r.base + s.cpus ≤ 512 → IsPlaced r

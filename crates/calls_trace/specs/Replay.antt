@@ -1,7 +1,7 @@
 -- The trace of the sections that a calls text spells.
 use Rattle.std.specs.Prelude.{ℕ, ◌+◌, ◌==◌, if◌then◌else◌, List, [], ◌∷◌, map}
 use Rattle.domain_run.specs.declared.call.Call.{Call}
-use Rattle.domain_run.specs.declared.call.Call.TheVariants.{Admit, Regrade, Wake, Leave, Advance}
+use Rattle.domain_run.specs.declared.call.Call.TheVariants.{Admit, Regrade, Wake, Leave, Advance, Limit}
 use Rattle.domain_run.specs.Domain.{Domain, opened}
 use Rattle.domain_run.specs.Calls.{reply_to, is_refusal, after_call}
 use Rattle.domain_run.specs.Run.{run_of}
@@ -22,6 +22,7 @@ named_by (Regrade number params word) names = names
 named_by (Wake number) names = names
 named_by (Leave number) names = names
 named_by (Advance n) names = names
+named_by (Limit limit word) names = names
 
 abbrev pub names_after : Domain → Call → (ℕ → List ℕ) → (ℕ → List ℕ)
 names_after d c names = if is_refusal (reply_to d c) then names else named_by c names

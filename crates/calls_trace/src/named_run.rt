@@ -127,6 +127,10 @@ impl RunWithNames {
                 self.state.leave(number);
                 Ok(())
             }
+            Call::Limit { limit, word } => {
+                self.state.set_limit(limit, word);
+                Ok(())
+            }
         }
     }
 

@@ -7,6 +7,7 @@ pub mod OrderRuns
 pub mod OrderEntries
 pub mod OrderVerdicts
 pub mod OrderSplit
+pub mod ByCap
 pub mod OrderLaw
 pub mod Ran
 pub mod Endings

@@ -7,13 +7,13 @@ use Rattle.attr_check.specs.ParamsView.{ParamsView}
 use Rattle.attr_check.specs.Ratio.{cap}
 use Rattle.domain_run.specs.declared.task.Task.{Task}
 use Rattle.domain_run.specs.declared.call.Call.{Call}
-use Rattle.domain_run.specs.declared.call.Call.TheVariants.{Admit, Regrade, Wake, Leave, Advance}
+use Rattle.domain_run.specs.declared.call.Call.TheVariants.{Admit, Regrade, Wake, Leave, Advance, Limit}
 use Rattle.domain_run.specs.declared.call.Reply.{Reply}
 use Rattle.domain_run.specs.declared.call.Reply.TheVariants.{Admitted, Woken, Done, Full, Twice, Busy, NotWaiting}
 use Rattle.domain_run.specs.Conditions.{is_waiting}
 use Rattle.domain_run.specs.Domain.{Domain}
 use Rattle.domain_run.specs.Tick.{sum_of}
-use Rattle.domain_run.specs.Calls.{admit_reply, new_task, with_number, listed, task_of, word_reply, regrade_reply, wake_reply, leave_reply, reply_to, is_refusal, after_call}
+use Rattle.domain_run.specs.Calls.{admit_reply, new_task, with_number, listed, task_of, word_reply, regrade_reply, wake_reply, leave_reply, set_reply, reply_to, is_refusal, after_call}
 use Rattle.domain_run.proofs.CallerLemmas.{with_number_contains, sum_push, IsGranted, granted_is}
 use Rattle.call_book.specs.Book.{AdmissionView, admission}
 use Rattle.calls_trace.specs.Replay.{with_name, named_by, names_after}
@@ -139,6 +139,11 @@ not_left (Some t) e = absurd cc
 not_done : (n : ℕ) → Done n ≡ Admitted → ⊥
 not_done n e = absurd cc
 
+not_set : (b : Bool) (s : ℕ) (word : Option ℕ) → cond b (Busy s) (set_reply word) ≡ Admitted → ⊥
+not_set true s word e = absurd cc
+not_set false s None e = absurd cc
+not_set false s (Some w) e = absurd cc
+
 -- the admission that a call is
 pub record IsAdmission (c : Call) : Type 0 where
   pub admission : AdmissionView
@@ -150,6 +155,7 @@ is_admission d (Regrade number params word) e = absurd (not_regraded d params wo
 is_admission d (Wake number) e = absurd (not_woken (task_of d number) e)
 is_admission d (Leave number) e = absurd (not_left (task_of d number) e)
 is_admission d (Advance n) e = absurd (not_done n e)
+is_admission d (Limit limit word) e = absurd (not_set _ (sum_of d.tasks) word e)
 
 -- ---- two admissions
 

@@ -8,7 +8,7 @@ use Rattle.std.proofs.lemmas.Bool.{or_left, or_right}
 use Rattle.domain_run.specs.declared.task.Task.{Task}
 use Rattle.domain_run.specs.declared.call.Call.{Call}
 use Rattle.domain_run.specs.declared.call.Reply.{Reply}
-use Rattle.domain_run.specs.declared.call.Reply.TheVariants.{Admitted, Changed, Woken, Left, Done, Full, Twice, Busy, NotListed, NotWaiting}
+use Rattle.domain_run.specs.declared.call.Reply.TheVariants.{Admitted, Changed, Woken, Left, Done, Set, Full, Twice, Busy, NotListed, NotWaiting}
 use Rattle.domain_run.specs.Domain.{Domain, opened}
 use Rattle.domain_run.specs.Calls.{with_number, reply_to, is_refusal, after_call}
 use Rattle.domain_run.specs.Run.{after_calls, replies_to}
@@ -159,19 +159,20 @@ refused_more d c cs gs refused rest =
           ∙ ap (names_of d gs) (ap (λ b. cond b names (named_by c names)) refused);
     }
 
-admitted_is : (r : Reply) → is_admitted r ≡ true → r ≡ Admitted
+pub admitted_is : (r : Reply) → is_admitted r ≡ true → r ≡ Admitted
 admitted_is Admitted e = refl
 admitted_is Changed e = absurd cc
 admitted_is Woken e = absurd cc
 admitted_is Left e = absurd cc
 admitted_is (Done n) e = absurd cc
+admitted_is Set e = absurd cc
 admitted_is Full e = absurd cc
 admitted_is Twice e = absurd cc
 admitted_is (Busy s) e = absurd cc
 admitted_is NotListed e = absurd cc
 admitted_is NotWaiting e = absurd cc
 
-refused_else : (a b : Bool) → a ≡ false → (a || b) ≡ true → b ≡ true
+pub refused_else : (a b : Bool) → a ≡ false → (a || b) ≡ true → b ≡ true
 refused_else true b e h = absurd cc
 refused_else false b e h = h
 

@@ -31,7 +31,7 @@ names_both : (d : Domain) (xs ys : List Call) (names : ℕ → List ℕ) → nam
 names_both d [] ys names = refl
 names_both d (x ∷ xs) ys names = names_both (after_call d x) xs ys (names_after d x names)
 
-legal_front : (d : Domain) (xs ys : List Entry) → LegalFrom d (xs ++ ys) → LegalFrom d xs
+pub legal_front : (d : Domain) (xs ys : List Entry) → LegalFrom d (xs ++ ys) → LegalFrom d xs
 legal_front d [] ys legal = refl
 legal_front d (x ∷ xs) ys legal =
     let first : x.reply ≡ Some (reply_to d x.call) = cc in

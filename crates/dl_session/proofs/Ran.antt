@@ -95,13 +95,14 @@ first_is id tasks cs es refused some new asked x = (asked.each 0 x some).made.nu
 
 -- what the parts of a run left, with the refusals in the report
 pub is_ran : (id : SessionId) (tasks : List TaskSpecView) (duration : ℕ) (cs es : List ClientView) (r s : Report) (f g : Finished)
-    → AreNew id cs → AllAsked id tasks cs es s.refused.items → IsFinished id duration es f
-    → r ≡ f.report → s.histories ≡ r.histories → s.words ≡ r.words → s.home ≡ r.home → g.report ≡ s → g.states ≡ f.states
+    → 0 < id.clients → AreNew id cs → AllAsked id tasks cs es s.refused.items → IsFinished id duration es f
+    → r ≡ f.report → s.histories ≡ r.histories → s.words ≡ r.words → s.caps ≡ r.caps → s.home ≡ r.home → g.report ≡ s → g.states ≡ f.states
     → IsRan id tasks duration g
-is_ran id tasks duration cs es r s f g new asked finished is histories words home report states =
+is_ran id tasks duration cs es r s f g some new asked finished is histories words caps home report states =
     let left = finished.report.left in
     let same_h : g.report.histories ≡ f.report.histories = ap (λ (x : Report). x.histories) report ∙ histories ∙ ap (λ (x : Report). x.histories) is in
     let same_w : g.report.words ≡ f.report.words = ap (λ (x : Report). x.words) report ∙ words ∙ ap (λ (x : Report). x.words) is in
+    let same_c : g.report.caps ≡ f.report.caps = ap (λ (x : Report). x.caps) report ∙ caps ∙ ap (λ (x : Report). x.caps) is in
     let same_o : g.report.home ≡ f.report.home = ap (λ (x : Report). x.home) report ∙ home ∙ ap (λ (x : Report). x.home) is in
     let same_r : g.report.refused ≡ s.refused = ap (λ (x : Report). x.refused) report in
     record {
@@ -110,25 +111,27 @@ is_ran id tasks duration cs es r s f g new asked finished is histories words hom
         histories = rw same_h (λ d x place. by_nobody id d finished.after _ (left.histories d x place));
         words = rw same_w left.words;
         room = rw (same_h, same_w) left.room;
-        capped = rw same_w left.capped;
+        caps = rw same_c left.caps;
+        a_cap = rw same_c left.a_cap;
+        capped = rw (same_w, same_c) left.capped;
         exact = rw (same_h, same_w, same_o) left.exact;
       };
-      answers = rw (same_h, same_r) (answers_all id tasks duration cs es finished.after s.refused.items f.report.histories.items new asked finished.advanced left.count left.histories finished.ends);
+      answers = rw (same_h, same_r) (answers_all id tasks duration cs es finished.after s.refused.items f.report.histories.items some new asked finished.advanced left.count left.histories finished.ends);
       count = rw (same_h, states) (finished.count ∙ sym left.count);
       runs = rw (same_h, states) finished.runs;
     }
 
 -- the domain that was full, once the tasks were asked
 pub full_domain : (id : SessionId) (tasks : List TaskSpecView) (duration : ℕ) (cs es : List ClientView) (refused : List (ℕ × Refusal))
-    → AreNew id cs → AllAsked id tasks cs es refused → IsFullWith id duration es → (0 < duration) × IsFullDomain id id.clients tasks
-full_domain id tasks duration cs es refused new asked met = (
+    → 0 < id.clients → AreNew id cs → AllAsked id tasks cs es refused → IsFullWith id duration es → (0 < duration) × IsFullDomain id id.clients tasks
+full_domain id tasks duration cs es refused some new asked met = (
   met.advances,
   record {
     domain = met.domain;
     place = met.place;
     history = met.history;
     legal = by_nobody id met.domain es met.history met.legal;
-    answers = answers_tasks id tasks cs es refused met.domain met.history new asked met.place met.legal;
+    answers = answers_tasks id tasks cs es refused met.domain met.history some new asked met.place met.legal;
     full = met.full;
   },
 )

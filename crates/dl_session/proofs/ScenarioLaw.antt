@@ -1,13 +1,13 @@
 -- From the steps of a run to the answers of a scenario.
-use Rattle.std.proofs.Common.{◌≡◌, ℕ, false, Some, None, zero, suc, ◌+◌, ◌<◌, List, [], ◌∷◌, ◌++◌, length, map, replicate, get_or, All, refl, sym, ap, ◌∙◌, arith}
+use Rattle.std.proofs.Common.{◌≡◌, ℕ, false, Some, None, zero, suc, ◌+◌, ◌<◌, List, [], ◌∷◌, ◌++◌, length, map, replicate, get_or, All, refl, sym, ap, subst, ◌∙◌, arith}
 use Rattle.std.proofs.lemmas.List.{get_or-map, length-map, length-replicate}
 use Rattle.std.proofs.lemmas.List.Elements.{All-get_or}
 use Rattle.rtapp_scenario.specs.ScenarioView.{TaskSpecView}
 use Rattle.call_book.specs.SectionView.{SectionView}
 use Rattle.call_book.specs.declared.section.Entry.{Entry}
-use Rattle.call_book.specs.Book.{own_entries}
+use Rattle.call_book.specs.Book.{IsLegal, own_entries}
 use Rattle.session.specs.declared.refusal.Refusal.{Refusal}
-use Rattle.session.specs.SessionId.{SessionId, IsDomainIndex}
+use Rattle.session.specs.SessionId.{SessionId, IsDomainIndex, cpus_of}
 use Rattle.session.specs.Asks.{ClientView, Asked, Made, Makes, pass_in, made_in, entries_from}
 use Rattle.session.specs.Clients.{IsNew}
 use Rattle.session.specs.Admissions.{AreNew, AllAsked}
@@ -17,6 +17,7 @@ use Rattle.session.specs.RunEnd.{EndsWith, advance_of}
 use Rattle.session.specs.Admissions.{own_asked}
 use Rattle.dl_session.specs.FullBook.{AnswersTasks}
 use Rattle.dl_session.specs.RunAnswer.{flagged}
+use Rattle.dl_session.proofs.ByCap.{by_cap, by_cap_alone}
 use Rattle.session.specs.RunEnd.{HaveAdvanced}
 
 -- ---- entries behind entries
@@ -103,16 +104,26 @@ shown_own : (d i : ℕ) (history : List Entry) (fs : List ClientView) → i < le
 shown_own d i history fs inside number own =
     sym (ap (λ (n : ℕ). own_entries n history) number) ∙ sym (All-get_or (λ (c : ClientView). pass_in c d ≡ own_entries c.number history) fs i no_client inside own)
 
+-- legal by the CPUs and the limit of the session
+legal_of : (id : SessionId) (d : ℕ) (h : SectionView) (cs : List ClientView) → IsHistoryOf id d cs h → IsLegal (length (cpus_of id d)) id.limit h.entries
+legal_of id d h cs is =
+    subst (λ (n : ℕ). IsLegal n id.limit h.entries) is.cpus (subst (λ (n : ℕ). IsLegal h.cpus n h.entries) is.limit is.legal)
+
 pub answers_all : (id : SessionId) (tasks : List TaskSpecView) (duration : ℕ) (cs es fs : List ClientView) (refused : List (ℕ × Refusal)) (hs : List SectionView)
-    → AreNew id cs → AllAsked id tasks cs es refused → HaveAdvanced duration es fs
+    → 0 < id.clients → AreNew id cs → AllAsked id tasks cs es refused → HaveAdvanced duration es fs
     → length hs ≡ length id.cpu_sets
     → ((d : ℕ) (x : SectionView) → IsDomainIndex id d → IsHistoryOf id d fs (get_or hs d x))
     → ((d : ℕ) (x : SectionView) → d < length id.cpu_sets → EndsWith duration (get_or hs d x).entries)
     → AnswersScenario id id.clients tasks duration (map (λ h. h.entries) hs) refused
-answers_all id tasks duration cs es fs refused hs new asked advanced count histories ends = record {
+answers_all id tasks duration cs es fs refused hs some new asked advanced count histories ends = record {
   asked = asked.asked;
   tasks_are = asked.tasks_are;
   lawful = asked.lawful;
+  by_cap = λ d inside.
+      let h = histories d no_section (place d inside) in
+      by_cap id id.clients d duration asked.asked (get_or hs d no_section).entries some asked.lawful h.members
+      (λ i below. own d i (place d inside) below) (ends d no_section (place d inside))
+      (legal_of id d (get_or hs d no_section) fs h);
   refused_are = asked.refused_are;
   members = λ d inside. rw (history_is hs d (there d inside)) (histories d no_section (place d inside)).members;
   entries = λ d i inside below. rw (history_is hs d (there d inside)) (own d i (place d inside) below);
@@ -139,15 +150,19 @@ answers_all id tasks duration cs es fs refused hs new asked advanced count histo
 
 -- the admissions alone, in the history of one domain that was not advanced
 pub answers_tasks : (id : SessionId) (tasks : List TaskSpecView) (cs es : List ClientView) (refused : List (ℕ × Refusal)) (d : ℕ) (h : SectionView)
-    → AreNew id cs → AllAsked id tasks cs es refused → IsDomainIndex id d → IsHistoryOf id d es h → AnswersTasks id id.clients tasks d h.entries
-answers_tasks id tasks cs es refused d h new asked place is = record {
+    → 0 < id.clients → AreNew id cs → AllAsked id tasks cs es refused → IsDomainIndex id d → IsHistoryOf id d es h → AnswersTasks id id.clients tasks d h.entries
+answers_tasks id tasks cs es refused d h some new asked place is = record {
   asked = asked.asked;
   tasks_are = asked.tasks_are;
   lawful = asked.lawful;
-  entries = λ i below.
-      let has = has_asked id tasks cs es refused new asked i below in
-      shown_own d i h.entries es (omega (arith, below, new.count, asked.places)) has.number is.own ∙ has.passes d place;
+  by_cap = by_cap_alone id id.clients d asked.asked h.entries some asked.lawful is.members own (legal_of id d h es is);
+  entries = own;
 }
+  where
+    own : (i : ℕ) → i < id.clients → own_entries (i + 1) h.entries ≡ entries_from (i + 1) 0 (made_in id d (own_asked id.clients i asked.asked))
+    own i below =
+        let has = has_asked id tasks cs es refused new asked i below in
+        shown_own d i h.entries es (omega (arith, below, new.count, asked.places)) has.number is.own ∙ has.passes d place
 
 -- ---- flags
 

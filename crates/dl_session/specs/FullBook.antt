@@ -8,15 +8,17 @@ use Rattle.session.specs.SessionId.{SessionId, IsDomainIndex}
 use Rattle.session.specs.Asks.{IsLawful, Asked, made_in, entries_from}
 use Rattle.session.specs.Report.{IsHistoryOf}
 use Rattle.session.specs.Admissions.{own_asked}
+use Rattle.dl_session.specs.ScenarioAnswers.{IsByCap}
 
 -- the admissions of a scenario alone, in one domain, for so many clients: there is a lawful answer
--- for each task, and the entries of each client are the calls of its own tasks that were answered
--- there, in the order of tasks
+-- for each task, and EBUSY of this domain's book is by its cap; and the entries of each client are
+-- the calls of its own tasks that were answered there, in the order of tasks
 pub record AnswersTasks (id : SessionId) (clients : ℕ) (tasks : List TaskSpecView) (d : ℕ)
     (history : List Entry) : Type 0 where
   pub asked : List Asked
   pub tasks_are : map (λ q. q.task) asked ≡ tasks
   pub lawful : All (λ q. IsLawful id q.task q.answer) asked
+  pub by_cap : All (λ q. IsByCap id d q.task q.answer) asked
   pub entries : (i : ℕ) → i < clients
       → own_entries (i + 1) history
       ≡ entries_from (i + 1) 0 (made_in id d (own_asked clients i asked))

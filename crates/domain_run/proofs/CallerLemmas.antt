@@ -15,13 +15,13 @@ use Rattle.domain_run.specs.script.ScriptView.{ScriptView}
 use Rattle.domain_run.specs.declared.task.Task.{Task}
 use Rattle.domain_run.specs.declared.task.Condition.TheVariants.{Leaving}
 use Rattle.domain_run.specs.declared.call.Call.{Call}
-use Rattle.domain_run.specs.declared.call.Call.TheVariants.{Admit, Regrade, Wake, Leave, Advance}
+use Rattle.domain_run.specs.declared.call.Call.TheVariants.{Admit, Regrade, Wake, Leave, Advance, Limit}
 use Rattle.domain_run.specs.declared.call.Reply.TheVariants.{Admitted, Changed, Full, Twice, Busy}
 use Rattle.domain_run.specs.Conditions.{is_contending, is_leaving}
 use Rattle.domain_run.specs.Parts.{stopped}
 use Rattle.domain_run.specs.Domain.{Domain}
 use Rattle.domain_run.specs.Tick.{share_of, shares, sum_of, ticked, ticks}
-use Rattle.domain_run.specs.Calls.{admit_reply, new_task, listed, task_of, of_number, changed, regraded, regrade_reply, wake_reply, released, leave_reply, ended, reply_to, is_refusal, granted, after_call}
+use Rattle.domain_run.specs.Calls.{admit_reply, new_task, listed, task_of, of_number, changed, regraded, regrade_reply, wake_reply, released, leave_reply, ended, limit_reply, with_limit, reply_to, is_refusal, granted, after_call}
 use Rattle.domain_run.specs.Views.{view_of, view_in, name_in}
 use Rattle.domain_run.specs.Busy.{LacksRoomFor, LacksRoomToChange}
 use Rattle.domain_run.specs.Keys.{key_of, keys, has_task, listed_keys, AreKept, with_bw}
@@ -204,6 +204,7 @@ ticks_of (Regrade number params word) = 0
 ticks_of (Wake number) = 0
 ticks_of (Leave number) = 0
 ticks_of (Advance n) = n
+ticks_of (Limit limit word) = 0
 
 either_time : (b : Bool) (d e : Domain) → e.time ≡ d.time → (cond b d e).time ≡ d.time + 0
 either_time true d e same = omega arith
@@ -215,6 +216,7 @@ call_time d (Regrade number params word) = either_time (is_refusal (regrade_repl
 call_time d (Wake number) = either_time (is_refusal (wake_reply (task_of d number))) d (granted d (Wake number)) refl
 call_time d (Leave number) = either_time (is_refusal (leave_reply (task_of d number))) d (granted d (Leave number)) refl
 call_time d (Advance n) = ticks_time n d
+call_time d (Limit limit word) = either_time (is_refusal (limit_reply d limit word)) d (granted d (Limit limit word)) refl
 
 -- the same CPUs and the same limit, and so the same cap
 pub record SameMachine (d e : Domain) : Type 0 where
@@ -225,12 +227,39 @@ either_machine : (b : Bool) (d e : Domain) → SameMachine d e → SameMachine d
 either_machine true d e same = record { cpus = refl; limit = refl }
 either_machine false d e same = same
 
-pub call_machine : (d : Domain) (c : Call) → SameMachine d (after_call d c)
-call_machine d (Admit number name params delay script) = either_machine (is_refusal (admit_reply d number params)) d (granted d (Admit number name params delay script)) (record { cpus = refl; limit = refl })
-call_machine d (Regrade number params word) = either_machine (is_refusal (regrade_reply d params word (task_of d number))) d (granted d (Regrade number params word)) (record { cpus = refl; limit = refl })
-call_machine d (Wake number) = either_machine (is_refusal (wake_reply (task_of d number))) d (granted d (Wake number)) (record { cpus = refl; limit = refl })
-call_machine d (Leave number) = either_machine (is_refusal (leave_reply (task_of d number))) d (granted d (Leave number)) (record { cpus = refl; limit = refl })
-call_machine d (Advance n) = record { cpus = ticks_cpus n d; limit = ticks_limit n d }
+-- a call that sets no limit keeps CPUs and limit
+abbrev pub sets_limit : Call → Bool
+sets_limit (Limit limit word) = true
+sets_limit c = false
+
+pub call_machine : (d : Domain) (c : Call) → sets_limit c ≡ false → SameMachine d (after_call d c)
+call_machine d (Admit number name params delay script) is = either_machine (is_refusal (admit_reply d number params)) d (granted d (Admit number name params delay script)) (record { cpus = refl; limit = refl })
+call_machine d (Regrade number params word) is = either_machine (is_refusal (regrade_reply d params word (task_of d number))) d (granted d (Regrade number params word)) (record { cpus = refl; limit = refl })
+call_machine d (Wake number) is = either_machine (is_refusal (wake_reply (task_of d number))) d (granted d (Wake number)) (record { cpus = refl; limit = refl })
+call_machine d (Leave number) is = either_machine (is_refusal (leave_reply (task_of d number))) d (granted d (Leave number)) (record { cpus = refl; limit = refl })
+call_machine d (Advance n) is = record { cpus = ticks_cpus n d; limit = ticks_limit n d }
+call_machine d (Limit limit word) is = absurd cc
+
+either_cpus : (b : Bool) (d e : Domain) → e.cpus ≡ d.cpus → (cond b d e).cpus ≡ d.cpus
+either_cpus true d e same = refl
+either_cpus false d e same = same
+
+-- no call changes the number of CPUs
+pub call_cpus : (d : Domain) (c : Call) → (after_call d c).cpus ≡ d.cpus
+call_cpus d (Admit number name params delay script) = (call_machine d (Admit number name params delay script) refl).cpus
+call_cpus d (Regrade number params word) = (call_machine d (Regrade number params word) refl).cpus
+call_cpus d (Wake number) = (call_machine d (Wake number) refl).cpus
+call_cpus d (Leave number) = (call_machine d (Leave number) refl).cpus
+call_cpus d (Advance n) = ticks_cpus n d
+call_cpus d (Limit limit word) = either_cpus (is_refusal (limit_reply d limit word)) d (with_limit limit d) refl
+
+either_tasks : (b : Bool) (d e : Domain) → e.tasks ≡ d.tasks → (cond b d e).tasks ≡ d.tasks
+either_tasks true d e same = refl
+either_tasks false d e same = same
+
+-- a change of the limit keeps the list
+pub limit_tasks : (d : Domain) (limit : ℕ) (word : Option ℕ) → (after_call d (Limit limit word)).tasks ≡ d.tasks
+limit_tasks d limit word = either_tasks (is_refusal (limit_reply d limit word)) d (with_limit limit d) refl
 
 -- ---- what Busy tells, by the definitions alone
 

@@ -3,7 +3,7 @@
 use Rattle.std.specs.Prelude.{ℕ, ◌+◌, ◌-◌, ◌≤◌, ◌<◌, IsSomeAnd}
 use Rattle.attr_check.specs.Ratio.{cap}
 use Rattle.domain_run.specs.declared.call.Reply.{Reply}
-use Rattle.domain_run.specs.declared.call.Reply.TheVariants.{Admitted, Changed, Woken, Left, Done, Full, Twice, Busy, NotListed, NotWaiting}
+use Rattle.domain_run.specs.declared.call.Reply.TheVariants.{Admitted, Changed, Woken, Left, Done, Set, Full, Twice, Busy, NotListed, NotWaiting}
 use Rattle.domain_run.specs.Domain.{Domain}
 use Rattle.domain_run.specs.Calls.{task_of}
 
@@ -15,6 +15,7 @@ IfBusy Changed P = Unit {0}
 IfBusy Woken P = Unit {0}
 IfBusy Left P = Unit {0}
 IfBusy (Done n) P = Unit {0}
+IfBusy Set P = Unit {0}
 IfBusy Full P = Unit {0}
 IfBusy Twice P = Unit {0}
 IfBusy NotListed P = Unit {0}
@@ -30,3 +31,8 @@ pub record LacksRoomFor (d : Domain) (bw seen : ℕ) : Type 0 where
 pub record LacksRoomToChange (d : Domain) (number bw seen : ℕ) : Type 0 where
   pub within : seen ≤ cap d.cpus d.limit
   pub above : IsSomeAnd (task_of d number) (λ t. cap d.cpus d.limit < seen - t.params.bw + bw)
+
+-- a sum above CPUs times a new limit, and within the cap of today's
+pub record IsAboveLimit (d : Domain) (limit seen : ℕ) : Type 0 where
+  pub within : seen ≤ cap d.cpus d.limit
+  pub above : cap d.cpus limit < seen

@@ -1,5 +1,5 @@
 -- The calls on a domain, made between two ticks: replies and effects (own; the errors of
--- sched_setattr(2)).
+-- sched_setattr(2), and of sched-deadline.rst on sched_rt_runtime_us).
 use Rattle.std.specs.Prelude.{ℕ, ◌+◌, ◌-◌, ◌%◌, ◌==◌, Bool, true, false, not, ◌&&◌, nat_lt, nat_le, if◌then◌else◌, List, [], ◌∷◌, ◌++◌, length, map, find, Option, Some, None, pos}
 use Rattle.std.specs.List.{list_any}
 use Rattle.attr_check.specs.ParamsView.{ParamsView}
@@ -9,9 +9,9 @@ use Rattle.domain_run.specs.script.Segments.{begun_at}
 use Rattle.domain_run.specs.declared.task.Task.{Task}
 use Rattle.domain_run.specs.declared.task.Condition.TheVariants.{Blocked, Leaving}
 use Rattle.domain_run.specs.declared.call.Call.{Call}
-use Rattle.domain_run.specs.declared.call.Call.TheVariants.{Admit, Regrade, Wake, Leave, Advance}
+use Rattle.domain_run.specs.declared.call.Call.TheVariants.{Admit, Regrade, Wake, Leave, Advance, Limit}
 use Rattle.domain_run.specs.declared.call.Reply.{Reply}
-use Rattle.domain_run.specs.declared.call.Reply.TheVariants.{Admitted, Changed, Woken, Left, Done, Full, Twice, Busy, NotListed, NotWaiting}
+use Rattle.domain_run.specs.declared.call.Reply.TheVariants.{Admitted, Changed, Woken, Left, Done, Set, Full, Twice, Busy, NotListed, NotWaiting}
 use Rattle.domain_run.specs.Conditions.{is_contending, is_waiting, is_leaving}
 use Rattle.domain_run.specs.Parts.{stopped}
 use Rattle.domain_run.specs.Domain.{Domain}
@@ -93,6 +93,20 @@ abbrev pub ended : ℕ → Task → Task
 ended time t =
     if is_contending t.condition then stopped time Leaving t else record t { condition = Leaving }
 
+-- LIMIT. The bandwidth of the listed tasks is above CPUs times the new limit, or the domain's
+-- bandwidth word refused it (sched-deadline.rst, EBUSY of a write to sched_rt_runtime_us)
+abbrev pub set_reply : Option ℕ → Reply
+set_reply None = Set
+set_reply (Some s) = Busy s
+
+abbrev pub limit_reply : Domain → ℕ → Option ℕ → Reply
+limit_reply d limit word =
+    if nat_lt (cap d.cpus limit) (sum_of d.tasks) then Busy (sum_of d.tasks) else set_reply word
+
+-- from now on admissions and rates go by the new limit; no task changes
+abbrev pub with_limit : ℕ → Domain → Domain
+with_limit limit d = record d { limit = limit }
+
 -- the reply to a call
 abbrev pub reply_to : Domain → Call → Reply
 reply_to d (Admit number name params delay script) = admit_reply d number params
@@ -100,6 +114,7 @@ reply_to d (Regrade number params word) = regrade_reply d params word (task_of d
 reply_to d (Wake number) = wake_reply (task_of d number)
 reply_to d (Leave number) = leave_reply (task_of d number)
 reply_to d (Advance n) = Done n
+reply_to d (Limit limit word) = limit_reply d limit word
 
 abbrev pub is_refusal : Reply → Bool
 is_refusal Admitted = false
@@ -107,6 +122,7 @@ is_refusal Changed = false
 is_refusal Woken = false
 is_refusal Left = false
 is_refusal (Done n) = false
+is_refusal Set = false
 is_refusal _ = true
 
 -- what a call does where it is not refused
@@ -117,6 +133,7 @@ granted d (Regrade number params word) = changed d number (regraded params)
 granted d (Wake number) = changed d number (released d.time)
 granted d (Leave number) = changed d number (ended d.time)
 granted d (Advance n) = ticks n d
+granted d (Limit limit word) = with_limit limit d
 
 -- a refused call changes nothing
 abbrev pub after_call : Domain → Call → Domain

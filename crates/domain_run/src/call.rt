@@ -34,6 +34,12 @@ pub enum Call {
     Advance {
         ticks: u64,
     },
+    /// Changes what the domain may give away of each CPU, 10485 to 1048576 in 1/2^20.
+    Limit {
+        limit: u64,
+        /// The number with which the domain's bandwidth word refused, where it did.
+        word: Option<u64>,
+    },
 }
 
 /// What a domain answers to a call.
@@ -49,11 +55,13 @@ pub enum Reply {
     Left,
     /// So many ticks were made.
     Done { ticks: u64 },
+    /// The limit is the new one.
+    Set,
     /// 40: 256 tasks are listed.
     Full,
     /// 41: a task of this number was admitted here before.
     Twice,
-    /// EBUSY 16: the bandwidth found does not leave enough below the cap.
+    /// EBUSY 16: the bandwidth found does not leave enough below the cap, or is above the new one.
     Busy { seen: u64 },
     /// ESRCH 3: no such task is listed, or it has ended.
     NotListed,

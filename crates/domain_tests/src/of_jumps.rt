@@ -2,6 +2,7 @@
 
 mod against_ticks;
 mod by_workers;
+mod limits;
 mod turns;
 
 use self::against_ticks::single_ticks;

@@ -203,6 +203,7 @@ no_book id = record {
   tickets = [];
   blanks = [];
   workers = 0;
+  left = None;
 }
 
 pub is_finished : (id : SessionId) (duration : ℕ) (cs es : List ClientView) (books : List BookView) (f : Finished)

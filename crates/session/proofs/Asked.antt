@@ -1,6 +1,6 @@
 -- What a client is answered, and what its passes have then.
 use Rattle.std.proofs.Common.{◌≡◌, ◌≢◌, ℕ, ◌+◌, ◌<◌, Bool, true, false, not, cond, eqb, List, [], ◌∷◌, ◌++◌, length, map, set, get_or, Option, Some, None, Ok, Err, refl, sym, ap, subst, ◌∙◌, arith}
-use Rattle.std.specs.Prelude.{slice_index_or, position, nat_lt, IfSome, IsSome, IsSomeAnd}
+use Rattle.std.specs.Prelude.{slice_index_or, position, nat_lt, IfSome, IsSome, IsSomeAnd, IfOk, IfErr}
 use Rattle.std.specs.List.{position_or_len, prefix_len, cons_option}
 use Rattle.std.proofs.lemmas.Bool.{ltb-true, eqb-true, eqb-false}
 use Rattle.std.proofs.lemmas.Option.{same_Some}
@@ -14,19 +14,20 @@ use Rattle.domain_run.specs.declared.call.Call.{Call}
 use Rattle.domain_run.specs.declared.call.Reply.TheVariants as replies
 use Rattle.rtapp_scenario.specs.ScenarioView.{TaskSpecView}
 use Rattle.pass_seats.specs.Lists.{PassView}
-use Rattle.bw_gate.specs.Pieces.{GateId, BlankView, TicketView, last_of}
+use Rattle.bw_gate.specs.Word.{used_of, cap_of, IsCap}
+use Rattle.bw_gate.specs.Pieces.{GateId, BlankView, TicketView, last_of, cpus_of as gate_cpus}
 use Rattle.bw_gate.specs.Answers.{IsTake, IsGive, words_of}
 use Rattle.bw_gate.specs.declared.answer.Take.TheVariants as takes
 use Rattle.call_book.specs.declared.section.Entry.{Entry}
 use Rattle.session.specs.declared.refusal.Refusal.{Refusal}
 use Rattle.session.specs.declared.refusal.Refusal.TheVariants as refusals
-use Rattle.session.specs.SessionId.{SessionId, IsSession, IsDomainIndex, cap_in}
-use Rattle.session.specs.Asks.{Answer, IsLawful, Goes, domain_of, same_cpus, call_of, ClientView, Asks, Makes, made_by, made_in, made_of, made_at, Made, entries_from, pass_in, piece_of, IsGivenBackAfter, AsksGate, IsHandAfter}
+use Rattle.session.specs.SessionId.{SessionId, IsSession, IsDomainIndex, cpus_of}
+use Rattle.session.specs.Asks.{Answer, IsOverCap, IsLawful, Goes, domain_of, same_cpus, call_of, ClientView, Asks, Makes, made_by, made_in, made_of, made_at, Made, entries_from, pass_in, piece_of, IsGateRefusal, IsGivenBackAfter, AsksGate, IsHandAfter, IsLimitReply, IsHandUnasked, MakesLimit}
 use Rattle.call_book.specs.Book.{admission}
 use Rattle.domain_run.specs.declared.call.Call.TheVariants as calls
 use Rattle.session.specs.declared.locked_book.Ask.{Ask}
 use Rattle.session.specs.declared.locked_book.Ask.TheVariants as asks
-use Rattle.session.specs.private.Entering.{IsVerdict, IsBookVerdict, IsGivenBack, NoneIsKept, pass_after, IsDone, IsDoneFor, IsAdvancedBy, IsAdvancedFor}
+use Rattle.session.specs.private.Entering.{IsVerdict, IsBookVerdict, IsGivenBack, NoneIsKept, pass_after, IsDone, IsDoneFor, MakesLimitWith, IsAdvancedBy, IsAdvancedFor}
 
 -- ---- attributes
 
@@ -60,13 +61,14 @@ position_of f p xs =
 
 -- ---- answers
 
-pub lawful_of : (id : SessionId) (t : TaskSpecView) (d : ℕ) (answer : Answer) → Goes id t d → IsVerdict (cap_in id d) (params_of t.attr).bw answer → IsLawful id t answer
+pub lawful_of : (id : SessionId) (t : TaskSpecView) (d : ℕ) (answer : Answer) → Goes id t d → IsVerdict (length (cpus_of id d)) (params_of t.attr).bw answer → IsLawful id t answer
 lawful_of id t d (Ok replies.Admitted) g v = (d, g)
-lawful_of id t d (Ok (replies.Busy seen)) g v = (d, g, record { within = v.0; above = v.1 })
+lawful_of id t d (Ok (replies.Busy seen)) g v = (d, g, v)
 lawful_of id t d (Ok replies.Changed) g v = v
 lawful_of id t d (Ok replies.Woken) g v = v
 lawful_of id t d (Ok replies.Left) g v = v
 lawful_of id t d (Ok (replies.Done n)) g v = v
+lawful_of id t d (Ok replies.Set) g v = v
 lawful_of id t d (Ok replies.Full) g v = v
 lawful_of id t d (Ok replies.Twice) g v = v
 lawful_of id t d (Ok replies.NotListed) g v = v
@@ -74,7 +76,7 @@ lawful_of id t d (Ok replies.NotWaiting) g v = v
 lawful_of id t d (Err refusals.Full) g v = (d, g)
 lawful_of id t d (Err refusals.Twice) g v = (d, g)
 lawful_of id t d (Err refusals.Enomem) g v = (d, g)
-lawful_of id t d (Err (refusals.Busy seen)) g v = (d, g, record { within = v.0; above = v.1 })
+lawful_of id t d (Err (refusals.Busy seen)) g v = (d, g, v)
 lawful_of id t d (Err refusals.Eperm) g v = absurd v
 lawful_of id t d (Err (refusals.Einval k)) g v = absurd v
 
@@ -91,6 +93,7 @@ none_kept (asks.Admit prepared ticket) (Ok replies.Changed) hand given = nobody 
 none_kept (asks.Admit prepared ticket) (Ok replies.Woken) hand given = nobody given.1
 none_kept (asks.Admit prepared ticket) (Ok replies.Left) hand given = nobody given.1
 none_kept (asks.Admit prepared ticket) (Ok (replies.Done n)) hand given = nobody given.1
+none_kept (asks.Admit prepared ticket) (Ok replies.Set) hand given = nobody given.1
 none_kept (asks.Admit prepared ticket) (Ok replies.Full) hand given = nobody given.1
 none_kept (asks.Admit prepared ticket) (Ok replies.Twice) hand given = nobody given.1
 none_kept (asks.Admit prepared ticket) (Ok replies.NotListed) hand given = nobody given.1
@@ -99,6 +102,15 @@ none_kept (asks.Admit prepared ticket) (Err refusal) hand given = nobody given.1
 none_kept (asks.Regrade number params) answer hand given = tt
 none_kept (asks.Wake number) answer hand given = tt
 none_kept (asks.Leave number) answer hand given = tt
+none_kept (asks.Limit piece limit) answer hand given = nobody given
+
+-- and what it came to says nothing of it
+pub done_anyhow : (id : SessionId) (d : ℕ) (p q : PassView Entry) (ask : Ask) (answer : Answer) (hand : Option BlankView) → IsDone id d p q ask answer None → NoneIsKept ask answer None → IsDone id d p q ask answer hand
+done_anyhow id d p q (asks.Admit prepared ticket) answer hand done given = done
+done_anyhow id d p q (asks.Regrade number params) answer hand done given = done
+done_anyhow id d p q (asks.Wake number) answer hand done given = done
+done_anyhow id d p q (asks.Leave number) answer hand done given = done
+done_anyhow id d p q (asks.Limit piece limit) answer hand done given = nobody given
 
 given_back : (b : BlankView) (d bw : ℕ) (t : TicketView) (hand : Option BlankView) → IsTake b d bw (takes.Taken t) → IfSome hand (IsGive t) × IsSome hand
     → IsSomeAnd hand (IsGivenBackAfter b d bw)
@@ -106,25 +118,26 @@ given_back b d bw t None taken given = nobody given.1
 given_back b d bw t (Some back) taken given = record { ticket = t; taken = taken; given = given.0 }
 
 -- a piece that was granted, by what the domain answered
-pub granted_asks : (gate : GateId) (d cap bw : ℕ) (b : BlankView) (t : TicketView) (answer : Answer) (hand : Option BlankView)
-    → IsTake b d bw (takes.Taken t) → IsBookVerdict cap bw answer → IsGivenBack t answer hand → AsksGate gate d bw (Some b) answer hand
-granted_asks gate d cap bw b t (Ok replies.Admitted) hand taken v given = (t, taken)
-granted_asks gate d cap bw b t (Ok (replies.Busy seen)) hand taken v given = given_back b d bw t hand taken given
-granted_asks gate d cap bw b t (Ok replies.Changed) hand taken v given = absurd v
-granted_asks gate d cap bw b t (Ok replies.Woken) hand taken v given = absurd v
-granted_asks gate d cap bw b t (Ok replies.Left) hand taken v given = absurd v
-granted_asks gate d cap bw b t (Ok (replies.Done n)) hand taken v given = absurd v
-granted_asks gate d cap bw b t (Ok replies.Full) hand taken v given = absurd v
-granted_asks gate d cap bw b t (Ok replies.Twice) hand taken v given = absurd v
-granted_asks gate d cap bw b t (Ok replies.NotListed) hand taken v given = absurd v
-granted_asks gate d cap bw b t (Ok replies.NotWaiting) hand taken v given = absurd v
-granted_asks gate d cap bw b t (Err refusals.Full) None taken v given = nobody given.1
-granted_asks gate d cap bw b t (Err refusals.Full) (Some back) taken v given = given_back b d bw t (Some back) taken given
-granted_asks gate d cap bw b t (Err refusals.Twice) hand taken v given = given_back b d bw t hand taken given
-granted_asks gate d cap bw b t (Err refusals.Enomem) hand taken v given = absurd v
-granted_asks gate d cap bw b t (Err (refusals.Busy seen)) hand taken v given = absurd v
-granted_asks gate d cap bw b t (Err refusals.Eperm) hand taken v given = absurd v
-granted_asks gate d cap bw b t (Err (refusals.Einval k)) hand taken v given = absurd v
+pub granted_asks : (gate : GateId) (d cpus bw : ℕ) (b : BlankView) (t : TicketView) (answer : Answer) (hand : Option BlankView)
+    → IsTake b d bw (takes.Taken t) → IsBookVerdict cpus bw answer → IsGivenBack t answer hand → AsksGate gate d bw (Some b) answer hand
+granted_asks gate d cpus bw b t (Ok replies.Admitted) hand taken v given = (t, taken)
+granted_asks gate d cpus bw b t (Ok (replies.Busy seen)) hand taken v given = given_back b d bw t hand taken given
+granted_asks gate d cpus bw b t (Ok replies.Changed) hand taken v given = absurd v
+granted_asks gate d cpus bw b t (Ok replies.Woken) hand taken v given = absurd v
+granted_asks gate d cpus bw b t (Ok replies.Left) hand taken v given = absurd v
+granted_asks gate d cpus bw b t (Ok (replies.Done n)) hand taken v given = absurd v
+granted_asks gate d cpus bw b t (Ok replies.Set) hand taken v given = absurd v
+granted_asks gate d cpus bw b t (Ok replies.Full) hand taken v given = absurd v
+granted_asks gate d cpus bw b t (Ok replies.Twice) hand taken v given = absurd v
+granted_asks gate d cpus bw b t (Ok replies.NotListed) hand taken v given = absurd v
+granted_asks gate d cpus bw b t (Ok replies.NotWaiting) hand taken v given = absurd v
+granted_asks gate d cpus bw b t (Err refusals.Full) None taken v given = nobody given.1
+granted_asks gate d cpus bw b t (Err refusals.Full) (Some back) taken v given = given_back b d bw t (Some back) taken given
+granted_asks gate d cpus bw b t (Err refusals.Twice) hand taken v given = given_back b d bw t hand taken given
+granted_asks gate d cpus bw b t (Err refusals.Enomem) hand taken v given = absurd v
+granted_asks gate d cpus bw b t (Err (refusals.Busy seen)) hand taken v given = absurd v
+granted_asks gate d cpus bw b t (Err refusals.Eperm) hand taken v given = absurd v
+granted_asks gate d cpus bw b t (Err (refusals.Einval k)) hand taken v given = absurd v
 
 -- a new piece is that of a client that has none
 new_asks : (gate : GateId) (d bw : ℕ) (answer : Answer) (next : Option BlankView) → AsksGate gate d bw (Some (piece_of gate None)) answer next → AsksGate gate d bw None answer next
@@ -134,6 +147,7 @@ new_asks gate d bw (Ok replies.Changed) next h = h
 new_asks gate d bw (Ok replies.Woken) next h = h
 new_asks gate d bw (Ok replies.Left) next h = h
 new_asks gate d bw (Ok (replies.Done n)) next h = h
+new_asks gate d bw (Ok replies.Set) next h = h
 new_asks gate d bw (Ok replies.Full) next h = h
 new_asks gate d bw (Ok replies.Twice) next h = h
 new_asks gate d bw (Ok replies.NotListed) next h = h
@@ -230,12 +244,14 @@ made_nothing c c' d call r m = record {
 -- whatever a client asked for under the lock of a domain
 pub done_for : (id : SessionId) (d : ℕ) (c e : ClientView) (p q : PassView Entry) (ask : Ask) (answer : Answer)
     → ((call : Call) (a : Answer) → q ≡ pass_after p call a → Makes c e (made_by d call a))
-    → IsDone id d p q ask answer → NoneIsKept ask answer e.hand → IsDoneFor id d c e ask answer
+    → IsDone id d p q ask answer e.hand → NoneIsKept ask answer e.hand → IsDoneFor id d c e ask answer
 done_for id d c e p q (asks.Admit prepared ticket) answer m done given = (m (admission prepared) answer done.pass, done.verdict, given)
 done_for id d c e p q (asks.Regrade number params) answer m done given =
     (record { word = done.word; made = m (calls.Regrade number params done.word) answer done.replied.pass; reply = done.reply }, done.replied.full)
 done_for id d c e p q (asks.Wake number) answer m done given = (m (calls.Wake number) answer done.pass, done.full)
 done_for id d c e p q (asks.Leave number) answer m done given = (m (calls.Leave number) answer done.pass, done.full)
+done_for id d c e p q (asks.Limit piece limit) answer m done given =
+    (record { word = done.word; made = m (calls.Limit limit done.word) answer done.replied.pass; reply = done.reply; unasked = done.unasked }, done.replied.full)
 
 -- an advance of a domain under its lock
 pub advanced_for : (d : ℕ) (c e : ClientView) (p q : PassView Entry) (n : ℕ) (answer : Answer)
@@ -247,6 +263,7 @@ advanced_for d c e p q n (Ok replies.Admitted) m done = absurd done
 advanced_for d c e p q n (Ok replies.Changed) m done = absurd done
 advanced_for d c e p q n (Ok replies.Woken) m done = absurd done
 advanced_for d c e p q n (Ok replies.Left) m done = absurd done
+advanced_for d c e p q n (Ok replies.Set) m done = absurd done
 advanced_for d c e p q n (Ok replies.Full) m done = absurd done
 advanced_for d c e p q n (Ok replies.Twice) m done = absurd done
 advanced_for d c e p q n (Ok (replies.Busy seen)) m done = absurd done
@@ -258,6 +275,31 @@ advanced_for d c e p q n (Err refusals.Eperm) m done = absurd done
 advanced_for d c e p q n (Err refusals.Twice) m done = absurd done
 advanced_for d c e p q n (Err (refusals.Einval k)) m done = absurd done
 advanced_for d c e p q n (Err (refusals.Busy seen)) m done = absurd done
+
+-- ---- a change of the limit
+
+hand_unasked : (gate : GateId) (hand next : Option BlankView) (piece : BlankView) (answer : Answer) → piece ≡ piece_of gate hand → IfErr answer (λ _. next ≡ Some piece) → IfErr answer (λ _. IsHandUnasked gate hand next)
+hand_unasked gate hand next piece (Ok reply) is same = tt
+hand_unasked gate hand next piece (Err refusal) is same = subst (λ (h : Option BlankView). IsHandUnasked gate hand h) (sym same) is
+
+-- by a piece that was found for it
+pub limit_made : (id : SessionId) (c e : ClientView) (d limit : ℕ) (piece : BlankView) (answer : Answer) → piece ≡ piece_of id.gate c.hand
+    → MakesLimitWith id (record c { hand = None }) e d limit piece answer → MakesLimit id c e d limit answer
+limit_made id c e d limit piece answer is m = record {
+  word = m.word;
+  made = record { number = m.made.number; domains = m.made.domains; passes = m.made.passes };
+  reply = subst (λ (b : BlankView). IfOk answer (IsLimitReply d (length (cpus_of id d)) id.limit limit b m.word e.hand)) is m.reply;
+  unasked = hand_unasked id.gate c.hand e.hand piece answer is m.unasked;
+}
+
+-- without one
+pub limit_unmade : (id : SessionId) (c : ClientView) (d limit : ℕ) → c.hand ≡ None → MakesLimit id c (record c { hand = None }) d limit (Err refusals.Full)
+limit_unmade id c d limit none = record {
+  word = None;
+  made = refused_makes c (record c { hand = None }) d (calls.Limit limit None) refusals.Full refl refl;
+  reply = tt;
+  unasked = none;
+}
 
 -- ---- admissions
 
@@ -280,7 +322,7 @@ goes_to id t p d checked is = record { checked = subst (λ (q : ParamsView). acc
 
 -- what is in hand after the answer to a task that goes to a domain
 pub hand_after : (id : SessionId) (t : TaskSpecView) (d : ℕ) (hand : Option BlankView) (answer : Answer) (next : Option BlankView) → Goes id t d
-    → IsVerdict (cap_in id d) (params_of t.attr).bw answer → AsksGate id.gate d (params_of t.attr).bw hand answer next → IsHandAfter id t hand answer next
+    → IsVerdict (length (cpus_of id d)) (params_of t.attr).bw answer → AsksGate id.gate d (params_of t.attr).bw hand answer next → IsHandAfter id t hand answer next
 hand_after id t d hand (Ok reply) next g v h = (d, g, h)
 hand_after id t d hand (Err refusals.Full) next g v h = (d, g, h)
 hand_after id t d hand (Err refusals.Twice) next g v h = (d, g, h)
@@ -291,7 +333,7 @@ hand_after id t d hand (Err (refusals.Einval k)) next g v h = absurd v
 
 -- the answer to a task that goes to a domain
 pub asks_one : (id : SessionId) (c c' : ClientView) (t : TaskSpecView) (d : ℕ) (answer : Answer) → Goes id t d
-    → Makes c c' (made_by d (call_of t) answer) → IsVerdict (cap_in id d) (params_of t.attr).bw answer → AsksGate id.gate d (params_of t.attr).bw c.hand answer c'.hand
+    → Makes c c' (made_by d (call_of t) answer) → IsVerdict (length (cpus_of id d)) (params_of t.attr).bw answer → AsksGate id.gate d (params_of t.attr).bw c.hand answer c'.hand
     → Asks id c c' (record { task = t; answer = answer } ∷ [])
 asks_one id c c' t d answer goes m verdict asks = record {
   lawful = All-cons (λ q. IsLawful id q.task q.answer) _ [] (lawful_of id t d answer goes verdict) (All-nil (λ q. IsLawful id q.task q.answer));
@@ -304,6 +346,20 @@ last_of_more [] n = refl
 last_of_more (x ∷ []) n = refl
 last_of_more (x ∷ y ∷ found) n = last_of_more (y ∷ found) n
 
--- a refused try found its number last
-pub last_seen : (b : BlankView) (d bw : ℕ) (back : BlankView) (seen : ℕ) → IsTake b d bw (takes.Refused back seen) → last_of back.found ≡ seen
-last_seen b d bw back seen t = ap (λ (v : BlankView). last_of v.found) t.last.blank ∙ last_of_more (b.found ++ words_of t.races) seen
+-- a refused try found its word last
+pub last_seen : (b : BlankView) (d bw : ℕ) (back : BlankView) (word seen : ℕ) → IsTake b d bw (takes.Refused back word) → seen ≡ used_of word → used_of (last_of back.found) ≡ seen
+last_seen b d bw back word seen t is = ap (λ (v : BlankView). used_of (last_of v.found)) t.last.blank ∙ ap used_of (last_of_more (b.found ++ words_of t.races) word) ∙ sym is
+
+-- and the cap that this word carries leaves no room
+pub gate_over : (cpus : ℕ) (b : BlankView) (d bw : ℕ) (back : BlankView) (word seen : ℕ) → gate_cpus b.gate d ≡ cpus → IsTake b d bw (takes.Refused back word) → seen ≡ used_of word → IsOverCap cpus bw seen
+gate_over cpus b d bw back word seen same t is =
+    subst (IsOverCap cpus bw) (sym is)
+    (record {
+      cap = cap_of word;
+      a_cap = subst (λ (n : ℕ). IsCap n (cap_of word)) same t.last.word.cap;
+      within = t.last.word.within;
+      above = t.last.over;
+    })
+
+pub gate_refused : (b : BlankView) (d bw : ℕ) (back : BlankView) (word seen : ℕ) → IsTake b d bw (takes.Refused back word) → seen ≡ used_of word → IsGateRefusal b d bw seen back
+gate_refused b d bw back word seen t is = record { word = word; used = sym is; refused = t }

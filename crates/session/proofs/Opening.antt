@@ -1,20 +1,20 @@
 -- What the parts of a session are, step by step.
-use Rattle.std.proofs.Common.{◌≡◌, ◌≢◌, ℕ, zero, suc, ◌+◌, ◌-◌, ◌*◌, ◌≤◌, ◌<◌, Bool, true, false, eqb, List, [], ◌∷◌, ◌++◌, length, map, set, take, drop, replicate, get_or, Option, Some, None, All, refl, sym, ap, subst, ◌∙◌, arith}
+use Rattle.std.proofs.Common.{◌≡◌, ◌≢◌, ℕ, zero, suc, ◌+◌, ◌-◌, ◌*◌, ◌≤◌, ◌<◌, Bool, true, false, eqb, List, [], ◌∷◌, ◌++◌, length, map, set, drop, replicate, get_or, Option, Some, None, All, refl, sym, ap, subst, ◌∙◌, arith}
 use Rattle.std.specs.Prelude.{IfSome, is_some, slice_get}
 use Rattle.std.specs.List.{range_with_len}
 use Rattle.std.specs.Option.{option_map}
 use Rattle.std.proofs.lemmas.Bool.{eqb-true, eqb-false}
-use Rattle.std.proofs.lemmas.List.{append_assoc, drop_more, get_or-map, get_or-set_same, get_or-set_other, get_or_append_left, get_or_push, map-set, length-map, length-replicate, length-set, length_push, map_push, take_more_set, map_more}
+use Rattle.std.proofs.lemmas.List.{append_assoc, drop_more, get_or-map, get_or-set_same, get_or-set_other, get_or_append_left, get_or_push, map-set, length-map, length-replicate, length-set, length_push, map_push}
 use Rattle.std.proofs.lemmas.List.Elements.{All-nil, All-cons, All-head, All-tail, All-map, All-same, All-weaker}
 use Rattle.std.proofs.lemmas.List.FromFn.{length-range_with_len}
 use Rattle.std.proofs.lemmas.Option.{get_or_from_slice_get, slice_get-map, slice_get_read}
 use Rattle.std.proofs.Math.Seq.{map-set_same}
-use Rattle.std.proofs.Math.Nat.{mul-le-mul_left, mul-le-mul_right}
 use Rattle.atomic_table.specs.Seated.{TableId}
-use Rattle.attr_check.specs.Ratio.{cap}
 use Rattle.pass_seats.specs.Lists.{PassView}
 use Rattle.bw_gate.specs.Pieces.{GateId}
-use Rattle.bw_gate.specs.Terms.{AreTerms}
+use Rattle.bw_gate.specs.Word.{IsLimit}
+use Rattle.bw_gate.specs.declared.terms.Room.{Room}
+use Rattle.bw_gate.specs.Terms.{TermsView, IsMachine, AreTerms, AreRooms, terms_of as gate_terms}
 use Rattle.domain_run.specs.Domain.{IsCpus}
 use Rattle.call_book.specs.declared.section.Entry.{Entry}
 use Rattle.call_book.specs.Book.{BookView, IsMember}
@@ -66,30 +66,39 @@ all_sets P base (cpus ∷ domains) all =
 
 -- ---- the gate
 
-cap_most : (cpus limit : ℕ) → cpus ≤ 64 → limit ≤ 1048576 → cap cpus limit ≤ 67108864
-cap_most cpus limit few most = omega (arith, mul-le-mul_left cpus most, mul-le-mul_right 1048576 few)
+abbrev pub room_of : ℕ → ℕ → Room
+room_of limit cpus = record { cpus = cpus; limit = limit }
 
-pub caps_more : (caps domains : List ℕ) (limit d n : ℕ) → d < length caps → d < length domains → n ≡ cap (get_or domains d 0) limit
-    → take d caps ≡ map (λ (cpus : ℕ). cap cpus limit) (take d domains)
-    → take (d + 1) (set caps d n) ≡ map (λ (cpus : ℕ). cap cpus limit) (take (d + 1) domains)
-caps_more caps domains limit d n short inside is was =
-    take_more_set caps d n short ∙ ap (λ (xs : List ℕ). xs ++ n ∷ []) was
-    ∙ ap (λ (x : ℕ). map (λ (cpus : ℕ). cap cpus limit) (take d domains) ++ x ∷ []) is
-    ∙ sym (map_more (λ (cpus : ℕ). cap cpus limit) domains d 0 inside)
+cpus_are : (limit : ℕ) (domains : List ℕ) → map (λ (r : Room). r.cpus) (map (room_of limit) domains) ≡ domains
+cpus_are limit [] = refl
+cpus_are limit (cpus ∷ domains) = ap (λ (ns : List ℕ). cpus ∷ ns) (cpus_are limit domains)
 
-pub are_terms : (o : Options) (caps : List ℕ) → AreOptions o → caps ≡ map (λ (cpus : ℕ). cap cpus o.limit) o.domains.items
-    → AreTerms (record { caps = caps; pieces = length o.domains.items * 256 + o.clients })
-are_terms o caps are is =
-    let count : length caps ≡ length o.domains.items = ap length is ∙ length-map o.domains.items _ in
-    record {
-      some = omega (arith, count, are.some_domains);
-      few = omega (arith, count, are.few_domains);
-      small = All-same (λ (c : ℕ). c ≤ 67108864) caps (map (λ (cpus : ℕ). cap cpus o.limit) o.domains.items) is
-          (All-map (λ (c : ℕ). c ≤ 67108864) (λ (cpus : ℕ). cap cpus o.limit) o.domains.items
-          (All-weaker IsCpus (λ (cpus : ℕ). cap cpus o.limit ≤ 67108864) (λ cpus h. cap_most cpus o.limit h.1 are.limit.1) o.domains.items are.cpus));
-      a_piece = omega (arith, are.a_client);
-      not_many = omega (arith, are.few_domains, are.few_clients);
-    }
+abbrev terms_with : List ℕ → ℕ → TermsView
+terms_with cpus pieces = record { cpus = cpus; pieces = pieces }
+
+pub terms_are : (o : Options) (rooms : List Room) (n : ℕ) → rooms ≡ map (room_of o.limit) o.domains.items → n ≡ length o.domains.items → gate_terms rooms (n * 256 + o.clients) ≡ terms_of o
+terms_are o rooms n are count =
+    ap (λ (rs : List Room). gate_terms rs (n * 256 + o.clients)) are
+    ∙ ap (λ (ns : List ℕ). terms_with ns (n * 256 + o.clients)) (cpus_are o.limit o.domains.items)
+    ∙ ap (λ (k : ℕ). terms_with o.domains.items (k * 256 + o.clients)) count
+
+pub are_rooms : (o : Options) (rooms : List Room) → AreOptions o → rooms ≡ map (room_of o.limit) o.domains.items
+    → AreRooms rooms (length o.domains.items * 256 + o.clients)
+are_rooms o rooms are is = record {
+  terms =
+      subst AreTerms (sym (terms_are o rooms (length o.domains.items) is refl))
+      (record {
+        some = are.some_domains;
+        few = are.few_domains;
+        small = All-weaker IsCpus IsMachine (λ cpus h. let some = h.0 in record { one = omega (arith, some); most = h.1 }) o.domains.items are.cpus;
+        a_piece = omega (arith, are.a_client);
+        not_many = omega (arith, are.few_domains, are.few_clients);
+      });
+  limits =
+      All-same (λ (r : Room). IsLimit r.limit) rooms (map (room_of o.limit) o.domains.items) is
+      (All-map (λ (r : Room). IsLimit r.limit) (room_of o.limit) o.domains.items
+      (All-weaker IsCpus (λ (cpus : ℕ). IsLimit o.limit) (λ cpus h. record { least = are.limit.0; most = are.limit.1 }) o.domains.items are.cpus));
+}
 
 -- ---- lists of what may be there
 
@@ -255,15 +264,12 @@ new_passes_are spine clients passes count are k x inside =
 
 -- ---- the session
 
-pub cap_at : (domains : List ℕ) (limit d : ℕ) → d < length domains → get_or (map (λ (cpus : ℕ). cap cpus limit) domains) d 0 ≡ cap (get_or domains d 0) limit
-cap_at domains limit d inside = get_or-map (λ (cpus : ℕ). cap cpus limit) domains d 0 0 inside
-
 pub is_session : (o : Options) (gate : GateId) (books : List BookView) (sets : List (List ℕ)) (clients : ℕ) → AreOptions o → gate.terms ≡ terms_of o
     → sets ≡ cpu_sets_from 0 o.domains.items → length books ≡ length o.domains.items → clients ≡ o.clients → IsSession (id_of gate books sets o.limit clients o.history o.workers)
 is_session o gate books sets clients are terms is count number =
     let domains = o.domains.items in
     let sets_count : length sets ≡ length domains = ap length is ∙ length_sets 0 domains in
-    let caps_are : gate.terms.caps ≡ map (λ (cpus : ℕ). cap cpus o.limit) domains = ap (λ (t : _). t.caps) terms in
+    let machines_are : gate.terms.cpus ≡ domains = ap (λ (t : TermsView). t.cpus) terms in
     record {
       some = omega (arith, sets_count, are.some_domains);
       few = omega (arith, sets_count, are.few_domains);
@@ -274,11 +280,11 @@ is_session o gate books sets clients are terms is count number =
       limit = are.limit;
       clients = omega (arith, number, are.few_clients);
       books = length-map books _ ∙ count ∙ sym sets_count;
-      words = ap length caps_are ∙ length-map domains _ ∙ sym sets_count;
-      caps = λ d place.
+      words = ap length machines_are ∙ sym sets_count;
+      machines = λ d place.
           let inside : d < length domains = omega (arith, place, sets_count) in
-          ap (λ (cs : List ℕ). get_or cs d 0) caps_are ∙ cap_at domains o.limit d inside
-          ∙ ap (λ (n : ℕ). cap n o.limit) (sym (ap (λ (ss : List (List ℕ)). length (get_or ss d [])) is ∙ length_set 0 domains d inside));
+          ap (λ (cs : List ℕ). get_or cs d 0) machines_are
+          ∙ sym (ap (λ (ss : List (List ℕ)). length (get_or ss d [])) is ∙ length_set 0 domains d inside);
     }
 
 pub are_named : (o : Options) (gate : GateId) (books : List BookView) (sets : List (List ℕ)) (clients : ℕ)

@@ -20,11 +20,12 @@ kept : (p q : PassView Entry) (call : Call) (answer : Answer) → q ≡ pass_aft
 kept p q call (Ok reply) is = (ap (λ (r : PassView Entry). r.spine) is, ap (λ (r : PassView Entry). r.client) is)
 kept p q call (Err refusal) is = (ap (λ (r : PassView Entry). r.spine) is, ap (λ (r : PassView Entry). r.client) is)
 
-pub done_kept : (id : SessionId) (d : ℕ) (p q : PassView Entry) (ask : Ask) (answer : Answer) → IsDone id d p q ask answer → (q.spine ≡ p.spine) × (q.client ≡ p.client)
-done_kept id d p q (asks.Admit prepared ticket) answer done = kept p q (admission prepared) answer done.pass
-done_kept id d p q (asks.Regrade number params) answer done = kept p q (calls.Regrade number params done.word) answer done.replied.pass
-done_kept id d p q (asks.Wake number) answer done = kept p q (calls.Wake number) answer done.pass
-done_kept id d p q (asks.Leave number) answer done = kept p q (calls.Leave number) answer done.pass
+pub done_kept : (id : SessionId) (d : ℕ) (p q : PassView Entry) (ask : Ask) (answer : Answer) (blank : Option BlankView) → IsDone id d p q ask answer blank → (q.spine ≡ p.spine) × (q.client ≡ p.client)
+done_kept id d p q (asks.Admit prepared ticket) answer blank done = kept p q (admission prepared) answer done.pass
+done_kept id d p q (asks.Regrade number params) answer blank done = kept p q (calls.Regrade number params done.word) answer done.replied.pass
+done_kept id d p q (asks.Wake number) answer blank done = kept p q (calls.Wake number) answer done.pass
+done_kept id d p q (asks.Leave number) answer blank done = kept p q (calls.Leave number) answer done.pass
+done_kept id d p q (asks.Limit piece limit) answer blank done = kept p q (calls.Limit limit done.word) answer done.replied.pass
 
 pub still_client : (id : SessionId) (number : ℕ) (ps : List (PassView Entry)) (hand now : Option BlankView) (d : ℕ) (p q : PassView Entry)
     → IsClientOf id number ps hand → d < length ps → p ≡ get_or ps d p → (q.spine ≡ p.spine) × (q.client ≡ p.client) → IfSome now (λ b. b.gate ≡ id.gate)

@@ -1,5 +1,5 @@
 -- Calls under a domain's lock, other than admissions.
-use Rattle.std.proofs.Common.{◌≡◌, ◌≢◌, ℕ, ◌+◌, ◌-◌, Bool, true, false, cond, List, ◌∷◌, ◌++◌, length, length-append, arith, Option, Some, None, Ok, Err, refl, sym, ap, subst}
+use Rattle.std.proofs.Common.{◌≡◌, ◌≢◌, ℕ, ◌+◌, ◌-◌, Bool, true, false, cond, List, ◌∷◌, ◌++◌, length, length-append, arith, Option, Some, None, Ok, Err, inl, inr, refl, sym, ap, subst}
 use Rattle.std.specs.Prelude.{Result, IfOk, IfErr, All, nat_lt}
 use Rattle.std.proofs.lemmas.List.{get_or-append-add}
 use Rattle.attr_check.specs.ParamsView.{ParamsView}
@@ -12,16 +12,19 @@ use Rattle.domain_run.specs.declared.task.Task.{Task}
 use Rattle.domain_run.specs.Domain.{Domain}
 use Rattle.domain_run.specs.Tick.{sum_of}
 use Rattle.domain_run.specs.Calls.{regrade_reply, word_reply, task_of}
-use Rattle.bw_gate.specs.Pieces.{GateId}
+use Rattle.bw_gate.specs.Pieces.{GateId, BlankView, TicketView}
 use Rattle.call_book.specs.declared.book.domain.Full.{Full}
+use Rattle.call_book.specs.declared.book.domain.Limit.{Limit}
+use Rattle.call_book.specs.declared.book.domain.Limit.TheVariants as limits
 use Rattle.call_book.specs.declared.section.Entry.{Entry}
 use Rattle.call_book.specs.declared.book.stock.Held.{Held}
 use Rattle.call_book.specs.Pieces.{IsTicketOf, AsksTheWord}
-use Rattle.call_book.specs.Book.{BookView, calls_of, state_of, Enters, EntersAlone, Stays, IsRefusedFull}
-use Rattle.call_book.specs.BookAnswers.{IsRegraded}
+use Rattle.call_book.specs.Book.{BookView, AdmissionView, calls_of, state_of, Enters, EntersAlone, Stays, IsRefusedFull}
+use Rattle.call_book.specs.BookAnswers.{IsBusy, IsRegraded}
+use Rattle.call_book.specs.LimitAnswers.{IsLimitSet, AnswersLimit}
 use Rattle.session.specs.declared.refusal.Refusal.TheVariants as refusals
-use Rattle.session.specs.Asks.{Answer, AsksWord, IsByWord}
-use Rattle.session.specs.private.Entering.{SameBook, IsReplied, IsRegradedBy}
+use Rattle.session.specs.Asks.{Answer, IsOverCap, AsksWord, IsByWord}
+use Rattle.session.specs.private.Entering.{SameBook, IsReplied, IsRegradedBy, limit_answer, limit_back, IsLimitedBy, IsWhyNotMade}
 
 same_entered : (old new : BookView) (p q : PassView Entry) (call : Call) (reply : Reply) → Enters old new p q call reply → SameBook old new
 same_entered old new p q call reply e = record {
@@ -62,6 +65,14 @@ replied old new p q call (Ok reply) answer entered full ok err =
 replied old new p q call (Err e) answer entered full ok err =
     subst (λ (a : Answer). IsReplied p q call a) (sym err) (record { pass = full.stays.pass; full = tt })
 
+-- why it stands in no book
+pub why_not : (old new : BookView) (p q : PassView Entry) (made : Result Reply Full) (answer : Answer)
+    → IfErr made (λ _. IsRefusedFull old new p q)
+    → IfOk made (λ reply. answer ≡ Ok reply) → IfErr made (λ _. answer ≡ Err refusals.Full)
+    → IsWhyNotMade old answer
+why_not old new p q (Ok reply) answer full ok err = subst (λ (a : Answer). IsWhyNotMade old a) (sym ok) tt
+why_not old new p q (Err e) answer full ok err = subst (λ (a : Answer). IsWhyNotMade old a) (sym err) full.full
+
 -- a regrade
 pub same_regraded : (old new : BookView) (p q : PassView Entry) (number : ℕ) (params : ParamsView) (made : Result Reply Full)
     → IfOk made (IsRegraded old new p q number params) → IfErr made (λ _. IsRefusedFull old new p q) → SameBook old new
@@ -87,6 +98,7 @@ none_asked gate d bw None replies.Admitted other none is differ = tt
 none_asked gate d bw None replies.Woken other none is differ = tt
 none_asked gate d bw None replies.Left other none is differ = tt
 none_asked gate d bw None (replies.Done n) other none is differ = tt
+none_asked gate d bw None replies.Set other none is differ = tt
 none_asked gate d bw None replies.Full other none is differ = tt
 none_asked gate d bw None replies.Twice other none is differ = tt
 none_asked gate d bw None (replies.Busy seen) other none is differ = tt
@@ -134,3 +146,72 @@ regraded old new p q number params (Ok reply) answer entered full ok err =
 regraded old new p q number params (Err e) answer entered full ok err =
     subst (λ (a : Answer). IsRegradedBy old.gate old.domain old.cpus old.limit p q number params a) (sym err)
     (record { word = None; replied = record { pass = full.stays.pass; full = tt }; reply = tt })
+
+-- ---- a change of the limit
+
+set_same : (old new : BookView) (p q : PassView Entry) (limit : ℕ) (blank back : BlankView) → IsLimitSet old new p q limit blank back → SameBook old new
+set_same old new p q limit blank back e = record {
+  gate = ap (λ (b : BookView). b.gate) e.book;
+  domain = ap (λ (b : BookView). b.domain) e.book;
+  spine = ap (λ (b : BookView). b.spine) e.book;
+  cpus = ap (λ (b : BookView). b.cpus) e.book;
+  limit = ap (λ (b : BookView). b.limit) e.book;
+  clients = ap (λ (b : BookView). b.clients) e.book;
+  room = ap (λ (b : BookView). b.room) e.book;
+  workers = ap (λ (b : BookView). b.workers) e.book;
+}
+
+pub same_limited : (old new : BookView) (p q : PassView Entry) (limit : ℕ) (blank : BlankView) (made : Limit) → AnswersLimit old new p q limit blank made → SameBook old new
+same_limited old new p q limit blank (limits.Set back) a = set_same old new p q limit blank back a
+same_limited old new p q limit blank (limits.Busy back seen) (inl a) = same_entered old new p q _ (replies.Busy seen) a.entered.entered
+same_limited old new p q limit blank (limits.Busy back seen) (inr a) = same_entered old new p q _ (replies.Busy seen) a.entered.entered
+same_limited old new p q limit blank (limits.Full back) a = same_stays old new p q a.0.stays
+
+-- why a change of the limit stands in no book
+pub limit_why_not : (old new : BookView) (p q : PassView Entry) (limit : ℕ) (blank : BlankView) (made : Limit) → AnswersLimit old new p q limit blank made → IsWhyNotMade old (limit_answer made)
+limit_why_not old new p q limit blank (limits.Set back) a = tt
+limit_why_not old new p q limit blank (limits.Busy back seen) a = tt
+limit_why_not old new p q limit blank (limits.Full back) a = a.0.full
+
+pub limited_own : (old new : BookView) (p q : PassView Entry) (limit : ℕ) (blank : BlankView) (made : Limit) → AnswersLimit old new p q limit blank made → (limit_back made).gate ≡ blank.gate
+limited_own old new p q limit blank (limits.Set back) a = a.asked.own
+limited_own old new p q limit blank (limits.Busy back seen) (inl a) = ap (λ (b : BlankView). b.gate) a.same
+limited_own old new p q limit blank (limits.Busy back seen) (inr a) = a.asked.own
+limited_own old new p q limit blank (limits.Full back) a = ap (λ (b : BlankView). b.gate) a.1
+
+pub limited : (old new : BookView) (p q : PassView Entry) (limit : ℕ) (blank : BlankView) (made : Limit) → AnswersLimit old new p q limit blank made
+    → IsLimitedBy old.domain old.cpus old.limit p q blank limit (limit_answer made) (Some (limit_back made))
+limited old new p q limit blank (limits.Set back) a = record {
+  word = None;
+  replied = record { pass = a.pass; full = tt };
+  reply = record { before = calls_of old.history; lawful = a.lawful; back = back; in_hand = refl; by_word = a.asked };
+  unasked = tt;
+}
+limited old new p q limit blank (limits.Busy back seen) (inl a) = record {
+  word = None;
+  replied = record { pass = a.entered.entered.pass; full = tt };
+  reply = record { before = calls_of old.history; lawful = a.entered.entered.lawful; back = back; in_hand = refl; by_word = a.same };
+  unasked = tt;
+}
+limited old new p q limit blank (limits.Busy back seen) (inr a) = record {
+  word = Some seen;
+  replied = record { pass = a.entered.entered.pass; full = tt };
+  reply = record { before = calls_of old.history; lawful = a.entered.entered.lawful; back = back; in_hand = refl; by_word = (refl, a.asked) };
+  unasked = tt;
+}
+limited old new p q limit blank (limits.Full back) a = record {
+  word = None;
+  replied = record { pass = a.0.stays.pass; full = tt };
+  reply = tt;
+  unasked = ap (λ (b : BlankView). Some b) a.1;
+}
+
+-- ---- an admission that the book refused for want of bandwidth
+
+pub busy_over : (old new : BookView) (p q : PassView Entry) (a : AdmissionView) (ticket back : TicketView) (seen : ℕ) → IsBusy old new p q a ticket back seen → IsOverCap old.cpus a.params.bw seen
+busy_over old new p q a ticket back seen b = record {
+  cap = cap old.cpus (state_of old).limit;
+  a_cap = record { limit = (state_of old).limit; a_limit = record { least = b.a_limit.0; most = b.a_limit.1 }; product = refl };
+  within = b.within;
+  above = b.above;
+}

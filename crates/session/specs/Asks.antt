@@ -1,13 +1,14 @@
 -- What a client is answered, and what it leaves in the books (own).
-use Rattle.std.specs.Prelude.{◌≡◌, ℕ, ◌+◌, ◌≤◌, ◌<◌, ◌==◌, Bool, ◌&&◌, List, [], ◌∷◌, ◌++◌, length, position, filter_map, Option, Some, None, IfSome, IsSome, IsSomeAnd, IfOk, Result, Ok, Err, All, slice_index_or, if◌then◌else◌}
+use Rattle.std.specs.Prelude.{◌≡◌, ℕ, ◌+◌, ◌≤◌, ◌<◌, ◌==◌, Bool, ◌&&◌, List, [], ◌∷◌, ◌++◌, length, position, filter_map, Option, Some, None, IfSome, IsSome, IsSomeAnd, IfOk, IfErr, Result, Ok, Err, All, slice_index_or, if◌then◌else◌}
 use Rattle.std.specs.List.{list_all, list_any, cons_option}
 use Rattle.attr_check.specs.ParamsView.{ParamsView}
 use Rattle.attr_check.specs.Accepted.{accepted, params_of}
+use Rattle.bw_gate.specs.Word.{used_of, IsCap}
 use Rattle.bw_gate.specs.Pieces.{GateId, BlankView, TicketView, last_of}
 use Rattle.bw_gate.specs.Answers.{IsTake, IsGive}
 use Rattle.bw_gate.specs.declared.answer.Take.TheVariants as takes
 use Rattle.domain_run.specs.declared.call.Call.{Call}
-use Rattle.domain_run.specs.declared.call.Call.TheVariants.{Admit, Regrade, Advance}
+use Rattle.domain_run.specs.declared.call.Call.TheVariants.{Admit, Regrade, Advance, Limit}
 use Rattle.domain_run.specs.declared.call.Reply.{Reply}
 use Rattle.domain_run.specs.declared.call.Reply.TheVariants as replies
 use Rattle.domain_run.specs.Calls.{reply_to}
@@ -15,9 +16,10 @@ use Rattle.domain_run.specs.Run.{run_of}
 use Rattle.rtapp_scenario.specs.ScenarioView.{TaskSpecView}
 use Rattle.call_book.specs.declared.section.Entry.{Entry}
 use Rattle.call_book.specs.Pieces.{IsTicketOf, IsAnswered}
+use Rattle.call_book.specs.LimitAnswers.{AsksForLimit}
 use Rattle.session.specs.declared.refusal.Refusal.{Refusal}
 use Rattle.session.specs.declared.refusal.Refusal.TheVariants as refusals
-use Rattle.session.specs.SessionId.{SessionId, cap_in, cpus_of}
+use Rattle.session.specs.SessionId.{SessionId, cpus_of}
 
 -- ---- a task: its domain and its call
 
@@ -47,10 +49,18 @@ pub record Goes (id : SessionId) (t : TaskSpecView) (d : ℕ) : Type 0 where
   pub checked : accepted t.attr ≡ Ok (params_of t.attr)
   pub domain : domain_of id.cpu_sets t.cpus ≡ Some d
 
--- EBUSY: a word or a sum that was seen is at most the cap, and leaves no room for the task
-pub record IsOver (id : SessionId) (t : TaskSpecView) (d seen : ℕ) : Type 0 where
-  pub within : seen ≤ cap_in id d
-  pub above : cap_in id d < seen + (params_of t.attr).bw
+-- EBUSY: what was seen, as used of a word or as a sum, is at most a cap that so many CPUs can have,
+-- and leaves no room for so much more below it
+pub record IsOverCap (cpus bw seen : ℕ) : Type 0 where
+  pub cap : ℕ
+  pub a_cap : IsCap cpus cap
+  pub within : seen ≤ cap
+  pub above : cap < seen + bw
+
+-- the same of a task and a domain. Of a word it is the cap that this word carried; of a sum, that of
+-- the limit that the domain's state had
+abbrev pub IsOver : SessionId → TaskSpecView → ℕ → ℕ → Type 0
+IsOver id t d seen = IsOverCap (length (cpus_of id d)) (params_of t.attr).bw seen
 
 -- what an admission may be answered: EINVAL and EPERM exactly where the task is not to be admitted
 -- anywhere, and else any of the others, EBUSY only with a lawful number
@@ -83,10 +93,12 @@ piece_of gate None = record { gate = gate; found = [] }
 abbrev pub IsGranted : BlankView → ℕ → ℕ → Type 0
 IsGranted piece d bw = (ticket : TicketView) × IsTake piece d bw (takes.Taken ticket)
 
--- the gate refused it with this number, and it came back: what it has found more are the words of
--- this one call, this number last
-abbrev pub IsGateRefusal : BlankView → ℕ → ℕ → ℕ → BlankView → Type 0
-IsGateRefusal piece d bw seen back = IsTake piece d bw (takes.Refused back seen)
+-- the gate refused it, and it came back: what it has found more are the words of this one call; the
+-- cap that the last of them carries leaves no room beside what is used of it, which is this number
+pub record IsGateRefusal (piece : BlankView) (d bw seen : ℕ) (back : BlankView) : Type 0 where
+  pub word : ℕ
+  pub used : used_of word ≡ seen
+  pub refused : IsTake piece d bw (takes.Refused back word)
 
 -- the gate granted it, and the ticket was given back, by a step of its own
 pub record IsGivenBackAfter (piece : BlankView) (d bw : ℕ) (back : BlankView) : Type 0 where
@@ -186,10 +198,11 @@ pub record Asks (id : SessionId) (c c' : ClientView) (asked : List Asked) : Type
 abbrev pub made_by : ℕ → Call → Answer → ℕ → List Made
 made_by place call answer d = cons_option (made_at d (Some place) call answer) []
 
--- the word that refused is the last one that the client's own piece found
+-- the word that refused is the last one that the client's own piece found, and the number is what
+-- was used of it
 abbrev pub IsLastFound : Option BlankView → Answer → Type 0
 IsLastFound hand (Err (refusals.Busy seen)) =
-    IfSome hand (λ b. last_of b.found ≡ seen) × IsSome hand
+    IfSome hand (λ b. used_of (last_of b.found) ≡ seen) × IsSome hand
 IsLastFound hand _ = Unit {0}
 
 -- why a call other than an admission stands in no book: it is full, or a growth was refused
@@ -205,8 +218,8 @@ RefusesOnlyFullOrMemory (Err _) = ⊥
 RefusesOnlyFullOrMemory (Ok reply) = Unit {0}
 
 -- the word's answer to a regrade to so much, by one call of the gate: a ticket of the domain asked.
--- Where the word refused, the number is at most the cap, and leaves no room for so much in the place
--- of what the ticket has
+-- Where the word refused, the number is what was used of it, and the cap that this same word carried
+-- leaves no room for so much in the place of what the ticket has
 pub record AsksWord (gate : GateId) (d bw : ℕ) (word : Option ℕ) : Type 0 where
   pub was : TicketView
   pub becomes : TicketView
@@ -234,6 +247,41 @@ pub record MakesRegrade (id : SessionId) (c c' : ClientView) (d number : ℕ) (p
   pub made : Makes c c' (made_by d (Regrade number params word) answer)
   pub reply : IfOk answer
       (IsRegradeReply id.gate d (length (cpus_of id d)) id.limit number params word)
+
+-- what the word has to do with the reply to a change of the limit: where it refused, the reply is
+-- EBUSY with its number; where it did not, the limit is set by it; and no other reply asked it. It was
+-- asked by the client's own piece, in this very call
+abbrev pub IsLimitByWord : ℕ → ℕ → ℕ → BlankView → Option ℕ → Reply → BlankView → Type 0
+IsLimitByWord cpus d limit piece (Some seen) reply back =
+    (reply ≡ replies.Busy seen) × AsksForLimit cpus d limit piece back (Some seen)
+IsLimitByWord cpus d limit piece None replies.Set back =
+    AsksForLimit cpus d limit piece back None
+IsLimitByWord cpus d limit piece None _ back = back ≡ piece
+
+-- the reply to a change of the limit is that of a state of the domain to which some calls led, and of
+-- the word; and the piece that asked it is in hand then
+pub record IsLimitReply (d cpus limit wanted : ℕ) (piece : BlankView) (word : Option ℕ)
+    (hand : Option BlankView) (reply : Reply) : Type 0 where
+  pub before : List Call
+  pub lawful : reply ≡ reply_to (run_of cpus limit before) (Limit wanted word)
+  pub back : BlankView
+  pub in_hand : hand ≡ Some back
+  pub by_word : IsLimitByWord cpus d wanted piece word reply back
+
+-- Full: there was no piece, or the book is full, and the piece is in hand as it was found
+abbrev pub IsHandUnasked : GateId → Option BlankView → Option BlankView → Type 0
+IsHandUnasked gate hand None = hand ≡ None
+IsHandUnasked gate hand (Some back) = back ≡ piece_of gate hand
+
+-- a change of a domain's limit: with the word, which is the gate's answer in this very call to the
+-- client's own piece, or none
+pub record MakesLimit (id : SessionId) (c c' : ClientView) (d limit : ℕ)
+    (answer : Answer) : Type 0 where
+  pub word : Option ℕ
+  pub made : Makes c c' (made_by d (Limit limit word) answer)
+  pub reply : IfOk answer
+      (IsLimitReply d (length (cpus_of id d)) id.limit limit (piece_of id.gate c.hand) word c'.hand)
+  pub unasked : IfErr answer (λ _. IsHandUnasked id.gate c.hand c'.hand)
 
 -- an advance: the entry tells how many ticks were made, at least one and at most as many as were
 -- asked for

@@ -1,6 +1,5 @@
 -- Within which limits a scenario is run (own).
-use Rattle.std.specs.Prelude.{◌≡◌, ◌+◌, ◌*◌, ◌≤◌, ◌<◌, length, map, All}
-use Rattle.attr_check.specs.Ratio.{cap}
+use Rattle.std.specs.Prelude.{◌≡◌, ◌+◌, ◌*◌, ◌≤◌, ◌<◌, length, All}
 use Rattle.bw_gate.specs.Terms.{TermsView}
 use Rattle.domain_run.specs.Domain.{IsCpus, IsLimit}
 use Rattle.session.specs.SessionId.{SessionId, cpu_sets_from}
@@ -18,10 +17,10 @@ pub record AreOptions (o : Options) : Type 0 where
   pub some_history : 0 < o.history
   pub short_history : o.history ≤ 65536
 
--- the gate's terms: the cap of each domain's word, and 256 pieces a domain and one a client
+-- the gate's terms: the CPUs of each domain, and 256 pieces a domain and one a client
 abbrev pub terms_of : Options → TermsView
 terms_of o = record {
-  caps = map (λ cpus. cap cpus o.limit) o.domains.items;
+  cpus = o.domains.items;
   pieces = length o.domains.items * 256 + o.clients;
 }
 

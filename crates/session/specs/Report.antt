@@ -1,5 +1,6 @@
 -- What a session leaves at its end (own).
 use Rattle.std.specs.Prelude.{◌≡◌, ℕ, ◌≤◌, List, [], length, All, slice_index, slice_index_or}
+use Rattle.bw_gate.specs.Word.{IsCap}
 use Rattle.domain_run.specs.Tick.{sum_of}
 use Rattle.domain_run.specs.Run.{run_of}
 use Rattle.call_book.specs.SectionView.{SectionView}
@@ -7,7 +8,7 @@ use Rattle.call_book.specs.OwnCalls.{IsNumbered}
 use Rattle.call_book.specs.Limits.{IsSection}
 use Rattle.call_book.specs.Book.{IsMember, IsLegal, own_entries, calls_of}
 use Rattle.session.specs.declared.report.Report.{Report}
-use Rattle.session.specs.SessionId.{SessionId, IsDomainIndex, cpus_of, cap_in}
+use Rattle.session.specs.SessionId.{SessionId, IsDomainIndex, cpus_of}
 use Rattle.session.specs.Asks.{ClientView, pass_in}
 
 -- the history of a domain: it is legal, each client's entries are numbered in their order, no
@@ -27,9 +28,9 @@ pub record IsHistoryOf (id : SessionId) (d : ℕ) (clients : List ClientView)
 abbrev pub sum_left : SectionView → ℕ
 sum_left s = sum_of (run_of s.cpus s.limit (calls_of s.entries)).tasks
 
--- the histories of all domains, in their order; and the words, which have room for what the listed
--- tasks have, are at most their caps, and are exactly what these tasks have where all pieces came
--- home
+-- the histories of all domains, in their order; and what each word carried as used, which has room
+-- for what the listed tasks have, is at most the cap that the same word carried, which the domain's
+-- CPUs can have, and is exactly what these tasks have where all pieces came home
 pub record IsLeft (id : SessionId) (clients : List ClientView) (r : Report) : Type 0 where
   pub count : length r.histories.items ≡ length id.cpu_sets
   pub histories : (d : ℕ) (x : SectionView) → IsDomainIndex id d
@@ -37,7 +38,11 @@ pub record IsLeft (id : SessionId) (clients : List ClientView) (r : Report) : Ty
   pub words : length r.words.items ≡ length id.cpu_sets
   pub room : (d : ℕ) (x : SectionView) → IsDomainIndex id d
       → sum_left (slice_index_or r.histories.items d x) ≤ slice_index r.words.items d
-  pub capped : (d : ℕ) → IsDomainIndex id d → slice_index r.words.items d ≤ cap_in id d
+  pub caps : length r.caps.items ≡ length id.cpu_sets
+  pub a_cap : (d : ℕ) → IsDomainIndex id d
+      → IsCap (length (cpus_of id d)) (slice_index r.caps.items d)
+  pub capped : (d : ℕ) → IsDomainIndex id d
+      → slice_index r.words.items d ≤ slice_index r.caps.items d
   pub exact : r.home ≡ id.gate.terms.pieces
       → (d : ℕ) (x : SectionView) → IsDomainIndex id d
       → slice_index r.words.items d ≡ sum_left (slice_index_or r.histories.items d x)

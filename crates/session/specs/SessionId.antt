@@ -3,7 +3,8 @@ use Rattle.std.specs.Prelude.{◌≡◌, ℕ, ◌+◌, ◌≤◌, ◌<◌, List,
 use Rattle.std.specs.List.{range_with_len}
 use Rattle.attr_check.specs.Ratio.{cap}
 use Rattle.atomic_table.specs.Seated.{TableId}
-use Rattle.bw_gate.specs.Pieces.{GateId, cap_of}
+use Rattle.bw_gate.specs.Terms.{cpus_in}
+use Rattle.bw_gate.specs.Pieces.{GateId}
 use Rattle.domain_run.specs.Domain.{IsLimit}
 
 pub record SessionId : Type 0 where
@@ -12,7 +13,7 @@ pub record SessionId : Type 0 where
   pub spines : List TableId
   -- the CPUs of the machine that each has
   pub cpu_sets : List (List ℕ)
-  -- what may be given away of each CPU, in 1/2^20
+  -- what may be given away of each CPU at its opening, in 1/2^20
   pub limit : ℕ
   -- its clients are 1 to so many
   pub clients : ℕ
@@ -35,7 +36,7 @@ no_session = record {
           offset = 0;
           slot_names = [];
         };
-    terms = record { caps = []; pieces = 0 };
+    terms = record { cpus = []; pieces = 0 };
   };
   spines = [];
   cpu_sets = [];
@@ -53,7 +54,7 @@ spine_of id d = slice_index_or id.spines d id.gate.table
 abbrev pub cpus_of : SessionId → ℕ → List ℕ
 cpus_of id d = slice_index_or id.cpu_sets d []
 
--- what a domain's word is at most
+-- the cap that a domain is opened with
 abbrev pub cap_in : SessionId → ℕ → ℕ
 cap_in id d = cap (length (cpus_of id d)) id.limit
 
@@ -66,8 +67,8 @@ abbrev pub cpu_sets_from : ℕ → List ℕ → List (List ℕ)
 cpu_sets_from base [] = []
 cpu_sets_from base (cpus ∷ domains) = range_with_len base cpus ∷ cpu_sets_from (base + cpus) domains
 
--- what each session keeps: 1 to 8 domains, each of 1 to 64 CPUs, the limits of State, and a cap for
--- each domain's word that the gate has too
+-- what each session keeps: 1 to 8 domains, each of 1 to 64 CPUs, the limits of State, and for each
+-- domain a word of the gate, which has as many CPUs
 pub record IsSession (id : SessionId) : Type 0 where
   pub some : 0 < length id.cpu_sets
   pub few : length id.cpu_sets ≤ 8
@@ -76,5 +77,5 @@ pub record IsSession (id : SessionId) : Type 0 where
   pub limit : IsLimit id.limit
   pub clients : id.clients ≤ 64
   pub books : length id.spines ≡ length id.cpu_sets
-  pub words : length id.gate.terms.caps ≡ length id.cpu_sets
-  pub caps : (d : ℕ) → IsDomainIndex id d → cap_of id.gate d ≡ cap_in id d
+  pub words : length id.gate.terms.cpus ≡ length id.cpu_sets
+  pub machines : (d : ℕ) → IsDomainIndex id d → cpus_in id.gate.terms d ≡ length (cpus_of id d)

@@ -3,10 +3,11 @@
 ghost use Rattle.std.specs.Prelude.{◌≡◌, Some, None, IfSome, IfNone, IfErr, OnOk, IsSome, Ok, Err, [], ◌∷◌, length};
 ghost use Rattle.attr_check.specs.Accepted.{accepted, params_of};
 ghost use Rattle.domain_run.specs.declared.call.Call.TheVariants as calls;
+ghost use Rattle.domain_run.specs.Domain.{IsLimit};
 ghost use Rattle.call_book.specs.Limits.{IsCall};
 ghost use Rattle.call_book.specs.Book.{IsMember, IsFull, admission, own_entries};
-ghost use Rattle.session.specs.SessionId.{IsSession, IsDomainIndex, cap_in, spine_of};
-ghost use Rattle.session.specs.Asks.{Asks, call_of, pass_in, Makes, made_by, MakesRegrade, MakesAdvance, RefusesOnlyFull, RefusesOnlyFullOrMemory, IsLastFound, piece_of, AsksGate, IsHandAfter};
+ghost use Rattle.session.specs.SessionId.{IsSession, IsDomainIndex, cpus_of, spine_of};
+ghost use Rattle.session.specs.Asks.{Asks, call_of, pass_in, Makes, made_by, MakesRegrade, MakesLimit, MakesAdvance, RefusesOnlyFull, RefusesOnlyFullOrMemory, IsLastFound, piece_of, AsksGate, IsHandAfter};
 ghost use Rattle.session.specs.Clients.{IsNew};
 ghost use Rattle.session.specs.private.Parts.{IsHand};
 ghost use Rattle.session.specs.private.Entering.{IsAdvancedFor, IsAsk, IsDoneFor, IsVerdict, IsSessionBook};
@@ -21,7 +22,7 @@ use crate::parts::Hand;
 use crate::refusal::{Answer, Refusal};
 use crate::shared::{Shared, Shares};
 use attr_check::{Params, check};
-use bw_gate::{Blank, Gate, Take};
+use bw_gate::{Blank, Gate, Take, used_of};
 use call_book::{AdvanceError, Domain, NoMemory, Pass, Prepared, prepare};
 use domain_run::Reply;
 use rtapp_scenario::TaskSpec;
@@ -222,8 +223,8 @@ impl<N: Names> Client<N> {
         at_place!(shared.books, place, book => self.enter_book(rt, book, gate, ask))
     }
 
-    /// A piece for an admission to a domain: the one in the client's hand, or else one of the pool,
-    /// or else one that the domain keeps.
+    /// A piece for an admission to a domain, or a change of its limit: the one in the client's hand,
+    /// or else one of the pool, or else one that the domain keeps.
     fn find_blank<R: Wait>(&mut self, rt: &R, shared: &Shared<N>, place: usize) -> Option<Blank>
         requires place { IsDomainIndex N.id place }
         ensures same { self.new ≡ record self.old { hand = None } }
@@ -249,7 +250,7 @@ impl<N: Names> Client<N> {
         requires place { IsDomainIndex N.id place }
         requires own { blank.gate ≡ N.id.gate }
         ensures made { Makes self.old self.new (made_by place (admission prepared) result) }
-        ensures verdict { IsVerdict (cap_in N.id place) prepared.params.bw result }
+        ensures verdict { IsVerdict (length (cpus_of N.id place)) prepared.params.bw result }
         ensures last { IsLastFound self.new.hand result }
         ensures gate { AsksGate N.id.gate place prepared.params.bw (Some blank) result self.new.hand }
     {
@@ -257,9 +258,11 @@ impl<N: Names> Client<N> {
             Take::Taken(ticket) => {
                 self.enter_at(rt, shared, place, Ask::Admit { prepared, ticket })
             }
-            Take::Refused { blank, seen } => {
+            Take::Refused { blank, seen: word } => {
                 self.hand = Some(blank);
-                Err(Refusal::Busy { seen })
+                Err(Refusal::Busy {
+                    seen: used_of(word),
+                })
             }
             Take::Raced { .. } => unreachable!(),
         }
@@ -281,7 +284,7 @@ impl<N: Names> Client<N> {
         requires checked { accepted task.now.attr ≡ Ok params }
         requires own { blank.gate ≡ N.id.gate }
         ensures made { Makes self.old self.new (made_by place (call_of task.now) result) }
-        ensures verdict { IsVerdict (cap_in N.id place) (params_of task.now.attr).bw result }
+        ensures verdict { IsVerdict (length (cpus_of N.id place)) (params_of task.now.attr).bw result }
         ensures last { IsLastFound self.new.hand result }
         ensures gate { AsksGate N.id.gate place (params_of task.now.attr).bw
             (Some blank) result self.new.hand }
@@ -315,7 +318,7 @@ impl<N: Names> Client<N> {
         requires place { IsDomainIndex N.id place }
         requires checked { accepted task.now.attr ≡ Ok params }
         ensures made { Makes self.old self.new (made_by place (call_of task.now) result) }
-        ensures verdict { IsVerdict (cap_in N.id place) (params_of task.now.attr).bw result }
+        ensures verdict { IsVerdict (length (cpus_of N.id place)) (params_of task.now.attr).bw result }
         ensures last { IsLastFound self.new.hand result }
         ensures gate { AsksGate N.id.gate place (params_of task.now.attr).bw
             self.old.hand result self.new.hand }
@@ -409,6 +412,32 @@ impl<N: Names> Client<N> {
         ensures full { RefusesOnlyFull result }
     {
         self.enter_at(rt, session.shares(), domain, Ask::Leave { number })
+    }
+
+    /// Sets what a domain may give away of each CPU, 10485 to 1048576 in 1/2^20, as
+    /// [`Domain::limit`](call_book::Domain::limit) does: it stands for a write to
+    /// sched_rt_runtime_us (sched-deadline.rst, "System wide settings"). The gate's word is asked
+    /// by a piece as an admission has it: the one in the client's hand, or else one of the pool, or
+    /// else one that the domain keeps. It is in the hand then. `Full` where there is none, or where
+    /// the book is full: nothing has changed. `Set` and `Busy` (EBUSY 16, by the sum of bandwidths
+    /// or by the word) stand in the book. It waits as an admission does.
+    pub fn limit<S: Shares<N>, R: Wait>(
+        &mut self,
+        rt: &R,
+        session: &S,
+        domain: usize,
+        limit: u64,
+    ) -> Answer
+        requires domain { IsDomainIndex N.id domain }
+        requires limit { IsLimit limit }
+        ensures made { MakesLimit N.id self.old self.new domain limit result }
+        ensures full { RefusesOnlyFull result }
+    {
+        let shared = session.shares();
+        match self.find_blank(rt, shared, domain) {
+            Some(blank) => self.enter_at(rt, shared, domain, Ask::Limit { blank, limit }),
+            None => Err(Refusal::Full),
+        }
     }
 
     /// Makes up to `ticks` ticks of a domain, 1 to 60000000, as

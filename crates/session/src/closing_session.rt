@@ -78,15 +78,18 @@ struct Ended {
     state: State,
 }
 
-/// Closes a book: its history and its state, and its pieces go home.
+/// Closes a book, which was opened with this limit: its history and its state, and its pieces go
+/// home.
 fn close_book<N: Names>(
     alloc: Global,
     mut domain: Domain,
     clients: &mut Vec<Client<N>>,
     place: usize,
+    limit: u64,
     home: &mut Home<N>,
 ) -> Ended
     requires session { IsSession N.id }
+    requires limit { limit ≡ N.id.limit }
     requires named { IsSessionBook N.id place domain }
     requires room { length home.old.tickets.items + 256 ≤ vec_capacity home.old.tickets }
     ensures history { IsHistoryOf N.id place clients.new.items result.history }
@@ -110,7 +113,7 @@ fn close_book<N: Names>(
     pour_blanks::<N>(&mut home.blanks, blanks);
     let history = Section {
         cpus: state.cpus(),
-        limit: state.limit(),
+        limit,
         entries,
     };
     Ended { history, state }
@@ -120,12 +123,14 @@ fn close_book<N: Names>(
 fn close_all<N: Names>(
     alloc: Global,
     books: Vec<Domain>,
+    limit: u64,
     clients: &mut Vec<Client<N>>,
     home: &mut Home<N>,
     histories: &mut Vec<Section>,
     states: &mut Vec<State>,
 )
     requires session { IsSession N.id }
+    requires limit { limit ≡ N.id.limit }
     requires named { AreSessionBooks N.id books.items }
     requires count { length books.items ≡ length N.id.cpu_sets }
     requires pieces { home.old.tickets.items ≡ [] }
@@ -142,7 +147,7 @@ fn close_all<N: Names>(
     let mut rest = books.into_iter();
     while let Some(domain) = rest.next() {
         let place = histories.len();
-        let Ended { history, state } = close_book(alloc, domain, clients, place, home);
+        let Ended { history, state } = close_book(alloc, domain, clients, place, limit, home);
         histories.push_reserved(history);
         states.push_reserved(state);
     }
@@ -155,6 +160,7 @@ pub(crate) struct Room {
     histories: Vec<Section>,
     states: Vec<State>,
     words: Vec<u64>,
+    caps: Vec<u64>,
     refused: Vec<(u32, Refusal)>,
 }
 
@@ -167,6 +173,7 @@ impl Room {
         let histories = Vec::with_capacity(alloc, domains)?;
         let states = Vec::with_capacity(alloc, domains)?;
         let words = Vec::with_capacity(alloc, domains)?;
+        let caps = Vec::with_capacity(alloc, domains)?;
         let Ok(tickets) = Vec::with_capacity(alloc, domains * PIECES) else {
             return Err(NoMemory);
         };
@@ -175,6 +182,7 @@ impl Room {
             histories,
             states,
             words,
+            caps,
             refused: Vec::new(alloc),
         })
     }
@@ -216,17 +224,17 @@ pub(crate) fn pour_waiting<N: Names>(home: &mut Vec<Blank>, mut hands: Vec<Optio
     }
 }
 
-/// The words of a closed gate.
-fn put_words(closed: &Words, words: &mut Vec<u64>)
-    requires empty { words.old.items ≡ [] }
-    requires count { closed.now.count ≤ 8 }
-    requires room { closed.now.count ≤ vec_capacity words.old }
-    ensures count { length words.new.items ≡ closed.now.count }
-    ensures words { (d : ℕ) → d < closed.now.count →
-        slice_index words.new.items d ≡ slice_index closed.now.word d }
+/// The first so many numbers of a row: what is used of the words of a closed gate, or their caps.
+fn put_row(row: &[u64; 8], count: usize, numbers: &mut Vec<u64>)
+    requires empty { numbers.old.items ≡ [] }
+    requires count { count ≤ 8 }
+    requires room { count ≤ vec_capacity numbers.old }
+    ensures count { length numbers.new.items ≡ count }
+    ensures numbers { (d : ℕ) → d < count →
+        slice_index numbers.new.items d ≡ slice_index row.now d }
 {
-    for d in 0..closed.count {
-        words.push_reserved(closed.word[d]);
+    for d in 0..count {
+        numbers.push_reserved(row[d]);
     }
 }
 
@@ -235,10 +243,12 @@ fn put_words(closed: &Words, words: &mut Vec<u64>)
 pub(crate) struct Unlocked<N: Names> {
     pub(crate) gate: Gate,
     pub(crate) books: Vec<Domain>,
+    limit: u64,
     blanks: Vec<Blank>,
     room: Room,
     of: PhantomData<N>,
     ghost session: { IsSession N.id },
+    ghost same_limit: { limit ≡ N.id.limit },
     ghost same_gate: { gate ≡ N.id.gate },
     ghost count: { length books.items ≡ length N.id.cpu_sets },
     ghost named: { AreSessionBooks N.id books.items },
@@ -247,8 +257,15 @@ pub(crate) struct Unlocked<N: Names> {
 }
 
 impl<N: Names> Unlocked<N> {
-    pub(crate) fn new(gate: Gate, books: Vec<Domain>, blanks: Vec<Blank>, room: Room) -> Unlocked<N>
+    pub(crate) fn new(
+        gate: Gate,
+        books: Vec<Domain>,
+        limit: u64,
+        blanks: Vec<Blank>,
+        room: Room,
+    ) -> Unlocked<N>
         requires session { IsSession N.id }
+        requires limit { limit ≡ N.id.limit }
         requires gate { gate ≡ N.id.gate }
         requires count { length books.items ≡ length N.id.cpu_sets }
         requires named { AreSessionBooks N.id books.items }
@@ -258,6 +275,7 @@ impl<N: Names> Unlocked<N> {
         Unlocked {
             gate,
             books,
+            limit,
             blanks,
             room,
             of: PhantomData,
@@ -272,6 +290,7 @@ impl<N: Names> Unlocked<N> {
         let Unlocked {
             gate,
             books,
+            limit,
             blanks,
             room,
             of: _,
@@ -281,6 +300,7 @@ impl<N: Names> Unlocked<N> {
             mut histories,
             mut states,
             mut words,
+            mut caps,
             refused,
         } = room;
         let mut home = Home {
@@ -291,6 +311,7 @@ impl<N: Names> Unlocked<N> {
         close_all(
             alloc,
             books,
+            limit,
             &mut clients,
             &mut home,
             &mut histories,
@@ -303,11 +324,14 @@ impl<N: Names> Unlocked<N> {
         } = home;
         pour_hands(&mut blanks, clients);
         let home = blanks.len() + tickets.len();
-        put_words(&gate.close(blanks, tickets), &mut words);
+        let Words { count, word, cap } = gate.close(blanks, tickets);
+        put_row(&word, count, &mut words);
+        put_row(&cap, count, &mut caps);
         let report = Report {
             histories,
             refused,
             words,
+            caps,
             home,
         };
         Finished { report, states }

@@ -1,19 +1,19 @@
 //! One domain of a session, behind its lock, and what a client may ask of it.
 
-ghost use Rattle.std.specs.Prelude.{◌≡◌, None, IfSome, IfOk, IfErr, Ok, Err};
-ghost use Rattle.attr_check.specs.Ratio.{cap};
+ghost use Rattle.std.specs.Prelude.{◌≡◌, Some, None, IfSome, IsSome, IfOk, IfErr, Ok, Err};
 ghost use Rattle.domain_run.specs.declared.call.Call.TheVariants as calls;
-ghost use Rattle.call_book.specs.Book.{IsPassOf, IsMember};
+ghost use Rattle.domain_run.specs.Domain.{IsLimit};
+ghost use Rattle.call_book.specs.Book.{IsPassOf, IsMember, admission};
 ghost use Rattle.call_book.specs.Limits.{IsCall};
 ghost use Rattle.call_book.specs.Pieces.{IsTicketOf};
 ghost use Rattle.session.specs.SessionId.{IsSession, spine_of};
-ghost use Rattle.session.specs.private.Entering.{IsSessionBook, SameBook, IsAsk, IsGivenBack, NoneIsKept, IsDone, IsOffered, IsReplied, IsRegradedBy, IsAdvancedBy};
+ghost use Rattle.session.specs.private.Entering.{IsSessionBook, SameBook, IsAsk, IsGivenBack, NoneIsKept, IsDone, IsOffered, IsReplied, IsRegradedBy, limit_answer, limit_back, IsLimitedBy, IsAdvancedBy, IsWhyNotAdmitted, IsWhyNotMade, IsWhyNot};
 
 use crate::names::Names;
 use crate::refusal::{Answer, Refusal};
 use attr_check::Params;
 use bw_gate::{Blank, Gate, Ticket};
-use call_book::{Admit, AdvanceError, Domain, Full, Pass, Prepared};
+use call_book::{Admit, AdvanceError, Domain, Full, Limit, Pass, Prepared};
 use domain_run::Reply;
 use std::marker::PhantomData;
 use std::sync::Wait;
@@ -25,6 +25,7 @@ pub(crate) enum Ask {
     Regrade { number: u32, params: Params },
     Wake { number: u32 },
     Leave { number: u32 },
+    Limit { blank: Blank, limit: u64 },
 }
 
 /// What a call came to, and the blank that it left to the client, where it left one.
@@ -53,9 +54,9 @@ fn admit(
     requires ticket { IsTicketOf domain.old.gate domain.old.domain ticket }
     requires bw { ticket.bw ≡ prepared.params.bw }
     ensures same { SameBook domain.old domain.new }
-    ensures offered { let most = cap domain.old.cpus domain.old.limit in
-        IsOffered most pass.old pass.new prepared result.answer }
+    ensures offered { IsOffered domain.old.cpus pass.old pass.new prepared result.answer }
     ensures given { IsGivenBack ticket result.answer result.blank }
+    ensures told { IsWhyNotAdmitted domain.old (admission prepared) result.answer }
     ensures own { IfSome result.blank (λ b. b.gate ≡ gate.now) }
 {
     match domain.admit(pass, prepared, ticket) {
@@ -84,7 +85,7 @@ fn admit(
     }
 }
 
-/// What a call other than an admission came to: it leaves no blank.
+/// What a call on a listed task came to: it leaves no blank.
 fn outcome_of(made: Result<Reply, Full>) -> Outcome
     ensures ok { IfOk made (λ reply. result.answer ≡ Ok reply) }
     ensures err { IfErr made (λ _. result.answer ≡ Err Refusal.Full) }
@@ -114,6 +115,7 @@ fn regrade<R: Wait>(
     ensures same { SameBook domain.old domain.new }
     ensures replied { IsRegradedBy domain.old.gate domain.old.domain domain.old.cpus domain.old.limit
         pass.old pass.new number params result.answer }
+    ensures told { IsWhyNotMade domain.old result.answer }
     ensures own { result.blank ≡ None }
 {
     outcome_of(domain.regrade(rt, pass, gate, number, params))
@@ -124,6 +126,7 @@ fn wake(domain: &mut Domain, pass: &mut Pass, number: u32) -> Outcome
     requires call { IsCall (calls.Wake number) }
     ensures same { SameBook domain.old domain.new }
     ensures replied { IsReplied pass.old pass.new (calls.Wake number) result.answer }
+    ensures told { IsWhyNotMade domain.old result.answer }
     ensures own { result.blank ≡ None }
 {
     outcome_of(domain.wake(pass, number))
@@ -134,9 +137,49 @@ fn leave(domain: &mut Domain, pass: &mut Pass, number: u32) -> Outcome
     requires call { IsCall (calls.Leave number) }
     ensures same { SameBook domain.old domain.new }
     ensures replied { IsReplied pass.old pass.new (calls.Leave number) result.answer }
+    ensures told { IsWhyNotMade domain.old result.answer }
     ensures own { result.blank ≡ None }
 {
     outcome_of(domain.leave(pass, number))
+}
+
+/// What a change of the limit came to: it leaves the blank that was handed in.
+fn outcome_of_limit(made: Limit) -> Outcome
+    ensures answer { result.answer ≡ limit_answer made }
+    ensures blank { result.blank ≡ Some (limit_back made) }
+{
+    let (answer, blank) = match made {
+        Limit::Set { blank } => (Ok(Reply::Set), blank),
+        Limit::Busy { blank, seen } => (Ok(Reply::Busy { seen }), blank),
+        Limit::Full { blank } => (Err(Refusal::Full), blank),
+    };
+    Outcome {
+        answer,
+        blank: Some(blank),
+    }
+}
+
+/// Sets the limit; the blank comes back.
+fn set_limit<R: Wait>(
+    rt: &R,
+    domain: &mut Domain,
+    gate: &Gate,
+    pass: &mut Pass,
+    blank: Blank,
+    limit: u64,
+) -> Outcome
+    requires gate { gate.now ≡ domain.old.gate }
+    requires pass { IsPassOf domain.old pass.old }
+    requires blank { blank.gate ≡ gate.now }
+    requires limit { IsLimit limit }
+    ensures same { SameBook domain.old domain.new }
+    ensures limited { IsLimitedBy domain.old.domain domain.old.cpus domain.old.limit
+        pass.old pass.new blank limit result.answer result.blank }
+    ensures told { IsWhyNotMade domain.old result.answer }
+    ensures some { IsSome result.blank }
+    ensures own { IfSome result.blank (λ b. b.gate ≡ gate.now) }
+{
+    outcome_of_limit(domain.limit(rt, pass, gate, blank, limit))
 }
 
 impl<N: Names, const D: usize> LockedBook<N, D> {
@@ -157,7 +200,7 @@ impl<N: Names, const D: usize> LockedBook<N, D> {
         domain
     }
 
-    /// Makes a call with a client's pass.
+    /// Makes a call with a client's pass. A refusal is told of the book as it was.
     pub(crate) fn make<R: Wait>(
         &mut self,
         rt: &R,
@@ -170,8 +213,9 @@ impl<N: Names, const D: usize> LockedBook<N, D> {
         requires pass { pass.old.spine ≡ spine_of N.id D }
         requires member { IsMember N.id.clients pass.old.client }
         requires ask { IsAsk N.id D ask }
-        ensures done { IsDone N.id D pass.old pass.new ask result.answer }
+        ensures done { IsDone N.id D pass.old pass.new ask result.answer result.blank }
         ensures given { NoneIsKept ask result.answer result.blank }
+        ensures told { IsWhyNot self.old.domain ask result.answer }
         ensures own { IfSome result.blank (λ b. b.gate ≡ N.id.gate) }
     {
         let domain = &mut self.domain;
@@ -180,6 +224,7 @@ impl<N: Names, const D: usize> LockedBook<N, D> {
             Ask::Regrade { number, params } => regrade(rt, domain, gate, pass, number, params),
             Ask::Wake { number } => wake(domain, pass, number),
             Ask::Leave { number } => leave(domain, pass, number),
+            Ask::Limit { blank, limit } => set_limit(rt, domain, gate, pass, blank, limit),
         }
     }
 
@@ -195,7 +240,8 @@ impl<N: Names, const D: usize> LockedBook<N, D> {
         requires pass { pass.old.spine ≡ spine_of N.id D }
         requires member { IsMember N.id.clients pass.old.client }
         requires call { IsCall (calls.Advance ticks) }
-        ensures { IsAdvancedBy pass.old pass.new ticks result }
+        ensures made { IsAdvancedBy pass.old pass.new ticks result }
+        ensures told { IsWhyNotMade self.old.domain result }
     {
         match self.domain.advance(rt, pass, gate, ticks) {
             Ok(reply) => Ok(reply),

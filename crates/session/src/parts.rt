@@ -10,7 +10,7 @@ ghost use Rattle.session.specs.SessionId.{cpu_sets_from};
 ghost use Rattle.session.specs.private.Parts.{AreHands, HaveRoom, HaveRoomForOne, AreNewPasses, AreBooks, AreBlanksOf};
 
 use crate::options::Options;
-use bw_gate::{Blank, Gate, Ticket};
+use bw_gate::{Blank, Gate, Room, Ticket};
 use call_book::{Closed, Domain, NoMemory, Pass};
 use std::alloc::Global;
 use std::marker::Model;
@@ -88,13 +88,16 @@ fn gate_of(alloc: Global, options: &Options) -> Result<(Gate, Vec<Blank>), NoMem
     ensures blanks { IfOk result (λ r. AreBlanksOf r.0 r.1.items) }
 {
     let count = options.domains.len();
-    let mut caps = [0; 8];
+    let mut rooms = [Room { cpus: 1, limit: 0 }; 8];
     for d in 0..count {
-        caps[d] = options.domains[d] as u64 * options.limit;
+        rooms[d] = Room {
+            cpus: options.domains[d] as u64,
+            limit: options.limit,
+        };
     }
     match Gate::open(
         alloc,
-        &caps[..count],
+        &rooms[..count],
         count * PIECES + options.clients as usize,
     ) {
         Ok(opened) => Ok(opened),

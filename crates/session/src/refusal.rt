@@ -19,7 +19,7 @@ pub enum Refusal {
     /// EBUSY 16: the bandwidth found does not leave enough below the cap (sched-deadline.rst,
     /// "Bandwidth management").
     Busy {
-        /// The bandwidth found, in 1/2^20 of a CPU.
+        /// The bandwidth found in use, in 1/2^20 of a CPU: of the gate's word, what was used of it.
         seen: u64,
     },
 }

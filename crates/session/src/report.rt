@@ -10,8 +10,11 @@ pub struct Report {
     /// The tasks that were refused, by number. A session's end leaves it empty; who ran a scenario
     /// fills it.
     pub refused: Vec<(u32, Refusal)>,
-    /// The bandwidth word of each domain, in 1/2^20 of a CPU.
+    /// What was used of the bandwidth word of each domain, in 1/2^20 of a CPU.
     pub words: Vec<u64>,
+    /// The cap that each of these words carried: the domain's CPUs times its limit, which is
+    /// 10485 to 1048576.
+    pub caps: Vec<u64>,
     /// How many pieces came to the gate's end: where it is 256 a domain and one a client, all did.
     pub home: usize,
 }

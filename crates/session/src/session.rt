@@ -24,8 +24,11 @@ use std::marker::Model;
 pub struct Session<N: Names> {
     pub(crate) shared: Shared<N>,
     pub(crate) hands: Vec<Option<Hand>>,
+    // The limit with which its domains were opened.
+    pub(crate) limit: u64,
     // Where the domains stood before, and will stand when their locks are gone.
     pub(crate) room: Vec<Domain>,
+    ghost same_limit: { limit ≡ N.id.limit },
     ghost empty: { room.items ≡ [] },
     ghost enough: { length N.id.cpu_sets ≤ vec_capacity room },
 }
@@ -59,7 +62,7 @@ impl<N: Names> Session<N> {
         let Parts {
             gate,
             cpu_sets,
-            limit: _,
+            limit,
             history: _,
             workers: _,
             mut books,
@@ -75,6 +78,7 @@ impl<N: Names> Session<N> {
         Session {
             shared,
             hands,
+            limit,
             room: books,
         }
     }
@@ -131,6 +135,7 @@ impl<N: Names> Session<N> {
         let Session {
             shared,
             hands,
+            limit,
             room,
         } = self;
         let Shared {
@@ -146,7 +151,7 @@ impl<N: Names> Session<N> {
         };
         let mut blanks = pool.into_blanks();
         pour_waiting::<N>(&mut blanks, hands);
-        Ok(Unlocked::new(gate, books, blanks, room))
+        Ok(Unlocked::new(gate, books, limit, blanks, room))
     }
 
     /// Ends the session where it is of no use any more; what tickets it holds go back to the gate.
@@ -154,6 +159,7 @@ impl<N: Names> Session<N> {
         let Session {
             shared,
             hands: _,
+            limit: _,
             room,
         } = self;
         let Shared {

@@ -1,5 +1,6 @@
 //! Sessions whose clients make calls, one after the other and at once.
 
+mod changing;
 mod clients;
 mod opening;
 mod storm;

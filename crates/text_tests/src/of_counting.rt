@@ -74,6 +74,16 @@ fn a_write_is_one_call(rt: HostRuntime) {
     }
 }
 
+// A text is written in as few calls as its writer takes, and none of them is a flush.
+#[test]
+fn a_text_is_three_writes(rt: HostRuntime) {
+    let mut writer = Counted::new(Taker::new(rt.alloc(), 4, usize::MAX, None));
+    assert!(rt; writer.write_all(b"abcdefghi").is_ok());
+    let writer = writer.into_inner();
+    assert_eq!(rt; writer.calls, 3);
+    assert_eq!(rt; writer.taken.as_slice(), b"abcdefghi".as_slice());
+}
+
 // Neither a writer that would fail at once nor one with room is called for an empty text.
 #[test]
 fn an_empty_text_makes_no_write(rt: HostRuntime) -> Result<(), Fail> {

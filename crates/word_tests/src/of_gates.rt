@@ -1,8 +1,9 @@
 ghost use Rattle.std.specs.Prelude.{◌≡◌, ◌<◌, ◌≤◌, ◌^◌, length, All, IfOk};
 ghost use Rattle.bw_world.specs.WorldStep.{unit};
-ghost use Rattle.bw_gate.specs.Pieces.{cap_of};
+ghost use Rattle.bw_gate.specs.Word.{IsLimit};
+ghost use Rattle.bw_gate.specs.Pieces.{cpus_of};
 
-use bw_gate::{Blank, Gate, Regrade, Take, Ticket};
+use bw_gate::{Blank, Gate, Limit, Regrade, Room, Take, Ticket, cap_of, used_of};
 use bw_world::NoMemory;
 use std::alloc::Global;
 use std::process::Abort;
@@ -11,13 +12,13 @@ use std::test::Fail;
 
 mod threads;
 
-// A gate of one domain.
-fn opened(alloc: Global, cap: u64, n: usize) -> Result<(Gate, Vec<Blank>), NoMemory>
-    requires { (cap ≤ 2 ^ 26) × (0 < n) × (n ≤ 4096) }
-    ensures one { IfOk result (λ r. (length r.0.terms.caps ≡ 1) × (cap_of r.0 0 ≡ cap)) }
+// A gate of one domain of one CPU.
+fn opened(alloc: Global, limit: u64, n: usize) -> Result<(Gate, Vec<Blank>), NoMemory>
+    requires { IsLimit limit × (0 < n) × (n ≤ 4096) }
+    ensures one { IfOk result (λ r. (length r.0.terms.cpus ≡ 1) × (cpus_of r.0 0 ≡ 1)) }
     ensures own { IfOk result (λ r. All (λ b. b.gate ≡ r.0) r.1.items) }
 {
-    Gate::open(alloc, &[cap], n)
+    Gate::open(alloc, &[Room { cpus: 1, limit }], n)
 }
 
 // The next blank of a gate.
@@ -34,7 +35,7 @@ fn next(rt: &impl Abort, gate: &Gate, blanks: &mut Vec<Blank>) -> Blank
 
 // A ticket that is taken at once.
 fn ticket(rt: &impl Abort, gate: &Gate, blank: Blank, bw: u64) -> Ticket
-    requires { (blank.gate ≡ gate.now) × (length gate.now.terms.caps ≡ 1) × (bw ≤ unit) }
+    requires { (blank.gate ≡ gate.now) × (length gate.now.terms.cpus ≡ 1) × (bw ≤ unit) }
     ensures { result.gate ≡ gate.now }
 {
     match gate.try_take(blank, 0, bw) {
@@ -48,9 +49,9 @@ fn ticket(rt: &impl Abort, gate: &Gate, blank: Blank, bw: u64) -> Ticket
     }
 }
 
-// A blank whose try is refused, with the word that was seen.
+// A blank whose try is refused, with what was used of the word that was seen.
 fn refused(rt: &impl Abort, gate: &Gate, blank: Blank, bw: u64) -> (Blank, u64)
-    requires { (blank.gate ≡ gate.now) × (length gate.now.terms.caps ≡ 1) × (bw ≤ unit) }
+    requires { (blank.gate ≡ gate.now) × (length gate.now.terms.cpus ≡ 1) × (bw ≤ unit) }
     ensures { result.0.gate ≡ gate.now }
 {
     match gate.try_take(blank, 0, bw) {
@@ -58,7 +59,7 @@ fn refused(rt: &impl Abort, gate: &Gate, blank: Blank, bw: u64) -> (Blank, u64)
             let blank = gate.give(ticket);
             panic!(rt; "taken at {}", blank.last())
         }
-        Take::Refused { blank, seen } => (blank, seen),
+        Take::Refused { blank, seen } => (blank, used_of(seen)),
         Take::Raced {
             blank: _,
             expected: _,
@@ -136,14 +137,14 @@ fn regrade_changes_and_is_refused(rt: HostRuntime) -> Result<(), Fail> {
     let mut tickets = Vec::with_capacity(rt.alloc(), 1)?;
     let quarter = ticket(&rt, &gate, next(&rt, &gate, &mut blanks), 262144);
     let half = tried(&gate, quarter, 524288);
-    let first = (half.domain(), half.bw(), half.last());
+    let first = (half.domain(), half.bw(), used_of(half.last()));
     let kept = regraded(&rt, &gate, half, 1048576);
-    let second = (kept.bw(), kept.last());
-    let terms = (gate.pieces(), gate.cap(0));
+    let second = (kept.bw(), used_of(kept.last()));
+    let terms = (gate.pieces(), gate.cpus(0));
     tickets.push_reserved(kept);
     let words = gate.close(blanks, tickets);
     assert_eq!(rt; (first, second), ((0, 524288, 262144), (524288, 524288)));
-    assert_eq!(rt; (terms, words.word[0]), ((1, 524288), 524288));
+    assert_eq!(rt; (terms, words.word[0]), ((1, 1), 524288));
     Ok(())
 }
 
@@ -158,5 +159,50 @@ fn refused_growth_of_open(rt: HostRuntime) -> Result<(), Fail> {
     let count = blanks.len();
     let words = gate.close(blanks, Vec::new(rt.alloc()));
     assert_eq!(rt; (count, words.word[0]), (4096, 0));
+    Ok(())
+}
+
+// A blank after it set a limit or was refused, with whether it was set, and its last word's parts.
+fn limited(rt: &impl Wait, gate: &Gate, blank: Blank, limit: u64) -> (Blank, (bool, u64, u64))
+    requires { (blank.gate ≡ gate.now) × (length gate.now.terms.cpus ≡ 1) × IsLimit limit }
+    ensures { result.0.gate ≡ gate.now }
+{
+    let (blank, set) = match gate.limit(rt, blank, 0, limit) {
+        Limit::Set(blank) => (blank, true),
+        Limit::Refused { blank, seen: _ } => (blank, false),
+        Limit::Raced {
+            blank,
+            expected: _,
+            seen: _,
+        } => (blank, false),
+    };
+    let last = blank.last();
+    (blank, (set, cap_of(last), used_of(last)))
+}
+
+// limit_calls: of half a CPU a quarter is used. An eighth is refused and a quarter is set, which
+// leaves no room; after a whole CPU is set, there is.
+#[test]
+fn limit_calls(rt: HostRuntime) -> Result<(), Fail> {
+    let (gate, mut blanks) = opened(rt.alloc(), 524288, 3)?;
+    let mut home = Vec::with_capacity(rt.alloc(), 1)?;
+    let mut tickets = Vec::with_capacity(rt.alloc(), 2)?;
+    tickets.push_reserved(ticket(&rt, &gate, next(&rt, &gate, &mut blanks), 262144));
+    let (blank, low) = limited(&rt, &gate, next(&rt, &gate, &mut blanks), 131072);
+    let (blank, even) = limited(&rt, &gate, blank, 262144);
+    let (other, full) = refused(&rt, &gate, next(&rt, &gate, &mut blanks), 262144);
+    let (blank, high) = limited(&rt, &gate, blank, 1048576);
+    let mut second = ticket(&rt, &gate, other, 262144);
+    let word = gate.load(&mut second);
+    tickets.push_reserved(second);
+    home.push_reserved(blank);
+    let words = gate.close(home, tickets);
+    assert_eq!(rt;
+        (low, even),
+        ((false, 524288, 262144), (true, 262144, 262144))
+    );
+    assert_eq!(rt; (full, high), (262144, (true, 1048576, 262144)));
+    let end = (word, words.word[0], words.cap[0]);
+    assert_eq!(rt; end, (4503599627894784, 524288, 1048576));
     Ok(())
 }

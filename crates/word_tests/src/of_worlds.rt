@@ -1,16 +1,21 @@
-use bw_world::{NoMemory, Outcome, Step, World};
+use bw_world::{NoMemory, Outcome, Step, Word, World};
 use std::alloc::Global;
 use std::process::Abort;
 use std::test::Fail;
 
+// A word of half a CPU.
+fn half(used: u64) -> Word {
+    Word { cap: 524288, used }
+}
+
 // Each step of the worked row, and its answer.
 fn world_steps() -> [(Step, Outcome); 10] {
     [
-        (Step::Load { domain: 0 }, Outcome::Saw(0)),
+        (Step::Load { domain: 0 }, Outcome::Saw(half(0))),
         (take(1, 262144, 0), Outcome::Done),
-        (take(2, 262144, 0), Outcome::Lost(262144)),
+        (take(2, 262144, 0), Outcome::Lost(half(262144))),
         (take(2, 262144, 262144), Outcome::Done),
-        (take(3, 1, 524288), Outcome::Over(524288)),
+        (take(3, 1, 524288), Outcome::Over(half(524288))),
         (enter(1, 7), Outcome::Done),
         (Step::Give { ticket: 1 }, Outcome::Not),
         (regrade(1, 131072, 524288), Outcome::Done),
@@ -19,12 +24,12 @@ fn world_steps() -> [(Step, Outcome); 10] {
     ]
 }
 
-fn take(ticket: u64, bw: u64, expected: u64) -> Step {
+fn take(ticket: u64, bw: u64, used: u64) -> Step {
     Step::Take {
         ticket,
         domain: 0,
         bw,
-        expected,
+        expected: half(used),
     }
 }
 
@@ -32,10 +37,18 @@ fn enter(ticket: u64, number: u32) -> Step {
     Step::Enter { ticket, number }
 }
 
-fn regrade(ticket: u64, bw: u64, expected: u64) -> Step {
+fn regrade(ticket: u64, bw: u64, used: u64) -> Step {
     Step::Regrade {
         ticket,
         bw,
+        expected: half(used),
+    }
+}
+
+fn limit(cap: u64, expected: Word) -> Step {
+    Step::Limit {
+        domain: 0,
+        cap,
         expected,
     }
 }
@@ -107,6 +120,28 @@ fn refused_growth_of_full_lists(rt: HostRuntime) -> Result<(), Fail> {
     }
     for word in 5..15u64 {
         assert_answer(&rt, &mut world, regrade(1, word - 3, word), Outcome::Done);
+    }
+    Ok(())
+}
+
+// The limit of half a CPU goes down to what is used, which leaves no room, and then up.
+#[test]
+fn limit_steps(rt: HostRuntime) -> Result<(), Fail> {
+    let mut world = opened(rt.alloc())?;
+    let quarter = Word {
+        cap: 262144,
+        used: 262144,
+    };
+    let steps = [
+        (take(1, 262144, 0), Outcome::Done),
+        (limit(131072, half(262144)), Outcome::Over(half(262144))),
+        (limit(262144, half(262144)), Outcome::Done),
+        (take(2, 1, 262144), Outcome::Lost(quarter)),
+        (limit(67108865, quarter), Outcome::Not),
+        (limit(67108864, quarter), Outcome::Done),
+    ];
+    for (step, outcome) in steps {
+        assert_answer(&rt, &mut world, step, outcome);
     }
     Ok(())
 }

@@ -8,6 +8,7 @@ ghost use Rattle.call_book.specs.Limits.{IsCall, IsNumber};
 ghost use Rattle.call_book.specs.Book.{IsMember};
 ghost use Rattle.call_book.specs.Pieces.{IsTicketOf};
 
+use super::room_of;
 use attr_check::Params;
 use bw_gate::{Blank, Gate, Take, Ticket};
 use call_book::{Admit, Closed, Domain, Pass, Prepared, prepare};
@@ -31,7 +32,7 @@ pub(super) trait Naming {
 impl Naming for Brand {
     ghost gate = { record {
       table = record { words = 0; slots = 0; views_name = 0; atom = 0; block = 0; offset = 0; slot_names = [] };
-      terms = record { caps = []; pieces = 0 };
+      terms = record { cpus = []; pieces = 0 };
     } };
 
     ghost spine = { record {
@@ -55,7 +56,7 @@ pub(super) struct Opened {
     pub(super) blanks: Vec<Blank>,
     pub(super) ghost own: { domain.gate ≡ gate },
     pub(super) ghost first: { domain.domain ≡ 0 },
-    pub(super) ghost some: { 0 < length gate.terms.caps },
+    pub(super) ghost some: { 0 < length gate.terms.cpus },
     pub(super) ghost passes_own: { All (λ p. (p.spine ≡ domain.spine) × IsMember domain.clients p.client) passes.items },
     pub(super) ghost blanks_own: { All (λ b. b.gate ≡ gate) blanks.items },
 }
@@ -75,7 +76,7 @@ impl Opened {
         requires history { (0 < history) × (history ≤ 65536) }
         ensures { IfOk result (λ o. o.domain.clients ≡ clients) }
     {
-        let Ok((gate, blanks)) = Gate::open(alloc, &[u64::from(cpus) * 1048576], pieces) else {
+        let Ok((gate, blanks)) = Gate::open(alloc, &[room_of(cpus, 1048576)], pieces) else {
             return Err(NoMemory);
         };
         let (domain, passes) = Domain::open(alloc, &gate, 0, cpus, 1048576, clients, history)?;
@@ -247,7 +248,7 @@ pub(super) fn hall<N: Naming>(
     requires book { opened.domain.spine ≡ N.spine }
     requires clients { opened.domain.clients ≡ N.clients }
     ensures gate { result.0 ≡ N.gate }
-    ensures some { 0 < length result.0.terms.caps }
+    ensures some { 0 < length result.0.terms.cpus }
 {
     let Opened {
         gate,
@@ -299,7 +300,7 @@ pub(super) fn admitted<N: Naming, R: Wait>(
     prepared: Prepared,
 ) -> bool
     requires own { gate.now ≡ N.gate }
-    requires some { 0 < length gate.now.terms.caps }
+    requires some { 0 < length gate.now.terms.cpus }
 {
     let Some(blank) = next_blank(rt, book, client) else {
         return false;

@@ -52,7 +52,7 @@ fn round<N: Naming, R: Threads + Wait>(
     number: u32,
 )
     requires own { gate.now ≡ N.gate }
-    requires some { 0 < length gate.now.terms.caps }
+    requires some { 0 < length gate.now.terms.cpus }
     requires calls { All IsEntry calls.now }
     requires number { IsNumber number }
 {
@@ -80,7 +80,7 @@ fn rounds<N: Naming, R: Threads + Wait>(
     calls: &[Entry],
 ) -> Client<N>
     requires own { gate.now ≡ N.gate }
-    requires some { 0 < length gate.now.terms.caps }
+    requires some { 0 < length gate.now.terms.cpus }
     requires calls { All IsEntry calls.now }
     requires few { N.clients ≤ 64 }
 {
@@ -102,7 +102,7 @@ fn run_all<N: Naming + Send + Sync, R: Threads + Wait + Sync>(
     calls: &[Entry],
 ) -> Result<(), NoMemory>
     requires own { gate.now ≡ N.gate }
-    requires some { 0 < length gate.now.terms.caps }
+    requires some { 0 < length gate.now.terms.cpus }
     requires calls { All IsEntry calls.now }
     requires few { N.clients ≤ 64 }
 {
@@ -112,7 +112,7 @@ fn run_all<N: Naming + Send + Sync, R: Threads + Wait + Sync>(
         rt,
         clients,
         &|client: Client<N>| -> Client<N>
-            requires { (gate.now ≡ N.gate) × (0 < length gate.now.terms.caps) × (N.clients ≤ 64)
+            requires { (gate.now ≡ N.gate) × (0 < length gate.now.terms.cpus) × (N.clients ≤ 64)
                 × All IsEntry calls.now }
         { rounds(rt, alloc, gate, book, here, client, calls) },
     )?;

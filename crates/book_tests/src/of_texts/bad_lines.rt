@@ -4,7 +4,7 @@ use std::test::Fail;
 
 /// The first of these lines, with `;` between each two, that is not bad as line `n` behind this
 /// text.
-fn first_read<'a>(
+pub(super) fn first_read<'a>(
     alloc: Global,
     front: &str,
     n: u64,
@@ -19,7 +19,8 @@ fn first_read<'a>(
     Ok(None)
 }
 
-const HEADERS: &str = "dlcalls 2;dlcalls 1 ;dlcalls  1; dlcalls 1;dlcalls 1\r;dlcalls 01;dlcalls;";
+const HEADERS: &str =
+    "dlcalls 3;dlcalls 0;dlcalls 12;dlcalls 2 ;dlcalls  2; dlcalls 2;dlcalls 2\r;dlcalls 02;dlcalls 1 ;dlcalls  1; dlcalls 1;dlcalls 1\r;dlcalls 01;dlcalls;";
 
 const DOMAINS: &str = "domain 0 1048576;domain 65 1048576;domain 01 1048576;domain +1 1048576;\
     domain 1 10484;domain 1 1048577;domain 1 01048576;domain 1 1048576 ;domain 1 1048576 1;\

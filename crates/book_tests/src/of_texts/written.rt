@@ -58,7 +58,7 @@ fn refused_by_the_word(rt: HostRuntime) -> Result<(), Fail> {
 }
 
 /// A text that is read is written again as it was.
-fn is_written_again(alloc: Global, text: &str) -> Result<bool, Fail> {
+pub(super) fn is_written_again(alloc: Global, text: &str) -> Result<bool, Fail> {
     let sections = read_calls(alloc, text.as_bytes())?;
     let again = write_calls(alloc, sections.as_slice())?;
     Ok(again.as_slice() == text.as_bytes())

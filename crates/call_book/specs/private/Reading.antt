@@ -11,15 +11,13 @@ use Rattle.domain_run.specs.declared.script.Event.{Event}
 use Rattle.domain_run.specs.declared.script.Event.TheVariants.{Run, Sleep, Timer, Wait}
 use Rattle.domain_run.specs.script.ScriptView.{PhaseView, ScriptView, script_of}
 use Rattle.domain_run.specs.declared.call.Call.{Call}
-use Rattle.domain_run.specs.declared.call.Call.TheVariants.{Admit, Regrade, Wake, Leave, Advance}
+use Rattle.domain_run.specs.declared.call.Call.TheVariants.{Admit, Regrade, Wake, Leave, Advance, Limit}
 use Rattle.call_book.specs.declared.fault.PartFault.{PartFault}
 use Rattle.call_book.specs.declared.fault.PartFault.TheVariants.{Bad, Memory}
-use Rattle.call_book.specs.declared.fault.CallsFault.{CallsFault}
-use Rattle.call_book.specs.declared.fault.CallsFault.TheVariants as faults
 use Rattle.call_book.specs.declared.times.Times.{Times}
 use Rattle.call_book.specs.declared.section.Entry.{Entry}
 use Rattle.call_book.specs.SectionView.{SectionView}
-use Rattle.call_book.specs.Spelling.{entry_line, domain_line, section_lines, text_of}
+use Rattle.call_book.specs.Spelling.{entry_line, domain_line, section_lines, is_limit, some_limit, has_limit, text_of}
 use Rattle.call_book.specs.OwnCalls.{IsNumbered, made_by}
 use Rattle.call_book.specs.Limits.{IsClient, IsEntry}
 
@@ -199,7 +197,8 @@ admit_at text = do
   plan ← plan_at flag.1
   Some (Admit number.0 named params plan.0 plan.1)
 
--- behind the flag of a regrade that the bandwidth word refused: the number with which it did
+-- behind the flag of a regrade and the limit of a change that the bandwidth word refused: the
+-- number with which it did
 unfoldable pub seen_at : List ℕ → Option ℕ
 seen_at text = do
   p ← cut_at 32 text
@@ -232,6 +231,23 @@ numbered_at most call text = do
   n ← number_within_at 1 most text
   Some (call n)
 
+abbrev pub change : ℕ → Option ℕ → Option (ℕ × Option ℕ)
+change limit word = Some (limit, word)
+
+-- a new limit, and with what the bandwidth word refused it, where it did
+unfoldable pub change_at : List ℕ → Option (ℕ × Option ℕ)
+change_at text =
+    option_map_or
+    (λ p. number_within_at 10485 1048576 p.0 >>= λ limit. seen_at p.1
+    >>= λ seen. change limit (Some seen))
+    (cut_at 32 text) (number_within_at 10485 1048576 text >>= λ limit. change limit None)
+
+-- what follows the client in a change of the limit
+unfoldable pub limit_at : List ℕ → Option Call
+limit_at text = do
+  c ← change_at text
+  Some (Limit c.0 c.1)
+
 -- what follows the client, in a call of this word
 unfoldable pub worded_at : List ℕ → List ℕ → Option Call
 worded_at word text =
@@ -240,7 +256,7 @@ worded_at word text =
     else (if bytes_eq word (codes "wake") then numbered_at 65535 Wake text
     else (if bytes_eq word (codes "leave") then numbered_at 65535 Leave text
     else (if bytes_eq word (codes "advance") then numbered_at 60000000 Advance text
-    else None))))
+    else (if bytes_eq word (codes "limit") then limit_at text else None)))))
 
 unfoldable pub call_at : List ℕ → Option (ℕ × Call)
 call_at line = do
@@ -248,6 +264,18 @@ call_at line = do
   client ← field_at 1 64 word.1
   call ← worded_at word.0 client.1
   Some (client.0, call)
+
+-- behind a header that has changes of a limit or has none
+unfoldable pub known_at : Bool → List ℕ → Option (ℕ × Call)
+known_at limits line = do
+  p ← call_at line
+  if is_limit p.1 && not limits then None else Some p
+
+-- whether the limit of a domain changes in a text with this header
+unfoldable pub header_at : List ℕ → Option Bool
+header_at line =
+    if bytes_eq line (codes "dlcalls 1") then Some false
+    else (if bytes_eq line (codes "dlcalls 2") then Some true else None)
 
 -- the CPUs and the limit of a domain
 unfoldable pub domain_at : List ℕ → Option (ℕ × ℕ)
@@ -257,12 +285,11 @@ domain_at line = do
   limit ← number_within_at 10485 1048576 cpus.1
   if bytes_eq word.0 (codes "domain") then Some (cpus.0, limit) else None
 
--- a part that is bad makes its line bad
-abbrev pub fault_from : ℕ → PartFault → CallsFault
-fault_from n Bad = faults.BadLine n
-fault_from n Memory = faults.Memory
-
 -- ---- the entries of a section
+
+-- behind a header that has no changes of a limit there is none
+abbrev pub Knows : Bool → Bool → Type 0
+Knows limits has = limits ≡ false → has ≡ false
 
 pub record IsEntryRead (e : Entry) : Type 0 where
   pub within : IsEntry e
@@ -272,8 +299,9 @@ abbrev pub entries_text : List Entry → List ℕ
 entries_text entries = text_of (map entry_line entries)
 
 -- the text is that of these entries, and then the rest
-pub record SoFar (text rest : List ℕ) (entries : List Entry) : Type 0 where
+pub record SoFar (limits : Bool) (text rest : List ℕ) (entries : List Entry) : Type 0 where
   pub parts : text ≡ entries_text entries ++ rest
+  pub known : Knows limits (some_limit entries)
   pub each : AllByRecursion IsEntryRead entries
   pub numbered : IsNumbered entries
 
@@ -283,22 +311,23 @@ Counts made entries =
     (client : ℕ) → IsClient client → slice_index made (client - 1) ≡ made_by client entries
 
 -- the entry of a line, where a client made so many calls before
-pub record IsNext (line : List ℕ) (made : List ℕ) (e : Entry) : Type 0 where
-  pub call : call_at line ≡ Some (e.client, e.call)
+pub record IsNext (limits : Bool) (line : List ℕ) (made : List ℕ) (e : Entry) : Type 0 where
+  pub call : known_at limits line ≡ Some (e.client, e.call)
   pub client : IsClient e.client
   pub no_reply : e.reply ≡ None
   pub seq : e.seq ≡ slice_index made (e.client - 1)
 
 -- the text does not begin with the line of an entry
-abbrev pub LacksEntry : List ℕ → Type 0
-LacksEntry text =
-    (e : Entry) (after : List ℕ) → IsEntryRead e → text ≡ entry_line e ++ 10 ∷ after → ⊥
+abbrev pub LacksEntry : Bool → List ℕ → Type 0
+LacksEntry limits text =
+    (e : Entry) (after : List ℕ) → IsEntryRead e → Knows limits (is_limit e.call)
+    → text ≡ entry_line e ++ 10 ∷ after → ⊥
 
 -- the entries at the front of a text: as many as stand there, and as a section may have
-pub record AreEntries (text rest : List ℕ) (entries : List Entry) : Type 0 where
-  pub so_far : SoFar text rest entries
+pub record AreEntries (limits : Bool) (text rest : List ℕ) (entries : List Entry) : Type 0 where
+  pub so_far : SoFar limits text rest entries
   pub few : length entries ≤ 65536
-  pub stops : length entries < 65536 → LacksEntry rest
+  pub stops : length entries < 65536 → LacksEntry limits rest
 
 -- ---- the sections of a text, from line 2 on
 
@@ -312,10 +341,11 @@ pub record IsSectionRead (s : SectionView) : Type 0 where
   pub numbered : IsNumbered s.entries
 
 -- the section at the front of a text, with as many entries as stand there, and as it may have
-pub record IsFirstSection (text rest : List ℕ) (s : SectionView) : Type 0 where
+pub record IsFirstSection (limits : Bool) (text rest : List ℕ) (s : SectionView) : Type 0 where
   pub parts : text ≡ text_of (section_lines s) ++ rest
   pub is : IsSectionRead s
-  pub stops : length s.entries < 65536 → LacksEntry rest
+  pub known : Knows limits (some_limit s.entries)
+  pub stops : length s.entries < 65536 → LacksEntry limits rest
 
 -- the text does not begin with the line of a domain
 abbrev pub LacksDomain : List ℕ → Type 0
@@ -336,28 +366,42 @@ HasRoom (s ∷ []) = length s.entries < 65536
 HasRoom (s ∷ t ∷ sections) = HasRoom (t ∷ sections)
 
 -- the text is that of these sections, and then the rest, which does not go on with the last of them
-pub record SectionsSoFar (text rest : List ℕ) (sections : List SectionView) : Type 0 where
+pub record SectionsSoFar (limits : Bool) (text rest : List ℕ) (sections : List SectionView)
+    : Type 0 where
   pub parts : text ≡ sections_text sections ++ rest
   pub each : AllByRecursion IsSectionRead sections
-  pub stops : HasRoom sections → LacksEntry rest
-  pub more : 0 < length sections → 0 < length rest
+  pub known : Knows limits (has_limit sections)
+  pub stops : HasRoom sections → LacksEntry limits rest
 
--- the text is that of these sections
-pub record AreSectionsOf (text : List ℕ) (sections : List SectionView) : Type 0 where
-  pub text_is : text ≡ sections_text sections
-  pub some : 0 < length sections
+-- the sections at the front of a text: as many as stand there, and as a text may have
+pub record AreSectionsOf (limits : Bool) (text rest : List ℕ) (sections : List SectionView)
+    : Type 0 where
+  pub so_far : SectionsSoFar limits text rest sections
   pub most : length sections ≤ 8
-  pub each : AllByRecursion IsSectionRead sections
-
--- after these sections more stands there, or there is none of them, and no further section follows
-pub record IsBadSectionLine (text : List ℕ) (n : ℕ) : Type 0 where
-  pub sections : List SectionView
-  pub rest : List ℕ
-  pub so_far : SectionsSoFar text rest sections
-  pub most : length sections ≤ 8
-  pub place : n ≡ length (flat_map section_lines sections) + 2
   pub ends : length sections < 8 → LacksDomain rest
 
-abbrev pub IsSectionsFault : List ℕ → CallsFault → Type 0
-IsSectionsFault text (faults.BadLine n) = IsBadSectionLine text n
-IsSectionsFault text faults.Memory = Unit {0}
+-- they are all of the text, and what its header says of them
+abbrev pub is_whole : Bool → List ℕ → List SectionView → Bool
+is_whole limits rest sections =
+    length rest == 0 && not (length sections == 0) && (not limits || has_limit sections)
+
+-- ---- the first bad line of a text that is not of sections alone
+
+-- the last section has as many calls as it may have
+abbrev pub last_full : List SectionView → Bool
+last_full [] = false
+last_full (s ∷ []) = length s.entries == 65536
+last_full (s ∷ t ∷ sections) = last_full (t ∷ sections)
+
+-- and there are as many sections as a text may have
+abbrev pub is_full : List SectionView → Bool
+is_full sections = length sections == 8 && last_full sections
+
+-- the header has changes of a limit, these sections have none, and none can follow
+abbrev pub is_stuck : Bool → List SectionView → Bool
+is_stuck limits sections = limits && not (has_limit sections) && is_full sections
+
+-- then the last of their lines is bad, and else the one behind it; the header is line 1
+abbrev pub bad_place : Bool → List SectionView → ℕ
+bad_place limits sections =
+    length (flat_map section_lines sections) + (if is_stuck limits sections then 1 else 2)

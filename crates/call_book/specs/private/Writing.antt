@@ -12,7 +12,7 @@ abbrev pub params_text : ParamsView → List ℕ
 params_text p =
     line_of (decimal p.runtime ∷ decimal p.deadline ∷ decimal p.period ∷ flag_text p ∷ [])
 
--- what follows them in a regrade
+-- what follows them in a regrade, and a new limit
 abbrev pub busy_text : Option ℕ → List ℕ
 busy_text None = []
 busy_text (Some seen) = codes " busy " ++ decimal seen

@@ -3,13 +3,13 @@
 ghost use Rattle.std.specs.Prelude.{◌≡◌, ◌<◌, ◌≤◌, ◌+◌, ◌^◌, ◌++◌, [], ℕ, length, map, All, IfOk, IfErr, IfSome, IfNone, slice_get};
 ghost use Rattle.std.specs.Option.{option_to_list};
 ghost use Rattle.attr_check.specs.Ratio.{cap};
-ghost use Rattle.bw_gate.specs.Pieces.{cap_of};
+ghost use Rattle.bw_gate.specs.Pieces.{cpus_of};
 ghost use Rattle.domain_run.specs.declared.call.Call.TheVariants as Call;
 ghost use Rattle.domain_run.specs.Tick as tick;
 ghost use Rattle.domain_run.specs.Domain.{IsLimit};
 ghost use Rattle.domain_run.specs.Keys.{AreKept};
 ghost use Rattle.call_book.specs.Pieces.{HoldsTickets};
-ghost use Rattle.call_book.specs.private.Kept.{IsAsked};
+ghost use Rattle.call_book.specs.private.Kept.{IsAsked, IsLimitAsked};
 
 use crate::book::Pass;
 use crate::book::ledger::Ledger;
@@ -17,7 +17,7 @@ use crate::book::prepared::{Listing, Prepared};
 use crate::book::stock::Stock;
 use crate::section::Entry;
 use attr_check::Params;
-use bw_gate::{Blank, Gate, Ticket};
+use bw_gate::{Blank, Gate, Ticket, used_of};
 use domain_run::{Call, NoMemory, Reply, State};
 use jump_run::Silent;
 use std::alloc::Global;
@@ -38,11 +38,14 @@ struct Workers {
 /// many calls; it is neither cloned nor dropped, but closed, since it holds tickets.
 pub struct Domain {
     cpus: u32,
+    // The limit at opening; what holds now is the state's.
     limit: u64,
     state: State,
     ledger: Ledger,
     stock: Stock,
     workers: Workers,
+    // The word that the last change of the limit left.
+    left: Option<u64>,
     // No contract sees it: it changes no answer.
     alloc: Global,
 }
@@ -53,9 +56,9 @@ impl Model for Domain {
 
     ghost Value = { BookView };
 
-    ghost view = { λ b. book_of b.cpus b.limit b.workers.count b.ledger b.stock };
+    ghost view = { λ b. book_of b.cpus b.limit b.workers.count b.left b.ledger b.stock };
 
-    ghost invariant = { λ b. IsBook (book_of b.cpus b.limit b.workers.count b.ledger b.stock) b.state };
+    ghost invariant = { λ b. IsBook (book_of b.cpus b.limit b.workers.count b.left b.ledger b.stock) b.state };
 }
 
 /// What [`Domain::admit`] answers.
@@ -86,6 +89,29 @@ pub enum Admit {
         ticket: Ticket,
         /// The admission, as it was.
         prepared: Prepared,
+    },
+}
+
+/// What [`Domain::limit`] answers.
+pub enum Limit {
+    /// The limit is the new one, in the gate's word and in the domain. The call stands in the
+    /// history.
+    Set {
+        /// The blank, which last found the word that was left.
+        blank: Blank,
+    },
+    /// EBUSY 16: more bandwidth is in use than the CPUs times the new limit, by the domain's own sum
+    /// or by the gate's word. Neither has changed. The call stands in the history.
+    Busy {
+        /// The blank, as it was but for what it found.
+        blank: Blank,
+        /// The bandwidth in use, in 1/2^20 of a CPU.
+        seen: u64,
+    },
+    /// 40: the history is full. Nothing has changed.
+    Full {
+        /// The blank, as it was.
+        blank: Blank,
     },
 }
 
@@ -147,11 +173,12 @@ impl Domain {
     ghost use Rattle.call_book.specs.Limits.{IsCall};
     ghost use Rattle.bw_gate.specs.Pieces.{sum_of};
     ghost use Rattle.call_book.specs.Pieces.{IsTicketOf, HoldsTickets};
-    ghost use Rattle.call_book.specs.Book.{own_entries, state_of, IsBookHistory, IsPassOf, EntersAlone, IsRefusedFull};
+    ghost use Rattle.call_book.specs.Book.{own_entries, state_of, HasItsLimit, IsBookHistory, IsPassOf, EntersAlone, IsRefusedFull};
     ghost use Rattle.call_book.specs.BookAnswers.{IsAdmit, IsRegraded, IsAdvanced, IsNotAdvanced};
+    ghost use Rattle.call_book.specs.LimitAnswers.{AnswersLimit, blank_of};
 
-    /// An empty book of one of the gate's domains, of 1 to 64 CPUs that may give away `limit` of
-    /// each (10485 to 1048576 in 1/2^20), so that the cap of its word is their product; with a pass
+    /// An empty book of one of the gate's domains, of its 1 to 64 CPUs, that may give away `limit`
+    /// of each (10485 to 1048576 in 1/2^20), with which the domain's word was opened; with a pass
     /// for each of 0 to 64 clients, numbered from 1, and room for 1 to 65536 calls and for 256
     /// tickets and blanks. [`NoMemory`] (ENOMEM 12) where a growth was refused: nothing stands.
     pub fn open(
@@ -165,7 +192,7 @@ impl Domain {
     ) -> Result<(Domain, Vec<Pass>), NoMemory>
         requires cpus { (0 < cpus) × (cpus ≤ 64) }
         requires limit { IsLimit limit }
-        requires cap { cap_of gate.now domain ≡ cap cpus limit }
+        requires machine { cpus_of gate.now domain ≡ cpus }
         requires clients { clients ≤ 64 }
         requires history { (0 < history) × (history ≤ 65536) }
         ensures book { IfOk result (λ r. r.0 ≡ record {
@@ -180,6 +207,7 @@ impl Domain {
           tickets = [];
           blanks = [];
           workers = 1;
+          left = None;
         }) }
         ensures count { IfOk result (λ r. length r.1.items ≡ clients) }
         ensures passes { IfOk result (λ r. (k : ℕ) → k < clients
@@ -197,6 +225,7 @@ impl Domain {
             stock,
             alloc,
             workers: Workers { count: 1 },
+            left: None,
         };
         Ok((book, passes))
     }
@@ -305,6 +334,45 @@ impl Domain {
         Ok(reply)
     }
 
+    /// Changes what the domain may give away of each CPU, 10485 to 1048576 in 1/2^20, as
+    /// [`State::set_limit`](domain_run::State::set_limit) does, in the gate's word too: it stands
+    /// for a write to sched_rt_runtime_us (sched-deadline.rst, "System wide settings"). Tested in
+    /// this order: the history is full; the sum of bandwidths is above CPUs times the new limit, and
+    /// then the word is not asked; more than that is used of the word, which is asked by
+    /// [`Gate::limit`](bw_gate::Gate::limit), again as long as other clients come between. Where it
+    /// is set, the word carries the new cap and the state has the new limit. The reply is entered, a
+    /// refusal too, and the blank comes back in each case. Takes no memory.
+    pub fn limit<R: Wait>(
+        &mut self,
+        rt: &R,
+        pass: &mut Pass,
+        gate: &Gate,
+        blank: Blank,
+        limit: u64,
+    ) -> Limit
+        requires pass { IsPassOf self.old pass.old }
+        requires gate { gate.now ≡ self.old.gate }
+        requires blank { blank.gate ≡ self.old.gate }
+        requires limit { IsLimit limit }
+        ensures answer { AnswersLimit self.old self.new pass.old pass.new limit blank result }
+        ensures own { (blank_of result).gate ≡ self.old.gate }
+    {
+        if self.ledger.is_full() {
+            return Limit::Full { blank };
+        }
+        let domain = self.stock.domain();
+        let (blank, word) = ask_limit(rt, gate, &self.state, domain, blank, limit);
+        let reply = self.state.set_limit(limit, word);
+        self.ledger.enter(pass, Call::Limit { limit, word }, reply);
+        match reply {
+            Reply::Busy { seen } => Limit::Busy { blank, seen },
+            _ => {
+                self.left = Some(blank.last());
+                Limit::Set { blank }
+            }
+        }
+    }
+
     /// Makes up to `n` ticks, 1 to 60000000, and enters how many were made: fewer only where a
     /// growth was refused. The tickets of tasks that went off the list are given back, and their
     /// blanks kept. It goes from event to event, by as many workers as [`Domain::set_workers`]
@@ -361,7 +429,9 @@ impl Domain {
     pub fn close(self, passes: Vec<Pass>) -> Closed
         requires { All (λ p. p.spine ≡ self.spine) passes.items }
         ensures state { result.state ≡ state_of self }
-        ensures machine { (result.state.cpus ≡ self.cpus) × (result.state.limit ≡ self.limit) }
+        ensures machine { (result.state.cpus ≡ self.cpus) × IsLimit result.state.limit }
+        ensures limited { HasItsLimit self }
+        ensures cpus { cpus_of self.gate self.domain ≡ self.cpus }
         ensures entries { result.entries.items ≡ self.history }
         ensures tickets { result.tickets.items ≡ map (λ h. h.ticket) self.tickets }
         ensures blanks { result.blanks.items ≡ self.blanks }
@@ -381,6 +451,7 @@ impl Domain {
             stock,
             alloc: _,
             workers: _,
+            left: _,
         } = self;
         ledger.agree_all(passes);
         let (tickets, blanks) = stock.into_pieces();
@@ -411,6 +482,35 @@ fn ask_word<R: Wait>(
         return None;
     }
     stock.regrade(rt, gate, number, params.bandwidth())
+}
+
+/// The blank asks the word for a limit where the domain's own test passes: the blank, and the number
+/// with which the word refused, where it did.
+fn ask_limit<R: Wait>(
+    rt: &R,
+    gate: &Gate,
+    state: &State,
+    domain: usize,
+    blank: Blank,
+    limit: u64,
+) -> (Blank, Option<u64>)
+    requires own { blank.gate ≡ gate.now }
+    requires machine { cpus_of gate.now domain ≡ state.now.cpus }
+    requires limit { IsLimit limit }
+    ensures { IsLimitAsked state.now gate.now domain limit blank result.0 result.1 }
+{
+    if !state.may_limit(limit) {
+        return (blank, None);
+    }
+    match gate.limit(rt, blank, domain, limit) {
+        bw_gate::Limit::Set(blank) => (blank, None),
+        bw_gate::Limit::Refused { blank, seen } => (blank, Some(used_of(seen))),
+        bw_gate::Limit::Raced {
+            blank,
+            expected: _,
+            seen: _,
+        } => (blank, None),
+    }
 }
 
 /// How many of so many ticks were made: fewer only where a growth was refused.

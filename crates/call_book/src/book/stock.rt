@@ -1,14 +1,14 @@
 //! The pieces of the gate in a book: a ticket for each listed task, and the blanks of tasks that
 //! have gone.
 
-ghost use Rattle.std.specs.Prelude.{◌≡◌, ◌<◌, ◌≤◌, ◌+◌, ◌^◌, ◌++◌, ◌∷◌, [], ℕ, length, map, filter, true, All, IfOk, IfSome, IfNone, List, vec_len, vec_capacity, slice_index_or};
+ghost use Rattle.std.specs.Prelude.{◌≡◌, ◌<◌, ◌≤◌, ◌+◌, ◌*◌, ◌^◌, ◌++◌, ◌∷◌, [], ℕ, length, map, filter, true, All, IfOk, IfSome, IfNone, List, vec_len, vec_capacity, slice_index_or};
 ghost use Rattle.std.specs.List.{list_any};
 ghost use Rattle.std.specs.Option.{option_to_list};
-ghost use Rattle.bw_gate.specs.Pieces.{BlankView, cap_of};
+ghost use Rattle.bw_gate.specs.Pieces.{BlankView, cpus_of};
 ghost use Rattle.call_book.specs.Pieces.{IsTicketOf, IsAnswered, AsksTheWord, ArePieces, HoldsTickets, is_held, is_kept, is_gone, AreGiven};
 ghost use Rattle.call_book.specs.declared.book.stock.Held.{Held};
 
-use bw_gate::{Blank, Gate, Mark, Regrade, Ticket};
+use bw_gate::{Blank, Gate, Mark, Regrade, Ticket, used_of};
 use domain_run::{NoMemory, State};
 use std::alloc::Global;
 use std::marker::Model;
@@ -72,6 +72,13 @@ impl Stock {
         })
     }
 
+    /// Which of the gate's domains it is.
+    pub(crate) fn domain(&self) -> usize
+        ensures { result ≡ self.now.domain }
+    {
+        self.domain
+    }
+
     /// Holds a ticket for a task.
     pub(crate) fn hold(&mut self, number: u32, ticket: Ticket)
         requires own { IsTicketOf self.old.gate self.old.domain ticket }
@@ -95,8 +102,8 @@ impl Stock {
         self.blanks.pop()
     }
 
-    /// The ticket of a task asks the gate for another bandwidth: the number with which the word
-    /// refused, where it did.
+    /// The ticket of a task asks the gate for another bandwidth: what is used of the word with which
+    /// it refused, where it did.
     pub(crate) fn regrade<R: Wait>(
         &mut self,
         rt: &R,
@@ -109,7 +116,7 @@ impl Stock {
         requires held { list_any (is_held number) self.old.tickets ≡ true }
         ensures stock { self.new ≡ record self.old { tickets = self.new.tickets } }
         ensures asked { AsksTheWord number bw self.old.tickets self.new.tickets result }
-        ensures within { IfSome result (λ seen. seen ≤ cap_of self.old.gate self.old.domain) }
+        ensures within { IfSome result (λ used. used ≤ cpus_of self.old.gate self.old.domain * 1048576) }
         ensures own { All (λ h. IsTicketOf self.old.gate self.old.domain h.ticket) self.old.tickets }
     {
         regrade_held(rt, gate, &mut self.held, number, bw)
@@ -172,7 +179,7 @@ fn ask<R: Wait>(rt: &R, gate: &Gate, ticket: Ticket, bw: u64) -> (Ticket, Option
 {
     match gate.regrade(rt, ticket, bw) {
         Regrade::Changed(ticket) => (ticket, None),
-        Regrade::Refused { ticket, seen } => (ticket, Some(seen)),
+        Regrade::Refused { ticket, seen } => (ticket, Some(used_of(seen))),
         Regrade::Raced {
             ticket,
             expected: _,

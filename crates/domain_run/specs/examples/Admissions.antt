@@ -3,8 +3,8 @@ use Rattle.std.specs.Prelude.{ℕ, ◌≡◌, List, [], ◌∷◌, Some, None, r
 use Rattle.domain_run.specs.declared.script.Event.TheVariants as event
 use Rattle.domain_run.specs.declared.switch.PrevState.TheVariants.{Running, Sleeping, Dead}
 use Rattle.domain_run.specs.declared.call.Call.{Call}
-use Rattle.domain_run.specs.declared.call.Call.TheVariants.{Regrade, Wake, Leave, Advance}
-use Rattle.domain_run.specs.declared.call.Reply.TheVariants.{Admitted, Changed, Woken, Left, Done, Twice, Busy, NotListed, NotWaiting}
+use Rattle.domain_run.specs.declared.call.Call.TheVariants.{Regrade, Wake, Leave, Advance, Limit}
+use Rattle.domain_run.specs.declared.call.Reply.TheVariants.{Admitted, Changed, Woken, Left, Done, Set, Twice, Busy, NotListed, NotWaiting}
 use Rattle.domain_run.specs.script.ScriptView.{ScriptView}
 use Rattle.domain_run.specs.Domain.{opened}
 use Rattle.domain_run.specs.Run.{run_of, replies_to}
@@ -85,6 +85,24 @@ regrade_by_the_word : replies_to (opened 1 524288)
     (admit 1 (plain 2 8 8) short ∷ Regrade 1 (plain 4 8 8) (Some 393216) ∷ [])
     ≡ Admitted ∷ Busy 393216 ∷ []
 regrade_by_the_word = refl
+
+-- THE LIMIT: not below what the tasks have; then it holds for admissions, up and down
+abbrev limits : List Call
+limits =
+    admit 1 (plain 2 8 8) short ∷ Limit 131072 None ∷ Limit 262144 None ∷ admit 2 (plain 2 8 8) short
+    ∷ Limit 1048576 None ∷ admit 3 (plain 2 8 8) short ∷ []
+
+limit_replies : replies_to (opened 1 524288) limits
+    ≡ Admitted ∷ Busy 262144 ∷ Set ∷ Busy 262144 ∷ Set ∷ Admitted ∷ []
+limit_replies = refl
+
+limit_sum : sum_after (run_of 1 524288 limits) ≡ 524288
+limit_sum = refl
+
+-- the domain's bandwidth word refuses what the sum would allow, and nothing changes
+limit_by_the_word : replies_to (opened 1 524288) (Limit 131072 (Some 262144) ∷ [])
+    ≡ Busy 262144 ∷ []
+limit_by_the_word = refl
 
 -- LEAVING KEEPS BANDWIDTH UNTIL ZERO LAG: it ends at 2, with 2 us left of 4 in 8, so its zero-lag
 -- time is 4

@@ -1,14 +1,15 @@
 -- Worked rows of whole runs.
-use Rattle.std.specs.Prelude.{ℕ, pos, neg_ℤ, ◌≡◌, [], ◌∷◌, Option, Some, None, refl}
+use Rattle.std.specs.Prelude.{ℕ, pos, neg_ℤ, ◌≡◌, List, [], ◌∷◌, Option, Some, None, option_map, refl}
 use Rattle.domain_run.specs.declared.script.Event.TheVariants.{Run, Sleep, Timer}
 use Rattle.cbs_rules.specs.declared.server.Server.{Server}
 use Rattle.domain_run.specs.declared.task.Condition.TheVariants.{Throttled, Blocked}
 use Rattle.domain_run.specs.declared.switch.PrevState.TheVariants.{Running, Preempted, Sleeping, Dead}
-use Rattle.domain_run.specs.declared.call.Call.TheVariants.{Advance}
+use Rattle.domain_run.specs.declared.call.Call.{Call}
+use Rattle.domain_run.specs.declared.call.Call.TheVariants.{Advance, Limit}
 use Rattle.domain_run.specs.Domain.{Domain}
-use Rattle.domain_run.specs.Tick.{begun}
+use Rattle.domain_run.specs.Tick.{begun, rate_of}
 use Rattle.domain_run.specs.Run.{run_of}
-use Rattle.domain_run.specs.examples.Calling.{plain, reclaiming, once, forever, admit, switch, sum_after, server_in, condition_in, zero_lag_in}
+use Rattle.domain_run.specs.examples.Calling.{plain, reclaiming, once, forever, admit, switch, sum_after, server_in, condition_in, zero_lag_in, task_in}
 
 abbrev left_by : ℕ → ℕ → Option Server
 left_by deadline left = Some (record { deadline = Some deadline; left = pos left })
@@ -124,6 +125,38 @@ carried_switches : (carried 25).switches
     ≡ switch 0 0 None Running (Some 1) ∷ switch 23 0 (Some 1) Preempted None
     ∷ switch 24 0 None Running (Some 1) ∷ []
 carried_switches = refl
+
+-- THE LIMIT CHANGES THE RATE: 524288 a tick while the whole CPU may be given away, and 699051 from 4
+-- on, where three quarters may; what was charged before stays charged
+abbrev slowed : List Call → Domain
+slowed more = run_of 1 1048576 (admit 1 (reclaiming 4 8 8) (once (Run 1000 ∷ [])) ∷ Advance 4 ∷ more)
+
+abbrev slower : ℕ → List Call
+slower n = Limit 786432 None ∷ Advance n ∷ []
+
+-- the rate of a task in the next tick
+abbrev rate_next : Domain → ℕ → Option ℕ
+rate_next d number = option_map (rate_of (begun d)) (task_in (begun d) number)
+
+slowed_rate_at_4 : rate_next (slowed []) 1 ≡ Some 524288
+slowed_rate_at_4 = refl
+
+slowed_rate_behind : rate_next (slowed (slower 0)) 1 ≡ Some 699051
+slowed_rate_behind = refl
+
+slowed_left_at_4 : server_in (slowed (slower 0)) 1 ≡ left_by 8 2097152
+slowed_left_at_4 = refl
+
+slowed_left_at_7 : server_in (slowed (slower 3)) 1 ≡ lacking 8 1
+slowed_left_at_7 = refl
+
+slowed_left_at_9 : server_in (slowed (slower 5)) 1 ≡ left_by 16 3495252
+slowed_left_at_9 = refl
+
+slowed_switches : (slowed (slower 5)).switches
+    ≡ switch 0 0 None Running (Some 1) ∷ switch 7 0 (Some 1) Preempted None
+    ∷ switch 8 0 None Running (Some 1) ∷ []
+slowed_switches = refl
 
 -- TWO CPUS: three tasks of one deadline. Task 2 belongs to CPU 0, task 1 to CPU 1; at 4 the second
 -- CPU goes to the third

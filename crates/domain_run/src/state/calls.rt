@@ -1,11 +1,12 @@
-//! The calls on a listed task: regrade, wake and leave.
+//! The calls on a listed task, regrade, wake and leave; and the change of the limit.
 
 ghost use Rattle.std.specs.Prelude.{◌≡◌, ◌↔◌, IsTrue, None, IfNone};
 ghost use Rattle.domain_run.specs.declared.call.Call.TheVariants as Call;
 ghost use Rattle.domain_run.specs.declared.call.Reply.TheVariants as Reply;
 ghost use Rattle.domain_run.specs.Calls as calls;
 ghost use Rattle.domain_run.specs.Sound.{IsDomain};
-ghost use Rattle.domain_run.specs.Busy.{IfBusy, LacksRoomToChange};
+ghost use Rattle.domain_run.specs.Busy.{IfBusy, LacksRoomToChange, IsAboveLimit};
+ghost use Rattle.domain_run.specs.Domain.{IsLimit};
 
 use super::State;
 use crate::call::Reply;
@@ -131,6 +132,54 @@ impl State {
         let reply = self.leave_reply(number);
         if reply == Reply::Left {
             self.end(number);
+        }
+        reply
+    }
+
+    /// The reply to a change of the limit, by the tests in their order.
+    fn limit_reply(&self, limit: u64, word: Option<u64>) -> Reply
+        requires limit { IsLimit limit }
+        ensures reply { result ≡ calls.limit_reply self.now limit word }
+        ensures busy { IfNone word (IfBusy result (IsAboveLimit self.now limit)) }
+    {
+        let sum = self.sum();
+        if sum > self.cpus as u64 * limit {
+            return Reply::Busy { seen: sum };
+        }
+        match word {
+            None => Reply::Set,
+            Some(found) => Reply::Busy { seen: found },
+        }
+    }
+
+    /// Whether the listed tasks fit below a new limit, 10485 to 1048576 in 1/2^20 of a CPU:
+    /// [`State::set_limit`] then answers [`Reply::Set`], unless the bandwidth word refused.
+    pub fn may_limit(&self, limit: u64) -> bool
+        requires limit { IsLimit limit }
+        ensures room { IsTrue result ↔ (calls.limit_reply self.now limit None ≡ Reply.Set) }
+        ensures domain { IsDomain self.now }
+    {
+        // For the prover alone: a look at the roster brings what its type keeps.
+        let _ = &self.roster;
+        self.limit_reply(limit, None) == Reply::Set
+    }
+
+    /// Changes what the domain may give away of each CPU, 10485 to 1048576 in 1/2^20, at the time
+    /// now: admissions, regrades and the rates of tasks that reclaim go by it from the next call or
+    /// tick on. Tested in this order: [`Reply::Busy`] with the sum of bandwidths where that sum is
+    /// above the number of CPUs times the new limit; `Busy` with the number with which the domain's
+    /// bandwidth word refused, where `word` says that it did; else [`Reply::Set`], and equality is
+    /// set (as a write to `sched_rt_runtime_us`, sched-deadline.rst). No task changes. Where it
+    /// refuses, nothing has changed. Takes no memory.
+    pub fn set_limit(&mut self, limit: u64, word: Option<u64>) -> Reply
+        requires limit { IsLimit limit }
+        ensures reply { result ≡ calls.reply_to self.old (Call.Limit limit word) }
+        ensures domain { self.new ≡ calls.after_call self.old (Call.Limit limit word) }
+        ensures busy { IfNone word (IfBusy result (IsAboveLimit self.old limit)) }
+    {
+        let reply = self.limit_reply(limit, word);
+        if reply == Reply::Set {
+            self.limit = limit;
         }
         reply
     }

@@ -4,6 +4,7 @@ use super::State;
 use crate::call::Reply;
 use crate::name::Name;
 use crate::script::{Event, Phase, Script};
+use crate::switch::Switch;
 use attr_check::{Params, SchedAttr, check};
 use std::alloc::{AllocError, Global};
 use std::test::Fail;
@@ -71,6 +72,7 @@ fn keeps_its_room(mut state: State, params: Params, task: Newcomer) -> bool {
         && state.regrade(1, params, None) == Reply::Changed
         && state.wake(1) == Reply::Woken
         && state.leave(1) == Reply::Left
+        && state.set_limit(524288, None) == Reply::Set
         && state.switches.capacity() == before
 }
 
@@ -93,5 +95,26 @@ fn asks_for_nothing(alloc: Global) -> Result<bool, Fail> {
 fn calls_take_no_memory(rt: HostRuntime) -> Result<(), Fail> {
     let kept = asks_for_nothing(rt.alloc())?;
     assert!(rt; kept);
+    Ok(())
+}
+
+/// The room for switches behind so many ticks of an empty domain of three CPUs.
+fn room_behind(alloc: Global, ticks: u64) -> Result<usize, Fail> {
+    let mut state = State::open(alloc, 3, 1048576)?;
+    for _ in 0..ticks {
+        if state.now() < 1 << 42 {
+            state.tick()?;
+        }
+    }
+    Ok(state.switches.capacity())
+}
+
+/// A tick makes room for a switch of each CPU, and for no more.
+#[test]
+fn a_tick_takes_room_for_its_switches_alone(rt: HostRuntime) -> Result<(), Fail> {
+    let mut room: Vec<Switch> = Vec::new(rt.alloc());
+    room.try_reserve(3)?;
+    assert_eq!(rt; room_behind(rt.alloc(), 1)?, room.capacity());
+    assert_eq!(rt; room_behind(rt.alloc(), 9)?, room.capacity());
     Ok(())
 }

@@ -1,5 +1,7 @@
-//! Worked rows, played on a domain: what comes of a list of calls. All but the last stand in
+//! Worked rows, played on a domain: what comes of a list of calls. All but the last two stand in
 //! `specs/examples` as equations too.
+
+mod limits;
 
 use crate::workers::{UNIT, Worker, forever, once, params, reclaiming, script, switch};
 use domain_run::{Event, Name, PrevState, Reply, State, Switch};
@@ -15,6 +17,7 @@ enum Step<'a> {
     Wake(u32),
     Leave(u32),
     Advance(u64),
+    Limit(u64, Option<u64>),
 }
 
 fn admit(alloc: Global, state: &mut State, number: u32, worker: Worker<'_>) -> Result<Reply, Fail> {
@@ -46,6 +49,7 @@ fn call(alloc: Global, state: &mut State, step: Step<'_>) -> Result<Reply, Fail>
         Step::Wake(number) => Ok(state.wake(number)),
         Step::Leave(number) => Ok(state.leave(number)),
         Step::Advance(ticks) => advance(state, ticks),
+        Step::Limit(limit, word) => Ok(state.set_limit(limit.clamp(10485, UNIT), word)),
     }
 }
 

@@ -1,4 +1,4 @@
-//! Jumps against single ticks: the same calls on two domains.
+//! Jumps against single ticks: the same calls on two domains, changes of the limit among them.
 
 use super::admit;
 use crate::workers::{UNIT, Worker, forever, params};
@@ -72,7 +72,7 @@ fn advance_both(pair: &mut Pair, ticks: u64) -> Result<Done, Fail> {
 
 fn call_both(alloc: Global, pair: &mut Pair, next: u32, draws: &mut Draws) -> Result<(), Fail> {
     let number = (draws.below(u64::from(next)) % 1024) as u32;
-    match draws.below(8) {
+    match draws.below(9) {
         0 | 1 => admit_both(alloc, pair, next, draws)?,
         2 => {
             let given = params((draws.below(6).saturating_add(2), 30, 40), true)?;
@@ -86,6 +86,11 @@ fn call_both(alloc: Global, pair: &mut Pair, next: u32, draws: &mut Draws) -> Re
         5 if draws.below(3) == 0 => {
             pair.jumping.leave(number);
             pair.ticking.leave(number);
+        }
+        6 => {
+            let limit = draws.below(UNIT).clamp(10485, UNIT);
+            pair.jumping.set_limit(limit, None);
+            pair.ticking.set_limit(limit, None);
         }
         _ => {
             advance_both(pair, draws.below(90))?;

@@ -44,8 +44,10 @@ pub record IsRoom (domains : ℕ) (r : Room) : Type 0 where
   pub no_histories : r.histories.items ≡ []
   pub no_states : r.states.items ≡ []
   pub no_words : r.words.items ≡ []
+  pub no_caps : r.caps.items ≡ []
   pub nobody : r.refused.items ≡ []
   pub for_tickets : domains * 256 ≤ vec_capacity r.tickets
   pub for_histories : domains ≤ vec_capacity r.histories
   pub for_states : domains ≤ vec_capacity r.states
   pub for_words : domains ≤ vec_capacity r.words
+  pub for_caps : domains ≤ vec_capacity r.caps

@@ -1,5 +1,5 @@
 -- What a call under a domain's lock comes to.
-use Rattle.std.specs.Prelude.{◌≡◌, ℕ, ◌+◌, ◌≤◌, ◌<◌, List, length, Option, None, IfSome, IsSome, IfOk, Ok, Err, slice_index_or}
+use Rattle.std.specs.Prelude.{◌≡◌, ◌⊎◌, ℕ, ◌≤◌, ◌<◌, List, length, Option, Some, None, IfSome, IsSome, IfOk, IfErr, Ok, Err, slice_index_or}
 use Rattle.attr_check.specs.ParamsView.{ParamsView}
 use Rattle.pass_seats.specs.Lists.{PassView}
 use Rattle.bw_gate.specs.Pieces.{GateId, BlankView, TicketView}
@@ -7,15 +7,19 @@ use Rattle.bw_gate.specs.Answers.{IsGive}
 use Rattle.domain_run.specs.declared.call.Call.{Call}
 use Rattle.domain_run.specs.declared.call.Call.TheVariants as calls
 use Rattle.domain_run.specs.declared.call.Reply.TheVariants as replies
+use Rattle.domain_run.specs.Calls.{reply_to}
+use Rattle.domain_run.specs.Domain.{IsLimit}
 use Rattle.call_book.specs.declared.section.Entry.{Entry}
+use Rattle.call_book.specs.declared.book.domain.Limit.{Limit}
+use Rattle.call_book.specs.declared.book.domain.Limit.TheVariants as limits
 use Rattle.call_book.specs.Pieces.{IsTicketOf}
 use Rattle.call_book.specs.Limits.{IsCall}
-use Rattle.call_book.specs.Book.{BookView, IsMember, AdmissionView, admission, with_entry}
+use Rattle.call_book.specs.Book.{BookView, IsMember, IsFull, AdmissionView, admission, state_of, with_entry}
 use Rattle.session.specs.declared.refusal.Refusal.TheVariants as refusals
 use Rattle.session.specs.declared.locked_book.Ask.{Ask}
 use Rattle.session.specs.declared.locked_book.Ask.TheVariants as asks
-use Rattle.session.specs.SessionId.{SessionId, cap_in, cpus_of, spine_of, IsDomainIndex}
-use Rattle.session.specs.Asks.{Answer, ClientView, Makes, made_by, IsRegradeReply, MakesRegrade, MakesAdvance, RefusesOnlyFull, RefusesOnlyFullOrMemory}
+use Rattle.session.specs.SessionId.{SessionId, cpus_of, spine_of, IsDomainIndex}
+use Rattle.session.specs.Asks.{Answer, ClientView, Makes, made_by, IsOverCap, IsRegradeReply, MakesRegrade, IsLimitReply, MakesAdvance, RefusesOnlyFull, RefusesOnlyFullOrMemory}
 
 -- the book of a domain of the session
 pub record IsSessionBook (id : SessionId) (d : ℕ) (b : BookView) : Type 0 where
@@ -52,31 +56,32 @@ IsAsk id d (asks.Admit prepared ticket) =
 IsAsk id d (asks.Regrade number params) = IsCall (calls.Regrade number params None)
 IsAsk id d (asks.Wake number) = IsCall (calls.Wake number)
 IsAsk id d (asks.Leave number) = IsCall (calls.Leave number)
+IsAsk id d (asks.Limit blank limit) = (blank.gate ≡ id.gate) × IsLimit limit
 
 -- the pass has the entry of a call where there is a reply, and is as it was where there is none
 abbrev pub pass_after : PassView Entry → Call → Answer → PassView Entry
 pass_after p call (Ok reply) = with_entry p call reply
 pass_after p call (Err refusal) = p
 
--- what an admission is answered by the book, below a cap
+-- what an admission of so much is answered by the book of so many CPUs
 abbrev pub IsBookVerdict : ℕ → ℕ → Answer → Type 0
-IsBookVerdict cap bw (Ok replies.Admitted) = Unit {0}
-IsBookVerdict cap bw (Ok (replies.Busy seen)) = (seen ≤ cap) × (cap < seen + bw)
-IsBookVerdict cap bw (Ok _) = ⊥
-IsBookVerdict cap bw (Err refusals.Full) = Unit {0}
-IsBookVerdict cap bw (Err refusals.Twice) = Unit {0}
-IsBookVerdict cap bw (Err _) = ⊥
+IsBookVerdict cpus bw (Ok replies.Admitted) = Unit {0}
+IsBookVerdict cpus bw (Ok (replies.Busy seen)) = IsOverCap cpus bw seen
+IsBookVerdict cpus bw (Ok _) = ⊥
+IsBookVerdict cpus bw (Err refusals.Full) = Unit {0}
+IsBookVerdict cpus bw (Err refusals.Twice) = Unit {0}
+IsBookVerdict cpus bw (Err _) = ⊥
 
 -- and by the gate before it, or for want of memory
 abbrev pub IsVerdict : ℕ → ℕ → Answer → Type 0
-IsVerdict cap bw (Ok replies.Admitted) = Unit {0}
-IsVerdict cap bw (Ok (replies.Busy seen)) = (seen ≤ cap) × (cap < seen + bw)
-IsVerdict cap bw (Ok _) = ⊥
-IsVerdict cap bw (Err refusals.Full) = Unit {0}
-IsVerdict cap bw (Err refusals.Twice) = Unit {0}
-IsVerdict cap bw (Err refusals.Enomem) = Unit {0}
-IsVerdict cap bw (Err (refusals.Busy seen)) = (seen ≤ cap) × (cap < seen + bw)
-IsVerdict cap bw (Err _) = ⊥
+IsVerdict cpus bw (Ok replies.Admitted) = Unit {0}
+IsVerdict cpus bw (Ok (replies.Busy seen)) = IsOverCap cpus bw seen
+IsVerdict cpus bw (Ok _) = ⊥
+IsVerdict cpus bw (Err refusals.Full) = Unit {0}
+IsVerdict cpus bw (Err refusals.Twice) = Unit {0}
+IsVerdict cpus bw (Err refusals.Enomem) = Unit {0}
+IsVerdict cpus bw (Err (refusals.Busy seen)) = IsOverCap cpus bw seen
+IsVerdict cpus bw (Err _) = ⊥
 
 -- the book of the same domain, with other entries and pieces
 pub record SameBook (old new : BookView) : Type 0 where
@@ -97,15 +102,39 @@ IsGivenBack ticket _ blank = IfSome blank (IsGive ticket) × IsSome blank
 
 abbrev pub NoneIsKept : Ask → Answer → Option BlankView → Type 0
 NoneIsKept (asks.Admit prepared ticket) answer blank = IsGivenBack ticket answer blank
+NoneIsKept (asks.Limit asked limit) answer blank = IsSome blank
 NoneIsKept _ answer blank = Unit {0}
+
+-- ---- why a call stands in no book, of the book before
+
+-- an admission: Full where the book is full or lists 256 tasks, Twice where the number was admitted
+-- before
+abbrev pub IsWhyNotAdmitted : BookView → Call → Answer → Type 0
+IsWhyNotAdmitted b call (Err refusals.Full) =
+    IsFull b ⊎ (reply_to (state_of b) call ≡ replies.Full)
+IsWhyNotAdmitted b call (Err refusals.Twice) = reply_to (state_of b) call ≡ replies.Twice
+IsWhyNotAdmitted b call _ = Unit {0}
+
+-- any other call: Full where the book is full; ENOMEM where it is not
+abbrev pub IsWhyNotMade : BookView → Answer → Type 0
+IsWhyNotMade b (Err refusals.Full) = IsFull b
+IsWhyNotMade b (Err refusals.Enomem) = length b.history < b.room
+IsWhyNotMade b _ = Unit {0}
+
+abbrev pub IsWhyNot : BookView → Ask → Answer → Type 0
+IsWhyNot b (asks.Admit prepared ticket) answer = IsWhyNotAdmitted b (admission prepared) answer
+IsWhyNot b (asks.Regrade number params) answer = IsWhyNotMade b answer
+IsWhyNot b (asks.Wake number) answer = IsWhyNotMade b answer
+IsWhyNot b (asks.Leave number) answer = IsWhyNotMade b answer
+IsWhyNot b (asks.Limit piece limit) answer = IsWhyNotMade b answer
 
 -- ---- what a call comes to, under the domain's lock
 
 -- an admission
-pub record IsOffered (cap : ℕ) (p q : PassView Entry) (a : AdmissionView)
+pub record IsOffered (cpus : ℕ) (p q : PassView Entry) (a : AdmissionView)
     (answer : Answer) : Type 0 where
   pub pass : q ≡ pass_after p (admission a) answer
-  pub verdict : IsBookVerdict cap a.params.bw answer
+  pub verdict : IsBookVerdict cpus a.params.bw answer
 
 -- a regrade, wake or leave
 pub record IsReplied (p q : PassView Entry) (call : Call) (answer : Answer) : Type 0 where
@@ -117,6 +146,25 @@ pub record IsRegradedBy (gate : GateId) (d cpus limit : ℕ) (p q : PassView Ent
   pub word : Option ℕ
   pub replied : IsReplied p q (calls.Regrade number params word) answer
   pub reply : IfOk answer (IsRegradeReply gate d cpus limit number params word)
+
+-- what a client is answered to a change of the limit, and the blank that comes back
+abbrev pub limit_answer : Limit → Answer
+limit_answer (limits.Set back) = Ok replies.Set
+limit_answer (limits.Busy back seen) = Ok (replies.Busy seen)
+limit_answer (limits.Full back) = Err refusals.Full
+
+abbrev pub limit_back : Limit → BlankView
+limit_back (limits.Set back) = back
+limit_back (limits.Busy back seen) = back
+limit_back (limits.Full back) = back
+
+-- a change of the limit, by this piece, with what came back of it
+pub record IsLimitedBy (d cpus limit : ℕ) (p q : PassView Entry) (piece : BlankView) (wanted : ℕ)
+    (answer : Answer) (back : Option BlankView) : Type 0 where
+  pub word : Option ℕ
+  pub replied : IsReplied p q (calls.Limit wanted word) answer
+  pub reply : IfOk answer (IsLimitReply d cpus limit wanted piece word back)
+  pub unasked : IfErr answer (λ _. back ≡ Some piece)
 
 -- an advance
 pub record AreTicks (p q : PassView Entry) (n ticks : ℕ) : Type 0 where
@@ -131,19 +179,32 @@ IsAdvancedBy p q n (Err refusals.Full) = q ≡ p
 IsAdvancedBy p q n (Err refusals.Enomem) = q ≡ p
 IsAdvancedBy p q n (Err _) = ⊥
 
-abbrev pub IsDone : SessionId → ℕ → PassView Entry → PassView Entry → Ask → Answer → Type 0
-IsDone id d p q (asks.Admit prepared ticket) answer = IsOffered (cap_in id d) p q prepared answer
-IsDone id d p q (asks.Regrade number params) answer =
+abbrev pub IsDone : SessionId → ℕ → PassView Entry → PassView Entry → Ask → Answer
+    → Option BlankView → Type 0
+IsDone id d p q (asks.Admit prepared ticket) answer blank =
+    IsOffered (length (cpus_of id d)) p q prepared answer
+IsDone id d p q (asks.Regrade number params) answer blank =
     IsRegradedBy id.gate d (length (cpus_of id d)) id.limit p q number params answer
-IsDone id d p q (asks.Wake number) answer = IsReplied p q (calls.Wake number) answer
-IsDone id d p q (asks.Leave number) answer = IsReplied p q (calls.Leave number) answer
+IsDone id d p q (asks.Wake number) answer blank = IsReplied p q (calls.Wake number) answer
+IsDone id d p q (asks.Leave number) answer blank = IsReplied p q (calls.Leave number) answer
+IsDone id d p q (asks.Limit piece limit) answer blank =
+    IsLimitedBy d (length (cpus_of id d)) id.limit p q piece limit answer blank
 
 -- ---- what it comes to for a client
+
+-- a change of the limit, by this piece
+pub record MakesLimitWith (id : SessionId) (c e : ClientView) (d limit : ℕ) (piece : BlankView)
+    (answer : Answer) : Type 0 where
+  pub word : Option ℕ
+  pub made : Makes c e (made_by d (calls.Limit limit word) answer)
+  pub reply : IfOk answer
+      (IsLimitReply d (length (cpus_of id d)) id.limit limit piece word e.hand)
+  pub unasked : IfErr answer (λ _. e.hand ≡ Some piece)
 
 abbrev pub IsDoneFor : SessionId → ℕ → ClientView → ClientView → Ask → Answer → Type 0
 IsDoneFor id d c e (asks.Admit prepared ticket) answer =
     Makes c e (made_by d (admission prepared) answer)
-    × IsBookVerdict (cap_in id d) prepared.params.bw answer
+    × IsBookVerdict (length (cpus_of id d)) prepared.params.bw answer
     × IsGivenBack ticket answer e.hand
 IsDoneFor id d c e (asks.Regrade number params) answer =
     MakesRegrade id c e d number params answer × RefusesOnlyFull answer
@@ -151,6 +212,8 @@ IsDoneFor id d c e (asks.Wake number) answer =
     Makes c e (made_by d (calls.Wake number) answer) × RefusesOnlyFull answer
 IsDoneFor id d c e (asks.Leave number) answer =
     Makes c e (made_by d (calls.Leave number) answer) × RefusesOnlyFull answer
+IsDoneFor id d c e (asks.Limit piece limit) answer =
+    MakesLimitWith id c e d limit piece answer × RefusesOnlyFull answer
 
 -- an advance
 abbrev pub IsAdvancedFor : ℕ → ClientView → ClientView → ℕ → Answer → Type 0

@@ -61,6 +61,7 @@ pub(super) fn make<N: Names, S: Shares<N>, R: Threads + Wait>(
         Call::Wake { number } => client.wake(rt, session, 0, number),
         Call::Leave { number } => client.leave(rt, session, 0, number),
         Call::Advance { ticks } => client.advance(rt, session, 0, ticks),
+        Call::Limit { limit, word: _ } => client.limit(rt, session, 0, limit),
     }
 }
 
@@ -173,6 +174,20 @@ fn waiting(rt: HostRuntime) -> Result<(), Fail> {
     Ok(())
 }
 
+// All ticks of a call are made, up to the most that one may ask for.
+#[test]
+fn most_ticks_of_a_call(rt: HostRuntime) -> Result<(), Fail> {
+    let text =
+        b"dlcalls 1\ndomain 1 1048576\nadvance 1 60000000\nadmit 1 1 a 2 8 8 - 0 -1:1{r1,t8}\nadvance 1 3000\n";
+    let (said, report) = ran(&rt, rt.alloc(), text, 4)?;
+    assert_eq!(rt;
+        said.as_str(),
+        "Done { ticks: 60000000 }; Admitted; Done { ticks: 3000 }; "
+    );
+    assert_eq!(rt; entered(&report), 3);
+    Ok(())
+}
+
 #[test]
 fn regrade(rt: HostRuntime) -> Result<(), Fail> {
     let text =
@@ -183,6 +198,35 @@ fn regrade(rt: HostRuntime) -> Result<(), Fail> {
         "Admitted; Changed; Busy { seen: 524288 }; NotListed; NotListed; "
     );
     assert_eq!(rt; report.words.as_slice(), [524288].as_slice());
+    Ok(())
+}
+
+// The limit is not set below what the task has; then it holds for admissions, down and up.
+#[test]
+fn limit_calls(rt: HostRuntime) -> Result<(), Fail> {
+    let text =
+        b"dlcalls 2\ndomain 1 524288\nadmit 1 1 a 2 8 8 - 0 1:1{r2}\nlimit 1 131072\nlimit 1 262144\nadmit 1 2 b 2 8 8 - 0 1:1{r2}\nlimit 1 1048576\nadmit 1 3 c 2 8 8 - 0 1:1{r2}\n";
+    let (said, report) = ran(&rt, rt.alloc(), text, 1024)?;
+    assert_eq!(rt;
+        said.as_str(),
+        "Admitted; Busy { seen: 262144 }; Set; EBUSY 16 seen 262144; Set; Admitted; "
+    );
+    assert_eq!(rt; entered(&report), 5);
+    assert_eq!(rt; report.words.as_slice(), [524288].as_slice());
+    assert_eq!(rt; report.caps.as_slice(), [1048576].as_slice());
+    assert_eq!(rt; report.home, 257);
+    Ok(())
+}
+
+// A book that is full changes no limit.
+#[test]
+fn limit_in_a_full_book(rt: HostRuntime) -> Result<(), Fail> {
+    let text = b"dlcalls 2\ndomain 1 1048576\nadmit 1 1 a 2 8 8 - 0 1:1{r2}\nlimit 1 524288\n";
+    let (said, report) = ran(&rt, rt.alloc(), text, 1)?;
+    assert_eq!(rt; said.as_str(), "Admitted; Full 40; ");
+    assert_eq!(rt; report.words.as_slice(), [262144].as_slice());
+    assert_eq!(rt; report.caps.as_slice(), [1048576].as_slice());
+    assert_eq!(rt; report.home, 257);
     Ok(())
 }
 

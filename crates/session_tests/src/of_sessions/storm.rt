@@ -22,10 +22,10 @@ struct Crowd {
 
 // Waits until all clients are here, so that they run at once. It gives up after many turns: where a
 // thread could not be started, the clients come one after another.
-fn arrive(here: &AtomicUsize) {
+pub(super) fn arrive(here: &AtomicUsize, many: usize) {
     here.fetch_add(1, Ordering::SeqCst);
     for _ in 0..1000000 {
-        if here.load(Ordering::SeqCst) >= 64 {
+        if here.load(Ordering::SeqCst) >= many {
             return;
         }
         yield_now();
@@ -45,7 +45,7 @@ fn text_of(alloc: Global, client: u32, leaves: bool) -> Option<String> {
     Some(text)
 }
 
-fn entries_of(alloc: Global, text: &[u8]) -> Option<Vec<Entry>>
+pub(super) fn entries_of(alloc: Global, text: &[u8]) -> Option<Vec<Entry>>
     ensures { IfSome result (λ v. All IsEntry v.items) }
 {
     let mut sections = read_calls(alloc, text).ok()?;
@@ -81,7 +81,7 @@ fn play<N: Names, R: Threads + Wait>(
         return client;
     };
     entries.reverse();
-    arrive(&crowd.here);
+    arrive(&crowd.here, 64);
     while let Some(entry) = entries.pop() {
         if is_granted(&make(rt, alloc, shared, &mut client, entry.call)) {
             crowd.granted.fetch_add(1, Ordering::SeqCst);
@@ -134,7 +134,8 @@ fn rage_in<R: Threads + Wait + Sync>(
     rage::<Brand, R>(rt, alloc, parts, crowd)
 }
 
-// How many calls were granted in a storm, the words that it left, and how many pieces came home.
+// How many calls were granted in a storm, what was used of the words that it left, and how many
+// pieces came home.
 fn left_by<R: Threads + Wait + Sync>(
     rt: &R,
     alloc: Global,

@@ -1,10 +1,11 @@
 // Clients in threads of their own.
 ghost use Rattle.std.specs.Prelude.{◌≡◌, ◌<◌, ◌≤◌, ◌+◌, [], length, vec_capacity, vec_len, All};
-ghost use Rattle.bw_gate.specs.Pieces.{cap_of};
+ghost use Rattle.bw_gate.specs.Word.{IsLimit};
+ghost use Rattle.bw_gate.specs.Pieces.{cpus_of};
 ghost use Rattle.word_tests.specs.Quarters.{IsQuarter, IsQuarterTaken};
 
 use super::{next, opened, regraded};
-use bw_gate::{Blank, Gate, Take, Ticket, Words};
+use bw_gate::{Blank, Gate, Limit, Take, Ticket, Words, cap_of, used_of};
 use std::process::Abort;
 use std::sync::Wait;
 use std::sync::atomic::{AtomicUsize, Ordering};
@@ -13,21 +14,23 @@ use std::thread::{Threads, join, map_vec, yield_now};
 
 const QUARTER: u64 = 262144;
 
-// Waits until all of so many clients are here, so that they run at once. It gives up after many
-// turns: where a thread could not be started, the clients come one after another.
-fn arrive(here: &AtomicUsize, all: usize) {
-    here.fetch_add(1, Ordering::SeqCst);
+// Waits until all of so many clients are here, so that they run at once, and tells how many came
+// before. It gives up after many turns: where a thread could not be started, the clients come one
+// after another.
+fn arrive(here: &AtomicUsize, all: usize) -> usize {
+    let before = here.fetch_add(1, Ordering::SeqCst);
     for _ in 0..1000000 {
         if here.load(Ordering::SeqCst) >= all {
-            return;
+            return before;
         }
         yield_now();
     }
+    before
 }
 
 // One of eight clients, which takes a quarter of a CPU.
 fn one<R: Wait>(rt: &R, gate: &Gate, here: &AtomicUsize, blank: Blank) -> Take
-    requires { (blank.gate ≡ gate.now) × (0 < length gate.now.terms.caps) }
+    requires { (blank.gate ≡ gate.now) × (0 < length gate.now.terms.cpus) }
     ensures { IsQuarterTaken gate.now result }
 {
     arrive(here, 8);
@@ -50,17 +53,17 @@ fn two<R: Threads + Wait + Sync>(
     a: Blank,
     b: Blank,
 ) -> (Take, Take)
-    requires { (a.gate ≡ gate.now) × (b.gate ≡ gate.now) × (0 < length gate.now.terms.caps) }
+    requires { (a.gate ≡ gate.now) × (b.gate ≡ gate.now) × (0 < length gate.now.terms.cpus) }
     ensures { IsQuarterTaken gate.now result.0 × IsQuarterTaken gate.now result.1 }
 {
     join(
         rt,
         move || -> Take
-            requires { (a.gate ≡ gate.now) × (0 < length gate.now.terms.caps) }
+            requires { (a.gate ≡ gate.now) × (0 < length gate.now.terms.cpus) }
             ensures { IsQuarterTaken gate.entry.now result }
         { one(rt, gate, here, a) },
         move || -> Take
-            requires { (b.gate ≡ gate.now) × (0 < length gate.now.terms.caps) }
+            requires { (b.gate ≡ gate.now) × (0 < length gate.now.terms.cpus) }
             ensures { IsQuarterTaken gate.entry.now result }
         { one(rt, gate, here, b) },
     )
@@ -76,7 +79,7 @@ fn four<R: Threads + Wait + Sync>(
     c: Blank,
     d: Blank,
 ) -> ((Take, Take), (Take, Take))
-    requires some { 0 < length gate.now.terms.caps }
+    requires some { 0 < length gate.now.terms.cpus }
     requires own { (a.gate ≡ gate.now) × (b.gate ≡ gate.now) × (c.gate ≡ gate.now)
         × (d.gate ≡ gate.now) }
     ensures first { IsQuarterTaken gate.now result.0.0 × IsQuarterTaken gate.now result.0.1 }
@@ -86,13 +89,13 @@ fn four<R: Threads + Wait + Sync>(
         rt,
         move || -> (Take, Take)
             requires { (a.gate ≡ gate.now) × (b.gate ≡ gate.now)
-                × (0 < length gate.now.terms.caps) }
+                × (0 < length gate.now.terms.cpus) }
             ensures { IsQuarterTaken gate.entry.now result.0
                 × IsQuarterTaken gate.entry.now result.1 }
         { two(rt, gate, here, a, b) },
         move || -> (Take, Take)
             requires { (c.gate ≡ gate.now) × (d.gate ≡ gate.now)
-                × (0 < length gate.now.terms.caps) }
+                × (0 < length gate.now.terms.cpus) }
             ensures { IsQuarterTaken gate.entry.now result.0
                 × IsQuarterTaken gate.entry.now result.1 }
         { two(rt, gate, here, c, d) },
@@ -108,7 +111,7 @@ fn eight<R: Threads + Wait + Sync + Abort>(
     blanks: &mut Vec<Blank>,
     tickets: &mut Vec<Ticket>,
 )
-    requires some { 0 < length gate.now.terms.caps }
+    requires some { 0 < length gate.now.terms.cpus }
     requires from { All (λ b. b.gate ≡ gate.now) from.items }
     requires blanks { (blanks.old.items ≡ []) × (vec_len blanks.old ≡ 0)
         × (8 ≤ vec_capacity blanks.old) }
@@ -131,7 +134,7 @@ fn eight<R: Threads + Wait + Sync + Abort>(
         rt,
         move || -> ((Take, Take), (Take, Take))
             requires { (a.gate ≡ gate.now) × (b.gate ≡ gate.now) × (c.gate ≡ gate.now)
-                × (d.gate ≡ gate.now) × (0 < length gate.now.terms.caps) }
+                × (d.gate ≡ gate.now) × (0 < length gate.now.terms.cpus) }
             ensures first { IsQuarterTaken gate.entry.now result.0.0
                 × IsQuarterTaken gate.entry.now result.0.1 }
             ensures second { IsQuarterTaken gate.entry.now result.1.0
@@ -139,7 +142,7 @@ fn eight<R: Threads + Wait + Sync + Abort>(
         { four(rt, gate, here, a, b, c, d) },
         move || -> ((Take, Take), (Take, Take))
             requires { (e.gate ≡ gate.now) × (f.gate ≡ gate.now) × (g.gate ≡ gate.now)
-                × (h.gate ≡ gate.now) × (0 < length gate.now.terms.caps) }
+                × (h.gate ≡ gate.now) × (0 < length gate.now.terms.cpus) }
             ensures first { IsQuarterTaken gate.entry.now result.0.0
                 × IsQuarterTaken gate.entry.now result.0.1 }
             ensures second { IsQuarterTaken gate.entry.now result.1.0
@@ -204,7 +207,7 @@ fn sort(gate: &Gate, answer: Take, blanks: &mut Vec<Blank>, tickets: &mut Vec<Ti
 
 // Closes a gate of one CPU. Whatever the clients did, four of their quarters at most are taken.
 fn closed(gate: Gate, blanks: Vec<Blank>, tickets: Vec<Ticket>) -> (usize, Words)
-    requires cap { (length gate.terms.caps ≡ 1) × (cap_of gate 0 ≡ 1048576) }
+    requires cap { (length gate.terms.cpus ≡ 1) × (cpus_of gate 0 ≡ 1) }
     requires blanks { All (λ b. b.gate ≡ gate) blanks.items }
     requires tickets { All (IsQuarter gate) tickets.items }
     ensures count { result.0 ≡ length tickets.items }
@@ -214,14 +217,26 @@ fn closed(gate: Gate, blanks: Vec<Blank>, tickets: Vec<Ticket>) -> (usize, Words
     (count, gate.close(blanks, tickets))
 }
 
+// What the clients of a storm count: those that came, those that are done, and the words of which
+// more was used than their cap.
+#[derive(Drop)]
+struct Storm {
+    here: AtomicUsize,
+    done: AtomicUsize,
+    over: AtomicUsize,
+}
+
 // A round of a client: it takes 1 / 64 of a CPU, loads, regrades to twice as much, and gives back.
-fn round(rt: &impl Wait, gate: &Gate, blank: Blank) -> Blank
-    requires { (blank.gate ≡ gate.now) × (0 < length gate.now.terms.caps) }
+fn round(rt: &impl Wait, gate: &Gate, storm: &Storm, blank: Blank) -> Blank
+    requires { (blank.gate ≡ gate.now) × (0 < length gate.now.terms.cpus) }
     ensures { result.gate ≡ gate.now }
 {
     match gate.take(rt, blank, 0, 16384) {
         Take::Taken(mut ticket) => {
-            gate.load(&mut ticket);
+            let word = gate.load(&mut ticket);
+            if used_of(word) > cap_of(word) {
+                storm.over.fetch_add(1, Ordering::SeqCst);
+            }
             gate.give(regraded(rt, gate, ticket, 32768))
         }
         Take::Refused { blank, seen: _ } => blank,
@@ -233,21 +248,65 @@ fn round(rt: &impl Wait, gate: &Gate, blank: Blank) -> Blank
     }
 }
 
-// One of 64 clients, with a thousand rounds.
-fn rounds(rt: &impl Wait, gate: &Gate, here: &AtomicUsize, mut blank: Blank) -> Blank
-    requires { (blank.gate ≡ gate.now) × (0 < length gate.now.terms.caps) }
+// A blank after it set the limit, or more was used than that.
+fn shift(rt: &impl Wait, gate: &Gate, blank: Blank, limit: u64) -> Blank
+    requires { (blank.gate ≡ gate.now) × (0 < length gate.now.terms.cpus) × IsLimit limit }
     ensures { result.gate ≡ gate.now }
 {
-    arrive(here, 64);
-    for _ in 0..1000 {
-        blank = round(rt, gate, blank);
+    match gate.limit(rt, blank, 0, limit) {
+        Limit::Set(blank) => blank,
+        Limit::Refused { blank, seen: _ } => blank,
+        Limit::Raced {
+            blank,
+            expected: _,
+            seen: _,
+        } => blank,
+    }
+}
+
+// The client that changes the limit until 64 others are done: to an eighth of a CPU, a half and a
+// whole one.
+fn shifts(rt: &impl Wait, gate: &Gate, storm: &Storm, mut blank: Blank) -> Blank
+    requires { (blank.gate ≡ gate.now) × (0 < length gate.now.terms.cpus) }
+    ensures { result.gate ≡ gate.now }
+{
+    for _ in 0..100000 {
+        if storm.done.load(Ordering::SeqCst) >= 64 {
+            return blank;
+        }
+        blank = shift(rt, gate, blank, 131072);
+        blank = shift(rt, gate, blank, 524288);
+        blank = shift(rt, gate, blank, 1048576);
     }
     blank
 }
 
-// How many of the blanks have seen their word at this.
-fn those_at(blanks: &[Blank], seen: u64) -> usize {
-    blanks.iter().filter(|b| b.last() == seen).count()
+// One of 64 clients, with a thousand rounds.
+fn rounds(rt: &impl Wait, gate: &Gate, storm: &Storm, mut blank: Blank) -> Blank
+    requires { (blank.gate ≡ gate.now) × (0 < length gate.now.terms.cpus) }
+    ensures { result.gate ≡ gate.now }
+{
+    for _ in 0..1000 {
+        blank = round(rt, gate, storm, blank);
+    }
+    storm.done.fetch_add(1, Ordering::SeqCst);
+    blank
+}
+
+// One of 65 clients: the first to come changes the limit, and the others take and give.
+fn client(rt: &impl Wait, gate: &Gate, storm: &Storm, blank: Blank) -> Blank
+    requires { (blank.gate ≡ gate.now) × (0 < length gate.now.terms.cpus) }
+    ensures { result.gate ≡ gate.now }
+{
+    match arrive(&storm.here, 65) {
+        0 => shifts(rt, gate, storm, blank),
+        _ => rounds(rt, gate, storm, blank),
+    }
+}
+
+// How many of the blanks have last seen so much used of their word.
+fn those_at(blanks: &[Blank], used: u64) -> usize {
+    blanks.iter().filter(|b| used_of(b.last()) == used).count()
 }
 
 // eight_threads_four_taken: one CPU has room for four quarters, whichever clients take them. The
@@ -265,21 +324,26 @@ fn eight_threads_four_taken(rt: HostRuntime) -> Result<(), Fail> {
     Ok(())
 }
 
-// 64 clients at once take, load, regrade and give on one word, and leave 0.
+// 64 clients at once take, load, regrade and give on one word, while one more changes its limit all
+// the time. They leave nothing used.
 #[test]
 fn sixty_four_threads_leave_nothing(rt: HostRuntime) -> Result<(), Fail> {
-    let (gate, blanks) = opened(rt.alloc(), 1048576, 64)?;
-    let arrived = AtomicUsize::new(0);
-    let (shared, here, handle) = (&gate, &arrived, &rt);
+    let (gate, blanks) = opened(rt.alloc(), 1048576, 65)?;
+    let storm = Storm {
+        here: AtomicUsize::new(0),
+        done: AtomicUsize::new(0),
+        over: AtomicUsize::new(0),
+    };
+    let (shared, counts, handle) = (&gate, &storm, &rt);
     let back = map_vec(
         &rt,
         blanks,
         &|blank: Blank| -> Blank
-            requires { (blank.gate ≡ shared.now) × (0 < length shared.now.terms.caps) }
+            requires { (blank.gate ≡ shared.now) × (0 < length shared.now.terms.cpus) }
             ensures { result.gate ≡ shared.entry.now }
-        { rounds(handle, shared, here, blank) },
+        { client(handle, shared, counts, blank) },
     )?;
     let words = gate.close(back, Vec::new(rt.alloc()));
-    assert_eq!(rt; words.word[0], 0);
+    assert_eq!(rt; (words.word[0], storm.over.load(Ordering::SeqCst)), (0, 0));
     Ok(())
 }

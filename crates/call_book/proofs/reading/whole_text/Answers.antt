@@ -1,21 +1,26 @@
-use Rattle.std.proofs.Common.{sym}
-use Rattle.call_book.proofs.Sections.{no_header, other_header, not_written, is_written, header_first, sections_found, sections_fault}
+use Rattle.std.proofs.Common.{◌∙◌, sym, ap, subst}
+use Rattle.call_book.specs.BadLine.{IsBadLine}
+use Rattle.call_book.specs.private.Reading.{bad_place, is_whole}
+use Rattle.call_book.proofs.Stops.{no_header, other_header, header_first, sections_found, sections_stop}
 use Rattle.call_book.proofs.reading.whole_text.Goals as goal
 
 pub returns-in_default-clause-fault : goal.returns-in_default-clause-fault
 returns-in_default-clause-fault c = no_header c.args.text.now (sym c.in_default.ensures)
 
-pub returns-then-ne-clause-fault : goal.returns-then-ne-clause-fault
-returns-then-ne-clause-fault c =
-    other_header c.args.text.now c.in-Some.header.now c.in-Some.rest.now (sym c.in-Some.ensures)
-    (not_written c.in-Some.header.now c.as_slice.result.now c.ne.result c.ne.ensures c.as_slice.ensures c.if-ne.true)
+pub returns-in_default-header_of-clause-fault : goal.returns-in_default-header_of-clause-fault
+returns-in_default-header_of-clause-fault c = other_header c.args.text.now c.in-Some.header.now c.in-Some.body.now (sym c.in-Some.ensures) (sym c.in_default-header_of.ensures)
 
-pub returns-clause-found : goal.returns-clause-found
-returns-clause-found c =
-    let right = is_written c.in-Some.header.now c.as_slice.result.now c.ne.result c.ne.ensures c.as_slice.ensures c.if-ne.false in
-    sections_found c.args.text.now c.in-Some.rest.now c.sections_of.result (header_first c.args.text.now c.in-Some.header.now c.in-Some.rest.now (sym c.in-Some.ensures) right) c.sections_of.ensures.found
+pub returns-then-fits-clause-found : goal.returns-then-fits-clause-found
+returns-then-fits-clause-found c =
+    let limits = c.in-Some-header_of.limits in
+    let header = header_first c.args.text.now c.in-Some.header.now c.in-Some.body.now limits (sym c.in-Some.ensures) (sym c.in-Some-header_of.ensures) in
+    let whole = ap (is_whole limits c.in-Ok.rest.now) (sym c.deref.ensures.value) ∙ sym c.fits.ensures ∙ c.if-fits.true in
+    sections_found limits c.args.text.now c.in-Some.body.now c.in-Ok.rest.now c.in-Ok.sections.items header c.in-Ok.ensures.found whole
 
 pub returns-clause-fault : goal.returns-clause-fault
 returns-clause-fault c =
-    let right = is_written c.in-Some.header.now c.as_slice.result.now c.ne.result c.ne.ensures c.as_slice.ensures c.if-ne.false in
-    sections_fault c.args.text.now c.in-Some.rest.now c.sections_of.result (header_first c.args.text.now c.in-Some.header.now c.in-Some.rest.now (sym c.in-Some.ensures) right) c.sections_of.ensures.fault
+    let limits = c.in-Some-header_of.limits in
+    let header = header_first c.args.text.now c.in-Some.header.now c.in-Some.body.now limits (sym c.in-Some.ensures) (sym c.in-Some-header_of.ensures) in
+    let part = ap (is_whole limits c.in-Ok.rest.now) (sym c.deref.ensures.value) ∙ sym c.fits.ensures ∙ c.if-fits.false in
+    let place = c.bad_line.ensures ∙ ap (bad_place limits) c.deref-2.ensures.value in
+    subst (IsBadLine c.args.text.now) (sym place) (sections_stop limits c.args.text.now c.in-Some.body.now c.in-Ok.rest.now c.in-Ok.sections.items header c.in-Ok.ensures.found part)

@@ -1,4 +1,4 @@
-use Rattle.session.proofs.Replied.{same_regraded, regraded}
+use Rattle.session.proofs.Replied.{same_regraded, regraded, why_not}
 use Rattle.session.proofs.locked_book.regrade.Goals as goal
 
 pub returns-clause-same : goal.returns-clause-same
@@ -9,3 +9,8 @@ pub returns-clause-replied : goal.returns-clause-replied
 returns-clause-replied g c =
     regraded c.args.domain.now c.regrade.new.self c.args.pass.now c.regrade.new.pass c.args.number c.args.params c.regrade.result c.outcome_of.result.answer
     c.regrade.ensures.entered c.regrade.ensures.full c.outcome_of.ensures.ok c.outcome_of.ensures.err
+
+pub returns-clause-told : goal.returns-clause-told
+returns-clause-told g c =
+    why_not c.args.domain.now c.regrade.new.self c.args.pass.now c.regrade.new.pass c.regrade.result c.outcome_of.result.answer
+    c.regrade.ensures.full c.outcome_of.ensures.ok c.outcome_of.ensures.err

@@ -13,8 +13,8 @@ fetch_sub-found-requires c =
     let seat = c.ticket.inside.seat in
     let gate = ap (λ (t : _). t.gate) c.ticket.view_is ∙ c.requires ∙ sym c.self.view_is in
     let terms : seat.me.0.terms ≡ shared.key = ap (λ (g : GateId). g.terms) gate ∙ sym c.self.invariant.0 in
-    let inside : c.ticket.inside.domain < length shared.key.caps = subst (λ (t : TermsView). c.ticket.inside.domain < length t.caps) terms c.ticket.invariant.3 in
-    let words : shared.table_id.words ≡ length shared.key.caps = c.self.invariant.1 ∙ ap (λ (t : TermsView). length t.caps) (sym c.self.invariant.0) in (
+    let inside : c.ticket.inside.domain < length shared.key.cpus = subst (λ (t : TermsView). c.ticket.inside.domain < length t.cpus) terms c.ticket.invariant.3 in
+    let words : shared.table_id.words ≡ length shared.key.cpus = c.self.invariant.1 ∙ ap (λ (t : TermsView). length t.cpus) (sym c.self.invariant.0) in (
       ap (λ (g : GateId). g.table) gate,
       omega (arith, inside, words),
       gives shared.key shared.table_id.slots seat.id c.ticket.inside.domain c.ticket.inside.bw seat.me inside terms c.ticket.invariant.1,

@@ -13,8 +13,8 @@ load-found-requires c =
     let seat = c.ticket.inside.seat in
     let gate = ap (λ (t : _). t.gate) c.ticket.view_is ∙ c.requires ∙ sym c.self.view_is in
     let terms : seat.me.0.terms ≡ shared.key = ap (λ (g : GateId). g.terms) gate ∙ sym c.self.invariant.0 in
-    let inside : c.ticket.inside.domain < length shared.key.caps = subst (λ (t : TermsView). c.ticket.inside.domain < length t.caps) terms c.ticket.invariant.3 in
-    let words : shared.table_id.words ≡ length shared.key.caps = c.self.invariant.1 ∙ ap (λ (t : TermsView). length t.caps) (sym c.self.invariant.0) in (
+    let inside : c.ticket.inside.domain < length shared.key.cpus = subst (λ (t : TermsView). c.ticket.inside.domain < length t.cpus) terms c.ticket.invariant.3 in
+    let words : shared.table_id.words ≡ length shared.key.cpus = c.self.invariant.1 ∙ ap (λ (t : TermsView). length t.cpus) (sym c.self.invariant.0) in (
       ap (λ (g : GateId). g.table) gate,
       omega (arith, inside, words),
       loads shared.key shared.table_id.slots seat.id c.ticket.inside.domain seat.me inside terms,
@@ -26,4 +26,4 @@ invariant_of-ticket c =
     let found = c.load-found.result in
     let step = c.load-found.ensures.2.1 in
     let s = seat_after _ seat.me c.load-found.new.seat.me (told found seat.me.0) (Ticket c.ticket.inside.domain c.ticket.inside.bw) seat.me.0.found found c.ticket.invariant.0 step c.ticket.invariant.1 refl in
-    (s.0, s.1, s.2, subst (λ (t : TermsView). c.ticket.inside.domain < length t.caps) (sym (ap (λ (m : _). m.0.terms) step)) c.ticket.invariant.3, c.ticket.invariant.4)
+    (s.0, s.1, s.2, subst (λ (t : TermsView). c.ticket.inside.domain < length t.cpus) (sym (ap (λ (m : _). m.0.terms) step)) c.ticket.invariant.3, c.ticket.invariant.4)

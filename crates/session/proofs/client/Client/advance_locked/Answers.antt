@@ -16,4 +16,4 @@ returns g c =
     let owner : (get_or ps g.row.D p).client ≡ c.args.self.now.number = (c.self.invariant.each g.row.D p inside).owner ∙ ap (λ (v : ClientView). v.number) c.self.view_is in
     advanced_for g.row.D c.args.self.now _ p q c.args.ticks c.advance.result
     (λ call a becomes. makes_at c.args.self.now _ ps g.row.D p q call a (sym (ap (λ (v : ClientView). v.passes) c.self.view_is)) refl (ap (λ (v : ClientView). v.number) c.self.view_is) inside owner (subst (λ (r : PassView Entry). q ≡ pass_after r call a) at becomes))
-    c.advance.ensures
+    c.advance.ensures.made

@@ -4,8 +4,8 @@ use Rattle.pass_seats.specs.Lists.{PassView}
 use Rattle.bw_gate.specs.Pieces.{BlankView}
 use Rattle.call_book.specs.declared.section.Entry.{Entry}
 use Rattle.session.specs.Asks.{ClientView}
-use Rattle.session.specs.private.Entering.{pass_after, NoneIsKept}
-use Rattle.session.proofs.Asked.{none_kept, makes_at, done_for}
+use Rattle.session.specs.private.Entering.{pass_after, NoneIsKept, IsDone}
+use Rattle.session.proofs.Asked.{none_kept, done_anyhow, makes_at, done_for}
 use Rattle.session.proofs.Passes.{done_kept, still_client}
 use Rattle.session.proofs.client.Client.enter.Goals.{in-Some+in-Some-1, in-Some+in-None-1, in_default}
 use Rattle.session.proofs.client.Client.enter.Goals as goal
@@ -38,9 +38,19 @@ returns g c =
       | in-Some+in-None-1 w ↦ left (w.in-Some.is ∙ sym (ap (λ (v : ClientView). v.hand) w.self-is))
       | in_default w ↦ none_kept c.args.ask c.make-answer.result.answer c.match-blank.self.hand (subst (λ (h : Option BlankView). NoneIsKept c.args.ask c.make-answer.result.answer h) w.in_default.is c.make-answer.ensures.given)
     ] in
+    let moved : c.make-answer.result.blank ≡ c.match-blank.self.hand → IsDone g.N.Names.id g.row.D p q c.args.ask c.make-answer.result.answer c.match-blank.self.hand =
+    λ is. subst (λ (h : Option BlankView). IsDone g.N.Names.id g.row.D p q c.args.ask c.make-answer.result.answer h) is c.make-answer.ensures.done in
+    let done : IsDone g.N.Names.id g.row.D p q c.args.ask c.make-answer.result.answer c.match-blank.self.hand =
+    elim c.match-blank.branch [
+      | in-Some+in-Some-1 w ↦ moved (w.in-Some.is ∙ sym (ap (λ (v : ClientView). v.hand) w.self-is))
+      | in-Some+in-None-1 w ↦ moved (w.in-Some.is ∙ sym (ap (λ (v : ClientView). v.hand) w.self-is))
+      | in_default w ↦ done_anyhow g.N.Names.id g.row.D p q c.args.ask c.make-answer.result.answer c.match-blank.self.hand
+          (subst (λ (h : Option BlankView). IsDone g.N.Names.id g.row.D p q c.args.ask c.make-answer.result.answer h) w.in_default.is c.make-answer.ensures.done)
+          (subst (λ (h : Option BlankView). NoneIsKept c.args.ask c.make-answer.result.answer h) w.in_default.is c.make-answer.ensures.given)
+    ] in
     done_for g.N.Names.id g.row.D c.args.self.now c.match-blank.self p q c.args.ask c.make-answer.result.answer
     (λ call a becomes. makes_at c.args.self.now c.match-blank.self ps g.row.D p q call a (sym (ap (λ (v : ClientView). v.passes) c.self.view_is)) passes number inside owner (subst (λ (r : PassView Entry). q ≡ pass_after r call a) at becomes))
-    c.make-answer.ensures.done
+    done
     given
 
 pub invariant_of-self : goal.invariant_of-self
@@ -50,7 +60,7 @@ invariant_of-self g c =
     let p = c.index_mut.result.now in
     let q = c.make-answer.new.pass in
     still_client id c.self.inside.number ps c.self.inside.hand (Some c.in-Some.blank) g.row.D p q c.self.invariant (omega (arith, c.requires.place, c.self.invariant.count)) c.index_mut.ensures.value
-    (done_kept id g.row.D p q c.args.ask c.make-answer.result.answer c.make-answer.ensures.done)
+    (done_kept id g.row.D p q c.args.ask c.make-answer.result.answer c.make-answer.result.blank c.make-answer.ensures.done)
     (subst (λ (o : Option BlankView). IfSome o (λ b. b.gate ≡ id.gate)) c.in-Some.is c.make-answer.ensures.own)
 
 pub invariant_of-self-in-Some-2 : goal.invariant_of-self-in-Some-2
@@ -60,7 +70,7 @@ invariant_of-self-in-Some-2 g c =
     let p = c.index_mut.result.now in
     let q = c.make-answer.new.pass in
     still_client id c.self.inside.number ps c.self.inside.hand (Some c.in-Some.blank) g.row.D p q c.self.invariant (omega (arith, c.requires.place, c.self.invariant.count)) c.index_mut.ensures.value
-    (done_kept id g.row.D p q c.args.ask c.make-answer.result.answer c.make-answer.ensures.done)
+    (done_kept id g.row.D p q c.args.ask c.make-answer.result.answer c.make-answer.result.blank c.make-answer.ensures.done)
     (subst (λ (o : Option BlankView). IfSome o (λ b. b.gate ≡ id.gate)) c.in-Some.is c.make-answer.ensures.own)
 
 pub invariant_of-self-in_default : goal.invariant_of-self-in_default
@@ -70,4 +80,4 @@ invariant_of-self-in_default g c =
     let p = c.index_mut.result.now in
     let q = c.make-answer.new.pass in
     still_client id c.self.inside.number ps c.self.inside.hand c.self.inside.hand g.row.D p q c.self.invariant (omega (arith, c.requires.place, c.self.invariant.count)) c.index_mut.ensures.value
-    (done_kept id g.row.D p q c.args.ask c.make-answer.result.answer c.make-answer.ensures.done) c.self.invariant.own
+    (done_kept id g.row.D p q c.args.ask c.make-answer.result.answer c.make-answer.result.blank c.make-answer.ensures.done) c.self.invariant.own

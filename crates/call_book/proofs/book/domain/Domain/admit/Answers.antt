@@ -13,17 +13,17 @@ invariant_of-self c =
     let h : Held = record { number = c.in-Listed.number; ticket = c.args.ticket } in
     let pieces : t ≡ record inside.stock { tickets = t.tickets; blanks = t.blanks } = moved inside.stock spared t h c.spare-blank.ensures.stock c.hold.ensures in
     let held : t.tickets ≡ inside.stock.tickets ++ h ∷ [] = ap (λ (s : StockView). s.tickets) c.hold.ensures ∙ ap (λ (s : StockView). s.tickets ++ h ∷ []) c.spare-blank.ensures.stock in
-    admitted_grows inside.cpus inside.limit inside.workers.count inside.ledger c.enter.new.self inside.stock t inside.state c.list.new.state c.args.prepared c.args.ticket c.in-Listed.number c.in-Listed.call c.args.pass.now c.self.invariant c.enter.ensures.ledger pieces held says.0 says.1 says.2.same c.requires.bw
+    admitted_grows inside.cpus inside.limit inside.workers.count inside.left inside.ledger c.enter.new.self inside.stock t inside.state c.list.new.state c.args.prepared c.args.ticket c.in-Listed.number c.in-Listed.call c.args.pass.now c.self.invariant c.enter.ensures.ledger pieces held says.0 says.1 says.2.same c.requires.bw
 
 pub invariant_of-self-in-Busy : goal.invariant_of-self-in-Busy
 invariant_of-self-in-Busy c =
     let inside = c.self.inside in
     let says = c.in-Busy.ensures in
-    busy_grows inside.cpus inside.limit inside.workers.count inside.ledger c.enter-in-Busy.new.self inside.stock inside.state c.list.new.state c.args.prepared c.in-Busy.seen c.in-Busy.call c.args.pass.now c.self.invariant c.enter-in-Busy.ensures.ledger says.0 says.2.same
+    busy_grows inside.cpus inside.limit inside.workers.count inside.left inside.ledger c.enter-in-Busy.new.self inside.stock inside.state c.list.new.state c.args.prepared c.in-Busy.seen c.in-Busy.call c.args.pass.now c.self.invariant c.enter-in-Busy.ensures.ledger says.0 says.2.same
 
 pub returns-in-Busy : goal.returns-in-Busy
 returns-in-Busy c =
     let inside = c.self.inside in
     let says = c.in-Busy.ensures in
     let free = has_room c.is_full.result (length inside.ledger.history) inside.ledger.room c.is_full.ensures.full c.if-is_full.false c.is_full.ensures.history.within in
-    busy_answer c.args.self.now inside.cpus inside.limit inside.workers.count inside.ledger c.enter-in-Busy.new.self inside.stock inside.state c.list.new.state c.args.pass.now c.enter-in-Busy.new.pass c.args.prepared c.args.ticket c.in-Busy.seen c.in-Busy.call c.self.view_is c.self.invariant free c.enter-in-Busy.ensures.ledger c.enter-in-Busy.ensures.pass says.0 says.2.same says.1
+    busy_answer c.args.self.now inside.cpus inside.limit inside.workers.count inside.left inside.ledger c.enter-in-Busy.new.self inside.stock inside.state c.list.new.state c.args.pass.now c.enter-in-Busy.new.pass c.args.prepared c.args.ticket c.in-Busy.seen c.in-Busy.call c.self.view_is c.self.invariant free c.enter-in-Busy.ensures.ledger c.enter-in-Busy.ensures.pass says.0 says.2.same says.1

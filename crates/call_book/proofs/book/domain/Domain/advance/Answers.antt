@@ -15,7 +15,7 @@ invariant_of-self-2 g c =
     let made = c.make_ticks-ticks in
     let most = made.ensures.most in
     let call = c.requires.call.1 in
-    advance_grows inside.cpus inside.limit inside.workers.count inside.ledger c.enter.new.self inside.stock c.sweep.new.self inside.state made.new.state made.result c.args.pass.now c.self.invariant c.enter.ensures.ledger made.ensures.state made.ensures.keys c.sweep.ensures.stock (omega (arith, most, call))
+    advance_grows inside.cpus inside.limit inside.workers.count inside.left inside.ledger c.enter.new.self inside.stock c.sweep.new.self inside.state made.new.state made.result c.args.pass.now c.self.invariant c.enter.ensures.ledger made.ensures.state made.ensures.keys c.sweep.ensures.stock (omega (arith, most, call))
 
 pub returns-clause-done : goal.returns-clause-done
 returns-clause-done g c =
@@ -25,5 +25,5 @@ returns-clause-done g c =
     let call = c.requires.call.1 in
     let some = c.if-ticks-eq0.false in
     let free = has_room c.is_full.result (length inside.ledger.history) inside.ledger.room c.is_full.ensures.full c.if-is_full.false c.is_full.ensures.history.within in
-    let after = advance_grows inside.cpus inside.limit inside.workers.count inside.ledger c.enter.new.self inside.stock c.sweep.new.self inside.state made.new.state made.result c.args.pass.now c.self.invariant c.enter.ensures.ledger made.ensures.state made.ensures.keys c.sweep.ensures.stock (omega (arith, most, call)) in
-    advance_answer c.args.self.now inside.cpus inside.limit inside.workers.count inside.ledger c.enter.new.self inside.stock c.sweep.new.self inside.state made.new.state made.result c.args.n c.args.pass.now c.enter.new.pass c.self.view_is c.self.invariant after free (omega (arith, some)) most c.enter.ensures.ledger c.enter.ensures.pass c.sweep.ensures.stock c.sweep.ensures.given
+    let after = advance_grows inside.cpus inside.limit inside.workers.count inside.left inside.ledger c.enter.new.self inside.stock c.sweep.new.self inside.state made.new.state made.result c.args.pass.now c.self.invariant c.enter.ensures.ledger made.ensures.state made.ensures.keys c.sweep.ensures.stock (omega (arith, most, call)) in
+    advance_answer c.args.self.now inside.cpus inside.limit inside.workers.count inside.left inside.ledger c.enter.new.self inside.stock c.sweep.new.self inside.state made.new.state made.result c.args.n c.args.pass.now c.enter.new.pass c.self.view_is c.self.invariant after free (omega (arith, some)) most c.enter.ensures.ledger c.enter.ensures.pass c.sweep.ensures.stock c.sweep.ensures.given

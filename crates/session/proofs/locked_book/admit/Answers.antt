@@ -1,0 +1,8 @@
+use Rattle.session.proofs.Replied.{busy_over}
+use Rattle.session.proofs.locked_book.admit.Goals as goal
+
+pub returns-in-Busy-clause-offered : goal.returns-in-Busy-clause-offered
+returns-in-Busy-clause-offered c = record {
+  pass = c.in-Busy.ensures.entered.entered.pass;
+  verdict = busy_over c.args.domain.now c.admit.new.self c.args.pass.now c.admit.new.pass c.args.prepared c.args.ticket c.in-Busy.ticket c.in-Busy.seen c.in-Busy.ensures;
+}
