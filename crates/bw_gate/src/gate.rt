@@ -3,6 +3,7 @@ mod mark;
 
 use crate::answer::{Regrade, Take, Words};
 use crate::dealing::{caps_of, deal, gather_blanks, gather_tickets, words_of};
+use crate::desk::Desk;
 use crate::piece::{Blank, Ticket};
 use crate::terms::{Room, Terms, first_words};
 use crate::view;
@@ -256,15 +257,13 @@ impl Gate {
         Blank { seat, last: found }
     }
 
-    /// The same blank as [`Gate::open`] deals it, which has found nothing. By one load, of which
-    /// nothing is told.
-    pub fn renew(&self, blank: Blank) -> Blank
-        requires { blank.gate ≡ self.now }
-        ensures { result ≡ record { gate = self.now; found = [] } }
+    /// What [`Blank::renew`] asks of the gate.
+    pub fn desk(&self) -> Desk<'_>
+        ensures { result ≡ self.now }
     {
-        let Blank { mut seat, .. } = blank;
-        let _ = self.table.shared.load::<view::Renew>(&mut seat, 0);
-        Blank { seat, last: 0 }
+        Desk {
+            shared: &self.table.shared,
+        }
     }
 
     /// The word of a ticket's domain, by one load: what is used of it is at least the ticket's

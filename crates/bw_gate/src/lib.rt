@@ -16,6 +16,7 @@
 mod answer;
 mod core_steps;
 mod dealing;
+mod desk;
 mod gate;
 mod piece;
 mod terms;
@@ -24,6 +25,7 @@ mod word;
 
 pub use answer::{Limit, Regrade, Take, Words};
 pub use core_steps::steps_are_the_cores;
+pub use desk::Desk;
 pub use gate::{Gate, Mark};
 pub use piece::{Blank, Ticket};
 pub use terms::Room;

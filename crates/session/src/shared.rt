@@ -86,7 +86,7 @@ impl<N: Names> Shared<N> {
             Some(blank) => blank,
             None => self.books.spare_at(rt, place)?,
         };
-        Some(self.gate.renew(blank))
+        Some(blank.renew(self.gate.desk()))
     }
 }
 
