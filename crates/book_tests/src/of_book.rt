@@ -1,5 +1,5 @@
 ghost use Rattle.std.specs.Prelude.{◌≡◌, ◌<◌, ◌≤◌, IfOk, IfSome, All, length};
-ghost use Rattle.call_book.specs.Limits.{IsCall, IsEntry};
+ghost use Rattle.call_book.specs.Limits.{IsCall, IsEntry, IsSection};
 
 use bw_gate::{Blank, Gate, Room, Take, Ticket, used_of};
 use call_book::{
@@ -432,7 +432,16 @@ fn refused_growth_of_open(rt: HostRuntime) -> Result<(), Fail> {
 fn entries_of(alloc: Global, text: &[u8]) -> Option<Vec<Entry>>
     ensures { IfSome result (λ v. All IsEntry v.items) }
 {
-    let mut sections = read_calls(alloc, text).ok()?;
+    match read_calls(alloc, text) {
+        Ok(sections) => last_entries(sections),
+        Err(_) => None,
+    }
+}
+
+fn last_entries(mut sections: Vec<Section>) -> Option<Vec<Entry>>
+    requires { All IsSection sections.items }
+    ensures { IfSome result (λ v. All IsEntry v.items) }
+{
     let Section {
         cpus: _,
         limit: _,

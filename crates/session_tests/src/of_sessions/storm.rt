@@ -1,6 +1,6 @@
 // A storm: 64 clients at once, each in a thread of its own, on one domain.
 ghost use Rattle.std.specs.Prelude.{◌≡◌, ◌<◌, length, All, IfSome};
-ghost use Rattle.call_book.specs.Limits.{IsEntry};
+ghost use Rattle.call_book.specs.Limits.{IsEntry, IsSection};
 
 use super::clients::make;
 use call_book::{Entry, NoMemory, Reply, Section, read_calls};
@@ -48,7 +48,16 @@ fn text_of(alloc: Global, client: u32, leaves: bool) -> Option<String> {
 pub(super) fn entries_of(alloc: Global, text: &[u8]) -> Option<Vec<Entry>>
     ensures { IfSome result (λ v. All IsEntry v.items) }
 {
-    let mut sections = read_calls(alloc, text).ok()?;
+    match read_calls(alloc, text) {
+        Ok(sections) => last_entries(sections),
+        Err(_) => None,
+    }
+}
+
+fn last_entries(mut sections: Vec<Section>) -> Option<Vec<Entry>>
+    requires { All IsSection sections.items }
+    ensures { IfSome result (λ v. All IsEntry v.items) }
+{
     let Section {
         cpus: _,
         limit: _,
