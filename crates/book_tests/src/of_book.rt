@@ -399,6 +399,25 @@ fn limit_beside_a_rival(rt: &(impl Abort + Wait), desk: &mut Desk) -> Reply {
     reply
 }
 
+// One call, a limit that the word refused, with what was used of it.
+fn is_limit_refused_by_the_word(entries: &[Entry]) -> bool {
+    let [entry] = entries else {
+        return false;
+    };
+    matches!(
+        entry,
+        Entry {
+            client: 1,
+            seq: 0,
+            call: Call::Limit {
+                limit: 131072,
+                word: Some(262144)
+            },
+            reply: Some(Reply::Busy { seen: 262144 })
+        }
+    )
+}
+
 // limit_refused_by_the_word: the domain lists no task, and a ticket that no task has yet is above
 // the new limit.
 #[test]
@@ -408,11 +427,7 @@ fn limit_refused_by_the_word(rt: HostRuntime) -> Result<(), Fail> {
     let (state, word, entries) = closed(rt.alloc(), desk);
     assert_eq!(rt; reply, Reply::Busy { seen: 262144 });
     assert_eq!(rt; (state.limit(), word), (524288, 0));
-    let shown = format!(in rt.alloc(); "{entries:?}")?;
-    assert_eq!(rt;
-        shown.as_str(),
-        "[Entry { client: 1, seq: 0, call: Limit { limit: 131072, word: Some(262144) }, reply: Some(Busy { seen: 262144 }) }]"
-    );
+    assert!(rt; is_limit_refused_by_the_word(&entries));
     Ok(())
 }
 
