@@ -1,12 +1,12 @@
 -- What one step makes of a world's domains, and what it answers (own).
-use Rattle.std.specs.Prelude.{ℕ, ◌^◌, Bool, not, ◌&&◌, nat_le, if◌then◌else◌, List, [], ◌∷◌, map, position, slice_get, slice_set, Option, Some, None}
+use Rattle.std.specs.Prelude.{ℕ, ◌^◌, Bool, not, ◌&&◌, nat_le, if◌then◌else◌, ◌==◌, List, [], ◌∷◌, map, position, slice_get, slice_set, Option, Some, None}
 use Rattle.std.specs.List.{list_any}
 use Rattle.bw_world.specs.declared.step.Step.{Step}
-use Rattle.bw_world.specs.declared.step.Step.TheVariants.{Load, Take, Regrade, Give, Enter, Release, Limit}
+use Rattle.bw_world.specs.declared.step.Step.TheVariants.{Load, Take, Regrade, Give, Enter, Release, Limit, Move}
 use Rattle.bw_world.specs.declared.step.Outcome.{Outcome}
-use Rattle.bw_world.specs.declared.step.Outcome.TheVariants.{Not}
+use Rattle.bw_world.specs.declared.step.Outcome.TheVariants.{Not, Done}
 use Rattle.bw_world.specs.WorldView.{DomainView, WorldView}
-use Rattle.bw_world.specs.DomainStep.{DomainStep, opened, is_live_in, loaded, taken, regraded, given, entered, released, limited}
+use Rattle.bw_world.specs.DomainStep.{DomainStep, opened, is_admitted, is_live_in, loaded, taken, regraded, given, entered, released, limited}
 
 -- one whole CPU, the most that one ticket is taken for
 abbrev pub unit : ℕ
@@ -51,6 +51,27 @@ at_home domains id rule = at_place domains rule (position (is_live_in id) domain
 abbrev pub may_take : ℕ → ℕ → List DomainView → Bool
 may_take id bw domains = nat_le bw unit && not (is_live id domains)
 
+-- the ticket is in hand here with so much, and no admitted task has the number
+abbrev pub may_arrive : ℕ → ℕ → ℕ → DomainView → Bool
+may_arrive new number bw d =
+    not (is_admitted number d) && list_any (λ t. (t.id == new) && (t.bw == bw)) d.in_hand
+
+-- an admitted task of the number holds the ticket `old` here, and the ticket `new` has as much and
+-- may go into the task in some domain. That is another one, since this one has the number
+abbrev pub may_depart : ℕ → ℕ → ℕ → List DomainView → DomainView → Bool
+may_depart old new number domains d =
+    list_any (λ t. ((t.ticket == old) && (t.number == number))
+        && list_any (may_arrive new number t.bw) domains) d.admitted
+
+abbrev pub may_move : ℕ → ℕ → ℕ → List DomainView → Bool
+may_move old new number domains = list_any (may_depart old new number domains) domains
+
+-- the old ticket is released, and the new one goes into a task of the number: as one step, so that
+-- the bandwidth stands in a word throughout. Neither word changes
+abbrev pub moved : ℕ → ℕ → ℕ → List DomainView → List DomainView
+moved old new number domains =
+    (at_home (at_home domains old (released old)).domains new (entered new number)).domains
+
 -- one step, by cases
 abbrev pub stepped : Step → List DomainView → WorldStep
 stepped (Load k) domains = at_domain domains k loaded
@@ -62,6 +83,9 @@ stepped (Enter id number) domains = at_home domains id (entered id number)
 stepped (Release id) domains = at_home domains id (released id)
 stepped (Limit k cap expected) domains =
     if nat_le cap (2 ^ 26) then at_domain domains k (limited cap expected) else misfit domains
+stepped (Move old new number) domains =
+    if may_move old new number domains
+    then record { domains = moved old new number domains; outcome = Done } else misfit domains
 
 -- the domains after steps, one after another
 abbrev pub after : List Step → List DomainView → List DomainView

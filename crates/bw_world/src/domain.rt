@@ -290,4 +290,36 @@ impl Domain {
         self.cap = cap;
         Outcome::Done
     }
+
+    /// Whether the ticket is in hand here with so much, and no admitted task has the number.
+    pub fn may_arrive(&self, id: u64, number: u32, bw: u64) -> bool
+        ensures { result ≡ may_arrive id number bw self.now }
+    {
+        !any_number(self.admitted.as_slice(), number)
+            && any_ticket_of(self.in_hand.as_slice(), id, bw)
+    }
+
+    /// Releases a ticket here, and puts another one into a task there. Room for both is made first.
+    pub fn hand_over(
+        &mut self,
+        old: u64,
+        to: &mut Domain,
+        new: u64,
+        number: u32,
+    ) -> Result<(), NoMemory>
+        requires leaves { IsSome (admitted_of old self.old) }
+        requires arrives { IsSome (in_hand_of new to.old) }
+        requires free { is_admitted number to.old ≡ false }
+        ensures from { OnOk result (self.new ≡ (released old self.old).domain) }
+        ensures to { OnOk result (to.new ≡ (entered new number to.old).domain) }
+        ensures err { OnErr result ((self.new ≡ self.old) × (to.new ≡ to.old)) }
+    {
+        self.in_hand.try_reserve(1)?;
+        self.changes.try_reserve(1)?;
+        to.admitted.try_reserve(1)?;
+        to.changes.try_reserve(1)?;
+        self.release_reserved(old);
+        to.enter_reserved(new, number);
+        Ok(())
+    }
 }

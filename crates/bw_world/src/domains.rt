@@ -1,14 +1,16 @@
-ghost use Rattle.std.specs.Prelude.{◌≡◌, ◌<◌, length, position, IsTrue, IfOk, IfSome, OnOk, OnErr};
+ghost use Rattle.std.specs.Prelude.{◌≡◌, ◌<◌, length, position, slice_set, IsTrue, IfOk, IfSome, OnOk, OnErr};
+ghost use Rattle.std.specs.List.{list_any};
 ghost use Rattle.bw_world.specs.declared.step.Outcome.TheVariants.{Done};
-ghost use Rattle.bw_world.specs.declared.step.Step.TheVariants.{Load, Take, Regrade, Give, Enter, Release, Limit};
+ghost use Rattle.bw_world.specs.declared.step.Step.TheVariants.{Load, Take, Regrade, Give, Enter, Release, Limit, Move};
 ghost use Rattle.bw_world.specs.ExactWord.{IsExact};
-ghost use Rattle.bw_world.specs.DomainStep.{is_live_in};
-ghost use Rattle.bw_world.specs.WorldStep.{is_live, stepped};
+ghost use Rattle.bw_world.specs.DomainStep.{is_live_in, released, entered};
+ghost use Rattle.bw_world.specs.WorldStep.{is_live, may_arrive, may_move, stepped};
 ghost use Rattle.bw_world.specs.Growing.{lengthens, IsGrowing};
 
 use crate::domain::Domain;
 use crate::step::{Outcome, Step, UNIT, WIDEST, Word};
 use no_memory::NoMemory;
+use std::mem;
 
 // Whether the ticket is live in some domain.
 fn is_live(domains: &[Domain], id: u64) -> bool
@@ -142,6 +144,55 @@ fn limit(domains: &mut Vec<Domain>, domain: usize, cap: u64, expected: Word) -> 
     d.limit(cap, expected)
 }
 
+// Whether some domain without a task of the number has the ticket in hand, with so much.
+fn may_arrive(domains: &[Domain], new: u64, number: u32, bw: u64) -> bool
+    ensures { result ≡ list_any (may_arrive new number bw) domains.now }
+{
+    domains.iter().any(|d| d.may_arrive(new, number, bw))
+}
+
+// Whether the ticket of the task of the number may be left for the other one.
+fn may_move(domains: &[Domain], old: u64, new: u64, number: u32) -> bool
+    ensures { result ≡ may_move old new number domains.now }
+{
+    domains.iter().any(|d| match d.bw_of(old, number) {
+        None => false,
+        Some(bw) => may_arrive(domains, new, number, bw),
+    })
+}
+
+// Move. Room for both books is made first.
+fn move_task(
+    domains: &mut Vec<Domain>,
+    old: u64,
+    new: u64,
+    number: u32,
+) -> Result<Outcome, NoMemory>
+    requires { IsExact domains.old.items }
+    ensures outcome { IfOk result (λ outcome.
+        outcome ≡ (stepped (Move old new number) domains.old.items).outcome) }
+    ensures domains { OnOk result (
+        domains.new.items ≡ (stepped (Move old new number) domains.old.items).domains) }
+    ensures err { OnErr result (domains.new.items ≡ domains.old.items) }
+    ensures err_only { OnErr result (IsGrowing (Move old new number) domains.old.items) }
+{
+    if !may_move(domains.as_slice(), old, new, number) {
+        return Ok(Outcome::Not);
+    }
+    let (Some(from), Some(to)) = (
+        home_of(domains.as_slice(), old),
+        home_of(domains.as_slice(), new),
+    ) else {
+        return Ok(Outcome::Not);
+    };
+    let none = Domain::open(*domains.allocator(), 0);
+    let mut left = mem::replace(&mut domains[from], none);
+    let made = left.hand_over(old, &mut domains[to], new, number);
+    domains[from] = left;
+    made?;
+    Ok(Outcome::Done)
+}
+
 /// Applies one step to the domains of a world. After an `Err` they are as they were.
 pub(crate) fn apply(domains: &mut Vec<Domain>, step: Step) -> Result<Outcome, NoMemory>
     requires { IsExact domains.old.items }
@@ -171,5 +222,6 @@ pub(crate) fn apply(domains: &mut Vec<Domain>, step: Step) -> Result<Outcome, No
             cap,
             expected,
         } => Ok(limit(domains, domain, cap, expected)),
+        Step::Move { old, new, number } => move_task(domains, old, new, number),
     }
 }
