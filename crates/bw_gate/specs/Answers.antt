@@ -157,7 +157,7 @@ pub record IsSet (b : BlankView) (d limit : ℕ) (c : BlankView) : Type 0 where
   pub blank : c ≡ blank_found b (seen ∷ word_of (cap_by b.gate d limit) (used_of seen) ∷ [])
 
 -- refused: more is used of the word that the load found than the new cap. A kernel answers a write to
--- sched_rt_runtime_us with EBUSY then
+-- sched_rt_runtime_us with EBUSY then (sched_dl_global_validate)
 pub record IsLimitRefused (b : BlankView) (d limit : ℕ) (c : BlankView) (seen : ℕ) : Type 0 where
   pub word : IsWord (cpus_of b.gate d) seen
   pub over : cap_by b.gate d limit < used_of seen

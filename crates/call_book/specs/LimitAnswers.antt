@@ -1,6 +1,6 @@
 -- What a book answers to a change of its domain's limit, which stands for a write to
--- sched_rt_runtime_us (sched-deadline.rst, "System wide settings", with its EBUSY; two tests and one
--- step on one word are our own).
+-- sched_rt_runtime_us (sched-deadline.rst, "System wide settings"; the EBUSY is of the kernel's
+-- sched_dl_global_validate; two tests and one step on one word are our own).
 use Rattle.std.specs.Prelude.{◌≡◌, ℕ, ◌<◌, ◌≤◌, ◌⊎◌, [], ◌∷◌, ◌++◌, length, Option, Some, None}
 use Rattle.attr_check.specs.Ratio.{cap}
 use Rattle.pass_seats.specs.Lists.{PassView}

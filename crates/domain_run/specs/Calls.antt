@@ -1,5 +1,5 @@
 -- The calls on a domain, made between two ticks: replies and effects (own; the errors of
--- sched_setattr(2), and of sched-deadline.rst on sched_rt_runtime_us).
+-- sched_setattr(2), and of the kernel's sched_dl_global_validate on sched_rt_runtime_us).
 use Rattle.std.specs.Prelude.{ℕ, ◌+◌, ◌-◌, ◌%◌, ◌==◌, Bool, true, false, not, ◌&&◌, nat_lt, nat_le, if◌then◌else◌, List, [], ◌∷◌, ◌++◌, length, map, find, Option, Some, None, pos}
 use Rattle.std.specs.List.{list_any}
 use Rattle.attr_check.specs.ParamsView.{ParamsView}
@@ -94,7 +94,7 @@ ended time t =
     if is_contending t.condition then stopped time Leaving t else record t { condition = Leaving }
 
 -- LIMIT. The bandwidth of the listed tasks is above CPUs times the new limit, or the domain's
--- bandwidth word refused it (sched-deadline.rst, EBUSY of a write to sched_rt_runtime_us)
+-- bandwidth word refused it (EBUSY of a write to sched_rt_runtime_us: sched_dl_global_validate)
 abbrev pub set_reply : Option ℕ → Reply
 set_reply None = Set
 set_reply (Some s) = Busy s
