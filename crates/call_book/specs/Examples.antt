@@ -8,10 +8,10 @@ use Rattle.domain_run.specs.declared.script.Event.{Event}
 use Rattle.domain_run.specs.declared.script.Event.TheVariants.{Run, Sleep, Timer, Wait}
 use Rattle.domain_run.specs.script.ScriptView.{PhaseView, script_of}
 use Rattle.domain_run.specs.declared.call.Call.{Call}
-use Rattle.domain_run.specs.declared.call.Call.TheVariants.{Admit, Regrade, Wake, Leave, Advance, Limit}
+use Rattle.domain_run.specs.declared.call.Call.TheVariants.{Admit, Regrade, Wake, Leave, Advance, Limit, Depart, Arrive}
 use Rattle.call_book.specs.declared.section.Entry.{Entry}
 use Rattle.call_book.specs.SectionView.{SectionView}
-use Rattle.call_book.specs.Spelling.{entry_line, has_limit, spelling}
+use Rattle.call_book.specs.Spelling.{entry_line, has_later, spelling}
 use Rattle.call_book.specs.OwnCalls.{IsNumbered}
 use Rattle.call_book.specs.Limits.{IsChecked, attr_of}
 
@@ -77,7 +77,7 @@ pub changed_in_the_second : spelling
 unfolding digits
 changed_in_the_second = refl
 
-pub never_changed : has_limit
+pub never_changed : has_later
     (one_section 1 10485 (call 0 (Regrade 1 (params 4 8 8 524288) (Some 0)) ∷ call 1 (Wake 1)
     ∷ call 2 (Leave 1) ∷ call 3 (Advance 1) ∷ [])) ≡ false
 never_changed = refl

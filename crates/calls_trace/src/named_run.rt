@@ -131,6 +131,17 @@ impl RunWithNames {
                 self.state.set_limit(limit, word);
                 Ok(())
             }
+            Call::Depart { number } => {
+                self.state.depart(number);
+                Ok(())
+            }
+            // As an admission without a delay.
+            Call::Arrive {
+                number,
+                name,
+                params,
+                script,
+            } => self.admit(alloc, number, name, params, 0, script),
         }
     }
 

@@ -11,7 +11,7 @@ use Rattle.attr_check.specs.Ratio.{cap}
 use Rattle.domain_run.specs.declared.call.Call.{Call}
 use Rattle.domain_run.specs.declared.call.Call.TheVariants as calls
 use Rattle.domain_run.specs.declared.call.Reply.{Reply}
-use Rattle.domain_run.specs.declared.call.Reply.TheVariants.{Admitted, Changed, Woken, Left, Done, Set, Full, Twice, Busy, NotListed, NotWaiting}
+use Rattle.domain_run.specs.declared.call.Reply.TheVariants.{Admitted, Changed, Woken, Left, Done, Set, Departed, Full, Twice, Busy, NotListed, NotWaiting}
 use Rattle.domain_run.specs.Domain.{Domain, opened}
 use Rattle.domain_run.specs.Tick.{sum_of}
 use Rattle.domain_run.specs.Calls.{reply_to, is_refusal, after_call}
@@ -136,6 +136,7 @@ answer_capped id d t (Ok Woken) capped = tt
 answer_capped id d t (Ok Left) capped = tt
 answer_capped id d t (Ok (Done n)) capped = tt
 answer_capped id d t (Ok Set) capped = tt
+answer_capped id d t (Ok Departed) capped = tt
 answer_capped id d t (Ok Full) capped = tt
 answer_capped id d t (Ok Twice) capped = tt
 answer_capped id d t (Ok NotListed) capped = tt

@@ -11,6 +11,10 @@ ghost use Rattle.domain_run.specs.Keys.{AreKept};
 ghost use Rattle.call_book.specs.Pieces.{HoldsTickets};
 ghost use Rattle.call_book.specs.private.Kept.{IsAsked, IsLimitAsked};
 
+mod moving;
+
+pub use moving::{Move, MoveFault, move_task};
+
 use crate::book::Pass;
 use crate::book::ledger::Ledger;
 use crate::book::prepared::{Listing, Prepared};
