@@ -2,7 +2,7 @@ ghost use Rattle.std.specs.Prelude.{◌≡◌, ◌≤◌, ◌^◌};
 
 use std::marker::Model;
 
-/// The accepted parameters of a task. Each value is ordered: 0 < runtime <= deadline <= period <=
+/// The accepted parameters of a task. Each value is ordered: 1 < runtime <= deadline <= period <=
 /// 2^32 us, and `bw` is the ratio of runtime and period.
 #[derive(Clone, Copy, Debug, PartialEq, Eq)]
 pub struct Params {

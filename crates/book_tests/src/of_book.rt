@@ -13,6 +13,7 @@ use std::test::Fail;
 use std::thread::Threads;
 
 mod memory;
+mod moves;
 mod rates;
 mod shared;
 mod threads;
@@ -30,6 +31,7 @@ struct Desk {
     ghost spine: { pass.spine ≡ domain.spine },
     ghost some: { 0 < pass.client },
     ghost most: { pass.client ≤ domain.clients },
+    ghost only: { domain.clients ≡ 1 },
     ghost blanks_own: { All (λ b. b.gate ≡ gate) blanks.items },
 }
 
@@ -202,6 +204,7 @@ fn make<R: Abort + Threads + Wait>(
             Ok(desk.domain.advance(rt, &mut desk.pass, &desk.gate, *ticks)?)
         }
         Call::Limit { limit, word: _ } => Ok(set_limit(rt, desk, *limit)),
+        Call::Depart { .. } | Call::Arrive { .. } => panic!(rt; "a move takes two books"),
     }
 }
 

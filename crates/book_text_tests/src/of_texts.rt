@@ -1,6 +1,7 @@
 mod bad_lines;
 mod hostile;
 mod limits;
+mod moves;
 mod written;
 
 use call_book::{CallsFault, read_calls};

@@ -11,13 +11,13 @@ use Rattle.std.proofs.lemmas.Option.{slice_get-get_or, get_or_from_slice_get, sl
 use Rattle.no_memory.specs.declared.NoMemory.{NoMemory}
 use Rattle.bw_world.specs.declared.step.Outcome.{Outcome}
 use Rattle.bw_world.specs.declared.step.Step.{Step}
-use Rattle.bw_world.specs.declared.step.Step.TheVariants.{Load, Take, Regrade, Give, Enter, Release, Limit}
+use Rattle.bw_world.specs.declared.step.Step.TheVariants.{Load, Take, Regrade, Give, Enter, Release, Limit, Move}
 use Rattle.bw_world.specs.declared.step.Word.{Word}
 use Rattle.bw_world.specs.declared.ticket.Ticket.{Ticket}
 use Rattle.bw_world.specs.declared.ticket.Task.{Task}
 use Rattle.bw_world.specs.WorldView.{DomainView}
 use Rattle.bw_world.specs.DomainStep.{DomainStep, opened, is_live_in, loaded, taken, regraded, given, entered, released, limited}
-use Rattle.bw_world.specs.WorldStep.{unit, may_take, is_live, at_found, at_place, at_home, stepped, after, outcomes_of}
+use Rattle.bw_world.specs.WorldStep.{unit, may_take, may_move, is_live, at_found, at_place, at_home, stepped, after, outcomes_of}
 use Rattle.bw_world.specs.Growing.{IsGrowing, IsGrowingAt}
 use Rattle.bw_world.specs.ExactWord.{IsExactDomain, IsExact, live_in, live}
 use Rattle.bw_world.proofs.Counted.{one_if, none_counted}
@@ -97,6 +97,15 @@ limit_exact ds k cap expected exact =
     (λ (no : test ≡ false). rw no exact)
     (cases_Bool test)
 
+move_exact : (ds : List DomainView) (old new number : ℕ) → IsExact ds → IsExact (stepped (Move old new number) ds).domains
+move_exact ds old new number exact =
+    let test : Bool = may_move old new number ds in
+    let left : List DomainView = (at_home ds old (released old)).domains in
+    ⊎_elim
+    (λ (yes : test ≡ true). rw yes (home_exact left new (entered new number) (home_exact ds old (released old) exact (release_keeps old)) (enter_keeps new number)))
+    (λ (no : test ≡ false). rw no exact)
+    (cases_Bool test)
+
 -- one step
 pub step_exact : (s : Step) (ds : List DomainView) → IsExact ds → IsExact (stepped s ds).domains
 step_exact (Load k) ds exact = found_exact ds k loaded (slice_get ds k) refl exact (λ d e single. record { exact = e; ids = λ id. omega arith })
@@ -106,6 +115,7 @@ step_exact (Give id) ds exact = home_exact ds id (given id) exact (give_keeps id
 step_exact (Enter id number) ds exact = home_exact ds id (entered id number) exact (enter_keeps id number)
 step_exact (Release id) ds exact = home_exact ds id (released id) exact (release_keeps id)
 step_exact (Limit k cap expected) ds exact = limit_exact ds k cap expected exact
+step_exact (Move old new number) ds exact = move_exact ds old new number exact
 
 -- after every step of every list
 pub after_exact : (steps : List Step) (ds : List DomainView) → IsExact ds → IsExact (after steps ds)

@@ -3,7 +3,7 @@ use Rattle.std.specs.Prelude.{◌≡◌, ℕ, List, [], ◌∷◌, map, take, re
 use Rattle.bw_world.specs.declared.book.Change.TheVariants.{Entered, Regraded, Released}
 use Rattle.bw_world.specs.declared.step.Outcome.TheVariants.{Saw, Done, Over, Lost, Not}
 use Rattle.bw_world.specs.declared.step.Step.{Step}
-use Rattle.bw_world.specs.declared.step.Step.TheVariants.{Load, Take, Regrade, Give, Enter, Release, Limit}
+use Rattle.bw_world.specs.declared.step.Step.TheVariants.{Load, Take, Regrade, Give, Enter, Release, Limit, Move}
 use Rattle.bw_world.specs.declared.step.Word.{Word}
 use Rattle.bw_world.specs.WorldView.{DomainView}
 use Rattle.bw_world.specs.DomainStep.{opened}
@@ -128,3 +128,47 @@ limits_end : after limits one ≡ record {
   changes = [];
 } ∷ []
 limits_end = refl
+
+-- a task moves from one domain to another, where a ticket of equal bandwidth was taken for it: the
+-- used parts are the same before and after, and the old ticket can be given back then
+abbrev narrow : ℕ → Word
+narrow used = word 1048576 used
+
+abbrev moving : List Step
+moving =
+    Take 1 0 300 (wide 0) ∷ Enter 1 5 ∷ Take 2 1 300 (narrow 0) ∷ Move 1 2 5 ∷ Give 1 ∷ []
+
+moving_outcomes : outcomes_of moving two ≡ Done ∷ Done ∷ Done ∷ Done ∷ Done ∷ []
+moving_outcomes = refl
+
+moving_words : map (words_after moving two) (3 ∷ 4 ∷ 5 ∷ [])
+    ≡ (300 ∷ 300 ∷ []) ∷ (300 ∷ 300 ∷ []) ∷ (0 ∷ 300 ∷ []) ∷ []
+moving_words = refl
+
+moving_end : after (take 4 moving) two ≡ record {
+  cap = 2097152;
+  used = 300;
+  in_hand = record { id = 1; bw = 300 } ∷ [];
+  admitted = [];
+  changes = Entered 5 1 300 ∷ Released 5 ∷ [];
+} ∷ record {
+  cap = 1048576;
+  used = 300;
+  in_hand = [];
+  admitted = record { number = 5; ticket = 2; bw = 300 } ∷ [];
+  changes = Entered 5 2 300 ∷ [];
+} ∷ []
+moving_end = refl
+
+-- a Move that does not fit: the tickets have not equal bandwidth; they are of one domain; the task
+-- has another number; the old ticket is in hand; there is no such ticket; the number is admitted in
+-- the other domain too
+abbrev staying : List Step
+staying =
+    Take 1 0 300 (wide 0) ∷ Enter 1 5 ∷ Take 2 1 299 (narrow 0) ∷ Move 1 2 5
+    ∷ Take 3 0 300 (wide 300) ∷ Move 1 3 5 ∷ Regrade 2 300 (narrow 299) ∷ Move 1 2 6 ∷ Move 3 2 5
+    ∷ Move 4 2 5 ∷ Move 1 4 5 ∷ Take 4 1 7 (narrow 300) ∷ Enter 4 5 ∷ Move 1 2 5 ∷ []
+
+staying_outcomes : outcomes_of staying two
+    ≡ Done ∷ Done ∷ Done ∷ Not ∷ Done ∷ Not ∷ Done ∷ Not ∷ Not ∷ Not ∷ Not ∷ Done ∷ Done ∷ Not ∷ []
+staying_outcomes = refl

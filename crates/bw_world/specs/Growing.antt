@@ -2,7 +2,7 @@
 use Rattle.std.specs.Prelude.{ℕ, ◌≡◌, ◌<◌, ◌⊎◌, IsTrue, IsSomeAnd, Bool, true, false, ◌==◌, List, length, take, slice_get}
 use Rattle.std.specs.List.{list_any}
 use Rattle.bw_world.specs.declared.step.Step.{Step}
-use Rattle.bw_world.specs.declared.step.Step.TheVariants.{Load, Take, Regrade, Give, Enter, Release, Limit}
+use Rattle.bw_world.specs.declared.step.Step.TheVariants.{Load, Take, Regrade, Give, Enter, Release, Limit, Move}
 use Rattle.bw_world.specs.declared.step.Outcome.TheVariants.{Done}
 use Rattle.bw_world.specs.WorldView.{DomainView}
 use Rattle.bw_world.specs.WorldStep.{stepped, after}
@@ -17,6 +17,7 @@ lengthens (Give id) domains = false
 lengthens (Enter id number) domains = true
 lengthens (Release id) domains = true
 lengthens (Limit k cap expected) domains = false
+lengthens (Move old new number) domains = true
 
 -- a step that may want memory would be done, and lengthens a list
 pub record IsGrowing (s : Step) (domains : List DomainView) : Type 0 where

@@ -1,12 +1,14 @@
 -- What one step makes of a world's domains, and what it answers (own).
-use Rattle.std.specs.Prelude.{ℕ, ◌^◌, Bool, not, ◌&&◌, nat_le, if◌then◌else◌, List, [], ◌∷◌, map, position, slice_get, slice_set, Option, Some, None}
+use Rattle.std.specs.Prelude.{ℕ, ◌^◌, Bool, false, not, ◌&&◌, nat_le, if◌then◌else◌, ◌==◌, List, [], ◌∷◌, map, find, position, slice_get, slice_set, Option, Some, None}
 use Rattle.std.specs.List.{list_any}
 use Rattle.bw_world.specs.declared.step.Step.{Step}
-use Rattle.bw_world.specs.declared.step.Step.TheVariants.{Load, Take, Regrade, Give, Enter, Release, Limit}
+use Rattle.bw_world.specs.declared.step.Step.TheVariants.{Load, Take, Regrade, Give, Enter, Release, Limit, Move}
 use Rattle.bw_world.specs.declared.step.Outcome.{Outcome}
 use Rattle.bw_world.specs.declared.step.Outcome.TheVariants.{Not}
+use Rattle.bw_world.specs.declared.ticket.Ticket.{Ticket}
+use Rattle.bw_world.specs.declared.ticket.Task.{Task}
 use Rattle.bw_world.specs.WorldView.{DomainView, WorldView}
-use Rattle.bw_world.specs.DomainStep.{DomainStep, opened, is_live_in, loaded, taken, regraded, given, entered, released, limited}
+use Rattle.bw_world.specs.DomainStep.{DomainStep, opened, in_hand_of, admitted_of, is_admitted, is_live_in, loaded, taken, regraded, given, entered, released, limited}
 
 -- one whole CPU, the most that one ticket is taken for
 abbrev pub unit : ℕ
@@ -51,6 +53,39 @@ at_home domains id rule = at_place domains rule (position (is_live_in id) domain
 abbrev pub may_take : ℕ → ℕ → List DomainView → Bool
 may_take id bw domains = nat_le bw unit && not (is_live id domains)
 
+-- the domain in which the ticket is live
+abbrev pub home_of : ℕ → List DomainView → Option DomainView
+home_of id domains = find (is_live_in id) domains
+
+abbrev pub fits_found : ℕ → DomainView → Option Task → Option Ticket → Bool
+fits_found number to (Some t) (Some u) =
+    (t.number == number) && (t.bw == u.bw) && not (is_admitted number to)
+fits_found number to (Some t) None = false
+fits_found number to None hand = false
+
+-- a task may move between two domains (own; a task has its bandwidth in one root domain,
+-- sched-deadline.rst on cpusets): in `from` an admitted task of the number holds the ticket `old`;
+-- in `to` the ticket `new` is in hand with equal bandwidth, and no admitted task has the number
+abbrev pub fits_move : ℕ → ℕ → ℕ → DomainView → DomainView → Bool
+fits_move old new number from to = fits_found number to (admitted_of old from) (in_hand_of new to)
+
+abbrev pub fits_homes : ℕ → ℕ → ℕ → Option DomainView → Option DomainView → Bool
+fits_homes old new number (Some from) (Some to) = fits_move old new number from to
+fits_homes old new number (Some from) None = false
+fits_homes old new number None to = false
+
+-- a task may move where both tickets are live and their domains fit. These are two domains, since
+-- one has the number admitted and the other has not
+abbrev pub may_move : ℕ → ℕ → ℕ → List DomainView → Bool
+may_move old new number domains =
+    fits_homes old new number (home_of old domains) (home_of new domains)
+
+-- a move: the old ticket is released and the new one enters a task of the number, as one step, so
+-- that the task has its bandwidth throughout. Both words stay as they are
+abbrev pub moved : ℕ → ℕ → ℕ → List DomainView → WorldStep
+moved old new number domains =
+    at_home (at_home domains old (released old)).domains new (entered new number)
+
 -- one step, by cases
 abbrev pub stepped : Step → List DomainView → WorldStep
 stepped (Load k) domains = at_domain domains k loaded
@@ -62,6 +97,8 @@ stepped (Enter id number) domains = at_home domains id (entered id number)
 stepped (Release id) domains = at_home domains id (released id)
 stepped (Limit k cap expected) domains =
     if nat_le cap (2 ^ 26) then at_domain domains k (limited cap expected) else misfit domains
+stepped (Move old new number) domains =
+    if may_move old new number domains then moved old new number domains else misfit domains
 
 -- the domains after steps, one after another
 abbrev pub after : List Step → List DomainView → List DomainView

@@ -1,3 +1,7 @@
+ghost use Rattle.std.specs.Prelude.{◌≡◌, ◌<◌, ◌++◌, ◌∷◌, [], vec_len, vec_capacity};
+ghost use Rattle.bw_world.specs.declared.book.Change.TheVariants.{Entered, Released};
+ghost use Rattle.bw_world.specs.DomainStep.{without, without_task};
+
 use crate::book::Change;
 use crate::step::{Outcome, Word};
 use crate::ticket::{
@@ -33,11 +37,12 @@ impl Model for Domain {
 }
 
 impl Domain {
-    ghost use Rattle.std.specs.Prelude.{◌≡◌, ◌≤◌, ◌<◌, ◌+◌, ◌-◌, ◌^◌, ◌==◌, IsTrue, IfNone, IfOk, OnOk, OnErr};
+    ghost use Rattle.std.specs.Prelude.{◌≡◌, ◌≤◌, ◌<◌, ◌+◌, ◌-◌, ◌^◌, ◌==◌, true, false, Some, IsTrue, IfNone, IfSome, IfOk, OnOk, OnErr};
     ghost use Rattle.std.specs.List.{list_any};
     ghost use Rattle.bw_world.specs.declared.step.Outcome.TheVariants.{Done};
     ghost use Rattle.bw_world.specs.ExactWord.{IsExactDomain};
     ghost use Rattle.bw_world.specs.DomainStep.{opened, in_hand_of, admitted_of, is_live_in, word_in, is_expected, refusal_of, limited, taken, regraded, regraded_in_hand, regraded_admitted, given, entered, entered_with, released};
+    ghost use Rattle.bw_world.specs.WorldStep.{fits_move};
 
     /// A domain before its first step. Takes no memory.
     pub fn open(alloc: Global, cap: u64) -> Domain
@@ -242,17 +247,17 @@ impl Domain {
         }
         self.admitted.try_reserve(1)?;
         self.changes.try_reserve(1)?;
-        self.admitted.push_reserved(Task {
+        let task = Task {
             number,
             ticket: id,
             bw,
-        });
-        self.changes.push_reserved(Change::Entered {
-            number,
-            ticket: id,
-            bw,
-        });
-        remove_ticket(&mut self.in_hand, id);
+        };
+        admit(
+            &mut self.in_hand,
+            &mut self.admitted,
+            &mut self.changes,
+            task,
+        );
         Ok(Outcome::Done)
     }
 
@@ -268,11 +273,13 @@ impl Domain {
         };
         self.in_hand.try_reserve(1)?;
         self.changes.try_reserve(1)?;
-        self.in_hand.push_reserved(Ticket { id, bw: task.bw });
-        self.changes.push_reserved(Change::Released {
-            number: task.number,
-        });
-        remove_task(&mut self.admitted, id);
+        set_free(
+            &mut self.in_hand,
+            &mut self.admitted,
+            &mut self.changes,
+            id,
+            task,
+        );
         Ok(Outcome::Done)
     }
 
@@ -290,4 +297,94 @@ impl Domain {
         self.cap = cap;
         Outcome::Done
     }
+
+    /// The task of the number with the ticket `old`, if it may go to the other domain, where it
+    /// takes the ticket `new`.
+    pub fn task_to_move(&self, to: &Domain, old: u64, new: u64, number: u32) -> Option<Task>
+        ensures misfit { IfNone result (fits_move old new number self.now to.now ≡ false) }
+        ensures fits { IfSome result (λ task. fits_move old new number self.now to.now ≡ true) }
+        ensures task { IfSome result (λ task. admitted_of old self.now ≡ Some task) }
+        ensures number { IfSome result (λ task. task.number ≡ number) }
+    {
+        let task = self.admitted_of(old)?;
+        let ticket = to.in_hand_of(new)?;
+        let fits = task.number == number
+            && task.bw == ticket.bw
+            && !any_number(to.admitted.as_slice(), number);
+        if fits { Some(task) } else { None }
+    }
+
+    /// Moves a task to another domain: releases its ticket `old` here, and puts the ticket `new`
+    /// into a task of its number there. Room for both is made first.
+    pub fn hand_over(
+        &mut self,
+        to: &mut Domain,
+        old: u64,
+        new: u64,
+        task: Task,
+    ) -> Result<(), NoMemory>
+        requires task { admitted_of old self.old ≡ Some task }
+        requires fits { fits_move old new task.number self.old to.old ≡ true }
+        ensures from { OnOk result (self.new ≡ (released old self.old).domain) }
+        ensures to { OnOk result (to.new ≡ (entered new task.number to.old).domain) }
+        ensures err_from { OnErr result (self.new ≡ self.old) }
+        ensures err_to { OnErr result (to.new ≡ to.old) }
+    {
+        self.in_hand.try_reserve(1)?;
+        self.changes.try_reserve(1)?;
+        to.admitted.try_reserve(1)?;
+        to.changes.try_reserve(1)?;
+        set_free(
+            &mut self.in_hand,
+            &mut self.admitted,
+            &mut self.changes,
+            old,
+            task,
+        );
+        let moved = Task {
+            number: task.number,
+            ticket: new,
+            bw: task.bw,
+        };
+        admit(&mut to.in_hand, &mut to.admitted, &mut to.changes, moved);
+        Ok(())
+    }
+}
+
+// Takes a ticket out of its task. There is room for it in hand, and in the book.
+fn set_free(
+    in_hand: &mut Vec<Ticket>,
+    admitted: &mut Vec<Task>,
+    changes: &mut Vec<Change>,
+    id: u64,
+    task: Task,
+)
+    requires in_hand { vec_len in_hand.old < vec_capacity in_hand.old }
+    requires changes { vec_len changes.old < vec_capacity changes.old }
+    ensures in_hand { in_hand.new.items ≡ in_hand.old.items ++ record { id = id; bw = task.bw } ∷ [] }
+    ensures admitted { admitted.new.items ≡ without_task id admitted.old.items }
+    ensures changes { changes.new.items ≡ changes.old.items ++ Released task.number ∷ [] }
+{
+    in_hand.push_reserved(Ticket { id, bw: task.bw });
+    changes.push_reserved(Change::Released {
+        number: task.number,
+    });
+    remove_task(admitted, id);
+}
+
+// Puts a ticket in hand into a task. There is room for it among the admitted ones, and in the book.
+fn admit(in_hand: &mut Vec<Ticket>, admitted: &mut Vec<Task>, changes: &mut Vec<Change>, task: Task)
+    requires admitted { vec_len admitted.old < vec_capacity admitted.old }
+    requires changes { vec_len changes.old < vec_capacity changes.old }
+    ensures in_hand { in_hand.new.items ≡ without task.ticket in_hand.old.items }
+    ensures admitted { admitted.new.items ≡ admitted.old.items ++ task ∷ [] }
+    ensures changes { changes.new.items ≡ changes.old.items ++ Entered task.number task.ticket task.bw ∷ [] }
+{
+    admitted.push_reserved(task);
+    changes.push_reserved(Change::Entered {
+        number: task.number,
+        ticket: task.ticket,
+        bw: task.bw,
+    });
+    remove_ticket(in_hand, task.ticket);
 }

@@ -1,6 +1,6 @@
 ghost use Rattle.std.specs.Prelude.{◌≡◌, ◌<◌, length, position, IsTrue, IfOk, IfSome, OnOk, OnErr};
 ghost use Rattle.bw_world.specs.declared.step.Outcome.TheVariants.{Done};
-ghost use Rattle.bw_world.specs.declared.step.Step.TheVariants.{Load, Take, Regrade, Give, Enter, Release, Limit};
+ghost use Rattle.bw_world.specs.declared.step.Step.TheVariants.{Load, Take, Regrade, Give, Enter, Release, Limit, Move};
 ghost use Rattle.bw_world.specs.ExactWord.{IsExact};
 ghost use Rattle.bw_world.specs.DomainStep.{is_live_in};
 ghost use Rattle.bw_world.specs.WorldStep.{is_live, stepped};
@@ -9,6 +9,7 @@ ghost use Rattle.bw_world.specs.Growing.{lengthens, IsGrowing};
 use crate::domain::Domain;
 use crate::step::{Outcome, Step, UNIT, WIDEST, Word};
 use no_memory::NoMemory;
+use std::mem;
 
 // Whether the ticket is live in some domain.
 fn is_live(domains: &[Domain], id: u64) -> bool
@@ -142,6 +143,38 @@ fn limit(domains: &mut Vec<Domain>, domain: usize, cap: u64, expected: Word) -> 
     d.limit(cap, expected)
 }
 
+// Move, between the domains in which the tickets are live.
+fn move_task(
+    domains: &mut Vec<Domain>,
+    old: u64,
+    new: u64,
+    number: u32,
+) -> Result<Outcome, NoMemory>
+    ensures outcome { IfOk result (λ outcome.
+        outcome ≡ (stepped (Move old new number) domains.old.items).outcome) }
+    ensures domains { OnOk result (
+        domains.new.items ≡ (stepped (Move old new number) domains.old.items).domains) }
+    ensures err { OnErr result (domains.new.items ≡ domains.old.items) }
+    ensures err_only { OnErr result (IsGrowing (Move old new number) domains.old.items) }
+{
+    let Some(from) = home_of(domains.as_slice(), old) else {
+        return Ok(Outcome::Not);
+    };
+    let Some(to) = home_of(domains.as_slice(), new) else {
+        return Ok(Outcome::Not);
+    };
+    let left = &domains[from];
+    let Some(task) = left.task_to_move(&domains[to], old, new, number) else {
+        return Ok(Outcome::Not);
+    };
+    let none = Domain::open(*domains.allocator(), 0);
+    let mut left = mem::replace(&mut domains[from], none);
+    let made = left.hand_over(&mut domains[to], old, new, task);
+    domains[from] = left;
+    made?;
+    Ok(Outcome::Done)
+}
+
 /// Applies one step to the domains of a world. After an `Err` they are as they were.
 pub(crate) fn apply(domains: &mut Vec<Domain>, step: Step) -> Result<Outcome, NoMemory>
     requires { IsExact domains.old.items }
@@ -171,5 +204,6 @@ pub(crate) fn apply(domains: &mut Vec<Domain>, step: Step) -> Result<Outcome, No
             cap,
             expected,
         } => Ok(limit(domains, domain, cap, expected)),
+        Step::Move { old, new, number } => move_task(domains, old, new, number),
     }
 }

@@ -76,6 +76,18 @@ pub enum Step {
         /// The word as the caller knows it.
         expected: Word,
     },
+    /// Moves an admitted task to another domain: its ticket is in hand again, and another one, in
+    /// hand there, goes into it; both words stay. It fits where `old` is the ticket of an admitted
+    /// task of the number, and `new` is in hand with as much in another domain, which has no
+    /// admitted task of the number.
+    Move {
+        /// Id of the task's ticket.
+        old: u64,
+        /// Id of the ticket in hand in the other domain.
+        new: u64,
+        /// Number of the task.
+        number: u32,
+    },
 }
 
 /// What a world answers to a step. All but [`Outcome::Done`] change nothing.

@@ -9,7 +9,7 @@ use Rattle.std.proofs.lemmas.List.{append-nil, map-append, get_or_past}
 use Rattle.std.proofs.lemmas.List.Folds.{list_any-append}
 use Rattle.std.proofs.lemmas.List.Sums.{sum_by_push, count_by-le-length}
 use Rattle.call_book.specs.declared.section.Entry.{Entry}
-use Rattle.call_book.specs.Spelling.{entry_line, is_limit, some_limit, text_of}
+use Rattle.call_book.specs.Spelling.{entry_line, is_later, some_later, text_of}
 use Rattle.call_book.specs.OwnCalls.{IsNumberedAfter, made_by}
 use Rattle.call_book.specs.Limits.{IsClient}
 use Rattle.call_book.specs.private.Reading.{cut_at, known_at, Knows, IsEntryRead, entries_text, SoFar, Counts, IsNext, LacksEntry}
@@ -18,9 +18,9 @@ use Rattle.call_book.proofs.Cuts.{cut_takes, cut_again}
 use Rattle.call_book.proofs.Lines.{call_takes, known_takes, known_again, line_lacks}
 
 -- what an entry's line says
-pub entry_takes : (limits : Bool) (line made : List ℕ) (e : Entry) → IsNext limits line made e → IsEntryRead e × (line ≡ entry_line e)
-entry_takes limits line made e next =
-    let t = call_takes line (e.client, e.call) (known_takes limits line (e.client, e.call) next.call).0 in
+pub entry_takes : (later : Bool) (line made : List ℕ) (e : Entry) → IsNext later line made e → IsEntryRead e × (line ≡ entry_line e)
+entry_takes later line made e next =
+    let t = call_takes line (e.client, e.call) (known_takes later line (e.client, e.call) next.call).0 in
     (record { within = record { client = t.client_is; call = t.is_read }; no_reply = next.no_reply }, t.line_is)
 
 text_more : (entries : List Entry) (e : Entry) → entries_text (entries ++ e ∷ []) ≡ entries_text entries ++ (entry_line e ++ (10 ∷ []))
@@ -36,22 +36,22 @@ each_more [] e each is = (is, tt)
 each_more (x ∷ entries) e each is = (each.0, each_more entries e each.1 is)
 
 -- one more call that the header has
-known_more : (limits : Bool) (entries : List Entry) (e : Entry) → Knows limits (some_limit entries) → Knows limits (is_limit e.call) → Knows limits (some_limit (entries ++ e ∷ []))
-known_more limits entries e knows more = λ no. list_any-append (λ (x : Entry). is_limit x.call) entries (e ∷ []) ∙ none_of (some_limit entries) (some_limit (e ∷ [])) (knows no) (none_of (is_limit e.call) false (more no) refl)
+known_more : (later : Bool) (entries : List Entry) (e : Entry) → Knows later (some_later entries) → Knows later (is_later e.call) → Knows later (some_later (entries ++ e ∷ []))
+known_more later entries e knows more = λ no. list_any-append (λ (x : Entry). is_later x.call) entries (e ∷ []) ∙ none_of (some_later entries) (some_later (e ∷ [])) (knows no) (none_of (is_later e.call) false (more no) refl)
 
 pub numbered_more : (before entries : List Entry) (e : Entry) → IsNumberedAfter before entries → e.seq ≡ made_by e.client (before ++ entries) → IsNumberedAfter before (entries ++ e ∷ [])
 numbered_more before [] e is h = (h ∙ ap (made_by e.client) (append-nil before), tt)
 numbered_more before (x ∷ entries) e is h = (is.0, numbered_more (before ++ x ∷ []) entries e is.1 (h ∙ ap (made_by e.client) (sym (append_assoc before (x ∷ []) entries))))
 
-pub one_more : (limits : Bool) (text rest line after made : List ℕ) (entries : List Entry) (e : Entry) → SoFar limits text rest entries → Counts made entries → cut_at 10 rest ≡ Some (line, after) → IsNext limits line made e → SoFar limits text after (entries ++ e ∷ [])
-one_more limits text rest line after made entries e so_far counts cut next =
-    let t = entry_takes limits line made e next in
-    let knows = known_takes limits line (e.client, e.call) next.call in
+pub one_more : (later : Bool) (text rest line after made : List ℕ) (entries : List Entry) (e : Entry) → SoFar later text rest entries → Counts made entries → cut_at 10 rest ≡ Some (line, after) → IsNext later line made e → SoFar later text after (entries ++ e ∷ [])
+one_more later text rest line after made entries e so_far counts cut next =
+    let t = entry_takes later line made e next in
+    let knows = known_takes later line (e.client, e.call) next.call in
     let rest_is : rest ≡ entry_line e ++ 10 ∷ after = cut_takes 10 rest (line, after) cut ∙ ap (λ (l : List ℕ). l ++ 10 ∷ after) t.1 in
     let whole : entries_text (entries ++ e ∷ []) ++ after ≡ entries_text entries ++ (entry_line e ++ 10 ∷ after) = ap (λ (x : List ℕ). x ++ after) (text_more entries e) ∙ regrouped (entries_text entries) (entry_line e) after in
     record {
       parts = so_far.parts ∙ ap (λ (r : List ℕ). entries_text entries ++ r) rest_is ∙ sym whole;
-      known = known_more limits entries e so_far.known knows.1;
+      known = known_more later entries e so_far.known knows.1;
       each = each_more entries e so_far.each t.0;
       numbered = numbered_more [] entries e so_far.numbered (next.seq ∙ counts e.client next.client);
     }
@@ -93,16 +93,16 @@ not_both x None none some = cc
 not_both x (Some y) none some = cc
 
 -- an unfinished line is no entry's
-pub lacks_unfinished : (limits : Bool) (rest : List ℕ) → cut_at 10 rest ≡ None → LacksEntry limits rest
-lacks_unfinished limits rest cut = λ e after is knows same. not_both (entry_line e, after) (cut_at 10 rest) cut (ap (cut_at 10) same ∙ line_cut e after is)
+pub lacks_unfinished : (later : Bool) (rest : List ℕ) → cut_at 10 rest ≡ None → LacksEntry later rest
+lacks_unfinished later rest cut = λ e after is knows same. not_both (entry_line e, after) (cut_at 10 rest) cut (ap (cut_at 10) same ∙ line_cut e after is)
 
 -- nor is a line that is read as no call of this header
-pub lacks_bad : (limits : Bool) (rest line after : List ℕ) → cut_at 10 rest ≡ Some (line, after) → known_at limits line ≡ None → LacksEntry limits rest
-lacks_bad limits rest line after cut bad = λ e rest_of is knows same.
+pub lacks_bad : (later : Bool) (rest line after : List ℕ) → cut_at 10 rest ≡ Some (line, after) → known_at later line ≡ None → LacksEntry later rest
+lacks_bad later rest line after cut bad = λ e rest_of is knows same.
     let again : Some (line, after) ≡ Some (entry_line e, rest_of) = sym cut ∙ ap (cut_at 10) same ∙ line_cut e rest_of is in
     let line_is : line ≡ entry_line e = (some_pair_parts line (entry_line e) after rest_of again).0 in
-    not_both (e.client, e.call) (known_at limits line) bad (ap (known_at limits) line_is ∙ known_again limits e.client e.call is.within.client is.within.call knows)
+    not_both (e.client, e.call) (known_at later line) bad (ap (known_at later) line_is ∙ known_again later e.client e.call is.within.client is.within.call knows)
 
 -- before the first entry
-pub starts : (limits : Bool) (text : List ℕ) → SoFar limits text text []
-starts limits text = record { parts = refl; known = λ no. refl; each = tt; numbered = tt }
+pub starts : (later : Bool) (text : List ℕ) → SoFar later text text []
+starts later text = record { parts = refl; known = λ no. refl; each = tt; numbered = tt }

@@ -5,7 +5,7 @@ use Rattle.std.specs.List.{AllByRecursion, flat_map}
 use Rattle.std.proofs.lemmas.Option.{some_pair_parts}
 use Rattle.call_book.specs.declared.section.Entry.{Entry}
 use Rattle.call_book.specs.SectionView.{SectionView}
-use Rattle.call_book.specs.Spelling.{entry_line, section_lines, has_limit, header_line, lines_of, text_of}
+use Rattle.call_book.specs.Spelling.{entry_line, section_lines, has_later, header_line, lines_of, text_of}
 use Rattle.call_book.specs.private.Reading.{cut_at, IsEntryRead, IsSectionRead}
 use Rattle.call_book.proofs.Cuts.{Lacks, Lacks-written, cut_again}
 use Rattle.call_book.proofs.Lines.{line_lacks, domain_lacks}
@@ -26,16 +26,16 @@ body_lines : (sections : List SectionView) → AllByRecursion IsSectionRead sect
 body_lines [] each = tt
 body_lines (s ∷ sections) each = both_lines (section_lines s) (flat_map section_lines sections) (domain_lacks s.cpus s.limit each.0.most each.0.high, entry_lines s.entries each.0.each) (body_lines sections each.1)
 
-pub header_lacks : (limits : Bool) → Lacks 10 (header_line limits)
+pub header_lacks : (later : Bool) → Lacks 10 (header_line later)
 header_lacks false = Lacks-written 10 (codes "dlcalls 1") refl
 header_lacks true = Lacks-written 10 (codes "dlcalls 2") refl
 
 -- the lines of sections, behind either header
-pub headed_lines : (limits : Bool) (sections : List SectionView) → AllByRecursion IsSectionRead sections → AreLines (header_line limits ∷ flat_map section_lines sections)
-headed_lines limits sections each = (header_lacks limits, body_lines sections each)
+pub headed_lines : (later : Bool) (sections : List SectionView) → AllByRecursion IsSectionRead sections → AreLines (header_line later ∷ flat_map section_lines sections)
+headed_lines later sections each = (header_lacks later, body_lines sections each)
 
 pub sections_lines : (sections : List SectionView) → AllByRecursion IsSectionRead sections → AreLines (lines_of sections)
-sections_lines sections each = headed_lines (has_limit sections) sections each
+sections_lines sections each = headed_lines (has_later sections) sections each
 
 pub front_lines : (front more : List (List ℕ)) → AreLines (front ++ more) → AreLines front
 front_lines [] more all = tt

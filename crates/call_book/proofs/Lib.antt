@@ -22,5 +22,7 @@ pub mod Asking
 pub mod Growing
 pub mod Sifting
 pub mod Regrading
+pub mod TakenOut
+pub mod Moves
 pub mod Limiting
 pub mod TicketSums

@@ -11,11 +11,12 @@ use Rattle.attr_check.specs.ParamsView.{ParamsView}
 use Rattle.domain_run.specs.NameView.{IsName}
 use Rattle.domain_run.specs.script.ScriptView.{ScriptView, IsScript}
 use Rattle.domain_run.specs.declared.call.Call.{Call}
-use Rattle.domain_run.specs.declared.call.Call.TheVariants.{Admit, Regrade, Wake, Leave, Advance, Limit}
+use Rattle.domain_run.specs.declared.call.Call.TheVariants.{Admit, Regrade, Wake, Leave, Advance, Limit, Depart, Arrive}
 use Rattle.call_book.specs.declared.times.Times.{Times}
-use Rattle.call_book.specs.Spelling.{line_of, call_fields, flag_text, script_text, is_limit}
-use Rattle.call_book.specs.Limits.{IsClient, IsNumber, IsAdmission, IsCall}
-use Rattle.call_book.specs.private.Reading.{◌>>=◌, cut_at, number_within_at, field_at, times_at, flag_at, params_at, name_at, script_at, plan_at, admit_at, seen_at, answer, answer_at, regrade_at, numbered_at, change, change_at, limit_at, worded_at, call_at, known_at, Knows, domain_at}
+use Rattle.call_book.specs.declared.line_text.Newcomer.{Newcomer}
+use Rattle.call_book.specs.Spelling.{line_of, call_fields, flag_text, script_text, is_later}
+use Rattle.call_book.specs.Limits.{IsClient, IsNumber, IsChecked, IsAdmission, IsCall}
+use Rattle.call_book.specs.private.Reading.{◌>>=◌, cut_at, number_within_at, field_at, times_at, flag_at, params_at, name_at, script_at, plan_at, newcomer_at, admit_at, arrive_at, seen_at, answer, answer_at, regrade_at, numbered_at, change, change_at, limit_at, worded_at, call_at, known_at, Knows, domain_at}
 use Rattle.call_book.proofs.Cuts.{Lacks, Lacks-append, Lacks-written, cut_takes, cut_none, cut_again}
 use Rattle.call_book.proofs.Numbers.{bind_some, within_takes, within_again, decimal_lacks}
 use Rattle.call_book.proofs.Names.{name_yes, name_takes}
@@ -112,8 +113,14 @@ plan_again delay script soon is = rw (field_again 0 1000000000 delay (script_tex
 
 -- ---- what follows the client in a call that is read
 
+abbrev newcomer_text : ℕ → List ℕ → ParamsView → List ℕ → List ℕ
+newcomer_text number name params rest = decimal number ++ (32 ∷ (name ++ (32 ∷ times_text (times_of params) (flag_text params ++ (32 ∷ rest)))))
+
 abbrev admit_text : ℕ → List ℕ → ParamsView → ℕ → ScriptView → List ℕ
-admit_text number name params delay script = decimal number ++ (32 ∷ (name ++ (32 ∷ times_text (times_of params) (flag_text params ++ (32 ∷ plan_text delay script)))))
+admit_text number name params delay script = newcomer_text number name params (plan_text delay script)
+
+abbrev arrive_text : ℕ → List ℕ → ParamsView → ScriptView → List ℕ
+arrive_text number name params script = newcomer_text number name params (script_text script)
 
 abbrev seen_text : ℕ → List ℕ
 seen_text seen = codes "busy" ++ (32 ∷ decimal seen)
@@ -136,6 +143,8 @@ call_text (Wake number) = decimal number
 call_text (Leave number) = decimal number
 call_text (Advance ticks) = decimal ticks
 call_text (Limit limit word) = change_text limit word
+call_text (Depart number) = decimal number
+call_text (Arrive number name params script) = arrive_text number name params script
 
 abbrev word_text : Call → List ℕ
 word_text (Admit number name params delay script) = codes "admit"
@@ -144,6 +153,8 @@ word_text (Wake number) = codes "wake"
 word_text (Leave number) = codes "leave"
 word_text (Advance ticks) = codes "advance"
 word_text (Limit limit word) = codes "limit"
+word_text (Depart number) = codes "depart"
+word_text (Arrive number name params script) = codes "arrive"
 
 -- what was read of a call
 pub record TookCall (word text : List ℕ) (call : Call) : Type 0 where
@@ -151,12 +162,15 @@ pub record TookCall (word text : List ℕ) (call : Call) : Type 0 where
   text_is : text ≡ call_text call
   word_is : word ≡ word_text call
 
--- ---- admissions
+-- ---- tasks that come
 
-abbrev made_admit : ℕ → List ℕ → ParamsView → ℕ × ScriptView → Option Call
-made_admit number name params plan = Some (Admit number name params plan.0 plan.1)
+abbrev newcomer : ℕ → List ℕ → ParamsView → Newcomer
+newcomer number name params = record { number = number; name = name; params = params }
 
-record AdmitParts (text : List ℕ) (call : Call) : Type 0 where
+abbrev made_newcomer : ℕ → List ℕ → ParamsView → List ℕ → Option (Newcomer × List ℕ)
+made_newcomer number name params rest = Some (newcomer number name params, rest)
+
+record NewcomerParts (text : List ℕ) (new : Newcomer × List ℕ) : Type 0 where
   number : ℕ × List ℕ
   name : List ℕ × List ℕ
   named : List ℕ
@@ -164,7 +178,6 @@ record AdmitParts (text : List ℕ) (call : Call) : Type 0 where
   flag : List ℕ × List ℕ
   reclaim : Bool
   params : ParamsView
-  plan : ℕ × ScriptView
   number_is : field_at 1 65535 text ≡ Some number
   name_is : cut_at 32 number.1 ≡ Some name
   named_is : name_at name.0 ≡ Some named
@@ -172,25 +185,23 @@ record AdmitParts (text : List ℕ) (call : Call) : Type 0 where
   flag_is : cut_at 32 times.1 ≡ Some flag
   reclaim_is : flag_at flag.0 ≡ Some reclaim
   params_is : params_at times.0 reclaim ≡ Some params
-  plan_is : plan_at flag.1 ≡ Some plan
-  call_is : made_admit number.0 named params plan ≡ Some call
+  new_is : made_newcomer number.0 named params flag.1 ≡ Some new
 
 -- what follows the name
-abbrev timed : ℕ → List ℕ → List ℕ → Option Call
-timed number named text = times_at text >>= λ times. cut_at 32 times.1 >>= λ flag. flag_at flag.0 >>= λ reclaim. params_at times.0 reclaim >>= λ params. plan_at flag.1 >>= λ plan. made_admit number named params plan
+abbrev timed : ℕ → List ℕ → List ℕ → Option (Newcomer × List ℕ)
+timed number named text = times_at text >>= λ times. cut_at 32 times.1 >>= λ flag. flag_at flag.0 >>= λ reclaim. params_at times.0 reclaim >>= λ params. made_newcomer number named params flag.1
 
-admit_parts : (text : List ℕ) (call : Call) → admit_at text ≡ Some call → AdmitParts text call
-unfolding admit_at
-admit_parts text call h =
-    let a = bind_some (field_at 1 65535 text) (λ number. cut_at 32 number.1 >>= λ name. name_at name.0 >>= λ named. timed number.0 named name.1) call h in
-    let b = bind_some (cut_at 32 a.0.1) (λ name. name_at name.0 >>= λ named. timed a.0.0 named name.1) call a.2 in
-    let c = bind_some (name_at b.0.0) (λ named. timed a.0.0 named b.0.1) call b.2 in
-    let d = bind_some (times_at b.0.1) (λ times. cut_at 32 times.1 >>= λ flag. flag_at flag.0 >>= λ reclaim. params_at times.0 reclaim >>= λ params. plan_at flag.1 >>= λ plan. made_admit a.0.0 c.0 params plan) call c.2 in
-    let e = bind_some (cut_at 32 d.0.1) (λ flag. flag_at flag.0 >>= λ reclaim. params_at d.0.0 reclaim >>= λ params. plan_at flag.1 >>= λ plan. made_admit a.0.0 c.0 params plan) call d.2 in
-    let f = bind_some (flag_at e.0.0) (λ reclaim. params_at d.0.0 reclaim >>= λ params. plan_at e.0.1 >>= λ plan. made_admit a.0.0 c.0 params plan) call e.2 in
-    let g = bind_some (params_at d.0.0 f.0) (λ params. plan_at e.0.1 >>= λ plan. made_admit a.0.0 c.0 params plan) call f.2 in
-    let i = bind_some (plan_at e.0.1) (λ plan. made_admit a.0.0 c.0 g.0 plan) call g.2 in
-    record { number = a.0; name = b.0; named = c.0; times = d.0; flag = e.0; reclaim = f.0; params = g.0; plan = i.0; number_is = a.1; name_is = b.1; named_is = c.1; times_is = d.1; flag_is = e.1; reclaim_is = f.1; params_is = g.1; plan_is = i.1; call_is = i.2 }
+newcomer_parts : (text : List ℕ) (new : Newcomer × List ℕ) → newcomer_at text ≡ Some new → NewcomerParts text new
+unfolding newcomer_at
+newcomer_parts text new h =
+    let a = bind_some (field_at 1 65535 text) (λ number. cut_at 32 number.1 >>= λ name. name_at name.0 >>= λ named. timed number.0 named name.1) new h in
+    let b = bind_some (cut_at 32 a.0.1) (λ name. name_at name.0 >>= λ named. timed a.0.0 named name.1) new a.2 in
+    let c = bind_some (name_at b.0.0) (λ named. timed a.0.0 named b.0.1) new b.2 in
+    let d = bind_some (times_at b.0.1) (λ times. cut_at 32 times.1 >>= λ flag. flag_at flag.0 >>= λ reclaim. params_at times.0 reclaim >>= λ params. made_newcomer a.0.0 c.0 params flag.1) new c.2 in
+    let e = bind_some (cut_at 32 d.0.1) (λ flag. flag_at flag.0 >>= λ reclaim. params_at d.0.0 reclaim >>= λ params. made_newcomer a.0.0 c.0 params flag.1) new d.2 in
+    let f = bind_some (flag_at e.0.0) (λ reclaim. params_at d.0.0 reclaim >>= λ params. made_newcomer a.0.0 c.0 params e.0.1) new e.2 in
+    let g = bind_some (params_at d.0.0 f.0) (λ params. made_newcomer a.0.0 c.0 params e.0.1) new f.2 in
+    record { number = a.0; name = b.0; named = c.0; times = d.0; flag = e.0; reclaim = f.0; params = g.0; number_is = a.1; name_is = b.1; named_is = c.1; times_is = d.1; flag_is = e.1; reclaim_is = f.1; params_is = g.1; new_is = g.2 }
 
 three_more : (text numbered after_number name named after_name timed_text : List ℕ) → text ≡ numbered ++ 32 ∷ after_number → after_number ≡ name ++ 32 ∷ after_name → name ≡ named → after_name ≡ timed_text
     → text ≡ numbered ++ (32 ∷ (named ++ (32 ∷ timed_text)))
@@ -203,45 +214,91 @@ flag_of text reclaim p h e = flag_takes text reclaim h ∙ ap flag_word (sym e)
 timed_is : (text : List ℕ) (t u : Times) (rest written : List ℕ) → text ≡ times_text t rest → u ≡ t → rest ≡ written → text ≡ times_text u written
 timed_is text t u rest written e1 e2 e3 = e1 ∙ ap (λ (x : Times). times_text x rest) (sym e2) ∙ ap (times_text u) e3
 
-took_admit : (text : List ℕ) (call : Call) → AdmitParts text call → TookCall (codes "admit") text call
-took_admit text call p =
+name_lacks : (c : ℕ) (text : List ℕ) → c < 33 → All (λ b. (33 ≤ b) × (b ≤ 126)) text → Lacks c text
+name_lacks c [] low h = tt
+name_lacks c (x ∷ xs) low h = ((λ same. omega (arith, same, h 0 0 (omega arith))), name_lacks c xs low (λ k d lt. h (suc k) d (omega arith)))
+
+-- what was read of a task that comes
+record TookNewcomer (text : List ℕ) (new : Newcomer) (rest : List ℕ) : Type 0 where
+  text_is : text ≡ newcomer_text new.number new.name new.params rest
+  numbered : IsNumber new.number
+  named : IsName new.name
+  checked : IsChecked new.params
+
+took_newcomer : (text : List ℕ) (new : Newcomer × List ℕ) → NewcomerParts text new → TookNewcomer text new.0 new.1
+took_newcomer text new p =
     let number = field_takes 1 65535 text p.number p.number_is in
     let name = name_takes p.name.0 p.named p.named_is in
     let times = times_take p.name.1 p.times p.times_is in
     let params = params_take p.times.0 p.reclaim p.params (omega (arith, times.1.period.0)) p.params_is in
     let flag = flag_of p.flag.0 p.reclaim p.params p.reclaim_is params.flag in
-    let plan = plan_takes p.flag.1 p.plan p.plan_is in
-    let flagged : p.times.1 ≡ flag_text p.params ++ (32 ∷ plan_text p.plan.0 p.plan.1) = cut_takes 32 p.times.1 p.flag p.flag_is ∙ ap (λ (x : List ℕ). x ++ 32 ∷ p.flag.1) flag ∙ after (flag_text p.params) plan.text_is in
-    let timed_text = timed_is p.name.1 p.times.0 (times_of p.params) p.times.1 (flag_text p.params ++ (32 ∷ plan_text p.plan.0 p.plan.1)) times.0 params.times flagged in
-    let whole = three_more text (decimal p.number.0) p.number.1 p.name.0 p.named p.name.1 (times_text (times_of p.params) (flag_text p.params ++ (32 ∷ plan_text p.plan.0 p.plan.1))) number.text_is (cut_takes 32 p.number.1 p.name p.name_is) name.0 timed_text in
-    subst (TookCall (codes "admit") text) (same_Some (Admit p.number.0 p.named p.params p.plan.0 p.plan.1) call p.call_is)
-    (record { is_read = record { numbered = (omega (arith, number.low), number.high); named = subst IsName name.0 name.1; checked = params.checked; soon = plan.soon; scripted = plan.scripted }; text_is = whole; word_is = refl })
+    let flagged : p.times.1 ≡ flag_text p.params ++ (32 ∷ p.flag.1) = cut_takes 32 p.times.1 p.flag p.flag_is ∙ ap (λ (x : List ℕ). x ++ 32 ∷ p.flag.1) flag in
+    let timed_text = timed_is p.name.1 p.times.0 (times_of p.params) p.times.1 (flag_text p.params ++ (32 ∷ p.flag.1)) times.0 params.times flagged in
+    let whole = three_more text (decimal p.number.0) p.number.1 p.name.0 p.named p.name.1 (times_text (times_of p.params) (flag_text p.params ++ (32 ∷ p.flag.1))) number.text_is (cut_takes 32 p.number.1 p.name p.name_is) name.0 timed_text in
+    let made : Newcomer × List ℕ = (newcomer p.number.0 p.named p.params, p.flag.1) in
+    subst (λ (x : Newcomer × List ℕ). TookNewcomer text x.0 x.1) (same_Some made new p.new_is)
+    (record { text_is = whole; numbered = (omega (arith, number.low), number.high); named = subst IsName name.0 name.1; checked = params.checked })
+
+newcomer_takes : (text : List ℕ) (new : Newcomer × List ℕ) → newcomer_at text ≡ Some new → TookNewcomer text new.0 new.1
+newcomer_takes text new h = took_newcomer text new (newcomer_parts text new h)
+
+newcomer_again : (number : ℕ) (name : List ℕ) (params : ParamsView) (rest : List ℕ) → IsNumber number → IsName name → IsChecked params → newcomer_at (newcomer_text number name params rest) ≡ made_newcomer number name params rest
+unfolding newcomer_at
+newcomer_again number name params rest numbered named checked =
+    let flagged = flag_text params ++ (32 ∷ rest) in
+    let timed_text = times_text (times_of params) flagged in
+    let again = params_again params checked in
+    rw (
+      field_again 1 65535 number (name ++ (32 ∷ timed_text)) (omega (arith, numbered.0)) numbered.1 (omega arith),
+      cut_again 32 name timed_text (name_lacks 32 name (omega arith) named.bytes),
+      name_yes name named,
+      times_again (times_of params) flagged again.1,
+      cut_again 32 (flag_text params) rest (flag_lacks 32 params.reclaim refl refl),
+      flag_again params.reclaim,
+      again.0,
+    ) refl
+
+-- ---- admissions
+
+abbrev made_admit : Newcomer → ℕ × ScriptView → Option Call
+made_admit new plan = Some (Admit new.number new.name new.params plan.0 plan.1)
 
 admit_takes : (text : List ℕ) (call : Call) → admit_at text ≡ Some call → TookCall (codes "admit") text call
-admit_takes text call h = took_admit text call (admit_parts text call h)
-
-name_lacks : (c : ℕ) (text : List ℕ) → c < 33 → All (λ b. (33 ≤ b) × (b ≤ 126)) text → Lacks c text
-name_lacks c [] low h = tt
-name_lacks c (x ∷ xs) low h = ((λ same. omega (arith, same, h 0 0 (omega arith))), name_lacks c xs low (λ k d lt. h (suc k) d (omega arith)))
+unfolding admit_at
+admit_takes text call h =
+    let a = bind_some (newcomer_at text) (λ new. plan_at new.1 >>= λ plan. made_admit new.0 plan) call h in
+    let b = bind_some (plan_at a.0.1) (λ plan. made_admit a.0.0 plan) call a.2 in
+    let new = newcomer_takes text a.0 a.1 in
+    let plan = plan_takes a.0.1 b.0 b.1 in
+    subst (TookCall (codes "admit") text) (same_Some (Admit a.0.0.number a.0.0.name a.0.0.params b.0.0 b.0.1) call b.2)
+    (record { is_read = record { numbered = new.numbered; named = new.named; checked = new.checked; soon = plan.soon; scripted = plan.scripted }; text_is = new.text_is ∙ ap (newcomer_text a.0.0.number a.0.0.name a.0.0.params) plan.text_is; word_is = refl })
 
 admit_again : (number : ℕ) (name : List ℕ) (params : ParamsView) (delay : ℕ) (script : ScriptView) → IsAdmission number name params delay script
     → admit_at (admit_text number name params delay script) ≡ Some (Admit number name params delay script)
 unfolding admit_at
 admit_again number name params delay script is =
-    let planned = plan_text delay script in
-    let flagged = flag_text params ++ (32 ∷ planned) in
-    let timed_text = times_text (times_of params) flagged in
-    let again = params_again params is.checked in
-    rw (
-      field_again 1 65535 number (name ++ (32 ∷ timed_text)) (omega (arith, is.numbered.0)) is.numbered.1 (omega arith),
-      cut_again 32 name timed_text (name_lacks 32 name (omega arith) is.named.bytes),
-      name_yes name is.named,
-      times_again (times_of params) flagged again.1,
-      cut_again 32 (flag_text params) planned (flag_lacks 32 params.reclaim refl refl),
-      flag_again params.reclaim,
-      again.0,
-      plan_again delay script is.soon is.scripted,
-    ) refl
+    rw (newcomer_again number name params (plan_text delay script) is.numbered is.named is.checked, plan_again delay script is.soon is.scripted) refl
+
+-- ---- arrivals
+
+abbrev made_arrival : Newcomer → ScriptView → Option Call
+made_arrival new script = Some (Arrive new.number new.name new.params script)
+
+arrive_takes : (text : List ℕ) (call : Call) → arrive_at text ≡ Some call → TookCall (codes "arrive") text call
+unfolding arrive_at
+arrive_takes text call h =
+    let a = bind_some (newcomer_at text) (λ new. script_at new.1 >>= λ script. made_arrival new.0 script) call h in
+    let b = bind_some (script_at a.0.1) (λ script. made_arrival a.0.0 script) call a.2 in
+    let new = newcomer_takes text a.0 a.1 in
+    let script = script_takes a.0.1 b.0 b.1 in
+    subst (TookCall (codes "arrive") text) (same_Some (Arrive a.0.0.number a.0.0.name a.0.0.params b.0) call b.2)
+    (record { is_read = record { numbered = new.numbered; named = new.named; checked = new.checked; soon = omega arith; scripted = script.0 }; text_is = new.text_is ∙ ap (newcomer_text a.0.0.number a.0.0.name a.0.0.params) script.1; word_is = refl })
+
+arrive_again : (number : ℕ) (name : List ℕ) (params : ParamsView) (script : ScriptView) → IsAdmission number name params 0 script
+    → arrive_at (arrive_text number name params script) ≡ Some (Arrive number name params script)
+unfolding arrive_at
+arrive_again number name params script is =
+    rw (newcomer_again number name params (script_text script) is.numbered is.named is.checked, script_again script is.scripted) refl
 
 -- ---- regrades
 
@@ -346,6 +403,11 @@ leave_takes text call h =
     let t = numbered_takes 65535 Leave text call h in
     subst (TookCall (codes "leave") text) t.read_is (record { is_read = (t.some, t.high); text_is = t.text_is; word_is = refl })
 
+depart_takes : (text : List ℕ) (call : Call) → numbered_at 65535 Depart text ≡ Some call → TookCall (codes "depart") text call
+depart_takes text call h =
+    let t = numbered_takes 65535 Depart text call h in
+    subst (TookCall (codes "depart") text) t.read_is (record { is_read = (t.some, t.high); text_is = t.text_is; word_is = refl })
+
 advance_takes : (text : List ℕ) (call : Call) → numbered_at 60000000 Advance text ≡ Some call → TookCall (codes "advance") text call
 advance_takes text call h =
     let t = numbered_takes 60000000 Advance text call h in
@@ -405,20 +467,22 @@ limit_again limit word is = rw (change_again limit word is) refl
 as_word : (word known text : List ℕ) (call : Call) → bytes_eq word known ≡ true → TookCall known text call → TookCall word text call
 as_word word known text call is took = subst (λ (w : List ℕ). TookCall w text call) (sym ((bytes_eq-Decides word known).0 is)) took
 
-by_word : (word text : List ℕ) (call : Call) (admit regrade wake leave advance limit : Bool) → bytes_eq word (codes "admit") ≡ admit → bytes_eq word (codes "regrade") ≡ regrade → bytes_eq word (codes "wake") ≡ wake → bytes_eq word (codes "leave") ≡ leave → bytes_eq word (codes "advance") ≡ advance → bytes_eq word (codes "limit") ≡ limit
-    → cond admit (admit_at text) (cond regrade (regrade_at text) (cond wake (numbered_at 65535 Wake text) (cond leave (numbered_at 65535 Leave text) (cond advance (numbered_at 60000000 Advance text) (cond limit (limit_at text) None))))) ≡ Some call → TookCall word text call
-by_word word text call true regrade wake leave advance limit is e2 e3 e4 e5 e6 h = as_word word (codes "admit") text call is (admit_takes text call h)
-by_word word text call false true wake leave advance limit e1 is e3 e4 e5 e6 h = as_word word (codes "regrade") text call is (regrade_takes text call h)
-by_word word text call false false true leave advance limit e1 e2 is e4 e5 e6 h = as_word word (codes "wake") text call is (wake_takes text call h)
-by_word word text call false false false true advance limit e1 e2 e3 is e5 e6 h = as_word word (codes "leave") text call is (leave_takes text call h)
-by_word word text call false false false false true limit e1 e2 e3 e4 is e6 h = as_word word (codes "advance") text call is (advance_takes text call h)
-by_word word text call false false false false false true e1 e2 e3 e4 e5 is h = as_word word (codes "limit") text call is (limit_takes text call h)
-by_word word text call false false false false false false e1 e2 e3 e4 e5 e6 h = absurd cc
+by_word : (word text : List ℕ) (call : Call) (admit regrade wake leave advance limit depart arrive : Bool) → bytes_eq word (codes "admit") ≡ admit → bytes_eq word (codes "regrade") ≡ regrade → bytes_eq word (codes "wake") ≡ wake → bytes_eq word (codes "leave") ≡ leave → bytes_eq word (codes "advance") ≡ advance → bytes_eq word (codes "limit") ≡ limit → bytes_eq word (codes "depart") ≡ depart → bytes_eq word (codes "arrive") ≡ arrive
+    → cond admit (admit_at text) (cond regrade (regrade_at text) (cond wake (numbered_at 65535 Wake text) (cond leave (numbered_at 65535 Leave text) (cond advance (numbered_at 60000000 Advance text) (cond limit (limit_at text) (cond depart (numbered_at 65535 Depart text) (cond arrive (arrive_at text) None))))))) ≡ Some call → TookCall word text call
+by_word word text call true regrade wake leave advance limit depart arrive is e2 e3 e4 e5 e6 e7 e8 h = as_word word (codes "admit") text call is (admit_takes text call h)
+by_word word text call false true wake leave advance limit depart arrive e1 is e3 e4 e5 e6 e7 e8 h = as_word word (codes "regrade") text call is (regrade_takes text call h)
+by_word word text call false false true leave advance limit depart arrive e1 e2 is e4 e5 e6 e7 e8 h = as_word word (codes "wake") text call is (wake_takes text call h)
+by_word word text call false false false true advance limit depart arrive e1 e2 e3 is e5 e6 e7 e8 h = as_word word (codes "leave") text call is (leave_takes text call h)
+by_word word text call false false false false true limit depart arrive e1 e2 e3 e4 is e6 e7 e8 h = as_word word (codes "advance") text call is (advance_takes text call h)
+by_word word text call false false false false false true depart arrive e1 e2 e3 e4 e5 is e7 e8 h = as_word word (codes "limit") text call is (limit_takes text call h)
+by_word word text call false false false false false false true arrive e1 e2 e3 e4 e5 e6 is e8 h = as_word word (codes "depart") text call is (depart_takes text call h)
+by_word word text call false false false false false false false true e1 e2 e3 e4 e5 e6 e7 is h = as_word word (codes "arrive") text call is (arrive_takes text call h)
+by_word word text call false false false false false false false false e1 e2 e3 e4 e5 e6 e7 e8 h = absurd cc
 
 worded_takes : (word text : List ℕ) (call : Call) → worded_at word text ≡ Some call → TookCall word text call
 unfolding worded_at
 worded_takes word text call h =
-    by_word word text call (bytes_eq word (codes "admit")) (bytes_eq word (codes "regrade")) (bytes_eq word (codes "wake")) (bytes_eq word (codes "leave")) (bytes_eq word (codes "advance")) (bytes_eq word (codes "limit")) refl refl refl refl refl refl h
+    by_word word text call (bytes_eq word (codes "admit")) (bytes_eq word (codes "regrade")) (bytes_eq word (codes "wake")) (bytes_eq word (codes "leave")) (bytes_eq word (codes "advance")) (bytes_eq word (codes "limit")) (bytes_eq word (codes "depart")) (bytes_eq word (codes "arrive")) refl refl refl refl refl refl refl refl h
 
 worded_again : (call : Call) → IsCall call → worded_at (word_text call) (call_text call) ≡ Some call
 unfolding worded_at
@@ -428,6 +492,8 @@ worded_again (Wake number) is = numbered_again 65535 Wake number is.0 is.1 (omeg
 worded_again (Leave number) is = numbered_again 65535 Leave number is.0 is.1 (omega arith)
 worded_again (Advance ticks) is = numbered_again 60000000 Advance ticks is.0 is.1 (omega arith)
 worded_again (Limit limit word) is = limit_again limit word is
+worded_again (Depart number) is = numbered_again 65535 Depart number is.0 is.1 (omega arith)
+worded_again (Arrive number name params script) is = arrive_again number name params script is
 
 -- ---- the lines of calls
 
@@ -440,6 +506,8 @@ line_is client (Leave number) = refl
 line_is client (Advance ticks) = refl
 line_is client (Limit limit None) = refl
 line_is client (Limit limit (Some seen)) = refl
+line_is client (Depart number) = refl
+line_is client (Arrive number name params script) = refl
 
 abbrev made_call : ℕ → Call → Option (ℕ × Call)
 made_call client call = Some (client, call)
@@ -479,6 +547,8 @@ word_lacks c (Wake number) low = letters_lack c (codes "wake") low refl
 word_lacks c (Leave number) low = letters_lack c (codes "leave") low refl
 word_lacks c (Advance ticks) low = letters_lack c (codes "advance") low refl
 word_lacks c (Limit limit word) low = letters_lack c (codes "limit") low refl
+word_lacks c (Depart number) low = letters_lack c (codes "depart") low refl
+word_lacks c (Arrive number name params script) low = letters_lack c (codes "arrive") low refl
 
 pub call_again : (client : ℕ) (call : Call) → IsClient client → IsCall call → call_at (line_of (call_fields client call)) ≡ made_call client call
 unfolding call_at
@@ -493,28 +563,28 @@ call_again client call is read =
 -- ---- behind a header
 
 -- a call is read where the header has such calls
-known_by : (limits has : Bool) (p q : ℕ × Call) → has ≡ is_limit p.1 → cond (has && not limits) None (Some p) ≡ Some q → (p ≡ q) × Knows limits (is_limit q.1)
-known_by false false p q is h = let same = same_Some p q h in (same, λ no. ap (λ (x : ℕ × Call). is_limit x.1) (sym same) ∙ sym is)
+known_by : (later has : Bool) (p q : ℕ × Call) → has ≡ is_later p.1 → cond (has && not later) None (Some p) ≡ Some q → (p ≡ q) × Knows later (is_later q.1)
+known_by false false p q is h = let same = same_Some p q h in (same, λ no. ap (λ (x : ℕ × Call). is_later x.1) (sym same) ∙ sym is)
 known_by false true p q is h = absurd cc
 known_by true false p q is h = (same_Some p q h, λ no. absurd cc)
 known_by true true p q is h = (same_Some p q h, λ no. absurd cc)
 
-pub known_takes : (limits : Bool) (line : List ℕ) (p : ℕ × Call) → known_at limits line ≡ Some p → (call_at line ≡ Some p) × Knows limits (is_limit p.1)
+pub known_takes : (later : Bool) (line : List ℕ) (p : ℕ × Call) → known_at later line ≡ Some p → (call_at line ≡ Some p) × Knows later (is_later p.1)
 unfolding known_at
-known_takes limits line p h =
-    let a = bind_some (call_at line) (λ q. cond (is_limit q.1 && not limits) None (Some q)) p h in
-    let b = known_by limits (is_limit a.0.1) a.0 p refl a.2 in
+known_takes later line p h =
+    let a = bind_some (call_at line) (λ q. cond (is_later q.1 && not later) None (Some q)) p h in
+    let b = known_by later (is_later a.0.1) a.0 p refl a.2 in
     (a.1 ∙ ap (λ (x : ℕ × Call). Some x) b.0, b.1)
 
-read_by : (limits has : Bool) (client : ℕ) (call : Call) → Knows limits has → cond (has && not limits) None (Some (client, call)) ≡ made_call client call
+read_by : (later has : Bool) (client : ℕ) (call : Call) → Knows later has → cond (has && not later) None (Some (client, call)) ≡ made_call client call
 read_by false false client call knows = refl
 read_by false true client call knows = absurd (let e = knows refl in cc)
 read_by true false client call knows = refl
 read_by true true client call knows = refl
 
-pub known_again : (limits : Bool) (client : ℕ) (call : Call) → IsClient client → IsCall call → Knows limits (is_limit call) → known_at limits (line_of (call_fields client call)) ≡ made_call client call
+pub known_again : (later : Bool) (client : ℕ) (call : Call) → IsClient client → IsCall call → Knows later (is_later call) → known_at later (line_of (call_fields client call)) ≡ made_call client call
 unfolding known_at
-known_again limits client call is read knows = rw (call_again client call is read) (read_by limits (is_limit call) client call knows)
+known_again later client call is read knows = rw (call_again client call is read) (read_by later (is_later call) client call knows)
 
 -- ---- a line has no line break
 
@@ -535,14 +605,21 @@ answer_lacks params None high = flag_lacks 10 params.reclaim refl refl
 answer_lacks params (Some seen) high =
     between_lacks (flag_text params) (seen_text seen) (flag_lacks 10 params.reclaim refl refl) (between_lacks (codes "busy") (decimal seen) (Lacks-written 10 (codes "busy") refl) (decimal_lacks 10 seen refl (omega (arith, high))))
 
+newcomer_lacks : (number : ℕ) (name : List ℕ) (params : ParamsView) (rest : List ℕ) → IsNumber number → IsName name → IsChecked params → Lacks 10 rest → Lacks 10 (newcomer_text number name params rest)
+newcomer_lacks number name params rest numbered is_name checked h =
+    let flagged = between_lacks (flag_text params) rest (flag_lacks 10 params.reclaim refl refl) h in
+    let planned = flag_text params ++ (32 ∷ rest) in
+    let timed_text = times_lack (times_of params) planned (params_again params checked).1 flagged in
+    let named = between_lacks name (times_text (times_of params) planned) (name_lacks 10 name (omega arith) is_name.bytes) timed_text in
+    number_lacks number (name ++ (32 ∷ times_text (times_of params) planned)) numbered named
+
 call_lacks : (call : Call) → IsCall call → Lacks 10 (call_text call)
 call_lacks (Admit number name params delay script) read =
-    let scripted = between_lacks (decimal delay) (script_text script) (decimal_lacks 10 delay refl (omega (arith, read.soon))) (script_lacks script read.scripted) in
-    let flagged = between_lacks (flag_text params) (plan_text delay script) (flag_lacks 10 params.reclaim refl refl) scripted in
-    let planned = flag_text params ++ (32 ∷ plan_text delay script) in
-    let timed_text = times_lack (times_of params) planned (params_again params read.checked).1 flagged in
-    let named = between_lacks name (times_text (times_of params) planned) (name_lacks 10 name (omega arith) read.named.bytes) timed_text in
-    number_lacks number (name ++ (32 ∷ times_text (times_of params) planned)) read.numbered named
+    newcomer_lacks number name params (plan_text delay script) read.numbered read.named read.checked
+    (between_lacks (decimal delay) (script_text script) (decimal_lacks 10 delay refl (omega (arith, read.soon))) (script_lacks script read.scripted))
+call_lacks (Arrive number name params script) read =
+    newcomer_lacks number name params (script_text script) read.numbered read.named read.checked (script_lacks script read.scripted)
+call_lacks (Depart number) read = decimal_lacks 10 number refl (omega (arith, read.1))
 call_lacks (Regrade number params word) read =
     number_lacks number (times_text (times_of params) (answer_text params word)) read.0 (times_lack (times_of params) (answer_text params word) (params_again params read.1).1 (answer_lacks params word read.2))
 call_lacks (Wake number) read = decimal_lacks 10 number refl (omega (arith, read.1))

@@ -34,7 +34,7 @@ use Rattle.call_book.proofs.Asking.{all_behind}
 
 -- ---- a task that is listed has a ticket
 
-keyed_any : (number : ℕ) (tickets : List Held) → list_any (λ k. eqb k.0 number) (map held_key tickets) ≡ list_any (is_held number) tickets
+pub keyed_any : (number : ℕ) (tickets : List Held) → list_any (λ k. eqb k.0 number) (map held_key tickets) ≡ list_any (is_held number) tickets
 keyed_any number [] = refl
 keyed_any number (h ∷ tickets) = elim (eqb h.number number) as (λ b. (b || list_any (λ k. eqb k.0 number) (map held_key tickets)) ≡ (b || list_any (is_held number) tickets)) [ true ↦ refl | false ↦ keyed_any number tickets ]
 

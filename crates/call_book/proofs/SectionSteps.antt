@@ -9,7 +9,7 @@ use Rattle.call_book.specs.declared.section.Entry.{Entry}
 use Rattle.call_book.specs.declared.fault.PartFault.{PartFault}
 use Rattle.call_book.specs.declared.fault.PartFault.TheVariants.{Bad, Memory}
 use Rattle.call_book.specs.SectionView.{SectionView}
-use Rattle.call_book.specs.Spelling.{domain_line, section_lines, some_limit, has_limit, text_of}
+use Rattle.call_book.specs.Spelling.{domain_line, section_lines, some_later, has_later, text_of}
 use Rattle.call_book.specs.private.Reading.{cut_at, domain_at, Fails, Knows, entries_text, AreEntries, IsSectionRead, IsFirstSection, LacksDomain, IsNoSection, sections_text, HasRoom, SectionsSoFar}
 use Rattle.call_book.proofs.Cuts.{cut_takes, cut_again}
 use Rattle.call_book.proofs.Lines.{domain_takes, domain_again, domain_lacks}
@@ -21,8 +21,8 @@ use Rattle.call_book.proofs.Sections.{section_from, each_more, lines_more}
 grouped : (d t r : List ℕ) → ((d ++ (10 ∷ [])) ++ t) ++ r ≡ d ++ (10 ∷ (t ++ r))
 grouped d t r = simp append_assoc
 
-pub first_section : (limits : Bool) (text line after rest : List ℕ) (d : ℕ × ℕ) (entries : List Entry) → cut_at 10 text ≡ Some (line, after) → domain_at line ≡ Some d → AreEntries limits after rest entries → IsFirstSection limits text rest (section_from d.0 d.1 entries)
-first_section limits text line after rest d entries cut read are =
+pub first_section : (later : Bool) (text line after rest : List ℕ) (d : ℕ × ℕ) (entries : List Entry) → cut_at 10 text ≡ Some (line, after) → domain_at line ≡ Some d → AreEntries later after rest entries → IsFirstSection later text rest (section_from d.0 d.1 entries)
+first_section later text line after rest d entries cut read are =
     let t = domain_takes line d read in
     let s = section_from d.0 d.1 entries in
     let first : text ≡ domain_line s ++ (10 ∷ after) = cut_takes 10 text (line, after) cut ∙ ap (λ (l : List ℕ). l ++ (10 ∷ after)) t.line_is in
@@ -63,22 +63,22 @@ count_more sections s = ap length (lines_more sections s) ∙ length-append (fla
 text_more : (sections : List SectionView) (s : SectionView) → sections_text (sections ++ s ∷ []) ≡ sections_text sections ++ text_of (section_lines s)
 text_more sections s = ap text_of (lines_more sections s) ∙ flat_map-append (λ (line : List ℕ). line ++ codes "\n") (flat_map section_lines sections) (section_lines s)
 
-parts_more : (limits : Bool) (text rest after : List ℕ) (sections : List SectionView) (s : SectionView) → SectionsSoFar limits text rest sections → IsFirstSection limits rest after s → text ≡ sections_text (sections ++ s ∷ []) ++ after
-parts_more limits text rest after sections s so_far first =
+parts_more : (later : Bool) (text rest after : List ℕ) (sections : List SectionView) (s : SectionView) → SectionsSoFar later text rest sections → IsFirstSection later rest after s → text ≡ sections_text (sections ++ s ∷ []) ++ after
+parts_more later text rest after sections s so_far first =
     so_far.parts ∙ ap (λ (r : List ℕ). sections_text sections ++ r) first.parts ∙ sym (append_assoc (sections_text sections) (text_of (section_lines s)) after) ∙ ap (λ (t : List ℕ). t ++ after) (sym (text_more sections s))
 
-known_more : (limits : Bool) (sections : List SectionView) (s : SectionView) → Knows limits (has_limit sections) → Knows limits (some_limit s.entries) → Knows limits (has_limit (sections ++ s ∷ []))
-known_more limits sections s knows more =
-    λ no. list_any-append (λ (x : SectionView). some_limit x.entries) sections (s ∷ []) ∙ none_of (has_limit sections) (has_limit (s ∷ [])) (knows no) (none_of (some_limit s.entries) false (more no) refl)
+known_more : (later : Bool) (sections : List SectionView) (s : SectionView) → Knows later (has_later sections) → Knows later (some_later s.entries) → Knows later (has_later (sections ++ s ∷ []))
+known_more later sections s knows more =
+    λ no. list_any-append (λ (x : SectionView). some_later x.entries) sections (s ∷ []) ∙ none_of (has_later sections) (has_later (s ∷ [])) (knows no) (none_of (some_later s.entries) false (more no) refl)
 
-pub section_more : (limits : Bool) (text rest after : List ℕ) (sections : List SectionView) (s : SectionView) → SectionsSoFar limits text rest sections → IsFirstSection limits rest after s → SectionsSoFar limits text after (sections ++ s ∷ [])
-section_more limits text rest after sections s so_far first = record {
-  parts = parts_more limits text rest after sections s so_far first;
+pub section_more : (later : Bool) (text rest after : List ℕ) (sections : List SectionView) (s : SectionView) → SectionsSoFar later text rest sections → IsFirstSection later rest after s → SectionsSoFar later text after (sections ++ s ∷ [])
+section_more later text rest after sections s so_far first = record {
+  parts = parts_more later text rest after sections s so_far first;
   each = each_more sections s so_far.each first.is;
-  known = known_more limits sections s so_far.known first.known;
+  known = known_more later sections s so_far.known first.known;
   stops = λ room. first.stops (last_room sections s room);
 }
 
 -- before the first section
-pub sections_start : (limits : Bool) (text : List ℕ) → SectionsSoFar limits text text []
-sections_start limits text = record { parts = refl; each = tt; known = λ no. refl; stops = λ room. absurd room }
+pub sections_start : (later : Bool) (text : List ℕ) → SectionsSoFar later text text []
+sections_start later text = record { parts = refl; each = tt; known = λ no. refl; stops = λ room. absurd room }

@@ -5,11 +5,11 @@ use Rattle.std.proofs.lemmas.Grind.{flat_map-append}
 use Rattle.std.proofs.lemmas.Option.{some_pair_parts}
 use Rattle.std.proofs.lemmas.List.Elements.{All-from_recursion, recursion_from_All, All-weaker}
 use Rattle.domain_run.specs.declared.call.Call.{Call}
-use Rattle.domain_run.specs.declared.call.Call.TheVariants.{Admit, Regrade, Wake, Leave, Advance, Limit}
+use Rattle.domain_run.specs.declared.call.Call.TheVariants.{Admit, Regrade, Wake, Leave, Advance, Limit, Depart, Arrive}
 use Rattle.domain_run.specs.declared.call.Reply.{Reply}
 use Rattle.call_book.specs.declared.section.Entry.{Entry}
 use Rattle.call_book.specs.SectionView.{SectionView}
-use Rattle.call_book.specs.Spelling.{line_of, call_fields, entry_line, domain_line, section_lines, is_limit, some_limit, has_limit, header_line, lines_of, spelling}
+use Rattle.call_book.specs.Spelling.{line_of, call_fields, entry_line, domain_line, section_lines, is_later, some_later, has_later, header_line, lines_of, spelling}
 use Rattle.call_book.specs.OwnCalls.{IsNumberedAfter, made_by}
 use Rattle.call_book.specs.Limits.{IsEntry, IsSection, AreRead}
 use Rattle.call_book.specs.private.Reading.{call_at, domain_at, IsEntryRead, IsSectionRead, HasRoom}
@@ -68,22 +68,25 @@ lines_more sections s = flat_map-append section_lines sections (s ∷ []) ∙ ap
 abbrev pub section_from : ℕ → ℕ → List Entry → SectionView
 section_from cpus limit entries = record { cpus = cpus; limit = limit; entries = entries }
 
-abbrev first_byte : List ℕ → ℕ
-first_byte [] = 0
-first_byte (c ∷ cs) = c
+abbrev second_byte : List ℕ → ℕ
+second_byte [] = 0
+second_byte (c ∷ []) = 0
+second_byte (c ∷ d ∷ ds) = d
 
--- the line of a call does not begin with a d
-other_first : (client : ℕ) (call : Call) → 100 ≡ first_byte (line_of (call_fields client call)) → ⊥
-other_first client (Admit number name params delay script) e = let f : 100 ≡ 97 = e in omega (arith, f)
-other_first client (Regrade number params word) e = let f : 100 ≡ 114 = e in omega (arith, f)
-other_first client (Wake number) e = let f : 100 ≡ 119 = e in omega (arith, f)
-other_first client (Leave number) e = let f : 100 ≡ 108 = e in omega (arith, f)
-other_first client (Advance ticks) e = let f : 100 ≡ 97 = e in omega (arith, f)
-other_first client (Limit limit word) e = let f : 100 ≡ 108 = e in omega (arith, f)
+-- the line of a call has another second byte than `domain`
+other_second : (client : ℕ) (call : Call) → 111 ≡ second_byte (line_of (call_fields client call)) → ⊥
+other_second client (Admit number name params delay script) e = let f : 111 ≡ 100 = e in omega (arith, f)
+other_second client (Regrade number params word) e = let f : 111 ≡ 101 = e in omega (arith, f)
+other_second client (Wake number) e = let f : 111 ≡ 97 = e in omega (arith, f)
+other_second client (Leave number) e = let f : 111 ≡ 101 = e in omega (arith, f)
+other_second client (Advance ticks) e = let f : 111 ≡ 100 = e in omega (arith, f)
+other_second client (Limit limit word) e = let f : 111 ≡ 105 = e in omega (arith, f)
+other_second client (Depart number) e = let f : 111 ≡ 101 = e in omega (arith, f)
+other_second client (Arrive number name params script) e = let f : 111 ≡ 114 = e in omega (arith, f)
 
 -- so it is not that of a domain
 other_line : (s : SectionView) (e : Entry) → domain_line s ≡ entry_line e → ⊥
-other_line s e same = other_first e.client e.call (ap first_byte same)
+other_line s e same = other_second e.client e.call (ap second_byte same)
 
 -- lines that do not begin with an entry's
 abbrev StartsAnew : List (List ℕ) → Type 0
@@ -105,7 +108,7 @@ record Longer (xs ys : List Entry) (lines : List (List ℕ)) : Type 0 where
   more : List (List ℕ)
   next : lines ≡ entry_line entry ∷ more
   within : length xs < length ys
-  among : is_limit entry.call ≡ true → some_limit ys ≡ true
+  among : is_later entry.call ≡ true → some_later ys ≡ true
 
 record SameLines (xs ys : List Entry) (a b : List (List ℕ)) : Type 0 where
   entries : map entry_line xs ≡ map entry_line ys
@@ -113,11 +116,11 @@ record SameLines (xs ys : List Entry) (a b : List (List ℕ)) : Type 0 where
 
 one_longer : (x y : Entry) (xs ys : List Entry) (a b : List (List ℕ)) → entry_line x ≡ entry_line y → SameLines xs ys a b ⊎ Longer xs ys a → SameLines (x ∷ xs) (y ∷ ys) a b ⊎ Longer (x ∷ xs) (y ∷ ys) a
 one_longer x y xs ys a b first (inl same) = inl (record { entries = let more = same.entries in cc; rest = same.rest })
-one_longer x y xs ys a b first (inr longer) = inr (record { entry = longer.entry; is = longer.is; more = longer.more; next = longer.next; within = omega (arith, longer.within); among = λ yes. by_second (is_limit y.call) (some_limit ys) (longer.among yes) })
+one_longer x y xs ys a b first (inr longer) = inr (record { entry = longer.entry; is = longer.is; more = longer.more; next = longer.next; within = omega (arith, longer.within); among = λ yes. by_second (is_later y.call) (some_later ys) (longer.among yes) })
 
 compared_entries : (xs ys : List Entry) (a b : List (List ℕ)) → AllByRecursion IsEntryRead ys → StartsAnew b → map entry_line xs ++ a ≡ map entry_line ys ++ b → SameLines xs ys a b ⊎ Longer xs ys a
 compared_entries [] [] a b each anew e = inl (record { entries = refl; rest = e })
-compared_entries [] (y ∷ ys) a b each anew e = inr (record { entry = y; is = each.0; more = map entry_line ys ++ b; next = e; within = omega arith; among = λ yes. by_first (is_limit y.call) (some_limit ys) yes })
+compared_entries [] (y ∷ ys) a b each anew e = inr (record { entry = y; is = each.0; more = map entry_line ys ++ b; next = e; within = omega arith; among = λ yes. by_first (is_later y.call) (some_later ys) yes })
 compared_entries (x ∷ xs) [] a b each anew e = absurd (not_anew b (map entry_line xs ++ a) x anew e)
 compared_entries (x ∷ xs) (y ∷ ys) a b each anew e =
     let first : entry_line x ≡ entry_line y = cc in
@@ -130,7 +133,7 @@ pub record EntryFollows (sections others : List SectionView) (line : List ℕ) :
   pub is : IsEntryRead entry
   pub line_is : line ≡ entry_line entry
   pub room : HasRoom sections
-  pub among : is_limit entry.call ≡ true → has_limit others ≡ true
+  pub among : is_later entry.call ≡ true → has_later others ≡ true
 
 -- or a domain's, where there are not yet as many sections as in the text
 pub record DomainFollows (sections others : List SectionView) (line : List ℕ) : Type 0 where
@@ -144,14 +147,14 @@ more_room s [] room = absurd room
 more_room s (t ∷ sections) room = room
 
 follows_later : (s t : SectionView) (ss ts : List SectionView) (line : List ℕ) → EntryFollows ss ts line ⊎ DomainFollows ss ts line → EntryFollows (s ∷ ss) (t ∷ ts) line ⊎ DomainFollows (s ∷ ss) (t ∷ ts) line
-follows_later s t ss ts line (inl f) = inl (record { entry = f.entry; is = f.is; line_is = f.line_is; room = more_room s ss f.room; among = λ yes. by_second (some_limit t.entries) (has_limit ts) (f.among yes) })
+follows_later s t ss ts line (inl f) = inl (record { entry = f.entry; is = f.is; line_is = f.line_is; room = more_room s ss f.room; among = λ yes. by_second (some_later t.entries) (has_later ts) (f.among yes) })
 follows_later s t ss ts line (inr f) = inr (record { section = f.section; is = f.is; line_is = f.line_is; within = omega (arith, f.within) })
 
 -- the last section's entries end, and the text goes on with an entry
 follows_here : (s t : SectionView) (ss ts : List SectionView) (line : List ℕ) (more : List (List ℕ)) → length t.entries ≤ 65536 → Longer s.entries t.entries (flat_map section_lines ss ++ (line ∷ more)) → EntryFollows (s ∷ ss) (t ∷ ts) line
 follows_here s t [] ts line more few longer =
     let next : line ∷ more ≡ entry_line longer.entry ∷ longer.more = longer.next in
-    record { entry = longer.entry; is = longer.is; line_is = cc; room = omega (arith, longer.within, few); among = λ yes. by_first (some_limit t.entries) (has_limit ts) (longer.among yes) }
+    record { entry = longer.entry; is = longer.is; line_is = cc; room = omega (arith, longer.within, few); among = λ yes. by_first (some_later t.entries) (has_later ts) (longer.among yes) }
 follows_here s t (u ∷ ss) ts line more few longer =
     let next : domain_line u ∷ ((map entry_line u.entries ++ flat_map section_lines ss) ++ (line ∷ more)) ≡ entry_line longer.entry ∷ longer.more = longer.next in
     let first : domain_line u ≡ entry_line longer.entry = cc in
@@ -232,6 +235,6 @@ pub same_sections : (ss ts : List SectionView) → AreRead ss → AreRead ts →
 same_sections ss ts are are' e =
     let each = each_read ss are in
     let each' = each_read ts are' in
-    let lines : header_line (has_limit ss) ∷ flat_map section_lines ss ≡ header_line (has_limit ts) ∷ flat_map section_lines ts = same_lines (lines_of ss) (lines_of ts) (sections_lines ss each) (sections_lines ts each') e in
-    let bodies : flat_map section_lines ss ≡ flat_map section_lines ts = behind (header_line (has_limit ss)) (header_line (has_limit ts)) (flat_map section_lines ss) (flat_map section_lines ts) lines in
+    let lines : header_line (has_later ss) ∷ flat_map section_lines ss ≡ header_line (has_later ts) ∷ flat_map section_lines ts = same_lines (lines_of ss) (lines_of ts) (sections_lines ss each) (sections_lines ts each') e in
+    let bodies : flat_map section_lines ss ≡ flat_map section_lines ts = behind (header_line (has_later ss)) (header_line (has_later ts)) (flat_map section_lines ss) (flat_map section_lines ts) lines in
     same_bodies ss ts each each' bodies

@@ -11,7 +11,7 @@ use Rattle.std.proofs.lemmas.Option.{some_pair_parts}
 use Rattle.domain_run.specs.declared.call.Call.TheVariants.{Limit}
 use Rattle.call_book.specs.declared.section.Entry.{Entry}
 use Rattle.call_book.specs.SectionView.{SectionView}
-use Rattle.call_book.specs.Spelling.{entry_line, domain_line, section_lines, is_limit, some_limit, has_limit, header_line, lines_of, text_of, spelling}
+use Rattle.call_book.specs.Spelling.{entry_line, domain_line, section_lines, is_later, some_later, has_later, header_line, lines_of, text_of, spelling}
 use Rattle.call_book.specs.OwnCalls.{IsNumberedAfter, made_by}
 use Rattle.call_book.specs.Limits.{AreRead}
 use Rattle.call_book.specs.BadLine.{IsAccepted, Begins, IsBadLine}
@@ -28,7 +28,7 @@ body sections = flat_map section_lines sections
 
 -- the lines of sections behind a header
 abbrev headed : Bool → List SectionView → List (List ℕ)
-headed limits sections = header_line limits ∷ body sections
+headed later sections = header_line later ∷ body sections
 
 -- ---- headers
 
@@ -41,31 +41,31 @@ header_same true true e = refl
 first_same : (x y : List ℕ) (a b : List (List ℕ)) → x ∷ a ≡ y ∷ b → x ≡ y
 first_same x y a b e = cc
 
-header_again : (limits : Bool) → header_at (header_line limits) ≡ Some limits
+header_again : (later : Bool) → header_at (header_line later) ≡ Some later
 unfolding header_at
 header_again false = refl
 header_again true = refl
 
-header_by : (line : List ℕ) (limits one two : Bool) → bytes_eq line (codes "dlcalls 1") ≡ one → bytes_eq line (codes "dlcalls 2") ≡ two → cond one (Some false) (cond two (Some true) None) ≡ Some limits → line ≡ header_line limits
+header_by : (line : List ℕ) (later one two : Bool) → bytes_eq line (codes "dlcalls 1") ≡ one → bytes_eq line (codes "dlcalls 2") ≡ two → cond one (Some false) (cond two (Some true) None) ≡ Some later → line ≡ header_line later
 header_by line false true two is e h = (bytes_eq-Decides line (codes "dlcalls 1")).0 is
 header_by line true true two is e h = absurd cc
 header_by line true false true e is h = (bytes_eq-Decides line (codes "dlcalls 2")).0 is
 header_by line false false true e is h = absurd cc
-header_by line limits false false e f h = absurd cc
+header_by line later false false e f h = absurd cc
 
-header_takes : (line : List ℕ) (limits : Bool) → header_at line ≡ Some limits → line ≡ header_line limits
+header_takes : (line : List ℕ) (later : Bool) → header_at line ≡ Some later → line ≡ header_line later
 unfolding header_at
-header_takes line limits h = header_by line limits (bytes_eq line (codes "dlcalls 1")) (bytes_eq line (codes "dlcalls 2")) refl refl h
+header_takes line later h = header_by line later (bytes_eq line (codes "dlcalls 1")) (bytes_eq line (codes "dlcalls 2")) refl refl h
 
-header_cut : (limits : Bool) (rest : List ℕ) → cut_at 10 (header_line limits ++ (10 ∷ rest)) ≡ Some (header_line limits, rest)
-header_cut limits rest = cut_again 10 (header_line limits) rest (header_lacks limits)
+header_cut : (later : Bool) (rest : List ℕ) → cut_at 10 (header_line later ++ (10 ∷ rest)) ≡ Some (header_line later, rest)
+header_cut later rest = cut_again 10 (header_line later) rest (header_lacks later)
 
 -- the text of the header and of sections
-headed_text : (limits : Bool) (sections : List SectionView) (rest : List ℕ) → header_line limits ++ (10 ∷ (sections_text sections ++ rest)) ≡ text_of (headed limits sections) ++ rest
-headed_text limits sections rest = simp append_assoc
+headed_text : (later : Bool) (sections : List SectionView) (rest : List ℕ) → header_line later ++ (10 ∷ (sections_text sections ++ rest)) ≡ text_of (headed later sections) ++ rest
+headed_text later sections rest = simp append_assoc
 
-spelled : (sections : List SectionView) → spelling sections ≡ header_line (has_limit sections) ++ (10 ∷ sections_text sections)
-spelled sections = append_assoc (header_line (has_limit sections)) (codes "\n") (sections_text sections)
+spelled : (sections : List SectionView) → spelling sections ≡ header_line (has_later sections) ++ (10 ∷ sections_text sections)
+spelled sections = append_assoc (header_line (has_later sections)) (codes "\n") (sections_text sections)
 
 -- ---- sections that go on so that the limit changes
 
@@ -82,7 +82,7 @@ record Changed (sections : List SectionView) : Type 0 where
   most : length others ≤ 8
   more : List (List ℕ)
   lines : body others ≡ body sections ++ more
-  has : has_limit others ≡ true
+  has : has_later others ≡ true
 
 -- by a section of one such call
 changed_sample : SectionView
@@ -92,7 +92,7 @@ changed_is : IsSectionRead changed_sample
 unfolding changed_sample
 changed_is = record { some = omega arith; most = omega arith; low = omega arith; high = omega arith; few = omega arith; each = (change_is 0, tt); numbered = (refl, tt) }
 
-changed_has : has_limit (changed_sample ∷ []) ≡ true
+changed_has : has_later (changed_sample ∷ []) ≡ true
 unfolding changed_sample
 changed_has = refl
 
@@ -103,7 +103,7 @@ changed_behind sections each few = record {
   most = omega (arith, few, length-append sections (changed_sample ∷ []));
   more = section_lines changed_sample;
   lines = lines_more sections changed_sample;
-  has = list_any-append (λ (x : SectionView). some_limit x.entries) sections (changed_sample ∷ []) ∙ by_second (has_limit sections) (has_limit (changed_sample ∷ [])) changed_has;
+  has = list_any-append (λ (x : SectionView). some_later x.entries) sections (changed_sample ∷ []) ∙ by_second (has_later sections) (has_later (changed_sample ∷ [])) changed_has;
 }
 
 -- by a call behind those of the last section
@@ -126,9 +126,9 @@ longer_lines s e =
     ap (λ (ls : List (List ℕ)). (domain_line s ∷ ls) ++ []) (map-append entry_line s.entries (e ∷ [])) ∙ append-nil (domain_line s ∷ (map entry_line s.entries ++ entry_line e ∷ []))
     ∙ ap (λ (ls : List (List ℕ)). ls ++ entry_line e ∷ []) (sym (append-nil (section_lines s)))
 
-longer_has : (s : SectionView) (e : Entry) → is_limit e.call ≡ true → has_limit (longer_by s e ∷ []) ≡ true
+longer_has : (s : SectionView) (e : Entry) → is_later e.call ≡ true → has_later (longer_by s e ∷ []) ≡ true
 longer_has s e is =
-    ap (λ (b : Bool). b || false) (list_any-append (λ (x : Entry). is_limit x.call) s.entries (e ∷ []) ∙ by_second (some_limit s.entries) (is_limit e.call || false) (ap (λ (b : Bool). b || false) is))
+    ap (λ (b : Bool). b || false) (list_any-append (λ (x : Entry). is_later x.call) s.entries (e ∷ []) ∙ by_second (some_later s.entries) (is_later e.call || false) (ap (λ (b : Bool). b || false) is))
 
 record ChangedLast (sections : List SectionView) : Type 0 where
   others : List SectionView
@@ -136,7 +136,7 @@ record ChangedLast (sections : List SectionView) : Type 0 where
   count : length others ≡ length sections
   more : List (List ℕ)
   lines : body others ≡ body sections ++ more
-  has : has_limit others ≡ true
+  has : has_later others ≡ true
 
 changed_last : (sections : List SectionView) → AllByRecursion IsSectionRead sections → HasRoom sections → ChangedLast sections
 changed_last [] each room = absurd room
@@ -158,7 +158,7 @@ changed_last (s ∷ t ∷ sections) each room =
       count = ap suc r.count;
       more = r.more;
       lines = ap (λ (ls : List (List ℕ)). section_lines s ++ ls) r.lines ∙ sym (append_assoc (section_lines s) (body (t ∷ sections)) r.more);
-      has = by_second (some_limit s.entries) (has_limit r.others) r.has;
+      has = by_second (some_later s.entries) (has_later r.others) r.has;
     }
 
 in_last : (sections : List SectionView) → AllByRecursion IsSectionRead sections → length sections ≤ 8 → HasRoom sections → Changed sections
@@ -183,19 +183,19 @@ no_room (s ∷ t ∷ sections) full room = no_room (t ∷ sections) full room
 
 -- ---- which lines begin an accepted text
 
-begins_by : (limits : Bool) (sections others : List SectionView) (more : List (List ℕ)) → AllByRecursion IsSectionRead others → 0 < length others → length others ≤ 8 → has_limit others ≡ limits → body others ≡ body sections ++ more → Begins (headed limits sections)
-begins_by limits sections others more each some most has lines =
-    (others, are_read others each some most, more, ap (λ (b : Bool). headed b others) has ∙ ap (λ (ls : List (List ℕ)). header_line limits ∷ ls) lines)
+begins_by : (later : Bool) (sections others : List SectionView) (more : List (List ℕ)) → AllByRecursion IsSectionRead others → 0 < length others → length others ≤ 8 → has_later others ≡ later → body others ≡ body sections ++ more → Begins (headed later sections)
+begins_by later sections others more each some most has lines =
+    (others, are_read others each some most, more, ap (λ (b : Bool). headed b others) has ∙ ap (λ (ls : List (List ℕ)). header_line later ∷ ls) lines)
 
-some_where : (sections : List SectionView) → has_limit sections ≡ true → 0 < length sections
+some_where : (sections : List SectionView) → has_later sections ≡ true → 0 < length sections
 some_where [] has = absurd cc
 some_where (s ∷ sections) has = omega arith
 
 changed_begins : (sections : List SectionView) → Changed sections → Begins (headed true sections)
 changed_begins sections c = begins_by true sections c.others c.more c.each (some_where c.others c.has) c.most c.has c.lines
 
-itself_begins : (limits : Bool) (sections : List SectionView) → AllByRecursion IsSectionRead sections → 0 < length sections → length sections ≤ 8 → has_limit sections ≡ limits → Begins (headed limits sections)
-itself_begins limits sections each some most has = begins_by limits sections sections [] each some most has (sym (append-nil (body sections)))
+itself_begins : (later : Bool) (sections : List SectionView) → AllByRecursion IsSectionRead sections → 0 < length sections → length sections ≤ 8 → has_later sections ≡ later → Begins (headed later sections)
+itself_begins later sections each some most has = begins_by later sections sections [] each some most has (sym (append-nil (body sections)))
 
 empty_is : IsSectionRead (section_from 1 1048576 [])
 empty_is = record { some = omega arith; most = omega arith; low = omega arith; high = omega arith; few = omega arith; each = tt; numbered = tt }
@@ -203,7 +203,7 @@ empty_is = record { some = omega arith; most = omega arith; low = omega arith; h
 header_begins : Begins (headed false [])
 header_begins = begins_by false [] (section_from 1 1048576 [] ∷ []) (body (section_from 1 1048576 [] ∷ [])) (empty_is, tt) (omega arith) (omega arith) refl refl
 
-plain_begins : (sections : List SectionView) → AllByRecursion IsSectionRead sections → length sections ≤ 8 → has_limit sections ≡ false → Begins (headed false sections)
+plain_begins : (sections : List SectionView) → AllByRecursion IsSectionRead sections → length sections ≤ 8 → has_later sections ≡ false → Begins (headed false sections)
 plain_begins [] each most has = header_begins
 plain_begins (s ∷ sections) each most has = itself_begins false (s ∷ sections) each (omega arith) most has
 
@@ -215,7 +215,7 @@ may_change sections true e each most free =
       | inr full ↦ absurd (let f = sym full ∙ free in cc)
     ]
 
-begins_headed : (limits has : Bool) (sections : List SectionView) → has_limit sections ≡ has → AllByRecursion IsSectionRead sections → length sections ≤ 8 → Knows limits has → (limits && not has && (eqb (length sections) 8 && last_full sections)) ≡ false → Begins (headed limits sections)
+begins_headed : (later has : Bool) (sections : List SectionView) → has_later sections ≡ has → AllByRecursion IsSectionRead sections → length sections ≤ 8 → Knows later has → (later && not has && (eqb (length sections) 8 && last_full sections)) ≡ false → Begins (headed later sections)
 begins_headed false has sections e each most knows free = plain_begins sections each most (e ∙ knows refl)
 begins_headed true true sections e each most knows free = itself_begins true sections each (some_where sections e) most e
 begins_headed true false sections e each most knows free = changed_begins sections (may_change sections (eqb (length sections) 8) refl each most free)
@@ -223,27 +223,27 @@ begins_headed true false sections e each most knows free = changed_begins sectio
 -- ---- what follows such lines
 
 -- a text that begins so goes on behind these sections, or is theirs
-record Follows (limits : Bool) (sections : List SectionView) (more : List (List ℕ)) : Type 0 where
+record Follows (later : Bool) (sections : List SectionView) (more : List (List ℕ)) : Type 0 where
   others : List SectionView
   each : AllByRecursion IsSectionRead others
   most : length others ≤ 8
-  has : has_limit others ≡ limits
+  has : has_later others ≡ later
   lines : body others ≡ body sections ++ more
 
-follows_from : (limits : Bool) (sections : List SectionView) (more : List (List ℕ)) (others : List SectionView) → AreRead others → lines_of others ≡ headed limits sections ++ more → Follows limits sections more
-follows_from limits sections more others are e =
-    let whole : header_line (has_limit others) ∷ body others ≡ header_line limits ∷ (body sections ++ more) = e in
+follows_from : (later : Bool) (sections : List SectionView) (more : List (List ℕ)) (others : List SectionView) → AreRead others → lines_of others ≡ headed later sections ++ more → Follows later sections more
+follows_from later sections more others are e =
+    let whole : header_line (has_later others) ∷ body others ≡ header_line later ∷ (body sections ++ more) = e in
     record {
       others = others;
       each = each_read others are;
       most = are.within.most;
-      has = header_same (has_limit others) limits (first_same (header_line (has_limit others)) (header_line limits) (body others) (body sections ++ more) whole);
-      lines = behind (header_line (has_limit others)) (header_line limits) (body others) (body sections ++ more) whole;
+      has = header_same (has_later others) later (first_same (header_line (has_later others)) (header_line later) (body others) (body sections ++ more) whole);
+      lines = behind (header_line (has_later others)) (header_line later) (body others) (body sections ++ more) whole;
     }
 
 -- no line behind these sections goes on as in an accepted text
 abbrev NoLineFollows : Bool → List ℕ → List SectionView → Type 0
-NoLineFollows limits rest sections = (line after : List ℕ) → rest ≡ line ++ 10 ∷ after → Begins (headed limits sections ++ line ∷ []) → ⊥
+NoLineFollows later rest sections = (line after : List ℕ) → rest ≡ line ++ 10 ∷ after → Begins (headed later sections ++ line ∷ []) → ⊥
 
 not_true : (b : Bool) → (b ≡ true → ⊥) → b ≡ false
 not_true false never = refl
@@ -252,21 +252,21 @@ not_true true never = absurd (never refl)
 never_true : (b : Bool) → b ≡ false → b ≡ true → ⊥
 never_true b is isnt = let f = sym is ∙ isnt in cc
 
-no_line_follows : (limits : Bool) (rest : List ℕ) (sections : List SectionView) → (HasRoom sections → LacksEntry limits rest) → (length sections < 8 → LacksDomain rest) → NoLineFollows limits rest sections
-no_line_follows limits rest sections stops ends = λ line after same begins.
-    let f = follows_from limits sections (line ∷ begins.2) begins.0 begins.1 (begins.3 ∙ append_assoc (headed limits sections) (line ∷ []) begins.2) in
+no_line_follows : (later : Bool) (rest : List ℕ) (sections : List SectionView) → (HasRoom sections → LacksEntry later rest) → (length sections < 8 → LacksDomain rest) → NoLineFollows later rest sections
+no_line_follows later rest sections stops ends = λ line after same begins.
+    let f = follows_from later sections (line ∷ begins.2) begins.0 begins.1 (begins.3 ∙ append_assoc (headed later sections) (line ∷ []) begins.2) in
     elim (follows sections f.others line begins.2 f.each f.lines) [
       | inl g ↦
-          let knows : Knows limits (is_limit g.entry.call) = λ no. not_true (is_limit g.entry.call) (λ yes. never_true (has_limit f.others) (f.has ∙ no) (g.among yes)) in
+          let knows : Knows later (is_later g.entry.call) = λ no. not_true (is_later g.entry.call) (λ yes. never_true (has_later f.others) (f.has ∙ no) (g.among yes)) in
           stops g.room g.entry after g.is knows (same ∙ ap (λ (l : List ℕ). l ++ 10 ∷ after) g.line_is)
       | inr g ↦ ends (omega (arith, g.within, f.most)) g.section after g.is (same ∙ ap (λ (l : List ℕ). l ++ 10 ∷ after) g.line_is)
     ]
 
 -- nothing follows where the last section is full and all sections are there, so these lines are a
 -- text's only where the limit changes in them
-full_ends : (limits : Bool) (sections : List SectionView) (more : List (List ℕ)) → AllByRecursion IsSectionRead sections → length sections ≡ 8 → last_full sections ≡ true → Follows limits sections more → has_limit sections ≡ limits
-full_ends limits sections [] each eight full f = ap has_limit (sym (same_bodies f.others sections f.each each (f.lines ∙ append-nil (body sections)))) ∙ f.has
-full_ends limits sections (line ∷ more) each eight full f =
+full_ends : (later : Bool) (sections : List SectionView) (more : List (List ℕ)) → AllByRecursion IsSectionRead sections → length sections ≡ 8 → last_full sections ≡ true → Follows later sections more → has_later sections ≡ later
+full_ends later sections [] each eight full f = ap has_later (sym (same_bodies f.others sections f.each each (f.lines ∙ append-nil (body sections)))) ∙ f.has
+full_ends later sections (line ∷ more) each eight full f =
     elim (follows sections f.others line more f.each f.lines) [
       | inl g ↦ absurd (no_room sections full g.room)
       | inr g ↦ absurd (let most = f.most in omega (arith, g.within, most, eight))
@@ -275,35 +275,35 @@ full_ends limits sections (line ∷ more) each eight full f =
 -- ---- the first bad line behind sections
 
 -- the text is not accepted where nothing goes on and these sections are not what the header says
-never_accepted : (limits : Bool) (text rest : List ℕ) (sections : List SectionView) → text ≡ text_of (headed limits sections) ++ rest → AllByRecursion IsSectionRead sections → (length rest ≡ 0 → 0 < length sections → has_limit sections ≡ limits → ⊥) → NoLineFollows limits rest sections → IsAccepted text → ⊥
+never_accepted : (later : Bool) (text rest : List ℕ) (sections : List SectionView) → text ≡ text_of (headed later sections) ++ rest → AllByRecursion IsSectionRead sections → (length rest ≡ 0 → 0 < length sections → has_later sections ≡ later → ⊥) → NoLineFollows later rest sections → IsAccepted text → ⊥
 unfolding follows_from
-never_accepted limits text rest sections parts each unfit none accepted =
+never_accepted later text rest sections parts each unfit none accepted =
     let others = accepted.0 in
-    let same : text_of (headed limits sections) ++ rest ≡ text_of (lines_of others) ++ [] = sym parts ∙ accepted.2 ∙ sym (append-nil (spelling others)) in
-    elim (compared (headed limits sections) (lines_of others) rest [] (headed_lines limits sections each) (sections_lines others (each_read others accepted.1)) same) [
+    let same : text_of (headed later sections) ++ rest ≡ text_of (lines_of others) ++ [] = sym parts ∙ accepted.2 ∙ sym (append-nil (spelling others)) in
+    elim (compared (headed later sections) (lines_of others) rest [] (headed_lines later sections each) (sections_lines others (each_read others accepted.1)) same) [
       | inl lines ↦
           let texts = ap length (ap text_of lines) in
           let long = ap length same in
-          let f = follows_from limits sections [] others accepted.1 (sym lines ∙ sym (append-nil (headed limits sections))) in
+          let f = follows_from later sections [] others accepted.1 (sym lines ∙ sym (append-nil (headed later sections))) in
           let is : others ≡ sections = same_bodies others sections f.each each (f.lines ∙ append-nil (body sections)) in
           let some = accepted.1.within.some in
-          unfit (omega (arith, texts, long, length-append (text_of (headed limits sections)) rest, length-append (text_of (lines_of others)) [])) (omega (arith, some, ap length is)) (ap has_limit (sym is) ∙ f.has)
-      | inr (inl g) ↦ none g.line g.after g.rest_is (others, accepted.1, g.more, g.other_is ∙ sym (append_assoc (headed limits sections) (g.line ∷ []) g.more))
+          unfit (omega (arith, texts, long, length-append (text_of (headed later sections)) rest, length-append (text_of (lines_of others)) [])) (omega (arith, some, ap length is)) (ap has_later (sym is) ∙ f.has)
+      | inr (inl g) ↦ none g.line g.after g.rest_is (others, accepted.1, g.more, g.other_is ∙ sym (append_assoc (headed later sections) (g.line ∷ []) g.more))
       | inr (inr g) ↦ no_line g.line g.after g.rest_is
     ]
 
-bad_next : (limits : Bool) (text text_body rest : List ℕ) (sections : List SectionView) (n : ℕ) → text ≡ header_line limits ++ (10 ∷ text_body) → AreSectionsOf limits text_body rest sections → (length rest ≡ 0 → 0 < length sections → has_limit sections ≡ limits → ⊥) → is_stuck limits sections ≡ false → n ≡ length (body sections) + 2 → IsBadLine text n
-bad_next limits text text_body rest sections n header are unfit free place =
-    let parts : text ≡ text_of (headed limits sections) ++ rest = header ∙ ap (λ (b : List ℕ). header_line limits ++ (10 ∷ b)) are.so_far.parts ∙ headed_text limits sections rest in
-    let stops = no_line_follows limits rest sections are.so_far.stops are.ends in
+bad_next : (later : Bool) (text text_body rest : List ℕ) (sections : List SectionView) (n : ℕ) → text ≡ header_line later ++ (10 ∷ text_body) → AreSectionsOf later text_body rest sections → (length rest ≡ 0 → 0 < length sections → has_later sections ≡ later → ⊥) → is_stuck later sections ≡ false → n ≡ length (body sections) + 2 → IsBadLine text n
+bad_next later text text_body rest sections n header are unfit free place =
+    let parts : text ≡ text_of (headed later sections) ++ rest = header ∙ ap (λ (b : List ℕ). header_line later ++ (10 ∷ b)) are.so_far.parts ∙ headed_text later sections rest in
+    let stops = no_line_follows later rest sections are.so_far.stops are.ends in
     record {
-      front = headed limits sections;
+      front = headed later sections;
       rest = rest;
       parts = parts;
       place = omega (arith, place);
-      before = begins_headed limits (has_limit sections) sections refl are.so_far.each are.most are.so_far.known free;
+      before = begins_headed later (has_later sections) sections refl are.so_far.each are.most are.so_far.known free;
       stops = stops;
-      refused = never_accepted limits text rest sections parts are.so_far.each unfit stops;
+      refused = never_accepted later text rest sections parts are.so_far.each unfit stops;
     }
 
 -- ---- the last line of sections
@@ -371,9 +371,9 @@ last_text [] line rest = simp append_assoc
 last_text (x ∷ front) line rest = append_assoc (x ++ codes "\n") (text_of (front ++ line ∷ [])) rest ∙ ap (λ (t : List ℕ). (x ++ codes "\n") ++ t) (last_text front line rest) ∙ sym (append_assoc (x ++ codes "\n") (text_of front) (line ++ 10 ∷ rest))
 
 -- no change of the limit can follow all of these lines
-never_begins : (sections : List SectionView) → AllByRecursion IsSectionRead sections → length sections ≡ 8 → last_full sections ≡ true → has_limit sections ≡ false → Begins (headed true sections) → ⊥
+never_begins : (sections : List SectionView) → AllByRecursion IsSectionRead sections → length sections ≡ 8 → last_full sections ≡ true → has_later sections ≡ false → Begins (headed true sections) → ⊥
 never_begins sections each eight full none begins =
-    never_true (has_limit sections) none (full_ends true sections begins.2 each eight full (follows_from true sections begins.2 begins.0 begins.1 begins.3))
+    never_true (has_later sections) none (full_ends true sections begins.2 each eight full (follows_from true sections begins.2 begins.0 begins.1 begins.3))
 
 accepted_begins : (text rest : List ℕ) (front : List (List ℕ)) → AreLines front → text ≡ text_of front ++ rest → IsAccepted text → Begins front
 accepted_begins text rest front lines parts accepted =
@@ -394,7 +394,7 @@ last_lacks (x ∷ front) line lines = last_lacks front line lines.1
 pub begun_lines : (front : List (List ℕ)) → Begins front → AreLines front
 begun_lines front begins = front_lines front begins.2 (subst AreLines begins.3 (sections_lines begins.0 (each_read begins.0 begins.1)))
 
-bad_last : (text text_body rest : List ℕ) (sections : List SectionView) (n : ℕ) → text ≡ header_line true ++ (10 ∷ text_body) → AreSectionsOf true text_body rest sections → length sections ≡ 8 → last_full sections ≡ true → has_limit sections ≡ false → n ≡ length (body sections) + 1 → IsBadLine text n
+bad_last : (text text_body rest : List ℕ) (sections : List SectionView) (n : ℕ) → text ≡ header_line true ++ (10 ∷ text_body) → AreSectionsOf true text_body rest sections → length sections ≡ 8 → last_full sections ≡ true → has_later sections ≡ false → n ≡ length (body sections) + 1 → IsBadLine text n
 bad_last text text_body rest sections n header are eight full none place =
     let each = are.so_far.each in
     let s = shorter sections each full in
@@ -418,8 +418,8 @@ bad_last text text_body rest sections n header are eight full none place =
       refused = λ accepted. never (accepted_begins text rest (headed true sections) (headed_lines true sections each) parts accepted);
     }
 
-bad_by : (limits has eight full : Bool) (text text_body rest : List ℕ) (sections : List SectionView) (n : ℕ) → has_limit sections ≡ has → eqb (length sections) 8 ≡ eight → last_full sections ≡ full → text ≡ header_line limits ++ (10 ∷ text_body) → AreSectionsOf limits text_body rest sections
-    → (length rest ≡ 0 → 0 < length sections → has_limit sections ≡ limits → ⊥) → n ≡ length (body sections) + cond (limits && not has && (eight && full)) 1 2 → is_stuck limits sections ≡ (limits && not has && (eight && full)) → IsBadLine text n
+bad_by : (later has eight full : Bool) (text text_body rest : List ℕ) (sections : List SectionView) (n : ℕ) → has_later sections ≡ has → eqb (length sections) 8 ≡ eight → last_full sections ≡ full → text ≡ header_line later ++ (10 ∷ text_body) → AreSectionsOf later text_body rest sections
+    → (length rest ≡ 0 → 0 < length sections → has_later sections ≡ later → ⊥) → n ≡ length (body sections) + cond (later && not has && (eight && full)) 1 2 → is_stuck later sections ≡ (later && not has && (eight && full)) → IsBadLine text n
 bad_by true false true true text text_body rest sections n a b c header are unfit place stuck = bad_last text text_body rest sections n header are (eqb-true (length sections) 8 b) c a place
 bad_by true false true false text text_body rest sections n a b c header are unfit place stuck = bad_next true text text_body rest sections n header are unfit stuck place
 bad_by true false false full text text_body rest sections n a b c header are unfit place stuck = bad_next true text text_body rest sections n header are unfit stuck place
@@ -428,13 +428,13 @@ bad_by false has eight full text text_body rest sections n a b c header are unfi
 
 -- the bad line of a text that goes on behind these sections, or has none, or not the changes that its
 -- header has
-bad_behind : (limits : Bool) (text text_body rest : List ℕ) (sections : List SectionView) → text ≡ header_line limits ++ (10 ∷ text_body) → AreSectionsOf limits text_body rest sections → (length rest ≡ 0 → 0 < length sections → has_limit sections ≡ limits → ⊥) → IsBadLine text (bad_place limits sections)
-bad_behind limits text text_body rest sections header are unfit =
-    bad_by limits (has_limit sections) (eqb (length sections) 8) (last_full sections) text text_body rest sections (bad_place limits sections) refl refl refl header are unfit refl refl
+bad_behind : (later : Bool) (text text_body rest : List ℕ) (sections : List SectionView) → text ≡ header_line later ++ (10 ∷ text_body) → AreSectionsOf later text_body rest sections → (length rest ≡ 0 → 0 < length sections → has_later sections ≡ later → ⊥) → IsBadLine text (bad_place later sections)
+bad_behind later text text_body rest sections header are unfit =
+    bad_by later (has_later sections) (eqb (length sections) 8) (last_full sections) text text_body rest sections (bad_place later sections) refl refl refl header are unfit refl refl
 
 -- ---- the header
 
-bad_header : (text : List ℕ) → ((limits : Bool) (after : List ℕ) → text ≡ header_line limits ++ (10 ∷ after) → ⊥) → IsBadLine text 1
+bad_header : (text : List ℕ) → ((later : Bool) (after : List ℕ) → text ≡ header_line later ++ (10 ∷ after) → ⊥) → IsBadLine text 1
 bad_header text other = record {
   front = [];
   rest = text;
@@ -442,31 +442,31 @@ bad_header text other = record {
   place = refl;
   before = (header_begins.0, header_begins.1, lines_of header_begins.0, refl);
   stops = λ line after same begins.
-      let first = first_same (header_line (has_limit begins.0)) line (body begins.0) begins.2 begins.3 in
-      other (has_limit begins.0) after (same ∙ ap (λ (l : List ℕ). l ++ 10 ∷ after) (sym first));
-  refused = λ accepted. other (has_limit accepted.0) (sections_text accepted.0) (accepted.2 ∙ spelled accepted.0);
+      let first = first_same (header_line (has_later begins.0)) line (body begins.0) begins.2 begins.3 in
+      other (has_later begins.0) after (same ∙ ap (λ (l : List ℕ). l ++ 10 ∷ after) (sym first));
+  refused = λ accepted. other (has_later accepted.0) (sections_text accepted.0) (accepted.2 ∙ spelled accepted.0);
 }
 
 pub no_header : (text : List ℕ) → cut_at 10 text ≡ None → IsBadLine text 1
-no_header text cut = bad_header text (λ limits after same. absurd (let f = sym cut ∙ ap (cut_at 10) same ∙ header_cut limits after in cc))
+no_header text cut = bad_header text (λ later after same. absurd (let f = sym cut ∙ ap (cut_at 10) same ∙ header_cut later after in cc))
 
 pub other_header : (text header rest : List ℕ) → cut_at 10 text ≡ Some (header, rest) → header_at header ≡ None → IsBadLine text 1
 other_header text header rest cut other = bad_header text
-    (λ limits after same.
-    let is = (some_pair_parts header (header_line limits) rest after (sym cut ∙ ap (cut_at 10) same ∙ header_cut limits after)).0 in
-    absurd (let f = sym other ∙ ap header_at is ∙ header_again limits in cc))
+    (λ later after same.
+    let is = (some_pair_parts header (header_line later) rest after (sym cut ∙ ap (cut_at 10) same ∙ header_cut later after)).0 in
+    absurd (let f = sym other ∙ ap header_at is ∙ header_again later in cc))
 
-pub header_first : (text header rest : List ℕ) (limits : Bool) → cut_at 10 text ≡ Some (header, rest) → header_at header ≡ Some limits → text ≡ header_line limits ++ (10 ∷ rest)
-header_first text header rest limits cut read = cut_takes 10 text (header, rest) cut ∙ ap (λ (h : List ℕ). h ++ (10 ∷ rest)) (header_takes header limits read)
+pub header_first : (text header rest : List ℕ) (later : Bool) → cut_at 10 text ≡ Some (header, rest) → header_at header ≡ Some later → text ≡ header_line later ++ (10 ∷ rest)
+header_first text header rest later cut read = cut_takes 10 text (header, rest) cut ∙ ap (λ (h : List ℕ). h ++ (10 ∷ rest)) (header_takes header later read)
 
 -- ---- a whole text
 
 -- what the header says of the sections
-fits_by : (limits has : Bool) → Knows limits has → (not limits || has) ≡ true → has ≡ limits
+fits_by : (later has : Bool) → Knows later has → (not later || has) ≡ true → has ≡ later
 fits_by false has knows fits = knows refl
 fits_by true has knows fits = fits
 
-unfits_by : (limits has : Bool) → has ≡ limits → (not limits || has) ≡ true
+unfits_by : (later has : Bool) → has ≡ later → (not later || has) ≡ true
 unfits_by false has same = refl
 unfits_by true has same = same
 
@@ -475,26 +475,26 @@ some_by [] some = absurd cc
 some_by (s ∷ sections) some = omega arith
 
 -- sections behind the header that they ask for are what the text spells
-spelled_all : (limits : Bool) (text text_body rest : List ℕ) (sections : List SectionView) → text ≡ header_line limits ++ (10 ∷ text_body) → AreSectionsOf limits text_body rest sections → length rest ≡ 0 → 0 < length sections → has_limit sections ≡ limits → AreRead sections × (text ≡ spelling sections)
-spelled_all limits text text_body [] sections header are none some has =
-    let parts : text ≡ text_of (headed limits sections) ++ [] = header ∙ ap (λ (b : List ℕ). header_line limits ++ (10 ∷ b)) are.so_far.parts ∙ headed_text limits sections [] in
-    (are_read sections are.so_far.each some are.most, parts ∙ append-nil (text_of (headed limits sections)) ∙ ap (λ (b : Bool). text_of (headed b sections)) (sym has))
-spelled_all limits text text_body (c ∷ rest) sections header are none some has = absurd (omega (arith, none))
+spelled_all : (later : Bool) (text text_body rest : List ℕ) (sections : List SectionView) → text ≡ header_line later ++ (10 ∷ text_body) → AreSectionsOf later text_body rest sections → length rest ≡ 0 → 0 < length sections → has_later sections ≡ later → AreRead sections × (text ≡ spelling sections)
+spelled_all later text text_body [] sections header are none some has =
+    let parts : text ≡ text_of (headed later sections) ++ [] = header ∙ ap (λ (b : List ℕ). header_line later ++ (10 ∷ b)) are.so_far.parts ∙ headed_text later sections [] in
+    (are_read sections are.so_far.each some are.most, parts ∙ append-nil (text_of (headed later sections)) ∙ ap (λ (b : Bool). text_of (headed b sections)) (sym has))
+spelled_all later text text_body (c ∷ rest) sections header are none some has = absurd (omega (arith, none))
 
-pub sections_found : (limits : Bool) (text text_body rest : List ℕ) (sections : List SectionView) → text ≡ header_line limits ++ (10 ∷ text_body) → AreSectionsOf limits text_body rest sections → is_whole limits rest sections ≡ true → AreRead sections × (text ≡ spelling sections)
-sections_found limits text text_body rest sections header are whole =
-    let a = and_parts (eqb (length rest) 0 && not (eqb (length sections) 0)) (not limits || has_limit sections) whole in
+pub sections_found : (later : Bool) (text text_body rest : List ℕ) (sections : List SectionView) → text ≡ header_line later ++ (10 ∷ text_body) → AreSectionsOf later text_body rest sections → is_whole later rest sections ≡ true → AreRead sections × (text ≡ spelling sections)
+sections_found later text text_body rest sections header are whole =
+    let a = and_parts (eqb (length rest) 0 && not (eqb (length sections) 0)) (not later || has_later sections) whole in
     let b = and_parts (eqb (length rest) 0) (not (eqb (length sections) 0)) a.0 in
-    spelled_all limits text text_body rest sections header are (eqb-true (length rest) 0 b.0) (some_by sections b.1) (fits_by limits (has_limit sections) are.so_far.known a.1)
+    spelled_all later text text_body rest sections header are (eqb-true (length rest) 0 b.0) (some_by sections b.1) (fits_by later (has_later sections) are.so_far.known a.1)
 
-whole_by : (limits : Bool) (rest : List ℕ) (sections : List SectionView) → length rest ≡ 0 → 0 < length sections → has_limit sections ≡ limits → is_whole limits rest sections ≡ true
-whole_by limits rest sections none some has =
-    rw (eq-eqb (length rest) 0 none, ne_eqb (length sections) 0 (λ same. omega (arith, same, some))) (unfits_by limits (has_limit sections) has)
+whole_by : (later : Bool) (rest : List ℕ) (sections : List SectionView) → length rest ≡ 0 → 0 < length sections → has_later sections ≡ later → is_whole later rest sections ≡ true
+whole_by later rest sections none some has =
+    rw (eq-eqb (length rest) 0 none, ne_eqb (length sections) 0 (λ same. omega (arith, same, some))) (unfits_by later (has_later sections) has)
 
 -- else they stop at the bad line
-pub sections_stop : (limits : Bool) (text text_body rest : List ℕ) (sections : List SectionView) → text ≡ header_line limits ++ (10 ∷ text_body) → AreSectionsOf limits text_body rest sections → is_whole limits rest sections ≡ false → IsBadLine text (bad_place limits sections)
-sections_stop limits text text_body rest sections header are part =
-    bad_behind limits text text_body rest sections header are (λ none some has. never_true (is_whole limits rest sections) part (whole_by limits rest sections none some has))
+pub sections_stop : (later : Bool) (text text_body rest : List ℕ) (sections : List SectionView) → text ≡ header_line later ++ (10 ∷ text_body) → AreSectionsOf later text_body rest sections → is_whole later rest sections ≡ false → IsBadLine text (bad_place later sections)
+sections_stop later text text_body rest sections header are part =
+    bad_behind later text text_body rest sections header are (λ none some has. never_true (is_whole later rest sections) part (whole_by later rest sections none some has))
 
 -- ---- the last section
 

@@ -9,7 +9,7 @@ use Rattle.call_book.specs.declared.section.Entry.{Entry}
 use Rattle.call_book.specs.SectionView.{SectionView}
 use Rattle.domain_run.specs.declared.script.Event.{Event}
 use Rattle.domain_run.specs.script.Segments.{loops_of}
-use Rattle.call_book.specs.Spelling.{event_text, events_text, loops_text, entry_line, domain_line, section_lines, is_limit, some_limit, has_limit, header_line, text_of, spelling}
+use Rattle.call_book.specs.Spelling.{event_text, events_text, loops_text, entry_line, domain_line, section_lines, is_later, some_later, has_later, header_line, text_of, spelling}
 use Rattle.call_book.specs.Limits.{AreRead}
 use Rattle.call_book.specs.RoundTrip.{bare, unanswered, IsReadAs}
 use Rattle.call_book.proofs.Cuts.{rest_is}
@@ -33,10 +33,10 @@ abbrev line_break : List ℕ → List ℕ
 line_break line = line ++ codes "\n"
 
 -- one more section
-pub headed_more : (limits : Bool) (sections : List SectionView) (s : SectionView) → text_of (header_line limits ∷ flat_map section_lines (sections ++ s ∷ [])) ≡ text_of (header_line limits ∷ flat_map section_lines sections) ++ text_of (section_lines s)
-headed_more limits sections s =
-    ap (λ (ls : List (List ℕ)). text_of (header_line limits ∷ ls)) (flat_map-append section_lines sections (s ∷ []) ∙ ap (λ (ls : List (List ℕ)). flat_map section_lines sections ++ ls) (append-nil (section_lines s)))
-    ∙ flat_map-append line_break (header_line limits ∷ flat_map section_lines sections) (section_lines s)
+pub headed_more : (later : Bool) (sections : List SectionView) (s : SectionView) → text_of (header_line later ∷ flat_map section_lines (sections ++ s ∷ [])) ≡ text_of (header_line later ∷ flat_map section_lines sections) ++ text_of (section_lines s)
+headed_more later sections s =
+    ap (λ (ls : List (List ℕ)). text_of (header_line later ∷ ls)) (flat_map-append section_lines sections (s ∷ []) ∙ ap (λ (ls : List (List ℕ)). flat_map section_lines sections ++ ls) (append-nil (section_lines s)))
+    ∙ flat_map-append line_break (header_line later ∷ flat_map section_lines sections) (section_lines s)
 
 -- the loop count, as a signed number
 pub loops_said : (rounds : Option ℕ) → signed_decimal (loops_of rounds) ≡ loops_text rounds
@@ -56,18 +56,18 @@ lines_bare (s ∷ sections) =
     ap (λ (ls : List (List ℕ)). (domain_line s ∷ ls) ++ flat_map section_lines (map unanswered sections)) (entries_bare s.entries)
     ∙ ap (λ (ls : List (List ℕ)). section_lines s ++ ls) (lines_bare sections)
 
-some_bare : (entries : List Entry) → some_limit (map bare entries) ≡ some_limit entries
+some_bare : (entries : List Entry) → some_later (map bare entries) ≡ some_later entries
 some_bare [] = refl
-some_bare (e ∷ entries) = ap (λ (b : Bool). is_limit e.call || b) (some_bare entries)
+some_bare (e ∷ entries) = ap (λ (b : Bool). is_later e.call || b) (some_bare entries)
 
-has_bare : (sections : List SectionView) → has_limit (map unanswered sections) ≡ has_limit sections
+has_bare : (sections : List SectionView) → has_later (map unanswered sections) ≡ has_later sections
 has_bare [] = refl
-has_bare (s ∷ sections) = ap (λ (b : Bool). b || has_limit (map unanswered sections)) (some_bare s.entries) ∙ ap (λ (b : Bool). some_limit s.entries || b) (has_bare sections)
+has_bare (s ∷ sections) = ap (λ (b : Bool). b || has_later (map unanswered sections)) (some_bare s.entries) ∙ ap (λ (b : Bool). some_later s.entries || b) (has_bare sections)
 
 -- no reply is written
 spelling_bare : (sections : List SectionView) → spelling (map unanswered sections) ≡ spelling sections
 spelling_bare sections =
-    ap (λ (b : Bool). text_of (header_line b ∷ flat_map section_lines (map unanswered sections))) (has_bare sections) ∙ ap (λ (ls : List (List ℕ)). text_of (header_line (has_limit sections) ∷ ls)) (lines_bare sections)
+    ap (λ (b : Bool). text_of (header_line b ∷ flat_map section_lines (map unanswered sections))) (has_bare sections) ∙ ap (λ (ls : List (List ℕ)). text_of (header_line (has_later sections) ∷ ls)) (lines_bare sections)
 
 -- what is written is read as what was written
 pub read_as : (text : List ℕ) (sections : List SectionView) → text ≡ spelling sections → AreRead (map unanswered sections) → IsReadAs text (map unanswered sections)

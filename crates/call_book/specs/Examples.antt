@@ -8,10 +8,10 @@ use Rattle.domain_run.specs.declared.script.Event.{Event}
 use Rattle.domain_run.specs.declared.script.Event.TheVariants.{Run, Sleep, Timer, Wait}
 use Rattle.domain_run.specs.script.ScriptView.{PhaseView, script_of}
 use Rattle.domain_run.specs.declared.call.Call.{Call}
-use Rattle.domain_run.specs.declared.call.Call.TheVariants.{Admit, Regrade, Wake, Leave, Advance, Limit}
+use Rattle.domain_run.specs.declared.call.Call.TheVariants.{Admit, Regrade, Wake, Leave, Advance, Limit, Depart, Arrive}
 use Rattle.call_book.specs.declared.section.Entry.{Entry}
 use Rattle.call_book.specs.SectionView.{SectionView}
-use Rattle.call_book.specs.Spelling.{entry_line, has_limit, spelling}
+use Rattle.call_book.specs.Spelling.{entry_line, has_later, spelling}
 use Rattle.call_book.specs.OwnCalls.{IsNumbered}
 use Rattle.call_book.specs.Limits.{IsChecked, attr_of}
 
@@ -62,8 +62,8 @@ pub limit_changes_the_rate : spelling
 unfolding digits
 limit_changes_the_rate = refl
 
--- a change in any section makes the header 2, one that the word refused too; a section of a low
--- limit does not, nor does a regrade that the word refused
+-- a change of a limit in any section makes the header 2, one that the word refused too; a section of
+-- a low limit does not, nor does a regrade that the word refused
 pub refused_by_the_word : spelling
     (record { cpus = 1; limit = 524288; entries = call 0 (Limit 131072 (Some 262144)) ∷ [] } ∷ [])
     ≡ codes "dlcalls 2\ndomain 1 524288\nlimit 1 131072 busy 262144\n"
@@ -77,7 +77,17 @@ pub changed_in_the_second : spelling
 unfolding digits
 changed_in_the_second = refl
 
-pub never_changed : has_limit
+-- so does a task that goes from one section and comes in the other, without its delay
+pub moved_to_the_second : spelling
+    (record { cpus = 1; limit = 1048576; entries = call 0 (Depart 1) ∷ [] }
+    ∷ one_section 2 1048576
+    (call 0 (Arrive 1 (codes "a") (params 4 8 8 524288)
+    (script_of None (phase 1 (Run 2 ∷ Sleep 6 ∷ []) ∷ []))) ∷ [])) ≡ codes
+    "dlcalls 2\ndomain 1 1048576\ndepart 1 1\ndomain 2 1048576\narrive 1 1 a 4 8 8 - -1:1{r2,s6}\n"
+unfolding digits
+moved_to_the_second = refl
+
+pub never_changed : has_later
     (one_section 1 10485 (call 0 (Regrade 1 (params 4 8 8 524288) (Some 0)) ∷ call 1 (Wake 1)
     ∷ call 2 (Leave 1) ∷ call 3 (Advance 1) ∷ [])) ≡ false
 never_changed = refl

@@ -10,5 +10,6 @@ pub mod Histories
 pub mod Pieces
 pub mod BookAnswers
 pub mod LimitAnswers
+pub mod MoveAnswers
 pub mod Examples
 pub mod private

@@ -6,7 +6,7 @@ use Rattle.attr_check.specs.Accepted.{accepted}
 use Rattle.domain_run.specs.NameView.{IsName}
 use Rattle.domain_run.specs.script.ScriptView.{ScriptView, IsScript}
 use Rattle.domain_run.specs.declared.call.Call.{Call}
-use Rattle.domain_run.specs.declared.call.Call.TheVariants.{Admit, Regrade, Wake, Leave, Advance, Limit}
+use Rattle.domain_run.specs.declared.call.Call.TheVariants.{Admit, Regrade, Wake, Leave, Advance, Limit, Depart, Arrive}
 use Rattle.call_book.specs.declared.section.Entry.{Entry}
 use Rattle.call_book.specs.SectionView.{SectionView}
 use Rattle.call_book.specs.OwnCalls.{IsNumbered}
@@ -52,6 +52,8 @@ IsCall (Leave number) = IsNumber number
 IsCall (Advance ticks) = (0 < ticks) × (ticks ≤ 60000000)
 IsCall (Limit limit word) =
     (10485 ≤ limit) × (limit ≤ 1048576) × IfSome word (λ seen. seen ≤ 2 ^ 26)
+IsCall (Depart number) = IsNumber number
+IsCall (Arrive number name params script) = IsAdmission number name params 0 script
 
 -- ---- entries
 

@@ -6,7 +6,7 @@ use Rattle.domain_run.specs.declared.script.Event.{Event}
 use Rattle.domain_run.specs.declared.script.Event.TheVariants.{Run, Sleep, Timer, Wait}
 use Rattle.domain_run.specs.script.ScriptView.{PhaseView, ScriptView}
 use Rattle.domain_run.specs.declared.call.Call.{Call}
-use Rattle.domain_run.specs.declared.call.Call.TheVariants.{Admit, Regrade, Wake, Leave, Advance, Limit}
+use Rattle.domain_run.specs.declared.call.Call.TheVariants.{Admit, Regrade, Wake, Leave, Advance, Limit, Depart, Arrive}
 use Rattle.call_book.specs.declared.section.Entry.{Entry}
 use Rattle.call_book.specs.SectionView.{SectionView}
 
@@ -65,6 +65,11 @@ call_fields client (Leave number) = codes "leave" ∷ decimal client ∷ decimal
 call_fields client (Advance ticks) = codes "advance" ∷ decimal client ∷ decimal ticks ∷ []
 call_fields client (Limit limit word) =
     codes "limit" ∷ decimal client ∷ decimal limit ∷ busy_fields word
+call_fields client (Depart number) = codes "depart" ∷ decimal client ∷ decimal number ∷ []
+call_fields client (Arrive number name params script) =
+    codes "arrive" ∷ decimal client ∷ decimal number ∷ name ∷ decimal params.runtime
+    ∷ decimal params.deadline ∷ decimal params.period ∷ flag_text params
+    ∷ script_text script ∷ []
 
 -- neither the sequence number nor the reply is written
 abbrev pub entry_line : Entry → List ℕ
@@ -78,28 +83,31 @@ section_lines s = domain_line s ∷ map entry_line s.entries
 
 -- ---- the header
 
--- a call that changes the limit of its domain
-abbrev pub is_limit : Call → Bool
-is_limit (Admit number name params delay script) = false
-is_limit (Regrade number params word) = false
-is_limit (Wake number) = false
-is_limit (Leave number) = false
-is_limit (Advance ticks) = false
-is_limit (Limit limit word) = true
+-- a call that the first form of the text has not: it changes the limit of its domain, or a task
+-- goes to another domain or comes from one
+abbrev pub is_later : Call → Bool
+is_later (Admit number name params delay script) = false
+is_later (Regrade number params word) = false
+is_later (Wake number) = false
+is_later (Leave number) = false
+is_later (Advance ticks) = false
+is_later (Limit limit word) = true
+is_later (Depart number) = true
+is_later (Arrive number name params script) = true
 
-abbrev pub some_limit : List Entry → Bool
-some_limit entries = list_any (λ e. is_limit e.call) entries
+abbrev pub some_later : List Entry → Bool
+some_later entries = list_any (λ e. is_later e.call) entries
 
 -- whether some section has such a call
-abbrev pub has_limit : List SectionView → Bool
-has_limit sections = list_any (λ s. some_limit s.entries) sections
+abbrev pub has_later : List SectionView → Bool
+has_later sections = list_any (λ s. some_later s.entries) sections
 
 -- the first line: 2 where some section has such a call, and 1 where none has
 abbrev pub header_line : Bool → List ℕ
-header_line limits = if limits then codes "dlcalls 2" else codes "dlcalls 1"
+header_line later = if later then codes "dlcalls 2" else codes "dlcalls 1"
 
 abbrev pub lines_of : List SectionView → List (List ℕ)
-lines_of sections = header_line (has_limit sections) ∷ flat_map section_lines sections
+lines_of sections = header_line (has_later sections) ∷ flat_map section_lines sections
 
 -- ---- texts
 

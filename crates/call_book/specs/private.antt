@@ -4,3 +4,4 @@ pub mod Ledger
 pub mod Stock
 pub mod Listing
 pub mod Kept
+pub mod Moving

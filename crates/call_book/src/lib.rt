@@ -5,7 +5,7 @@
 //! `specs/Limits.antt`: which sections have one; `specs/BadLine.antt`: the first bad line of every
 //! other text; `specs/RoundTrip.antt`: what a written text is read as), "A client's own calls"
 //! (`specs/OwnCalls.antt`) and "A domain's book" (`specs/Book.antt`, `specs/Pieces.antt`,
-//! `specs/BookAnswers.antt`). To the crates above it promises that [`read_calls`] accepts exactly
+//! `specs/BookAnswers.antt`, `specs/LimitAnswers.antt`, `specs/MoveAnswers.antt`). To the crates above it promises that [`read_calls`] accepts exactly
 //! the texts of 1 to 8 sections, gives back the very sections, and names the first bad line of
 //! every other text, and that [`write_calls`] writes the one text of its sections, which is read as
 //! these again; and that a [`Domain`]'s state is the run of its history, in which each client's
@@ -25,7 +25,10 @@ mod section;
 mod times;
 mod writing;
 
-pub use book::{Admit, AdvanceError, Closed, Domain, Full, Limit, Pass, Prepared, prepare};
+pub use book::{
+    Admit, AdvanceError, Closed, Domain, Full, Limit, Move, MoveFault, Pass, Prepared, move_task,
+    prepare,
+};
 pub use domain_run::{Call, NoMemory, Reply};
 pub use fault::CallsFault;
 pub use reading::read_calls;

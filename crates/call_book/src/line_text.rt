@@ -1,9 +1,9 @@
 ghost use Rattle.std.specs.Prelude.{◌≤◌, IfOk};
-ghost use Rattle.call_book.specs.private.Reading.{Gives, field_at, name_at, times_at, AreTimes, flag_at, params_at, plan_at, admit_at, seen_at, answer_at, regrade_at, numbered_at, change_at, limit_at, worded_at, call_at, known_at, domain_at};
+ghost use Rattle.call_book.specs.private.Reading.{Gives, field_at, name_at, times_at, AreTimes, flag_at, params_at, plan_at, newcomer_at, admit_at, arrive_at, seen_at, answer_at, regrade_at, numbered_at, change_at, limit_at, worded_at, call_at, known_at, domain_at};
 
 use crate::cut::cut;
 use crate::fault::PartFault;
-use crate::header::changes_limit;
+use crate::header::is_later;
 use crate::number::number_within;
 use crate::script_text::script_of;
 use crate::times::Times;
@@ -120,10 +120,17 @@ fn plan_of(alloc: Global, text: &[u8]) -> Result<(u64, Script), PartFault>
     Ok((delay, script))
 }
 
-/// What follows the client in an `admit` line.
-#[tactic(auto, unfolding(crate::specs::private::Reading::admit_at))]
-fn admit_of(alloc: Global, text: &[u8]) -> Result<Call, PartFault>
-    ensures { Gives (λ c. c) result (admit_at text.now) }
+/// A task that comes: what an `admit` line and an `arrive` line begin with.
+pub(crate) struct Newcomer {
+    pub(crate) number: u32,
+    pub(crate) name: Name,
+    pub(crate) params: Params,
+}
+
+/// The number, the name and the parameters of a task that comes, and what follows.
+#[tactic(auto, unfolding(crate::specs::private::Reading::newcomer_at))]
+fn newcomer_of(alloc: Global, text: &[u8]) -> Result<(Newcomer, &[u8]), PartFault>
+    ensures { Gives (λ p. (p.0, p.1.now)) result (newcomer_at text.now) }
 {
     let (number, rest) = field(text, 1, MOST_NUMBER)?;
     let Some((name, rest)) = cut(rest, b' ') else {
@@ -135,12 +142,51 @@ fn admit_of(alloc: Global, text: &[u8]) -> Result<Call, PartFault>
         return Err(PartFault::Bad);
     };
     let params = params_of(times, reclaim_of(flag)?)?;
-    let (delay, script) = plan_of(alloc, rest)?;
-    Ok(Call::Admit {
+    let newcomer = Newcomer {
         number: number as u32,
         name,
         params,
+    };
+    Ok((newcomer, rest))
+}
+
+/// What follows the client in an `admit` line.
+#[tactic(auto, unfolding(crate::specs::private::Reading::admit_at))]
+fn admit_of(alloc: Global, text: &[u8]) -> Result<Call, PartFault>
+    ensures { Gives (λ c. c) result (admit_at text.now) }
+{
+    let (newcomer, rest) = newcomer_of(alloc, text)?;
+    let Newcomer {
+        number,
+        name,
+        params,
+    } = newcomer;
+    let (delay, script) = plan_of(alloc, rest)?;
+    Ok(Call::Admit {
+        number,
+        name,
+        params,
         delay,
+        script,
+    })
+}
+
+/// What follows the client in an `arrive` line.
+#[tactic(auto, unfolding(crate::specs::private::Reading::arrive_at))]
+fn arrive_of(alloc: Global, text: &[u8]) -> Result<Call, PartFault>
+    ensures { Gives (λ c. c) result (arrive_at text.now) }
+{
+    let (newcomer, rest) = newcomer_of(alloc, text)?;
+    let Newcomer {
+        number,
+        name,
+        params,
+    } = newcomer;
+    let script = script_of(alloc, rest)?;
+    Ok(Call::Arrive {
+        number,
+        name,
+        params,
         script,
     })
 }
@@ -210,6 +256,15 @@ fn leave_of(text: &[u8]) -> Result<Call, PartFault>
     Ok(Call::Leave { number })
 }
 
+/// What follows the client in a `depart` line.
+#[tactic(auto, unfolding(crate::specs::private::Reading::numbered_at))]
+fn depart_of(text: &[u8]) -> Result<Call, PartFault>
+    ensures { Gives (λ c. c) result (numbered_at 65535 (λ n. Call.Depart n) text.now) }
+{
+    let number = number_within(text, 1, MOST_NUMBER)? as u32;
+    Ok(Call::Depart { number })
+}
+
 /// What follows the client in an `advance` line.
 #[tactic(auto, unfolding(crate::specs::private::Reading::numbered_at))]
 fn advance_of(text: &[u8]) -> Result<Call, PartFault>
@@ -265,6 +320,12 @@ fn worded(alloc: Global, word: &[u8], text: &[u8]) -> Result<Call, PartFault>
     if word == b"limit".as_slice() {
         return limit_of(text);
     }
+    if word == b"depart".as_slice() {
+        return depart_of(text);
+    }
+    if word == b"arrive".as_slice() {
+        return arrive_of(alloc, text);
+    }
     Err(PartFault::Bad)
 }
 
@@ -282,15 +343,15 @@ fn call_of(alloc: Global, line: &[u8]) -> Result<(u32, Call), PartFault>
     Ok((client as u32, call))
 }
 
-/// The client and the call that a line spells, behind a header that has changes of a limit or has
-/// none.
+/// The client and the call that a line spells, behind a header that has calls of the second form or
+/// has none.
 #[tactic(auto, unfolding(crate::specs::private::Reading::known_at))]
-pub(crate) fn known_call(alloc: Global, line: &[u8], limits: bool) -> Result<(u32, Call), PartFault>
-    ensures gives { Gives (λ p. p) result (known_at limits line.now) }
+pub(crate) fn known_call(alloc: Global, line: &[u8], later: bool) -> Result<(u32, Call), PartFault>
+    ensures gives { Gives (λ p. p) result (known_at later line.now) }
     ensures within { IfOk result (λ p. (1 ≤ p.0) × (p.0 ≤ 64)) }
 {
     let (client, call) = call_of(alloc, line)?;
-    if changes_limit(&call) && !limits {
+    if is_later(&call) && !later {
         return Err(PartFault::Bad);
     }
     Ok((client, call))

@@ -8,7 +8,7 @@ ghost use Rattle.call_book.specs.private.Reading.{Fails, known_at, IsNext, AreEn
 
 use crate::cut::cut_line;
 use crate::fault::{CallsFault, PartFault};
-use crate::header::{header_of, limit_changes};
+use crate::header::{has_later, header_of};
 use crate::line_text::{domain_of, known_call};
 use crate::section::{Entry, Section};
 use std::alloc::Global;
@@ -31,20 +31,20 @@ fn counted(made: &mut [u64; 64], client: u32) -> u64
     seq
 }
 
-/// The entry of a line, after so many calls of each client. `limits` says whether the header has
-/// changes of a limit, here and below.
+/// The entry of a line, after so many calls of each client. `later` says whether the header is that
+/// of calls of the second form, here and below.
 fn entry_of(
     alloc: Global,
     line: &[u8],
-    limits: bool,
+    later: bool,
     made: &mut [u64; 64],
 ) -> Result<Entry, PartFault>
     requires { (k : ℕ) → slice_index made.old k ≤ 65536 }
-    ensures found { IfOk result (IsNext limits line.now made.old) }
+    ensures found { IfOk result (IsNext later line.now made.old) }
     ensures made { IfOk result (λ e. made.new ≡ slice_set made.old (e.client - 1) (e.seq + 1)) }
-    ensures fault { IfErr result (λ e. Fails e (known_at limits line.now)) }
+    ensures fault { IfErr result (λ e. Fails e (known_at later line.now)) }
 {
-    let (client, call) = known_call(alloc, line, limits)?;
+    let (client, call) = known_call(alloc, line, later)?;
     Ok(Entry {
         client,
         seq: counted(made, client),
@@ -55,8 +55,8 @@ fn entry_of(
 
 /// The entries at the front of a text, and the rest: from the first line on that is no entry's, or
 /// that is one too many.
-fn entries_of(alloc: Global, text: &[u8], limits: bool) -> Result<(Vec<Entry>, &[u8]), PartFault>
-    ensures found { IfOk result (λ p. AreEntries limits text.now p.1.now p.0.items) }
+fn entries_of(alloc: Global, text: &[u8], later: bool) -> Result<(Vec<Entry>, &[u8]), PartFault>
+    ensures found { IfOk result (λ p. AreEntries later text.now p.1.now p.0.items) }
     ensures fault { IfErr result (λ e. e ≡ PartFault.Memory) }
 {
     let mut entries = Vec::new(alloc);
@@ -66,7 +66,7 @@ fn entries_of(alloc: Global, text: &[u8], limits: bool) -> Result<(Vec<Entry>, &
         let Some((line, after)) = cut_line(rest) else {
             return Ok((entries, rest));
         };
-        let entry = match entry_of(alloc, line, limits, &mut made) {
+        let entry = match entry_of(alloc, line, later, &mut made) {
             Ok(entry) => entry,
             Err(PartFault::Bad) => return Ok((entries, rest)),
             Err(PartFault::Memory) => return Err(PartFault::Memory),
@@ -78,15 +78,15 @@ fn entries_of(alloc: Global, text: &[u8], limits: bool) -> Result<(Vec<Entry>, &
 }
 
 /// The section at the front of a text, and the rest, which does not go on with it.
-fn section_of(alloc: Global, text: &[u8], limits: bool) -> Result<(Section, &[u8]), PartFault>
-    ensures found { IfOk result (λ p. IsFirstSection limits text.now p.1.now p.0) }
+fn section_of(alloc: Global, text: &[u8], later: bool) -> Result<(Section, &[u8]), PartFault>
+    ensures found { IfOk result (λ p. IsFirstSection later text.now p.1.now p.0) }
     ensures fault { IfErr result (IsNoSection text.now) }
 {
     let Some((line, rest)) = cut_line(text) else {
         return Err(PartFault::Bad);
     };
     let (cpus, limit) = domain_of(line)?;
-    let (entries, rest) = entries_of(alloc, rest, limits)?;
+    let (entries, rest) = entries_of(alloc, rest, later)?;
     let section = Section {
         cpus: cpus as u32,
         limit,
@@ -98,14 +98,14 @@ fn section_of(alloc: Global, text: &[u8], limits: bool) -> Result<(Section, &[u8
 /// The sections at the front of a text, which stands behind the header, and the rest: from the
 /// first line on that neither goes on with the last of them nor is a domain's, or that is one too
 /// many.
-fn sections_of(alloc: Global, text: &[u8], limits: bool) -> Result<(Vec<Section>, &[u8]), PartFault>
-    ensures found { IfOk result (λ p. AreSectionsOf limits text.now p.1.now p.0.items) }
+fn sections_of(alloc: Global, text: &[u8], later: bool) -> Result<(Vec<Section>, &[u8]), PartFault>
+    ensures found { IfOk result (λ p. AreSectionsOf later text.now p.1.now p.0.items) }
     ensures fault { IfErr result (λ e. e ≡ PartFault.Memory) }
 {
     let mut sections = Vec::new(alloc);
     let mut rest = text;
     for _ in 0..MOST_SECTIONS {
-        let (section, after) = match section_of(alloc, rest, limits) {
+        let (section, after) = match section_of(alloc, rest, later) {
             Ok(found) => found,
             Err(PartFault::Bad) => return Ok((sections, rest)),
             Err(PartFault::Memory) => return Err(PartFault::Memory),
@@ -150,28 +150,29 @@ fn all_full(sections: &[Section]) -> bool
     last.entries.len() as u64 == MOST_CALLS
 }
 
-/// Whether the header has changes of a limit, these sections have none, and none can follow.
-fn stuck(sections: &[Section], limits: bool) -> bool
-    ensures { result ≡ is_stuck limits sections.now }
+/// Whether the header is that of calls of the second form, these sections have none, and none can
+/// follow.
+fn stuck(sections: &[Section], later: bool) -> bool
+    ensures { result ≡ is_stuck later sections.now }
 {
-    limits && !limit_changes(sections) && all_full(sections)
+    later && !has_later(sections) && all_full(sections)
 }
 
 /// The first bad line of a text that goes on behind these sections, or has none, or none of the
-/// changes that its header has.
-fn bad_line(sections: &[Section], limits: bool) -> u64
+/// calls that its header tells of.
+fn bad_line(sections: &[Section], later: bool) -> u64
     requires each { AllByRecursion IsSectionRead sections.now }
     requires most { length sections.now ≤ 8 }
-    ensures { result ≡ bad_place limits sections.now }
+    ensures { result ≡ bad_place later sections.now }
 {
-    lines_in(sections) + if stuck(sections, limits) { 1 } else { 2 }
+    lines_in(sections) + if stuck(sections, later) { 1 } else { 2 }
 }
 
 /// Whether these sections are all of a text, and what its header says of them.
-fn fits(sections: &[Section], limits: bool, rest: &[u8]) -> bool
-    ensures { result ≡ is_whole limits rest.now sections.now }
+fn fits(sections: &[Section], later: bool, rest: &[u8]) -> bool
+    ensures { result ≡ is_whole later rest.now sections.now }
 {
-    rest.is_empty() && !sections.is_empty() && (!limits || limit_changes(sections))
+    rest.is_empty() && !sections.is_empty() && (!later || has_later(sections))
 }
 
 /// The sections that a whole calls text spells.
@@ -182,23 +183,24 @@ fn whole_text(alloc: Global, text: &[u8]) -> Result<Vec<Section>, CallsFault>
     let Some((header, body)) = cut_line(text) else {
         return Err(CallsFault::BadLine { n: 1 });
     };
-    let Some(limits) = header_of(header) else {
+    let Some(later) = header_of(header) else {
         return Err(CallsFault::BadLine { n: 1 });
     };
-    let Ok((sections, rest)) = sections_of(alloc, body, limits) else {
+    let Ok((sections, rest)) = sections_of(alloc, body, later) else {
         return Err(CallsFault::Memory);
     };
-    if fits(&sections, limits, rest) {
+    if fits(&sections, later, rest) {
         return Ok(sections);
     }
     Err(CallsFault::BadLine {
-        n: bad_line(&sections, limits),
+        n: bad_line(&sections, later),
     })
 }
 
-/// The 1 to 8 sections that a calls text spells, in one pass over the text. The limit of a domain
-/// changes in a text with the header `dlcalls 2`, and in none with `dlcalls 1`. Entries have no reply,
-/// and in each section each client's are numbered 0, 1, 2, .. in their order.
+/// The 1 to 8 sections that a calls text spells, in one pass over the text. A text with the header
+/// `dlcalls 2` changes the limit of a domain, or has a task that goes to another domain or comes from
+/// one; a text with `dlcalls 1` has none of these. Entries have no reply, and in each section each
+/// client's are numbered 0, 1, 2, .. in their order.
 ///
 /// # Errors
 /// 30 [`CallsFault::BadLine`]: the first line, from 1, at which the text stops being a front of

@@ -1,6 +1,6 @@
 //! The text of sections, put behind one another piece by piece.
 
-ghost use Rattle.std.specs.Prelude.{ℕ, ◌≡◌, ◌∷◌, ◌++◌, List, map, codes, decimal, IfOk, OnOk};
+ghost use Rattle.std.specs.Prelude.{◌≡◌, ◌∷◌, ◌++◌, map, codes, decimal, IfOk, OnOk};
 ghost use Rattle.std.specs.List.{flat_map};
 ghost use Rattle.call_book.specs.Spelling.{event_text, events_text, phase_text, loops_text, script_text, line_of, call_fields, entry_line, section_lines, header_line, text_of, spelling};
 ghost use Rattle.call_book.specs.Limits.{AreRead};
@@ -8,10 +8,10 @@ ghost use Rattle.call_book.specs.private.Reading.{entries_text};
 ghost use Rattle.call_book.specs.private.Writing.{params_text, head_text, busy_text};
 ghost use Rattle.call_book.specs.RoundTrip.{unanswered, IsReadAs};
 
-use crate::header::limit_changes;
+use crate::header::has_later;
 use crate::section::{Entry, Section};
 use attr_check::Params;
-use domain_run::{Call, Event, NoMemory, Phase, Script};
+use domain_run::{Call, Event, Name, NoMemory, Phase, Script};
 use itoa::Buffer;
 use std::alloc::Global;
 
@@ -116,6 +116,16 @@ fn put_params(out: &mut Vec<u8>, params: &Params) -> Result<(), NoMemory>
     put(out, if params.reclaim { b" R" } else { b" -" })
 }
 
+/// A space and the name of a task, and its parameters.
+fn put_named(out: &mut Vec<u8>, name: &Name, params: &Params) -> Result<(), NoMemory>
+    ensures { OnOk result (out.new.items
+        ≡ out.old.items ++ 32 ∷ (name.now ++ 32 ∷ params_text params.now)) }
+{
+    put(out, b" ")?;
+    put(out, name.as_str().as_bytes())?;
+    put_params(out, params)
+}
+
 /// The first fields of a call's line: its word, the client and a number.
 fn put_head(out: &mut Vec<u8>, word: &[u8], client: u32, n: u64) -> Result<(), NoMemory>
     ensures { OnOk result (out.new.items ≡ out.old.items ++ head_text word.now client n) }
@@ -160,9 +170,7 @@ fn put_call(out: &mut Vec<u8>, client: u32, call: &Call) -> Result<(), NoMemory>
             script,
         } => {
             put_head(out, b"admit", client, u64::from(*number))?;
-            put(out, b" ")?;
-            put(out, name.as_str().as_bytes())?;
-            put_params(out, params)?;
+            put_named(out, name, params)?;
             put_plan(out, *delay, script)
         }
         Call::Regrade {
@@ -180,6 +188,18 @@ fn put_call(out: &mut Vec<u8>, client: u32, call: &Call) -> Result<(), NoMemory>
         Call::Limit { limit, word } => {
             put_head(out, b"limit", client, *limit)?;
             put_busy(out, *word)
+        }
+        Call::Depart { number } => put_head(out, b"depart", client, u64::from(*number)),
+        Call::Arrive {
+            number,
+            name,
+            params,
+            script,
+        } => {
+            put_head(out, b"arrive", client, u64::from(*number))?;
+            put_named(out, name, params)?;
+            put(out, b" ")?;
+            put_script(out, script)
         }
     }
 }
@@ -212,11 +232,11 @@ fn put_section(out: &mut Vec<u8>, section: &Section) -> Result<(), NoMemory>
     put_entries(out, &section.entries)
 }
 
-/// The first line of a text in which the limit of a domain changes or does not.
-fn put_header(out: &mut Vec<u8>, limits: bool) -> Result<(), NoMemory>
-    ensures { OnOk result (out.new.items ≡ out.old.items ++ (header_line limits ++ codes "\n")) }
+/// The first line of a text that has calls of the second form or has none.
+fn put_header(out: &mut Vec<u8>, later: bool) -> Result<(), NoMemory>
+    ensures { OnOk result (out.new.items ≡ out.old.items ++ (header_line later ++ codes "\n")) }
 {
-    if limits {
+    if later {
         put(out, b"dlcalls 2\n")
     } else {
         put(out, b"dlcalls 1\n")
@@ -224,7 +244,7 @@ fn put_header(out: &mut Vec<u8>, limits: bool) -> Result<(), NoMemory>
 }
 
 /// The calls text of sections (own): the one spelling of them, with the header `dlcalls 2` where a
-/// call changes the limit of its domain, and else `dlcalls 1`. Neither replies nor sequence numbers
+/// call changes the limit of its domain, or a task departs or arrives, and else `dlcalls 1`. Neither replies nor sequence numbers
 /// are looked at; where the text is read again, there are no replies, and each client's calls are
 /// numbered 0, 1, 2, .. No limit is tested: sections outside those of the format (1 to 8 of them, 1
 /// to 64 CPUs, a limit of 10485 to 1048576, at most 65536 calls, clients 1 to 64, and so on) are
@@ -241,7 +261,7 @@ pub fn write_calls(alloc: Global, sections: &[Section]) -> Result<Vec<u8>, NoMem
         → IsReadAs v.items (map unanswered sections.now)) }
 {
     let mut out = Vec::new(alloc);
-    put_header(&mut out, limit_changes(sections))?;
+    put_header(&mut out, has_later(sections))?;
     for section in sections {
         put_section(&mut out, section)?;
     }

@@ -6,12 +6,12 @@ use Rattle.std.proofs.lemmas.List.{length_push, drop_more}
 use Rattle.std.proofs.lemmas.List.Elements.{All-head, All-tail}
 use Rattle.attr_check.specs.Ratio.{cap}
 use Rattle.domain_run.specs.declared.call.Call.{Call}
-use Rattle.domain_run.specs.declared.call.Call.TheVariants.{Admit, Regrade, Wake, Leave, Advance, Limit}
+use Rattle.domain_run.specs.declared.call.Call.TheVariants.{Admit, Regrade, Wake, Leave, Advance, Limit, Depart, Arrive}
 use Rattle.domain_run.specs.declared.call.Reply.{Reply}
 use Rattle.domain_run.specs.declared.call.Reply.TheVariants.{Admitted, Full, Twice, Busy}
 use Rattle.domain_run.specs.Domain.{Domain, opened}
 use Rattle.domain_run.specs.Tick.{sum_of}
-use Rattle.domain_run.specs.Calls.{admit_reply, reply_to, is_refusal, granted, after_call, task_of, regrade_reply, wake_reply, leave_reply, limit_reply}
+use Rattle.domain_run.specs.Calls.{admit_reply, reply_to, is_refusal, granted, after_call, task_of, regrade_reply, wake_reply, leave_reply, limit_reply, depart_reply}
 use Rattle.domain_run.specs.Run.{after_calls, replies_to, run_of}
 use Rattle.domain_run.specs.Sound.{IsAdmitted}
 use Rattle.domain_run.proofs.CallerLemmas.{with_number_contains}
@@ -58,6 +58,9 @@ named_as d (Wake number) names = other_on (wake_reply (task_of d number)) (Wake 
 named_as d (Leave number) names = other_on (leave_reply (task_of d number)) (Leave number) names refl
 named_as d (Advance n) names = refl
 named_as d (Limit limit word) names = other_on (limit_reply d limit word) (Limit limit word) names refl
+named_as d (Depart number) names = other_on (depart_reply (task_of d number)) (Depart number) names refl
+named_as d (Arrive number name params script) names =
+    admit_on (leb 256 (length d.tasks)) (list_any (λ n. eqb n number) d.used) (ltb (cap d.cpus d.limit) (sum_of d.tasks + params.bw)) (sum_of d.tasks) (Arrive number name params script) names (admit_reply d number params) refl
 
 -- what legal entries name
 pub given_is : (d : Domain) (entries : List Entry) (names : ℕ → List ℕ) → map (λ e. e.reply) entries ≡ map Some (replies_to d (calls_of entries)) → given_by_all entries names ≡ names_of d (calls_of entries) names
@@ -83,6 +86,10 @@ named_more d (Wake number) names is old = named_either (is_refusal (wake_reply (
 named_more d (Leave number) names is old = named_either (is_refusal (leave_reply (task_of d number))) d (granted d (Leave number)) names names old old
 named_more d (Advance k) names is old = λ n h. old n (subst (λ (us : List ℕ). IsAdmitted us n) (ticks_used k d) h)
 named_more d (Limit limit word) names is old = named_either (is_refusal (limit_reply d limit word)) d (granted d (Limit limit word)) names names old old
+named_more d (Depart number) names is old = named_either (is_refusal (depart_reply (task_of d number))) d (granted d (Depart number)) names names old old
+named_more d (Arrive number name params script) names is old =
+    named_either (is_refusal (admit_reply d number params)) d (granted d (Arrive number name params script)) names (with_name names number name) old
+    (λ n h. one_more_named d.used number name names is.named old n (sym (with_number_contains number n d.used) ∙ h))
 
 pub all_named : (d : Domain) (entries : List Entry) (names : ℕ → List ℕ) → All IsEntry entries → HaveNames d.used names → HaveNames (after_calls d (calls_of entries)).used (names_of d (calls_of entries) names)
 all_named d [] names are old = old

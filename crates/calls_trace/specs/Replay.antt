@@ -1,7 +1,7 @@
 -- The trace of the sections that a calls text spells.
 use Rattle.std.specs.Prelude.{ℕ, ◌+◌, ◌==◌, if◌then◌else◌, List, [], ◌∷◌, map}
 use Rattle.domain_run.specs.declared.call.Call.{Call}
-use Rattle.domain_run.specs.declared.call.Call.TheVariants.{Admit, Regrade, Wake, Leave, Advance, Limit}
+use Rattle.domain_run.specs.declared.call.Call.TheVariants.{Admit, Regrade, Wake, Leave, Advance, Limit, Depart, Arrive}
 use Rattle.domain_run.specs.Domain.{Domain, opened}
 use Rattle.domain_run.specs.Calls.{reply_to, is_refusal, after_call}
 use Rattle.domain_run.specs.Run.{run_of}
@@ -12,7 +12,7 @@ use Rattle.switch_text.specs.Trace.{RunView, trace_of}
 abbrev pub calls_of : SectionView → List Call
 calls_of s = map (λ e. e.call) s.entries
 
--- the name of a number is that of its admission; a refused call names nobody
+-- the name of a number is that of its admission, or of its arrival; a refused call names nobody
 abbrev pub with_name : (ℕ → List ℕ) → ℕ → List ℕ → (ℕ → List ℕ)
 with_name names number name = λ n. if n == number then name else names n
 
@@ -23,6 +23,8 @@ named_by (Wake number) names = names
 named_by (Leave number) names = names
 named_by (Advance n) names = names
 named_by (Limit limit word) names = names
+named_by (Depart number) names = names
+named_by (Arrive number name params script) names = with_name names number name
 
 abbrev pub names_after : Domain → Call → (ℕ → List ℕ) → (ℕ → List ℕ)
 names_after d c names = if is_refusal (reply_to d c) then names else named_by c names

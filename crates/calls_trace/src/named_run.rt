@@ -131,6 +131,17 @@ impl RunWithNames {
                 self.state.set_limit(limit, word);
                 Ok(())
             }
+            Call::Depart { number } => {
+                self.state.depart(number);
+                Ok(())
+            }
+            // As an admission without a delay.
+            Call::Arrive {
+                number,
+                name,
+                params,
+                script,
+            } => self.admit(alloc, number, name, params, 0, script),
         }
     }
 
@@ -185,7 +196,7 @@ pub(crate) fn run_section(alloc: Global, section: Section) -> Result<RunWithName
     run_entries(alloc, cpus, limit, entries)
 }
 
-/// Puts down the name that an entry gives: that of an admission that was granted.
+/// Puts down the name that an entry gives: that of an admission, or an arrival, that was granted.
 fn put_given(
     alloc: Global,
     names: &mut IndexMap<u32, String>,
@@ -194,9 +205,10 @@ fn put_given(
     ensures ok { OnOk result (Gives names.new (given_by entry.now (named names.old))) }
 {
     match (&entry.call, &entry.reply) {
-        (Call::Admit { number, name, .. }, Some(Reply::Admitted)) => {
-            put_name(names, *number, text_of(alloc, name)?)
-        }
+        (
+            Call::Admit { number, name, .. } | Call::Arrive { number, name, .. },
+            Some(Reply::Admitted),
+        ) => put_name(names, *number, text_of(alloc, name)?),
         _ => Ok(()),
     }
 }

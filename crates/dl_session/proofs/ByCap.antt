@@ -11,7 +11,7 @@ use Rattle.attr_check.specs.Ratio.{cap}
 use Rattle.domain_run.specs.declared.call.Call.{Call}
 use Rattle.domain_run.specs.declared.call.Call.TheVariants as calls
 use Rattle.domain_run.specs.declared.call.Reply.{Reply}
-use Rattle.domain_run.specs.declared.call.Reply.TheVariants.{Admitted, Changed, Woken, Left, Done, Set, Full, Twice, Busy, NotListed, NotWaiting}
+use Rattle.domain_run.specs.declared.call.Reply.TheVariants.{Admitted, Changed, Woken, Left, Done, Set, Departed, Full, Twice, Busy, NotListed, NotWaiting}
 use Rattle.domain_run.specs.Domain.{Domain, opened}
 use Rattle.domain_run.specs.Tick.{sum_of}
 use Rattle.domain_run.specs.Calls.{reply_to, is_refusal, after_call}
@@ -25,7 +25,7 @@ use Rattle.session.specs.Admissions.{own_asked}
 use Rattle.session.specs.RunEnd.{advance_of, EndsWith}
 use Rattle.dl_session.specs.InOrder.{is_admitted}
 use Rattle.dl_session.specs.ScenarioAnswers.{IsByCap}
-use Rattle.dl_session.proofs.OrderAdmissions.{with_admitted, admitted_as, task_from, is_admission}
+use Rattle.dl_session.proofs.OrderAdmissions.{as_reply, as_after, with_admitted, admitted_as, task_from, is_admission}
 use Rattle.dl_session.proofs.OrderRuns.{is_verdict, admitted_is, refused_else, LegalFrom}
 use Rattle.dl_session.proofs.OrderEntries.{kind_of, own_is, task_kind, OwnCalls}
 use Rattle.dl_session.proofs.OrderVerdicts.{others, others_both, others_most, one_if, all_verdicts}
@@ -58,11 +58,11 @@ capped_one most d call reply is first = λ a seen same said.
 within_granted : (most : ℕ) (d : Domain) (c : Call) → IsWithin most d → reply_to d c ≡ Admitted → IsWithin most (after_call d c)
 within_granted most d c is one =
     let a = is_admission d c one in
-    let granted_one : reply_to d (admission a.admission) ≡ Admitted = subst (λ (x : Call). reply_to d x ≡ Admitted) a.is one in
+    let granted_one : reply_to d (admission a.admission) ≡ Admitted = subst (λ (x : Call). reply_to d x ≡ Admitted) a.is (as_reply d c ∙ one) in
     let fits : sum_of d.tasks + a.admission.params.bw ≤ most = subst (λ (n : ℕ). sum_of d.tasks + a.admission.params.bw ≤ n) is.0 (granted_is d a.admission.number a.admission.params granted_one).fits in
     let sum = sum_push d.tasks (task_from d a.admission) in
     let next : IsWithin most (with_admitted d a.admission) = (is.0, omega (arith, sum, fits)) in
-    subst (λ (x : Call). IsWithin most (after_call d x)) (sym a.is) (subst (IsWithin most) (sym (admitted_as d a.admission granted_one)) next)
+    subst (IsWithin most) (as_after d c) (subst (λ (x : Call). IsWithin most (after_call d x)) (sym a.is) (subst (IsWithin most) (sym (admitted_as d a.admission granted_one)) next))
 
 within_next : (most : ℕ) (d : Domain) (c : Call) → IsWithin most d → is_verdict (Some (reply_to d c)) ≡ true → IsWithin most (after_call d c)
 within_next most d c is verdict =
@@ -136,6 +136,7 @@ answer_capped id d t (Ok Woken) capped = tt
 answer_capped id d t (Ok Left) capped = tt
 answer_capped id d t (Ok (Done n)) capped = tt
 answer_capped id d t (Ok Set) capped = tt
+answer_capped id d t (Ok Departed) capped = tt
 answer_capped id d t (Ok Full) capped = tt
 answer_capped id d t (Ok Twice) capped = tt
 answer_capped id d t (Ok NotListed) capped = tt

@@ -7,13 +7,13 @@ use Rattle.attr_check.specs.ParamsView.{ParamsView}
 use Rattle.attr_check.specs.Ratio.{cap}
 use Rattle.domain_run.specs.declared.task.Task.{Task}
 use Rattle.domain_run.specs.declared.call.Call.{Call}
-use Rattle.domain_run.specs.declared.call.Call.TheVariants.{Admit, Regrade, Wake, Leave, Advance, Limit}
+use Rattle.domain_run.specs.declared.call.Call.TheVariants.{Admit, Regrade, Wake, Leave, Advance, Limit, Depart, Arrive}
 use Rattle.domain_run.specs.declared.call.Reply.{Reply}
 use Rattle.domain_run.specs.declared.call.Reply.TheVariants.{Admitted, Woken, Done, Full, Twice, Busy, NotWaiting}
 use Rattle.domain_run.specs.Conditions.{is_waiting}
 use Rattle.domain_run.specs.Domain.{Domain}
 use Rattle.domain_run.specs.Tick.{sum_of}
-use Rattle.domain_run.specs.Calls.{admit_reply, new_task, with_number, listed, task_of, word_reply, regrade_reply, wake_reply, leave_reply, set_reply, reply_to, is_refusal, after_call}
+use Rattle.domain_run.specs.Calls.{admit_reply, new_task, with_number, listed, task_of, word_reply, regrade_reply, wake_reply, leave_reply, set_reply, depart_reply, reply_to, is_refusal, after_call}
 use Rattle.domain_run.proofs.CallerLemmas.{with_number_contains, sum_push, IsGranted, granted_is}
 use Rattle.call_book.specs.Book.{AdmissionView, admission}
 use Rattle.calls_trace.specs.Replay.{with_name, named_by, names_after}
@@ -144,10 +144,49 @@ not_set true s word e = absurd cc
 not_set false s None e = absurd cc
 not_set false s (Some w) e = absurd cc
 
--- the admission that a call is
+not_departed : (o : Option Task) → depart_reply o ≡ Admitted → ⊥
+not_departed None e = absurd cc
+not_departed (Some t) e = absurd cc
+
+-- an arrival does what an admission without a delay does
+abbrev pub as_admission : Call → Call
+as_admission (Arrive number name params script) = Admit number name params 0 script
+as_admission c = c
+
+pub as_reply : (d : Domain) (c : Call) → reply_to d (as_admission c) ≡ reply_to d c
+as_reply d (Admit number name params delay script) = refl
+as_reply d (Regrade number params word) = refl
+as_reply d (Wake number) = refl
+as_reply d (Leave number) = refl
+as_reply d (Advance n) = refl
+as_reply d (Limit limit word) = refl
+as_reply d (Depart number) = refl
+as_reply d (Arrive number name params script) = refl
+
+pub as_after : (d : Domain) (c : Call) → after_call d (as_admission c) ≡ after_call d c
+as_after d (Admit number name params delay script) = refl
+as_after d (Regrade number params word) = refl
+as_after d (Wake number) = refl
+as_after d (Leave number) = refl
+as_after d (Advance n) = refl
+as_after d (Limit limit word) = refl
+as_after d (Depart number) = refl
+as_after d (Arrive number name params script) = refl
+
+pub as_named : (c : Call) (names : ℕ → List ℕ) → named_by (as_admission c) names ≡ named_by c names
+as_named (Admit number name params delay script) names = refl
+as_named (Regrade number params word) names = refl
+as_named (Wake number) names = refl
+as_named (Leave number) names = refl
+as_named (Advance n) names = refl
+as_named (Limit limit word) names = refl
+as_named (Depart number) names = refl
+as_named (Arrive number name params script) names = refl
+
+-- the admission that a call is, or that an arrival is as good as
 pub record IsAdmission (c : Call) : Type 0 where
   pub admission : AdmissionView
-  pub is : c ≡ Admit admission.number admission.name admission.params admission.delay admission.script
+  pub is : as_admission c ≡ Admit admission.number admission.name admission.params admission.delay admission.script
 
 pub is_admission : (d : Domain) (c : Call) → reply_to d c ≡ Admitted → IsAdmission c
 is_admission d (Admit number name params delay script) e = record { admission = record { number = number; name = name; params = params; delay = delay; script = script }; is = refl }
@@ -156,6 +195,8 @@ is_admission d (Wake number) e = absurd (not_woken (task_of d number) e)
 is_admission d (Leave number) e = absurd (not_left (task_of d number) e)
 is_admission d (Advance n) e = absurd (not_done n e)
 is_admission d (Limit limit word) e = absurd (not_set _ (sum_of d.tasks) word e)
+is_admission d (Depart number) e = absurd (not_departed (task_of d number) e)
+is_admission d (Arrive number name params script) e = record { admission = record { number = number; name = name; params = params; delay = 0; script = script }; is = refl }
 
 -- ---- two admissions
 
@@ -214,15 +255,34 @@ two_admitted d a b one then =
       named = λ names. two_named names a b other;
     }
 
+-- what holds of the admissions that two calls are as good as, holds of the calls
+two_as : (d : Domain) (x y : Call) → AreTwo d (as_admission x) (as_admission y) → AreTwo d x y
+two_as d x y are =
+    let p : Call = as_admission x in
+    let q : Call = as_admission y in
+    let left : after_call (after_call d p) q ≡ after_call (after_call d x) y = as_after (after_call d p) y ∙ ap (λ (e : Domain). after_call e y) (as_after d x) in
+    let right : after_call (after_call d q) p ≡ after_call (after_call d y) x = as_after (after_call d q) x ∙ ap (λ (e : Domain). after_call e x) (as_after d y) in
+    record {
+      first = sym (as_reply d y) ∙ are.first;
+      second = ap (λ (e : Domain). reply_to e x) (sym (as_after d y)) ∙ sym (as_reply (after_call d q) x) ∙ are.second;
+      alike = subst (λ (e : Domain). Alike e (after_call (after_call d y) x)) left (subst (λ (e : Domain). Alike (after_call (after_call d p) q) e) right are.alike);
+      named = λ names.
+          ap (named_by y) (sym (as_named x names)) ∙ sym (as_named y (named_by p names)) ∙ are.named names
+          ∙ as_named x (named_by q names) ∙ ap (named_by x) (as_named y names);
+    }
+
 pub two_calls : (d : Domain) (x y : Call) → reply_to d x ≡ Admitted → reply_to (after_call d x) y ≡ Admitted → AreTwo d x y
 two_calls d x y one two =
     let a = is_admission d x one in
     let b = is_admission (after_call d x) y two in
-    subst (λ (c : Call). AreTwo d c y) (sym a.is)
+    let first : reply_to d (as_admission x) ≡ Admitted = as_reply d x ∙ one in
+    let then : reply_to (after_call d (as_admission x)) (as_admission y) ≡ Admitted = as_reply (after_call d (as_admission x)) y ∙ ap (λ (e : Domain). reply_to e y) (as_after d x) ∙ two in
+    two_as d x y
+    (subst (λ (c : Call). AreTwo d c (as_admission y)) (sym a.is)
     (subst (λ (c : Call). AreTwo d (admission a.admission) c) (sym b.is)
     (two_admitted d a.admission b.admission
-    (subst (λ (c : Call). reply_to d c ≡ Admitted) a.is one)
-    (subst (λ (c : Call). reply_to (after_call d (admission a.admission)) c ≡ Admitted) b.is (subst (λ (c : Call). reply_to (after_call d c) y ≡ Admitted) a.is two))))
+    (subst (λ (c : Call). reply_to d c ≡ Admitted) a.is first)
+    (subst (λ (c : Call). reply_to (after_call d (admission a.admission)) c ≡ Admitted) b.is (subst (λ (c : Call). reply_to (after_call d c) (as_admission y) ≡ Admitted) a.is then)))))
 
 pub record IsAlikeAfter (d e : Domain) (c : Call) : Type 0 where
   pub reply : reply_to e c ≡ Admitted
@@ -231,6 +291,10 @@ pub record IsAlikeAfter (d e : Domain) (c : Call) : Type 0 where
 pub alike_call : (d e : Domain) (c : Call) → Alike d e → reply_to d c ≡ Admitted → IsAlikeAfter d e c
 alike_call d e c alike one =
     let a = is_admission d c one in
-    let is : reply_to d (admission a.admission) ≡ Admitted = subst (λ (x : Call). reply_to d x ≡ Admitted) a.is one in
-    subst (λ (x : Call). IsAlikeAfter d e x) (sym a.is)
-    (record { reply = sym (alike_reply d e a.admission alike) ∙ is; alike = alike_admitted d e a.admission alike is })
+    let is : reply_to d (admission a.admission) ≡ Admitted = subst (λ (x : Call). reply_to d x ≡ Admitted) a.is (as_reply d c ∙ one) in
+    let are : IsAlikeAfter d e (as_admission c) = subst (λ (x : Call). IsAlikeAfter d e x) (sym a.is)
+    (record { reply = sym (alike_reply d e a.admission alike) ∙ is; alike = alike_admitted d e a.admission alike is }) in
+    record {
+      reply = sym (as_reply e c) ∙ are.reply;
+      alike = subst (λ (x : Domain). Alike x (after_call e c)) (as_after d c) (subst (λ (x : Domain). Alike (after_call d (as_admission c)) x) (as_after e c) are.alike);
+    }

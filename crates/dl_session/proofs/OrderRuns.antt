@@ -8,7 +8,7 @@ use Rattle.std.proofs.lemmas.Bool.{or_left, or_right}
 use Rattle.domain_run.specs.declared.task.Task.{Task}
 use Rattle.domain_run.specs.declared.call.Call.{Call}
 use Rattle.domain_run.specs.declared.call.Reply.{Reply}
-use Rattle.domain_run.specs.declared.call.Reply.TheVariants.{Admitted, Changed, Woken, Left, Done, Set, Full, Twice, Busy, NotListed, NotWaiting}
+use Rattle.domain_run.specs.declared.call.Reply.TheVariants.{Admitted, Changed, Woken, Left, Done, Set, Departed, Full, Twice, Busy, NotListed, NotWaiting}
 use Rattle.domain_run.specs.Domain.{Domain, opened}
 use Rattle.domain_run.specs.Calls.{with_number, reply_to, is_refusal, after_call}
 use Rattle.domain_run.specs.Run.{after_calls, replies_to}
@@ -21,7 +21,7 @@ use Rattle.calls_trace.specs.Replay.{named_by, names_after, names_of}
 use Rattle.dl_session.specs.InOrder.{is_admitted}
 use Rattle.domain_run.proofs.CallerLemmas.{Reordered, ends, next, swaps, chain}
 use Rattle.domain_run.proofs.CallerLemmas.{Alike}
-use Rattle.dl_session.proofs.OrderAdmissions.{alike_itself, alike_more, task_from, with_admitted, admitted_as, named_as, is_admission, two_calls, alike_call}
+use Rattle.dl_session.proofs.OrderAdmissions.{alike_itself, alike_more, task_from, with_admitted, admitted_as, named_as, as_reply, as_after, is_admission, two_calls, alike_call}
 
 -- ---- all granted
 
@@ -110,10 +110,11 @@ listing_with d a is fresh =
 listing_call : (d : Domain) (c : Call) → IsListing d → reply_to d c ≡ Admitted → IsListing (after_call d c)
 listing_call d c is one =
     let a = is_admission d c one in
-    let granted_one : reply_to d (admission a.admission) ≡ Admitted = subst (λ (x : Call). reply_to d x ≡ Admitted) a.is one in
+    let granted_one : reply_to d (admission a.admission) ≡ Admitted = subst (λ (x : Call). reply_to d x ≡ Admitted) a.is (as_reply d c ∙ one) in
     let fresh = (granted_is d a.admission.number a.admission.params granted_one).fresh in
-    subst (λ (x : Call). IsListing (after_call d x)) (sym a.is)
-    (subst IsListing (sym (admitted_as d a.admission granted_one)) (listing_with d a.admission is fresh))
+    subst IsListing (as_after d c)
+    (subst (λ (x : Call). IsListing (after_call d x)) (sym a.is)
+    (subst IsListing (sym (admitted_as d a.admission granted_one)) (listing_with d a.admission is fresh)))
 
 pub listing_run : (d : Domain) (cs : List Call) → IsListing d → AllAdmitted d cs → IsListing (after_calls d cs)
 listing_run d [] is all = is
@@ -166,6 +167,7 @@ admitted_is Woken e = absurd cc
 admitted_is Left e = absurd cc
 admitted_is (Done n) e = absurd cc
 admitted_is Set e = absurd cc
+admitted_is Departed e = absurd cc
 admitted_is Full e = absurd cc
 admitted_is Twice e = absurd cc
 admitted_is (Busy s) e = absurd cc

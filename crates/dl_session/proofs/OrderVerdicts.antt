@@ -6,7 +6,7 @@ use Rattle.std.proofs.lemmas.List.Elements.{All-nil, All-cons, All-head, All-tai
 use Rattle.domain_run.specs.declared.call.Call.{Call}
 use Rattle.domain_run.specs.declared.call.Call.TheVariants.{Advance}
 use Rattle.domain_run.specs.declared.call.Reply.{Reply}
-use Rattle.domain_run.specs.declared.call.Reply.TheVariants.{Admitted, Changed, Woken, Left, Done, Set, Full, Twice, Busy, NotListed, NotWaiting}
+use Rattle.domain_run.specs.declared.call.Reply.TheVariants.{Admitted, Changed, Woken, Left, Done, Set, Departed, Full, Twice, Busy, NotListed, NotWaiting}
 use Rattle.rtapp_scenario.specs.ScenarioView.{TaskSpecView}
 use Rattle.call_book.specs.declared.section.Entry.{Entry}
 use Rattle.call_book.specs.Book.{IsMember}
@@ -71,6 +71,7 @@ one_lawful id t (Ok Woken) (Some place) d ms lawful = absurd lawful
 one_lawful id t (Ok Left) (Some place) d ms lawful = absurd lawful
 one_lawful id t (Ok (Done n)) (Some place) d ms lawful = absurd lawful
 one_lawful id t (Ok Set) (Some place) d ms lawful = absurd lawful
+one_lawful id t (Ok Departed) (Some place) d ms lawful = absurd lawful
 one_lawful id t (Ok Full) (Some place) d ms lawful = absurd lawful
 one_lawful id t (Ok Twice) (Some place) d ms lawful = absurd lawful
 one_lawful id t (Ok NotListed) (Some place) d ms lawful = absurd lawful

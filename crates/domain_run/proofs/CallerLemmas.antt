@@ -15,13 +15,13 @@ use Rattle.domain_run.specs.script.ScriptView.{ScriptView}
 use Rattle.domain_run.specs.declared.task.Task.{Task}
 use Rattle.domain_run.specs.declared.task.Condition.TheVariants.{Leaving}
 use Rattle.domain_run.specs.declared.call.Call.{Call}
-use Rattle.domain_run.specs.declared.call.Call.TheVariants.{Admit, Regrade, Wake, Leave, Advance, Limit}
-use Rattle.domain_run.specs.declared.call.Reply.TheVariants.{Admitted, Changed, Full, Twice, Busy}
+use Rattle.domain_run.specs.declared.call.Call.TheVariants.{Admit, Regrade, Wake, Leave, Advance, Limit, Depart, Arrive}
+use Rattle.domain_run.specs.declared.call.Reply.TheVariants.{Admitted, Changed, Departed, Full, Twice, Busy}
 use Rattle.domain_run.specs.Conditions.{is_contending, is_leaving}
 use Rattle.domain_run.specs.Parts.{stopped}
 use Rattle.domain_run.specs.Domain.{Domain}
 use Rattle.domain_run.specs.Tick.{share_of, shares, sum_of, ticked, ticks}
-use Rattle.domain_run.specs.Calls.{admit_reply, new_task, listed, task_of, of_number, changed, regraded, regrade_reply, wake_reply, released, leave_reply, ended, limit_reply, with_limit, reply_to, is_refusal, granted, after_call}
+use Rattle.domain_run.specs.Calls.{admit_reply, new_task, listed, task_of, of_number, changed, regraded, regrade_reply, wake_reply, released, leave_reply, ended, limit_reply, with_limit, depart_reply, is_other, departed, reply_to, is_refusal, granted, after_call}
 use Rattle.domain_run.specs.Views.{view_of, view_in, name_in}
 use Rattle.domain_run.specs.Busy.{LacksRoomFor, LacksRoomToChange}
 use Rattle.domain_run.specs.Keys.{key_of, keys, has_task, listed_keys, AreKept, with_bw}
@@ -195,6 +195,23 @@ leave_keys d number =
     λ t. elim (is_contending t.condition) as (λ b. ((cond b (stopped d.time Leaving t) (record t { condition = Leaving })).number ≡ t.number) × ((cond b (stopped d.time Leaving t) (record t { condition = Leaving })).params ≡ t.params)) [ true ↦ (refl, refl) | false ↦ (refl, refl) ] in
     either_keys (is_refusal (leave_reply (task_of d number))) d (changed d number (ended d.time)) (keys_changed d number (ended d.time) (λ t. (same t).0) (λ t. (same t).1))
 
+-- a depart takes the key of the number away
+keys_others : (number : ℕ) (tasks : List Task) → keys (filter (is_other number) tasks) ≡ filter (λ k. not (eqb k.0 number)) (keys tasks)
+keys_others number [] = refl
+keys_others number (t ∷ tasks) =
+    let rest = filter (is_other number) tasks in
+    let left = filter (λ (k : ℕ × ℕ). not (eqb k.0 number)) (keys tasks) in
+    elim (eqb t.number number) as (λ b. keys (cond (not b) (t ∷ rest) rest) ≡ cond (not b) (key_of t ∷ left) left) [ true ↦ keys_others number tasks | false ↦ ap (λ ks. key_of t ∷ ks) (keys_others number tasks) ]
+
+pub departed_keys : (d : Domain) (number : ℕ) → reply_to d (Depart number) ≡ Departed → keys (after_call d (Depart number)).tasks ≡ filter (λ k. not (eqb k.0 number)) (keys d.tasks)
+departed_keys d number e =
+    ap (λ r. keys (cond (is_refusal r) d (departed d number)).tasks) e ∙ keys_others number d.tasks
+
+-- an arrival is an admission without a delay
+pub arrived_keys : (d : Domain) (number : ℕ) (name : List ℕ) (params : ParamsView) (script : ScriptView) → reply_to d (Arrive number name params script) ≡ Admitted
+    → keys (after_call d (Arrive number name params script)).tasks ≡ keys d.tasks ++ (number, params.bw) ∷ []
+arrived_keys d number name params script e = admitted_keys d number name params 0 script e
+
 -- ---- time, CPUs and limit
 
 -- the ticks that a call makes
@@ -205,6 +222,8 @@ ticks_of (Wake number) = 0
 ticks_of (Leave number) = 0
 ticks_of (Advance n) = n
 ticks_of (Limit limit word) = 0
+ticks_of (Depart number) = 0
+ticks_of (Arrive number name params script) = 0
 
 either_time : (b : Bool) (d e : Domain) → e.time ≡ d.time → (cond b d e).time ≡ d.time + 0
 either_time true d e same = omega arith
@@ -217,6 +236,8 @@ call_time d (Wake number) = either_time (is_refusal (wake_reply (task_of d numbe
 call_time d (Leave number) = either_time (is_refusal (leave_reply (task_of d number))) d (granted d (Leave number)) refl
 call_time d (Advance n) = ticks_time n d
 call_time d (Limit limit word) = either_time (is_refusal (limit_reply d limit word)) d (granted d (Limit limit word)) refl
+call_time d (Depart number) = either_time (is_refusal (depart_reply (task_of d number))) d (departed d number) refl
+call_time d (Arrive number name params script) = either_time (is_refusal (admit_reply d number params)) d (granted d (Arrive number name params script)) refl
 
 -- the same CPUs and the same limit, and so the same cap
 pub record SameMachine (d e : Domain) : Type 0 where
@@ -239,6 +260,8 @@ call_machine d (Wake number) is = either_machine (is_refusal (wake_reply (task_o
 call_machine d (Leave number) is = either_machine (is_refusal (leave_reply (task_of d number))) d (granted d (Leave number)) (record { cpus = refl; limit = refl })
 call_machine d (Advance n) is = record { cpus = ticks_cpus n d; limit = ticks_limit n d }
 call_machine d (Limit limit word) is = absurd cc
+call_machine d (Depart number) is = either_machine (is_refusal (depart_reply (task_of d number))) d (departed d number) (record { cpus = refl; limit = refl })
+call_machine d (Arrive number name params script) is = either_machine (is_refusal (admit_reply d number params)) d (granted d (Arrive number name params script)) (record { cpus = refl; limit = refl })
 
 either_cpus : (b : Bool) (d e : Domain) → e.cpus ≡ d.cpus → (cond b d e).cpus ≡ d.cpus
 either_cpus true d e same = refl
@@ -252,6 +275,8 @@ call_cpus d (Wake number) = (call_machine d (Wake number) refl).cpus
 call_cpus d (Leave number) = (call_machine d (Leave number) refl).cpus
 call_cpus d (Advance n) = ticks_cpus n d
 call_cpus d (Limit limit word) = either_cpus (is_refusal (limit_reply d limit word)) d (with_limit limit d) refl
+call_cpus d (Depart number) = either_cpus (is_refusal (depart_reply (task_of d number))) d (departed d number) refl
+call_cpus d (Arrive number name params script) = (call_machine d (Arrive number name params script) refl).cpus
 
 either_tasks : (b : Bool) (d e : Domain) → e.tasks ≡ d.tasks → (cond b d e).tasks ≡ d.tasks
 either_tasks true d e same = refl
@@ -326,6 +351,26 @@ with_bw_between number old bw (k ∷ front) back apart =
     let rest : AllPairs (λ l m. l.0 ≢ m.0) (front ++ (number, old) ∷ back) = λ j n e less inside. apart (suc j) (suc n) e (omega arith) (omega arith) in
     let other : eqb k.0 number ≡ false = ne_eqb k.0 number (first_apart k front back number old apart) in
     ap (λ b. cond b (k.0, bw) k ∷ map (with_bw number bw) (front ++ (number, old) ∷ back)) other ∙ ap (λ ls. k ∷ ls) (with_bw_between number old bw front back rest)
+
+-- after a depart: all items but the one of the number
+others_stay : (number : ℕ) (ks : List (ℕ × ℕ)) → All (λ k. number ≢ k.0) ks → filter (λ k. not (eqb k.0 number)) ks ≡ ks
+others_stay number [] all = refl
+others_stay number (k ∷ ks) all =
+    let other : eqb k.0 number ≡ false = ne_eqb k.0 number (λ e. all zero k (omega arith) (sym e)) in
+    let rest : All (λ l. number ≢ l.0) ks = λ i d h. all (suc i) d (omega arith) in
+    let kept = filter (λ (l : ℕ × ℕ). not (eqb l.0 number)) ks in
+    ap (λ b. cond (not b) (k ∷ kept) kept) other ∙ ap (λ ls. k ∷ ls) (others_stay number ks rest)
+
+pub without_between : (number bw : ℕ) (front back : List (ℕ × ℕ)) → AllPairs (λ k l. k.0 ≢ l.0) (front ++ (number, bw) ∷ back) → filter (λ k. not (eqb k.0 number)) (front ++ (number, bw) ∷ back) ≡ front ++ back
+without_between number bw [] back apart =
+    let others : All (λ l. number ≢ l.0) back = λ j e h. apart zero (suc j) e (omega arith) (omega arith) in
+    let kept = filter (λ (l : ℕ × ℕ). not (eqb l.0 number)) back in
+    ap (λ b. cond (not b) ((number, bw) ∷ kept) kept) (eq-eqb number number refl) ∙ others_stay number back others
+without_between number bw (k ∷ front) back apart =
+    let rest : AllPairs (λ l m. l.0 ≢ m.0) (front ++ (number, bw) ∷ back) = λ j n e less inside. apart (suc j) (suc n) e (omega arith) (omega arith) in
+    let other : eqb k.0 number ≡ false = ne_eqb k.0 number (first_apart k front back number bw apart) in
+    let kept = filter (λ (l : ℕ × ℕ). not (eqb l.0 number)) (front ++ (number, bw) ∷ back) in
+    ap (λ b. cond (not b) (k ∷ kept) kept) other ∙ ap (λ ls. k ∷ ls) (without_between number bw front back rest)
 
 -- the sum of the domain is that of the keys
 pub sum_of_keys : (tasks : List Task) → sum_of tasks ≡ sum_by (λ k. k.1) (keys tasks)

@@ -10,6 +10,7 @@ pub mod Counting
 pub mod Changing
 pub mod Ticking
 pub mod Tracing
+pub mod Departing
 pub mod KeptKeys
 pub mod OrderLists
 pub mod OrderTicks

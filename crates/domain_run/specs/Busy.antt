@@ -3,7 +3,7 @@
 use Rattle.std.specs.Prelude.{ℕ, ◌+◌, ◌-◌, ◌≤◌, ◌<◌, IsSomeAnd}
 use Rattle.attr_check.specs.Ratio.{cap}
 use Rattle.domain_run.specs.declared.call.Reply.{Reply}
-use Rattle.domain_run.specs.declared.call.Reply.TheVariants.{Admitted, Changed, Woken, Left, Done, Set, Full, Twice, Busy, NotListed, NotWaiting}
+use Rattle.domain_run.specs.declared.call.Reply.TheVariants.{Admitted, Changed, Woken, Left, Done, Set, Departed, Full, Twice, Busy, NotListed, NotWaiting}
 use Rattle.domain_run.specs.Domain.{Domain}
 use Rattle.domain_run.specs.Calls.{task_of}
 
@@ -16,6 +16,7 @@ IfBusy Woken P = Unit {0}
 IfBusy Left P = Unit {0}
 IfBusy (Done n) P = Unit {0}
 IfBusy Set P = Unit {0}
+IfBusy Departed P = Unit {0}
 IfBusy Full P = Unit {0}
 IfBusy Twice P = Unit {0}
 IfBusy NotListed P = Unit {0}

@@ -1,6 +1,6 @@
 -- The calls on a domain, made between two ticks: replies and effects (own; the errors of
 -- sched_setattr(2), and of the kernel's sched_dl_global_validate on sched_rt_runtime_us).
-use Rattle.std.specs.Prelude.{ℕ, ◌+◌, ◌-◌, ◌%◌, ◌==◌, Bool, true, false, not, ◌&&◌, nat_lt, nat_le, if◌then◌else◌, List, [], ◌∷◌, ◌++◌, length, map, find, Option, Some, None, pos}
+use Rattle.std.specs.Prelude.{ℕ, ◌+◌, ◌-◌, ◌%◌, ◌==◌, Bool, true, false, not, ◌&&◌, nat_lt, nat_le, if◌then◌else◌, List, [], ◌∷◌, ◌++◌, length, map, filter, find, Option, Some, None, pos}
 use Rattle.std.specs.List.{list_any}
 use Rattle.attr_check.specs.ParamsView.{ParamsView}
 use Rattle.attr_check.specs.Ratio.{cap}
@@ -9,9 +9,9 @@ use Rattle.domain_run.specs.script.Segments.{begun_at}
 use Rattle.domain_run.specs.declared.task.Task.{Task}
 use Rattle.domain_run.specs.declared.task.Condition.TheVariants.{Blocked, Leaving}
 use Rattle.domain_run.specs.declared.call.Call.{Call}
-use Rattle.domain_run.specs.declared.call.Call.TheVariants.{Admit, Regrade, Wake, Leave, Advance, Limit}
+use Rattle.domain_run.specs.declared.call.Call.TheVariants.{Admit, Regrade, Wake, Leave, Advance, Limit, Depart, Arrive}
 use Rattle.domain_run.specs.declared.call.Reply.{Reply}
-use Rattle.domain_run.specs.declared.call.Reply.TheVariants.{Admitted, Changed, Woken, Left, Done, Set, Full, Twice, Busy, NotListed, NotWaiting}
+use Rattle.domain_run.specs.declared.call.Reply.TheVariants.{Admitted, Changed, Woken, Left, Done, Set, Departed, Full, Twice, Busy, NotListed, NotWaiting}
 use Rattle.domain_run.specs.Conditions.{is_contending, is_waiting, is_leaving}
 use Rattle.domain_run.specs.Parts.{stopped}
 use Rattle.domain_run.specs.Domain.{Domain}
@@ -107,6 +107,22 @@ limit_reply d limit word =
 abbrev pub with_limit : ℕ → Domain → Domain
 with_limit limit d = record d { limit = limit }
 
+-- DEPART. A task goes to another domain: it is off the list at once, and its zero-lag time with it.
+-- Its number stays among those that were admitted (own; a task has its bandwidth in one root domain,
+-- sched-deadline.rst on cpusets)
+abbrev pub depart_reply : Option Task → Reply
+depart_reply None = NotListed
+depart_reply (Some t) = Departed
+
+abbrev pub is_other : ℕ → Task → Bool
+is_other number t = not (t.number == number)
+
+abbrev pub departed : Domain → ℕ → Domain
+departed d number = record d { tasks = filter (is_other number) d.tasks }
+
+-- ARRIVE. A task comes from another domain. The clocks of two domains are apart, so it begins anew:
+-- as one that is admitted without a delay (own)
+
 -- the reply to a call
 abbrev pub reply_to : Domain → Call → Reply
 reply_to d (Admit number name params delay script) = admit_reply d number params
@@ -115,6 +131,8 @@ reply_to d (Wake number) = wake_reply (task_of d number)
 reply_to d (Leave number) = leave_reply (task_of d number)
 reply_to d (Advance n) = Done n
 reply_to d (Limit limit word) = limit_reply d limit word
+reply_to d (Depart number) = depart_reply (task_of d number)
+reply_to d (Arrive number name params script) = admit_reply d number params
 
 abbrev pub is_refusal : Reply → Bool
 is_refusal Admitted = false
@@ -123,6 +141,7 @@ is_refusal Woken = false
 is_refusal Left = false
 is_refusal (Done n) = false
 is_refusal Set = false
+is_refusal Departed = false
 is_refusal _ = true
 
 -- what a call does where it is not refused
@@ -134,6 +153,9 @@ granted d (Wake number) = changed d number (released d.time)
 granted d (Leave number) = changed d number (ended d.time)
 granted d (Advance n) = ticks n d
 granted d (Limit limit word) = with_limit limit d
+granted d (Depart number) = departed d number
+granted d (Arrive number name params script) =
+    listed d (new_task d number name params 0 script)
 
 -- a refused call changes nothing
 abbrev pub after_call : Domain → Call → Domain

@@ -40,6 +40,18 @@ pub enum Call {
         /// The number with which the domain's bandwidth word refused, where it did.
         word: Option<u64>,
     },
+    /// Takes a task off the list, for another domain.
+    Depart {
+        number: u32,
+    },
+    /// Lists a task that comes from another domain: as an admission without a delay.
+    Arrive {
+        /// 1 to 65535.
+        number: u32,
+        name: Name,
+        params: Params,
+        script: Script,
+    },
 }
 
 /// What a domain answers to a call.
@@ -57,6 +69,8 @@ pub enum Reply {
     Done { ticks: u64 },
     /// The limit is the new one.
     Set,
+    /// The task is off the list.
+    Departed,
     /// 40: 256 tasks are listed.
     Full,
     /// 41: a task of this number was admitted here before.

@@ -4,6 +4,7 @@ ghost use Rattle.std.specs.Prelude.{◌≡◌, ◌<◌, ◌+◌, ℕ};
 ghost use Rattle.domain_run.specs.Calls as calls;
 ghost use Rattle.domain_run.specs.Domain.{Domain};
 ghost use Rattle.domain_run.specs.Sound.{IsSound};
+ghost use Rattle.domain_run.specs.private.Roster.{quit};
 
 use crate::name::Name;
 use crate::parts::stop;
@@ -66,4 +67,12 @@ pub(crate) fn end(task: &mut Task, time: u64)
     } else {
         task.condition = Condition::Leaving;
     }
+}
+
+/// A task that goes to another domain: it stands as one that has left and is due to go off the list.
+pub(crate) fn depart(task: &mut Task)
+    ensures { task.new ≡ quit task.old }
+{
+    task.condition = Condition::Leaving;
+    task.zero_lag = None;
 }

@@ -31,6 +31,8 @@ pub(crate) enum Change {
     Release,
     /// It ends.
     End,
+    /// It goes to another domain: it asks for no CPU any more, and has no zero-lag time.
+    Depart,
 }
 
 /// Whether a look at a task tells that a change does nothing to it.
@@ -81,6 +83,7 @@ fn act(task: &mut Task, time: u64, change: &Change)
         Change::Regrade { params } => calls::regrade(task, params),
         Change::Release => calls::release(task, time),
         Change::End => calls::end(task, time),
+        Change::Depart => calls::depart(task),
     }
 }
 

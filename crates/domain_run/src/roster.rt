@@ -8,7 +8,7 @@ ghost use Rattle.domain_run.specs.Conditions.{is_ready, is_leaving};
 ghost use Rattle.domain_run.specs.Parts.{is_listed};
 ghost use Rattle.domain_run.specs.Sound.{IsSound};
 ghost use Rattle.domain_run.specs.Tick as tick;
-ghost use Rattle.domain_run.specs.Calls.{of_number};
+ghost use Rattle.domain_run.specs.Calls.{of_number, is_other};
 ghost use Rattle.domain_run.specs.private.Index.{IsAt, IsAbsent};
 ghost use Rattle.domain_run.specs.private.Roster.{after_change, MayMake, Fits};
 ghost use Rattle.domain_run.specs.private.Timers.{IsStep, AreNotDue, due_of, least};
@@ -206,5 +206,15 @@ impl Roster {
         ensures tasks { self.new.tasks ≡ filter is_listed self.old.tasks }
     {
         listing::drop_left(&mut self.tasks, &mut self.queue, &mut self.index);
+    }
+
+    /// The task of a number goes off the list at once.
+    pub(crate) fn take_off(&mut self, number: u32, time: u64)
+        requires sound { All (IsSound time) self.old.tasks }
+        ensures cpus { self.new.cpus ≡ self.old.cpus }
+        ensures tasks { self.new.tasks ≡ filter (is_other number) self.old.tasks }
+    {
+        self.turn_number(number, time, &Change::Depart);
+        listing::drop_number(&mut self.tasks, &mut self.queue, &mut self.index, number);
     }
 }

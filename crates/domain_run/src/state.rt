@@ -156,8 +156,9 @@ impl State {
 }
 
 impl State {
-    /// The reply to an admission, by the tests in their order.
-    fn admit_reply(&self, number: u32, params: &Params) -> Reply
+    /// The reply that an admission would get, by the tests in their order. Nothing changes. Takes no
+    /// memory.
+    pub fn admit_reply(&self, number: u32, params: &Params) -> Reply
         requires { number < 65536 }
         ensures reply { result ≡ calls.admit_reply self.now number params.now }
         ensures busy { IfBusy result (LacksRoomFor self.now params.now.bw) }

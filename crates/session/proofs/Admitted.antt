@@ -30,7 +30,7 @@ entries_count : (client seq : ℕ) (xs : List Made) → length (entries_from cli
 entries_count client seq [] = refl
 entries_count client seq (x ∷ xs) = ap suc (entries_count client (seq + 1) xs)
 
-followed_more : (a b c : ClientView) (d : ℕ) (xs ys : List Made) → b.number ≡ a.number → pass_in b d ≡ followed_by a d xs → pass_in c d ≡ followed_by b d ys → pass_in c d ≡ followed_by a d (xs ++ ys)
+pub followed_more : (a b c : ClientView) (d : ℕ) (xs ys : List Made) → b.number ≡ a.number → pass_in b d ≡ followed_by a d xs → pass_in c d ≡ followed_by b d ys → pass_in c d ≡ followed_by a d (xs ++ ys)
 followed_more a b c d xs ys number first next =
     let front = pass_in a d in
     let made = entries_from a.number (length front) xs in

@@ -73,12 +73,16 @@ lawful_of id t d (Ok replies.Full) g v = v
 lawful_of id t d (Ok replies.Twice) g v = v
 lawful_of id t d (Ok replies.NotListed) g v = v
 lawful_of id t d (Ok replies.NotWaiting) g v = v
+lawful_of id t d (Ok replies.Departed) g v = v
 lawful_of id t d (Err refusals.Full) g v = (d, g)
 lawful_of id t d (Err refusals.Twice) g v = (d, g)
 lawful_of id t d (Err refusals.Enomem) g v = (d, g)
 lawful_of id t d (Err (refusals.Busy seen)) g v = (d, g, v)
 lawful_of id t d (Err refusals.Eperm) g v = absurd v
 lawful_of id t d (Err (refusals.Einval k)) g v = absurd v
+lawful_of id t d (Err refusals.Esrch) g v = absurd v
+lawful_of id t d (Err (refusals.Stale p)) g v = absurd v
+lawful_of id t d (Err refusals.SameDomain) g v = absurd v
 
 -- ---- the piece in hand
 
@@ -98,6 +102,7 @@ none_kept (asks.Admit prepared ticket) (Ok replies.Full) hand given = nobody giv
 none_kept (asks.Admit prepared ticket) (Ok replies.Twice) hand given = nobody given.1
 none_kept (asks.Admit prepared ticket) (Ok replies.NotListed) hand given = nobody given.1
 none_kept (asks.Admit prepared ticket) (Ok replies.NotWaiting) hand given = nobody given.1
+none_kept (asks.Admit prepared ticket) (Ok replies.Departed) hand given = nobody given.1
 none_kept (asks.Admit prepared ticket) (Err refusal) hand given = nobody given.1
 none_kept (asks.Regrade number params) answer hand given = tt
 none_kept (asks.Wake number) answer hand given = tt
@@ -131,6 +136,7 @@ granted_asks gate d cpus bw b t (Ok replies.Full) hand taken v given = absurd v
 granted_asks gate d cpus bw b t (Ok replies.Twice) hand taken v given = absurd v
 granted_asks gate d cpus bw b t (Ok replies.NotListed) hand taken v given = absurd v
 granted_asks gate d cpus bw b t (Ok replies.NotWaiting) hand taken v given = absurd v
+granted_asks gate d cpus bw b t (Ok replies.Departed) hand taken v given = absurd v
 granted_asks gate d cpus bw b t (Err refusals.Full) None taken v given = nobody given.1
 granted_asks gate d cpus bw b t (Err refusals.Full) (Some back) taken v given = given_back b d bw t (Some back) taken given
 granted_asks gate d cpus bw b t (Err refusals.Twice) hand taken v given = given_back b d bw t hand taken given
@@ -138,6 +144,9 @@ granted_asks gate d cpus bw b t (Err refusals.Enomem) hand taken v given = absur
 granted_asks gate d cpus bw b t (Err (refusals.Busy seen)) hand taken v given = absurd v
 granted_asks gate d cpus bw b t (Err refusals.Eperm) hand taken v given = absurd v
 granted_asks gate d cpus bw b t (Err (refusals.Einval k)) hand taken v given = absurd v
+granted_asks gate d cpus bw b t (Err refusals.Esrch) hand taken v given = absurd v
+granted_asks gate d cpus bw b t (Err (refusals.Stale p)) hand taken v given = absurd v
+granted_asks gate d cpus bw b t (Err refusals.SameDomain) hand taken v given = absurd v
 
 -- a new piece is that of a client that has none
 new_asks : (gate : GateId) (d bw : ℕ) (answer : Answer) (next : Option BlankView) → AsksGate gate d bw (Some (piece_of gate None)) answer next → AsksGate gate d bw None answer next
@@ -152,6 +161,7 @@ new_asks gate d bw (Ok replies.Full) next h = h
 new_asks gate d bw (Ok replies.Twice) next h = h
 new_asks gate d bw (Ok replies.NotListed) next h = h
 new_asks gate d bw (Ok replies.NotWaiting) next h = h
+new_asks gate d bw (Ok replies.Departed) next h = h
 new_asks gate d bw (Err refusals.Full) None h = refl
 new_asks gate d bw (Err refusals.Full) (Some back) h = h
 new_asks gate d bw (Err refusals.Twice) next h = h
@@ -159,6 +169,9 @@ new_asks gate d bw (Err refusals.Enomem) next h = h
 new_asks gate d bw (Err (refusals.Busy seen)) next h = h
 new_asks gate d bw (Err refusals.Eperm) next h = h
 new_asks gate d bw (Err (refusals.Einval k)) next h = h
+new_asks gate d bw (Err refusals.Esrch) next h = h
+new_asks gate d bw (Err (refusals.Stale p)) next h = h
+new_asks gate d bw (Err refusals.SameDomain) next h = h
 
 -- an admission with the piece that was found for it
 pub found_asks : (gate : GateId) (d bw : ℕ) (hand : Option BlankView) (b : BlankView) (answer : Answer) (next : Option BlankView)
@@ -234,7 +247,7 @@ makes_at c c' ps d x q call answer old new number inside client becomes = record
 }
 
 -- a call that was refused left nothing
-made_nothing : (c c' : ClientView) (d : ℕ) (call : Call) (r : Refusal) → Makes c c' (made_by d call (Err r)) → Makes c c' (λ e. [])
+pub made_nothing : (c c' : ClientView) (d : ℕ) (call : Call) (r : Refusal) → Makes c c' (made_by d call (Err r)) → Makes c c' (λ e. [])
 made_nothing c c' d call r m = record {
   number = m.number;
   domains = m.domains;
@@ -269,11 +282,15 @@ advanced_for d c e p q n (Ok replies.Twice) m done = absurd done
 advanced_for d c e p q n (Ok (replies.Busy seen)) m done = absurd done
 advanced_for d c e p q n (Ok replies.NotListed) m done = absurd done
 advanced_for d c e p q n (Ok replies.NotWaiting) m done = absurd done
+advanced_for d c e p q n (Ok replies.Departed) m done = absurd done
 advanced_for d c e p q n (Err refusals.Full) m done = (made_nothing c e d (calls.Wake 0) refusals.Full (m (calls.Wake 0) (Err refusals.Full) done), tt)
 advanced_for d c e p q n (Err refusals.Enomem) m done = (made_nothing c e d (calls.Wake 0) refusals.Full (m (calls.Wake 0) (Err refusals.Full) done), tt)
 advanced_for d c e p q n (Err refusals.Eperm) m done = absurd done
 advanced_for d c e p q n (Err refusals.Twice) m done = absurd done
 advanced_for d c e p q n (Err (refusals.Einval k)) m done = absurd done
+advanced_for d c e p q n (Err refusals.Esrch) m done = absurd done
+advanced_for d c e p q n (Err (refusals.Stale now)) m done = absurd done
+advanced_for d c e p q n (Err refusals.SameDomain) m done = absurd done
 advanced_for d c e p q n (Err (refusals.Busy seen)) m done = absurd done
 
 -- ---- a change of the limit
@@ -330,6 +347,9 @@ hand_after id t d hand (Err refusals.Enomem) next g v h = (d, g, h)
 hand_after id t d hand (Err (refusals.Busy seen)) next g v h = (d, g, h)
 hand_after id t d hand (Err refusals.Eperm) next g v h = absurd v
 hand_after id t d hand (Err (refusals.Einval k)) next g v h = absurd v
+hand_after id t d hand (Err refusals.Esrch) next g v h = absurd v
+hand_after id t d hand (Err (refusals.Stale p)) next g v h = absurd v
+hand_after id t d hand (Err refusals.SameDomain) next g v h = absurd v
 
 -- the answer to a task that goes to a domain
 pub asks_one : (id : SessionId) (c c' : ClientView) (t : TaskSpecView) (d : ℕ) (answer : Answer) → Goes id t d

@@ -6,3 +6,4 @@ pub mod Advanced
 pub mod CallerLemmas
 pub mod Replied
 pub mod Passes
+pub mod Moved

@@ -16,7 +16,7 @@ use Rattle.session.specs.Asks.{Answer}
 use Rattle.session.specs.private.Entering.{pass_after, IsPassAt, IsClientOf, IsDone}
 
 -- a call changes neither whose pass it is nor of which book
-kept : (p q : PassView Entry) (call : Call) (answer : Answer) → q ≡ pass_after p call answer → (q.spine ≡ p.spine) × (q.client ≡ p.client)
+pub kept : (p q : PassView Entry) (call : Call) (answer : Answer) → q ≡ pass_after p call answer → (q.spine ≡ p.spine) × (q.client ≡ p.client)
 kept p q call (Ok reply) is = (ap (λ (r : PassView Entry). r.spine) is, ap (λ (r : PassView Entry). r.client) is)
 kept p q call (Err refusal) is = (ap (λ (r : PassView Entry). r.spine) is, ap (λ (r : PassView Entry). r.client) is)
 

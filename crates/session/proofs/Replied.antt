@@ -104,6 +104,7 @@ none_asked gate d bw None replies.Twice other none is differ = tt
 none_asked gate d bw None (replies.Busy seen) other none is differ = tt
 none_asked gate d bw None replies.NotListed other none is differ = tt
 none_asked gate d bw None replies.NotWaiting other none is differ = tt
+none_asked gate d bw None replies.Departed other none is differ = tt
 
 granted : (gate : GateId) (d bw : ℕ) (word : Option ℕ) (reply : Reply) → reply ≡ word_reply word → AsksWord gate d bw word → IsByWord gate d bw word reply
 granted gate d bw None reply is asks = subst (IsByWord gate d bw None) (sym is) asks

@@ -63,7 +63,8 @@ abbrev pub IsOver : SessionId → TaskSpecView → ℕ → ℕ → Type 0
 IsOver id t d seen = IsOverCap (length (cpus_of id d)) (params_of t.attr).bw seen
 
 -- what an admission may be answered: EINVAL and EPERM exactly where the task is not to be admitted
--- anywhere, and else any of the others, EBUSY only with a lawful number
+-- anywhere, and else any of the others, EBUSY only with a lawful number; never what a move alone is
+-- answered
 abbrev pub IsLawful : SessionId → TaskSpecView → Answer → Type 0
 IsLawful id t (Err (refusals.Einval kind)) = accepted t.attr ≡ Err kind
 IsLawful id t (Err refusals.Eperm) =
@@ -72,6 +73,7 @@ IsLawful id t (Err refusals.Full) = (d : ℕ) × Goes id t d
 IsLawful id t (Err refusals.Twice) = (d : ℕ) × Goes id t d
 IsLawful id t (Err refusals.Enomem) = (d : ℕ) × Goes id t d
 IsLawful id t (Err (refusals.Busy seen)) = (d : ℕ) × Goes id t d × IsOver id t d seen
+IsLawful id t (Err _) = ⊥
 IsLawful id t (Ok replies.Admitted) = (d : ℕ) × Goes id t d
 IsLawful id t (Ok (replies.Busy seen)) = (d : ℕ) × Goes id t d × IsOver id t d seen
 IsLawful id t (Ok _) = ⊥

@@ -2,6 +2,7 @@ pub mod SessionId
 pub mod Options
 pub mod RefusalText
 pub mod Asks
+pub mod Moves
 pub mod Clients
 pub mod Admissions
 pub mod Report

@@ -1,4 +1,5 @@
 pub mod Entering
+pub mod Moving
 pub mod Parts
 pub mod Admitting
 pub mod Closing

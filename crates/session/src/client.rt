@@ -37,8 +37,8 @@ use std::thread::Threads;
 #[derive(Drop)]
 pub struct Client<N: Names> {
     number: u32,
-    passes: Vec<Pass>,
-    hand: Option<Blank>,
+    pub(crate) passes: Vec<Pass>,
+    pub(crate) hand: Option<Blank>,
     of: PhantomData<N>,
 }
 
@@ -223,9 +223,14 @@ impl<N: Names> Client<N> {
         at_place!(shared.books, place, book => self.enter_book(rt, book, gate, ask))
     }
 
-    /// A piece for an admission to a domain, or a change of its limit: the one in the client's hand,
-    /// or else one of the pool, or else one that the domain keeps.
-    fn find_blank<R: Wait>(&mut self, rt: &R, shared: &Shared<N>, place: usize) -> Option<Blank>
+    /// A piece for an admission to a domain, a change of its limit, or a task that moves there: the
+    /// one in the client's hand, or else one of the pool, or else one that the domain keeps.
+    pub(crate) fn find_blank<R: Wait>(
+        &mut self,
+        rt: &R,
+        shared: &Shared<N>,
+        place: usize,
+    ) -> Option<Blank>
         requires place { IsDomainIndex N.id place }
         ensures same { self.new ≡ record self.old { hand = None } }
         ensures own { IfSome result (λ b. b.gate ≡ N.id.gate) }

@@ -8,13 +8,19 @@ ghost use Rattle.call_book.specs.Limits.{IsCall};
 ghost use Rattle.call_book.specs.Pieces.{IsTicketOf};
 ghost use Rattle.session.specs.SessionId.{IsSession, spine_of};
 ghost use Rattle.session.specs.private.Entering.{IsSessionBook, SameBook, IsAsk, IsGivenBack, NoneIsKept, IsDone, IsOffered, IsReplied, IsRegradedBy, limit_answer, limit_back, IsLimitedBy, IsAdvancedBy, IsWhyNotAdmitted, IsWhyNotMade, IsWhyNot};
+ghost use Rattle.call_book.specs.MoveAnswers.{moving_as};
+ghost use Rattle.session.specs.Moves.{WasListed};
+ghost use Rattle.session.specs.private.Moving.{IsPassPair, IsMoveAsk, IsBooksAnswer, IsUnpreparedAt, IsWhyNotMoved};
 
 use crate::names::Names;
 use crate::refusal::{Answer, Refusal};
 use attr_check::Params;
 use bw_gate::{Blank, Gate, Ticket};
-use call_book::{Admit, AdvanceError, Domain, Full, Limit, Pass, Prepared};
+use call_book::{
+    Admit, AdvanceError, Domain, Full, Limit, Move, MoveFault, Pass, Prepared, move_task,
+};
 use domain_run::Reply;
+use std::alloc::Global;
 use std::marker::PhantomData;
 use std::sync::Wait;
 use std::thread::Threads;
@@ -182,6 +188,59 @@ fn set_limit<R: Wait>(
     outcome_of_limit(domain.limit(rt, pass, gate, blank, limit))
 }
 
+/// Moves a task between the books of two domains, and gives the ticket that comes out of it back to
+/// the gate: the old one where the task has moved, and else the new one.
+fn move_listed<N: Names, const D: usize, const E: usize>(
+    from: &mut Domain,
+    from_pass: &mut Pass,
+    to: &mut Domain,
+    to_pass: &mut Pass,
+    gate: &Gate,
+    prepared: Prepared,
+    ticket: Ticket,
+) -> (Result<(), Refusal>, Blank)
+    requires gate { gate.now ≡ N.id.gate }
+    requires from { IsSessionBook N.id D from.old }
+    requires to { IsSessionBook N.id E to.old }
+    requires passes { IsPassPair N.id D E
+        (record { out = from_pass.old; into = to_pass.old }) }
+    requires ask { IsMoveAsk N.id E prepared ticket }
+    ensures from { IsSessionBook N.id D from.new }
+    ensures to { IsSessionBook N.id E to.new }
+    ensures answered { IsBooksAnswer N.id D E
+        (record { out = from_pass.old; into = to_pass.old })
+        (record { out = from_pass.new; into = to_pass.new })
+        prepared ticket result.1 result.0 }
+    ensures told { IsWhyNotMoved from.old to.old prepared result.0 }
+    ensures own { result.1.gate ≡ N.id.gate }
+{
+    match move_task(from, from_pass, to, to_pass, prepared, ticket) {
+        Move::Moved { ticket } => (Ok(()), gate.give(ticket)),
+        Move::Full {
+            ticket,
+            prepared: _,
+        } => (Err(Refusal::Full), gate.give(ticket)),
+        Move::NotListed {
+            ticket,
+            prepared: _,
+        } => (Err(Refusal::Esrch), gate.give(ticket)),
+        Move::Stale {
+            now,
+            ticket,
+            prepared: _,
+        } => (Err(Refusal::Stale { now }), gate.give(ticket)),
+        Move::Twice {
+            ticket,
+            prepared: _,
+        } => (Err(Refusal::Twice), gate.give(ticket)),
+        Move::Busy {
+            seen,
+            ticket,
+            prepared: _,
+        } => (Err(Refusal::Busy { seen }), gate.give(ticket)),
+    }
+}
+
 impl<N: Names, const D: usize> LockedBook<N, D> {
     pub(crate) fn new(domain: Domain) -> LockedBook<N, D>
         requires { IsSessionBook N.id D domain }
@@ -248,6 +307,43 @@ impl<N: Names, const D: usize> LockedBook<N, D> {
             Err(AdvanceError::Full) => Err(Refusal::Full),
             Err(AdvanceError::Memory) => Err(Refusal::Enomem),
         }
+    }
+
+    /// What a task takes along to another domain.
+    pub(crate) fn prepare_move(&self, alloc: Global, number: u32) -> Result<Prepared, MoveFault>
+        requires call { IsCall (calls.Depart number) }
+        ensures number { IfOk result (λ a. a.number ≡ number) }
+        ensures soon { IfOk result (λ a. a.delay ≡ 0) }
+        ensures listed { IfOk result (λ a. WasListed N.id D number (moving_as a)) }
+        ensures fault { IfErr result (IsUnpreparedAt N.id D number) }
+    {
+        self.domain.prepare_move(alloc, number)
+    }
+
+    /// Moves a task to another domain with a client's passes of both. A refusal is told of both books
+    /// as they were.
+    pub(crate) fn move_to<const E: usize>(
+        &mut self,
+        to: &mut LockedBook<N, E>,
+        gate: &Gate,
+        from_pass: &mut Pass,
+        to_pass: &mut Pass,
+        prepared: Prepared,
+        ticket: Ticket,
+    ) -> (Result<(), Refusal>, Blank)
+        requires gate { gate.now ≡ N.id.gate }
+        requires passes { IsPassPair N.id D E
+            (record { out = from_pass.old; into = to_pass.old }) }
+        requires ask { IsMoveAsk N.id E prepared ticket }
+        ensures answered { IsBooksAnswer N.id D E
+            (record { out = from_pass.old; into = to_pass.old })
+            (record { out = from_pass.new; into = to_pass.new })
+            prepared ticket result.1 result.0 }
+        ensures told { IsWhyNotMoved self.old.domain to.old.domain prepared result.0 }
+        ensures own { result.1.gate ≡ N.id.gate }
+    {
+        let (from, to) = (&mut self.domain, &mut to.domain);
+        move_listed::<N, D, E>(from, from_pass, to, to_pass, gate, prepared, ticket)
     }
 
     /// Hands out a blank that the domain keeps, where there is one.

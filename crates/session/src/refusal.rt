@@ -1,9 +1,10 @@
-use attr_check::AttrRefusal;
+use attr_check::{AttrRefusal, Params};
 use domain_run::Reply;
 use std::fmt;
 
 /// Why a call of a client stands in no book, or an admission was answered EBUSY there. The client
-/// holds no ticket then.
+/// holds no ticket then. [`Refusal::Esrch`], [`Refusal::Stale`] and [`Refusal::SameDomain`] are
+/// answers to a move alone.
 #[derive(Clone, Copy, Debug, PartialEq, Eq)]
 pub enum Refusal {
     /// EINVAL 22: the task's attributes are not accepted (sched_setattr(2)).
@@ -22,6 +23,16 @@ pub enum Refusal {
         /// The bandwidth found in use, in 1/2^20 of a CPU: of the gate's word, what was used of it.
         seen: u64,
     },
+    /// ESRCH 3: no task of this number is listed where it was to go from, or it has ended
+    /// (sched_setattr(2)).
+    Esrch,
+    /// 43: the task was changed since its move was prepared.
+    Stale {
+        /// The parameters that it had then.
+        now: Params,
+    },
+    /// 44: a task was to move from a domain to this domain itself.
+    SameDomain,
 }
 
 /// What a client's call is answered: the reply that stands in the domain's book and in the client's
@@ -42,6 +53,9 @@ impl fmt::Display for Refusal {
             Refusal::Twice => write!(f, "Twice 41"),
             Refusal::Enomem => write!(f, "ENOMEM 12"),
             Refusal::Busy { seen } => write!(f, "EBUSY 16 seen {seen}"),
+            Refusal::Esrch => write!(f, "ESRCH 3"),
+            Refusal::Stale { .. } => write!(f, "Stale 43"),
+            Refusal::SameDomain => write!(f, "SameDomain 44"),
         }
     }
 }

@@ -2,6 +2,7 @@
 
 mod changing;
 mod clients;
+mod moving;
 mod opening;
 mod storm;
 mod turns;

@@ -146,6 +146,59 @@ fn limit_steps(rt: HostRuntime) -> Result<(), Fail> {
     Ok(())
 }
 
+// A world of two domains of half a CPU each.
+fn opened_two(alloc: Global) -> Result<World, NoMemory> {
+    match World::open(alloc, &[524288, 524288]) {
+        Ok(world) => Ok(world),
+        Err(NoMemory) => World::open(alloc, &[524288, 524288]),
+    }
+}
+
+fn take_there(ticket: u64, bw: u64, used: u64) -> Step {
+    Step::Take {
+        ticket,
+        domain: 1,
+        bw,
+        expected: half(used),
+    }
+}
+
+fn moved(new: u64) -> Step {
+    Step::Move {
+        old: 1,
+        new,
+        number: 7,
+    }
+}
+
+// A task goes to the second domain by a ticket of its bandwidth there, and by none of the first
+// domain or of another bandwidth. Its old ticket is in hand then, and both words stay until it is
+// given back.
+#[test]
+fn move_steps(rt: HostRuntime) -> Result<(), Fail> {
+    let mut world = opened_two(rt.alloc())?;
+    let steps = [
+        (take(1, 131072, 0), Outcome::Done),
+        (enter(1, 7), Outcome::Done),
+        (take(2, 131072, 131072), Outcome::Done),
+        (take_there(3, 65536, 0), Outcome::Done),
+        (take_there(4, 131072, 65536), Outcome::Done),
+        (moved(2), Outcome::Not),
+        (moved(3), Outcome::Not),
+        (moved(4), Outcome::Done),
+        (moved(4), Outcome::Not),
+        (Step::Load { domain: 0 }, Outcome::Saw(half(262144))),
+        (Step::Give { ticket: 4 }, Outcome::Not),
+        (Step::Give { ticket: 1 }, Outcome::Done),
+        (Step::Load { domain: 0 }, Outcome::Saw(half(131072))),
+        (Step::Load { domain: 1 }, Outcome::Saw(half(196608))),
+    ];
+    for (step, outcome) in steps {
+        assert_answer(&rt, &mut world, step, outcome);
+    }
+    Ok(())
+}
+
 #[test]
 fn no_memory_prints(rt: HostRuntime) -> Result<(), Fail> {
     let text = format!(in rt.alloc(); "{}", NoMemory)?;

@@ -11,13 +11,14 @@ use Rattle.domain_run.specs.declared.script.Event.{Event}
 use Rattle.domain_run.specs.declared.script.Event.TheVariants.{Run, Sleep, Timer, Wait}
 use Rattle.domain_run.specs.script.ScriptView.{PhaseView, ScriptView, script_of}
 use Rattle.domain_run.specs.declared.call.Call.{Call}
-use Rattle.domain_run.specs.declared.call.Call.TheVariants.{Admit, Regrade, Wake, Leave, Advance, Limit}
+use Rattle.domain_run.specs.declared.call.Call.TheVariants.{Admit, Regrade, Wake, Leave, Advance, Limit, Depart, Arrive}
 use Rattle.call_book.specs.declared.fault.PartFault.{PartFault}
 use Rattle.call_book.specs.declared.fault.PartFault.TheVariants.{Bad, Memory}
 use Rattle.call_book.specs.declared.times.Times.{Times}
+use Rattle.call_book.specs.declared.line_text.Newcomer.{Newcomer}
 use Rattle.call_book.specs.declared.section.Entry.{Entry}
 use Rattle.call_book.specs.SectionView.{SectionView}
-use Rattle.call_book.specs.Spelling.{entry_line, domain_line, section_lines, is_limit, some_limit, has_limit, text_of}
+use Rattle.call_book.specs.Spelling.{entry_line, domain_line, section_lines, is_later, some_later, has_later, text_of}
 use Rattle.call_book.specs.OwnCalls.{IsNumbered, made_by}
 use Rattle.call_book.specs.Limits.{IsClient, IsEntry}
 
@@ -184,9 +185,9 @@ plan_at text = do
   script ← script_at delay.1
   Some (delay.0, script)
 
--- what follows the client in an admission
-unfoldable pub admit_at : List ℕ → Option Call
-admit_at text = do
+-- a task that comes: its number, its name and its parameters, and what follows
+unfoldable pub newcomer_at : List ℕ → Option (Newcomer × List ℕ)
+newcomer_at text = do
   number ← field_at 1 65535 text
   name ← cut_at 32 number.1
   named ← name_at name.0
@@ -194,8 +195,21 @@ admit_at text = do
   flag ← cut_at 32 times.1
   reclaim ← flag_at flag.0
   params ← params_at times.0 reclaim
-  plan ← plan_at flag.1
-  Some (Admit number.0 named params plan.0 plan.1)
+  Some (record { number = number.0; name = named; params = params }, flag.1)
+
+-- what follows the client in an admission
+unfoldable pub admit_at : List ℕ → Option Call
+admit_at text = do
+  new ← newcomer_at text
+  plan ← plan_at new.1
+  Some (Admit new.0.number new.0.name new.0.params plan.0 plan.1)
+
+-- what follows the client in an arrival
+unfoldable pub arrive_at : List ℕ → Option Call
+arrive_at text = do
+  new ← newcomer_at text
+  script ← script_at new.1
+  Some (Arrive new.0.number new.0.name new.0.params script)
 
 -- behind the flag of a regrade and the limit of a change that the bandwidth word refused: the
 -- number with which it did
@@ -256,7 +270,9 @@ worded_at word text =
     else (if bytes_eq word (codes "wake") then numbered_at 65535 Wake text
     else (if bytes_eq word (codes "leave") then numbered_at 65535 Leave text
     else (if bytes_eq word (codes "advance") then numbered_at 60000000 Advance text
-    else (if bytes_eq word (codes "limit") then limit_at text else None)))))
+    else (if bytes_eq word (codes "limit") then limit_at text
+    else (if bytes_eq word (codes "depart") then numbered_at 65535 Depart text
+    else (if bytes_eq word (codes "arrive") then arrive_at text else None)))))))
 
 unfoldable pub call_at : List ℕ → Option (ℕ × Call)
 call_at line = do
@@ -265,13 +281,13 @@ call_at line = do
   call ← worded_at word.0 client.1
   Some (client.0, call)
 
--- behind a header that has changes of a limit or has none
+-- behind a header that has calls of the second form or has none
 unfoldable pub known_at : Bool → List ℕ → Option (ℕ × Call)
-known_at limits line = do
+known_at later line = do
   p ← call_at line
-  if is_limit p.1 && not limits then None else Some p
+  if is_later p.1 && not later then None else Some p
 
--- whether the limit of a domain changes in a text with this header
+-- whether a text with this header has calls of the second form
 unfoldable pub header_at : List ℕ → Option Bool
 header_at line =
     if bytes_eq line (codes "dlcalls 1") then Some false
@@ -287,9 +303,9 @@ domain_at line = do
 
 -- ---- the entries of a section
 
--- behind a header that has no changes of a limit there is none
+-- behind a header that has no calls of the second form there is none
 abbrev pub Knows : Bool → Bool → Type 0
-Knows limits has = limits ≡ false → has ≡ false
+Knows later has = later ≡ false → has ≡ false
 
 pub record IsEntryRead (e : Entry) : Type 0 where
   pub within : IsEntry e
@@ -299,9 +315,9 @@ abbrev pub entries_text : List Entry → List ℕ
 entries_text entries = text_of (map entry_line entries)
 
 -- the text is that of these entries, and then the rest
-pub record SoFar (limits : Bool) (text rest : List ℕ) (entries : List Entry) : Type 0 where
+pub record SoFar (later : Bool) (text rest : List ℕ) (entries : List Entry) : Type 0 where
   pub parts : text ≡ entries_text entries ++ rest
-  pub known : Knows limits (some_limit entries)
+  pub known : Knows later (some_later entries)
   pub each : AllByRecursion IsEntryRead entries
   pub numbered : IsNumbered entries
 
@@ -311,23 +327,23 @@ Counts made entries =
     (client : ℕ) → IsClient client → slice_index made (client - 1) ≡ made_by client entries
 
 -- the entry of a line, where a client made so many calls before
-pub record IsNext (limits : Bool) (line : List ℕ) (made : List ℕ) (e : Entry) : Type 0 where
-  pub call : known_at limits line ≡ Some (e.client, e.call)
+pub record IsNext (later : Bool) (line : List ℕ) (made : List ℕ) (e : Entry) : Type 0 where
+  pub call : known_at later line ≡ Some (e.client, e.call)
   pub client : IsClient e.client
   pub no_reply : e.reply ≡ None
   pub seq : e.seq ≡ slice_index made (e.client - 1)
 
 -- the text does not begin with the line of an entry
 abbrev pub LacksEntry : Bool → List ℕ → Type 0
-LacksEntry limits text =
-    (e : Entry) (after : List ℕ) → IsEntryRead e → Knows limits (is_limit e.call)
+LacksEntry later text =
+    (e : Entry) (after : List ℕ) → IsEntryRead e → Knows later (is_later e.call)
     → text ≡ entry_line e ++ 10 ∷ after → ⊥
 
 -- the entries at the front of a text: as many as stand there, and as a section may have
-pub record AreEntries (limits : Bool) (text rest : List ℕ) (entries : List Entry) : Type 0 where
-  pub so_far : SoFar limits text rest entries
+pub record AreEntries (later : Bool) (text rest : List ℕ) (entries : List Entry) : Type 0 where
+  pub so_far : SoFar later text rest entries
   pub few : length entries ≤ 65536
-  pub stops : length entries < 65536 → LacksEntry limits rest
+  pub stops : length entries < 65536 → LacksEntry later rest
 
 -- ---- the sections of a text, from line 2 on
 
@@ -341,11 +357,11 @@ pub record IsSectionRead (s : SectionView) : Type 0 where
   pub numbered : IsNumbered s.entries
 
 -- the section at the front of a text, with as many entries as stand there, and as it may have
-pub record IsFirstSection (limits : Bool) (text rest : List ℕ) (s : SectionView) : Type 0 where
+pub record IsFirstSection (later : Bool) (text rest : List ℕ) (s : SectionView) : Type 0 where
   pub parts : text ≡ text_of (section_lines s) ++ rest
   pub is : IsSectionRead s
-  pub known : Knows limits (some_limit s.entries)
-  pub stops : length s.entries < 65536 → LacksEntry limits rest
+  pub known : Knows later (some_later s.entries)
+  pub stops : length s.entries < 65536 → LacksEntry later rest
 
 -- the text does not begin with the line of a domain
 abbrev pub LacksDomain : List ℕ → Type 0
@@ -366,24 +382,24 @@ HasRoom (s ∷ []) = length s.entries < 65536
 HasRoom (s ∷ t ∷ sections) = HasRoom (t ∷ sections)
 
 -- the text is that of these sections, and then the rest, which does not go on with the last of them
-pub record SectionsSoFar (limits : Bool) (text rest : List ℕ) (sections : List SectionView)
+pub record SectionsSoFar (later : Bool) (text rest : List ℕ) (sections : List SectionView)
     : Type 0 where
   pub parts : text ≡ sections_text sections ++ rest
   pub each : AllByRecursion IsSectionRead sections
-  pub known : Knows limits (has_limit sections)
-  pub stops : HasRoom sections → LacksEntry limits rest
+  pub known : Knows later (has_later sections)
+  pub stops : HasRoom sections → LacksEntry later rest
 
 -- the sections at the front of a text: as many as stand there, and as a text may have
-pub record AreSectionsOf (limits : Bool) (text rest : List ℕ) (sections : List SectionView)
+pub record AreSectionsOf (later : Bool) (text rest : List ℕ) (sections : List SectionView)
     : Type 0 where
-  pub so_far : SectionsSoFar limits text rest sections
+  pub so_far : SectionsSoFar later text rest sections
   pub most : length sections ≤ 8
   pub ends : length sections < 8 → LacksDomain rest
 
 -- they are all of the text, and what its header says of them
 abbrev pub is_whole : Bool → List ℕ → List SectionView → Bool
-is_whole limits rest sections =
-    length rest == 0 && not (length sections == 0) && (not limits || has_limit sections)
+is_whole later rest sections =
+    length rest == 0 && not (length sections == 0) && (not later || has_later sections)
 
 -- ---- the first bad line of a text that is not of sections alone
 
@@ -397,11 +413,11 @@ last_full (s ∷ t ∷ sections) = last_full (t ∷ sections)
 abbrev pub is_full : List SectionView → Bool
 is_full sections = length sections == 8 && last_full sections
 
--- the header has changes of a limit, these sections have none, and none can follow
+-- the header has calls of the second form, these sections have none, and none can follow
 abbrev pub is_stuck : Bool → List SectionView → Bool
-is_stuck limits sections = limits && not (has_limit sections) && is_full sections
+is_stuck later sections = later && not (has_later sections) && is_full sections
 
 -- then the last of their lines is bad, and else the one behind it; the header is line 1
 abbrev pub bad_place : Bool → List SectionView → ℕ
-bad_place limits sections =
-    length (flat_map section_lines sections) + (if is_stuck limits sections then 1 else 2)
+bad_place later sections =
+    length (flat_map section_lines sections) + (if is_stuck later sections then 1 else 2)

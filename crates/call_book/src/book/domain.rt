@@ -11,6 +11,8 @@ ghost use Rattle.domain_run.specs.Keys.{AreKept};
 ghost use Rattle.call_book.specs.Pieces.{HoldsTickets};
 ghost use Rattle.call_book.specs.private.Kept.{IsAsked, IsLimitAsked};
 
+mod moving;
+
 use crate::book::Pass;
 use crate::book::ledger::Ledger;
 use crate::book::prepared::{Listing, Prepared};
@@ -20,6 +22,7 @@ use attr_check::Params;
 use bw_gate::{Blank, Gate, Ticket, used_of};
 use domain_run::{Call, NoMemory, Reply, State};
 use jump_run::Silent;
+pub use moving::{Move, MoveFault, move_task};
 use std::alloc::Global;
 use std::error::Error;
 use std::fmt;

@@ -1,10 +1,14 @@
 //! An admission that is ready to be made, for which no memory is needed any more.
 
-ghost use Rattle.std.specs.Prelude.{◌≡◌, ◌≤◌, ◌^◌, IfOk};
-ghost use Rattle.call_book.specs.Limits.{IsAdmission};
+ghost use Rattle.std.specs.Prelude.{◌≡◌, ◌↔◌, ◌≤◌, ◌^◌, IsTrue, IfOk};
+ghost use Rattle.domain_run.specs.Calls as rules;
+ghost use Rattle.domain_run.specs.declared.call.Reply.TheVariants.{Admitted};
+ghost use Rattle.call_book.specs.Limits.{IsNumber, IsAdmission, IsCall};
+ghost use Rattle.call_book.specs.MoveAnswers.{moving_as, arrival};
 ghost use Rattle.call_book.specs.Book.{AdmissionView};
 ghost use Rattle.call_book.specs.private.Listing.{IsListing};
 
+use crate::book::same::{same_name, same_params, same_script};
 use attr_check::Params;
 use domain_run::{Call, Name, NoMemory, Phase, Refused, Reply, Script, State};
 use std::alloc::Global;
@@ -127,6 +131,66 @@ impl Prepared {
         ensures most { result ≤ 2 ^ 20 }
     {
         self.params.bw
+    }
+
+    /// The number of the task, 1 to 65535.
+    pub(crate) fn number(&self) -> u32
+        ensures number { result ≡ self.now.number }
+        ensures within { IsNumber result }
+    {
+        self.number
+    }
+
+    /// Its parameters.
+    pub(crate) fn params(&self) -> &Params
+        ensures { result.now ≡ self.now.params }
+    {
+        &self.params
+    }
+
+    /// Whether a task has this name, these parameters and this script.
+    pub(crate) fn is_of(&self, name: &Name, params: &Params, script: &Script) -> bool
+        ensures { IsTrue result ↔ (record {
+          name = name.now;
+          params = params.now;
+          script = script.now;
+        } ≡ moving_as self.now) }
+    {
+        same_name(name, &self.name)
+            && same_params(params, &self.params)
+            && same_script(script, &self.script)
+    }
+
+    /// Lists a task that comes from another domain, which has room for it: its number, and the call
+    /// as it stands in a history.
+    pub(crate) fn arrive(self, state: &mut State) -> (u32, Call)
+        requires soon { self.delay ≡ 0 }
+        requires granted { rules.reply_to state.old (arrival self) ≡ Admitted }
+        ensures state { state.new ≡ rules.after_call state.old (arrival self) }
+        ensures number { result.0 ≡ self.number }
+        ensures call { result.1 ≡ arrival self }
+        ensures spelled { IsCall result.1 }
+    {
+        let Prepared {
+            number,
+            params,
+            delay,
+            name,
+            script,
+            entry_name,
+            entry_script,
+        } = self;
+        match state.admit(number, name, params, delay, script) {
+            Ok(()) => {}
+            Err(_) => unreachable!(),
+        }
+        let call = Call::Arrive {
+            number,
+            name: entry_name,
+            params,
+            script: entry_script,
+        };
+        (number, call)
     }
 
     /// Makes the admission.

@@ -1,11 +1,12 @@
 //! The pieces of the gate in a book: a ticket for each listed task, and the blanks of tasks that
 //! have gone.
 
-ghost use Rattle.std.specs.Prelude.{◌≡◌, ◌<◌, ◌≤◌, ◌+◌, ◌*◌, ◌^◌, ◌++◌, ◌∷◌, [], ℕ, length, map, filter, true, All, IfOk, IfSome, IfNone, List, vec_len, vec_capacity, slice_index_or};
+ghost use Rattle.std.specs.Prelude.{◌≡◌, ◌<◌, ◌≤◌, ◌+◌, ◌*◌, ◌^◌, ◌++◌, ◌∷◌, [], length, map, filter, true, All, IfOk, IfSome, IfNone, List, vec_len, vec_capacity, slice_index_or};
 ghost use Rattle.std.specs.List.{list_any};
 ghost use Rattle.std.specs.Option.{option_to_list};
 ghost use Rattle.bw_gate.specs.Pieces.{BlankView, cpus_of};
 ghost use Rattle.call_book.specs.Pieces.{IsTicketOf, IsAnswered, AsksTheWord, ArePieces, HoldsTickets, is_held, is_kept, is_gone, AreGiven};
+ghost use Rattle.call_book.specs.MoveAnswers.{IsTakenOut};
 ghost use Rattle.call_book.specs.declared.book.stock.Held.{Held};
 
 use bw_gate::{Blank, Gate, Mark, Regrade, Ticket, used_of};
@@ -102,6 +103,26 @@ impl Stock {
         self.blanks.pop()
     }
 
+    /// Keeps a blank.
+    pub(crate) fn keep(&mut self, blank: Blank)
+        requires own { blank.gate ≡ self.old.gate }
+        requires room { length self.old.tickets + length self.old.blanks < 256 }
+        ensures { self.new ≡ record self.old { blanks = self.old.blanks ++ blank ∷ [] } }
+    {
+        self.blanks.push_reserved(blank);
+    }
+
+    /// Hands out the ticket of a task, which goes from here.
+    pub(crate) fn release(&mut self, number: u32) -> Ticket
+        requires held { list_any (is_held number) self.old.tickets ≡ true }
+        ensures stock { self.new ≡ record self.old { tickets = self.new.tickets } }
+        ensures taken { IsTakenOut number self.old.tickets self.new.tickets result }
+        ensures own { IsTicketOf self.old.gate self.old.domain result }
+        ensures fewer { length self.new.tickets + length self.new.blanks < 256 }
+    {
+        take_out(&mut self.held, number)
+    }
+
     /// The ticket of a task asks the gate for another bandwidth: what is used of the word with which
     /// it refused, where it did.
     pub(crate) fn regrade<R: Wait>(
@@ -170,6 +191,17 @@ fn place_of(held: &[Held], number: u32) -> usize
         }
     }
     unreachable!()
+}
+
+fn take_out(held: &mut Vec<Held>, number: u32) -> Ticket
+    requires { list_any (is_held number) held.old.items ≡ true }
+    ensures taken { IsTakenOut number held.old.items held.new.items result }
+    ensures fewer { length held.old.items ≡ length held.new.items + 1 }
+    ensures capacity { vec_capacity held.new ≡ vec_capacity held.old }
+{
+    let place = place_of(held, number);
+    let Held { number: _, ticket } = held.remove(place);
+    ticket
 }
 
 fn ask<R: Wait>(rt: &R, gate: &Gate, ticket: Ticket, bw: u64) -> (Ticket, Option<u64>)

@@ -7,8 +7,8 @@ use Rattle.domain_run.specs.Sound.{IsAdmitted}
 use Rattle.call_book.specs.declared.section.Entry.{Entry}
 use Rattle.calls_trace.specs.Replay.{named_by}
 
--- an admission that was granted names its number; an entry with any other reply, or with none,
--- names nobody
+-- an admission or an arrival that was granted names its number; an entry with any other reply, or
+-- with none, names nobody
 abbrev pub named_where : Option Reply → Call → (ℕ → List ℕ) → (ℕ → List ℕ)
 named_where (Some Admitted) call names = named_by call names
 named_where _ call names = names

@@ -1,14 +1,14 @@
 -- Worked rows of the calls: replies, and what they leave.
-use Rattle.std.specs.Prelude.{ℕ, ◌≡◌, List, [], ◌∷◌, Some, None, refl}
+use Rattle.std.specs.Prelude.{ℕ, pos, ◌≡◌, List, [], ◌∷◌, ◌++◌, Some, None, refl}
 use Rattle.domain_run.specs.declared.script.Event.TheVariants as event
 use Rattle.domain_run.specs.declared.switch.PrevState.TheVariants.{Running, Sleeping, Dead}
 use Rattle.domain_run.specs.declared.call.Call.{Call}
-use Rattle.domain_run.specs.declared.call.Call.TheVariants.{Regrade, Wake, Leave, Advance, Limit}
-use Rattle.domain_run.specs.declared.call.Reply.TheVariants.{Admitted, Changed, Woken, Left, Done, Set, Twice, Busy, NotListed, NotWaiting}
+use Rattle.domain_run.specs.declared.call.Call.TheVariants.{Regrade, Wake, Leave, Advance, Limit, Depart, Arrive}
+use Rattle.domain_run.specs.declared.call.Reply.TheVariants.{Admitted, Changed, Woken, Left, Done, Set, Departed, Twice, Busy, NotListed, NotWaiting}
 use Rattle.domain_run.specs.script.ScriptView.{ScriptView}
 use Rattle.domain_run.specs.Domain.{opened}
 use Rattle.domain_run.specs.Run.{run_of, replies_to}
-use Rattle.domain_run.specs.examples.Calling.{plain, once, forever, admit, switch, sum_after, zero_lag_in}
+use Rattle.domain_run.specs.examples.Calling.{plain, once, forever, admit, switch, sum_after, server_in, zero_lag_in}
 
 abbrev short : ScriptView
 short = once (event.Run 1 ∷ [])
@@ -140,3 +140,37 @@ sleeper_zero_lag = refl
 
 sleeper_gone : zero_lag_in (run_of 1 1048576 (sleeper 2)) 1 ≡ None
 sleeper_gone = refl
+
+-- A TASK MOVES: it runs when it departs at 1, and is off the list at once, and its bandwidth with it;
+-- its number does not come back. Where it arrives, at 5, it begins anew: its deadline is 13
+abbrev goer : List Call
+goer =
+    admit 1 (plain 4 8 8) (forever (event.Run 2 ∷ event.Sleep 6 ∷ [])) ∷ Advance 1 ∷ Depart 1 ∷ []
+
+goer_replies : replies_to (opened 1 1048576)
+    (goer ++ Depart 1 ∷ Advance 2 ∷ admit 1 (plain 4 8 8) short ∷ [])
+    ≡ Admitted ∷ Done 1 ∷ Departed ∷ NotListed ∷ Done 2 ∷ Twice ∷ []
+goer_replies = refl
+
+goer_sum : sum_after (run_of 1 1048576 goer) ≡ 0
+goer_sum = refl
+
+goer_switches : (run_of 1 1048576 (goer ++ Advance 2 ∷ [])).switches
+    ≡ switch 0 0 None Running (Some 1) ∷ switch 1 0 (Some 1) Dead None ∷ []
+goer_switches = refl
+
+abbrev comer : ℕ → List Call
+comer n =
+    Advance 5 ∷ Arrive 1 (84 ∷ []) (plain 4 8 8) (forever (event.Run 2 ∷ event.Sleep 6 ∷ []))
+    ∷ Advance n ∷ []
+
+comer_replies : replies_to (opened 1 1048576) (comer 3) ≡ Done 5 ∷ Admitted ∷ Done 3 ∷ []
+comer_replies = refl
+
+comer_switches : (run_of 1 1048576 (comer 3)).switches
+    ≡ switch 5 0 None Running (Some 1) ∷ switch 7 0 (Some 1) Sleeping None ∷ []
+comer_switches = refl
+
+comer_server : server_in (run_of 1 1048576 (comer 1)) 1
+    ≡ Some (record { deadline = Some 13; left = pos 3145728 })
+comer_server = refl

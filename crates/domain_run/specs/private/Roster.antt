@@ -1,9 +1,10 @@
 -- The list of tasks with what is kept beside it, and what changes one task of it, for the code's
 -- own contracts.
 use Rattle.std.specs.Prelude.{ℕ, ℤ, pos, neg_ℤ, ◌<◌, ◌≤◌, ◌^◌, ◌≤ℤ◌, ◌≡◌, List, length, Option, Some, None, IsTrue}
+use Rattle.domain_run.specs.declared.task.Condition.TheVariants.{Leaving}
 use Rattle.domain_run.specs.declared.task.Task.{Task}
 use Rattle.domain_run.specs.declared.change.Change.{Change}
-use Rattle.domain_run.specs.declared.change.Change.TheVariants.{Replenish, Settle, Unblock, Home, Run, Regrade, Release, End}
+use Rattle.domain_run.specs.declared.change.Change.TheVariants.{Replenish, Settle, Unblock, Home, Run, Regrade, Release, End, Depart}
 use Rattle.domain_run.specs.declared.run_queue.RunQueue.{RunQueue}
 use Rattle.domain_run.specs.declared.standing.Standing.{Standing}
 use Rattle.domain_run.specs.Conditions.{is_ready, is_waiting}
@@ -24,6 +25,10 @@ pub record IsKept (queue : RunQueue) (tasks : List Task) (capacity : ℕ) : Type
   pub counted : IsCounted (length queue.accounts.all) queue tasks
   pub room : capacity ≡ 256
 
+-- how a task stands that is to go off the list at once
+abbrev pub quit : Task → Task
+quit t = record t { condition = Leaving; zero_lag = None }
+
 -- CHANGES of one task at a time: what a part of a tick does to it, or a call
 abbrev pub after_change : ℕ → Change → Task → Task
 after_change time Replenish t = replenish_due time t
@@ -34,6 +39,7 @@ after_change time (Run ticks left) t = ran_until time ticks left t
 after_change time (Regrade params) t = regraded params t
 after_change time Release t = released time t
 after_change time End t = ended time t
+after_change time Depart t = quit t
 
 -- what so many ticks of running need, up to a time, with what they leave of the budget
 pub record MayRun (time ticks : ℕ) (left : ℤ) (t : Task) : Type 0 where
@@ -54,6 +60,7 @@ MayMake time (Run ticks left) t = MayRun time ticks left t
 MayMake time (Regrade params) t = Unit {0}
 MayMake time Release t = IsTrue (is_waiting t.condition) × (time ≤ 2 ^ 42)
 MayMake time End t = Unit {0}
+MayMake time Depart t = Unit {0}
 
 -- what it needs of the domain
 abbrev pub Fits : ℕ → Change → Type 0
@@ -65,6 +72,7 @@ Fits cpus (Run ticks left) = Unit {0}
 Fits cpus (Regrade params) = params.bw ≤ 2 ^ 26
 Fits cpus Release = Unit {0}
 Fits cpus End = Unit {0}
+Fits cpus Depart = Unit {0}
 
 -- how a task stood before a change, where it may stand otherwise behind it
 abbrev pub HasStood : Option Standing → Task → Task → Type 0

@@ -1,9 +1,10 @@
 //! A task comes onto the list; tasks that have left go off it.
 
-ghost use Rattle.std.specs.Prelude.{◌≡◌, ◌<◌, ◌≤◌, ◌^◌, ◌++◌, ◌∷◌, [], map, filter, false, length, vec_len, vec_capacity};
+ghost use Rattle.std.specs.Prelude.{◌≡◌, ◌<◌, ◌≤◌, ◌^◌, ◌++◌, ◌∷◌, [], map, filter, false, All, length, vec_len, vec_capacity};
 ghost use Rattle.grub_rules.specs.Accounts.{AreAccounts};
 ghost use Rattle.domain_run.specs.Conditions.{is_ready};
 ghost use Rattle.domain_run.specs.Parts as parts_spec;
+ghost use Rattle.domain_run.specs.Calls.{is_other};
 ghost use Rattle.domain_run.specs.Tick as tick_spec;
 ghost use Rattle.domain_run.specs.private.Index.{IsAbsent};
 ghost use Rattle.domain_run.specs.private.RunQueue.{IsCounted};
@@ -83,6 +84,47 @@ pub(super) fn drop_left(tasks: &mut Vec<Task>, queue: &mut RunQueue, index: &mut
     let before = tasks.len();
     part_left(&mut queue.accounts, tasks);
     tasks.retain(|task| parts::is_listed(task));
+    set_timers(&mut queue.timers, tasks);
+    note_left(index, tasks, before);
+}
+
+// Whether a task has another number.
+fn is_other(task: &Task, number: u32) -> bool
+    ensures { result ≡ is_other number task.now }
+{
+    task.number != number
+}
+
+// The bandwidth of the task of a number goes back.
+fn part_number(accounts: &mut Accounts, tasks: &[Task], number: u32)
+    requires { AreAccounts accounts.old (tick_spec.shares tasks.now) }
+    ensures sums { AreAccounts accounts.new
+        (tick_spec.shares (filter (is_other number) tasks.now)) }
+    ensures wide { length accounts.new.all ≡ length accounts.old.all }
+{
+    for task in tasks {
+        if !is_other(task, number) {
+            accounts.part(&share_of(task));
+        }
+    }
+}
+
+/// The task of a number, which is not ready, goes off the list.
+pub(super) fn drop_number(
+    tasks: &mut Vec<Task>,
+    queue: &mut RunQueue,
+    index: &mut Index,
+    number: u32,
+)
+    requires idle { All (λ t. t.number ≡ number → is_ready t.condition ≡ false) tasks.old.items }
+    requires counted { IsCounted (length queue.old.accounts.all) queue.old tasks.old.items }
+    ensures tasks { tasks.new.items ≡ filter (is_other number) tasks.old.items }
+    ensures counted { IsCounted (length queue.old.accounts.all) queue.new tasks.new.items }
+    ensures room { vec_capacity tasks.new ≡ vec_capacity tasks.old }
+{
+    let before = tasks.len();
+    part_number(&mut queue.accounts, tasks, number);
+    tasks.retain(|task| is_other(task, number));
     set_timers(&mut queue.timers, tasks);
     note_left(index, tasks, before);
 }

@@ -1,4 +1,4 @@
-//! The calls on a listed task, regrade, wake and leave; and the change of the limit.
+//! The calls on a listed task: regrade, wake, leave and depart; and the change of the limit.
 
 ghost use Rattle.std.specs.Prelude.{◌≡◌, ◌↔◌, IsTrue, None, IfNone};
 ghost use Rattle.domain_run.specs.declared.call.Call.TheVariants as Call;
@@ -180,6 +180,36 @@ impl State {
         let reply = self.limit_reply(limit, word);
         if reply == Reply::Set {
             self.limit = limit;
+        }
+        reply
+    }
+
+    fn depart_reply(&self, number: u32) -> Reply
+        ensures { result ≡ calls.depart_reply (calls.task_of self.now number) }
+    {
+        match self.roster.live(number) {
+            None => Reply::NotListed,
+            Some(_) => Reply::Departed,
+        }
+    }
+
+    fn take_off(&mut self, number: u32)
+        ensures { self.new ≡ calls.departed self.old number }
+    {
+        self.roster.take_off(number, self.time);
+    }
+
+    /// Takes a task off the list, for another domain: at once, and its bandwidth and its zero-lag
+    /// time with it. [`Reply::NotListed`] where no task of this number is listed, or it has ended;
+    /// else [`Reply::Departed`]. Its number is not admitted here again. Where it refuses, nothing has
+    /// changed. Takes no memory.
+    pub fn depart(&mut self, number: u32) -> Reply
+        ensures reply { result ≡ calls.reply_to self.old (Call.Depart number) }
+        ensures domain { self.new ≡ calls.after_call self.old (Call.Depart number) }
+    {
+        let reply = self.depart_reply(number);
+        if reply == Reply::Departed {
+            self.take_off(number);
         }
         reply
     }

@@ -1,12 +1,42 @@
-//! What a state lends of a listed task: its name, its script and its number.
+//! What a state lends of a listed task: its name, its script and its number, and what it takes along
+//! to another domain.
 
-ghost use Rattle.std.specs.Prelude.{◌≡◌};
+ghost use Rattle.std.specs.Prelude.{◌≡◌, IfSome, option_map};
 ghost use Rattle.std.specs.Option.{option_copied};
-ghost use Rattle.domain_run.specs.Views.{name_in, script_in, number_in};
+ghost use Rattle.attr_check.specs.ParamsView.{IsOrdered};
+ghost use Rattle.domain_run.specs.NameView.{IsName};
+ghost use Rattle.domain_run.specs.script.ScriptView.{IsScript};
+ghost use Rattle.domain_run.specs.Views.{name_in, script_in, number_in, moving_of, moving_in};
 
 use super::State;
 use crate::name::Name;
 use crate::script::Script;
+use crate::task::Task;
+use attr_check::Params;
+
+fn runtime_of(params: &Params) -> u64
+    ensures { IsOrdered params.now }
+{
+    params.runtime
+}
+
+// What a task takes along, each within its limits.
+fn taken_along(task: &Task) -> (&Name, &Params, &Script)
+    ensures moving { record { name = result.0.now; params = result.1.now; script = result.2.now }
+        ≡ moving_of task.now }
+    ensures name { IsName task.now.name }
+    ensures params { IsOrdered task.now.params }
+    ensures script { IsScript task.now.cursor.script }
+{
+    let name = &task.name;
+    let params = &task.params;
+    let script = task.cursor.script();
+    // For the prover alone: a look into each brings what its type keeps.
+    let _ = name.as_str();
+    let _ = runtime_of(params);
+    let _ = script.phases();
+    (name, params, script)
+}
 
 impl State {
     /// The name of the task of a number, where it is listed. Takes no memory.
@@ -27,6 +57,21 @@ impl State {
         match self.roster.find(number) {
             None => None,
             Some(task) => Some(task.cursor.script()),
+        }
+    }
+
+    /// What the task of a number takes along to another domain, where it is listed and has not
+    /// ended: its name, its parameters as they now are, and its whole script. Takes no memory.
+    pub fn moving(&self, number: u32) -> Option<(&Name, &Params, &Script)>
+        ensures moving { option_map
+            (λ m. record { name = m.0.now; params = m.1.now; script = m.2.now }) result
+            ≡ moving_in self.now number }
+        ensures within { IfSome result
+            (λ m. IsName m.0.now × IsOrdered m.1.now × IsScript m.2.now) }
+    {
+        match self.roster.live(number) {
+            None => None,
+            Some(task) => Some(taken_along(task)),
         }
     }
 

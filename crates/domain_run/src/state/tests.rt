@@ -72,6 +72,7 @@ fn keeps_its_room(mut state: State, params: Params, task: Newcomer) -> bool {
         && state.regrade(1, params, None) == Reply::Changed
         && state.wake(1) == Reply::Woken
         && state.leave(1) == Reply::Left
+        && state.depart(2) == Reply::Departed
         && state.set_limit(524288, None) == Reply::Set
         && state.switches.capacity() == before
 }

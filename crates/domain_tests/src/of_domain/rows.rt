@@ -2,6 +2,7 @@
 //! `specs/examples` as equations too.
 
 mod limits;
+mod moves;
 
 use crate::workers::{UNIT, Worker, forever, once, params, reclaiming, script, switch};
 use domain_run::{Event, Name, PrevState, Reply, State, Switch};
@@ -18,6 +19,7 @@ enum Step<'a> {
     Leave(u32),
     Advance(u64),
     Limit(u64, Option<u64>),
+    Depart(u32),
 }
 
 fn admit(alloc: Global, state: &mut State, number: u32, worker: Worker<'_>) -> Result<Reply, Fail> {
@@ -50,6 +52,7 @@ fn call(alloc: Global, state: &mut State, step: Step<'_>) -> Result<Reply, Fail>
         Step::Leave(number) => Ok(state.leave(number)),
         Step::Advance(ticks) => advance(state, ticks),
         Step::Limit(limit, word) => Ok(state.set_limit(limit.clamp(10485, UNIT), word)),
+        Step::Depart(number) => Ok(state.depart(number)),
     }
 }
 

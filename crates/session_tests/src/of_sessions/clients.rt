@@ -5,7 +5,7 @@ ghost use Rattle.call_book.specs.Limits.{IsCall, IsEntry, IsSection};
 use attr_check::{Params, SchedAttr};
 use call_book::{Call, Entry, NoMemory, Section, read_calls};
 use rtapp_scenario::TaskSpec;
-use session::{Answer, Client, Names, Options, Parts, Print, Report, Session, Shares};
+use session::{Answer, Client, Names, Options, Parts, Print, Refusal, Report, Session, Shares};
 use std::alloc::{AllocError, Global};
 use std::fmt::Write;
 use std::marker::Brand;
@@ -14,7 +14,7 @@ use std::sync::Wait;
 use std::test::Fail;
 use std::thread::Threads;
 
-fn attr_of(params: &Params) -> SchedAttr {
+pub(super) fn attr_of(params: &Params) -> SchedAttr {
     SchedAttr {
         policy: 6,
         flags: if params.reclaim { 2 } else { 0 },
@@ -62,6 +62,8 @@ pub(super) fn make<N: Names, S: Shares<N>, R: Threads + Wait>(
         Call::Leave { number } => client.leave(rt, session, 0, number),
         Call::Advance { ticks } => client.advance(rt, session, 0, ticks),
         Call::Limit { limit, word: _ } => client.limit(rt, session, 0, limit),
+        // A move takes another domain.
+        Call::Depart { .. } | Call::Arrive { .. } => Err(Refusal::SameDomain),
     }
 }
 

@@ -12,4 +12,4 @@ returns-in_err-cpus-clause-fault c =
     rw (p.1, p.2) (no_section c.args.text.now c.in-Some.line.now c.in-Some.rest.now c.in_err-cpus.field-0.0 (sym c.in-Some.ensures) c.in_err-cpus.ensures.gives)
 
 pub returns-clause-found : goal.returns-clause-found
-returns-clause-found c = first_section c.args.limits c.args.text.now c.in-Some.line.now c.in-Some.rest.now c.in_ok-entries.rest.now (c.in_ok-cpus.cpus, c.in_ok-cpus.limit) c.in_ok-entries.entries.items (sym c.in-Some.ensures) c.in_ok-cpus.ensures.gives c.in_ok-entries.ensures.found
+returns-clause-found c = first_section c.args.later c.args.text.now c.in-Some.line.now c.in-Some.rest.now c.in_ok-entries.rest.now (c.in_ok-cpus.cpus, c.in_ok-cpus.limit) c.in_ok-entries.entries.items (sym c.in-Some.ensures) c.in_ok-cpus.ensures.gives c.in_ok-entries.ensures.found

@@ -7,6 +7,6 @@ loop-preserved c =
     let i = c.loop.invariant in
     let s = c.in-Ok.found.0 in
     rw c.in_ok-push.ensures.items (record {
-      so_far = section_more c.args.limits c.args.text.now c.loop.rest.now c.in-Ok.found.1.now c.loop.sections.items s i.so_far c.in-Ok.ensures.found;
+      so_far = section_more c.args.later c.args.text.now c.loop.rest.now c.in-Ok.found.1.now c.loop.sections.items s i.so_far c.in-Ok.ensures.found;
       place = omega (arith, length-append c.loop.sections.items (s ∷ []), i.place);
     })

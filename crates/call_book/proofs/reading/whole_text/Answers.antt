@@ -12,15 +12,15 @@ returns-in_default-header_of-clause-fault c = other_header c.args.text.now c.in-
 
 pub returns-then-fits-clause-found : goal.returns-then-fits-clause-found
 returns-then-fits-clause-found c =
-    let limits = c.in-Some-header_of.limits in
-    let header = header_first c.args.text.now c.in-Some.header.now c.in-Some.body.now limits (sym c.in-Some.ensures) (sym c.in-Some-header_of.ensures) in
-    let whole = ap (is_whole limits c.in-Ok.rest.now) (sym c.deref.ensures.value) ∙ sym c.fits.ensures ∙ c.if-fits.true in
-    sections_found limits c.args.text.now c.in-Some.body.now c.in-Ok.rest.now c.in-Ok.sections.items header c.in-Ok.ensures.found whole
+    let later = c.in-Some-header_of.later in
+    let header = header_first c.args.text.now c.in-Some.header.now c.in-Some.body.now later (sym c.in-Some.ensures) (sym c.in-Some-header_of.ensures) in
+    let whole = ap (is_whole later c.in-Ok.rest.now) (sym c.deref.ensures.value) ∙ sym c.fits.ensures ∙ c.if-fits.true in
+    sections_found later c.args.text.now c.in-Some.body.now c.in-Ok.rest.now c.in-Ok.sections.items header c.in-Ok.ensures.found whole
 
 pub returns-clause-fault : goal.returns-clause-fault
 returns-clause-fault c =
-    let limits = c.in-Some-header_of.limits in
-    let header = header_first c.args.text.now c.in-Some.header.now c.in-Some.body.now limits (sym c.in-Some.ensures) (sym c.in-Some-header_of.ensures) in
-    let part = ap (is_whole limits c.in-Ok.rest.now) (sym c.deref.ensures.value) ∙ sym c.fits.ensures ∙ c.if-fits.false in
-    let place = c.bad_line.ensures ∙ ap (bad_place limits) c.deref-2.ensures.value in
-    subst (IsBadLine c.args.text.now) (sym place) (sections_stop limits c.args.text.now c.in-Some.body.now c.in-Ok.rest.now c.in-Ok.sections.items header c.in-Ok.ensures.found part)
+    let later = c.in-Some-header_of.later in
+    let header = header_first c.args.text.now c.in-Some.header.now c.in-Some.body.now later (sym c.in-Some.ensures) (sym c.in-Some-header_of.ensures) in
+    let part = ap (is_whole later c.in-Ok.rest.now) (sym c.deref.ensures.value) ∙ sym c.fits.ensures ∙ c.if-fits.false in
+    let place = c.bad_line.ensures ∙ ap (bad_place later) c.deref-2.ensures.value in
+    subst (IsBadLine c.args.text.now) (sym place) (sections_stop later c.args.text.now c.in-Some.body.now c.in-Ok.rest.now c.in-Ok.sections.items header c.in-Ok.ensures.found part)

@@ -1,0 +1,245 @@
+// A task moves between two books of one gate, step by step.
+ghost use Rattle.std.specs.Prelude.{◌≡◌, ◌<◌, All, length};
+ghost use Rattle.call_book.specs.Book.{IsPassOf};
+
+use super::{Desk, end, next_blank, replies, room_of};
+use bw_gate::{Gate, Take, Ticket, used_of};
+use call_book::{Closed, Domain, Move, MoveFault, Pass, Prepared, move_task};
+use domain_run::{NoMemory, Reply};
+use std::alloc::Global;
+use std::process::Abort;
+use std::sync::Wait;
+use std::test::Fail;
+use std::thread::Threads;
+
+// The book that tasks go from, and the one of the gate's second domain, with a pass of each.
+struct Pair {
+    desk: Desk,
+    to: Domain,
+    into: Pass,
+    ghost own: { to.gate ≡ desk.gate },
+    ghost second: { to.domain ≡ 1 },
+    ghost two: { 1 < length desk.gate.terms.cpus },
+    ghost pass: { IsPassOf to into },
+    ghost only: { to.clients ≡ 1 },
+}
+
+fn opened_two(rt: &impl Abort, alloc: Global) -> Result<Pair, NoMemory> {
+    let rooms = [room_of(1, 1048576), room_of(1, 1048576)];
+    let Ok((gate, blanks)) = Gate::open(alloc, &rooms, 8) else {
+        return Err(NoMemory);
+    };
+    let (domain, mut passes) = Domain::open(alloc, &gate, 0, 1, 1048576, 1, 9)?;
+    let Ok((to, mut others)) = Domain::open(alloc, &gate, 1, 1, 1048576, 1, 9) else {
+        panic!(rt; "no memory")
+    };
+    let (Some(pass), Some(into)) = (passes.pop(), others.pop()) else {
+        panic!(rt; "no pass")
+    };
+    let desk = Desk {
+        gate,
+        domain,
+        pass,
+        blanks,
+    };
+    Ok(Pair { desk, to, into })
+}
+
+// The used parts of both words, which a ticket of no bandwidth finds.
+fn used(rt: &impl Abort, pair: &mut Pair) -> (u64, u64) {
+    (used_at(rt, pair, false), used_at(rt, pair, true))
+}
+
+fn used_at(rt: &impl Abort, pair: &mut Pair, there: bool) -> u64 {
+    let blank = next_blank(rt, &mut pair.desk);
+    let blank = match pair.desk.gate.try_take(blank, usize::from(there), 0) {
+        Take::Taken(ticket) => pair.desk.gate.give(ticket),
+        Take::Refused { blank, seen: _ } => blank,
+        Take::Raced {
+            blank,
+            expected: _,
+            seen: _,
+        } => blank,
+    };
+    let word = blank.last();
+    let _ = pair.desk.blanks.push(blank);
+    used_of(word)
+}
+
+// The ticket of the second domain with which a task comes.
+fn taken(rt: &impl Abort, pair: &mut Pair, prepared: &Prepared) -> Ticket
+    ensures own { (result.gate ≡ pair.new.desk.gate) × (result.domain ≡ 1) }
+    ensures bw { result.bw ≡ prepared.now.params.bw }
+    ensures gate { pair.new.desk.gate ≡ pair.old.desk.gate }
+{
+    let blank = next_blank(rt, &mut pair.desk);
+    match pair.desk.gate.try_take(blank, 1, prepared.bw()) {
+        Take::Taken(ticket) => ticket,
+        Take::Refused { blank: _, seen } => panic!(rt; "refused at {seen}"),
+        Take::Raced {
+            blank: _,
+            expected: _,
+            seen: _,
+        } => panic!(rt; "raced"),
+    }
+}
+
+// Moves the task, and tells how it went, with the ticket that comes out.
+fn moved(pair: &mut Pair, prepared: Prepared, ticket: Ticket) -> (&'static str, Ticket)
+    requires ticket { (ticket.gate ≡ pair.old.desk.gate) × (ticket.domain ≡ 1) }
+    requires bw { ticket.bw ≡ prepared.params.bw }
+    requires soon { prepared.delay ≡ 0 }
+    ensures gate { pair.new.desk.gate ≡ pair.old.desk.gate }
+    ensures own { result.1.gate ≡ pair.old.desk.gate }
+{
+    let Pair { desk, to, into } = pair;
+    match move_task(&mut desk.domain, &mut desk.pass, to, into, prepared, ticket) {
+        Move::Moved { ticket } => ("moved", ticket),
+        Move::Full {
+            ticket,
+            prepared: _,
+        } => ("full", ticket),
+        Move::NotListed {
+            ticket,
+            prepared: _,
+        } => ("not listed", ticket),
+        Move::Stale {
+            now: _,
+            ticket,
+            prepared: _,
+        } => ("stale", ticket),
+        Move::Twice {
+            ticket,
+            prepared: _,
+        } => ("twice", ticket),
+        Move::Busy {
+            seen: _,
+            ticket,
+            prepared: _,
+        } => ("busy", ticket),
+    }
+}
+
+// Gives these tickets back.
+fn give_all(gate: &Gate, mut tickets: Vec<Ticket>)
+    requires { All (λ t. t.gate ≡ gate.now) tickets.items }
+{
+    while let Some(ticket) = tickets.pop() {
+        gate.give(ticket);
+    }
+    tickets.destroy_empty();
+}
+
+// Closes both books and the gate: the sum of bandwidths, what is used of the word and how many
+// calls there are, of each.
+fn ends(rt: &impl Abort, alloc: Global, mut pair: Pair) -> [(u64, u64, usize); 2] {
+    let there = used_at(rt, &mut pair, true);
+    let Pair { desk, to, into } = pair;
+    let mut passes = Vec::new(alloc);
+    let _ = passes.push(into);
+    let Closed {
+        state,
+        entries,
+        tickets,
+        blanks: _,
+    } = to.close(passes);
+    give_all(&desk.gate, tickets);
+    [end(alloc, desk), (state.sum(), there, entries.len())]
+}
+
+const TASK: &[u8] = b"dlcalls 1\ndomain 1 1048576\nadmit 1 1 a 4 8 8 - 0 -1:1{r2,s6}\n";
+
+// How a move of the task goes before which these calls were made, but behind what was prepared.
+fn after<R: Abort + Threads + Wait>(
+    rt: &R,
+    alloc: Global,
+    pair: &mut Pair,
+    calls: &[u8],
+) -> Result<&'static str, Fail> {
+    let prepared = pair.desk.domain.prepare_move(alloc, 1)?;
+    replies(rt, alloc, &mut pair.desk, calls)?;
+    let ticket = taken(rt, pair, &prepared);
+    let (answer, ticket) = moved(pair, prepared, ticket);
+    let blank = pair.desk.gate.give(ticket);
+    let _ = pair.desk.blanks.push(blank);
+    Ok(answer)
+}
+
+// The used parts before the move, with the new ticket, behind the move, and when the old ticket is
+// back.
+fn step_by_step<R: Abort + Threads + Wait>(
+    rt: &R,
+    alloc: Global,
+    pair: &mut Pair,
+) -> Result<[(u64, u64); 4], Fail> {
+    replies(rt, alloc, &mut pair.desk, TASK)?;
+    let prepared = pair.desk.domain.prepare_move(alloc, 1)?;
+    let before = used(rt, pair);
+    let ticket = taken(rt, pair, &prepared);
+    let both = used(rt, pair);
+    let (_, ticket) = moved(pair, prepared, ticket);
+    let still = used(rt, pair);
+    let blank = pair.desk.gate.give(ticket);
+    let _ = pair.desk.blanks.push(blank);
+    Ok([before, both, still, used(rt, pair)])
+}
+
+// move_by_a_client, step by step: the task's bandwidth stands in one word or in both, never in
+// none.
+#[test]
+fn move_step_by_step(rt: HostRuntime) -> Result<(), Fail> {
+    let mut pair = opened_two(&rt, rt.alloc())?;
+    let made = step_by_step(&rt, rt.alloc(), &mut pair);
+    let ends = ends(&rt, rt.alloc(), pair);
+    let both = (524288, 524288);
+    assert_eq!(rt; made?, [(524288, 0), both, both, (0, 524288)]);
+    assert_eq!(rt; ends, [(0, 0, 2), (524288, 524288, 1)]);
+    Ok(())
+}
+
+const CHANGE: &[u8] = b"dlcalls 1\ndomain 1 1048576\nregrade 1 1 2 8 8 -\n";
+
+const NOTHING: &[u8] = b"dlcalls 1\ndomain 1 1048576\nadvance 1 1\n";
+
+const END: &[u8] = b"dlcalls 1\ndomain 1 1048576\nleave 1 1\n";
+
+// How a move goes behind each of these.
+fn answers<R: Abort + Threads + Wait>(
+    rt: &R,
+    alloc: Global,
+    pair: &mut Pair,
+    calls: &[&[u8]],
+) -> Result<Vec<&'static str>, Fail> {
+    replies(rt, alloc, &mut pair.desk, TASK)?;
+    let mut answers = Vec::new(alloc);
+    for calls in calls {
+        answers.push(after(rt, alloc, pair, calls)?)?;
+    }
+    Ok(answers)
+}
+
+// A task that was changed since it was prepared stays, and so does its bandwidth; prepared again, it
+// goes.
+#[test]
+fn move_of_a_changed_task(rt: HostRuntime) -> Result<(), Fail> {
+    let mut pair = opened_two(&rt, rt.alloc())?;
+    let made = answers(&rt, rt.alloc(), &mut pair, &[CHANGE, NOTHING]);
+    let ends = ends(&rt, rt.alloc(), pair);
+    assert_eq!(rt; made?.as_slice(), ["stale", "moved"].as_slice());
+    assert_eq!(rt; ends, [(0, 0, 4), (262144, 262144, 1)]);
+    Ok(())
+}
+
+// One that has ended since stays, and is then not prepared.
+#[test]
+fn move_of_an_ended_task(rt: HostRuntime) -> Result<(), Fail> {
+    let mut pair = opened_two(&rt, rt.alloc())?;
+    let made = answers(&rt, rt.alloc(), &mut pair, &[END]);
+    let again = pair.desk.domain.prepare_move(rt.alloc(), 1);
+    let is_gone = matches!(again, Err(MoveFault::NotListed));
+    let ends = ends(&rt, rt.alloc(), pair);
+    assert_eq!(rt; made?.as_slice(), ["not listed"].as_slice());
+    assert!(rt; is_gone);
+    assert_eq!(rt; ends, [(524288, 524288, 2), (0, 0, 0)]);
+    Ok(())
+}

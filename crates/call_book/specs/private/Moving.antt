@@ -1,0 +1,31 @@
+-- Whether a task moves, and why it does not.
+use Rattle.std.specs.Prelude.{◌≡◌, ◌⊎◌}
+use Rattle.domain_run.specs.declared.call.Call.TheVariants.{Depart}
+use Rattle.domain_run.specs.declared.call.Reply.TheVariants as replies
+use Rattle.domain_run.specs.Calls.{reply_to}
+use Rattle.call_book.specs.declared.book.domain.moving.Verdict.{Verdict}
+use Rattle.call_book.specs.declared.book.domain.moving.Verdict.TheVariants.{Moves, Full, NotListed, Stale, Twice, Busy}
+use Rattle.call_book.specs.Limits.{IsCall}
+use Rattle.call_book.specs.Book.{BookView, AdmissionView, state_of, IsFull}
+use Rattle.call_book.specs.MoveAnswers.{HasRoom, IsAsPrepared, IsStale, LacksRoom, arrival}
+
+-- it may move
+pub record IsReady (from to : BookView) (a : AdmissionView) : Type 0 where
+  pub room : HasRoom from to a
+  pub as_prepared : IsAsPrepared from a
+  pub goes : reply_to (state_of from) (Depart a.number) ≡ replies.Departed
+  pub comes : reply_to (state_of to) (arrival a) ≡ replies.Admitted
+  pub spelled : IsCall (Depart a.number)
+
+abbrev pub IsVerdict : BookView → BookView → AdmissionView → Verdict → Type 0
+IsVerdict from to a Moves = IsReady from to a
+IsVerdict from to a Full =
+    IsFull from ⊎ IsFull to ⊎ (reply_to (state_of to) (arrival a) ≡ replies.Full)
+IsVerdict from to a NotListed =
+    HasRoom from to a × (reply_to (state_of from) (Depart a.number) ≡ replies.NotListed)
+IsVerdict from to a (Stale now) = HasRoom from to a × IsStale from a now
+IsVerdict from to a Twice =
+    HasRoom from to a × IsAsPrepared from a
+    × (reply_to (state_of to) (arrival a) ≡ replies.Twice)
+IsVerdict from to a (Busy seen) =
+    HasRoom from to a × IsAsPrepared from a × LacksRoom to a seen

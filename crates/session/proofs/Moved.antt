@@ -1,0 +1,249 @@
+-- A task that moves between two books, and what a client's passes have then.
+use Rattle.std.proofs.Common.{◌≡◌, ◌≢◌, ℕ, zero, suc, ◌+◌, ◌<◌, List, [], ◌∷◌, ◌++◌, length, map, set, take, drop, get_or, arith, Option, Some, Ok, Err, refl, sym, ap, subst, ◌∙◌}
+use Rattle.std.specs.Prelude.{Result, IfSome, IsSomeAnd}
+use Rattle.std.proofs.Math.Seq.{take-append_seam}
+use Rattle.std.proofs.lemmas.List.{get_or-set_other, get_or-take, get_or-drop, get_or_default, length-set}
+use Rattle.attr_check.specs.Ratio.{cap}
+use Rattle.pass_seats.specs.Lists.{PassView}
+use Rattle.domain_run.specs.declared.call.Call.{Call}
+use Rattle.domain_run.specs.declared.call.Call.TheVariants as calls
+use Rattle.domain_run.specs.declared.call.Reply.{Reply}
+use Rattle.domain_run.specs.declared.call.Reply.TheVariants as replies
+use Rattle.domain_run.specs.Domain.{Domain}
+use Rattle.domain_run.specs.Calls.{reply_to}
+use Rattle.domain_run.specs.Run.{run_of}
+use Rattle.bw_gate.specs.Pieces.{BlankView, TicketView}
+use Rattle.bw_gate.specs.Answers.{IsGive}
+use Rattle.call_book.specs.declared.section.Entry.{Entry}
+use Rattle.call_book.specs.Book.{BookView, AdmissionView, calls_of, state_of}
+use Rattle.call_book.specs.MoveAnswers.{Sides, arrival, ComeBack, LacksRoom}
+use Rattle.session.specs.declared.refusal.Refusal.{Refusal}
+use Rattle.session.specs.SessionId.{SessionId, cpus_of}
+use Rattle.session.specs.Asks.{IsOverCap, ClientView, Made, made_by, Makes}
+use Rattle.session.specs.Moves.{state_after, WouldReply}
+use Rattle.session.specs.private.Entering.{IsSessionBook, IsClientOf, pass_after}
+use Rattle.session.specs.private.Moving.{PassPair, IsWhyRefused, IsRefusedBy, IsBooksAnswer, PassesMove, IsMoveFor}
+use Rattle.session.proofs.Asked.{makes_at, made_nothing}
+use Rattle.session.proofs.Admitted.{followed_more}
+use Rattle.session.proofs.Passes.{kept, still_client}
+
+-- ---- the state of a book is one of its domain
+
+same_state : (id : SessionId) (d : ℕ) (b : BookView) → IsSessionBook id d b → state_of b ≡ state_after id d (calls_of b.history)
+same_state id d b named =
+    ap (λ (n : ℕ). run_of n b.limit (calls_of b.history)) named.cpus ∙ ap (λ (l : ℕ). run_of (length (cpus_of id d)) l (calls_of b.history)) named.limit
+
+pub would_reply : (id : SessionId) (d : ℕ) (b : BookView) (call : Call) (reply : Reply) → IsSessionBook id d b → reply_to (state_of b) call ≡ reply → WouldReply id d call reply
+would_reply id d b call reply named is =
+    record { before = calls_of b.history; replied = subst (λ (s : Domain). reply_to s call ≡ reply) (same_state id d b named) is }
+
+pub no_room : (id : SessionId) (d : ℕ) (b : BookView) (a : AdmissionView) (seen : ℕ) → IsSessionBook id d b → LacksRoom b a seen
+    → WouldReply id d (arrival a) (replies.Busy seen) × IsOverCap (length (cpus_of id d)) a.params.bw seen
+no_room id d b a seen named lacks = (
+  would_reply id d b (arrival a) (replies.Busy seen) named lacks.reply,
+  subst (λ (n : ℕ). IsOverCap n a.params.bw seen) named.cpus
+      (record {
+        cap = cap b.cpus (state_of b).limit;
+        a_cap = record { limit = (state_of b).limit; a_limit = record { least = lacks.a_limit.0; most = lacks.a_limit.1 }; product = refl };
+        within = lacks.within;
+        above = lacks.above;
+      }),
+)
+
+-- ---- under both locks
+
+pub refused_by : (id : SessionId) (from to : ℕ) (old new : Sides) (a b : AdmissionView) (ticket back : TicketView) (blank : BlankView) (refusal : Refusal)
+    → ComeBack old new a b ticket back → IsGive back blank → IsWhyRefused id from to a refusal
+    → IsRefusedBy id from to (record { out = old.out; into = old.into }) (record { out = new.out; into = new.into }) a ticket blank refusal
+refused_by id from to old new a b ticket back blank refusal c given why = record {
+  same = ap (λ (p : PassView Entry). record { out = p; into = new.into }) c.from.pass ∙ ap (λ (p : PassView Entry). record { out = old.out; into = p }) c.to.pass;
+  given = subst (λ (t : TicketView). IsGive t blank) c.ticket_back given;
+  why = why;
+}
+
+-- ---- two passes of a client, cut apart at the later one
+
+set_behind : {X : Type 0} (xs : List X) (e : ℕ) (y : X) → set xs e y ≡ take e xs ++ set (drop e xs) 0 y
+set_behind [] zero y = refl
+set_behind [] (suc e) y = refl
+set_behind (x ∷ xs) zero y = refl
+set_behind (x ∷ xs) (suc e) y = ap (λ l. x ∷ l) (set_behind xs e y)
+
+pub set_up : {X : Type 0} (xs : List X) (d e : ℕ) (y z : X) → d < e → set (set xs d y) e z ≡ set (take e xs) d y ++ set (drop e xs) 0 z
+set_up [] d zero y z less = absurd (omega (arith, less))
+set_up [] zero (suc e) y z less = refl
+set_up [] (suc d) (suc e) y z less = refl
+set_up (x ∷ xs) zero (suc e) y z less = ap (λ l. y ∷ l) (set_behind xs e z)
+set_up (x ∷ xs) (suc d) (suc e) y z less = ap (λ l. x ∷ l) (set_up xs d e y z (omega (arith, less)))
+set_up (x ∷ xs) d zero y z less = absurd (omega (arith, less))
+
+pub set_down : {X : Type 0} (xs : List X) (d e : ℕ) (y z : X) → e < d → set (set xs d y) e z ≡ set (take d xs) e z ++ set (drop d xs) 0 y
+set_down [] zero e y z less = absurd (omega (arith, less))
+set_down [] (suc d) zero y z less = refl
+set_down [] (suc d) (suc e) y z less = refl
+set_down (x ∷ xs) (suc d) zero y z less = ap (λ l. z ∷ l) (set_behind xs d y)
+set_down (x ∷ xs) (suc d) (suc e) y z less = ap (λ l. x ∷ l) (set_down xs d e y z (omega (arith, less)))
+set_down (x ∷ xs) zero e y z less = absurd (omega (arith, less))
+
+-- what stands at a place of either part stood at its own in the whole
+low_at : (ps low : List (PassView Entry)) (d e : ℕ) (x : PassView Entry) → d < e → e < length ps → low ≡ take e ps → get_or low d x ≡ get_or ps d (get_or low d x)
+low_at ps low d e x less inside is =
+    ap (λ (l : List (PassView Entry)). get_or l d x) is ∙ get_or-take e ps d x less ∙ get_or_default ps d x (get_or low d x) (omega (arith, less, inside))
+
+high_at : (ps high : List (PassView Entry)) (e : ℕ) (x : PassView Entry) → e < length ps → high ≡ drop e ps → get_or high 0 x ≡ get_or ps e (get_or high 0 x)
+high_at ps high e x inside is =
+    let zero_more : e + 0 ≡ e = omega arith in
+    ap (λ (l : List (PassView Entry)). get_or l 0 x) is ∙ get_or-drop e ps 0 x ∙ ap (λ (k : ℕ). get_or ps k x) zero_more ∙ get_or_default ps e x (get_or high 0 x) inside
+
+-- the two parts, and what is behind them in the memory that they were cut from, are the whole
+rejoined : (ps a b whole : List (PassView Entry)) (n : ℕ) → a ++ b ≡ whole → n ≡ length whole → take n (a ++ b ++ drop (length (a ++ b)) ps) ≡ whole
+rejoined ps a b whole n is count =
+    ap (λ (l : List (PassView Entry)). take n (l ++ drop (length l) ps)) is
+    ∙ ap (λ (k : ℕ). take k (whole ++ drop (length whole) ps)) count
+    ∙ take-append_seam whole (drop (length whole) ps)
+
+same_count : (ps : List (PassView Entry)) (d e n : ℕ) (q s : PassView Entry) → n ≡ length ps → n ≡ length (set (set ps d q) e s)
+same_count ps d e n q s is = is ∙ sym (length-set ps d q) ∙ sym (length-set (set ps d q) e s)
+
+pub passes_up : {T : Type 0} (id : SessionId) (d e : ℕ) (ps low high : List (PassView Entry)) (n : ℕ) (x y q s : PassView Entry) (a : AdmissionView) (ticket : TicketView) (blank : BlankView) (answer : Result T Refusal)
+    → d < e → e < length ps → n ≡ length ps → low ≡ take e ps → high ≡ drop e ps
+    → IsBooksAnswer id d e (record { out = get_or low d x; into = get_or high 0 y }) (record { out = q; into = s }) a ticket blank answer
+    → PassesMove id d e ps (take n (set low d q ++ set high 0 s ++ drop (length (set low d q ++ set high 0 s)) ps)) a ticket blank answer
+passes_up id d e ps low high n x y q s a ticket blank answer less inside count front back answered = record {
+  was = record { out = get_or low d x; into = get_or high 0 y };
+  is = record { out = q; into = s };
+  become = record {
+    out = low_at ps low d e x less inside front;
+    into = high_at ps high e y inside back;
+    set_both = rejoined ps (set low d q) (set high 0 s) (set (set ps d q) e s) n
+        (ap (λ (l : List (PassView Entry)). set l d q ++ set high 0 s) front ∙ ap (λ (l : List (PassView Entry)). set (take e ps) d q ++ set l 0 s) back ∙ sym (set_up ps d e q s less))
+        (same_count ps d e n q s count);
+  };
+  answered = answered;
+}
+
+pub passes_down : {T : Type 0} (id : SessionId) (d e : ℕ) (ps low high : List (PassView Entry)) (n : ℕ) (x y q s : PassView Entry) (a : AdmissionView) (ticket : TicketView) (blank : BlankView) (answer : Result T Refusal)
+    → e < d → d < length ps → n ≡ length ps → low ≡ take d ps → high ≡ drop d ps
+    → IsBooksAnswer id d e (record { out = get_or high 0 x; into = get_or low e y }) (record { out = q; into = s }) a ticket blank answer
+    → PassesMove id d e ps (take n (set low e s ++ set high 0 q ++ drop (length (set low e s ++ set high 0 q)) ps)) a ticket blank answer
+passes_down id d e ps low high n x y q s a ticket blank answer less inside count front back answered = record {
+  was = record { out = get_or high 0 x; into = get_or low e y };
+  is = record { out = q; into = s };
+  become = record {
+    out = high_at ps high d x inside back;
+    into = low_at ps low e d y less inside front;
+    set_both = rejoined ps (set low e s) (set high 0 q) (set (set ps d q) e s) n
+        (ap (λ (l : List (PassView Entry)). set l e s ++ set high 0 q) front ∙ ap (λ (l : List (PassView Entry)). set (take d ps) e s ++ set l 0 q) back ∙ sym (set_down ps d e q s less))
+        (same_count ps d e n q s count);
+  };
+  answered = answered;
+}
+
+-- ---- a client of which two passes have made a call
+
+both_made : (a b c : ClientView) (f g : ℕ → List Made) → Makes a b f → Makes b c g → Makes a c (λ d. f d ++ g d)
+both_made a b c f g first next = record {
+  number = next.number ∙ first.number;
+  domains = next.domains ∙ first.domains;
+  passes = λ d inside.
+      let there : d < length b.passes = omega (arith, inside, first.domains) in
+      followed_more a b c d (f d) (g d) first.number (first.passes d inside) (next.passes d there);
+}
+
+-- the client between its two calls
+abbrev between : ClientView → List (PassView Entry) → ClientView
+between c ps = record c { passes = map (λ (p : PassView Entry). p.entries) ps }
+
+pub move_makes : {T : Type 0} (id : SessionId) (from to : ℕ) (c e : ClientView) (ps qs : List (PassView Entry)) (a : AdmissionView) (ticket : TicketView) (blank : BlankView) (answer : Result T Refusal)
+    → c.passes ≡ map (λ (p : PassView Entry). p.entries) ps → e.passes ≡ map (λ (p : PassView Entry). p.entries) qs → e.number ≡ c.number → e.hand ≡ Some blank
+    → from ≢ to → from < length ps → to < length ps
+    → ((d : ℕ) (x : PassView Entry) → d < length ps → (get_or ps d x).client ≡ c.number)
+    → PassesMove id from to ps qs a ticket blank answer
+    → IsMoveFor id from to c e a ticket answer
+move_makes id from to c e ps qs a ticket blank answer old new number hand apart from_in to_in owner m = by answer m.answered
+  where
+    p : PassView Entry
+    p = m.was.out
+
+    r : PassView Entry
+    r = m.was.into
+
+    q : PassView Entry
+    q = m.is.out
+
+    s : PassView Entry
+    s = m.is.into
+
+    mid : ClientView
+    mid = between c (set ps from q)
+
+    later : to < length (set ps from q)
+    later = omega (arith, to_in, length-set ps from q)
+
+    unset : get_or (set ps from q) to r ≡ get_or ps to r
+    unset = get_or-set_other ps from to q r (λ is. apart (sym is))
+
+    first : (call : Call) (x : Result Reply Refusal) → q ≡ pass_after p call x → Makes c mid (made_by from call x)
+    first call x is =
+        makes_at c mid ps from p q call x old refl refl from_in (owner from p from_in) (subst (λ (v : PassView Entry). q ≡ pass_after v call x) m.become.out is)
+
+    second : (call : Call) (x : Result Reply Refusal) → s ≡ pass_after r call x → Makes mid e (made_by to call x)
+    second call x is =
+        makes_at mid e (set ps from q) to r s call x refl (new ∙ ap (map (λ (v : PassView Entry). v.entries)) m.become.set_both) number later
+        (ap (λ (v : PassView Entry). v.client) unset ∙ owner to r to_in)
+        (subst (λ (v : PassView Entry). s ≡ pass_after v call x) (m.become.into ∙ sym unset) is)
+
+    handed : (t : TicketView) → IsGive t blank → IsSomeAnd e.hand (IsGive t)
+    handed t given = subst (λ (h : Option BlankView). IsSomeAnd h (IsGive t)) (sym hand) given
+
+    by : {U : Type 0} (x : Result U Refusal) → IsBooksAnswer id from to m.was m.is a ticket blank x → IsMoveFor id from to c e a ticket x
+    by (Ok _) done = record {
+      made = both_made c mid e _ _ (first (calls.Depart a.number) (Ok replies.Departed) done.left) (second (arrival a) (Ok replies.Admitted) done.came);
+      listed = done.listed;
+      ticket = done.ticket;
+      own = done.own;
+      bw = done.bw;
+      given = handed done.ticket done.given;
+    }
+    by (Err refusal) done = record {
+      made = both_made c mid e _ _
+          (made_nothing c mid from (calls.Depart a.number) refusal (first (calls.Depart a.number) (Err refusal) (ap (λ (v : PassPair). v.out) done.same)))
+          (made_nothing mid e to (arrival a) refusal (second (arrival a) (Err refusal) (ap (λ (v : PassPair). v.into) done.same)));
+      given = handed ticket done.given;
+      why = done.why;
+    }
+
+-- and it is one of the session's still
+pub move_kept : {T : Type 0} (id : SessionId) (number from to : ℕ) (ps qs : List (PassView Entry)) (hand now : Option BlankView) (a : AdmissionView) (ticket : TicketView) (blank : BlankView) (answer : Result T Refusal)
+    → IsClientOf id number ps hand → IfSome now (λ b. b.gate ≡ id.gate) → from ≢ to → from < length ps → to < length ps
+    → PassesMove id from to ps qs a ticket blank answer → IsClientOf id number qs now
+move_kept id number from to ps qs hand now a ticket blank answer is own apart from_in to_in m = by answer m.answered
+  where
+    p : PassView Entry
+    p = m.was.out
+
+    r : PassView Entry
+    r = m.was.into
+
+    q : PassView Entry
+    q = m.is.out
+
+    s : PassView Entry
+    s = m.is.into
+
+    later : to < length (set ps from q)
+    later = omega (arith, to_in, length-set ps from q)
+
+    unset : get_or (set ps from q) to r ≡ get_or ps to r
+    unset = get_or-set_other ps from to q r (λ is. apart (sym is))
+
+    from_both : (q.spine ≡ p.spine) × (q.client ≡ p.client) → (s.spine ≡ r.spine) × (s.client ≡ r.client) → IsClientOf id number qs now
+    from_both out into =
+        subst (λ (l : List (PassView Entry)). IsClientOf id number l now) (sym m.become.set_both)
+        (still_client id number (set ps from q) now now to r s
+        (still_client id number ps hand now from p q is from_in m.become.out out own)
+        later (m.become.into ∙ sym unset) into own)
+
+    by : {U : Type 0} (x : Result U Refusal) → IsBooksAnswer id from to m.was m.is a ticket blank x → IsClientOf id number qs now
+    by (Ok _) done = from_both (kept p q (calls.Depart a.number) (Ok replies.Departed) done.left) (kept r s (arrival a) (Ok replies.Admitted) done.came)
+    by (Err refusal) done = from_both (kept p q (calls.Depart a.number) (Err refusal) (ap (λ (v : PassPair). v.out) done.same)) (kept r s (arrival a) (Err refusal) (ap (λ (v : PassPair). v.into) done.same))
