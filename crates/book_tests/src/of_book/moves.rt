@@ -1,9 +1,10 @@
 // A task moves between two books of one gate, step by step.
-ghost use Rattle.std.specs.Prelude.{◌≡◌, ◌<◌, All, length};
+ghost use Rattle.std.specs.Prelude.{◌≡◌, ◌<◌, All, IfOk, length};
+ghost use Rattle.bw_gate.specs.Pieces.{cpus_of};
 ghost use Rattle.call_book.specs.Book.{IsPassOf};
 
 use super::{Desk, end, next_blank, replies, room_of};
-use bw_gate::{Gate, Take, Ticket, used_of};
+use bw_gate::{Blank, Gate, Take, Ticket, used_of};
 use call_book::{Closed, Domain, Move, MoveFault, Pass, Prepared, move_task};
 use domain_run::{NoMemory, Reply};
 use std::alloc::Global;
@@ -24,17 +25,40 @@ struct Pair {
     ghost only: { to.clients ≡ 1 },
 }
 
-fn opened_two(rt: &impl Abort, alloc: Global) -> Result<Pair, NoMemory> {
-    let rooms = [room_of(1, 1048576), room_of(1, 1048576)];
-    let Ok((gate, blanks)) = Gate::open(alloc, &rooms, 8) else {
-        return Err(NoMemory);
-    };
-    let (domain, mut passes) = Domain::open(alloc, &gate, 0, 1, 1048576, 1, 9)?;
-    let Ok((to, mut others)) = Domain::open(alloc, &gate, 1, 1, 1048576, 1, 9) else {
-        panic!(rt; "no memory")
-    };
-    let (Some(pass), Some(into)) = (passes.pop(), others.pop()) else {
+// A gate of two domains of one CPU each.
+fn two_domains(alloc: Global) -> Result<(Gate, Vec<Blank>), NoMemory>
+    ensures two { IfOk result (λ r. length r.0.terms.cpus ≡ 2) }
+    ensures cpus { IfOk result (λ r. (cpus_of r.0 0 ≡ 1) × (cpus_of r.0 1 ≡ 1)) }
+    ensures own { IfOk result (λ r. All (λ b. b.gate ≡ r.0) r.1.items) }
+{
+    Gate::open(alloc, &[room_of(1, 1048576), room_of(1, 1048576)], 8)
+}
+
+// The book of one of them, with the pass of its one client.
+fn book_of(
+    rt: &impl Abort,
+    alloc: Global,
+    gate: &Gate,
+    place: usize,
+) -> Result<(Domain, Pass), NoMemory>
+    requires { cpus_of gate.now place ≡ 1 }
+    ensures gate { IfOk result (λ r. r.0.gate ≡ gate.now) }
+    ensures place { IfOk result (λ r. r.0.domain ≡ place) }
+    ensures only { IfOk result (λ r. r.0.clients ≡ 1) }
+    ensures pass { IfOk result (λ r. IsPassOf r.0 r.1) }
+{
+    let (domain, mut passes) = Domain::open(alloc, gate, place, 1, 1048576, 1, 9)?;
+    let Some(pass) = passes.pop() else {
         panic!(rt; "no pass")
+    };
+    Ok((domain, pass))
+}
+
+fn opened_two(rt: &impl Abort, alloc: Global) -> Result<Pair, NoMemory> {
+    let (gate, blanks) = two_domains(alloc)?;
+    let (domain, pass) = book_of(rt, alloc, &gate, 0)?;
+    let Ok((to, into)) = book_of(rt, alloc, &gate, 1) else {
+        panic!(rt; "no memory")
     };
     let desk = Desk {
         gate,
@@ -45,15 +69,14 @@ fn opened_two(rt: &impl Abort, alloc: Global) -> Result<Pair, NoMemory> {
     Ok(Pair { desk, to, into })
 }
 
-// The used parts of both words, which a ticket of no bandwidth finds.
-fn used(rt: &impl Abort, pair: &mut Pair) -> (u64, u64) {
-    (used_at(rt, pair, false), used_at(rt, pair, true))
-}
-
-fn used_at(rt: &impl Abort, pair: &mut Pair, there: bool) -> u64 {
-    let blank = next_blank(rt, &mut pair.desk);
-    let blank = match pair.desk.gate.try_take(blank, usize::from(there), 0) {
-        Take::Taken(ticket) => pair.desk.gate.give(ticket),
+// What is used of a domain's word, which a ticket of no bandwidth finds.
+fn used_at(rt: &impl Abort, desk: &mut Desk, place: usize) -> u64
+    requires { place < length desk.old.gate.terms.cpus }
+    ensures { desk.new.gate ≡ desk.old.gate }
+{
+    let blank = next_blank(rt, desk);
+    let blank = match desk.gate.try_take(blank, place, 0) {
+        Take::Taken(ticket) => desk.gate.give(ticket),
         Take::Refused { blank, seen: _ } => blank,
         Take::Raced {
             blank,
@@ -62,18 +85,28 @@ fn used_at(rt: &impl Abort, pair: &mut Pair, there: bool) -> u64 {
         } => blank,
     };
     let word = blank.last();
-    let _ = pair.desk.blanks.push(blank);
+    let _ = desk.blanks.push(blank);
     used_of(word)
 }
 
-// The ticket of the second domain with which a task comes.
-fn taken(rt: &impl Abort, pair: &mut Pair, prepared: &Prepared) -> Ticket
-    ensures own { (result.gate ≡ pair.new.desk.gate) × (result.domain ≡ 1) }
-    ensures bw { result.bw ≡ prepared.now.params.bw }
-    ensures gate { pair.new.desk.gate ≡ pair.old.desk.gate }
+// That of both words.
+fn used(rt: &impl Abort, pair: &mut Pair) -> (u64, u64)
+    ensures { pair.new.desk.gate ≡ pair.old.desk.gate }
 {
-    let blank = next_blank(rt, &mut pair.desk);
-    match pair.desk.gate.try_take(blank, 1, prepared.bw()) {
+    let here = used_at(rt, &mut pair.desk, 0);
+    let there = used_at(rt, &mut pair.desk, 1);
+    (here, there)
+}
+
+// The ticket of the second domain with which a task comes.
+fn taken(rt: &impl Abort, desk: &mut Desk, prepared: &Prepared) -> Ticket
+    requires { 1 < length desk.old.gate.terms.cpus }
+    ensures own { (result.gate ≡ desk.old.gate) × (result.domain ≡ 1) }
+    ensures bw { result.bw ≡ prepared.now.params.bw }
+    ensures gate { desk.new.gate ≡ desk.old.gate }
+{
+    let blank = next_blank(rt, desk);
+    match desk.gate.try_take(blank, 1, prepared.bw()) {
         Take::Taken(ticket) => ticket,
         Take::Refused { blank: _, seen } => panic!(rt; "refused at {seen}"),
         Take::Raced {
@@ -82,6 +115,15 @@ fn taken(rt: &impl Abort, pair: &mut Pair, prepared: &Prepared) -> Ticket
             seen: _,
         } => panic!(rt; "raced"),
     }
+}
+
+// Gives a ticket back.
+fn give_back(desk: &mut Desk, ticket: Ticket)
+    requires { ticket.gate ≡ desk.old.gate }
+    ensures { desk.new.gate ≡ desk.old.gate }
+{
+    let blank = desk.gate.give(ticket);
+    let _ = desk.blanks.push(blank);
 }
 
 // Moves the task, and tells how it went, with the ticket that comes out.
@@ -133,7 +175,7 @@ fn give_all(gate: &Gate, mut tickets: Vec<Ticket>)
 // Closes both books and the gate: the sum of bandwidths, what is used of the word and how many
 // calls there are, of each.
 fn ends(rt: &impl Abort, alloc: Global, mut pair: Pair) -> [(u64, u64, usize); 2] {
-    let there = used_at(rt, &mut pair, true);
+    let there = used_at(rt, &mut pair.desk, 1);
     let Pair { desk, to, into } = pair;
     let mut passes = Vec::new(alloc);
     let _ = passes.push(into);
@@ -158,10 +200,9 @@ fn after<R: Abort + Threads + Wait>(
 ) -> Result<&'static str, Fail> {
     let prepared = pair.desk.domain.prepare_move(alloc, 1)?;
     replies(rt, alloc, &mut pair.desk, calls)?;
-    let ticket = taken(rt, pair, &prepared);
+    let ticket = taken(rt, &mut pair.desk, &prepared);
     let (answer, ticket) = moved(pair, prepared, ticket);
-    let blank = pair.desk.gate.give(ticket);
-    let _ = pair.desk.blanks.push(blank);
+    give_back(&mut pair.desk, ticket);
     Ok(answer)
 }
 
@@ -175,12 +216,11 @@ fn step_by_step<R: Abort + Threads + Wait>(
     replies(rt, alloc, &mut pair.desk, TASK)?;
     let prepared = pair.desk.domain.prepare_move(alloc, 1)?;
     let before = used(rt, pair);
-    let ticket = taken(rt, pair, &prepared);
+    let ticket = taken(rt, &mut pair.desk, &prepared);
     let both = used(rt, pair);
     let (_, ticket) = moved(pair, prepared, ticket);
     let still = used(rt, pair);
-    let blank = pair.desk.gate.give(ticket);
-    let _ = pair.desk.blanks.push(blank);
+    give_back(&mut pair.desk, ticket);
     Ok([before, both, still, used(rt, pair)])
 }
 
