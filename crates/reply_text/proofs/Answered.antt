@@ -2,6 +2,8 @@
 use Rattle.std.proofs.Common.{◌≡◌, ℕ, List, [], ◌∷◌, ◌++◌, map, Option, Some, refl, sym, ap, ◌∙◌, append_assoc}
 use Rattle.std.specs.Prelude.{codes}
 use Rattle.std.specs.List.{flat_map}
+use Rattle.std.proofs.lemmas.Grind.{flat_map-append}
+use Rattle.std.proofs.lemmas.List.{append-nil}
 use Rattle.domain_run.specs.declared.call.Reply.{Reply}
 use Rattle.domain_run.specs.Domain.{Domain, opened}
 use Rattle.domain_run.specs.Calls.{reply_to, after_call}
@@ -39,3 +41,21 @@ headed s out line all lines first others whole =
     whole ∙ ap (λ (x : List ℕ). x ++ lines) (first ∙ append_assoc out (domain_line s) (codes "\n"))
     ∙ ap (λ (x : List ℕ). (out ++ (domain_line s ++ codes "\n")) ++ x) others
     ∙ append_assoc out (domain_line s ++ codes "\n") (text_of (answered_lines (opened s.cpus s.limit) s.entries))
+
+abbrev line_break : List ℕ → List ℕ
+line_break line = line ++ codes "\n"
+
+-- one more section was written
+pub section_more : (s : SectionView) (sections left : List SectionView) (out more all : List ℕ) → left ≡ s ∷ sections → more ≡ out ++ text_of (section_replies s) → out ++ replies_of left ≡ all → more ++ replies_of sections ≡ all
+section_more s sections left out more all first put was =
+    ap (λ (x : List ℕ). x ++ replies_of sections) put
+    ∙ append_assoc out (text_of (section_replies s)) (replies_of sections)
+    ∙ ap (λ (x : List ℕ). out ++ x) (sym (flat_map-append line_break (section_replies s) (flat_map section_replies sections)))
+    ∙ sym (ap (λ (ss : List SectionView). out ++ replies_of ss) first)
+    ∙ was
+
+pub history_more : (s : SectionView) (sections : List SectionView) (out more : List ℕ) → out ≡ replies_of sections → more ≡ out ++ text_of (section_replies s) → more ≡ replies_of (sections ++ s ∷ [])
+history_more s sections out more was put =
+    put ∙ ap (λ (x : List ℕ). x ++ text_of (section_replies s)) was
+    ∙ sym (flat_map-append line_break (flat_map section_replies sections) (section_replies s))
+    ∙ sym (ap text_of (flat_map-append section_replies sections (s ∷ []) ∙ ap (λ (ls : List (List ℕ)). flat_map section_replies sections ++ ls) (append-nil (section_replies s))))
