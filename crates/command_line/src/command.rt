@@ -57,8 +57,9 @@ fn print_run<'a>(alloc: Global) -> Arg<'a>
         × (rule_of result ≡ print_option names) }
     ensures local { result.global ≡ false }
 {
-    option(alloc, "print", "TEXT", "trace", RUN_PRINT_HELP)
-        .value_parser(ValueParser::Names(&RUN_TEXTS))
+    option(alloc, "print", "TEXT", "trace", RUN_PRINT_HELP).value_parser(ValueParser::Names(
+        &RUN_TEXTS,
+    ))
 }
 
 /// The option that says what is written of a replay.
@@ -67,8 +68,9 @@ fn print_replay<'a>(alloc: Global) -> Arg<'a>
         × (rule_of result ≡ print_option names) }
     ensures local { result.global ≡ false }
 {
-    option(alloc, "print", "TEXT", "trace", REPLAY_PRINT_HELP)
-        .value_parser(ValueParser::Names(&REPLAY_TEXTS))
+    option(alloc, "print", "TEXT", "trace", REPLAY_PRINT_HELP).value_parser(ValueParser::Names(
+        &REPLAY_TEXTS,
+    ))
 }
 
 /// The flag by which every task reclaims.

@@ -60,11 +60,7 @@ pub(crate) fn put_asked(out: &mut Vec<u8>, entry: &Entry) -> Result<(), NoMemory
 }
 
 /// The line of a call with this reply, and its line break.
-pub(crate) fn put_answered(
-    out: &mut Vec<u8>,
-    entry: &Entry,
-    reply: Reply,
-) -> Result<(), NoMemory>
+pub(crate) fn put_answered(out: &mut Vec<u8>, entry: &Entry, reply: Reply) -> Result<(), NoMemory>
     ensures { OnOk result (out.new.items
         ≡ out.old.items ++ (answered_line entry.now reply ++ codes "\n")) }
 {

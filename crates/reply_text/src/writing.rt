@@ -28,11 +28,7 @@ fn put_made(out: &mut Vec<u8>, state: &mut State, entry: Entry) -> Result<(), No
 }
 
 /// Makes the calls of entries, and puts down their lines.
-fn put_all_made(
-    out: &mut Vec<u8>,
-    state: &mut State,
-    entries: Vec<Entry>,
-) -> Result<(), NoMemory>
+fn put_all_made(out: &mut Vec<u8>, state: &mut State, entries: Vec<Entry>) -> Result<(), NoMemory>
     requires entries { All IsEntry entries.items }
     requires early { state.old.time + length entries.items * 60000000 ≤ 2 ^ 42 }
     ensures { OnOk result (out.new.items

@@ -6,8 +6,7 @@ use Rattle.dlsim.proofs.words.prints.Goals as goal
 
 pub returns : goal.returns
 returns c =
-    let rows = first_value-rows (found_of c.args.found.now) (codes "print") in
-    (
+    let rows = first_value-rows (found_of c.args.found.now) (codes "print") in (
       λ yes. sym rows ∙ (sym c.get_str.ensures ∙ same c.get_str.result (Some c.args.text) (sym yes ∙ c.eq.ensures)),
       λ is. is_same c.eq.result c.get_str.result (Some c.args.text) c.eq.ensures (c.get_str.ensures ∙ (rows ∙ is)),
     )

@@ -1,5 +1,4 @@
-use Rattle.std.proofs.Common.{◌≡◌, ◌∷◌, length, ap, subst, arith}
-use Rattle.std.specs.Prelude.{All}
+use Rattle.std.proofs.Common.{◌≡◌, ◌∷◌, length, ap, arith}
 use Rattle.std.proofs.lemmas.List.Elements.{All-rest}
 use Rattle.call_book.specs.Limits.{IsEntry}
 use Rattle.reply_text.proofs.Answered.{made_more}
