@@ -57,6 +57,11 @@ def replayed(name, lines, *switches, header="dlcalls 1"):
     return Row(name, "replay", calls(header, *lines), 0, trace(*switches), "")
 
 
+def answered(name, words, text, lines):
+    """A text on standard input, and the calls that it makes with their replies."""
+    return Row(name, words + " --print replies", text, 0, calls(*lines), "")
+
+
 def bad(name, text, line):
     return Row(name, "replay", text, 1, "", f"dlsim: calls 30 line {line}\n")
 
@@ -77,6 +82,29 @@ RACE = scenario(("t", working(500, 1000, 100, ',"sleep":900,"instance":8')))
 RACE_CALLS = calls("dlcalls 1", "domain 2 996147", *(f"admit 1 {n} t-{n - 1} 500 1000 1000 - 0 -1:1{{r100,s900}}" for n in (1, 2, 3)))
 TWO_WORDS = scenario(("a", working(600, 1000, 100, ',"instance":2,"cpus":[0]')), ("b", working(600, 1000, 100, ',"cpus":[1]')))
 ELSEWHERE = scenario(("t", working(500, 1000, 100, ',"cpus":[0]')), duration=1)
+# Each call of the list has its reply behind it.
+ANSWERED = [
+    DOMAIN,
+    "admit 1 1 a 4 8 8 - 0 -1:1{r1,w} = Admitted",
+    "admit 2 1 a 4 8 8 - 0 -1:1{r1,w} = Twice 41",
+    "admit 1 2 b 5 8 8 - 0 1:1{r1} = EBUSY 16 seen 524288",
+    "regrade 1 1 2 8 8 - = Changed",
+    "regrade 1 1 2 8 8 - busy 7 = EBUSY 16 seen 7",
+    "regrade 1 7 2 8 8 - = ESRCH 3",
+    "wake 1 1 = NotWaiting 42",
+    "advance 1 2 = Done 2",
+    "wake 1 1 = Woken",
+    "limit 1 262143 = EBUSY 16 seen 262144",
+    "limit 1 262144 = Set",
+    "depart 1 1 = Departed",
+    "leave 1 1 = ESRCH 3",
+    "arrive 1 3 c 2 8 8 - 1:1{r1} = Admitted",
+    "arrive 1 1 a 2 8 8 - 1:1{r1} = Twice 41",
+    "leave 64 3 = Left",
+    "domain 64 1048576",
+    *(f"admit 1 {n} t 2 1024 1024 - 0 1:1{{r1}} = Admitted" for n in range(1, 257)),
+    "admit 1 257 t 2 1024 1024 - 0 1:1{r1} = Full 40",
+]
 BUSY = "".join(f"dlsim: task {n} EBUSY 16 seen 1572864\n" for n in range(4, 9))
 
 TEXTS = [
@@ -158,6 +186,22 @@ TEXTS = [
         ((1, 7), A, "S", IDLE),
         header="dlcalls 2",
     ),
+    answered("each reply", "replay", calls("dlcalls 2", *(line.partition(" = ")[0] for line in ANSWERED)), ANSWERED),
+    answered("no calls", "replay", calls("dlcalls 1", DOMAIN, "domain 2 10485"), [DOMAIN, "domain 2 10485"]),
+    answered(
+        "a run with an advance",
+        "run --domains 1,1",
+        ELSEWHERE,
+        [
+            "domain 1 996147",
+            "admit 1 1 t 500 1000 1000 - 0 -1:1{r100} = Admitted",
+            "advance 1 1000000 = Done 1000000",
+            "domain 1 996147",
+            "advance 1 1000000 = Done 1000000",
+        ],
+    ),
+    Row("the replies of a run that refused", "run --domains 2 --print replies", RACE, 0, RACE_CALLS.partition("\n")[2].replace("}\n", "} = Admitted\n"), BUSY),
+    Row("the replies to no text", "replay --print replies", "dlcalls 1\n", 1, "", "dlsim: calls 30 line 2\n"),
     Row("members in the order of the text", "run --print calls", MEMBER_ORDER, 0, calls("dlcalls 1", "domain 1 996147", "admit 1 1 p 5 10 10 - 0 -1:2{r3,s7}1{r4,s2,r1}"), ""),
     Row("the first three of eight find room", "run --domains 2 --print calls", RACE, 0, RACE_CALLS, BUSY),
     Row("the calls that were made, replayed", "replay", RACE_CALLS, 0, HEADER, ""),

@@ -33,4 +33,4 @@ pub use domain_run::{Call, NoMemory, Reply};
 pub use fault::CallsFault;
 pub use reading::read_calls;
 pub use section::{Entry, Section};
-pub use writing::write_calls;
+pub use writing::{put_call, put_domain, write_calls};

@@ -2,7 +2,7 @@
 
 ghost use Rattle.std.specs.Prelude.{◌≡◌, ◌∷◌, ◌++◌, map, codes, decimal, IfOk, OnOk};
 ghost use Rattle.std.specs.List.{flat_map};
-ghost use Rattle.call_book.specs.Spelling.{event_text, events_text, phase_text, loops_text, script_text, line_of, call_fields, entry_line, section_lines, header_line, text_of, spelling};
+ghost use Rattle.call_book.specs.Spelling.{event_text, events_text, phase_text, loops_text, script_text, line_of, call_fields, entry_line, domain_line, section_lines, header_line, text_of, spelling};
 ghost use Rattle.call_book.specs.Limits.{AreRead};
 ghost use Rattle.call_book.specs.private.Reading.{entries_text};
 ghost use Rattle.call_book.specs.private.Writing.{params_text, head_text, busy_text};
@@ -158,7 +158,12 @@ fn put_plan(out: &mut Vec<u8>, delay: u64, script: &Script) -> Result<(), NoMemo
     put_script(out, script)
 }
 
-fn put_call(out: &mut Vec<u8>, client: u32, call: &Call) -> Result<(), NoMemory>
+/// Puts the line of a client's call behind a text, as calls text has it (own), without a line
+/// break.
+///
+/// # Errors
+/// 12 [`NoMemory`]: a growth was refused; a part of the line may stand behind the text.
+pub fn put_call(out: &mut Vec<u8>, client: u32, call: &Call) -> Result<(), NoMemory>
     ensures { OnOk result (out.new.items ≡ out.old.items ++ line_of (call_fields client call.now)) }
 {
     match call {
@@ -221,13 +226,24 @@ fn put_entries(out: &mut Vec<u8>, entries: &[Entry]) -> Result<(), NoMemory>
     Ok(())
 }
 
+/// Puts the line of a section's domain behind a text, as calls text has it (own), without a line
+/// break.
+///
+/// # Errors
+/// 12 [`NoMemory`]: a growth was refused; a part of the line may stand behind the text.
+pub fn put_domain(out: &mut Vec<u8>, section: &Section) -> Result<(), NoMemory>
+    ensures { OnOk result (out.new.items ≡ out.old.items ++ domain_line section.now) }
+{
+    put(out, b"domain")?;
+    put_field(out, u64::from(section.cpus))?;
+    put_field(out, section.limit)
+}
+
 /// The lines of a section, each with its line break.
 fn put_section(out: &mut Vec<u8>, section: &Section) -> Result<(), NoMemory>
     ensures { OnOk result (out.new.items ≡ out.old.items ++ text_of (section_lines section.now)) }
 {
-    put(out, b"domain")?;
-    put_field(out, u64::from(section.cpus))?;
-    put_field(out, section.limit)?;
+    put_domain(out, section)?;
     put(out, b"\n")?;
     put_entries(out, &section.entries)
 }

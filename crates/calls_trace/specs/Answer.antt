@@ -9,6 +9,9 @@ use Rattle.counted_io.specs.Sides.{Side, HasNoFault, HasOneFault}
 use Rattle.counted_io.specs.Faults.{TakesFront}
 use Rattle.calls_trace.specs.declared.fault.ReplayFault.{ReplayFault}
 use Rattle.calls_trace.specs.declared.fault.ReplayFault.TheVariants.{Calls, Read, Write, Memory}
+use Rattle.calls_trace.specs.declared.replaying.ReplayPrint.{ReplayPrint}
+use Rattle.calls_trace.specs.declared.replaying.ReplayPrint.TheVariants.{Trace, Replies}
+use Rattle.reply_text.specs.Replies.{replies_of}
 use Rattle.calls_trace.specs.Replay.{trace_of_sections}
 
 -- what a call of replay met: its reader and its writer, each before the call and after it
@@ -33,13 +36,17 @@ pub record AreSpelled (s : Streams) (sections : List SectionView) : Type 0 where
   pub read : AreRead sections
   pub spelled : text ≡ spelling sections
 
--- the input spells sections, and their trace was written, and nothing else
-pub record IsAnswered (s : Streams) : Type 0 where
+-- the input spells sections, and this text of them was written, and nothing else
+pub record IsAnsweredBy (text : List SectionView → List ℕ) (s : Streams) : Type 0 where
   pub sections : List SectionView
   pub input : AreSpelled s sections
-  pub written : Appends s.writer.before.bytes s.writer.after.bytes (trace_of_sections sections)
+  pub written : Appends s.writer.before.bytes s.writer.after.bytes (text sections)
   pub reads : HasNoFault s.reader
   pub writes : HasNoFault s.writer
+
+-- the input spells sections, and their trace was written, and nothing else
+abbrev pub IsAnswered : Streams → Type 0
+IsAnswered = IsAnsweredBy trace_of_sections
 
 -- the input has this first bad line, and nothing was written
 pub record IsRefused (s : Streams) (n : ℕ) : Type 0 where
@@ -56,12 +63,11 @@ pub record IsUnread (s : Streams) : Type 0 where
   pub reads : HasOneFault s.reader
   pub writes : HasNoFault s.writer
 
--- the writer failed: exactly so many bytes of the trace of the sections were taken, and not all
-pub record IsCutOff (s : Streams) (written : ℕ) : Type 0 where
+-- the writer failed: exactly so many bytes of this text of the sections were taken, and not all
+pub record IsCutOff (text : List SectionView → List ℕ) (s : Streams) (written : ℕ) : Type 0 where
   pub sections : List SectionView
   pub input : AreSpelled s sections
-  pub taken : TakesFront s.writer.before.bytes s.writer.after.bytes
-      (trace_of_sections sections) written
+  pub taken : TakesFront s.writer.before.bytes s.writer.after.bytes (text sections) written
   pub reads : HasNoFault s.reader
   pub writes : HasOneFault s.writer
 
@@ -71,9 +77,19 @@ pub record IsOutOfMemory (s : Streams) : Type 0 where
   pub reads : HasNoFault s.reader
   pub writes : HasNoFault s.writer
 
--- a fault is what was met
+-- a fault is what was met, where this text was to be written
+abbrev pub IsFaultBy : (List SectionView → List ℕ) → Streams → ReplayFault → Type 0
+IsFaultBy text s (Calls n) = IsRefused s n
+IsFaultBy text s Read = IsUnread s
+IsFaultBy text s (Write written) = IsCutOff text s written
+IsFaultBy text s Memory = IsOutOfMemory s
+
 abbrev pub IsFaultOf : Streams → ReplayFault → Type 0
-IsFaultOf s (Calls n) = IsRefused s n
-IsFaultOf s Read = IsUnread s
-IsFaultOf s (Write written) = IsCutOff s written
-IsFaultOf s Memory = IsOutOfMemory s
+IsFaultOf = IsFaultBy trace_of_sections
+
+-- ---- what is asked for
+
+-- what is written of sections: the trace of their run, or their calls with the replies
+abbrev pub replayed : ReplayPrint → List SectionView → List ℕ
+replayed Trace = trace_of_sections
+replayed Replies = replies_of

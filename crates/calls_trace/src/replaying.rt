@@ -1,20 +1,134 @@
-//! From bytes to bytes: recorded calls in, their trace out.
+//! From bytes to bytes: recorded calls in, a text of their run out.
 
-ghost use Rattle.std.specs.Prelude.{◌<◌, ◌^◌, OnOk, IfErr};
+ghost use Rattle.std.specs.Prelude.{◌<◌, ◌≤◌, ◌^◌, All, OnOk, IfErr, length};
 ghost use Rattle.counted_io.specs.Sides.{faults_of, side};
-ghost use Rattle.calls_trace.specs.Answer.{streams, IsAnswered, IsFaultOf};
+ghost use Rattle.call_book.specs.Limits.{IsSection};
+ghost use Rattle.calls_trace.specs.Answer.{streams, IsAnswered, IsAnsweredBy, IsFaultBy, IsFaultOf, replayed};
+ghost use Rattle.calls_trace.specs.Written.{IsWritten, IsUnwritten};
+ghost use Rattle.reply_text.specs.Replies.{replies_of};
+ghost use Rattle.calls_trace.specs.Replay.{trace_of_sections};
 
-use crate::fault::ReplayFault;
+use crate::fault::{ReplayFault, TraceFault};
 use crate::placed_run::run_sections;
 use crate::trace::write_runs;
-use call_book::{CallsFault, read_calls};
+use call_book::{CallsFault, Section, read_calls};
+use reply_text::write_replies;
 use std::alloc::Global;
 use std::io::{Read, Write};
-use switch_text::{Counted, ReadFault};
+use switch_text::{Counted, ReadFault, write_text};
+
+/// What is written of a replay.
+#[derive(Clone, Copy, Debug, PartialEq, Eq)]
+pub enum ReplayPrint {
+    /// The trace: a sched_switch line for each switch.
+    Trace,
+    /// The calls, each with its reply.
+    Replies,
+}
+
+/// Writes the trace of the run of sections.
+fn write_trace<W: Write>(
+    alloc: Global,
+    sections: Vec<Section>,
+    writer: &mut Counted<W>,
+) -> Result<(), TraceFault>
+    requires few { length sections.items ≤ 8 }
+    requires sections { All IsSection sections.items }
+    requires faults { faults_of writer.old < 2 ^ 63 }
+    ensures ok { OnOk result
+        (IsWritten (side W.contents writer.old writer.new) (trace_of_sections sections.items)) }
+    ensures err { IfErr result
+        (IsUnwritten (side W.contents writer.old writer.new) (trace_of_sections sections.items)) }
+{
+    let runs = run_sections(alloc, sections)?;
+    write_runs(alloc, &runs, writer)
+}
+
+/// Writes the calls of sections with their replies, in one piece.
+fn write_answered<W: Write>(
+    alloc: Global,
+    sections: Vec<Section>,
+    writer: &mut Counted<W>,
+) -> Result<(), TraceFault>
+    requires sections { All IsSection sections.items }
+    requires faults { faults_of writer.old < 2 ^ 63 }
+    ensures ok { OnOk result
+        (IsWritten (side W.contents writer.old writer.new) (replies_of sections.items)) }
+    ensures err { IfErr result
+        (IsUnwritten (side W.contents writer.old writer.new) (replies_of sections.items)) }
+{
+    let text = write_replies(alloc, sections)?;
+    match write_text(&text, writer) {
+        Ok(()) => Ok(()),
+        Err(fault) => Err(TraceFault::Write {
+            written: fault.written,
+        }),
+    }
+}
+
+/// Writes what is asked for of sections.
+fn write_sections<W: Write>(
+    alloc: Global,
+    print: ReplayPrint,
+    sections: Vec<Section>,
+    writer: &mut Counted<W>,
+) -> Result<(), TraceFault>
+    requires few { length sections.items ≤ 8 }
+    requires sections { All IsSection sections.items }
+    requires faults { faults_of writer.old < 2 ^ 63 }
+    ensures ok { OnOk result
+        (IsWritten (side W.contents writer.old writer.new) (replayed print sections.items)) }
+    ensures err { IfErr result
+        (IsUnwritten (side W.contents writer.old writer.new) (replayed print sections.items)) }
+{
+    match print {
+        ReplayPrint::Trace => write_trace(alloc, sections, writer),
+        ReplayPrint::Replies => write_answered(alloc, sections, writer),
+    }
+}
 
 /// Reads a calls text to its end, runs the calls of each of its 1 to 8 sections on a domain of its
-/// own, and writes one trace of all domains, by time and CPU of the machine: the first domain has
-/// the first CPUs of the machine, the second the next ones.
+/// own, and writes what is asked for: one trace of all domains, by time and CPU of the machine, in
+/// which the first domain has the first CPUs of the machine, the second the next ones; or each
+/// section's calls, each with the reply that it gets.
+///
+/// `Ok`: the input spells sections, and what was written is that text of their run, and nothing
+/// else.
+///
+/// # Errors
+/// [`ReplayFault::Calls`] with the first bad line of the input, [`ReplayFault::Read`] where the
+/// reader failed, [`ReplayFault::Memory`] where a growth was refused: nothing was written.
+/// [`ReplayFault::Write`] where the writer failed: it took exactly so many bytes, the front of the
+/// text, and not all.
+pub fn replay_as<R: Read, W: Write>(
+    alloc: Global,
+    reader: &mut Counted<R>,
+    writer: &mut Counted<W>,
+    print: ReplayPrint,
+) -> Result<(), ReplayFault>
+    requires reader { faults_of reader.old < 2 ^ 63 }
+    requires writer { faults_of writer.old < 2 ^ 63 }
+    ensures ok { OnOk result
+        (IsAnsweredBy (replayed print) (streams (side R.remaining reader.old reader.new)
+        (side W.contents writer.old writer.new))) }
+    ensures err { IfErr result
+        (IsFaultBy (replayed print) (streams (side R.remaining reader.old reader.new)
+        (side W.contents writer.old writer.new))) }
+{
+    let text = match reader.read_all(alloc) {
+        Ok(text) => text,
+        Err(ReadFault::Failed) => return Err(ReplayFault::Read),
+        Err(ReadFault::Memory) => return Err(ReplayFault::Memory),
+    };
+    let sections = match read_calls(alloc, &text) {
+        Ok(sections) => sections,
+        Err(CallsFault::BadLine { n }) => return Err(ReplayFault::Calls(n)),
+        Err(CallsFault::Memory) => return Err(ReplayFault::Memory),
+    };
+    Ok(write_sections(alloc, print, sections, writer)?)
+}
+
+/// As [`replay_as`], for the trace.
 ///
 /// `Ok`: the input spells sections, and what was written is the trace of their run, and nothing
 /// else.
@@ -38,19 +152,5 @@ pub fn replay<R: Read, W: Write>(
         (IsFaultOf (streams (side R.remaining reader.old reader.new)
         (side W.contents writer.old writer.new))) }
 {
-    let text = match reader.read_all(alloc) {
-        Ok(text) => text,
-        Err(ReadFault::Failed) => return Err(ReplayFault::Read),
-        Err(ReadFault::Memory) => return Err(ReplayFault::Memory),
-    };
-    let sections = match read_calls(alloc, &text) {
-        Ok(sections) => sections,
-        Err(CallsFault::BadLine { n }) => return Err(ReplayFault::Calls(n)),
-        Err(CallsFault::Memory) => return Err(ReplayFault::Memory),
-    };
-    let runs = match run_sections(alloc, sections) {
-        Ok(runs) => runs,
-        Err(_) => return Err(ReplayFault::Memory),
-    };
-    Ok(write_runs(alloc, &runs, writer)?)
+    replay_as(alloc, reader, writer, ReplayPrint::Trace)
 }

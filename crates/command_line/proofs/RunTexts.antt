@@ -1,11 +1,11 @@
--- The options of `run` have texts that they take, where clap's rules refuse no word.
+-- The options of `run`, and that of `replay`, have texts that they take, where clap's rules refuse no word.
 use Rattle.std.proofs.Common.{◌≡◌, ◌∙◌, ◌⊎◌, ◌||◌, ℕ, true, false, List, [], ◌∷◌, map, Option, Some, None, is_some, unwrap_or, refl, sym, ap, subst, inl, inr, ⊎_elim, option_map, arith, find, codes, Bor, Result, Ok, Err, IfOk, slice_index, true≢false}
 use Rattle.std.specs.List.{AllByRecursion, list_any}
 use Rattle.std.specs.Option.{option_map_or}
 use Rattle.std.specs.Str.{bytes_eq}
 use Rattle.std.proofs.lemmas.Slice.Eq.{bytes_eq-Decides}
 use Rattle.clap.specs.Values.{read_as, reading_of}
-use Rattle.clap.specs.Words.{App, kind_of, Row, Rule, Text, built, fault_of, subcommand_of}
+use Rattle.clap.specs.Words.{App, kind_of, Row, Rule, Text, built, fault_of, first_of, subcommand_of}
 use Rattle.clap.specs.Facts.{parser_of_value}
 use Rattle.clap.specs.Faults.{entered_fault, level_fault, walk_fault}
 use Rattle.clap.specs.Simple.{Shape, argument_words, entered, label_of, names_of, rows_at}
@@ -16,19 +16,31 @@ use Rattle.clap.specs.declared.builder.value_parser.ValueParser.TheVariants.{Uns
 use Rattle.clap.specs.declared.error.Error.{Error}
 use Rattle.clap.specs.declared.error.kind.ErrorKind.TheVariants.{OutOfMemory}
 use Rattle.clap.specs.declared.parser.matches.ArgMatches.{ArgMatches}
-use Rattle.command_line.specs.Commands.{AreTexts, HeldNames, program_app}
-use Rattle.command_line.specs.Reading.{HasNumber, HasTexts, HasTextsOfRun, IsReading}
+use Rattle.command_line.specs.Commands.{AreHeld, AreTexts, HeldNames, program_app, replay_texts, run_texts}
+use Rattle.command_line.specs.Reading.{HasNumber, HasText, HasTextOfReplay, HasTexts, HasTextsOfRun, IsOneAt, IsReading}
 use Rattle.command_line.proofs.Passed.{HasPassing, IsKnown, found_has, level_has, neither, or_cases}
 
-abbrev app : HeldNames → App
-app names = built (program_app names)
+abbrev app : HeldNames → HeldNames → App
+app run replay = built (program_app run replay)
 
--- `run` as it is built
-abbrev run_shape : HeldNames → Shape
-run_shape names = unwrap_or (find (λ s. bytes_eq s.name (codes "run")) (app names).subs) (app names).top
+-- a command as it is built
+abbrev shape_of : Text → HeldNames → HeldNames → Shape
+shape_of name run replay = unwrap_or (find (λ s. bytes_eq s.name name) (app run replay).subs) (app run replay).top
 
-known : (names : HeldNames) → AllByRecursion (IsKnown (run_shape names).rules) (run_shape names).rules
-known names = (
+abbrev run_shape : HeldNames → HeldNames → Shape
+run_shape run replay = shape_of (codes "run") run replay
+
+abbrev replay_shape : HeldNames → HeldNames → Shape
+replay_shape run replay = shape_of (codes "replay") run replay
+
+known_replay : (run replay : HeldNames) → AllByRecursion (IsKnown (replay_shape run replay).rules) (replay_shape run replay).rules
+known_replay run replay = (
+  record { by_id = refl; action = inl (refl, refl) },
+  (record { by_id = refl; action = inr (inr refl) }, tt),
+)
+
+known : (run replay : HeldNames) → AllByRecursion (IsKnown (run_shape run replay).rules) (run_shape run replay).rules
+known run replay = (
   record { by_id = refl; action = inl (refl, refl) },
   (
     record { by_id = refl; action = inl (refl, refl) },
@@ -59,11 +71,11 @@ number_at rows a most is has = (
   accepts-Accepts a.ignore_case (Unsigned 1 most) has.first (subst (λ p. accepts a.ignore_case (parser_of_value p) has.first ≡ true) is has.passes),
 )
 
--- a test of two texts passes one of them
-one_of_two : (a b text : Text) → (bytes_eq a text || (bytes_eq b text || false)) ≡ true → (text ≡ a) ⊎ (text ≡ b)
-one_of_two a b text e = ⊎_elim (λ first. inl (sym ((bytes_eq-Decides a text).0 first)))
-    (λ later. ⊎_elim (λ second. inr (sym ((bytes_eq-Decides b text).0 second))) (λ none. absurd (true≢false (sym none))) (or_cases (bytes_eq b text) false later))
-    (or_cases (bytes_eq a text) _ e)
+-- a test of texts passes one of them
+one_among : (rows : List Row) (name text : Text) (texts : List Text) → first_of name rows ≡ Some text → list_any (λ t. bytes_eq t text) texts ≡ true → IsOneAt rows name texts
+one_among rows name text [] is e = true≢false (sym e)
+one_among rows name text (t ∷ ts) is e =
+    ⊎_elim (λ first. inl (is ∙ ap (λ x. Some x) (sym ((bytes_eq-Decides t text).0 first)))) (λ later. inr (one_among rows name text ts is later)) (or_cases (bytes_eq t text) _ e)
 
 any_now : (names : HeldNames) (text : Text) → list_any (λ name. bytes_eq name.now text) names.now ≡ list_any (λ name. bytes_eq name text) (map (λ name. name.now) names.now)
 any_now names text = go names.now
@@ -72,11 +84,17 @@ any_now names text = go names.now
     go [] = refl
     go (x ∷ xs) = ap (λ t. bytes_eq x.now text || t) (go xs)
 
-run_texts : (names : HeldNames) → AreTexts names → (words : List Text) → level_fault (run_shape names) [] nothing_held words false [] ≡ []
-    → HasTexts (rows_after (run_shape names).rules [] words)
-run_texts names texts words e =
-    let rows = rows_after (run_shape names).rules [] words in
-    let has = level_has (run_shape names) (known names) (λ i. refl) words e in
+-- at an option with names that clap holds is one of them
+held_at : (rows : List Row) (name text : Text) (texts : List Text) (names : HeldNames) → AreTexts texts names → first_of name rows ≡ Some text
+    → list_any (λ t. bytes_eq t.now text) names.now ≡ true → IsOneAt rows name texts
+held_at rows name text texts names are is passes =
+    one_among rows name text texts is (subst (λ ts. list_any (λ t. bytes_eq t text) ts ≡ true) are (sym (any_now names text) ∙ passes))
+
+run_has : (run replay : HeldNames) → AreHeld run replay → (words : List Text) → level_fault (run_shape run replay) [] nothing_held words false [] ≡ []
+    → HasTexts (rows_after (run_shape run replay).rules [] words)
+run_has run replay held words e =
+    let rows = rows_after (run_shape run replay).rules [] words in
+    let has = level_has (run_shape run replay) (known run replay) (λ i. refl) words e in
     let domains = has.0 refl in
     let reclaim = has.1.1.1.1.1.0 refl in
     let print = has.1.1.1.1.1.1.0 refl in
@@ -88,57 +106,79 @@ run_texts names texts words e =
       workers = number_at rows _ 8 refl (has.1.1.1.1.0 refl);
       reclaim = ⊎_elim (λ is. inl (reclaim.one_is ∙ ap (λ t. Some t) is)) (λ is. inr (reclaim.one_is ∙ ap (λ t. Some t) is))
           (is_bool reclaim.first reclaim.passes);
-      print = ⊎_elim (λ is. inl (print.first_is ∙ ap (λ t. Some t) is)) (λ is. inr (print.first_is ∙ ap (λ t. Some t) is))
-          (one_of_two (codes "trace") (codes "calls") print.first (subst (λ ts. list_any (λ name. bytes_eq name print.first) ts ≡ true) texts (sym (any_now names print.first) ∙ print.passes)));
+      print = held_at rows (codes "print") print.first run_texts run held.of_run print.first_is print.passes;
     }
   where
     is_bool : (text : Text) → (bytes_eq text (codes "true") || bytes_eq text (codes "false")) ≡ true → (text ≡ codes "true") ⊎ (text ≡ codes "false")
     is_bool text e = ⊎_elim (λ t. inl ((bytes_eq-Decides text (codes "true")).0 t)) (λ f. inr ((bytes_eq-Decides text (codes "false")).0 f)) (or_cases (bytes_eq text (codes "true")) _ e)
 
-abbrev IsRunThen : Shape → Type 0
-IsRunThen s = (words : List Text) → s.name ≡ codes "run" → level_fault s [] nothing_held words false [] ≡ [] → HasTexts (rows_after s.rules [] words)
+replay_has : (run replay : HeldNames) → AreHeld run replay → (words : List Text) → level_fault (replay_shape run replay) [] nothing_held words false [] ≡ []
+    → HasText (rows_after (replay_shape run replay).rules [] words)
+replay_has run replay held words e =
+    let rows = rows_after (replay_shape run replay).rules [] words in
+    let print = (level_has (replay_shape run replay) (known_replay run replay) (λ i. refl) words e).0 refl in
+    record { print = held_at rows (codes "print") print.first replay_texts replay held.of_replay print.first_is print.passes }
 
-each_sub : (names : HeldNames) → AreTexts names → AllByRecursion IsRunThen (app names).subs
-each_sub names texts = (
-  λ words name e. run_texts names texts words e,
+-- what a command of this name has
+abbrev HasThen : Text → (List Row → Type 0) → Shape → Type 0
+HasThen named P s = (words : List Text) → s.name ≡ named → level_fault s [] nothing_held words false [] ≡ [] → P (rows_after s.rules [] words)
+
+each_run : (run replay : HeldNames) → AreHeld run replay → AllByRecursion (HasThen (codes "run") HasTexts) (app run replay).subs
+each_run run replay held = (
+  λ words name e. run_has run replay held words e,
   (
     λ words name e. let bad : 101 ≡ 117 = ap (λ xs. slice_index xs 1) name in absurd (omega arith),
     (λ words name e. let bad : 104 ≡ 114 = ap (λ xs. slice_index xs 0) name in absurd (omega arith), tt),
   ),
 )
 
-at_shape : (o : Option Shape) (words : List Text) (rows : List Row) → ((s : Shape) → o ≡ Some s → IsRunThen s)
-    → option_map (λ s. rows_at s words) o ≡ Some (codes "run", rows) → option_map_or (λ s. level_fault s [] nothing_held words false []) o [] ≡ [] → HasTexts rows
-at_shape None words rows known is e = absurd (true≢false (sym (ap is_some is)))
-at_shape (Some s) words rows known is e =
-    let pair = ap (λ (o : Option (Text × List Row)). unwrap_or o (codes "run", rows)) is in
-    subst HasTexts (ap (λ (p : Text × List Row). p.1) pair) (known s refl words (ap (λ (p : Text × List Row). p.0) pair) e)
+each_replay : (run replay : HeldNames) → AreHeld run replay → AllByRecursion (HasThen (codes "replay") HasText) (app run replay).subs
+each_replay run replay held = (
+  λ words name e. let bad : 117 ≡ 101 = ap (λ xs. slice_index xs 1) name in absurd (omega arith),
+  (
+    λ words name e. replay_has run replay held words e,
+    (λ words name e. let bad : 104 ≡ 114 = ap (λ xs. slice_index xs 0) name in absurd (omega arith), tt),
+  ),
+)
 
-at_stop : (names : HeldNames) → AreTexts names → (stop : Option (Text × List Text)) (rows : List Row) → entered (app names) stop ≡ Some (codes "run", rows)
-    → entered_fault (app names) stop ≡ [] → HasTexts rows
-at_stop names texts None rows is e = absurd (true≢false (sym (ap is_some is)))
-at_stop names texts (Some p) rows is e =
-    at_shape (find (λ s. answers_to p.0 (label_of s)) (app names).subs) p.1 rows (λ s found. found_has IsRunThen (λ x. answers_to p.0 (label_of x)) (app names).subs s (each_sub names texts) found) is e
+at_shape : (named : Text) (P : List Row → Type 0) (o : Option Shape) (words : List Text) (rows : List Row) → ((s : Shape) → o ≡ Some s → HasThen named P s)
+    → option_map (λ s. rows_at s words) o ≡ Some (named, rows) → option_map_or (λ s. level_fault s [] nothing_held words false []) o [] ≡ [] → P rows
+at_shape named P None words rows known is e = absurd (true≢false (sym (ap is_some is)))
+at_shape named P (Some s) words rows known is e =
+    let pair = ap (λ (o : Option (Text × List Row)). unwrap_or o (named, rows)) is in
+    subst P (ap (λ (p : Text × List Row). p.1) pair) (known s refl words (ap (λ (p : Text × List Row). p.0) pair) e)
 
--- where clap's rules find `run` in the words and refuse none, each option has a text that it takes
-pub has_texts : (names : HeldNames) → AreTexts names → (words : List Text) (rows : List Row) → subcommand_of (program_app names) words ≡ Some (codes "run", rows)
-    → fault_of (program_app names) words ≡ [] → HasTexts rows
-has_texts names texts words rows is e =
-    let given = argument_words (program_app names) words in
-    let stop = stop_after (app names).top.rules (names_of (app names)) given in
-    let past_walk = neither (walk_fault (app names).top (names_of (app names)) (walk_from nothing_held) given) _ e in
-    at_stop names texts stop rows is (neither _ _ past_walk.1).0
+at_stop : (a : App) (named : Text) (P : List Row → Type 0) → AllByRecursion (HasThen named P) a.subs → (stop : Option (Text × List Text)) (rows : List Row) → entered a stop ≡ Some (named, rows)
+    → entered_fault a stop ≡ [] → P rows
+at_stop a named P each None rows is e = absurd (true≢false (sym (ap is_some is)))
+at_stop a named P each (Some p) rows is e =
+    at_shape named P (find (λ s. answers_to p.0 (label_of s)) a.subs) p.1 rows (λ s found. found_has (HasThen named P) (λ x. answers_to p.0 (label_of x)) a.subs s each found) is e
+
+-- where clap's rules find a command in the words and refuse none, its options have texts that they take
+found_at : (run replay : HeldNames) (named : Text) (P : List Row → Type 0) → AllByRecursion (HasThen named P) (app run replay).subs → (words : List Text) (rows : List Row)
+    → subcommand_of (program_app run replay) words ≡ Some (named, rows) → fault_of (program_app run replay) words ≡ [] → P rows
+found_at run replay named P each words rows is e =
+    let given = argument_words (program_app run replay) words in
+    let a = app run replay in
+    let stop = stop_after a.top.rules (names_of a) given in
+    let past_walk = neither (walk_fault a.top (names_of a) (walk_from nothing_held) given) _ e in
+    at_stop a named P each stop rows is (neither _ _ past_walk.1).0
 
 -- what was read has them
 pub reading_has : (words : List Text) (r : Result ArgMatches Error) → IsReading words r → IfOk r HasTextsOfRun
-reading_has words (Ok m) reading = λ rows is. has_texts reading.names reading.are_texts words rows (sym reading.found ∙ is) reading.refused
+reading_has words (Ok m) reading = λ rows is. found_at reading.run reading.replay (codes "run") HasTexts (each_run reading.run reading.replay reading.are_held) words rows (sym reading.found ∙ is) reading.refused
 reading_has words (Err e) reading = tt
+
+pub reading_has_replay : (words : List Text) (r : Result ArgMatches Error) → IsReading words r → IfOk r HasTextOfReplay
+reading_has_replay words (Ok m) reading = λ rows is. found_at reading.run reading.replay (codes "replay") HasText (each_replay reading.run reading.replay reading.are_held) words rows (sym reading.found ∙ is) reading.refused
+reading_has_replay words (Err e) reading = tt
 
 -- words are read where memory runs out before them
 pub refused_for_memory : (words : List Text) (e : Error) → kind_of e ≡ OutOfMemory → IsReading words (Err e)
 refused_for_memory words e is = record {
-  names = record { ref_ptr = (0, 0); now = held (codes "trace") ∷ held (codes "calls") ∷ [] };
-  are_texts = refl;
+  run = record { ref_ptr = (0, 0); now = map held run_texts };
+  replay = record { ref_ptr = (0, 0); now = map held replay_texts };
+  are_held = record { of_run = refl; of_replay = refl };
   found = tt;
   refused = inl is;
 }

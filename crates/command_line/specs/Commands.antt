@@ -13,9 +13,22 @@ use Rattle.clap.specs.declared.builder.value_parser.ValueParser.TheVariants.{Nam
 abbrev pub HeldNames : Type 0
 HeldNames = Bor (List (Bor Text))
 
--- what `--print` takes
-abbrev pub AreTexts : HeldNames → Type 0
-AreTexts names = map (λ name. name.now) names.now ≡ codes "trace" ∷ codes "calls" ∷ []
+-- these are the names
+abbrev pub AreTexts : List Text → HeldNames → Type 0
+AreTexts texts names = map (λ name. name.now) names.now ≡ texts
+
+-- what `--print` of `run` takes
+abbrev pub run_texts : List Text
+run_texts = codes "trace" ∷ codes "calls" ∷ codes "replies" ∷ []
+
+-- what `--print` of `replay` takes
+abbrev pub replay_texts : List Text
+replay_texts = codes "trace" ∷ codes "replies" ∷ []
+
+-- the names that clap holds for the two
+pub record AreHeld (run replay : HeldNames) : Type 0 where
+  pub of_run : AreTexts run_texts run
+  pub of_replay : AreTexts replay_texts replay
 
 -- an option `--name TEXT` with a default
 abbrev pub option : Text → Text → Rule
@@ -51,21 +64,33 @@ run_options names =
 abbrev pub run_app : HeldNames → App
 run_app names = fold with_rule (new_app (codes "run")) (run_options names)
 
--- `dlsim`, which wants one of its commands `run` and `replay`; `replay` has no options
-abbrev pub program_app : HeldNames → App
-program_app names =
+-- `dlsim replay`, whose one option is `--print`
+abbrev pub replay_app : HeldNames → App
+replay_app names = with_rule (new_app (codes "replay")) (print_option names)
+
+-- `dlsim`, which wants one of its commands `run` and `replay`
+abbrev pub program_app : HeldNames → HeldNames → App
+program_app run replay =
     let top = on_top (λ s. record s { subcommand_required = true }) (new_app (codes "dlsim")) in
-    with_subcommand (with_subcommand top (run_app names).top) (new_app (codes "replay")).top
+    with_subcommand (with_subcommand top (run_app run).top) (replay_app replay).top
 
 -- clap's command is `dlsim run`
 pub record IsRun (c : Command) : Type 0 where
   pub names : HeldNames
-  pub are_texts : AreTexts names
+  pub are_texts : AreTexts run_texts names
   pub app : app_of c ≡ run_app names
+  pub local : (out-Command c).has_globals ≡ false
+
+-- clap's command is `dlsim replay`
+pub record IsReplay (c : Command) : Type 0 where
+  pub names : HeldNames
+  pub are_texts : AreTexts replay_texts names
+  pub app : app_of c ≡ replay_app names
   pub local : (out-Command c).has_globals ≡ false
 
 -- clap's command is `dlsim`
 pub record IsProgram (c : Command) : Type 0 where
-  pub names : HeldNames
-  pub are_texts : AreTexts names
-  pub app : app_of c ≡ program_app names
+  pub run : HeldNames
+  pub replay : HeldNames
+  pub are_held : AreHeld run replay
+  pub app : app_of c ≡ program_app run replay

@@ -1,13 +1,19 @@
 -- What a reading of words answers.
-use Rattle.std.specs.Prelude.{◌≡◌, ◌⊎◌, ℕ, List, Result, Some, IfOk, codes}
+use Rattle.std.specs.Prelude.{◌≡◌, ◌⊎◌, ℕ, List, [], ◌∷◌, Result, Some, IfOk, codes}
 use Rattle.clap.specs.Words.{FailsBy, IsUnsignedIn, Row, Text, fault_of, first_of, one_of, subcommand_of, subcommand_rows_of}
 use Rattle.clap.specs.declared.error.Error.{Error}
 use Rattle.clap.specs.declared.parser.matches.ArgMatches.{ArgMatches}
-use Rattle.command_line.specs.Commands.{AreTexts, HeldNames, program_app}
+use Rattle.command_line.specs.Commands.{AreHeld, HeldNames, program_app, run_texts, replay_texts}
 
 -- at the option is a text that spells a number from 1 to the most
 abbrev pub HasNumber : List Row → Text → ℕ → Type 0
 HasNumber rows name most = (text : Text) × (one_of name rows ≡ Some text) × IsUnsignedIn 1 most text
+
+-- at the option is one of these texts
+abbrev pub IsOneAt : List Row → Text → List Text → Type 0
+IsOneAt rows name [] = ⊥
+IsOneAt rows name (text ∷ texts) =
+    (first_of name rows ≡ Some text) ⊎ IsOneAt rows name texts
 
 -- each option of `run` has a text that it takes, be it of the words or its default
 pub record HasTexts (rows : List Row) : Type 0 where
@@ -18,19 +24,28 @@ pub record HasTexts (rows : List Row) : Type 0 where
   pub workers : HasNumber rows (codes "workers") 8
   pub reclaim : (one_of (codes "reclaim") rows ≡ Some (codes "true"))
       ⊎ (one_of (codes "reclaim") rows ≡ Some (codes "false"))
-  pub print : (first_of (codes "print") rows ≡ Some (codes "trace"))
-      ⊎ (first_of (codes "print") rows ≡ Some (codes "calls"))
+  pub print : IsOneAt rows (codes "print") run_texts
+
+-- and that of `replay` has one
+pub record HasText (rows : List Row) : Type 0 where
+  pub print : IsOneAt rows (codes "print") replay_texts
 
 -- the command that the words name and what is found for each of its options are what clap's rules
 -- give for the words, of which the first is the program's name; where it is refused, clap's rules
 -- refuse the words so, or memory ran out
 pub record IsReading (words : List Text) (r : Result ArgMatches Error) : Type 0 where
-  pub names : HeldNames
-  pub are_texts : AreTexts names
-  pub found : IfOk r (λ m. subcommand_rows_of m ≡ subcommand_of (program_app names) words)
-  pub refused : FailsBy (fault_of (program_app names) words) r
+  pub run : HeldNames
+  pub replay : HeldNames
+  pub are_held : AreHeld run replay
+  pub found : IfOk r (λ m. subcommand_rows_of m ≡ subcommand_of (program_app run replay) words)
+  pub refused : FailsBy (fault_of (program_app run replay) words) r
 
 -- what is found for `run`
 abbrev pub HasTextsOfRun : ArgMatches → Type 0
 HasTextsOfRun m =
     (rows : List Row) → subcommand_rows_of m ≡ Some (codes "run", rows) → HasTexts rows
+
+-- what is found for `replay`
+abbrev pub HasTextOfReplay : ArgMatches → Type 0
+HasTextOfReplay m =
+    (rows : List Row) → subcommand_rows_of m ≡ Some (codes "replay", rows) → HasText rows

@@ -1,13 +1,12 @@
 //! The command, as clap wants it.
 
-ghost use Rattle.std.specs.Prelude.{◌≡◌, IfOk, codes, false};
-ghost use Rattle.clap.specs.Words.{app_of, new_app, rule_of};
-ghost use Rattle.clap.specs.declared.builder.command.Command.TheViews.{out-Command};
-ghost use Rattle.command_line.specs.Commands.{AreTexts, HeldNames, IsProgram, IsRun, counted, option, print_option, reclaim_flag};
+ghost use Rattle.std.specs.Prelude.{◌≡◌, IfOk, false};
+ghost use Rattle.clap.specs.Words.{rule_of};
+ghost use Rattle.command_line.specs.Commands.{AreTexts, HeldNames, IsProgram, IsReplay, IsRun, counted, option, print_option, reclaim_flag, replay_texts, run_texts};
 
 use crate::texts::{
-    ABOUT, ABOUT_END, CLIENTS_HELP, DOMAINS_HELP, PERIOD_HELP, PRINT_HELP, RECLAIM_HELP,
-    REPLAY_ABOUT, REPLAY_END, RUN_ABOUT, RUN_END, RUNTIME_HELP, WORKERS_HELP,
+    ABOUT, ABOUT_END, CLIENTS_HELP, DOMAINS_HELP, PERIOD_HELP, RECLAIM_HELP, REPLAY_ABOUT,
+    REPLAY_END, REPLAY_PRINT_HELP, RUN_ABOUT, RUN_END, RUN_PRINT_HELP, RUNTIME_HELP, WORKERS_HELP,
 };
 use clap::builder::ValueParser;
 use clap::{Arg, ArgAction, Command};
@@ -22,7 +21,9 @@ pub const MOST_CLIENTS: u64 = 64;
 /// How many workers may compute a domain.
 pub const MOST_WORKERS: u64 = 8;
 
-const TEXTS: [&str; 2] = ["trace", "calls"];
+const RUN_TEXTS: [&str; 3] = ["trace", "calls", "replies"];
+
+const REPLAY_TEXTS: [&str; 2] = ["trace", "replies"];
 
 /// An option with one value, which has a default.
 fn option<'a>(
@@ -50,12 +51,26 @@ fn counted<'a>(alloc: Global, name: &'a str, most: u64, default: &'a str, help: 
     option(alloc, name, "N", default, help).value_parser(ValueParser::unsigned(1, most))
 }
 
-/// The option that says what is written.
-fn print<'a>(alloc: Global) -> Arg<'a>
-    ensures rule { (names : HeldNames) × AreTexts names × (rule_of result ≡ print_option names) }
+/// The option that says what is written of a run.
+fn print_run<'a>(alloc: Global) -> Arg<'a>
+    ensures rule { (names : HeldNames) × AreTexts run_texts names
+        × (rule_of result ≡ print_option names) }
     ensures local { result.global ≡ false }
 {
-    option(alloc, "print", "TEXT", "trace", PRINT_HELP).value_parser(ValueParser::Names(&TEXTS))
+    option(alloc, "print", "TEXT", "trace", RUN_PRINT_HELP).value_parser(ValueParser::Names(
+        &RUN_TEXTS,
+    ))
+}
+
+/// The option that says what is written of a replay.
+fn print_replay<'a>(alloc: Global) -> Arg<'a>
+    ensures rule { (names : HeldNames) × AreTexts replay_texts names
+        × (rule_of result ≡ print_option names) }
+    ensures local { result.global ≡ false }
+{
+    option(alloc, "print", "TEXT", "trace", REPLAY_PRINT_HELP).value_parser(ValueParser::Names(
+        &REPLAY_TEXTS,
+    ))
 }
 
 /// The flag by which every task reclaims.
@@ -83,17 +98,17 @@ fn run_command<'a>(alloc: Global) -> Result<Command<'a>, AllocError>
         .arg(counted(alloc, "clients", MOST_CLIENTS, "1", CLIENTS_HELP))?
         .arg(counted(alloc, "workers", MOST_WORKERS, "1", WORKERS_HELP))?
         .arg(reclaim(alloc))?
-        .arg(print(alloc))
+        .arg(print_run(alloc))
 }
 
 /// The command that replays recorded calls.
-fn replay_command<'a>(alloc: Global) -> Command<'a>
-    ensures app { app_of result ≡ new_app (codes "replay") }
-    ensures local { (out-Command result).has_globals ≡ false }
+fn replay_command<'a>(alloc: Global) -> Result<Command<'a>, AllocError>
+    ensures { IfOk result IsReplay }
 {
     Command::new(alloc, "replay")
         .about(REPLAY_ABOUT)
         .after_help(REPLAY_END)
+        .arg(print_replay(alloc))
 }
 
 /// The whole command. It is finished before anything is asked of it, as clap wants it.
@@ -101,11 +116,12 @@ pub(crate) fn program<'a>(alloc: Global) -> Result<Command<'a>, AllocError>
     ensures { IfOk result IsProgram }
 {
     let run = run_command(alloc)?;
+    let replay = replay_command(alloc)?;
     Command::new(alloc, "dlsim")
         .about(ABOUT)
         .after_help(ABOUT_END)
         .subcommand_required(true)
         .subcommand(run)?
-        .subcommand(replay_command(alloc))?
+        .subcommand(replay)?
         .bin_name("dlsim")
 }

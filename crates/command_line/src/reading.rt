@@ -3,7 +3,7 @@
 ghost use Rattle.std.specs.Prelude.{◌≡◌, IfOk, map, string_bytes};
 ghost use Rattle.clap.specs.Words.{kind_of};
 ghost use Rattle.clap.specs.declared.error.kind.ErrorKind.TheVariants.{InvalidValue};
-ghost use Rattle.command_line.specs.Reading.{HasTextsOfRun, IsReading};
+ghost use Rattle.command_line.specs.Reading.{HasTextOfReplay, HasTextsOfRun, IsReading};
 
 use crate::command::program;
 use clap::error::ErrorKind;
@@ -11,7 +11,7 @@ use clap::{ArgMatches, Error};
 use std::alloc::{AllocError, Global};
 
 /// What clap finds in the words of a command line, of which the first is the program's name: the
-/// command that they name, `run` or `replay`, and for each option of `run` its text, or its default
+/// command that they name, `run` or `replay`, and for each of its options its text, or its default
 /// where the words have none.
 ///
 /// # Errors
@@ -21,6 +21,7 @@ use std::alloc::{AllocError, Global};
 pub fn matches_of<'a>(alloc: Global, words: &'a [String]) -> Result<ArgMatches<'a>, Error>
     ensures reading { IsReading (map string_bytes words.now) result }
     ensures texts { IfOk result HasTextsOfRun }
+    ensures text { IfOk result HasTextOfReplay }
 {
     program(alloc)?.try_get_matches_from(words)
 }

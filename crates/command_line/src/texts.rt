@@ -16,15 +16,18 @@ Exit status: 0 done; 1 bad input; 2 wrong words; 3 reading or writing failed;
 nothing was written, unless that line says `write failed after N`.
 docs/FORMATS.md explains every option, format and message.";
 
-pub(crate) const REPLAY_ABOUT: &str = "Reads recorded calls and writes the trace of their run";
+pub(crate) const REPLAY_ABOUT: &str =
+    "Reads recorded calls, runs them and writes the trace, or their replies";
 
 pub(crate) const REPLAY_END: &str = "\
 In:  a calls text on standard input: the line `dlcalls 1`, then for each root
      domain a line `domain CPUS LIMIT` and a line for each call on it.
 Out: `# tracer: nop`, then a line for each switch of a CPU, as ftrace prints
-     its event sched_switch, by time and CPU.
+     its event sched_switch, by time and CPU; with `--print replies` the calls
+     of each domain, each with its reply, as `leave 1 2 = Left`.
 
   dlsim replay < examples/reclaiming.calls
+  dlsim replay --print replies < examples/rounding-down.calls
 
 Exit status: 0 done; 1 `dlsim: calls 30 line N`, the first bad line; 2 wrong
 words; 3 `dlsim: read failed` or `dlsim: write failed after N`; 4 `dlsim: out
@@ -40,7 +43,8 @@ In:  an rt-app file (JSON) on standard input: `tasks` with the policy
      seconds, 0 to 60.
 Out: `# tracer: nop`, then a line for each switch of a CPU, as ftrace prints
      its event sched_switch, by time and CPU; with `--print calls` the calls
-     that were made, of which `dlsim replay` writes that same trace.
+     that were made, of which `dlsim replay` writes that same trace; with
+     `--print replies` these calls, each with its reply.
 Err: a line for each task that was not admitted, as
      `dlsim: task 4 EBUSY 16 seen 1572864`; the others run.
 
@@ -76,4 +80,8 @@ pub(crate) const RECLAIM_HELP: &str = "\
 Every task reclaims unused bandwidth (GRUB, SCHED_FLAG_RECLAIM); without it
 none does";
 
-pub(crate) const PRINT_HELP: &str = "What is written: the trace, or the calls that were made";
+pub(crate) const RUN_PRINT_HELP: &str =
+    "What is written: the trace, the calls that were made, or these with their replies";
+
+pub(crate) const REPLAY_PRINT_HELP: &str =
+    "What is written: the trace, or the calls with their replies";

@@ -30,6 +30,7 @@ use Rattle.session.specs.Report.{IsHistoryOf, IsLeft}
 use Rattle.dl_session.specs.ScenarioAnswers.{AnswersScenario}
 use Rattle.dl_session.specs.FullBook.{IsFullDomain}
 use Rattle.dl_session.specs.InOrder.{sections_in_order}
+use Rattle.reply_text.specs.Replies.{replies_of}
 use Rattle.calls_trace.specs.Replay.{trace_of_sections}
 use Rattle.calls_trace.specs.Answer.{Streams, IsInput, NothingWritten, IsUnread, IsOutOfMemory}
 
@@ -80,10 +81,12 @@ pub record IsRun (s : Streams) (o : Options) (histories : List SectionView)
   pub in_order : trace_of_sections histories
       ≡ trace_of_sections (sections_in_order id answers.asked scenario.duration_us)
 
--- what is written of histories: the trace of their run, or their calls text
+-- what is written of histories: the trace of their run, their calls text, or their calls with the
+-- replies
 abbrev pub printed : Print → List SectionView → List ℕ
 printed prints.Trace histories = trace_of_sections histories
 printed prints.Calls histories = spelling histories
+printed prints.Replies histories = replies_of histories
 
 -- ---- what is answered
 

@@ -7,11 +7,12 @@
 //! the scenario together with the refusals, and that what was written is the text of their run, and
 //! nothing else.
 //!
-//! [`replay`] is for recorded calls. It is the crate `calls_trace`'s, with the faults of a session
-//! (`specs/Answer.antt`), and meets its definition of what a replay answers. To the crates above it
-//! promises the theorem on `replay`: `Ok` means that what was written is the trace of the runs of
-//! the sections that were read, each on a domain of its own, and nothing else; each fault means
-//! what it says, and where it is no fault of the writer, nothing was written.
+//! [`replay_as`] is for recorded calls, and [`replay`] for their trace. They are the crate
+//! `calls_trace`'s, with the faults of a session (`specs/Answer.antt`), and meet its definition of
+//! what a replay answers. To the crates above they promise the theorem on `replay`: `Ok` means that
+//! what was written is the trace of the runs of the sections that were read, each on a domain of its
+//! own, or their calls with the replies, and nothing else; each fault means what it says, and where
+//! it is no fault of the writer, nothing was written.
 //!
 //! A [`Session`] with its [`Client`]s is the crate `session`'s, for whoever wants its calls without
 //! texts; [`admit_all`] is its call with the faults of a run.
@@ -26,9 +27,10 @@ mod running;
 mod words;
 
 pub use admitting::admit_all;
+pub use calls_trace::ReplayPrint;
 pub use ending::Ending;
 pub use fault::{RefusedLine, SessionFault};
-pub use replaying::replay;
+pub use replaying::{replay, replay_as};
 pub use running::run;
 pub use session::{
     AllPass, Answer, Client, Names, Options, Parts, Print, Refusal, Report, Session, Shared,

@@ -1,9 +1,10 @@
-//! The last step of a run: its trace, or the calls text of its histories.
+//! The last step of a run: its trace, the calls text of its histories, or their replies.
 
 ghost use Rattle.std.specs.Prelude.{◌≡◌, ◌<◌, ◌≤◌, ◌^◌, All, OnOk, IfErr, length};
 ghost use Rattle.call_book.specs.Limits.{IsSection};
 ghost use Rattle.call_book.specs.Spelling.{spelling};
 ghost use Rattle.counted_io.specs.Sides.{faults_of, side};
+ghost use Rattle.reply_text.specs.Replies.{replies_of};
 ghost use Rattle.dl_session.specs.RunAnswer.{printed};
 ghost use Rattle.call_book.specs.Histories.{AreLegal, AreRuns};
 ghost use Rattle.calls_trace.specs.Written.{IsWritten, IsUnwritten};
@@ -11,6 +12,7 @@ ghost use Rattle.calls_trace.specs.Written.{IsWritten, IsUnwritten};
 use call_book::{Section, write_calls};
 use calls_trace::{TraceFault, write_run_trace};
 use domain_run::State;
+use reply_text::write_recorded;
 use session::Print;
 use std::alloc::Global;
 use std::io::Write;
@@ -31,6 +33,28 @@ fn write_histories<W: Write>(
     let Ok(text) = write_calls(alloc, histories) else {
         return Err(TraceFault::Memory);
     };
+    match write_text(&text, writer) {
+        Ok(()) => Ok(()),
+        Err(fault) => Err(TraceFault::Write {
+            written: fault.written,
+        }),
+    }
+}
+
+/// Writes the calls of histories with their replies, in one piece.
+fn write_answered<W: Write>(
+    alloc: Global,
+    histories: &[Section],
+    writer: &mut Counted<W>,
+) -> Result<(), TraceFault>
+    requires legal { AreLegal histories.now }
+    requires faults { faults_of writer.old < 2 ^ 63 }
+    ensures ok { OnOk result
+        (IsWritten (side W.contents writer.old writer.new) (replies_of histories.now)) }
+    ensures err { IfErr result
+        (IsUnwritten (side W.contents writer.old writer.new) (replies_of histories.now)) }
+{
+    let text = write_recorded(alloc, histories)?;
     match write_text(&text, writer) {
         Ok(()) => Ok(()),
         Err(fault) => Err(TraceFault::Write {
@@ -64,6 +88,7 @@ pub(crate) fn write_run<W: Write>(
 {
     match print {
         Print::Calls => write_histories(alloc, histories, writer),
+        Print::Replies => write_answered(alloc, histories, writer),
         Print::Trace => write_run_trace(alloc, histories, states, writer),
     }
 }

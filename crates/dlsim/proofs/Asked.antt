@@ -8,7 +8,7 @@ use Rattle.clap.specs.declared.error.Error.{Error}
 use Rattle.clap.specs.declared.parser.matches.ArgMatches.{ArgMatches}
 use Rattle.clap.specs.declared.parser.matches.ArgMatches.TheViews.{out-ArgMatches, out-SubCommand}
 use Rattle.clap.specs.declared.parser.matches.SubCommand.{SubCommand}
-use Rattle.command_line.specs.Reading.{HasTextsOfRun, IsReading}
+use Rattle.command_line.specs.Reading.{HasTextOfReplay, HasTextsOfRun, IsReading}
 use Rattle.dl_session.specs.declared.words.WordsFault.{WordsFault}
 use Rattle.dlsim.specs.Tasks.{IsAskedBy, IsMeant, IsRefused, IsTaskOf, name_of}
 use Rattle.dlsim.specs.declared.words.Task.{Task}
@@ -31,28 +31,39 @@ pub run_found : (m : ArgMatches) (rows : List Row) → subcommand_name_of m ≡ 
     → subcommand_rows_of m ≡ Some (codes "run", rows)
 run_found m rows is found = both_parts (subcommand_rows_of m) (codes "run") rows (name_found m ∙ is) found
 
+-- and for another command
+pub rows_found : (m : ArgMatches) (name : Text) (mine rows : List Row) → subcommand_rows_of m ≡ Some (name, rows) → option_map (λ p. p.1) (subcommand_rows_of m) ≡ Some mine → mine ≡ rows
+rows_found m name mine rows is found = ap (λ (o : Option (List Row)). unwrap_or o rows) (sym found ∙ ap (option_map (λ p. p.1)) is)
+
+pub not_found : (m : ArgMatches) (name : Text) (rows : List Row) → subcommand_rows_of m ≡ Some (name, rows) → subcommand_name_of m ≡ Some name
+not_found m name rows is = sym (name_found m) ∙ ap name_of is
+
 pub of_error : (words : List Text) (e : Error) → IsReading words (Err e) → IsAskedBy words (Err (wrong.Clap e))
-of_error words e read = record { names = read.names; are_texts = read.are_texts; named = tt; meant = tt; taken = tt; wrong = read.refused }
+of_error words e read = record { run = read.run; replay = read.replay; are_held = read.are_held; named = tt; meant = tt; taken = tt; taken_by_replay = tt; wrong = read.refused }
 
 pub of_fault : (words : List Text) (m : ArgMatches) (fault : WordsFault) → IsReading words (Ok m) → IsRefused (subcommand_rows_of m) fault
     → IsAskedBy words (Err (wrong.Options fault))
 of_fault words m fault read refused = record {
-  names = read.names;
-  are_texts = read.are_texts;
+  run = read.run;
+  replay = read.replay;
+  are_held = read.are_held;
   named = tt;
   meant = tt;
   taken = tt;
+  taken_by_replay = tt;
   wrong = subst (λ (command : Option (Text × List Row)). IsRefused command fault) read.found refused;
 }
 
-pub of_task : (words : List Text) (m : ArgMatches) (task : Task) → IsReading words (Ok m) → HasTextsOfRun m → IsTaskOf (subcommand_name_of m) task
+pub of_task : (words : List Text) (m : ArgMatches) (task : Task) → IsReading words (Ok m) → HasTextsOfRun m → HasTextOfReplay m → IsTaskOf (subcommand_name_of m) task
     → IsMeant (subcommand_rows_of m) task → IsAskedBy words (Ok task)
-of_task words m task read texts named meant = record {
-  names = read.names;
-  are_texts = read.are_texts;
+of_task words m task read texts text named meant = record {
+  run = read.run;
+  replay = read.replay;
+  are_held = read.are_held;
   named = subst (λ (command : Option (Text × List Row)). IsTaskOf (name_of command) task) read.found
       (subst (λ (name : Option Text). IsTaskOf name task) (sym (name_found m)) named);
   meant = subst (λ (command : Option (Text × List Row)). IsMeant command task) read.found meant;
   taken = λ rows is. texts rows (read.found ∙ is);
+  taken_by_replay = λ rows is. text rows (read.found ∙ is);
   wrong = tt;
 }

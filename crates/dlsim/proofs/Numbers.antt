@@ -37,3 +37,7 @@ differ None None e is = true≢false (sym e)
 differ None (Some y) e is = true≢false (sym (ap is_some is))
 differ (Some x) None e is = true≢false (ap is_some is)
 differ (Some x) (Some y) e is = true≢false (sym ((bytes_eq-Decides x.now y.now).1 (ap (λ o. unwrap_or o x.now) is)) ∙ sym e)
+
+pub is_same : (b : Bool) (o q : Option (Bor (List ℕ))) → b ≡ are_same o q → text_in o ≡ text_in q → b ≡ true
+is_same true o q e is = refl
+is_same false o q e is = absurd (differ o q e is)

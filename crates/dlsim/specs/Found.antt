@@ -1,4 +1,4 @@
--- What the words at the options of `run` mean: of an option's name, clap finds a text, or none.
+-- What the words at the options of a command mean: of an option's name, clap finds a text, or none.
 use Rattle.std.specs.Prelude.{◌≡◌, ◌<◌, ◌^◌, ℕ, List, Some, None, Bool, true, false, codes, min, max}
 use Rattle.std.specs.Str.Parse.{IsNumeral, digits_value, without_leading_plus}
 use Rattle.clap.specs.Words.{Row, first_of, one_of}
@@ -6,6 +6,8 @@ use Rattle.dl_session.specs.Words.{AreMeant, IsWordsFault}
 use Rattle.session.specs.declared.options.Options.{Options}
 use Rattle.session.specs.declared.options.Print.{Print}
 use Rattle.session.specs.declared.options.Print.TheVariants as prints
+use Rattle.calls_trace.specs.declared.replaying.ReplayPrint.{ReplayPrint}
+use Rattle.calls_trace.specs.declared.replaying.ReplayPrint.TheVariants as replay_prints
 use Rattle.dl_session.specs.declared.words.Words.{Words}
 use Rattle.dl_session.specs.declared.words.WordsFault.{WordsFault}
 
@@ -24,10 +26,22 @@ pub record IsNumberAt (rows : List Row) (name : List ℕ) (most n : ℕ) : Type 
       → n ≡ min (max v 1) most
   pub other : (text : List ℕ) → one_of name rows ≡ Some text → ((v : ℕ) → Spells text v → ⊥) → n ≡ 1
 
--- the calls where the text at `print` is "calls", else the trace
+-- the text at `print` is this one
+abbrev pub Prints : List Row → List ℕ → Type 0
+Prints rows text = first_of (codes "print") rows ≡ Some text
+
+-- of a run: the calls where the text at `print` is "calls", their replies where it is "replies",
+-- else the trace
 pub record IsPrintAt (rows : List Row) (print : Print) : Type 0 where
-  pub calls : first_of (codes "print") rows ≡ Some (codes "calls") → print ≡ prints.Calls
-  pub trace : (first_of (codes "print") rows ≡ Some (codes "calls") → ⊥) → print ≡ prints.Trace
+  pub calls : Prints rows (codes "calls") → print ≡ prints.Calls
+  pub replies : Prints rows (codes "replies") → print ≡ prints.Replies
+  pub trace : (Prints rows (codes "calls") → ⊥) → (Prints rows (codes "replies") → ⊥)
+      → print ≡ prints.Trace
+
+-- of a replay: the replies where the text at `print` is "replies", else the trace
+pub record IsReplayPrintAt (rows : List Row) (print : ReplayPrint) : Type 0 where
+  pub replies : Prints rows (codes "replies") → print ≡ replay_prints.Replies
+  pub trace : (Prints rows (codes "replies") → ⊥) → print ≡ replay_prints.Trace
 
 -- a flag that is there, and one that is not
 pub record IsFlagAt (rows : List Row) (name : List ℕ) (flag : Bool) : Type 0 where

@@ -1,8 +1,8 @@
 //! dlsim: a model of SCHED_DEADLINE that writes the switches of a scenario, or of recorded calls,
-//! as a trace.
+//! as a trace, or the calls with their replies.
 //!
 //! The program reads its words with clap (`words`), and calls [`dl_session::run`] or
-//! [`dl_session::replay`] with standard input and standard output. What it says on standard error
+//! [`dl_session::replay_as`] with standard input and standard output. What it says on standard error
 //! then, and its exit status, are those of the [`Ending`].
 #![tactic(auto)]
 
@@ -10,7 +10,7 @@ mod words;
 
 use crate::words::{Task, Wrong, read_words};
 use clap::error::ErrorKind;
-use dl_session::{AllPass, Ending, WordsFault, replay, run};
+use dl_session::{AllPass, Ending, WordsFault, replay_as, run};
 use std::process::ExitCode;
 use switch_text::Counted;
 
@@ -44,8 +44,8 @@ fn main(rt: HostRuntime) -> ExitCode {
     let mut reader = Counted::new(rt.stdin());
     let mut writer = Counted::new(rt.stdout());
     match task {
-        Task::Replay => {
-            let ended = replay(alloc, &mut reader, &mut writer);
+        Task::Replay(print) => {
+            let ended = replay_as(alloc, &mut reader, &mut writer, print);
             end_with(&rt, &Ending::of_replay(&ended))
         }
         Task::Run(options) => {

@@ -1,14 +1,14 @@
 //! What the words of the command line ask for.
 
-ghost use Rattle.std.specs.Prelude.{◌≡◌, ◌<◌, ◌≤◌, ℕ, List, None, Some, IfErr, IfOk, codes, map, string_bytes};
-ghost use Rattle.clap.specs.Words.{first_value, found_of, rows_of, subcommand_name_of, subcommand_rows_of};
+ghost use Rattle.std.specs.Prelude.{◌≡◌, ◌<◌, ◌≤◌, ◌↔◌, ℕ, List, None, Some, IfErr, IfOk, IsTrue, codes, map, string_bytes};
+ghost use Rattle.clap.specs.Words.{Row, first_value, found_of, rows_of, subcommand_name_of, subcommand_rows_of};
 ghost use Rattle.session.specs.Options.{AreOptions};
-ghost use Rattle.dlsim.specs.Found.{AreFound, AreMeantBy, IsFaultOf, IsNumberAt, IsPrintAt};
+ghost use Rattle.dlsim.specs.Found.{AreFound, AreMeantBy, IsFaultOf, IsNumberAt, IsPrintAt, IsReplayPrintAt, Prints};
 ghost use Rattle.dlsim.specs.Tasks.{IsAskedBy, IsFit, IsMeant, IsRefused, IsTaskOf};
 
 use clap::{ArgMatches, Error};
 use command_line::{MOST_CLIENTS, MOST_TIME, MOST_WORKERS, matches_of, not_utf8};
-use dl_session::{Options, Print, Words, WordsFault, read_options};
+use dl_session::{Options, Print, ReplayPrint, Words, WordsFault, read_options};
 use std::alloc::{AllocError, Global};
 use std::env::{self, Env};
 use std::io;
@@ -16,7 +16,7 @@ use std::io;
 /// What the words ask for.
 #[derive(Debug, Drop)]
 pub(crate) enum Task {
-    Replay,
+    Replay(ReplayPrint),
     Run(Options),
 }
 
@@ -78,14 +78,35 @@ fn text_of<'a>(found: &ArgMatches<'a>, name: &str) -> &'a str
     }
 }
 
-/// What is printed: the calls where the words say so, else the trace.
+/// Whether the text at `print` is this one.
+fn prints(found: &ArgMatches<'_>, text: &str) -> bool
+    ensures { IsTrue result ↔ Prints (rows_of (found_of found.now)) text.now }
+{
+    found.get_str("print") == Some(text)
+}
+
+/// What is printed of a run: the calls, or these with their replies, where the words say so, else
+/// the trace.
 fn print_of(found: &ArgMatches<'_>) -> Print
     ensures { IsPrintAt (rows_of (found_of found.now)) result }
 {
-    if found.get_str("print") == Some("calls") {
+    if prints(found, "calls") {
         Print::Calls
+    } else if prints(found, "replies") {
+        Print::Replies
     } else {
         Print::Trace
+    }
+}
+
+/// What is printed of a replay: the replies where the words say so, else the trace.
+fn replay_print_of(found: &ArgMatches<'_>) -> ReplayPrint
+    ensures { IsReplayPrintAt (rows_of (found_of found.now)) result }
+{
+    if prints(found, "replies") {
+        ReplayPrint::Replies
+    } else {
+        ReplayPrint::Trace
     }
 }
 
@@ -120,7 +141,18 @@ fn options_of(alloc: Global, found: &ArgMatches<'_>) -> Result<Options, WordsFau
     read_options(alloc, &words_of(found))
 }
 
-/// What the matches ask for: `run` with its options, or `replay`.
+/// What is printed of a replay, where the matches are those of one.
+fn replay_print(matches: &ArgMatches<'_>) -> ReplayPrint
+    ensures { (rows : List Row) → subcommand_rows_of matches.now ≡ Some (codes "replay", rows)
+        → IsReplayPrintAt rows result }
+{
+    match matches.subcommand_matches("replay") {
+        Some(found) => replay_print_of(found),
+        None => ReplayPrint::Trace,
+    }
+}
+
+/// What the matches ask for: `run` with its options, or `replay` with what it prints.
 ///
 /// # Errors
 /// Those of [`options_of`], of a `run` alone.
@@ -132,7 +164,7 @@ fn task_of(alloc: Global, matches: &ArgMatches<'_>) -> Result<Task, WordsFault>
 {
     match matches.subcommand_matches("run") {
         Some(found) => Ok(Task::Run(options_of(alloc, found)?)),
-        None => Ok(Task::Replay),
+        None => Ok(Task::Replay(replay_print(matches))),
     }
 }
 

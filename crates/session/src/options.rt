@@ -5,6 +5,8 @@ pub enum Print {
     Trace,
     /// The calls text of the histories.
     Calls,
+    /// The calls of the histories, each with its reply.
+    Replies,
 }
 
 /// With what a scenario is to be run. A session is opened from its domains, limit, clients, workers

@@ -2,7 +2,7 @@ use Rattle.std.proofs.Common.{◌∙◌, ap, codes, refl, true}
 use Rattle.std.proofs.lemmas.Result.{IfOk-weaker}
 use Rattle.clap.specs.Words.{new_app}
 use Rattle.clap.specs.Simple.{app_of_fields, on_top}
-use Rattle.command_line.specs.Commands.{IsProgram, run_app}
+use Rattle.command_line.specs.Commands.{IsProgram, replay_app, run_app}
 use Rattle.command_line.proofs.Made.{IsMade, changed, with_command}
 use Rattle.command_line.proofs.command.program.Goals as goal
 
@@ -10,7 +10,8 @@ pub returns : goal.returns
 returns c =
     let run = c.in_ok-run.ensures in
     let run_made : IsMade c.in_ok-run.run' (run_app run.names) = record { is = run.app; local = run.local } in
-    let replay_made : IsMade c.replay_command.result (new_app (codes "replay")) = record { is = c.replay_command.ensures.app; local = c.replay_command.ensures.local } in
+    let replay = c.in_ok-replay.ensures in
+    let replay_made : IsMade c.in_ok-replay.replay (replay_app replay.names) = record { is = replay.app; local = replay.local } in
     let new : IsMade c.new.result (new_app (codes "dlsim")) = record { is = c.new.ensures.app; local = c.new.ensures.local } in
     let about = changed _ _ _ _ _ c.about.ensures new.is refl new in
     let after_help = changed _ _ _ _ _ c.after_help.ensures about.is refl about in
@@ -18,4 +19,4 @@ returns c =
     let with_run = with_command _ _ _ _ _ required run_made c.in_ok-subcommand.ensures in
     let with_replay = with_command _ _ _ _ _ with_run replay_made c.in_ok-subcommand-2.ensures in
     IfOk-weaker c.bin_name.result _ IsProgram (λ command named.
-    record { names = run.names; are_texts = run.are_texts; app = ap app_of_fields named.0 ∙ with_replay.is }) c.bin_name.ensures
+    record { run = run.names; replay = replay.names; are_held = record { of_run = run.are_texts; of_replay = replay.are_texts }; app = ap app_of_fields named.0 ∙ with_replay.is }) c.bin_name.ensures

@@ -3,7 +3,7 @@ use Rattle.clap.specs.Words.{Rule, rule_of}
 use Rattle.clap.specs.declared.builder.value_parser.ValueParser.{ValueParser}
 use Rattle.clap.specs.declared.builder.value_parser.ValueParser.TheVariants.{Names}
 use Rattle.command_line.specs.Commands.{HeldNames}
-use Rattle.command_line.proofs.command.print.Goals as goal
+use Rattle.command_line.proofs.command.print_run.Goals as goal
 
 -- the names of a parser of names
 abbrev names_of : ValueParser → HeldNames

@@ -1,0 +1,6 @@
+use Rattle.std.proofs.Common.{◌≡◌, ◌++◌, take}
+use Rattle.reply_text.specs.private.Recorded.{recorded_lines}
+use Rattle.reply_text.proofs.recorded.put_entries.Given as goal
+
+abbrev pub invariant-loop-entry : goal.invariant-loop-entry
+invariant-loop-entry l = l.out.items ≡ l.initial.out.items ++ recorded_lines (take l.entry-index l.entries)

@@ -1,0 +1,18 @@
+use Rattle.std.proofs.Common.{◌≡◌, ◌∷◌, length, ap, arith}
+use Rattle.std.proofs.lemmas.List.Elements.{All-rest}
+use Rattle.call_book.specs.Limits.{IsEntry}
+use Rattle.reply_text.proofs.Answered.{made_more}
+use Rattle.reply_text.proofs.writing.put_all_made.Goals as goal
+
+pub loop-entry-preserved : goal.loop-entry-preserved
+loop-entry-preserved c =
+    let i = c.loop-entry.invariant in
+    let e = c.in-Some.entry in
+    let left = c.pop_front.new.self.items in
+    let first : c.loop-entry.left.items ≡ e ∷ left = c.in-Some.ensures.items in
+    let long = ap length first in
+    record {
+      text = made_more c.loop-entry.state c.put_made.new.state e left c.loop-entry.left.items c.loop-entry.out.items c.put_made.new.out.items _ first c.in_ok-put_made.ensures.state c.in_ok-put_made.ensures.text i.text;
+      entries = All-rest IsEntry e left c.loop-entry.left.items first i.entries;
+      early = omega (arith, i.early, c.in_ok-put_made.ensures.time, long);
+    }

@@ -1,0 +1,16 @@
+use Rattle.std.proofs.Common.{◌≡◌, ◌∷◌}
+use Rattle.std.proofs.lemmas.List.Elements.{All-rest}
+use Rattle.call_book.specs.Limits.{IsSection}
+use Rattle.reply_text.proofs.Answered.{section_more}
+use Rattle.reply_text.proofs.writing.write_replies.Goals as goal
+
+pub loop-section-preserved : goal.loop-section-preserved
+loop-section-preserved c =
+    let i = c.loop-section.invariant in
+    let s = c.in-Some.section in
+    let left = c.pop_front.new.self.items in
+    let first : c.loop-section.left.items ≡ s ∷ left = c.in-Some.ensures.items in
+    record {
+      text = section_more s left c.loop-section.left.items c.loop-section.out.items c.put_section.new.out.items _ first c.in_ok-put_section.ensures i.text;
+      sections = All-rest IsSection s left c.loop-section.left.items first i.sections;
+    }

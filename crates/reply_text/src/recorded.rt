@@ -1,0 +1,56 @@
+//! The replies that histories have.
+
+ghost use Rattle.std.specs.Prelude.{◌≡◌, ◌++◌, All, IfOk, OnOk, IsSome};
+ghost use Rattle.call_book.specs.Histories.{AreLegal};
+ghost use Rattle.call_book.specs.Book.{IsLegal};
+ghost use Rattle.call_book.specs.Spelling.{text_of};
+ghost use Rattle.reply_text.specs.Replies.{section_replies, replies_of};
+ghost use Rattle.reply_text.specs.private.Recorded.{recorded_line, recorded_lines};
+
+use crate::text::{put, put_answered};
+use call_book::{Entry, NoMemory, Section, put_domain};
+use std::alloc::Global;
+
+/// The line of an entry with the reply that it has.
+fn put_entry(out: &mut Vec<u8>, entry: &Entry) -> Result<(), NoMemory>
+    ensures { OnOk result (out.new.items ≡ out.old.items ++ recorded_line entry.now) }
+{
+    match entry.reply {
+        Some(reply) => put_answered(out, entry, reply),
+        None => Ok(()),
+    }
+}
+
+fn put_entries(out: &mut Vec<u8>, entries: &[Entry]) -> Result<(), NoMemory>
+    ensures { OnOk result (out.new.items ≡ out.old.items ++ recorded_lines entries.now) }
+{
+    for entry in entries {
+        put_entry(out, entry)?;
+    }
+    Ok(())
+}
+
+/// The lines of a history.
+fn put_history(out: &mut Vec<u8>, history: &Section) -> Result<(), NoMemory>
+    requires legal { IsLegal history.now.cpus history.now.limit history.now.entries }
+    ensures { OnOk result (out.new.items ≡ out.old.items ++ text_of (section_replies history.now)) }
+{
+    put_domain(out, history)?;
+    put(out, b"\n")?;
+    put_entries(out, &history.entries)
+}
+
+/// The lines of histories, each call's with the reply that it got. No call is made again.
+///
+/// # Errors
+/// 12 [`NoMemory`]: a growth was refused; nothing of the text is left.
+pub fn write_recorded(alloc: Global, histories: &[Section]) -> Result<Vec<u8>, NoMemory>
+    requires legal { AreLegal histories.now }
+    ensures { IfOk result (λ v. v.items ≡ replies_of histories.now) }
+{
+    let mut out = Vec::new(alloc);
+    for history in histories {
+        put_history(&mut out, history)?;
+    }
+    Ok(out)
+}
