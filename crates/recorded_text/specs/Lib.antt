@@ -1,3 +1,4 @@
 pub mod Cuts
 pub mod Line
 pub mod Views
+pub mod Names

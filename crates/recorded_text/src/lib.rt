@@ -7,6 +7,8 @@
 
 mod cut;
 mod line;
+mod names;
 mod number;
 
 pub use line::{Line, Switch, line_of};
+pub use names::Names;
