@@ -1,3 +1,4 @@
 mod Cutting
 mod Digits
 mod Naming
+mod Stepping

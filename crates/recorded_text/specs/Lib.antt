@@ -2,3 +2,6 @@ pub mod Cuts
 pub mod Line
 pub mod Views
 pub mod Names
+pub mod Steps
+pub mod Text
+pub mod private

@@ -6,9 +6,14 @@
 #![tactic(auto)]
 
 mod cut;
+mod fault;
 mod line;
 mod names;
 mod number;
+mod reading;
+mod step;
 
+pub use fault::RecordedFault;
 pub use line::{Line, Switch, line_of};
 pub use names::Names;
+pub use step::Step;
