@@ -1,4 +1,5 @@
 mod Cutting
 mod Digits
+mod Lining
 mod Naming
 mod Stepping

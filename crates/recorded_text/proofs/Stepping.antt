@@ -1,5 +1,5 @@
 -- Names that are added change no switch that was read before.
-use Rattle.std.proofs.Common.{◌≡◌, ℕ, zero, suc, ◌+◌, ◌<◌, Bool, List, [], ◌∷◌, ◌++◌, length, Option, Some, None, refl, sym, ap, ◌∙◌, arith, subst, map, All}
+use Rattle.std.proofs.Common.{◌≡◌, ℕ, zero, suc, ◌+◌, ◌<◌, Bool, List, [], ◌∷◌, ◌++◌, length, Option, Some, None, refl, sym, ap, ◌∙◌, arith, subst, map, All, append_assoc}
 use Rattle.std.specs.Prelude.{slice_get, IfSome}
 use Rattle.std.specs.Option.{option_and_then}
 use Rattle.std.specs.List.{AllByRecursion}
@@ -36,3 +36,7 @@ view_more old new before after s line v g h e shown is =
     let tells : told line ≡ v ∷ [] = ap switch_of (sym is) in
     ap (λ steps. map (step_view new) steps) e ∙ map-append (step_view new) before (s ∷ [])
     ∙ rw (views_kept old new before g (recursion_from_All (IsNamed old) before h), shown, tells) refl
+
+-- names that grow and grow again have grown
+pub grows_on : (a b c : List (List ℕ)) → Grows a b → Grows b c → Grows a c
+grows_on a b c g h = record { more = g.more ++ h.more; behind = h.behind ∙ ap (λ names. names ++ h.more) g.behind ∙ append_assoc a g.more h.more }

@@ -1,10 +1,10 @@
 -- A whole recording: the switches of its lines, or its first bad line.
-use Rattle.std.specs.Prelude.{◌≡◌, ℕ, ◌+◌, ◌==◌, Bool, true, false, if◌then◌else◌, List, [], ◌∷◌, Option, None, Some, map}
+use Rattle.std.specs.Prelude.{◌≡◌, ℕ, ◌+◌, ◌==◌, Bool, true, false, if◌then◌else◌, List, [], ◌∷◌, Option, None, Some, Result, Ok, Err, map}
 use Rattle.std.specs.Option.{option_map}
 use Rattle.std.specs.List.{flat_map, position, onto_first}
 use Rattle.recorded_text.specs.Line.{SwitchView, LineView, Other, Bad, Seen, line_at}
 use Rattle.recorded_text.specs.declared.fault.RecordedFault.{RecordedFault}
-use Rattle.recorded_text.specs.declared.fault.RecordedFault.TheVariants.{BadLine, Read, Memory}
+use Rattle.recorded_text.specs.declared.fault.RecordedFault.TheVariants.{BadLine, Read, Endless, Memory}
 use Rattle.recorded_text.specs.declared.step.Step.{Step}
 use Rattle.recorded_text.specs.Steps.{step_view}
 
@@ -47,10 +47,16 @@ pub record IsRead (text : List ℕ) (names : List (List ℕ)) (steps : List Step
 abbrev pub IsFault : List ℕ → RecordedFault → Type 0
 IsFault text (BadLine n) = first_bad text ≡ Some n
 IsFault text Read = Unit {0}
+IsFault text Endless = Unit {0}
 IsFault text Memory = Unit {0}
 
--- a fault of the reader more exactly where reading failed
 abbrev pub is_read : RecordedFault → Bool
 is_read (BadLine n) = false
 is_read Read = true
+is_read Endless = false
 is_read Memory = false
+
+-- a fault of the reader more exactly where reading failed
+abbrev pub faults_after : {T : Type 0} → ℕ → Result T RecordedFault → ℕ
+faults_after before (Ok x) = before
+faults_after before (Err e) = if is_read e then before + 1 else before

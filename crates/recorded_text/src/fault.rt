@@ -10,6 +10,9 @@ pub enum RecordedFault {
     /// The reader failed.
     #[error("read failed")]
     Read,
+    /// 2^32 reads met no end (own).
+    #[error("read failed")]
+    Endless,
     /// A growth was refused. It may come before any bad line.
     #[error("out of memory")]
     Memory,

@@ -15,5 +15,7 @@ mod step;
 
 pub use fault::RecordedFault;
 pub use line::{Line, Switch, line_of};
+pub use counted_io::Counted;
 pub use names::Names;
+pub use reading::read_switches;
 pub use step::Step;
