@@ -62,7 +62,7 @@ next_line whole rest front left after count found more a b h good tells =
       shown = tells ∙ rw h.shown (ap (λ s. flat_map told h.done ++ s) (sym (append-nil (told (rest ++ front)))) ∙ sym (flat_map-append told h.done ((rest ++ front) ∷ [])));
     }
 
-first_at : (done more : List (List ℕ)) (line : List ℕ) → list_any is_bad_line done ≡ false → is_bad_line line ≡ true → position_or_len is_bad_line (done ++ line ∷ more) ≡ length done
+pub first_at : (done more : List (List ℕ)) (line : List ℕ) → list_any is_bad_line done ≡ false → is_bad_line line ≡ true → position_or_len is_bad_line (done ++ line ∷ more) ≡ length done
 first_at [] more line good bad = rw bad refl
 first_at (d ∷ ds) more line good bad =
     let p = or_parts (is_bad_line d) (list_any is_bad_line ds) good in

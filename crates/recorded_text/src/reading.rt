@@ -163,15 +163,16 @@ pub fn read_switches<R: Read>(
     for _ in 0..READS {
         match reader.read(&mut piece) {
             None => return Err(RecordedFault::Read),
-            Some(0) => {
-                return match take_line(alloc, rest.as_slice(), names, &mut steps) {
-                    Ok(()) => Ok(steps),
-                    Err(LineFault::Bad) => Err(RecordedFault::BadLine(lines + 1)),
-                    Err(LineFault::Memory) => Err(RecordedFault::Memory),
-                };
-            }
+            Some(0) => match take_line(alloc, rest.as_slice(), names, &mut steps) {
+                Ok(()) => return Ok(steps),
+                Err(LineFault::Bad) => return Err(RecordedFault::BadLine(lines + 1)),
+                Err(LineFault::Memory) => return Err(RecordedFault::Memory),
+            },
             Some(n) => {
-                take_piece(alloc, &piece[..n], &mut lines, &mut rest, names, &mut steps)?;
+                match take_piece(alloc, &piece[..n], &mut lines, &mut rest, names, &mut steps) {
+                    Ok(()) => {}
+                    Err(fault) => return Err(fault),
+                }
             }
         }
     }

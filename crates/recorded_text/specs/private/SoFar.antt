@@ -1,5 +1,5 @@
 -- How far a recording has been read. No public clause names it.
-use Rattle.std.specs.Prelude.{◌≡◌, ℕ, ◌+◌, true, false, List, [], ◌∷◌, ◌++◌, length, Some}
+use Rattle.std.specs.Prelude.{◌≡◌, ℕ, ◌+◌, true, false, List, [], ◌∷◌, ◌++◌, length, Option, None, Some}
 use Rattle.std.specs.List.{flat_map, list_any}
 use Rattle.recorded_text.specs.Line.{SwitchView}
 use Rattle.recorded_text.specs.Text.{lines_of, is_bad_line, told, first_bad}
@@ -25,3 +25,10 @@ pub record IsSoFar (whole ahead : List ℕ) (count : ℕ) (found : List SwitchVi
 abbrev pub Fails : LineFault → List ℕ → Type 0
 Fails Bad line = is_bad_line line ≡ true
 Fails Memory line = Unit {0}
+
+-- of what a reader had, as far as it tells its bytes, so many lines are done, and what was kept of
+-- the next and what the reader has left are ahead
+abbrev pub AreDone : Option (List ℕ) → Option (List ℕ) → List ℕ → ℕ → List SwitchView → Type 0
+AreDone None left rest count found = Unit {0}
+AreDone (Some whole) None rest count found = ⊥
+AreDone (Some whole) (Some left) rest count found = IsSoFar whole (rest ++ left) count found
