@@ -4,4 +4,5 @@ pub mod Views
 pub mod Names
 pub mod Steps
 pub mod Text
+pub mod Examples
 pub mod private
