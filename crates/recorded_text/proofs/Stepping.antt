@@ -24,7 +24,7 @@ named_left xs ys (Some i) h = got_left xs ys i h
 view_kept : (old new : List (List ℕ)) (s : Step) → Grows old new → IsNamed old s → step_view new s ≡ step_view old s
 view_kept old new s g h =
     let e : step_view new s ≡ step_view (old ++ g.more) s = ap (λ names. step_view names s) g.behind in
-    e ∙ ap (λ (t : Option (List ℕ)). record { time = s.time; cpu = s.cpu; next = t }) (named_left old g.more s.task h)
+    e ∙ ap (λ (t : Option (List ℕ)). record { time = s.time; cpu = s.cpu; next = t }) (named_left old g.more s.task h.0)
 
 views_kept : (old new : List (List ℕ)) (steps : List Step) → Grows old new → AllByRecursion (IsNamed old) steps → map (step_view new) steps ≡ map (step_view old) steps
 views_kept old new [] g h = refl

@@ -3,7 +3,7 @@
 ghost use Rattle.std.specs.Prelude.{◌≡◌, ◌+◌, ◌<◌, ◌^◌, ◌∷◌, ℕ, List, Option, Some, IfSome};
 ghost use Rattle.std.specs.Option.{option_map};
 ghost use Rattle.recorded_text.specs.Line.{micros_at, time_at, bracketed_at, cpu_at, cpu_before, below_at, coming_name, named_at, short_at, next_at, without_colon, event_at, timed_at, headed_at, line_at};
-ghost use Rattle.recorded_text.specs.Views.{line_view};
+ghost use Rattle.recorded_text.specs.Views.{line_view, HasSmallTime};
 
 use crate::cut::{cut_first, cut_last, rest_behind, trimmed, word_at_end};
 use crate::number::number;
@@ -54,7 +54,8 @@ fn micros(text: &[u8]) -> Option<u64>
 /// A time in microseconds.
 #[tactic(auto, unfolding(crate::specs::Line::time_at))]
 fn time_of(text: &[u8]) -> Option<u64>
-    ensures { result ≡ time_at text.now }
+    ensures value { result ≡ time_at text.now }
+    ensures small { IfSome result (λ t. t < 2 ^ 61) }
 {
     let (seconds, fraction) = cut_first(text, b".")?;
     let seconds = number(seconds)?;
@@ -191,7 +192,9 @@ fn event_of(line: &[u8]) -> Option<(&[u8], &[u8])>
 
 #[tactic(auto, unfolding(crate::specs::Line::timed_at))]
 fn timed<'a>(time: u64, front: &[u8], tail: &'a [u8]) -> Line<'a>
-    ensures { line_view result ≡ timed_at time front.now tail.now }
+    requires { time < 2 ^ 61 }
+    ensures value { line_view result ≡ timed_at time front.now tail.now }
+    ensures small { HasSmallTime result }
 {
     match last_cpu(front) {
         None => Line::Bad,
@@ -204,7 +207,8 @@ fn timed<'a>(time: u64, front: &[u8], tail: &'a [u8]) -> Line<'a>
 
 #[tactic(auto, unfolding(crate::specs::Line::headed_at))]
 fn headed<'a>(head: &[u8], tail: &'a [u8]) -> Line<'a>
-    ensures { line_view result ≡ headed_at head.now tail.now }
+    ensures value { line_view result ≡ headed_at head.now tail.now }
+    ensures small { HasSmallTime result }
 {
     let (front, word) = word_at_end(head);
     match time_of(word) {
@@ -216,10 +220,11 @@ fn headed<'a>(head: &[u8], tail: &'a [u8]) -> Line<'a>
 /// What a line is, without the LF at its end: a switch, as ftrace, `trace-cmd report` and
 /// `perf script` print the event sched_switch, with or without the column of flags; a line of
 /// sched_switch that has none of these forms; or another line. A sched_switch line is one that has a
-/// time before the event's name. Takes no memory.
+/// time before the event's name. The time is below 2^61. Takes no memory.
 #[tactic(auto, unfolding(crate::specs::Line::line_at))]
 pub fn line_of(line: &[u8]) -> Line<'_>
-    ensures { line_view result ≡ line_at line.now }
+    ensures value { line_view result ≡ line_at line.now }
+    ensures small { HasSmallTime result }
 {
     match event_of(line) {
         Some((head, tail)) => headed(head, tail),

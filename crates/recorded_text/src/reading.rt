@@ -26,6 +26,7 @@ fn step_of(
     switch: &Switch<'_>,
     names: &mut Names,
 ) -> Result<Step, AllocError>
+    requires { switch.now.time < 2 ^ 61 }
     ensures shown { IfOk result (λ s. step_view names.new s ≡ switch_view switch.now) }
     ensures named { IfOk result (IsNamed names.new) }
     ensures grows { Grows names.old names.new }
