@@ -1,0 +1,4 @@
+pub mod Runs
+pub mod Pairs
+pub mod Shift
+pub mod private
