@@ -43,9 +43,13 @@ joined noise (r ∷ rs) = joined_on noise r rs
 abbrev pub length_of : Run → ℕ
 length_of r = r.«end» - r.start
 
+-- without those that are shorter than the noise
+abbrev pub kept : ℕ → List Run → List Run
+kept noise rs = filter (λ r. nat_le noise (length_of r)) rs
+
 -- runs that are joined, without those that are shorter than the noise
 abbrev pub runs_of : ℕ → List Run → List Run
-runs_of noise raw = filter (λ r. nat_le noise (length_of r)) (joined noise raw)
+runs_of noise raw = kept noise (joined noise raw)
 
 -- one after the other: each ends before the next begins
 unfoldable pub InTurn : List Run → Type 0
