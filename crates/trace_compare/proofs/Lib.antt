@@ -1,3 +1,4 @@
+mod Gathering
 mod Joining
 mod Matching
 mod Walking

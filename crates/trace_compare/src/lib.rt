@@ -1,6 +1,7 @@
 //! A recorded trace beside the model's: runs, the shift of the clocks, matches, the table.
 #![tactic(auto)]
 
+mod collecting;
 mod run;
 mod runs;
 mod pairs;
