@@ -1,7 +1,7 @@
 -- The runs of a task: stretches on a CPU (own).
-use Rattle.std.specs.Prelude.{ℕ, ◌+◌, ◌-◌, ◌^◌, ◌<◌, ◌≤◌, ◌==◌, Bool, nat_lt, nat_le, max, false, if◌then◌else◌, List, [], ◌∷◌, filter, find, Option, None, Some}
+use Rattle.std.specs.Prelude.{ℕ, ◌+◌, ◌-◌, ◌^◌, ◌<◌, ◌≤◌, ◌==◌, Bool, nat_lt, nat_le, max, false, if◌then◌else◌, List, [], ◌∷◌, filter, find, unwrap_or, Option, None, Some}
 use Rattle.std.specs.Option.{option_map, option_map_or}
-use Rattle.std.specs.List.{AllByRecursion, cons_option}
+use Rattle.std.specs.List.{AllByRecursion, cons_option, list_all}
 use Rattle.recorded_text.specs.declared.step.Step.{Step}
 use Rattle.trace_compare.specs.declared.run.Run.{Run}
 
@@ -60,3 +60,11 @@ InTurn (r ∷ rs) = (r.start ≤ r.«end») × AllByRecursion (λ q. r.«end» �
 pub record IsShort (r : Run) : Type 0 where
   pub forward : r.start ≤ r.«end»
   pub small : r.«end» < 2 ^ 61
+
+-- whether all are longer than a time
+abbrev pub are_longer : ℕ → List Run → Bool
+are_longer time rs = list_all (λ r. nat_lt time (length_of r)) rs
+
+-- the noise that was asked for, or else 100 us where the model's shortest run is longer, else 0
+abbrev pub noise_of : Option ℕ → Bool → ℕ
+noise_of asked longer = unwrap_or asked (if longer then 100 else 0)

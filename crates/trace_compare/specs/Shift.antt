@@ -1,5 +1,5 @@
 -- The shift of the recording's clock: the one under which most runs match (own).
-use Rattle.std.specs.Prelude.{◌≡◌, ℕ, ◌+◌, ◌-◌, ◌*◌, ◌/◌, ◌≤◌, min, max, List, [], ◌∷◌, map, take, length, sum_by, All, Contains}
+use Rattle.std.specs.Prelude.{◌≡◌, ℕ, ◌+◌, ◌-◌, ◌*◌, ◌/◌, ◌≤◌, min, max, List, [], ◌∷◌, map, take, length, sum_by, All, Contains, MatchBool, ◌==◌}
 use Rattle.std.specs.List.{flat_map}
 use Rattle.trace_compare.specs.declared.run.Run.{Run}
 use Rattle.trace_compare.specs.declared.task.TaskRuns.{TaskRuns}
@@ -38,3 +38,8 @@ pub record IsBest (within : ℕ) (tasks : List TaskRuns) (shift : ℕ) : Type 0 
   pub among : Contains (candidates tasks) shift
   pub most : All (λ c. score within tasks c ≤ score within tasks shift) (candidates tasks)
   pub smallest : All (λ c. score within tasks c ≡ score within tasks shift → shift ≤ c) (candidates tasks)
+
+-- the shift where the recording has a start of a task of the model; else there is none to speak of
+abbrev pub IsShift : ℕ → List TaskRuns → ℕ → Type 0
+IsShift within tasks shift =
+    MatchBool (length (candidates tasks) == 0) (shift ≡ no_shift) (IsBest within tasks shift)

@@ -2,9 +2,11 @@
 #![tactic(auto)]
 
 mod collecting;
+mod gather;
 mod run;
 mod runs;
 mod pairs;
+mod shift;
 mod task;
 
 pub use recorded_text::{Names, Step};

@@ -1,11 +1,13 @@
 -- How far the runs are collected, from the last switch to the first. No public clause names it.
-use Rattle.std.specs.Prelude.{◌≡◌, ◌≢◌, ℕ, ◌<◌, if◌then◌else◌, List, [], ◌∷◌, ◌++◌, length, reverse, slice_index_or, Option, None, Some}
+use Rattle.std.specs.Prelude.{◌≡◌, ◌≢◌, ℕ, ◌<◌, if◌then◌else◌, List, [], ◌∷◌, ◌++◌, length, reverse, slice_index_or, All, Option, None, Some}
 use Rattle.std.specs.Option.{option_map, option_to_list}
 use Rattle.std.specs.declared.vec.Vec.{Vec}
 use Rattle.std.specs.Global.{Global}
 use Rattle.recorded_text.specs.declared.step.Step.{Step}
 use Rattle.trace_compare.specs.declared.run.Run.{Run}
-use Rattle.trace_compare.specs.Runs.{next_time, is_of, run_until, raw_runs}
+use Rattle.trace_compare.specs.Runs.{next_time, is_of, run_until, raw_runs, runs_of, IsShort}
+use Rattle.trace_compare.specs.declared.task.TaskRuns.{TaskRuns}
+use Rattle.trace_compare.specs.Tasks.{IsSound}
 
 abbrev pub Lists : Type 0
 Lists = List (Vec Run Global)
@@ -34,3 +36,13 @@ pub record IsBehind (next : List (Option ℕ)) (runs : Lists) (steps : List Step
 pub record IsCollected (runs : Lists) (tasks : ℕ) (steps : List Step) : Type 0 where
   pub many : length runs ≡ tasks
   pub lists : (j : ℕ) (d : Vec Run Global) → j < tasks → reverse (slice_index_or runs j d).items ≡ raw_runs j steps
+
+abbrev pub AreShortLists : Lists → Type 0
+AreShortLists runs = All (λ rs. All IsShort rs.items) runs
+
+-- the first n tasks have their runs, joined
+pub record AreSettled (noise : ℕ) (model recorded : Lists) (n : ℕ) (tasks : List TaskRuns) : Type 0 where
+  pub as_many : length tasks ≡ n
+  pub of_model : (j : ℕ) (t : TaskRuns) (d : Vec Run Global) → j < n → (slice_index_or tasks j t).model.items ≡ runs_of noise (reverse (slice_index_or model j d).items)
+  pub of_recorded : (j : ℕ) (t : TaskRuns) (d : Vec Run Global) → j < n → (slice_index_or tasks j t).recorded.items ≡ runs_of noise (reverse (slice_index_or recorded j d).items)
+  pub sound : All IsSound tasks
