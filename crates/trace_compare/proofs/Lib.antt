@@ -1,3 +1,4 @@
+mod Choosing
 mod Gathering
 mod Joining
 mod Matching

@@ -24,6 +24,17 @@ pub rest_in_turn : (m : Run) (ms : List Run) → InTurn (m ∷ ms) → InTurn ms
 unfolding InTurn
 rest_in_turn m ms t = t.2
 
+all_taken : (P : Run → Type 0) (n : ℕ) (rs : List Run) → AllByRecursion P rs → AllByRecursion P (take n rs)
+all_taken P zero rs h = tt
+all_taken P (suc n) [] h = tt
+all_taken P (suc n) (r ∷ rs) h = (h.0, all_taken P n rs h.1)
+
+pub take_in_turn : (n : ℕ) (rs : List Run) → InTurn rs → InTurn (take n rs)
+unfolding InTurn
+take_in_turn zero rs t = tt
+take_in_turn (suc n) [] t = tt
+take_in_turn (suc n) (r ∷ rs) t = (t.0, all_taken (λ q. r.«end» ≤ q.start) n rs t.1, take_in_turn n rs t.2)
+
 -- ---- what is too early or too late does not fit
 
 far_fails : (within a b : ℕ) → (b + within < a) ⊎ (a + within < b) → is_near within a b ≡ false

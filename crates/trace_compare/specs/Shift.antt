@@ -1,16 +1,16 @@
 -- The shift of the recording's clock: the one under which most runs match (own).
-use Rattle.std.specs.Prelude.{◌≡◌, ℕ, ◌+◌, ◌-◌, ◌*◌, ◌/◌, ◌≤◌, min, max, List, [], ◌∷◌, map, take, length, sum_by, All, Contains, MatchBool, ◌==◌}
+use Rattle.std.specs.Prelude.{◌≡◌, ℕ, ◌+◌, ◌-◌, ◌*◌, ◌/◌, ◌≤◌, max, List, [], ◌∷◌, map, take, length, sum_by, All, Contains, MatchBool, ◌==◌}
 use Rattle.std.specs.List.{flat_map}
 use Rattle.trace_compare.specs.declared.run.Run.{Run}
 use Rattle.trace_compare.specs.declared.task.TaskRuns.{TaskRuns}
 use Rattle.trace_compare.specs.Pairs.{no_shift, fits, partners, matched}
 
--- the tasks that are looked at, and how many runs of each: 4096 in all (own)
+-- the tasks that are looked at, and how many runs of each of so many: 4096 in all (own)
 abbrev pub looked_at : List TaskRuns → List TaskRuns
 looked_at tasks = take 256 tasks
 
 abbrev pub share_of : ℕ → ℕ
-share_of tasks = 4096 / max 1 (min 256 tasks)
+share_of tasks = 4096 / max tasks 1
 
 -- from the model's first start to each of the first 50 recorded ones
 abbrev pub shifts_from : List Run → List Run → List ℕ
@@ -31,15 +31,16 @@ task_score within share shift t =
 
 abbrev pub score : ℕ → List TaskRuns → ℕ → ℕ
 score within tasks shift =
-    sum_by (task_score within (share_of (length tasks)) shift) (looked_at tasks)
+    sum_by (task_score within (share_of (length (looked_at tasks))) shift) (looked_at tasks)
 
--- no candidate has a greater score, and those of the same score are no smaller
-pub record IsBest (within : ℕ) (tasks : List TaskRuns) (shift : ℕ) : Type 0 where
-  pub among : Contains (candidates tasks) shift
-  pub most : All (λ c. score within tasks c ≤ score within tasks shift) (candidates tasks)
-  pub smallest : All (λ c. score within tasks c ≡ score within tasks shift → shift ≤ c) (candidates tasks)
+-- one of the shifts: no other has a greater score, and those of the same score are no smaller
+pub record IsBestOf (score_at : ℕ → ℕ) (shifts : List ℕ) (shift : ℕ) : Type 0 where
+  pub among : Contains shifts shift
+  pub most : All (λ s. score_at s ≤ score_at shift) shifts
+  pub smallest : All (λ s. score_at s ≡ score_at shift → shift ≤ s) shifts
 
--- the shift where the recording has a start of a task of the model; else there is none to speak of
+-- the best of the candidates; where there is none, no shift
 abbrev pub IsShift : ℕ → List TaskRuns → ℕ → Type 0
 IsShift within tasks shift =
-    MatchBool (length (candidates tasks) == 0) (shift ≡ no_shift) (IsBest within tasks shift)
+    MatchBool (length (candidates tasks) == 0) (shift ≡ no_shift)
+    (IsBestOf (score within tasks) (candidates tasks) shift)

@@ -1,2 +1,3 @@
 pub mod Meetings
 pub mod Behind
+pub mod Choices

@@ -57,7 +57,8 @@ pub(crate) fn matched_count(within: u64, shift: u64, ms: &[Run], rs: &[Run]) -> 
     requires recorded { All IsShort rs.now }
     requires model_turn { InTurn ms.now }
     requires recorded_turn { InTurn rs.now }
-    ensures { result ≡ matched (partners (fits within shift) ms.now rs.now) }
+    ensures value { result ≡ matched (partners (fits within shift) ms.now rs.now) }
+    ensures few { result ≤ length ms.now }
 {
     let mut count = 0;
     let mut i = 0;

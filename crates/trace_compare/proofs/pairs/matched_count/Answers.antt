@@ -44,12 +44,12 @@ loop-i-preserved c =
       j_within = v.j_within;
     }
 
-pub returns-else-j-rs : goal.returns-else-j-rs
-returns-else-j-rs c =
+pub returns-else-j-rs-clause-value : goal.returns-else-j-rs-clause-value
+returns-else-j-rs-clause-value c =
     let none = count_recorded_end (fits c.args.within c.args.shift) c.args.ms.now c.args.rs.now c.loop-i.i c.loop-i.j c.if-j-rs.false in
     omega (arith, none, c.loop-i.invariant.counted)
 
-pub returns-after-loop-i : goal.returns-after-loop-i
-returns-after-loop-i c =
+pub returns-after-loop-i-clause-value : goal.returns-after-loop-i-clause-value
+returns-after-loop-i-clause-value c =
     let none = count_model_end (fits c.args.within c.args.shift) c.args.ms.now c.args.rs.now c.loop-i.i c.loop-i.j c.loop-i-test.false in
     omega (arith, none, c.loop-i.invariant.counted)
