@@ -1,4 +1,5 @@
 mod Choosing
+mod Gathered
 mod Gathering
 mod Joining
 mod Matching
