@@ -2,5 +2,5 @@ mod Choosing
 mod Gathered
 mod Gathering
 mod Joining
-mod Matching
+mod SideBySide
 mod Walking

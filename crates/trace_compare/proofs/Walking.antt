@@ -6,7 +6,7 @@ use Rattle.trace_compare.specs.declared.run.Run.{Run}
 use Rattle.trace_compare.specs.Runs.{InTurn}
 use Rattle.trace_compare.specs.Pairs.{fits, partners, left_over, matched}
 use Rattle.trace_compare.specs.private.Meetings.{IsEarly, IsLate}
-use Rattle.trace_compare.proofs.Matching.{rest_in_turn, partners_both, partners_early, partners_past, left_both, left_early, left_past, partners_end, partners_rest, no_partners, left_end, all_left}
+use Rattle.trace_compare.proofs.SideBySide.{rest_in_turn, partners_both, partners_early, partners_past, left_both, left_early, left_past, partners_end, partners_rest, no_partners, left_end, all_left}
 
 abbrev pub no_run : Run
 no_run = record { start = 0; «end» = 0; cpu = 0 }

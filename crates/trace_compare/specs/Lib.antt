@@ -2,4 +2,5 @@ pub mod Runs
 pub mod Pairs
 pub mod Tasks
 pub mod Shift
+pub mod Compared
 pub mod private

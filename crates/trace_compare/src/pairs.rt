@@ -79,9 +79,11 @@ pub(crate) fn matched_count(within: u64, shift: u64, ms: &[Run], rs: &[Run]) -> 
 
 /// Which recorded run each run of the model is matched with, and the recorded runs that are left.
 #[derive(Drop)]
-pub(crate) struct Matching {
-    pub(crate) partners: Vec<Option<Run>>,
-    pub(crate) left: Vec<Run>,
+pub struct Matching {
+    /// For each run of the model, in order of time, the recorded run that it takes.
+    pub partners: Vec<Option<Run>>,
+    /// The recorded runs that no run of the model takes.
+    pub left: Vec<Run>,
 }
 
 /// Matches the runs of a task.

@@ -2,7 +2,7 @@ use Rattle.std.proofs.Common.{◌+◌, ◌*◌, ◌∙◌, subst, sym, arith, le
 use Rattle.std.proofs.lemmas.List.{length-take}
 use Rattle.std.proofs.lemmas.Grind.{common_steps}
 use Rattle.trace_compare.specs.Runs.{InTurn}
-use Rattle.trace_compare.proofs.Matching.{take_in_turn}
+use Rattle.trace_compare.proofs.SideBySide.{take_in_turn}
 use Rattle.trace_compare.proofs.shift.score_of_task.Goals as goal
 
 pub matched_count-requires-clause-model_turn : goal.matched_count-requires-clause-model_turn
