@@ -1,0 +1,6 @@
+mod Choosing
+mod Gathered
+mod Gathering
+mod Joining
+mod SideBySide
+mod Walking

@@ -1,0 +1,6 @@
+pub mod Runs
+pub mod Pairs
+pub mod Tasks
+pub mod Shift
+pub mod Compared
+pub mod private
