@@ -41,9 +41,9 @@ pub struct Row<'a> {
     /// How far their ends are apart.
     pub ends: Option<Spread>,
     /// The CPU time of the model's runs, in microseconds.
-    pub cpu: u64,
+    pub cpu: u128,
     /// The CPU time of the recorded ones.
-    pub recorded_cpu: u64,
+    pub recorded_cpu: u128,
 }
 
 /// A run of a task.

@@ -57,6 +57,15 @@ pub(crate) fn put_number(out: &mut Vec<u8>, width: usize, n: u64) -> Result<(), 
     put_column(out, width, buffer.format(n).as_bytes())
 }
 
+/// The same of a number that may be greater.
+pub(crate) fn put_wide(out: &mut Vec<u8>, width: usize, n: u128) -> Result<(), NoMemory>
+    requires { width ≤ 15 }
+    ensures { OnOk result (out.new.items ≡ out.old.items ++ column width (decimal n)) }
+{
+    let mut buffer = Buffer::new();
+    put_column(out, width, buffer.format(n).as_bytes())
+}
+
 /// A number below 1000000, in six digits.
 fn put_six(out: &mut Vec<u8>, n: u64) -> Result<(), NoMemory>
     ensures { OnOk result (out.new.items ≡ out.old.items ++ zeros_right 6 (decimal n)) }

@@ -4,7 +4,7 @@ ghost use Rattle.std.specs.Prelude.{◌≡◌, ◌≤◌, ◌++◌, codes, decim
 ghost use Rattle.compare_table.specs.Table.{column, count_columns, header, row_line, shift_line, spread_columns, time_columns};
 
 use crate::row::{Row, Shift, Spread};
-use crate::text::{put, put_column, put_number, put_right, put_seconds};
+use crate::text::{put, put_column, put_number, put_right, put_seconds, put_wide};
 use no_memory::NoMemory;
 
 /// Puts the line of the shift behind a text: `shift 1705.992138 s`.
@@ -59,8 +59,8 @@ fn put_counts(out: &mut Vec<u8>, row: &Row<'_>) -> Result<(), NoMemory>
 fn put_times(out: &mut Vec<u8>, row: &Row<'_>) -> Result<(), NoMemory>
     ensures { OnOk result (out.new.items ≡ out.old.items ++ time_columns row.now) }
 {
-    put_number(out, 9, row.cpu)?;
-    put_number(out, 10, row.recorded_cpu)
+    put_wide(out, 9, row.cpu)?;
+    put_wide(out, 10, row.recorded_cpu)
 }
 
 /// Puts the line of a task behind a text.
