@@ -152,6 +152,7 @@ pub fn read_switches<R: Read>(
     ensures read { IfOk result (λ steps. IfSome (R.remaining (inner_of reader.old)) (λ text.
         IsRead text names.new steps.items)) }
     ensures named { IfOk result (λ steps. AreNamed names.new steps.items) }
+    ensures small { IfOk result (λ steps. All (λ s. s.time < 2 ^ 61) steps.items) }
     ensures fault { IfErr result (λ e. IfSome (R.remaining (inner_of reader.old)) (λ text.
         IsFault text e)) }
     ensures grows { Grows names.old names.new }

@@ -12,8 +12,8 @@ settle_all-requires-clause-model c = subst AreShortLists (sym c.as_slice-2.ensur
 pub settle_all-requires-clause-recorded : goal.settle_all-requires-clause-recorded
 settle_all-requires-clause-recorded c = subst AreShortLists (sym c.as_slice-3.ensures.value) (collected_short c.in_ok-of_recorded.of_recorded.items c.args.tasks c.args.recorded.now c.requires.recorded c.in_ok-of_recorded.ensures)
 
-pub returns : goal.returns
-returns c =
+pub returns-clause-tasks : goal.returns-clause-tasks
+returns-clause-tasks c =
     let one = subst (λ (l : Lists). IsCollected l c.args.tasks c.args.model.now) (sym c.as_slice-2.ensures.value) c.in_ok-of_model.ensures in
     let two = subst (λ (l : Lists). IsCollected l c.args.tasks c.args.recorded.now) (sym c.as_slice-3.ensures.value) c.in_ok-of_recorded.ensures in
     let three = subst (λ (l : Lists). IsCollected l c.args.tasks c.args.model.now) (sym c.as_slice.ensures.value) c.in_ok-of_model.ensures in
