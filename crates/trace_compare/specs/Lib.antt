@@ -3,4 +3,5 @@ pub mod Pairs
 pub mod Tasks
 pub mod Shift
 pub mod Compared
+pub mod Examples
 pub mod private
