@@ -9,6 +9,7 @@
 
 mod collecting;
 mod comparing;
+mod differences;
 mod gather;
 mod pairs;
 mod run;
@@ -17,6 +18,7 @@ mod shift;
 mod task;
 
 pub use comparing::{Compared, compare};
+pub use differences::{Apart, apart_of, matched_of, missing_of, other_of};
 pub use gather::runs_of_tasks;
 pub use pairs::{Matching, NO_SHIFT};
 pub use recorded_text::{Names, Step};
