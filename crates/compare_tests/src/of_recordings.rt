@@ -59,5 +59,10 @@ fn a_late_end_does_not_match(rt: HostRuntime) -> Result<(), Fail> {
 fn the_first_bad_line_is_told(rt: HostRuntime) {
     let mut names = Names::new(rt.alloc());
     let text = "# tracer: nop\n a-7 [000] 1.000000: sched_switch: a:7 [-1] S ==> b:8\n";
-    assert!(rt; matches!(read(rt.alloc(), text, &mut names), Err(RecordedFault::BadLine(2))));
+    assert!(rt;
+        matches!(
+            read(rt.alloc(), text, &mut names),
+            Err(RecordedFault::BadLine(2))
+        )
+    );
 }

@@ -29,9 +29,10 @@ parted : (text : List ℕ) (i : ℕ) → i < length text → text ≡ take i tex
 parted text i l = sym (take-append-drop i text) ∙ ap (λ rest. take i text ++ rest) (drop_more text i 0 l)
 
 pub split_line : (text : List ℕ) (i : ℕ) → NoneBefore (Passes (is_byte 10) text) 0 (length text) i × Passes (is_byte 10) text i → (text ≡ take i text ++ 10 ∷ drop (i + 1) text) × Lacks 10 (take i text)
-split_line text i found =
-    (parted text i found.0.high ∙ ap (λ (c : ℕ). take i text ++ c ∷ drop (i + 1) text) (eqb-true _ _ found.1),
-     lacks_front text i (λ k l m e. found.0.before k (omega arith) l (eq-eqb _ _ e)))
+split_line text i found = (
+  parted text i found.0.high ∙ ap (λ (c : ℕ). take i text ++ c ∷ drop (i + 1) text) (eqb-true _ _ found.1),
+  lacks_front text i (λ k l m e. found.0.before k (omega arith) l (eq-eqb _ _ e)),
+)
 
 pub no_line : (text : List ℕ) → Nowhere (Passes (is_byte 10) text) 0 (length text) → Lacks 10 text
 no_line text none = lacks_all text (λ k l e. none k (omega arith) l (eq-eqb _ _ e))

@@ -131,7 +131,7 @@ event_at line =
 unfoldable pub timed_at : ℕ → List ℕ → List ℕ → LineView
 timed_at time front tail =
     option_map_or (λ cpu. option_map_or (λ next.
-        Seen (record { time = time; cpu = cpu; next = next })) (next_at tail) Bad)
+    Seen (record { time = time; cpu = cpu; next = next })) (next_at tail) Bad)
     (cpu_before front) Bad
 
 -- a line with a time before the event is one of sched_switch

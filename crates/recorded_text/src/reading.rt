@@ -21,11 +21,7 @@ use std::io::Read;
 const READS: u64 = 1 << 32;
 
 /// A switch, with the number of its task's name.
-fn step_of(
-    alloc: Global,
-    switch: &Switch<'_>,
-    names: &mut Names,
-) -> Result<Step, AllocError>
+fn step_of(alloc: Global, switch: &Switch<'_>, names: &mut Names) -> Result<Step, AllocError>
     requires { switch.now.time < 2 ^ 61 }
     ensures shown { IfOk result (λ s. step_view names.new s ≡ switch_view switch.now) }
     ensures named { IfOk result (IsNamed names.new) }

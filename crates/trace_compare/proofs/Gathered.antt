@@ -72,8 +72,8 @@ all_longer_is runs many steps h each = λ j l.
 not_longer_is : (runs : Lists) (many : ℕ) (steps : List Step) → IsCollected runs many steps → list_all (λ rs. are_longer 100 rs.items) runs ≡ false → AreAllLonger steps many → ⊥
 not_longer_is runs many steps h some all =
     let each : All (λ (v : Vec Run Global). are_longer 100 v.items ≡ true) runs = λ j d l.
-        let back : All Longer (get_or runs j d).items = All-permutation Longer (reverse (get_or runs j d).items) (get_or runs j d).items (IsPermutation-sym (get_or runs j d).items (reverse (get_or runs j d).items) (IsPermutation-reverse (get_or runs j d).items)) (subst (All Longer) (sym (h.lists j d (omega (arith, l, h.many)))) (all j (omega (arith, l, h.many)))) in
-        are_each (get_or runs j d).items (recursion_from_All Longer (get_or runs j d).items back) in
+    let back : All Longer (get_or runs j d).items = All-permutation Longer (reverse (get_or runs j d).items) (get_or runs j d).items (IsPermutation-sym (get_or runs j d).items (reverse (get_or runs j d).items) (IsPermutation-reverse (get_or runs j d).items)) (subst (All Longer) (sym (h.lists j d (omega (arith, l, h.many)))) (all j (omega (arith, l, h.many)))) in
+    are_each (get_or runs j d).items (recursion_from_All Longer (get_or runs j d).items back) in
     let yes = longer_lists runs (recursion_from_All (λ (v : Vec Run Global). are_longer 100 v.items ≡ true) runs each) in
     cc
 
@@ -84,8 +84,8 @@ noise_is None runs many steps h =
 
 pub tasks_are : (noise many n : ℕ) (model recorded : List Step) (of_model of_recorded : Lists) (tasks : List TaskRuns) → IsCollected of_model many model → IsCollected of_recorded many recorded → n ≡ many → AreSettled noise of_model of_recorded n tasks → AreTasksOf noise model recorded many tasks
 tasks_are noise many n model recorded of_model of_recorded tasks a b e h = record {
-    as_many = h.as_many ∙ e;
-    of_model = λ j t l. let d = some_list of_model j (omega (arith, l, a.many)) in h.of_model j t d (omega (arith, l, e)) ∙ ap (runs_of noise) (a.lists j d l);
-    of_recorded = λ j t l. let d = some_list of_recorded j (omega (arith, l, b.many)) in h.of_recorded j t d (omega (arith, l, e)) ∙ ap (runs_of noise) (b.lists j d l);
-    sound = h.sound;
-  }
+  as_many = h.as_many ∙ e;
+  of_model = λ j t l. let d = some_list of_model j (omega (arith, l, a.many)) in h.of_model j t d (omega (arith, l, e)) ∙ ap (runs_of noise) (a.lists j d l);
+  of_recorded = λ j t l. let d = some_list of_recorded j (omega (arith, l, b.many)) in h.of_recorded j t d (omega (arith, l, e)) ∙ ap (runs_of noise) (b.lists j d l);
+  sound = h.sound;
+}

@@ -37,13 +37,13 @@ behind_step next old new s rest k time many small is read takes h =
     let told : time ≡ next_time s.cpu rest = read_at next k time l read ∙ ap (λ (c : ℕ). get_or next c None) is ∙ h.times s.cpu small in
     record {
       times = λ c lt. ⊎_elim
-        (λ same. ap (λ (x : ℕ). get_or (set next k (Some s.time)) x None) (same ∙ sym is) ∙ get_or-set_same next k (Some s.time) None l ∙ sym (here_time s rest c same))
-        (λ other. get_or-set_other next k c (Some s.time) None (λ e. other (e ∙ is)) ∙ h.times c lt ∙ sym (other_time s rest c other))
-        (cases_eq c s.cpu);
+          (λ same. ap (λ (x : ℕ). get_or (set next k (Some s.time)) x None) (same ∙ sym is) ∙ get_or-set_same next k (Some s.time) None l ∙ sym (here_time s rest c same))
+          (λ other. get_or-set_other next k c (Some s.time) None (λ e. other (e ∙ is)) ∙ h.times c lt ∙ sym (other_time s rest c other))
+          (cases_eq c s.cpu);
       lists = λ j d lt.
-        let inside : j < length old = omega (arith, lt, takes.same_len) in
-        ap reverse (takes.each j d inside) ∙ rev_opt (run_at j s time) (get_or old j d).items
-        ∙ ap (cons_option (run_at j s time)) (h.lists j d inside) ∙ taken j s time rest told;
+          let inside : j < length old = omega (arith, lt, takes.same_len) in
+          ap reverse (takes.each j d inside) ∙ rev_opt (run_at j s time) (get_or old j d).items
+          ∙ ap (cons_option (run_at j s time)) (h.lists j d inside) ∙ taken j s time rest told;
     }
 
 pub none_behind : (next : List (Option ℕ)) (runs : Lists) (steps : List Step) (i : ℕ) → length next ≡ 65536 → All (λ t. t ≡ None) next → All (λ rs. rs.items ≡ []) runs → length steps ≤ i → IsBehind next runs (drop i steps)

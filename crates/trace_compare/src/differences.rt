@@ -85,7 +85,9 @@ fn add_pair(found: &mut Apart, shift: u64, m: &Run, partner: Option<Run>) -> Res
     match partner {
         None => Ok(()),
         Some(r) => {
-            found.starts.push(between(m.start + shift, r.start + NO_SHIFT))?;
+            found
+                .starts
+                .push(between(m.start + shift, r.start + NO_SHIFT))?;
             found.ends.push(between(m.end + shift, r.end + NO_SHIFT))?;
             if m.cpu == r.cpu {
                 found.same_cpu += 1;

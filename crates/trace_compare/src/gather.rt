@@ -76,13 +76,7 @@ fn noise_for(asked: Option<u64>, lists: &[Vec<Run>]) -> u64
 {
     match asked {
         Some(noise) => noise,
-        None => {
-            if all_longer(lists) {
-                NOISE
-            } else {
-                0
-            }
-        }
+        None => { if all_longer(lists) { NOISE } else { 0 } }
     }
 }
 
