@@ -1,6 +1,9 @@
 -- What is told of matched runs, and of those that are not (own).
-use Rattle.std.specs.Prelude.{ℕ, ◌+◌, ◌-◌, Bool, ◌&&◌, ◌==◌, nat_le, max, List, [], ◌∷◌, ◌++◌, map, filter, find, length, position, is_none, Option, None, Some}
+use Rattle.std.specs.Prelude.{ℕ, ◌+◌, ◌-◌, ◌<◌, ◌≤◌, slice_index_or, fold, min, sum_by, Bool, ◌&&◌, ◌==◌, nat_le, max, List, [], ◌∷◌, ◌++◌, map, filter, find, length, position, is_none, Option, None, Some}
+use Rattle.std.specs.List.{flat_map}
 use Rattle.trace_compare.specs.declared.run.Run.{Run}
+use Rattle.trace_compare.specs.declared.task.TaskRuns.{TaskRuns}
+use Rattle.trace_compare.specs.Runs.{length_of}
 use Rattle.trace_compare.specs.Pairs.{no_shift}
 
 -- a run with its partner, if it has one
@@ -41,3 +44,41 @@ is_inside from until shift r =
 -- the first recorded run inside the model's time that no run of the model takes
 abbrev pub first_other : ℕ → ℕ → ℕ → List Run → Option Run
 first_other from until shift left = find (is_inside from until shift) left
+
+-- how far a recorded run is from one of the model: its start and its end together
+abbrev pub far_from : ℕ → Run → Run → ℕ
+far_from shift m r = start_apart shift (m, r) + end_apart shift (m, r)
+
+-- the place of the nearest run, the first of equals
+pub record IsNearest (shift : ℕ) (m : Run) (rs : List Run) (k : ℕ) : Type 0 where
+  pub within : k < length rs
+  pub least : (j : ℕ) (d : Run) → j < length rs → far_from shift m (slice_index_or rs k d) ≤ far_from shift m (slice_index_or rs j d)
+  pub first : (j : ℕ) (d : Run) → j < k → far_from shift m (slice_index_or rs k d) < far_from shift m (slice_index_or rs j d)
+
+-- all runs of the model
+abbrev pub all_runs : List TaskRuns → List Run
+all_runs tasks = flat_map (λ t. t.model.items) tasks
+
+-- when the first of them begins, and 2^61 where there is none
+abbrev pub first_start : List TaskRuns → ℕ
+first_start tasks = fold (λ at r. min at r.start) no_shift (all_runs tasks)
+
+-- when the last of them ends, and 0 where there is none
+abbrev pub last_end : List TaskRuns → ℕ
+last_end tasks = fold (λ at r. max at r.«end») 0 (all_runs tasks)
+
+-- the CPU time of runs, up to the most that 64 bits hold
+abbrev pub cpu_time : List Run → ℕ
+cpu_time rs = min (sum_by length_of rs) 18446744073709551615
+
+-- the same of those that are taken
+abbrev pub taken_length : Option Run → ℕ
+taken_length None = 0
+taken_length (Some r) = length_of r
+
+abbrev pub taken_time : List (Option Run) → ℕ
+taken_time ps = min (sum_by taken_length ps) 18446744073709551615
+
+-- how many recorded runs inside the model's time no run of the model takes
+abbrev pub others : ℕ → ℕ → ℕ → List Run → ℕ
+others from until shift left = length (filter (is_inside from until shift) left)

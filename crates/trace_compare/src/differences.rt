@@ -4,7 +4,7 @@ ghost use Rattle.std.specs.Prelude.{◌≡◌, ◌+◌, ◌-◌, ◌<◌, ◌≤
 ghost use Rattle.std.specs.Option.{option_copied};
 ghost use Rattle.trace_compare.specs.Runs.{IsShort};
 ghost use Rattle.trace_compare.specs.Pairs.{no_shift, matched};
-ghost use Rattle.trace_compare.specs.Differences.{pairs_of, distance, start_apart, end_apart, same_cpu, one_pair, first_missing, is_inside, first_other};
+ghost use Rattle.trace_compare.specs.Differences.{pairs_of, distance, start_apart, end_apart, same_cpu, one_pair, first_missing, is_inside, first_other, others};
 
 use crate::pairs::NO_SHIFT;
 use crate::run::Run;
@@ -50,6 +50,23 @@ pub fn other_of(from: u64, until: u64, shift: u64, left: &[Run]) -> Option<Run>
         }
     }
     None
+}
+
+/// How many recorded runs inside the model's time no run of the model takes.
+pub fn others_of(from: u64, until: u64, shift: u64, left: &[Run]) -> usize
+    requires from { from < 2 ^ 61 }
+    requires until { until < 2 ^ 61 }
+    requires shift { shift < 2 ^ 62 }
+    requires left { All IsShort left.now }
+    ensures { result ≡ others from until shift left.now }
+{
+    let mut count = 0;
+    for run in left {
+        if lies_inside(from, until, shift, run) {
+            count += 1;
+        }
+    }
+    count
 }
 
 /// How far two times are apart.
