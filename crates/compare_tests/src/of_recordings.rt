@@ -4,7 +4,7 @@ use counted_io::Counted;
 use recorded_text::{Names, RecordedFault, Step, read_switches};
 use std::alloc::Global;
 use std::test::Fail;
-use trace_compare::{NO_SHIFT, compare, runs_of_tasks};
+use trace_compare::{NO_SHIFT, apart_of, compare, runs_of_tasks};
 
 /// A task of two runs, on CPU 0.
 const MODEL: &str = "# tracer: nop
@@ -52,6 +52,27 @@ fn a_late_end_does_not_match(rt: HostRuntime) -> Result<(), Fail> {
         let matched = task.partners.iter().filter(|p| p.is_some()).count();
         assert_eq!(rt; (matched, task.left.len()), (1, 1));
     }
+    Ok(())
+}
+
+#[test]
+fn ends_are_apart(rt: HostRuntime) -> Result<(), Fail> {
+    let mut names = Names::new(rt.alloc());
+    let model = read(rt.alloc(), MODEL, &mut names)?;
+    let recorded = read(rt.alloc(), LATER, &mut names)?;
+    let runs = runs_of_tasks(rt.alloc(), None, model.as_slice(), recorded.as_slice(), 1)?;
+    let found = compare(rt.alloc(), 1001, None, runs.as_slice())?;
+    assert_eq!(rt; (runs.len(), found.tasks.len()), (1, 1));
+    let (run, task) = (&runs[0], &found.tasks[0]);
+    let apart = apart_of(
+        rt.alloc(),
+        found.shift,
+        run.model.as_slice(),
+        task.partners.as_slice(),
+    )?;
+    assert_eq!(rt; apart.starts.as_slice(), [0, 0].as_slice());
+    assert_eq!(rt; apart.ends.as_slice(), [0, 1001].as_slice());
+    assert_eq!(rt; apart.same_cpu, 0);
     Ok(())
 }
 
