@@ -4,7 +4,7 @@ use counted_io::Counted;
 use recorded_text::{Names, RecordedFault, Step, read_switches};
 use std::alloc::Global;
 use std::test::Fail;
-use trace_compare::{NO_SHIFT, apart_of, compare, runs_of_tasks};
+use trace_compare::{NO_SHIFT, apart_in, compare, runs_of_tasks};
 
 /// A task of two runs, on CPU 0.
 const MODEL: &str = "# tracer: nop
@@ -63,13 +63,7 @@ fn ends_are_apart(rt: HostRuntime) -> Result<(), Fail> {
     let runs = runs_of_tasks(rt.alloc(), None, model.as_slice(), recorded.as_slice(), 1)?;
     let found = compare(rt.alloc(), 1001, None, runs.as_slice())?;
     assert_eq!(rt; (runs.len(), found.tasks.len()), (1, 1));
-    let (run, task) = (&runs[0], &found.tasks[0]);
-    let apart = apart_of(
-        rt.alloc(),
-        found.shift,
-        run.model.as_slice(),
-        task.partners.as_slice(),
-    )?;
+    let apart = apart_in(rt.alloc(), found.shift, &runs[0], &found.tasks[0])?;
     assert_eq!(rt; apart.starts.as_slice(), [0, 0].as_slice());
     assert_eq!(rt; apart.ends.as_slice(), [0, 1001].as_slice());
     assert_eq!(rt; apart.same_cpu, 0);

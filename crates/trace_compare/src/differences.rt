@@ -3,11 +3,14 @@
 ghost use Rattle.std.specs.Prelude.{◌≡◌, ◌+◌, ◌-◌, ◌<◌, ◌≤◌, ◌^◌, map, All, IfOk, IfSome, OnOk, ◌++◌};
 ghost use Rattle.std.specs.Option.{option_copied};
 ghost use Rattle.trace_compare.specs.Runs.{IsShort};
+ghost use Rattle.trace_compare.specs.Tasks.{IsSound};
+ghost use Rattle.trace_compare.specs.Matched.{IsSoundMatching};
 ghost use Rattle.trace_compare.specs.Pairs.{no_shift, matched};
 ghost use Rattle.trace_compare.specs.Differences.{pairs_of, distance, start_apart, end_apart, same_cpu, one_pair, first_missing, is_inside, first_other, others};
 
-use crate::pairs::NO_SHIFT;
+use crate::pairs::{Matching, NO_SHIFT};
 use crate::run::Run;
+use crate::task::TaskRuns;
 use std::alloc::{AllocError, Global};
 
 /// How many runs of the model are matched.
@@ -141,5 +144,34 @@ pub fn apart_of(
         add_pair(&mut found, shift, &model[i], partners[i])?;
         i += 1;
     }
+    Ok(found)
+}
+
+/// How far the matched runs of a task are apart, as [`compare`](crate::compare) matched them.
+///
+/// # Errors
+/// Where a growth was refused.
+pub fn apart_in(
+    alloc: Global,
+    shift: u64,
+    task: &TaskRuns,
+    matching: &Matching,
+) -> Result<Apart, AllocError>
+    requires shift { shift < 2 ^ 62 }
+    requires task { IsSound task.now }
+    requires matching { IsSoundMatching matching.now }
+    ensures starts { IfOk result (λ a. a.starts.items
+        ≡ map (start_apart shift) (pairs_of task.now.model.items matching.now.partners.items)) }
+    ensures ends { IfOk result (λ a. a.ends.items
+        ≡ map (end_apart shift) (pairs_of task.now.model.items matching.now.partners.items)) }
+    ensures same { IfOk result (λ a. a.same_cpu
+        ≡ same_cpu (pairs_of task.now.model.items matching.now.partners.items)) }
+{
+    let found = apart_of(
+        alloc,
+        shift,
+        task.model.as_slice(),
+        matching.partners.as_slice(),
+    )?;
     Ok(found)
 }

@@ -20,7 +20,7 @@ mod task;
 mod times;
 
 pub use comparing::{Compared, compare};
-pub use differences::{Apart, apart_of, matched_of, missing_of, other_of, others_of};
+pub use differences::{Apart, apart_in, apart_of, matched_of, missing_of, other_of, others_of};
 pub use gather::runs_of_tasks;
 pub use nearest::{first_start_of, last_end_of, nearest_of};
 pub use pairs::{Matching, NO_SHIFT};
