@@ -1,5 +1,5 @@
 -- What the collected runs are, once they are joined.
-use Rattle.std.proofs.Common.{◌≡◌, ℕ, zero, suc, ◌+◌, ◌-◌, ◌<◌, ◌≤◌, ◌^◌, ◌⊎◌, inl, inr, ⊎_elim, Bool, true, false, List, [], ◌∷◌, ◌++◌, length, get_or, Option, Some, None, Vec, Global, refl, sym, ap, ◌∙◌, arith, subst}
+use Rattle.std.proofs.Common.{◌≡◌, ℕ, ◌<◌, ◌^◌, inl, inr, ⊎_elim, true, false, List, [], ◌∷◌, length, get_or, Option, Some, None, Vec, Global, refl, sym, ap, ◌∙◌, arith, subst}
 use Rattle.std.specs.Prelude.{reverse, All, IfSome, nat_lt}
 use Rattle.std.specs.List.{AllByRecursion, cons_option, list_all}
 use Rattle.std.proofs.lemmas.Bool.{cases_Bool, and_parts, and_from, ltb-true, lt-ltb}
@@ -8,8 +8,8 @@ use Rattle.std.proofs.lemmas.List.Sorted.{IsPermutation-reverse, IsPermutation-s
 use Rattle.recorded_text.specs.declared.step.Step.{Step}
 use Rattle.trace_compare.specs.declared.run.Run.{Run}
 use Rattle.trace_compare.specs.declared.task.TaskRuns.{TaskRuns}
-use Rattle.trace_compare.specs.Runs.{next_time, is_of, run_until, run_from, raw_runs, runs_of, are_longer, length_of, noise_of, IsShort}
-use Rattle.trace_compare.specs.Tasks.{IsSound, AreTasksOf, HaveSmallTimes, AreAllLonger, IsNoise}
+use Rattle.trace_compare.specs.Runs.{next_time, is_of, run_until, raw_runs, runs_of, are_longer, length_of, noise_of, IsShort}
+use Rattle.trace_compare.specs.Tasks.{AreTasksOf, HaveSmallTimes, AreAllLonger, IsNoise}
 use Rattle.trace_compare.specs.private.Behind.{Lists, IsCollected, AreShortLists, AreSettled}
 
 next_small : (cpu : ℕ) (steps : List Step) → AllByRecursion (λ s. s.time < 2 ^ 61) steps → IfSome (next_time cpu steps) (λ t. t < 2 ^ 61)

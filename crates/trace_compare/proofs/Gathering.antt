@@ -1,15 +1,15 @@
 -- Runs collected from the last switch to the first.
-use Rattle.std.proofs.Common.{◌≡◌, ℕ, zero, suc, ◌+◌, ◌-◌, ◌<◌, ◌≤◌, ◌⊎◌, inl, inr, ⊎_elim, Bool, true, false, List, [], ◌∷◌, ◌++◌, length, get_or, drop, Option, Some, None, Vec, Global, refl, sym, ap, ◌∙◌, arith, subst, append-nil}
+use Rattle.std.proofs.Common.{◌≡◌, ℕ, zero, suc, ◌+◌, ◌<◌, ◌≤◌, ⊎_elim, List, [], ◌∷◌, ◌++◌, length, get_or, drop, Option, Some, None, refl, sym, ap, ◌∙◌, arith, subst, append-nil}
 use Rattle.std.specs.Prelude.{reverse, All}
 use Rattle.std.proofs.Math.ListN.{set}
-use Rattle.std.specs.Option.{option_map, option_to_list}
+use Rattle.std.specs.Option.{option_to_list}
 use Rattle.std.specs.List.{cons_option}
-use Rattle.std.proofs.lemmas.Bool.{cases_Bool, cases_eq, ne_eqb, eq-eqb}
+use Rattle.std.proofs.lemmas.Bool.{cases_eq, ne_eqb, eq-eqb}
 use Rattle.std.proofs.lemmas.List.{drop_more, drop_all, reverse-append, get_or-set_same, get_or-set_other}
 use Rattle.recorded_text.specs.declared.step.Step.{Step}
 use Rattle.trace_compare.specs.declared.run.Run.{Run}
-use Rattle.trace_compare.specs.Runs.{next_time, is_of, run_until, run_from, raw_runs}
-use Rattle.trace_compare.specs.private.Behind.{Lists, PushesOne, Takes, run_at, IsBehind, IsCollected}
+use Rattle.trace_compare.specs.Runs.{next_time, raw_runs}
+use Rattle.trace_compare.specs.private.Behind.{Lists, Takes, run_at, IsBehind}
 
 rev_opt : (o : Option Run) (xs : List Run) → reverse (xs ++ option_to_list o) ≡ cons_option o (reverse xs)
 rev_opt None xs = ap reverse (append-nil xs)

@@ -1,5 +1,5 @@
 -- What is told of matched runs, and of those that are not (own).
-use Rattle.std.specs.Prelude.{ℕ, ◌+◌, ◌-◌, ◌<◌, ◌≤◌, slice_index_or, fold, min, sum_by, Bool, ◌&&◌, ◌==◌, nat_le, max, List, [], ◌∷◌, ◌++◌, map, filter, find, length, position, is_none, Option, None, Some}
+use Rattle.std.specs.Prelude.{ℕ, ◌+◌, ◌-◌, ◌<◌, ◌≤◌, slice_index_or, fold, min, sum_by, Bool, ◌&&◌, ◌==◌, nat_le, max, List, [], ◌∷◌, ◌++◌, filter, find, length, position, is_none, Option, None, Some}
 use Rattle.std.specs.List.{flat_map}
 use Rattle.trace_compare.specs.declared.run.Run.{Run}
 use Rattle.trace_compare.specs.declared.task.TaskRuns.{TaskRuns}

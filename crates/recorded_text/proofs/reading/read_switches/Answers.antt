@@ -1,6 +1,5 @@
-use Rattle.std.proofs.Common.{◌≡◌, ◌+◌, ◌*◌, ◌≤◌, ◌<◌, List, ℕ, true, false, map, take, length, sym, subst, ap, ◌∙◌, arith, rules, [], ◌++◌}
+use Rattle.std.proofs.Common.{◌≡◌, ◌+◌, ◌*◌, ◌≤◌, ◌<◌, List, ℕ, true, false, map, take, length, subst, ap, ◌∙◌, arith, rules, ◌++◌}
 use Rattle.std.proofs.lemmas.Grind.{common_steps}
-use Rattle.counted_io.specs.Sides.{inner_of}
 use Rattle.recorded_text.specs.Steps.{step_view}
 use Rattle.recorded_text.specs.Text.{is_bad_line, told}
 use Rattle.recorded_text.proofs.Ending.{end_good, end_bad, piece_done, piece_bad}

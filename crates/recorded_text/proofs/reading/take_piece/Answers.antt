@@ -1,5 +1,5 @@
-use Rattle.std.proofs.Common.{◌≡◌, ◌+◌, ◌-◌, List, ℕ, ◌++◌, [], map, length, take, drop, sym, subst, ap, ◌∙◌, arith}
-use Rattle.std.proofs.lemmas.List.{length-append, length-drop}
+use Rattle.std.proofs.Common.{◌+◌, List, ℕ, ◌++◌, map, take, drop, sym, subst, arith}
+use Rattle.std.proofs.lemmas.List.{length-drop}
 use Rattle.recorded_text.specs.Steps.{step_view}
 use Rattle.recorded_text.specs.private.SoFar.{Lacks, IsSoFar}
 use Rattle.recorded_text.proofs.Cutting.{rest_is}

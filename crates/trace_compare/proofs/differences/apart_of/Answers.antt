@@ -1,4 +1,4 @@
-use Rattle.std.proofs.Common.{◌≤◌, ◌⊎◌, inl, inr, arith, ap, length, drop, get_or, None, ◌+◌, ◌++◌}
+use Rattle.std.proofs.Common.{◌≤◌, ◌⊎◌, inl, inr, arith, ap, length, drop, get_or, None, ◌+◌}
 use Rattle.trace_compare.specs.Differences.{one_pair, pairs_of, same_cpu, start_apart, end_apart}
 use Rattle.trace_compare.proofs.Walking.{no_run}
 use Rattle.trace_compare.proofs.Pairing.{pairs_step, pairs_end, mapped_more, mapped_end, same_more}

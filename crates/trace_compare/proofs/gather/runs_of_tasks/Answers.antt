@@ -1,8 +1,6 @@
-use Rattle.std.proofs.Common.{◌≡◌, ◌∙◌, ℕ, List, Bool, length, sym, subst, ap}
-use Rattle.std.specs.List.{list_all}
-use Rattle.trace_compare.specs.Runs.{are_longer, noise_of}
+use Rattle.std.proofs.Common.{ℕ, length, sym, subst}
 use Rattle.trace_compare.specs.Tasks.{IsNoise}
-use Rattle.trace_compare.specs.private.Behind.{Lists, IsCollected, AreShortLists, AreSettled}
+use Rattle.trace_compare.specs.private.Behind.{Lists, IsCollected, AreShortLists}
 use Rattle.trace_compare.proofs.Gathered.{collected_short, noise_is, tasks_are}
 use Rattle.trace_compare.proofs.gather.runs_of_tasks.Goals as goal
 

@@ -1,4 +1,4 @@
-use Rattle.std.proofs.Common.{◌<◌, ◌≤◌, ℕ, length, get_or}
+use Rattle.std.proofs.Common.{◌<◌, ◌≤◌, ℕ, get_or}
 use Rattle.trace_compare.specs.Differences.{far_from}
 use Rattle.trace_compare.specs.declared.run.Run.{Run}
 use Rattle.trace_compare.proofs.nearest.nearest_of.Given as goal

@@ -1,5 +1,5 @@
-use Rattle.std.proofs.Common.{◌≡◌, arith, ◌+◌, ◌∙◌, ◌++◌, sym, drop, ap, subst, length, take, append-nil, Some, None}
-use Rattle.trace_compare.specs.Pairs.{fits, partners, left_over}
+use Rattle.std.proofs.Common.{arith, ◌∙◌, ◌++◌, sym, ap, append-nil, Some, None}
+use Rattle.trace_compare.specs.Pairs.{fits}
 use Rattle.trace_compare.proofs.Walking.{turn_more, walk_fit, walk_early, walk_late, left_of_fit, left_of_early, left_of_late, partners_one, left_one, partners_model_end, left_model_end, told_pushed, told_same, rest_of, partner_pushed, run_pushed}
 use Rattle.trace_compare.proofs.pairs.match_runs.Goals as goal
 

@@ -1,6 +1,6 @@
 use Rattle.trace_compare.proofs.Choosing.{map_told, all_pushed}
 use Rattle.trace_compare.proofs.Walking.{no_run}
-use Rattle.std.proofs.Common.{List, ◌+◌, ◌-◌, ◌<◌, ◌^◌, ◌++◌, ◌∷◌, [], ◌∙◌, ap}
+use Rattle.std.proofs.Common.{◌+◌, ◌-◌, ◌<◌, ◌^◌, ◌++◌, ◌∷◌, [], ◌∙◌, ap}
 use Rattle.trace_compare.specs.Pairs.{no_shift}
 use Rattle.trace_compare.proofs.shift.push_from.Goals as goal
 
