@@ -1,5 +1,5 @@
 -- What is read of a reader, piece by piece and to its end.
-use Rattle.std.proofs.Common.{◌≡◌, ℕ, zero, suc, ◌+◌, ◌-◌, ◌<◌, ◌≤◌, Bool, true, false, List, [], ◌∷◌, ◌++◌, length, take, Option, Some, None, refl, sym, ap, ◌∙◌, arith, subst, map, append_assoc, append-nil}
+use Rattle.std.proofs.Common.{◌≡◌, ℕ, ◌+◌, ◌<◌, true, false, List, [], ◌∷◌, ◌++◌, length, Option, Some, None, refl, sym, ap, ◌∙◌, arith, subst, map, append_assoc, append-nil}
 use Rattle.std.specs.Prelude.{IfSome}
 use Rattle.std.specs.Option.{option_map}
 use Rattle.std.specs.List.{flat_map, list_any, position}
@@ -12,7 +12,7 @@ use Rattle.recorded_text.specs.Line.{SwitchView}
 use Rattle.recorded_text.specs.Steps.{step_view}
 use Rattle.recorded_text.specs.declared.step.Step.{Step}
 use Rattle.recorded_text.specs.declared.fault.RecordedFault.{RecordedFault}
-use Rattle.recorded_text.specs.Text.{lines_of, is_bad_line, told, first_bad, switches_in, IsRead, IsFault}
+use Rattle.recorded_text.specs.Text.{lines_of, is_bad_line, told, first_bad, IsRead, IsFault}
 use Rattle.recorded_text.specs.private.SoFar.{Lacks, IsSoFar, AreDone}
 use Rattle.recorded_text.proofs.Lining.{last_line, none_bad, first_at}
 

@@ -1,6 +1,6 @@
 -- Lines that end, and the first that is bad.
-use Rattle.std.proofs.Common.{◌≡◌, ℕ, zero, suc, ◌+◌, ◌-◌, ◌<◌, ◌≤◌, Bool, true, false, ◌||◌, List, [], ◌∷◌, ◌++◌, length, get_or, take, drop, Option, Some, None, refl, sym, ap, ◌∙◌, arith, subst, append_assoc, append-nil}
-use Rattle.std.specs.List.{flat_map, list_any, position_or_len, position, onto_first}
+use Rattle.std.proofs.Common.{◌≡◌, ℕ, zero, suc, ◌+◌, ◌<◌, true, false, List, [], ◌∷◌, ◌++◌, length, get_or, take, drop, Option, Some, None, refl, sym, ap, ◌∙◌, arith, append_assoc, append-nil}
+use Rattle.std.specs.List.{flat_map, list_any, position_or_len, position}
 use Rattle.std.specs.Option.{option_map}
 use Rattle.std.proofs.lemmas.Bool.{ne_eqb, eqb-true, eq-eqb, lt-ltb, le-ltb, or_parts}
 use Rattle.std.proofs.lemmas.List.{length-append, take-append-drop, drop_more}
@@ -29,9 +29,10 @@ parted : (text : List ℕ) (i : ℕ) → i < length text → text ≡ take i tex
 parted text i l = sym (take-append-drop i text) ∙ ap (λ rest. take i text ++ rest) (drop_more text i 0 l)
 
 pub split_line : (text : List ℕ) (i : ℕ) → NoneBefore (Passes (is_byte 10) text) 0 (length text) i × Passes (is_byte 10) text i → (text ≡ take i text ++ 10 ∷ drop (i + 1) text) × Lacks 10 (take i text)
-split_line text i found =
-    (parted text i found.0.high ∙ ap (λ (c : ℕ). take i text ++ c ∷ drop (i + 1) text) (eqb-true _ _ found.1),
-     lacks_front text i (λ k l m e. found.0.before k (omega arith) l (eq-eqb _ _ e)))
+split_line text i found = (
+  parted text i found.0.high ∙ ap (λ (c : ℕ). take i text ++ c ∷ drop (i + 1) text) (eqb-true _ _ found.1),
+  lacks_front text i (λ k l m e. found.0.before k (omega arith) l (eq-eqb _ _ e)),
+)
 
 pub no_line : (text : List ℕ) → Nowhere (Passes (is_byte 10) text) 0 (length text) → Lacks 10 text
 no_line text none = lacks_all text (λ k l e. none k (omega arith) l (eq-eqb _ _ e))

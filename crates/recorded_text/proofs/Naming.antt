@@ -1,5 +1,5 @@
 -- Names, numbered as they come.
-use Rattle.std.proofs.Common.{◌≡◌, ℕ, zero, suc, ◌+◌, ◌-◌, ◌<◌, ◌≤◌, ⊎_elim, Bool, true, false, ◌||◌, List, [], ◌∷◌, ◌++◌, length, get_or, Option, Some, None, Result, Ok, Err, refl, sym, ap, ◌∙◌, arith, subst, Vec, Global, map}
+use Rattle.std.proofs.Common.{◌≡◌, ℕ, zero, suc, ◌-◌, ◌<◌, ⊎_elim, Bool, true, false, List, [], ◌∷◌, ◌++◌, length, get_or, Some, Result, Ok, Err, refl, sym, ap, ◌∙◌, arith, subst, Vec, Global, map}
 use Rattle.std.specs.Prelude.{slice_get, IfOk, OnErr, bytes_eq}
 use Rattle.std.specs.Option.{option_map}
 use Rattle.std.specs.List.{list_any, position}
@@ -39,12 +39,12 @@ pub one_more : (names : List (List ℕ)) (name : List ℕ) → Differ names → 
 one_more names name h new =
     let len = length-append names (name ∷ []) in
     let at_end : (j : ℕ) (d : List ℕ) → j ≡ length names → get_or (names ++ name ∷ []) j d ≡ name =
-        λ j d e. get_or-append_right names (name ∷ []) (length names) j d refl (omega (arith, e)) ∙ ap (λ (n : ℕ). get_or (name ∷ []) n d) (let z : j - length names ≡ 0 = omega (arith, e) in z) in
+    λ j d e. get_or-append_right names (name ∷ []) (length names) j d refl (omega (arith, e)) ∙ ap (λ (n : ℕ). get_or (name ∷ []) n d) (let z : j - length names ≡ 0 = omega (arith, e) in z) in
     record {
       apart = λ i j d less within same. ⊎_elim
-        (λ inside. h.apart i j d less inside (sym (get_or_append_left names (name ∷ []) d i (omega (arith, less, inside))) ∙ same ∙ get_or_append_left names (name ∷ []) d j inside))
-        (λ last. new i d (omega (arith, less, within, len, last)) (sym (get_or_append_left names (name ∷ []) d i (omega (arith, less, within, len))) ∙ same ∙ at_end j d (omega (arith, within, len, last))))
-        (cases_lt j (length names));
+          (λ inside. h.apart i j d less inside (sym (get_or_append_left names (name ∷ []) d i (omega (arith, less, inside))) ∙ same ∙ get_or_append_left names (name ∷ []) d j inside))
+          (λ last. new i d (omega (arith, less, within, len, last)) (sym (get_or_append_left names (name ∷ []) d i (omega (arith, less, within, len))) ∙ same ∙ at_end j d (omega (arith, within, len, last))))
+          (cases_lt j (length names));
     }
 
 pub kept_differ : {E : Type 0} (r : Result (ℕ × Bool) E) (old new : List (Vec ℕ Global)) (name : List ℕ) (k : Vec ℕ Global) → Differ (texts old) → list_any (λ v. bytes_eq name v.items) old ≡ false → k.items ≡ name → IfOk r (λ p. new ≡ insert_key (λ a b. bytes_eq a.items b.items) old k) → OnErr r (new ≡ old) → Differ (texts new)

@@ -1,8 +1,8 @@
 -- Worked rows, computed by the definitions.
-use Rattle.std.specs.Prelude.{◌≡◌, List, [], ◌∷◌, ◌++◌, Some, None, codes, refl}
+use Rattle.std.specs.Prelude.{◌≡◌, Some, None, codes, refl}
 use Rattle.recorded_text.specs.Cuts.{first_cut, last_cut, end_trimmed, last_word, behind}
-use Rattle.recorded_text.specs.Line.{LineView, SwitchView, Other, Bad, Seen, number_at, micros_at, time_at, bracketed_at, cpu_at, cpu_before, below_at, named_at, short_at, next_at, without_colon, event_at, timed_at, headed_at, line_at}
-use Rattle.recorded_text.specs.Text.{lines_of, switches_in, first_bad}
+use Rattle.recorded_text.specs.Line.{Other, Bad, Seen, number_at, micros_at, time_at, bracketed_at, cpu_at, cpu_before, below_at, named_at, short_at, next_at, without_colon, event_at, timed_at, headed_at, line_at}
+use Rattle.recorded_text.specs.Text.{lines_of, first_bad}
 
 -- Linux 6.x, from tracefs
 with_flags :

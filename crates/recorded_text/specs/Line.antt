@@ -9,7 +9,7 @@
 -- form is that of libtraceevent's plugin, by which trace-cmd and perf print. Names may have spaces,
 -- colons and `=` in them, so the fields are read from the right. What stands of the task that leaves
 -- is not looked at (own).
-use Rattle.std.specs.Prelude.{ℕ, ◌+◌, ◌-◌, ◌*◌, ◌/◌, Bool, true, false, ◌==◌, ◌&&◌, nat_lt, nat_le, if◌then◌else◌, List, [], ◌∷◌, length, take, drop, slice_index, Option, Some, None, codes}
+use Rattle.std.specs.Prelude.{ℕ, ◌+◌, ◌-◌, ◌*◌, ◌/◌, Bool, false, ◌==◌, ◌&&◌, nat_lt, nat_le, if◌then◌else◌, List, [], ◌∷◌, length, take, drop, slice_index, Option, Some, None, codes}
 use Rattle.std.specs.Option.{option_map, option_map_or, option_or}
 use Rattle.std.specs.Char.{is_ascii_digit}
 use Rattle.recorded_text.specs.Cuts.{first_cut, last_cut, end_trimmed, last_word, behind}
@@ -131,7 +131,7 @@ event_at line =
 unfoldable pub timed_at : ℕ → List ℕ → List ℕ → LineView
 timed_at time front tail =
     option_map_or (λ cpu. option_map_or (λ next.
-        Seen (record { time = time; cpu = cpu; next = next })) (next_at tail) Bad)
+    Seen (record { time = time; cpu = cpu; next = next })) (next_at tail) Bad)
     (cpu_before front) Bad
 
 -- a line with a time before the event is one of sched_switch

@@ -1,5 +1,5 @@
 -- What of a line stands in memory, as the definitions see it.
-use Rattle.std.specs.Prelude.{ℕ, ◌<◌, ◌^◌}
+use Rattle.std.specs.Prelude.{◌<◌, ◌^◌}
 use Rattle.std.specs.Option.{option_map}
 use Rattle.recorded_text.specs.declared.line.Switch.{Switch}
 use Rattle.recorded_text.specs.declared.line.Line.{Line}

@@ -13,9 +13,9 @@ mod number;
 mod reading;
 mod step;
 
+pub use counted_io::Counted;
 pub use fault::RecordedFault;
 pub use line::{Line, Switch, line_of};
-pub use counted_io::Counted;
 pub use names::Names;
 pub use reading::read_switches;
 pub use step::Step;

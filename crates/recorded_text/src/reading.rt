@@ -21,11 +21,7 @@ use std::io::Read;
 const READS: u64 = 1 << 32;
 
 /// A switch, with the number of its task's name.
-fn step_of(
-    alloc: Global,
-    switch: &Switch<'_>,
-    names: &mut Names,
-) -> Result<Step, AllocError>
+fn step_of(alloc: Global, switch: &Switch<'_>, names: &mut Names) -> Result<Step, AllocError>
     requires { switch.now.time < 2 ^ 61 }
     ensures shown { IfOk result (λ s. step_view names.new s ≡ switch_view switch.now) }
     ensures named { IfOk result (IsNamed names.new) }
@@ -152,6 +148,7 @@ pub fn read_switches<R: Read>(
     ensures read { IfOk result (λ steps. IfSome (R.remaining (inner_of reader.old)) (λ text.
         IsRead text names.new steps.items)) }
     ensures named { IfOk result (λ steps. AreNamed names.new steps.items) }
+    ensures small { IfOk result (λ steps. All (λ s. s.time < 2 ^ 61) steps.items) }
     ensures fault { IfErr result (λ e. IfSome (R.remaining (inner_of reader.old)) (λ text.
         IsFault text e)) }
     ensures grows { Grows names.old names.new }

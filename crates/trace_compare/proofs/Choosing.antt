@@ -1,5 +1,5 @@
 -- Which of the shifts is the best.
-use Rattle.std.proofs.Common.{◌≡◌, ℕ, ◌+◌, ◌-◌, ◌<◌, ◌≤◌, ◌⊎◌, inl, inr, ⊎_elim, List, [], ◌∷◌, ◌++◌, length, get_or, take, refl, sym, ap, ◌∙◌, arith, subst, map, append_assoc, All, Contains}
+use Rattle.std.proofs.Common.{◌≡◌, ℕ, ◌+◌, ◌<◌, ◌≤◌, ⊎_elim, List, [], ◌∷◌, ◌++◌, length, get_or, take, sym, ap, ◌∙◌, arith, subst, map, append_assoc, All, Contains}
 use Rattle.std.proofs.lemmas.Bool.{cases_lt}
 use Rattle.std.proofs.lemmas.Grind.{get_or_default_zero}
 use Rattle.std.proofs.lemmas.List.{take_more, map-append}
@@ -21,13 +21,13 @@ better_step f xs i a b r l h here score better =
       among = ⊎_elim (λ e. subst (λ (c : Choice). Contains xs c.shift) (sym e) h.among) (λ e. subst (λ (c : Choice). Contains xs c.shift) (sym e) within) better.one;
       value = ⊎_elim (λ e. subst (λ (c : Choice). c.score ≡ f c.shift) (sym e) h.value) (λ e. subst (λ (c : Choice). c.score ≡ f c.shift) (sym e) score) better.one;
       most = λ k lt. ⊎_elim
-        (λ before. omega (arith, h.most k before, better.most_a))
-        (λ last. let same : f (get_or xs k 0) ≡ f b.shift = ap f (sym (here ∙ ap (λ (n : ℕ). get_or xs n 0) (omega (arith, last, lt)))) in omega (arith, same, score, better.most_b))
-        (cases_lt k i);
+          (λ before. omega (arith, h.most k before, better.most_a))
+          (λ last. let same : f (get_or xs k 0) ≡ f b.shift = ap f (sym (here ∙ ap (λ (n : ℕ). get_or xs n 0) (omega (arith, last, lt)))) in omega (arith, same, score, better.most_b))
+          (cases_lt k i);
       smallest = λ k lt e. ⊎_elim
-        (λ before. let low = h.most k before in let eq : a.score ≡ r.score = omega (arith, low, e, better.most_a) in let one = better.least_a eq in let two = h.smallest k before (omega (arith, e, eq)) in omega (arith, one, two))
-        (λ last. let at : get_or xs k 0 ≡ b.shift = sym (here ∙ ap (λ (n : ℕ). get_or xs n 0) (omega (arith, last, lt))) in let same : f (get_or xs k 0) ≡ f b.shift = ap f at in let one = better.least_b (omega (arith, same, score, e)) in omega (arith, one, at))
-        (cases_lt k i);
+          (λ before. let low = h.most k before in let eq : a.score ≡ r.score = omega (arith, low, e, better.most_a) in let one = better.least_a eq in let two = h.smallest k before (omega (arith, e, eq)) in omega (arith, one, two))
+          (λ last. let at : get_or xs k 0 ≡ b.shift = sym (here ∙ ap (λ (n : ℕ). get_or xs n 0) (omega (arith, last, lt))) in let same : f (get_or xs k 0) ≡ f b.shift = ap f at in let one = better.least_b (omega (arith, same, score, e)) in omega (arith, one, at))
+          (cases_lt k i);
     }
 
 pub best_in_all : (f : ℕ → ℕ) (xs : List ℕ) (i : ℕ) (best : Choice) → length xs ≤ i → IsBestSoFar f xs i best → IsBestOf f xs best.shift

@@ -1,5 +1,5 @@
 -- What the collected runs are, once they are joined.
-use Rattle.std.proofs.Common.{◌≡◌, ℕ, zero, suc, ◌+◌, ◌-◌, ◌<◌, ◌≤◌, ◌^◌, ◌⊎◌, inl, inr, ⊎_elim, Bool, true, false, List, [], ◌∷◌, ◌++◌, length, get_or, Option, Some, None, Vec, Global, refl, sym, ap, ◌∙◌, arith, subst}
+use Rattle.std.proofs.Common.{◌≡◌, ℕ, ◌<◌, ◌^◌, inl, inr, ⊎_elim, true, false, List, [], ◌∷◌, length, get_or, Option, Some, None, Vec, Global, refl, sym, ap, ◌∙◌, arith, subst}
 use Rattle.std.specs.Prelude.{reverse, All, IfSome, nat_lt}
 use Rattle.std.specs.List.{AllByRecursion, cons_option, list_all}
 use Rattle.std.proofs.lemmas.Bool.{cases_Bool, and_parts, and_from, ltb-true, lt-ltb}
@@ -8,8 +8,8 @@ use Rattle.std.proofs.lemmas.List.Sorted.{IsPermutation-reverse, IsPermutation-s
 use Rattle.recorded_text.specs.declared.step.Step.{Step}
 use Rattle.trace_compare.specs.declared.run.Run.{Run}
 use Rattle.trace_compare.specs.declared.task.TaskRuns.{TaskRuns}
-use Rattle.trace_compare.specs.Runs.{next_time, is_of, run_until, run_from, raw_runs, runs_of, are_longer, length_of, noise_of, IsShort}
-use Rattle.trace_compare.specs.Tasks.{IsSound, AreTasksOf, HaveSmallTimes, AreAllLonger, IsNoise}
+use Rattle.trace_compare.specs.Runs.{next_time, is_of, run_until, raw_runs, runs_of, are_longer, length_of, noise_of, IsShort}
+use Rattle.trace_compare.specs.Tasks.{AreTasksOf, HaveSmallTimes, AreAllLonger, IsNoise}
 use Rattle.trace_compare.specs.private.Behind.{Lists, IsCollected, AreShortLists, AreSettled}
 
 next_small : (cpu : ℕ) (steps : List Step) → AllByRecursion (λ s. s.time < 2 ^ 61) steps → IfSome (next_time cpu steps) (λ t. t < 2 ^ 61)
@@ -72,8 +72,8 @@ all_longer_is runs many steps h each = λ j l.
 not_longer_is : (runs : Lists) (many : ℕ) (steps : List Step) → IsCollected runs many steps → list_all (λ rs. are_longer 100 rs.items) runs ≡ false → AreAllLonger steps many → ⊥
 not_longer_is runs many steps h some all =
     let each : All (λ (v : Vec Run Global). are_longer 100 v.items ≡ true) runs = λ j d l.
-        let back : All Longer (get_or runs j d).items = All-permutation Longer (reverse (get_or runs j d).items) (get_or runs j d).items (IsPermutation-sym (get_or runs j d).items (reverse (get_or runs j d).items) (IsPermutation-reverse (get_or runs j d).items)) (subst (All Longer) (sym (h.lists j d (omega (arith, l, h.many)))) (all j (omega (arith, l, h.many)))) in
-        are_each (get_or runs j d).items (recursion_from_All Longer (get_or runs j d).items back) in
+    let back : All Longer (get_or runs j d).items = All-permutation Longer (reverse (get_or runs j d).items) (get_or runs j d).items (IsPermutation-sym (get_or runs j d).items (reverse (get_or runs j d).items) (IsPermutation-reverse (get_or runs j d).items)) (subst (All Longer) (sym (h.lists j d (omega (arith, l, h.many)))) (all j (omega (arith, l, h.many)))) in
+    are_each (get_or runs j d).items (recursion_from_All Longer (get_or runs j d).items back) in
     let yes = longer_lists runs (recursion_from_All (λ (v : Vec Run Global). are_longer 100 v.items ≡ true) runs each) in
     cc
 
@@ -84,8 +84,8 @@ noise_is None runs many steps h =
 
 pub tasks_are : (noise many n : ℕ) (model recorded : List Step) (of_model of_recorded : Lists) (tasks : List TaskRuns) → IsCollected of_model many model → IsCollected of_recorded many recorded → n ≡ many → AreSettled noise of_model of_recorded n tasks → AreTasksOf noise model recorded many tasks
 tasks_are noise many n model recorded of_model of_recorded tasks a b e h = record {
-    as_many = h.as_many ∙ e;
-    of_model = λ j t l. let d = some_list of_model j (omega (arith, l, a.many)) in h.of_model j t d (omega (arith, l, e)) ∙ ap (runs_of noise) (a.lists j d l);
-    of_recorded = λ j t l. let d = some_list of_recorded j (omega (arith, l, b.many)) in h.of_recorded j t d (omega (arith, l, e)) ∙ ap (runs_of noise) (b.lists j d l);
-    sound = h.sound;
-  }
+  as_many = h.as_many ∙ e;
+  of_model = λ j t l. let d = some_list of_model j (omega (arith, l, a.many)) in h.of_model j t d (omega (arith, l, e)) ∙ ap (runs_of noise) (a.lists j d l);
+  of_recorded = λ j t l. let d = some_list of_recorded j (omega (arith, l, b.many)) in h.of_recorded j t d (omega (arith, l, e)) ∙ ap (runs_of noise) (b.lists j d l);
+  sound = h.sound;
+}

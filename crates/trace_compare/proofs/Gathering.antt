@@ -1,15 +1,15 @@
 -- Runs collected from the last switch to the first.
-use Rattle.std.proofs.Common.{◌≡◌, ℕ, zero, suc, ◌+◌, ◌-◌, ◌<◌, ◌≤◌, ◌⊎◌, inl, inr, ⊎_elim, Bool, true, false, List, [], ◌∷◌, ◌++◌, length, get_or, drop, Option, Some, None, Vec, Global, refl, sym, ap, ◌∙◌, arith, subst, append-nil}
+use Rattle.std.proofs.Common.{◌≡◌, ℕ, zero, suc, ◌+◌, ◌<◌, ◌≤◌, ⊎_elim, List, [], ◌∷◌, ◌++◌, length, get_or, drop, Option, Some, None, refl, sym, ap, ◌∙◌, arith, subst, append-nil}
 use Rattle.std.specs.Prelude.{reverse, All}
 use Rattle.std.proofs.Math.ListN.{set}
-use Rattle.std.specs.Option.{option_map, option_to_list}
+use Rattle.std.specs.Option.{option_to_list}
 use Rattle.std.specs.List.{cons_option}
-use Rattle.std.proofs.lemmas.Bool.{cases_Bool, cases_eq, ne_eqb, eq-eqb}
+use Rattle.std.proofs.lemmas.Bool.{cases_eq, ne_eqb, eq-eqb}
 use Rattle.std.proofs.lemmas.List.{drop_more, drop_all, reverse-append, get_or-set_same, get_or-set_other}
 use Rattle.recorded_text.specs.declared.step.Step.{Step}
 use Rattle.trace_compare.specs.declared.run.Run.{Run}
-use Rattle.trace_compare.specs.Runs.{next_time, is_of, run_until, run_from, raw_runs}
-use Rattle.trace_compare.specs.private.Behind.{Lists, PushesOne, Takes, run_at, IsBehind, IsCollected}
+use Rattle.trace_compare.specs.Runs.{next_time, raw_runs}
+use Rattle.trace_compare.specs.private.Behind.{Lists, Takes, run_at, IsBehind}
 
 rev_opt : (o : Option Run) (xs : List Run) → reverse (xs ++ option_to_list o) ≡ cons_option o (reverse xs)
 rev_opt None xs = ap reverse (append-nil xs)
@@ -37,13 +37,13 @@ behind_step next old new s rest k time many small is read takes h =
     let told : time ≡ next_time s.cpu rest = read_at next k time l read ∙ ap (λ (c : ℕ). get_or next c None) is ∙ h.times s.cpu small in
     record {
       times = λ c lt. ⊎_elim
-        (λ same. ap (λ (x : ℕ). get_or (set next k (Some s.time)) x None) (same ∙ sym is) ∙ get_or-set_same next k (Some s.time) None l ∙ sym (here_time s rest c same))
-        (λ other. get_or-set_other next k c (Some s.time) None (λ e. other (e ∙ is)) ∙ h.times c lt ∙ sym (other_time s rest c other))
-        (cases_eq c s.cpu);
+          (λ same. ap (λ (x : ℕ). get_or (set next k (Some s.time)) x None) (same ∙ sym is) ∙ get_or-set_same next k (Some s.time) None l ∙ sym (here_time s rest c same))
+          (λ other. get_or-set_other next k c (Some s.time) None (λ e. other (e ∙ is)) ∙ h.times c lt ∙ sym (other_time s rest c other))
+          (cases_eq c s.cpu);
       lists = λ j d lt.
-        let inside : j < length old = omega (arith, lt, takes.same_len) in
-        ap reverse (takes.each j d inside) ∙ rev_opt (run_at j s time) (get_or old j d).items
-        ∙ ap (cons_option (run_at j s time)) (h.lists j d inside) ∙ taken j s time rest told;
+          let inside : j < length old = omega (arith, lt, takes.same_len) in
+          ap reverse (takes.each j d inside) ∙ rev_opt (run_at j s time) (get_or old j d).items
+          ∙ ap (cons_option (run_at j s time)) (h.lists j d inside) ∙ taken j s time rest told;
     }
 
 pub none_behind : (next : List (Option ℕ)) (runs : Lists) (steps : List Step) (i : ℕ) → length next ≡ 65536 → All (λ t. t ≡ None) next → All (λ rs. rs.items ≡ []) runs → length steps ≤ i → IsBehind next runs (drop i steps)

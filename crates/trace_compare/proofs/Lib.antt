@@ -3,4 +3,5 @@ mod Gathered
 mod Gathering
 mod Joining
 mod SideBySide
+mod Pairing
 mod Walking

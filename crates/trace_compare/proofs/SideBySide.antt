@@ -1,11 +1,10 @@
 -- Going through two lists of runs side by side finds what the definitions say.
-use Rattle.std.proofs.Common.{◌≡◌, ℕ, zero, suc, ◌+◌, ◌-◌, ◌<◌, ◌≤◌, ◌⊎◌, inl, inr, ⊎_elim, Bool, true, false, ◌&&◌, List, [], ◌∷◌, ◌++◌, length, get_or, take, drop, Option, Some, None, refl, sym, ap, ◌∙◌, arith, subst}
-use Rattle.std.specs.Prelude.{count_by, is_some, All}
+use Rattle.std.proofs.Common.{◌≡◌, ℕ, zero, suc, ◌+◌, ◌<◌, ◌≤◌, ◌⊎◌, inl, inr, Bool, true, false, ◌&&◌, List, [], ◌∷◌, ◌++◌, take, Option, Some, None, refl, ap, arith}
 use Rattle.std.specs.Option.{option_map, option_map_or}
 use Rattle.std.specs.List.{AllByRecursion}
 use Rattle.std.proofs.lemmas.Bool.Decides.{nat_tests}
 use Rattle.trace_compare.specs.declared.run.Run.{Run}
-use Rattle.trace_compare.specs.Runs.{InTurn, IsShort}
+use Rattle.trace_compare.specs.Runs.{InTurn}
 use Rattle.trace_compare.specs.Pairs.{no_shift, is_near, fits, Split, later_by, split_at, partners, left_over, matched}
 use Rattle.trace_compare.specs.private.Meetings.{IsEarly, IsLate}
 
@@ -75,7 +74,7 @@ module _ (fit : Run → Run → Bool) where
   partners_skip [] r rs h = refl
   partners_skip (m ∷ ms) r rs h =
       let same : (o : Option Split) → option_map_or (λ s. Some s.found ∷ partners fit ms s.after) (option_map (later_by r) o) (None ∷ partners fit ms (r ∷ rs)) ≡ option_map_or (λ s. Some s.found ∷ partners fit ms s.after) o (None ∷ partners fit ms rs) =
-          λ o. elim o as (λ o. option_map_or (λ s. Some s.found ∷ partners fit ms s.after) (option_map (later_by r) o) (None ∷ partners fit ms (r ∷ rs)) ≡ option_map_or (λ s. Some s.found ∷ partners fit ms s.after) o (None ∷ partners fit ms rs)) [ None ↦ ap (λ ps. None ∷ ps) (partners_skip ms r rs h.1) | Some s ↦ refl ] in
+      λ o. elim o as (λ o. option_map_or (λ s. Some s.found ∷ partners fit ms s.after) (option_map (later_by r) o) (None ∷ partners fit ms (r ∷ rs)) ≡ option_map_or (λ s. Some s.found ∷ partners fit ms s.after) o (None ∷ partners fit ms rs)) [ None ↦ ap (λ ps. None ∷ ps) (partners_skip ms r rs h.1) | Some s ↦ refl ] in
       rw h.0 (same (split_at (fit m) rs))
 
   left_skip : (ms : List Run) (r : Run) (rs : List Run) → AllByRecursion (λ q. fit q r ≡ false) ms → left_over fit ms (r ∷ rs) ≡ r ∷ left_over fit ms rs
@@ -83,7 +82,7 @@ module _ (fit : Run → Run → Bool) where
   left_skip [] r rs h = refl
   left_skip (m ∷ ms) r rs h =
       let same : (o : Option Split) → option_map_or (λ s. s.before ++ left_over fit ms s.after) (option_map (later_by r) o) (left_over fit ms (r ∷ rs)) ≡ r ∷ option_map_or (λ s. s.before ++ left_over fit ms s.after) o (left_over fit ms rs) =
-          λ o. elim o as (λ o. option_map_or (λ s. s.before ++ left_over fit ms s.after) (option_map (later_by r) o) (left_over fit ms (r ∷ rs)) ≡ r ∷ option_map_or (λ s. s.before ++ left_over fit ms s.after) o (left_over fit ms rs)) [ None ↦ left_skip ms r rs h.1 | Some s ↦ refl ] in
+      λ o. elim o as (λ o. option_map_or (λ s. s.before ++ left_over fit ms s.after) (option_map (later_by r) o) (left_over fit ms (r ∷ rs)) ≡ r ∷ option_map_or (λ s. s.before ++ left_over fit ms s.after) o (left_over fit ms rs)) [ None ↦ left_skip ms r rs h.1 | Some s ↦ refl ] in
       rw h.0 (same (split_at (fit m) rs))
 
   partners_fit : (m : Run) (ms : List Run) (r : Run) (rs : List Run) → fit m r ≡ true → partners fit (m ∷ ms) (r ∷ rs) ≡ Some r ∷ partners fit ms rs

@@ -1,9 +1,12 @@
 -- A step through two lists of runs that lie in memory.
-use Rattle.std.proofs.Common.{◌≡◌, ℕ, ◌+◌, ◌-◌, ◌<◌, ◌≤◌, suc, Bool, true, List, [], ◌∷◌, ◌++◌, length, get_or, take, drop, Option, Some, None, refl, sym, ap, ◌∙◌, arith, subst, append_assoc, append-nil}
+use Rattle.std.proofs.Common.{◌≡◌, ℕ, ◌+◌, ◌-◌, ◌<◌, ◌≤◌, suc, Bool, true, List, [], ◌∷◌, ◌++◌, length, get_or, take, drop, Option, Some, None, sym, ap, ◌∙◌, subst, append_assoc}
 use Rattle.std.proofs.lemmas.List.{drop_more, drop_all, length-drop}
 use Rattle.std.proofs.Math.Seq.{take-length}
 use Rattle.trace_compare.specs.declared.run.Run.{Run}
-use Rattle.trace_compare.specs.Runs.{InTurn}
+use Rattle.std.specs.Prelude.{All, IfSome}
+use Rattle.std.proofs.lemmas.List.Elements.{All-push}
+use Rattle.trace_compare.specs.Runs.{InTurn, IsShort}
+use Rattle.trace_compare.specs.Matched.{ArePartnersShort}
 use Rattle.trace_compare.specs.Pairs.{fits, partners, left_over, matched}
 use Rattle.trace_compare.specs.private.Meetings.{IsEarly, IsLate}
 use Rattle.trace_compare.proofs.SideBySide.{rest_in_turn, partners_both, partners_early, partners_past, left_both, left_early, left_past, partners_end, partners_rest, no_partners, left_end, all_left}
@@ -17,6 +20,7 @@ turn_more ms i l t = rest_in_turn (get_or ms i no_run) (drop (i + 1) ms) (subst 
 module _ (within shift : ℕ) (ms rs : List Run) (i j : ℕ) (l : i < length ms) (k : j < length rs) where
   abbrev m : Run
   m = get_or ms i no_run
+
   abbrev r : Run
   r = get_or rs j no_run
 
@@ -94,3 +98,9 @@ rest_of k items = ap (λ (n : ℕ). take n (drop k items)) (sym (length-drop k i
 
 pub told_pushed : {A : Type 0} (so_far after : List A) (x : A) (rest all now : List A) → after ≡ so_far ++ x ∷ [] → now ≡ x ∷ rest → so_far ++ now ≡ all → after ++ rest ≡ all
 told_pushed so_far after x rest all now p e h = ap (λ ps. ps ++ rest) p ∙ told_more so_far x rest all now e h
+
+pub partner_pushed : (ps after : List (Option Run)) (p : Option Run) → ArePartnersShort ps → IfSome p IsShort → after ≡ ps ++ p ∷ [] → ArePartnersShort after
+partner_pushed ps after p all one e = subst ArePartnersShort (sym e) (All-push (λ p. IfSome p IsShort) ps p all one)
+
+pub run_pushed : (rs after : List Run) (r : Run) → All IsShort rs → IsShort r → after ≡ rs ++ r ∷ [] → All IsShort after
+run_pushed rs after r all one e = subst (All IsShort) (sym e) (All-push IsShort rs r all one)

@@ -1,6 +1,5 @@
 -- All tasks, matched (own).
 use Rattle.std.specs.Prelude.{◌≡◌, ℕ, ◌<◌, List, length, slice_index_or, Option, None, Some}
-use Rattle.trace_compare.specs.declared.run.Run.{Run}
 use Rattle.trace_compare.specs.declared.task.TaskRuns.{TaskRuns}
 use Rattle.trace_compare.specs.declared.pairs.Matching.{Matching}
 use Rattle.trace_compare.specs.declared.comparing.Compared.{Compared}

@@ -1,5 +1,5 @@
 -- The runs of a task: stretches on a CPU (own).
-use Rattle.std.specs.Prelude.{ℕ, ◌+◌, ◌-◌, ◌^◌, ◌<◌, ◌≤◌, ◌==◌, Bool, nat_lt, nat_le, max, false, if◌then◌else◌, List, [], ◌∷◌, filter, find, unwrap_or, Option, None, Some}
+use Rattle.std.specs.Prelude.{ℕ, ◌+◌, ◌-◌, ◌^◌, ◌<◌, ◌≤◌, ◌==◌, Bool, nat_lt, nat_le, max, false, if◌then◌else◌, List, [], ◌∷◌, filter, find, unwrap_or, Option, None}
 use Rattle.std.specs.Option.{option_map, option_map_or}
 use Rattle.std.specs.List.{AllByRecursion, cons_option, list_all}
 use Rattle.recorded_text.specs.declared.step.Step.{Step}

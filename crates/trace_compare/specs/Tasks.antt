@@ -1,7 +1,6 @@
 -- The tasks of the model with their runs in both texts.
 use Rattle.std.specs.Prelude.{◌≡◌, ◌⊎◌, ℕ, ◌<◌, ◌^◌, Option, Some, None, List, length, slice_index_or, All}
 use Rattle.recorded_text.specs.declared.step.Step.{Step}
-use Rattle.trace_compare.specs.declared.run.Run.{Run}
 use Rattle.trace_compare.specs.declared.task.TaskRuns.{TaskRuns}
 use Rattle.trace_compare.specs.Runs.{raw_runs, runs_of, length_of, IsShort, InTurn}
 

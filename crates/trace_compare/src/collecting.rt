@@ -32,11 +32,7 @@ fn run_to(step: &Step, time: u64) -> Run
 }
 
 /// Adds the run that begins with a switch, where it is to a task and another switch comes after it.
-fn take_run_at(
-    step: &Step,
-    time: Option<u64>,
-    runs: &mut Vec<Vec<Run>>,
-) -> Result<(), AllocError>
+fn take_run_at(step: &Step, time: Option<u64>, runs: &mut Vec<Vec<Run>>) -> Result<(), AllocError>
     ensures { OnOk result (Takes runs.old.items step.now time runs.new.items) }
 {
     match step.task {

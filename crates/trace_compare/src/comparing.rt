@@ -2,6 +2,7 @@
 
 ghost use Rattle.std.specs.Prelude.{◌≡◌, ◌<◌, ◌^◌, length, All, IfOk, IfSome};
 ghost use Rattle.trace_compare.specs.Tasks.{IsSound};
+ghost use Rattle.trace_compare.specs.Matched.{IsSoundMatching};
 ghost use Rattle.trace_compare.specs.Compared.{AreMatched, IsCompared};
 
 use crate::pairs::{Matching, match_runs};
@@ -28,7 +29,8 @@ fn match_all(
     requires within { within < 2 ^ 61 }
     requires shift { shift < 2 ^ 62 }
     requires tasks { All IsSound tasks.now }
-    ensures { IfOk result (λ v. AreMatched within shift tasks.now (length tasks.now) v.items) }
+    ensures matched { IfOk result (λ v. AreMatched within shift tasks.now (length tasks.now) v.items) }
+    ensures sound { IfOk result (λ v. All IsSoundMatching v.items) }
 {
     let mut matchings = Vec::new(alloc);
     for j in 0..tasks.len() {
@@ -61,7 +63,9 @@ pub fn compare(
     requires within { within < 2 ^ 61 }
     requires asked { IfSome asked (λ s. s < 2 ^ 62) }
     requires tasks { All IsSound tasks.now }
-    ensures { IfOk result (IsCompared within asked tasks.now) }
+    ensures compared { IfOk result (IsCompared within asked tasks.now) }
+    ensures sound { IfOk result (λ c. All IsSoundMatching c.tasks.items) }
+    ensures small { IfOk result (λ c. c.shift < 2 ^ 62) }
 {
     let shift = match asked {
         Some(shift) => shift,

@@ -76,13 +76,7 @@ fn noise_for(asked: Option<u64>, lists: &[Vec<Run>]) -> u64
 {
     match asked {
         Some(noise) => noise,
-        None => {
-            if all_longer(lists) {
-                NOISE
-            } else {
-                0
-            }
-        }
+        None => { if all_longer(lists) { NOISE } else { 0 } }
     }
 }
 
@@ -104,8 +98,9 @@ pub fn runs_of_tasks(
     requires noise { IfSome asked (λ n. n < 2 ^ 62) }
     requires model { HaveSmallTimes model.now }
     requires recorded { HaveSmallTimes recorded.now }
-    ensures { IfOk result (λ v. (noise : ℕ) × IsNoise asked model.now tasks noise
+    ensures tasks { IfOk result (λ v. (noise : ℕ) × IsNoise asked model.now tasks noise
         × AreTasksOf noise model.now recorded.now tasks v.items) }
+    ensures sound { IfOk result (λ v. All IsSound v.items) }
 {
     let of_model = collect(alloc, model, tasks)?;
     let of_recorded = collect(alloc, recorded, tasks)?;

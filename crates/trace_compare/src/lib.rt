@@ -9,17 +9,23 @@
 
 mod collecting;
 mod comparing;
+mod differences;
 mod gather;
+mod nearest;
 mod pairs;
 mod run;
 mod runs;
 mod shift;
 mod task;
+mod times;
 
 pub use comparing::{Compared, compare};
+pub use differences::{Apart, apart_in, apart_of, matched_of, missing_of, other_of, others_of};
 pub use gather::runs_of_tasks;
+pub use nearest::{first_start_of, last_end_of, nearest_of};
 pub use pairs::{Matching, NO_SHIFT};
 pub use recorded_text::{Names, Step};
 pub use run::Run;
 pub use shift::find_shift;
 pub use task::TaskRuns;
+pub use times::{cpu_time_of, taken_time_of};

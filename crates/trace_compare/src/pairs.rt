@@ -3,6 +3,7 @@
 ghost use Rattle.std.specs.Prelude.{◌≡◌, ◌+◌, ◌<◌, ◌≤◌, ◌^◌, length, All, IfOk};
 ghost use Rattle.trace_compare.specs.Runs.{IsShort, InTurn};
 ghost use Rattle.trace_compare.specs.private.Meetings.{IsMeeting};
+ghost use Rattle.trace_compare.specs.Matched.{IsSoundMatching, ArePartnersShort};
 ghost use Rattle.trace_compare.specs.Pairs.{is_near, fits, partners, left_over, matched};
 
 use crate::run::Run;
@@ -102,6 +103,7 @@ pub(crate) fn match_runs(
     requires recorded_turn { InTurn rs.now }
     ensures partners { IfOk result (λ x. x.partners.items ≡ partners (fits within shift) ms.now rs.now) }
     ensures left { IfOk result (λ x. x.left.items ≡ left_over (fits within shift) ms.now rs.now) }
+    ensures sound { IfOk result IsSoundMatching }
 {
     let mut partners = Vec::new(alloc);
     let mut left = Vec::new(alloc);

@@ -31,12 +31,7 @@ fn push_kept(runs: &mut Vec<Run>, run: Run, noise: u64) -> Result<(), AllocError
 }
 
 /// Takes the next run: the one that is not closed yet.
-fn take_run(
-    runs: &mut Vec<Run>,
-    current: Run,
-    run: &Run,
-    noise: u64,
-) -> Result<Run, AllocError>
+fn take_run(runs: &mut Vec<Run>, current: Run, run: &Run, noise: u64) -> Result<Run, AllocError>
     requires noise { noise < 2 ^ 62 }
     requires current { IsShort current }
     requires run { IsShort run.now }

@@ -24,7 +24,11 @@ const STARTS: usize = 50;
 fn front(runs: &[Run], most: usize) -> &[Run]
     ensures { result.now ≡ take most runs.now }
 {
-    if runs.len() <= most { runs } else { &runs[..most] }
+    if runs.len() <= most {
+        runs
+    } else {
+        &runs[..most]
+    }
 }
 
 /// How many of the first runs of a task match under a shift.

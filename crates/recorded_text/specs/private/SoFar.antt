@@ -1,12 +1,10 @@
 -- How far a recording has been read. No public clause names it.
-use Rattle.std.specs.Prelude.{◌≡◌, ℕ, ◌+◌, true, false, List, [], ◌∷◌, ◌++◌, length, Option, None, Some}
+use Rattle.std.specs.Prelude.{◌≡◌, ℕ, true, false, List, [], ◌∷◌, ◌++◌, length, Option, None, Some}
 use Rattle.std.specs.List.{flat_map, list_any}
 use Rattle.recorded_text.specs.Line.{SwitchView}
-use Rattle.recorded_text.specs.Text.{lines_of, is_bad_line, told, first_bad}
+use Rattle.recorded_text.specs.Text.{lines_of, is_bad_line, told}
 use Rattle.recorded_text.specs.declared.fault.LineFault.{LineFault}
 use Rattle.recorded_text.specs.declared.fault.LineFault.TheVariants.{Bad, Memory}
-use Rattle.recorded_text.specs.declared.fault.RecordedFault.{RecordedFault}
-use Rattle.recorded_text.specs.declared.fault.RecordedFault.TheVariants.{BadLine, Read}
 
 -- no such byte stands in the text
 abbrev pub Lacks : ℕ → List ℕ → Type 0

@@ -1,5 +1,5 @@
 -- The better of two shifts. No public clause names it.
-use Rattle.std.specs.Prelude.{◌≡◌, ℕ, ◌<◌, ◌≤◌, ◌⊎◌, List, length, slice_index, Contains}
+use Rattle.std.specs.Prelude.{◌≡◌, ℕ, ◌<◌, ◌≤◌, ◌⊎◌, List, slice_index, Contains}
 use Rattle.trace_compare.specs.declared.shift.Choice.{Choice}
 
 pub record IsBetter (a b r : Choice) : Type 0 where

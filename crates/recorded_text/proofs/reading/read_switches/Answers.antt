@@ -1,6 +1,5 @@
-use Rattle.std.proofs.Common.{◌≡◌, ◌+◌, ◌*◌, ◌≤◌, ◌<◌, List, ℕ, true, false, map, take, length, sym, subst, ap, ◌∙◌, arith, rules, [], ◌++◌}
+use Rattle.std.proofs.Common.{◌≡◌, ◌+◌, ◌*◌, ◌≤◌, ◌<◌, List, ℕ, true, false, map, take, length, subst, ap, ◌∙◌, arith, rules, ◌++◌}
 use Rattle.std.proofs.lemmas.Grind.{common_steps}
-use Rattle.counted_io.specs.Sides.{inner_of}
 use Rattle.recorded_text.specs.Steps.{step_view}
 use Rattle.recorded_text.specs.Text.{is_bad_line, told}
 use Rattle.recorded_text.proofs.Ending.{end_good, end_bad, piece_done, piece_bad}
@@ -38,7 +37,7 @@ loop-preserved g c =
     let e = c.in-Ok-take_piece.ensures in
     record {
       done = piece_done _ (g.R.Read.remaining c.loop.reader.inner) (g.R.Read.remaining c.read.new.self.inner) (take c.in-Some.n c.read.new.buf) c.loop.rest.items c.take_piece.new.rest.items c.loop.lines c.take_piece.new.lines (map (step_view c.loop.names) c.loop.steps.items) (map (step_view c.take_piece.new.names) c.take_piece.new.steps.items)
-        c.loop.invariant.done c.in-Some.ensures.given e.so_far;
+          c.loop.invariant.done c.in-Some.ensures.given e.so_far;
       lacks = e.rest;
       named = e.named;
       few = few_more c.loop.lines c.take_piece.new.lines c.loop.counter c.in-Some.n c.read.new.buf c.loop.invariant.few (search rules) e.few;

@@ -1,5 +1,5 @@
-use Rattle.std.proofs.Common.{◌≡◌, ◌+◌, ◌-◌, List, ℕ, ◌++◌, [], map, length, take, drop, sym, subst, ap, ◌∙◌, arith}
-use Rattle.std.proofs.lemmas.List.{length-append, length-drop}
+use Rattle.std.proofs.Common.{◌+◌, List, ℕ, ◌++◌, map, take, drop, sym, subst, arith}
+use Rattle.std.proofs.lemmas.List.{length-drop}
 use Rattle.recorded_text.specs.Steps.{step_view}
 use Rattle.recorded_text.specs.private.SoFar.{Lacks, IsSoFar}
 use Rattle.recorded_text.proofs.Cutting.{rest_is}
@@ -26,9 +26,9 @@ loop-i-preserved c =
     let e = c.in-Ok.ensures in
     record {
       so_far = λ whole after h.
-        let so = subst (λ (t : List ℕ). IsSoFar whole ((c.loop-i.rest.items ++ t) ++ after) c.loop-i.lines found) cut.0 (c.loop-i.invariant.so_far whole after h) in
-        let next = next_line whole c.loop-i.rest.items (take i left) (drop (i + 1) left) after c.loop-i.lines found more c.loop-i.invariant.lacks cut.1 so e.good e.shown in
-        rw (e.empty, rest_is (i + 1) left) next;
+          let so = subst (λ (t : List ℕ). IsSoFar whole ((c.loop-i.rest.items ++ t) ++ after) c.loop-i.lines found) cut.0 (c.loop-i.invariant.so_far whole after h) in
+          let next = next_line whole c.loop-i.rest.items (take i left) (drop (i + 1) left) after c.loop-i.lines found more c.loop-i.invariant.lacks cut.1 so e.good e.shown in
+          rw (e.empty, rest_is (i + 1) left) next;
       lacks = subst (Lacks 10) (sym e.empty) tt;
       named = e.named;
       few = rw (rest_is (i + 1) left) (omega (arith, c.loop-i.invariant.few, length-drop (i + 1) left, c.in-Some.ensures.0.high));

@@ -1,4 +1,4 @@
-use Rattle.std.proofs.Common.{◌≡◌, ◌<◌, length, arith, rules}
+use Rattle.std.proofs.Common.{◌≡◌, ◌<◌, length, rules}
 use Rattle.trace_compare.proofs.Gathering.{behind_step}
 use Rattle.trace_compare.proofs.collecting.take_step.Goals as goal
 

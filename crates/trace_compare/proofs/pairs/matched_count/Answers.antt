@@ -1,8 +1,8 @@
-use Rattle.std.proofs.Common.{arith, ◌+◌, ◌∙◌, sym}
+use Rattle.std.proofs.Common.{arith}
 use Rattle.trace_compare.specs.Pairs.{fits}
 use Rattle.trace_compare.proofs.Walking.{turn_more, count_fit, walk_early, count_late, count_model_end, count_recorded_end}
-use Rattle.trace_compare.specs.Pairs.{matched, partners}
-use Rattle.std.proofs.Common.{drop, ap}
+use Rattle.trace_compare.specs.Pairs.{matched}
+use Rattle.std.proofs.Common.{ap}
 use Rattle.trace_compare.proofs.pairs.matched_count.Goals as goal
 
 pub loop-i-preserved-in-Fit : goal.loop-i-preserved-in-Fit

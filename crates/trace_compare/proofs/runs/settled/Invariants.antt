@@ -1,4 +1,4 @@
-use Rattle.std.proofs.Common.{◌≡◌, ◌≤◌, ◌<◌, ◌^◌, ◌++◌, drop, All}
+use Rattle.std.proofs.Common.{◌≡◌, ◌++◌, drop, All}
 use Rattle.trace_compare.specs.Runs.{joined_on, kept, IsShort}
 use Rattle.trace_compare.proofs.runs.settled.Given as goal
 

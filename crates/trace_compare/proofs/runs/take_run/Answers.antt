@@ -1,5 +1,5 @@
 use Rattle.trace_compare.specs.Runs.{kept, joined_on}
-use Rattle.std.proofs.Common.{List, ◌∷◌, ◌≡◌, ◌++◌, subst, sym}
+use Rattle.std.proofs.Common.{◌∷◌, ◌≡◌, ◌++◌, subst, sym}
 use Rattle.trace_compare.specs.declared.run.Run.{Run}
 use Rattle.trace_compare.proofs.Joining.{told_near, told_far}
 use Rattle.trace_compare.proofs.runs.take_run.Goals as goal

@@ -1,6 +1,6 @@
 use Rattle.std.specs.Prelude.{sum_by}
 use Rattle.trace_compare.specs.Shift.{task_score}
-use Rattle.trace_compare.proofs.Choosing.{better_step, best_in_all}
+use Rattle.trace_compare.proofs.Choosing.{best_in_all}
 use Rattle.trace_compare.proofs.shift.best_of.Goals as goal
 
 pub returns-clause-best : goal.returns-clause-best
