@@ -1,4 +1,5 @@
 pub mod Unrolling
+pub mod Rounds
 pub mod Served
 pub mod Marks
 pub mod Opening

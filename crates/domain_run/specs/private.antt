@@ -4,3 +4,4 @@ pub mod Paying
 pub mod Index
 pub mod Timers
 pub mod Roster
+pub mod Progress

@@ -15,6 +15,7 @@ mod index;
 mod name;
 mod numbers;
 mod parts;
+mod progress;
 mod roster;
 mod run_queue;
 mod running;
