@@ -5,3 +5,4 @@ pub mod Index
 pub mod Timers
 pub mod Roster
 pub mod Progress
+pub mod Tournament

@@ -26,6 +26,7 @@ mod sweep;
 mod switch;
 mod task;
 mod timers;
+mod tournament;
 
 pub use call::{Call, Refused, Reply};
 pub use cursor::Cursor;
