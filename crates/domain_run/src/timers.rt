@@ -10,51 +10,23 @@ use no_memory::NoMemory;
 use std::alloc::Global;
 use std::marker::Model;
 
-/// At most so many tasks are listed.
-const MOST: usize = 256;
-
 /// For each place of the list of tasks the time at which its task is due, in microseconds.
 #[derive(Drop)]
 pub(crate) struct Timers {
-    due: Vec<u64>,
-    // The same times, of which the first is known; it has room for 4, 16, 64 or 256.
+    // These times, and behind them some that never come: 4, 16, 64 or 256.
     tournament: Tournament,
+    count: usize,
 }
 
 impl Model for Timers {
-    ghost use Rattle.std.specs.Prelude.{ℕ, List, vec_capacity};
+    ghost use Rattle.std.specs.Prelude.{ℕ, List, take};
     ghost use Rattle.domain_run.specs.private.Timers.{AreTimers};
 
     ghost Value = { List ℕ };
 
-    ghost view = { λ t. t.due.items };
+    ghost view = { λ t. take t.count t.tournament };
 
-    ghost invariant = { λ t. AreTimers t.due.items (vec_capacity t.due) t.tournament };
-}
-
-// Puts times to a tournament that has none.
-fn fill(tournament: &mut Tournament, due: &[u64])
-    requires fits { length due.now ≤ length tournament.old }
-    requires never { tournament.old ≡ replicate (length tournament.old) (2 ^ 64 - 1) }
-    ensures length { length tournament.new ≡ length tournament.old }
-    ensures leaves { spec.AreLeaves tournament.new due.now }
-{
-    for place in 0..due.len() {
-        tournament.set(place, due[place]);
-    }
-}
-
-// A tournament that is full becomes wider, for one time more.
-fn widen(tournament: &mut Tournament, due: &[u64])
-    requires size { spec.IsSize (length tournament.old) }
-    requires full { length due.now ≡ length tournament.old + 1 }
-    requires few { length due.now ≤ 256 }
-    ensures size { spec.IsSize (length tournament.new) }
-    ensures fits { length due.now ≤ length tournament.new }
-    ensures leaves { spec.AreLeaves tournament.new due.now }
-{
-    tournament.reset(4 * tournament.len());
-    fill(tournament, due);
+    ghost invariant = { λ t. AreTimers t.tournament t.count };
 }
 
 impl Timers {
@@ -63,8 +35,8 @@ impl Timers {
         ensures { IfOk result (λ timers. timers ≡ []) }
     {
         Ok(Timers {
-            due: Vec::with_capacity(alloc, MOST)?,
             tournament: Tournament::open(alloc)?,
+            count: 0,
         })
     }
 
@@ -76,9 +48,9 @@ impl Timers {
         ensures most { result ≤ length self.now }
         ensures others { spec.AreLater self.now time from result }
     {
-        let count = self.due.len();
+        let count = self.count;
         let mut place = from;
-        while place < count && self.due[place] > time {
+        while place < count && self.tournament.get(place) > time {
             place = self.tournament.behind(place, time);
         }
         place.min(count)
@@ -89,7 +61,6 @@ impl Timers {
         requires { place < length self.old }
         ensures { self.new ≡ slice_set self.old place due }
     {
-        self.due[place] = due;
         self.tournament.set(place, due);
     }
 
@@ -98,21 +69,19 @@ impl Timers {
         requires { length self.old < 256 }
         ensures { self.new ≡ self.old ++ due ∷ [] }
     {
-        let place = self.due.len();
-        self.due.push_reserved(due);
-        if place < self.tournament.len() {
-            self.tournament.set(place, due);
-        } else {
-            widen(&mut self.tournament, &self.due);
+        if self.count == self.tournament.len() {
+            self.tournament.widen();
         }
+        self.tournament.set(self.count, due);
+        self.count += 1;
     }
 
     /// Of no tasks.
     pub(crate) fn clear(&mut self)
         ensures { self.new ≡ [] }
     {
-        self.due.clear();
-        self.tournament.reset(4);
+        self.tournament.clear();
+        self.count = 0;
     }
 
     /// Whether a task may be due at a time. Where it says no, none is.

@@ -1,6 +1,6 @@
 //! A tournament of times: the first of them is known, where one changes at a time.
 
-ghost use Rattle.std.specs.Prelude.{◌≡◌, ◌<◌, ◌≤◌, ◌*◌, ◌/◌, ◌^◌, ◌-◌, length, slice_index_or, slice_set, replicate, IfOk, vec_capacity};
+ghost use Rattle.std.specs.Prelude.{◌≡◌, ◌<◌, ◌≤◌, ◌+◌, ◌*◌, ◌/◌, ◌^◌, ◌-◌, ◌++◌, length, slice_index_or, slice_set, replicate, IfOk, vec_len, vec_capacity};
 ghost use Rattle.domain_run.specs.private.Timers.{least, AreLater};
 ghost use Rattle.domain_run.specs.private.Tournament as spec;
 
@@ -72,6 +72,17 @@ fn root(nodes: &[u64]) -> u64
     nodes[1]
 }
 
+// So many nodes more that never come.
+fn add_never(nodes: &mut Vec<u64>, count: usize)
+    requires { vec_len nodes.old + count ≤ vec_capacity nodes.old }
+    ensures nodes { nodes.new.items ≡ nodes.old.items ++ replicate count (2 ^ 64 - 1) }
+    ensures room { vec_capacity nodes.new ≡ vec_capacity nodes.old }
+{
+    for _ in 0..count {
+        nodes.push_reserved(NEVER);
+    }
+}
+
 // So many nodes that never come.
 fn put_never(nodes: &mut Vec<u64>, count: usize)
     requires { count ≤ vec_capacity nodes.old }
@@ -79,9 +90,52 @@ fn put_never(nodes: &mut Vec<u64>, count: usize)
     ensures room { vec_capacity nodes.new ≡ vec_capacity nodes.old }
 {
     nodes.clear();
-    for _ in 0..count {
-        nodes.push_reserved(NEVER);
+    add_never(nodes, count);
+}
+
+// Of eight halves of nodes the second becomes the fifth as well.
+fn copy_leaves(nodes: &mut Vec<u64>, half: usize)
+    requires { length nodes.old.items ≡ 8 * half }
+    ensures length { length nodes.new.items ≡ length nodes.old.items }
+    ensures copied { spec.AreCopied nodes.old.items half half nodes.new.items }
+    ensures room { vec_capacity nodes.new ≡ vec_capacity nodes.old }
+{
+    for leaf in 0..half {
+        nodes[4 * half + leaf] = nodes[half + leaf];
     }
+}
+
+// Each inner node is made the lesser of the two below it.
+fn build(nodes: &mut Vec<u64>)
+    requires { length nodes.old.items ≡ 2 * (length nodes.old.items / 2) }
+    ensures tree { spec.IsTree nodes.new.items }
+    ensures length { length nodes.new.items ≡ length nodes.old.items }
+    ensures leaves { spec.leaves nodes.new.items ≡ spec.leaves nodes.old.items }
+    ensures room { vec_capacity nodes.new ≡ vec_capacity nodes.old }
+{
+    let mut at = nodes.len() / 2;
+    while at > 1 {
+        at -= 1;
+        nodes[at] = nodes[2 * at].min(nodes[2 * at + 1]);
+    }
+}
+
+// Four times as many leaves; those that are new never come.
+fn widen(nodes: &mut Vec<u64>)
+    requires tree { spec.IsTree nodes.old.items }
+    requires few { length nodes.old.items ≤ 128 }
+    requires room { vec_capacity nodes.old ≡ 512 }
+    ensures tree { spec.IsTree nodes.new.items }
+    ensures length { length nodes.new.items ≡ 4 * length nodes.old.items }
+    ensures leaves { spec.leaves nodes.new.items
+        ≡ spec.leaves nodes.old.items
+        ++ replicate (3 * length (spec.leaves nodes.old.items)) (2 ^ 64 - 1) }
+    ensures room { vec_capacity nodes.new ≡ vec_capacity nodes.old }
+{
+    let half = nodes.len() / 2;
+    add_never(nodes, 6 * half);
+    copy_leaves(nodes, half);
+    build(nodes);
 }
 
 // The first leaf behind the highest node above this one, or itself, that has not come; up to there
@@ -114,12 +168,19 @@ impl Tournament {
         Ok(Tournament { nodes })
     }
 
-    /// Of so many times that never come.
-    pub(crate) fn reset(&mut self, count: usize)
-        requires { count ≤ 256 }
-        ensures { self.new ≡ replicate count (2 ^ 64 - 1) }
+    /// Of four times that never come.
+    pub(crate) fn clear(&mut self)
+        ensures { self.new ≡ replicate 4 (2 ^ 64 - 1) }
     {
-        put_never(&mut self.nodes, 2 * count);
+        put_never(&mut self.nodes, 8);
+    }
+
+    /// Four times as many; those that are new never come.
+    pub(crate) fn widen(&mut self)
+        requires { length self.old ≤ 64 }
+        ensures { self.new ≡ self.old ++ replicate (3 * length self.old) (2 ^ 64 - 1) }
+    {
+        widen(&mut self.nodes);
     }
 
     /// How many times there are.
@@ -127,6 +188,14 @@ impl Tournament {
         ensures { result ≡ length self.now }
     {
         self.nodes.len() / 2
+    }
+
+    /// The time at a place.
+    pub(crate) fn get(&self, place: usize) -> u64
+        requires { place < length self.now }
+        ensures { result ≡ slice_index_or self.now place 0 }
+    {
+        self.nodes[self.nodes.len() / 2 + place]
     }
 
     /// Another time at a place.

@@ -29,19 +29,16 @@ AreLater due time from end =
 abbrev pub IsSize : ℕ → Type 0
 IsSize count = (count ≡ 4) ⊎ (count ≡ 16) ⊎ (count ≡ 64) ⊎ (count ≡ 256)
 
--- the times of a list, and behind them some that never come
-abbrev pub AreLeaves : List ℕ → List ℕ → Type 0
-AreLeaves leaves due =
-    (place : ℕ) → place < length leaves
-    → slice_index_or leaves place 0 ≡ slice_index_or due place (2 ^ 64 - 1)
+-- from this place on they never come
+abbrev pub AreNever : List ℕ → ℕ → Type 0
+AreNever times from =
+    (place : ℕ) → from ≤ place → place < length times → slice_index_or times place 0 ≡ 2 ^ 64 - 1
 
--- what the timers of a list keep: the room for 256 tasks that they were opened with, so they take no
--- more, and a tournament that has all of them
-pub record AreTimers (due : List ℕ) (capacity : ℕ) (leaves : List ℕ) : Type 0 where
-  pub room : capacity ≡ 256
+-- what the timers of a list keep: a tournament of their times, and behind them some that never come
+pub record AreTimers (leaves : List ℕ) (count : ℕ) : Type 0 where
   pub size : IsSize (length leaves)
-  pub fits : length due ≤ length leaves
-  pub leaves_are : AreLeaves leaves due
+  pub fits : count ≤ length leaves
+  pub never : AreNever leaves count
 
 -- the task at a place has changed, and no other
 pub record IsStep (f : Task → Task) (place : ℕ) (old new : List Task) : Type 0 where

@@ -30,3 +30,12 @@ abbrev pub AreAhead : List ℕ → ℕ → ℕ → ℕ → Type 0
 AreAhead nodes time from end =
     (node : ℕ) → from ≤ node → node < end → node < length nodes
     → time < slice_index_or nodes node 0
+
+-- of eight halves the second stands in the fifth as well, for so many nodes; the others are as they
+-- were
+pub record AreCopied (old : List ℕ) (half count : ℕ) (new : List ℕ) : Type 0 where
+  pub copies : (leaf : ℕ) → leaf < count
+      → slice_index_or new (4 * half + leaf) 0 ≡ slice_index_or old (half + leaf) 0
+  pub before : (node : ℕ) → node < 4 * half → slice_index_or new node 0 ≡ slice_index_or old node 0
+  pub behind : (node : ℕ) → 4 * half + count ≤ node
+      → slice_index_or new node 0 ≡ slice_index_or old node 0
