@@ -1,4 +1,5 @@
 pub mod Unrolling
+pub mod Rounds
 pub mod Served
 pub mod Marks
 pub mod Opening
@@ -26,6 +27,7 @@ pub mod Homing
 pub mod AtHome
 pub mod Charged
 pub mod Due
-pub mod Firsts
-pub mod Blocks
 pub mod Sliding
+pub mod Rooted
+pub mod Climbing
+pub mod Leaves

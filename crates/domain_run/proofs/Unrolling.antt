@@ -1,9 +1,8 @@
 -- The events of a script by place, and that a cursor which keeps to the first round gives them.
-use Rattle.std.proofs.Common.{◌≡◌, ℕ, zero, suc, ◌+◌, ◌-◌, ◌*◌, ◌%◌, ◌^◌, ◌<◌, ◌≤◌, Bool, true, false, cond, ltb, List, [], ◌∷◌, ◌++◌, length, Option, Some, None, refl, sym, ap, subst, ◌∙◌, arith, inl, inr, length-append, sum_by}
-use Rattle.std.specs.Prelude.{slice_get, All, IsSome, IfSome, MatchOption}
+use Rattle.std.proofs.Common.{◌≡◌, ℕ, zero, suc, ◌+◌, ◌-◌, ◌*◌, ◌%◌, ◌<◌, ◌≤◌, Bool, true, false, cond, ltb, List, [], ◌∷◌, ◌++◌, length, Option, Some, None, refl, sym, ap, subst, ◌∙◌, arith, inl, inr, length-append, sum_by}
+use Rattle.std.specs.Prelude.{slice_get, All, IsSome, MatchOption}
 use Rattle.std.specs.List.{repeat}
 use Rattle.std.proofs.Math.Nat.{mod-eq_of_lt, add-mod_left, mod-mod, mod-add-mod, zero-mod, suc-mul, le-mul_of_pos_right, mul-pos}
-use Rattle.std.proofs.lemmas.Nat.{mul-le}
 use Rattle.std.proofs.lemmas.Bool.{cases_lt, lt-ltb, le-ltb}
 use Rattle.std.proofs.lemmas.Option.{slice_get_past}
 use Rattle.std.proofs.lemmas.List.Sums.{sum_by-cons}
@@ -95,7 +94,7 @@ first_event s h place = go s.rounds s.phases (some_round s h) where
   go (Some n) phases some = refl
 
 -- in rounds that end, an event has a place within them
-event_ends : (n : ℕ) (phases : List PhaseView) (place : ℕ) → n * sum_by phase_len phases ≤ place → event_at (script_of (Some n) phases) place ≡ None
+pub event_ends : (n : ℕ) (phases : List PhaseView) (place : ℕ) → n * sum_by phase_len phases ≤ place → event_at (script_of (Some n) phases) place ≡ None
 event_ends n phases place past =
     let long = length_repeat n (round_of phases) ∙ ap (λ k. n * k) (length_round phases) in
     slice_get_past (repeat n (round_of phases)) place (omega (arith, long, past))
@@ -210,16 +209,6 @@ behind_within s n place is more = elim (cases_lt place (n * round_len s)) [
       let wrong = subst IsSome none more in
       absurd cc
 ]
-
-pub behind_place : (s : ScriptView) (n place : ℕ) → s.rounds ≡ Some n → IsSome (event_at s place) → IsPlace s (place + 1)
-behind_place s n place is more = subst (λ r. MatchOption r (place + 1 < round_len s) (λ m. place + 1 ≤ m * round_len s)) (sym is) (behind_within s n place is more)
-
--- there are at most 10^9 rounds, of at most 2^46 places
-pub behind_short : (s : ScriptView) (n place : ℕ) → IsScript s → s.rounds ≡ Some n → round_len s ≤ 2 ^ 46 → place + 1 ≤ n * round_len s → place + 1 ≤ 2 ^ 80
-behind_short s n place h is short behind =
-    let few = subst (λ r. IfSome r (λ n. (0 < n) × (n ≤ 1000000000))) is h.rounds in
-    let all = mul-le n (round_len s) 1000000000 (2 ^ 46) few.1 short in
-    omega (arith, all, behind)
 
 -- a cursor within the first round stands as it is kept
 pub kept_itself : (c : CursorView) → IsPlace c.script c.place → kept_cursor c ≡ c

@@ -4,3 +4,5 @@ pub mod Paying
 pub mod Index
 pub mod Timers
 pub mod Roster
+pub mod Progress
+pub mod Tournament

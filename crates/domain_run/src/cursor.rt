@@ -6,39 +6,43 @@ ghost use Rattle.domain_run.specs.script.ScriptView.{IsEvent, IsScript};
 ghost use Rattle.domain_run.specs.script.Unrolled.{event_at};
 ghost use Rattle.domain_run.specs.script.Segments.{begun_at, moved, kept_cursor, given_at, is_late, asked, GivesAsWritten, IsSegment, next_ask};
 
-use crate::script::{Event, Script, Segment, event_of, place_behind};
+use crate::progress;
+use crate::progress::Progress;
+use crate::script::{Event, Script, Segment};
 use std::marker::Model;
 
-/// A script, the place of its next event, and its timer reference. In a script without end that
-/// place is kept within the first round, as each is like the first.
+/// A script, how far it has come in it, and its timer reference. In a script without end it stays
+/// within the first round, as each is like the first.
 #[derive(Debug, Drop)]
 pub struct Cursor {
     script: Script,
-    place: u128,
+    progress: Progress,
     reference: u64,
 }
 
 impl Model for Cursor {
-    ghost use Rattle.domain_run.specs.script.ScriptView.{CursorView, IsCursor};
+    ghost use Rattle.domain_run.specs.script.ScriptView.{CursorView};
+    ghost use Rattle.domain_run.specs.private.Progress.{place_of, IsProgress};
 
     ghost Value = { CursorView };
 
-    ghost view = { λ c. record { script = c.script; place = c.place; reference = c.reference } };
+    ghost view = { λ c. record { script = c.script; place = place_of c.script c.progress; reference = c.reference } };
 
-    ghost invariant = { λ c. IsCursor (record { script = c.script; place = c.place; reference = c.reference }) };
+    ghost invariant = { λ c. IsProgress c.script c.progress };
 }
 
 impl Script {
     /// A cursor at the script's beginning, for a task that starts at this time, in microseconds.
     /// Asked at any times, it gives what the script gives written out, event by event.
-    #[tactic(auto, using(crate::proofs::Unrolling::begun_written, crate::proofs::Unrolling::place_at_first))]
+    #[tactic(auto, using(crate::proofs::Unrolling::begun_written))]
     pub fn cursor(self, start: u64) -> Cursor
         ensures begun { result ≡ begun_at self start }
         ensures written { GivesAsWritten result }
     {
+        let progress = progress::begin(&self);
         Cursor {
             script: self,
-            place: 0,
+            progress,
             reference: start,
         }
     }
@@ -68,18 +72,17 @@ impl Cursor {
         ensures within { IsScript self.now.script }
         ensures event { IfSome result IsEvent }
     {
-        event_of(&self.script, self.place)
+        progress::event_of(&self.script, self.progress)
     }
 
     fn step(&mut self, reference: u64)
         requires more { IsSome (event_at self.old.script self.old.place) }
         ensures { self.new ≡ kept_cursor (moved self.old reference) }
     {
-        self.place = place_behind(&self.script, self.place);
+        self.progress = progress::behind(&self.script, self.progress);
         self.reference = reference;
     }
 
-    #[tactic(auto, using(crate::proofs::Unrolling::kept_itself))]
     fn give(&mut self, time: u64) -> Segment
         requires early { time < 2 ^ 48 }
         requires reference { self.old.reference < 2 ^ 48 }

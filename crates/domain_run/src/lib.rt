@@ -15,6 +15,7 @@ mod index;
 mod name;
 mod numbers;
 mod parts;
+mod progress;
 mod roster;
 mod run_queue;
 mod running;
@@ -25,6 +26,7 @@ mod sweep;
 mod switch;
 mod task;
 mod timers;
+mod tournament;
 
 pub use call::{Call, Refused, Reply};
 pub use cursor::Cursor;

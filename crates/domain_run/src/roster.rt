@@ -140,14 +140,6 @@ impl Roster {
         self.queue.timers.may_be_due(time)
     }
 
-    /// Looks all timers through, so that the next questions about them take no look at each:
-    /// nothing changes.
-    pub(crate) fn look_through(&mut self)
-        ensures { self.new ≡ self.old }
-    {
-        self.queue.timers.look_through();
-    }
-
     /// The ticks from a time to the first at which a task is due, at most 2^42 - 1.
     pub(crate) fn ticks_to_due(&self, time: u64) -> u64
         ensures { result ≡ min (least (map due_of self.now.tasks) - time) (2 ^ 42 - 1) }

@@ -1,9 +1,8 @@
 //! Scripts: what a task does, as phases of events (own; rt-app's phases and loops).
 
-ghost use Rattle.std.specs.Prelude.{◌≡◌, ◌<◌, ◌≤◌, ◌+◌, ◌^◌, ◌↔◌, ◌%◌, ◌*◌, IsTrue, IsOk, MatchResult, sum_by, IsSome, IfSome, All, length, slice_get};
-ghost use Rattle.domain_run.specs.script.ScriptView.{IsEvent, IsPhase, IsScript, IsPlace, script_of, phase_len, round_len};
-ghost use Rattle.domain_run.specs.script.Unrolled.{round_of, event_at};
-ghost use Rattle.domain_run.specs.script.Segments.{IsLoops, rounds_of, loops_of, begun_at, first_place, moved, kept_cursor, given_at, is_late, asked, GivesAsWritten, IsSegment, next_ask};
+ghost use Rattle.std.specs.Prelude.{◌≡◌, ◌↔◌, IsTrue, IsOk, MatchResult, IsSome, IfSome, All};
+ghost use Rattle.domain_run.specs.script.ScriptView.{IsEvent, IsPhase, IsScript, script_of};
+ghost use Rattle.domain_run.specs.script.Segments.{IsLoops, rounds_of, loops_of};
 
 use std::marker::Model;
 
@@ -141,108 +140,18 @@ impl Script {
         }
     }
 
+    /// The number of rounds; none for no end.
+    pub(crate) fn rounds(&self) -> Option<u64>
+        ensures { result ≡ self.now.rounds }
+    {
+        self.rounds
+    }
+
     /// The phases of a round, in order.
     pub fn phases(&self) -> &[Phase]
         ensures phases { result.now ≡ self.now.phases }
         ensures within { IsScript self.now }
     {
         &self.phases
-    }
-}
-
-// The remainder; nearly all places are in the first round, and need no division.
-fn remainder(place: u128, round: u128) -> u128
-    requires { 0 < round }
-    ensures { result ≡ place % round }
-{
-    if place < round {
-        return place;
-    }
-    place % round
-}
-
-fn phase_len_of(phase: &Phase) -> u128
-    requires { IsPhase phase.now }
-    ensures len { result ≡ phase_len phase.now }
-    ensures some { 0 < result }
-    ensures short { result < 2 ^ 40 }
-{
-    u128::from(phase.count) * (phase.events.len() as u128)
-}
-
-fn event_in_phase(phase: &Phase, place: u128) -> Option<Event>
-    requires { IsPhase phase.now }
-    ensures value { result ≡ slice_get phase.now.events (place % length phase.now.events) }
-    ensures event { IfSome result IsEvent }
-{
-    let index = remainder(place, phase.events.len() as u128) as usize;
-    Some(phase.events[index])
-}
-
-fn event_in_round(phases: &[Phase], place: u128) -> Option<Event>
-    requires { All IsPhase phases.now }
-    ensures value { result ≡ slice_get (round_of phases.now) place }
-    ensures event { IfSome result IsEvent }
-{
-    let mut rest = place;
-    for phase in phases {
-        let len = phase_len_of(phase);
-        if rest < len {
-            return event_in_phase(phase, rest);
-        }
-        rest -= len;
-    }
-    None
-}
-
-fn round_len_of(phases: &[Phase]) -> u128
-    requires phases { All IsPhase phases.now }
-    requires few { length phases.now ≤ 64 }
-    ensures len { result ≡ sum_by phase_len phases.now }
-    ensures some { length phases.now ≤ result }
-    ensures short { result ≤ 2 ^ 46 }
-{
-    let mut all = 0;
-    for phase in phases {
-        all += phase_len_of(phase);
-    }
-    all
-}
-
-fn rounds_len(rounds: u64, round: u128) -> u128
-    requires few { rounds ≤ 1000000000 }
-    requires short { round ≤ 2 ^ 46 }
-    ensures { result ≡ rounds * round }
-{
-    u128::from(rounds) * round
-}
-
-#[tactic(auto, using(crate::proofs::Unrolling::event_by_is))]
-pub(crate) fn event_of(script: &Script, place: u128) -> Option<Event>
-    ensures value { result ≡ event_at script.now place }
-    ensures within { IsScript script.now }
-    ensures event { IfSome result IsEvent }
-{
-    let round = round_len_of(&script.phases);
-    if let Some(rounds) = script.rounds
-        && place >= rounds_len(rounds, round)
-    {
-        return None;
-    }
-    event_in_round(&script.phases, remainder(place, round))
-}
-
-#[tactic(auto, using(crate::proofs::Unrolling::behind_within, crate::proofs::Unrolling::behind_place))]
-pub(crate) fn place_behind(script: &Script, place: u128) -> u128
-    requires short { place ≤ 2 ^ 80 }
-    requires more { IsSome (event_at script.now place) }
-    ensures value { result ≡ first_place script.now.rounds (round_len script.now) (place + 1) }
-    ensures within { IsPlace script.now result }
-    ensures short { result ≤ 2 ^ 80 }
-{
-    let round = round_len_of(&script.phases);
-    match script.rounds {
-        None => remainder(place + 1, round),
-        Some(_) => place + 1,
     }
 }

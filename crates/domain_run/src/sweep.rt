@@ -48,7 +48,6 @@ fn wake_all(roster: &mut Roster, time: u64)
     turn_due(roster, time, &Change::Settle);
     roster.drop_left();
     turn_due(roster, time, &Change::Unblock);
-    roster.look_through();
 }
 
 /// Part 4: the task that stands on a CPU, if one does, belongs to it.

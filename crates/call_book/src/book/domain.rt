@@ -235,8 +235,10 @@ impl Domain {
 
     /// How many workers an advance may have, 1 to 8; 1 where this was never called. They share the
     /// work on the tasks that run, which starts threads and takes memory for each event of an
-    /// advance; what an advance answers and enters is the same with every number, also where a
-    /// worker cannot be started. It is no call of the history. Takes no memory.
+    /// advance. A thread pays for itself from some thousands of running tasks on, so with fewer for
+    /// each worker none is started; 64 CPUs run at most 64. What an advance answers and enters is
+    /// the same with every number, also where a worker cannot be started. It is no call of the
+    /// history. Takes no memory.
     pub fn set_workers(&mut self, n: usize)
         requires { (1 ≤ n) × (n ≤ 8) }
         ensures { self.new ≡ record self.old { workers = n } }
@@ -516,6 +518,18 @@ fn ask_limit<R: Wait>(
     }
 }
 
+/// The fewest running tasks for which a worker's thread pays: it takes 50 to 100 us to start and to
+/// join, and a running task takes some 15 ns to be planned or charged.
+const LEAST_PIECE: usize = 4096;
+
+/// How many workers share the work on the tasks that run at once, one a CPU: at most so many, and
+/// no more than there are pieces that pay for a thread.
+fn sharing(cpus: u32, workers: usize) -> usize
+    ensures { 0 < result }
+{
+    workers.min(cpus as usize / LEAST_PIECE).max(1)
+}
+
 /// How many of so many ticks were made: fewer only where a growth was refused.
 fn make_ticks<R: Threads + Wait>(
     rt: &R,
@@ -529,5 +543,6 @@ fn make_ticks<R: Threads + Wait>(
     ensures state { state.new ≡ tick.ticks result state.old }
     ensures keys { AreKept state.old.tasks state.new.tasks }
 {
-    jump_run::advance_with(rt, alloc, state, n, workers.count, &Silent).ticks
+    let workers = sharing(state.cpus(), workers.count);
+    jump_run::advance_with(rt, alloc, state, n, workers, &Silent).ticks
 }

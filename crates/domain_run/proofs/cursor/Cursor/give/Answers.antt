@@ -1,0 +1,13 @@
+use Rattle.std.proofs.Common.{◌≡◌, None, sym, ap, subst, ◌∙◌}
+use Rattle.domain_run.specs.script.Unrolled.{event_at}
+use Rattle.domain_run.specs.script.Segments.{kept_cursor, given_by}
+use Rattle.domain_run.proofs.Rounds.{stands_as_kept}
+use Rattle.domain_run.proofs.cursor.Cursor.give.Goals as goal
+
+pub returns-in-None-clause-cursor : goal.returns-in-None-clause-cursor
+returns-in-None-clause-cursor c =
+    let s = c.args.self.now in
+    let i = c.self.inside in
+    let kept = subst (λ v. kept_cursor v ≡ v) c.self.view_is (stands_as_kept i.script i.progress i.reference c.self.invariant) in
+    let none : event_at s.script s.place ≡ None = sym c.event.ensures.value ∙ c.in-None.is in
+    sym (ap (λ e. kept_cursor (given_by s c.args.time e).cursor) none ∙ kept)

@@ -1,0 +1,42 @@
+-- How far a cursor is in its script, for the code's own contracts.
+use Rattle.std.specs.Prelude.{ℕ, zero, suc, ◌≡◌, ◌+◌, ◌*◌, ◌<◌, Bool, false, nat_le, List, [], ◌∷◌, length, slice_get, Option, Some, None}
+use Rattle.domain_run.specs.declared.progress.Progress.{Progress}
+use Rattle.domain_run.specs.script.ScriptView.{PhaseView, ScriptView, IsCursor, phase_len, round_len}
+use Rattle.domain_run.specs.script.Segments.{first_place}
+
+-- how many events of a round are behind: those of so many phases, and in the next phase those of so
+-- many laps, and so many of the lap after them
+abbrev pub events_behind : List PhaseView → ℕ → ℕ → ℕ → ℕ
+events_behind [] phase lap event = 0
+events_behind (p ∷ ps) zero lap event = lap * length p.events + event
+events_behind (p ∷ ps) (suc phase) lap event = phase_len p + events_behind ps phase lap event
+
+-- the place to which the counters come
+abbrev pub place_of : ScriptView → Progress → ℕ
+place_of s p = p.round * round_len s + events_behind s.phases p.phase p.lap p.event
+
+-- the rounds are all behind; without a number they never are
+abbrev pub is_over : Option ℕ → ℕ → Bool
+is_over None round = false
+is_over (Some n) round = nat_le n round
+
+-- behind a round; without end each is like the first
+abbrev pub next_round : Option ℕ → ℕ → ℕ
+next_round None round = round
+next_round (Some n) round = round + 1
+
+-- the lap and the event are of this phase
+pub record IsInPhase (q : PhaseView) (p : Progress) : Type 0 where
+  pub lap : p.lap < q.count
+  pub event : p.event < length q.events
+
+-- what the counters of a cursor keep
+pub record IsProgress (s : ScriptView) (p : Progress) : Type 0 where
+  pub phase : p.phase < length s.phases
+  pub there : (q : PhaseView) → slice_get s.phases p.phase ≡ Some q → IsInPhase q p
+  pub kept : (reference : ℕ) → IsCursor (record { script = s; place = place_of s p; reference = reference })
+
+-- the counters behind the event where they stood
+pub record IsBehind (s : ScriptView) (p after : Progress) : Type 0 where
+  pub stands : IsProgress s after
+  pub place : place_of s after ≡ first_place s.rounds (round_len s) (place_of s p + 1)

@@ -1,0 +1,41 @@
+-- A tournament of times, for the code's own contracts: each inner node is the lesser of the two below
+-- it, and the leaves are the second half.
+use Rattle.std.specs.Prelude.{ℕ, ◌+◌, ◌*◌, ◌/◌, ◌<◌, ◌≤◌, ◌≡◌, ◌≢◌, min, List, length, drop, slice_index_or}
+
+abbrev pub IsLesser : List ℕ → ℕ → Type 0
+IsLesser nodes i =
+    slice_index_or nodes i 0
+    ≡ min (slice_index_or nodes (2 * i) 0) (slice_index_or nodes (2 * i + 1) 0)
+
+-- each inner node but one
+pub record IsTreeBut (at : ℕ) (nodes : List ℕ) : Type 0 where
+  pub even : length nodes ≡ 2 * (length nodes / 2)
+  pub each : (i : ℕ) → 1 ≤ i → i < length nodes / 2 → i ≢ at → IsLesser nodes i
+
+-- each inner node
+abbrev pub IsTree : List ℕ → Type 0
+IsTree nodes = IsTreeBut 0 nodes
+
+abbrev pub leaves : List ℕ → List ℕ
+leaves nodes = drop (length nodes / 2) nodes
+
+-- what a tournament keeps: the room for 512 nodes that it was opened with, so it takes no more
+pub record IsTournament (nodes : List ℕ) (capacity : ℕ) : Type 0 where
+  pub tree : IsTree nodes
+  pub most : length nodes ≤ 512
+  pub room : capacity ≡ 512
+
+-- from this node on, up to that, none has come
+abbrev pub AreAhead : List ℕ → ℕ → ℕ → ℕ → Type 0
+AreAhead nodes time from end =
+    (node : ℕ) → from ≤ node → node < end → node < length nodes
+    → time < slice_index_or nodes node 0
+
+-- of eight halves the second stands in the fifth as well, for so many nodes; the others are as they
+-- were
+pub record AreCopied (old : List ℕ) (half count : ℕ) (new : List ℕ) : Type 0 where
+  pub copies : (leaf : ℕ) → leaf < count
+      → slice_index_or new (4 * half + leaf) 0 ≡ slice_index_or old (half + leaf) 0
+  pub before : (node : ℕ) → node < 4 * half → slice_index_or new node 0 ≡ slice_index_or old node 0
+  pub behind : (node : ℕ) → 4 * half + count ≤ node
+      → slice_index_or new node 0 ≡ slice_index_or old node 0
