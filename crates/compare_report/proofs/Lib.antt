@@ -1,1 +1,1 @@
-mod Gathered
+mod Firsts

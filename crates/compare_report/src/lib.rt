@@ -1,10 +1,11 @@
-//! What is told of a recorded trace beside the model's, from runs that were matched.
+//! What is told of a recorded trace beside the model's, from runs that were compared.
 //!
-//! Meets the definition of a task's row (`specs/Rows.antt`).
+//! Meets the definitions of the tasks' rows (`specs/Rows.antt`) and of the first difference
+//! (`specs/First.antt`).
 #![tactic(auto)]
 
-mod gaps;
+mod first;
 mod row;
-mod sums;
 
+pub use first::earliest;
 pub use row::{Side, row_of};

@@ -21,7 +21,7 @@ fn put_place(out: &mut Vec<u8>, place: &Place<'_>) -> Result<(), NoMemory>
 {
     put_decimal(out, place.number)?;
     put(out, b" of ")?;
-    put(out, place.name.as_bytes())?;
+    put(out, place.name)?;
     put(out, b", ")?;
     put_stretch(out, place.run)
 }

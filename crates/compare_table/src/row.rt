@@ -29,11 +29,11 @@ pub struct Stretch {
 #[derive(Clone, Copy, Debug)]
 pub struct Row<'a> {
     /// The task's name.
-    pub name: &'a str,
+    pub name: &'a [u8],
     /// How many runs the model has of it.
     pub runs: u64,
     /// How many runs were recorded inside the model's time.
-    pub recorded: u64,
+    pub recorded: u128,
     /// How many of them match.
     pub matched: u64,
     /// How far the starts of these are apart.
@@ -50,7 +50,7 @@ pub struct Row<'a> {
 #[derive(Clone, Copy, Debug)]
 pub struct Place<'a> {
     /// The task's name.
-    pub name: &'a str,
+    pub name: &'a [u8],
     /// Which of the task's runs it is, from 0.
     pub number: u64,
     /// From when to when.

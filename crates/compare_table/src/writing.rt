@@ -52,7 +52,7 @@ fn put_counts(out: &mut Vec<u8>, row: &Row<'_>) -> Result<(), NoMemory>
     ensures { OnOk result (out.new.items ≡ out.old.items ++ count_columns row.now) }
 {
     put_number(out, 6, row.runs)?;
-    put_number(out, 8, row.recorded)?;
+    put_wide(out, 8, row.recorded)?;
     put_number(out, 7, row.matched)
 }
 
@@ -70,7 +70,7 @@ fn put_times(out: &mut Vec<u8>, row: &Row<'_>) -> Result<(), NoMemory>
 pub fn put_row(out: &mut Vec<u8>, row: &Row<'_>) -> Result<(), NoMemory>
     ensures { OnOk result (out.new.items ≡ out.old.items ++ row_line row.now) }
 {
-    put_right(out, 15, row.name.as_bytes())?;
+    put_right(out, 15, row.name)?;
     put_counts(out, row)?;
     put_spread(out, 10, row.starts)?;
     put_spread(out, 9, row.ends)?;
