@@ -26,9 +26,9 @@ pub record IsRow (shift from until : ℕ) (name : List ℕ) (t : TaskRuns) (m : 
   pub recorded_cpu : r.recorded_cpu ≡ taken_time m.partners.items
       + cpu_time (filter (is_inside from until shift) m.left.items)
 
--- a row for each task, in their order
-pub record AreRows (shift from until : ℕ) (names : List (List ℕ)) (tasks : List TaskRuns) (matchings : List Matching) (rows : List Row) : Type 0 where
-  pub as_many : length rows ≡ length tasks
-  pub each : (j : ℕ) (n : List ℕ) (t : TaskRuns) (m : Matching) (r : Row) → j < length tasks
-      → IsRow shift from until (slice_index_or names j n) (slice_index_or tasks j t)
+-- a row for each of the first n tasks, in their order
+pub record AreRows (shift from until : ℕ) (names : List (List ℕ)) (tasks : List TaskRuns) (matchings : List Matching) (n : ℕ) (rows : List Row) : Type 0 where
+  pub as_many : length rows ≡ n
+  pub each : (j : ℕ) (x : List ℕ) (t : TaskRuns) (m : Matching) (r : Row) → j < n
+      → IsRow shift from until (slice_index_or names j x) (slice_index_or tasks j t)
       (slice_index_or matchings j m) (slice_index_or rows j r)

@@ -6,6 +6,7 @@
 
 mod first;
 mod row;
+mod table;
 
 pub use first::earliest;
 pub use row::{Side, row_of};
