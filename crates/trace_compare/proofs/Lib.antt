@@ -1,0 +1,7 @@
+mod Choosing
+mod Gathered
+mod Gathering
+mod Joining
+mod SideBySide
+mod Pairing
+mod Walking
