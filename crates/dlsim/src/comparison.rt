@@ -1,0 +1,106 @@
+//! What the words of `compare` ask for.
+
+ghost use Rattle.std.specs.Prelude.{◌≡◌, ◌≤◌, ℕ, IfOk, IfSome, List, None, Some, codes};
+ghost use Rattle.clap.specs.Words.{first_value, found_of, rows_of};
+ghost use Rattle.dlsim.specs.Comparing.{IsComparisonAt, IsFit, IsOptionalAt, IsShift, IsShiftAt, IsSource, IsTimeAt, shares_stdin};
+
+use crate::words::text_of;
+use clap::ArgMatches;
+use command_line::{LEAST_SHIFT, MOST_SHIFT, MOST_TIME};
+use std::alloc::{AllocError, Global};
+
+/// Where a trace comes from.
+#[derive(Debug, Drop)]
+pub(crate) enum Source {
+    /// Standard input.
+    Stdin,
+    /// The file of this name.
+    File(String),
+}
+
+/// What is compared with what, and how.
+#[derive(Debug, Drop)]
+pub(crate) struct Comparison {
+    pub(crate) model: Source,
+    pub(crate) recorded: Source,
+    /// How many microseconds the ends of matched runs may be apart, at most 10^9.
+    pub(crate) within: u64,
+    /// The noise in microseconds, at most 10^9, where it is asked for.
+    pub(crate) noise: Option<u64>,
+    /// By how many microseconds the recording's clock is ahead, within 2^60, where it is asked for.
+    pub(crate) shift: Option<i64>,
+    /// Whether matched runs on the same CPU are counted.
+    pub(crate) cpus: bool,
+}
+
+/// The source that a text names: standard input where it is `-`.
+///
+/// # Errors
+/// A growth was refused.
+fn source_of(alloc: Global, text: &str) -> Result<Source, AllocError>
+    ensures { IfOk result (IsSource text.now) }
+{
+    if text == "-" {
+        Ok(Source::Stdin)
+    } else {
+        Ok(Source::File(String::from_str(alloc, text)?))
+    }
+}
+
+/// The number at `within`, at most 10^9. Clap has tested it, and knows its default.
+fn within_of(found: &ArgMatches<'_>) -> u64
+    ensures most { result ≤ 1000000000 }
+    ensures found { IsTimeAt (rows_of (found_of found.now)) (codes "within") result }
+{
+    found.get_one::<u64>("within").unwrap_or(1000).min(MOST_TIME)
+}
+
+/// The number at `noise`, at most 10^9, where it is there.
+fn noise_of(found: &ArgMatches<'_>) -> Option<u64>
+    ensures most { IfSome result (λ us. us ≤ 1000000000) }
+    ensures found { IsOptionalAt (rows_of (found_of found.now)) (codes "noise") result }
+{
+    match found.get_one::<u64>("noise") {
+        None => None,
+        Some(us) => Some(us.min(MOST_TIME)),
+    }
+}
+
+/// The number at `shift`, within 2^60 to either side, where it is there.
+fn shift_of(found: &ArgMatches<'_>) -> Option<i64>
+    ensures within { IfSome result IsShift }
+    ensures found { IsShiftAt (rows_of (found_of found.now)) (codes "shift") result }
+{
+    match found.get_one::<i64>("shift") {
+        None => None,
+        Some(us) => Some(us.clamp(LEAST_SHIFT, MOST_SHIFT)),
+    }
+}
+
+/// What the words at the options of `compare` ask for.
+///
+/// # Errors
+/// A growth was refused.
+pub(crate) fn comparison_of(
+    alloc: Global,
+    found: &ArgMatches<'_>,
+) -> Result<Comparison, AllocError>
+    ensures fit { IfOk result IsFit }
+    ensures found { IfOk result (IsComparisonAt (rows_of (found_of found.now))) }
+{
+    Ok(Comparison {
+        model: source_of(alloc, text_of(found, "MODEL"))?,
+        recorded: source_of(alloc, text_of(found, "RECORDED"))?,
+        within: within_of(found),
+        noise: noise_of(found),
+        shift: shift_of(found),
+        cpus: found.get_flag("cpus"),
+    })
+}
+
+/// Whether both traces are standard input, which is for one of them.
+pub(crate) fn shares_stdin(comparison: &Comparison) -> bool
+    ensures { result ≡ shares_stdin comparison.now }
+{
+    matches!(comparison.model, Source::Stdin) && matches!(comparison.recorded, Source::Stdin)
+}
