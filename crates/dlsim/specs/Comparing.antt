@@ -3,6 +3,7 @@ use Rattle.std.specs.Prelude.{◌≡◌, ◌≢◌, ◌≤◌, ◌^◌, ◌≤�
 use Rattle.std.specs.Str.Parse.{IsNumeral, signed_digits_value, without_leading_sign}
 use Rattle.clap.specs.Words.{Row, one_of}
 use Rattle.dlsim.specs.Found.{IsFlagAt, IsTextAt, Spells}
+use Rattle.compare_report.specs.declared.options.CompareOptions.{CompareOptions}
 use Rattle.dlsim.specs.declared.comparison.Comparison.{Comparison}
 use Rattle.dlsim.specs.declared.comparison.Source.{Source}
 use Rattle.dlsim.specs.declared.comparison.Source.TheVariants.{Stdin, File}
@@ -52,19 +53,23 @@ pub record IsShiftAt (rows : List Row) (name : List ℕ) (o : Option ℤ) : Type
       → o ≡ None
 
 -- the numbers are within their limits
-pub record IsFit (c : Comparison) : Type 0 where
-  pub within : c.within ≤ 1000000000
-  pub noise : IfSome c.noise (λ us. us ≤ 1000000000)
-  pub shift : IfSome c.shift IsShift
+pub record AreFit (o : CompareOptions) : Type 0 where
+  pub within : o.within ≤ 1000000000
+  pub noise : IfSome o.noise (λ us. us ≤ 1000000000)
+  pub shift : IfSome o.shift IsShift
 
--- each file and each number is that of its own name
+-- each number, and the flag, is that of its own name
+pub record AreOptionsAt (rows : List Row) (o : CompareOptions) : Type 0 where
+  pub within : IsTimeAt rows (codes "within") o.within
+  pub noise : IsOptionalAt rows (codes "noise") o.noise
+  pub shift : IsShiftAt rows (codes "shift") o.shift
+  pub cpus : IsFlagAt rows (codes "cpus") o.cpus
+
+-- and so is each file
 pub record IsComparisonAt (rows : List Row) (c : Comparison) : Type 0 where
   pub model : IsSourceAt rows (codes "MODEL") c.model
   pub recorded : IsSourceAt rows (codes "RECORDED") c.recorded
-  pub within : IsTimeAt rows (codes "within") c.within
-  pub noise : IsOptionalAt rows (codes "noise") c.noise
-  pub shift : IsShiftAt rows (codes "shift") c.shift
-  pub cpus : IsFlagAt rows (codes "cpus") c.cpus
+  pub options : AreOptionsAt rows c.options
 
 -- standard input is for one of the two
 abbrev pub is_stdin : Source → Bool

@@ -6,7 +6,7 @@ use Rattle.command_line.specs.Reading.{HasText, HasTexts}
 use Rattle.session.specs.Options.{AreOptions}
 use Rattle.dl_session.specs.declared.words.WordsFault.{WordsFault}
 use Rattle.dl_session.specs.declared.words.WordsFault.TheVariants.{Memory}
-use Rattle.dlsim.specs.Comparing.{IsComparisonAt, IsWithItself, shares_stdin, IsFit as IsFitComparison}
+use Rattle.dlsim.specs.Comparing.{IsComparisonAt, IsWithItself, shares_stdin, AreFit}
 use Rattle.dlsim.specs.Found.{AreMeantBy, IsFaultOf, IsReplayPrintAt}
 use Rattle.dlsim.specs.declared.words.Task.{Task}
 use Rattle.dlsim.specs.declared.words.Task.TheVariants.{Compare, Replay, Run}
@@ -18,7 +18,7 @@ use Rattle.dlsim.specs.declared.words.Wrong.TheVariants as wrong
 abbrev pub IsFit : Task → Type 0
 IsFit (Replay print) = Unit {0}
 IsFit (Run options) = AreOptions options
-IsFit (Compare comparison) = IsFitComparison comparison × (shares_stdin comparison ≡ false)
+IsFit (Compare comparison) = AreFit comparison.options × (shares_stdin comparison ≡ false)
 
 -- the command that was named: a run where it is `run`, a comparison where it is `compare`, a replay
 -- where it is another

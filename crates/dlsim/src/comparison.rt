@@ -2,11 +2,12 @@
 
 ghost use Rattle.std.specs.Prelude.{◌≡◌, ◌≤◌, ℕ, IfOk, IfSome, List, None, Some, codes};
 ghost use Rattle.clap.specs.Words.{first_value, found_of, rows_of};
-ghost use Rattle.dlsim.specs.Comparing.{IsComparisonAt, IsFit, IsOptionalAt, IsShift, IsShiftAt, IsSource, IsTimeAt, shares_stdin};
+ghost use Rattle.dlsim.specs.Comparing.{AreFit, AreOptionsAt, IsComparisonAt, IsOptionalAt, IsShift, IsShiftAt, IsSource, IsTimeAt, shares_stdin};
 
 use crate::words::text_of;
 use clap::ArgMatches;
 use command_line::{LEAST_SHIFT, MOST_SHIFT, MOST_TIME};
+use dl_session::CompareOptions;
 use std::alloc::{AllocError, Global};
 
 /// Where a trace comes from.
@@ -23,14 +24,8 @@ pub(crate) enum Source {
 pub(crate) struct Comparison {
     pub(crate) model: Source,
     pub(crate) recorded: Source,
-    /// How many microseconds the ends of matched runs may be apart, at most 10^9.
-    pub(crate) within: u64,
-    /// The noise in microseconds, at most 10^9, where it is asked for.
-    pub(crate) noise: Option<u64>,
-    /// By how many microseconds the recording's clock is ahead, within 2^60, where it is asked for.
-    pub(crate) shift: Option<i64>,
-    /// Whether matched runs on the same CPU are counted.
-    pub(crate) cpus: bool,
+    /// Its times are at most 10^9 us, and its shift is within 2^60 us.
+    pub(crate) options: CompareOptions,
 }
 
 /// The source that a text names: standard input where it is `-`.
@@ -48,21 +43,24 @@ fn source_of(alloc: Global, text: &str) -> Result<Source, AllocError>
 }
 
 /// The number at `within`, at most 10^9. Clap has tested it, and knows its default.
-fn within_of(found: &ArgMatches<'_>) -> u64
+fn within_of(found: &ArgMatches<'_>) -> u32
     ensures most { result ≤ 1000000000 }
     ensures found { IsTimeAt (rows_of (found_of found.now)) (codes "within") result }
 {
-    found.get_one::<u64>("within").unwrap_or(1000).min(MOST_TIME)
+    found
+        .get_one::<u64>("within")
+        .unwrap_or(1000)
+        .min(MOST_TIME) as u32
 }
 
 /// The number at `noise`, at most 10^9, where it is there.
-fn noise_of(found: &ArgMatches<'_>) -> Option<u64>
+fn noise_of(found: &ArgMatches<'_>) -> Option<u32>
     ensures most { IfSome result (λ us. us ≤ 1000000000) }
     ensures found { IsOptionalAt (rows_of (found_of found.now)) (codes "noise") result }
 {
     match found.get_one::<u64>("noise") {
         None => None,
-        Some(us) => Some(us.min(MOST_TIME)),
+        Some(us) => Some(us.min(MOST_TIME) as u32),
     }
 }
 
@@ -77,7 +75,20 @@ fn shift_of(found: &ArgMatches<'_>) -> Option<i64>
     }
 }
 
-/// What the words at the options of `compare` ask for.
+/// The numbers and the flag at the options of `compare`.
+fn options_of(found: &ArgMatches<'_>) -> CompareOptions
+    ensures fit { AreFit result }
+    ensures found { AreOptionsAt (rows_of (found_of found.now)) result }
+{
+    CompareOptions {
+        within: within_of(found),
+        noise: noise_of(found),
+        shift: shift_of(found),
+        cpus: found.get_flag("cpus"),
+    }
+}
+
+/// What the words of `compare` ask for.
 ///
 /// # Errors
 /// A growth was refused.
@@ -85,16 +96,13 @@ pub(crate) fn comparison_of(
     alloc: Global,
     found: &ArgMatches<'_>,
 ) -> Result<Comparison, AllocError>
-    ensures fit { IfOk result IsFit }
+    ensures fit { IfOk result (λ c. AreFit c.options) }
     ensures found { IfOk result (IsComparisonAt (rows_of (found_of found.now))) }
 {
     Ok(Comparison {
         model: source_of(alloc, text_of(found, "MODEL"))?,
         recorded: source_of(alloc, text_of(found, "RECORDED"))?,
-        within: within_of(found),
-        noise: noise_of(found),
-        shift: shift_of(found),
-        cpus: found.get_flag("cpus"),
+        options: options_of(found),
     })
 }
 

@@ -1,7 +1,7 @@
 use Rattle.std.specs.Fmt.{HasWritten, IsPlainFormatter}
 use Rattle.std.specs.List.{flat_map}
 use Rattle.dl_session.specs.Lines.{shown}
-use Rattle.dl_session.proofs.fault.write_key.Given as goal
+use Rattle.dl_session.proofs.fault.write_one_line.Given as goal
 
 -- the characters so far were written
 abbrev pub invariant-loop-c : goal.invariant-loop-c

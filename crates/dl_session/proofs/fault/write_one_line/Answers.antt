@@ -5,7 +5,7 @@ use Rattle.std.proofs.lemmas.Iterator.{YieldsList-from_chars}
 use Rattle.std.proofs.lemmas.Iterator.Consumers.{YieldsList-end}
 use Rattle.std.proofs.lemmas.List.{map-id}
 use Rattle.dl_session.specs.Lines.{shown}
-use Rattle.dl_session.proofs.fault.write_key.Goals as goal
+use Rattle.dl_session.proofs.fault.write_one_line.Goals as goal
 
 pub returns : goal.returns
 returns g c = λ plain _.
