@@ -9,5 +9,5 @@ use Rattle.dl_session.proofs.fault.write_one_line.Goals as goal
 
 pub returns : goal.returns
 returns g c = λ plain _.
-    let e = YieldsList-end (YieldsList-from_chars c.args.key.now c.utf8.key cc) c.loop-c.yielded _ c.loop-c.yielded_by _ _ c.in-None.is c.next.ensures.steps in
+    let e = YieldsList-end (YieldsList-from_chars c.args.text.now c.utf8.text cc) c.loop-c.yielded _ c.loop-c.yielded_by _ _ c.in-None.is c.next.ensures.steps in
     has_written_of_eq _ _ _ _ _ (ap (flat_map shown) (sym (map-id c.loop-c.yielded) ∙ e.0)) (c.loop-c.invariant plain)
