@@ -1,5 +1,5 @@
--- What is told of each task whose runs were compared (own).
-use Rattle.std.specs.Prelude.{◌≡◌, ℕ, ◌+◌, ◌<◌, List, [], length, filter, map, slice_index_or, Option, Some, None}
+-- The row of a task whose runs were compared (own).
+use Rattle.std.specs.Prelude.{◌≡◌, ℕ, ◌+◌, List, [], length, filter, map, Option, Some, None}
 use Rattle.trace_compare.specs.declared.task.TaskRuns.{TaskRuns}
 use Rattle.trace_compare.specs.declared.pairs.Matching.{Matching}
 use Rattle.trace_compare.specs.Pairs.{matched}
@@ -25,10 +25,3 @@ pub record IsRow (shift from until : ℕ) (name : List ℕ) (t : TaskRuns) (m : 
   pub cpu : r.cpu ≡ cpu_time t.model.items
   pub recorded_cpu : r.recorded_cpu ≡ taken_time m.partners.items
       + cpu_time (filter (is_inside from until shift) m.left.items)
-
--- a row for each of the first n tasks, in their order
-pub record AreRows (shift from until : ℕ) (names : List (List ℕ)) (tasks : List TaskRuns) (matchings : List Matching) (n : ℕ) (rows : List Row) : Type 0 where
-  pub as_many : length rows ≡ n
-  pub each : (j : ℕ) (x : List ℕ) (t : TaskRuns) (m : Matching) (r : Row) → j < n
-      → IsRow shift from until (slice_index_or names j x) (slice_index_or tasks j t)
-      (slice_index_or matchings j m) (slice_index_or rows j r)

@@ -1,6 +1,6 @@
 //! The row of a task.
 
-ghost use Rattle.std.specs.Prelude.{◌≡◌, ◌<◌, ◌^◌, All, IfOk, filter, length};
+ghost use Rattle.std.specs.Prelude.{◌≡◌, ◌<◌, ◌≤◌, ◌^◌, All, IfOk, filter, length};
 ghost use Rattle.trace_compare.specs.Runs.{IsShort};
 ghost use Rattle.trace_compare.specs.Tasks.{IsSound};
 ghost use Rattle.trace_compare.specs.Matched.{IsSoundMatching};
@@ -15,7 +15,7 @@ use trace_compare::{
 
 /// The model's time, and where it lies in the recording.
 #[derive(Clone, Copy, Debug)]
-pub struct Side {
+pub(crate) struct Span {
     /// By how much the recording's clock is ahead, counted from -2^61 us.
     pub shift: u64,
     /// When the model's first run begins, in microseconds of the model's clock.
@@ -24,27 +24,27 @@ pub struct Side {
     pub until: u64,
 }
 
-fn lies_inside(side: Side, run: &Run) -> bool
-    requires shift { side.shift < 2 ^ 62 }
-    requires from { side.from < 2 ^ 61 }
-    requires until { side.until < 2 ^ 61 }
+fn lies_inside(span: Span, run: &Run) -> bool
+    requires shift { span.shift < 2 ^ 62 }
+    requires from { span.from ≤ 2 ^ 61 }
+    requires until { span.until < 2 ^ 61 }
     requires run { IsShort run.now }
-    ensures { result ≡ is_inside side.from side.until side.shift run.now }
+    ensures { result ≡ is_inside span.from span.until span.shift run.now }
 {
-    side.from + side.shift <= run.start + NO_SHIFT && run.end + NO_SHIFT <= side.until + side.shift
+    span.from + span.shift <= run.start + NO_SHIFT && run.end + NO_SHIFT <= span.until + span.shift
 }
 
 /// The recorded runs that nothing takes, inside the model's time.
-fn inside_of(alloc: Global, side: Side, left: &[Run]) -> Result<Vec<Run>, AllocError>
-    requires shift { side.shift < 2 ^ 62 }
-    requires from { side.from < 2 ^ 61 }
-    requires until { side.until < 2 ^ 61 }
+fn inside_of(alloc: Global, span: Span, left: &[Run]) -> Result<Vec<Run>, AllocError>
+    requires shift { span.shift < 2 ^ 62 }
+    requires from { span.from ≤ 2 ^ 61 }
+    requires until { span.until < 2 ^ 61 }
     requires left { All IsShort left.now }
-    ensures { IfOk result (λ v. v.items ≡ filter (is_inside side.from side.until side.shift) left.now) }
+    ensures { IfOk result (λ v. v.items ≡ filter (is_inside span.from span.until span.shift) left.now) }
 {
     let mut runs = Vec::new(alloc);
     for run in left {
-        if lies_inside(side, run) {
+        if lies_inside(span, run) {
             runs.push(*run)?;
         }
     }
@@ -57,28 +57,25 @@ fn spread_of(distances: &mut Vec<u64>) -> Option<Spread>
     spread(distances.as_mut_slice())
 }
 
-/// What is told of a task, and how many of its matched runs were on the same CPU.
-///
-/// # Errors
-/// Where a growth was refused.
-pub fn row_of<'a>(
+/// The row of a task.
+pub(crate) fn row_of<'a>(
     alloc: Global,
     name: &'a [u8],
     task: &TaskRuns,
     matching: &Matching,
-    side: Side,
+    span: Span,
 ) -> Result<Row<'a>, AllocError>
-    requires shift { side.shift < 2 ^ 62 }
-    requires from { side.from < 2 ^ 61 }
-    requires until { side.until < 2 ^ 61 }
+    requires shift { span.shift < 2 ^ 62 }
+    requires from { span.from ≤ 2 ^ 61 }
+    requires until { span.until < 2 ^ 61 }
     requires task { IsSound task.now }
     requires matching { IsSoundMatching matching.now }
-    ensures { IfOk result (IsRow side.shift side.from side.until name.now task.now matching.now) }
+    ensures { IfOk result (IsRow span.shift span.from span.until name.now task.now matching.now) }
 {
-    let others = inside_of(alloc, side, &matching.left)?;
-    let mut apart = apart_in(alloc, side.shift, task, matching)?;
+    let others = inside_of(alloc, span, &matching.left)?;
+    let mut apart = apart_in(alloc, span.shift, task, matching)?;
     let matched = matched_of(&matching.partners);
-    let left = others_of(side.from, side.until, side.shift, &matching.left);
+    let left = others_of(span.from, span.until, span.shift, &matching.left);
     let taken = u128::from(taken_time_of(&matching.partners));
     Ok(Row {
         name,

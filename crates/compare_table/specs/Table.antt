@@ -59,6 +59,13 @@ row_line r =
     ++ (count_columns r
     ++ (spread_columns 10 r.starts ++ (spread_columns 9 r.ends ++ (time_columns r ++ codes "\n"))))
 
+-- ---- the CPUs
+
+-- `same cpu 124 of 145`: how many of the matched runs were on the same CPU in both texts
+abbrev pub cpus_line : ℕ → ℕ → List ℕ
+cpus_line same matched =
+    codes "same cpu " ++ (decimal same ++ (codes " of " ++ (decimal matched ++ codes "\n")))
+
 -- ---- the first differences
 
 abbrev pub stretch_text : Stretch → List ℕ
@@ -72,7 +79,7 @@ abbrev pub nearest_text : Option Stretch → List ℕ
 nearest_text None = codes ", and nothing was recorded of this task\n"
 nearest_text (Some s) = codes ", nearest recorded " ++ (stretch_text s ++ codes "\n")
 
--- the first run of the model, in seconds of the model's clock, that nothing recorded matches
+-- the first run of the model that nothing recorded matches
 abbrev pub missing_line : Place → Option Stretch → List ℕ
 missing_line p nearest = codes "first difference: model run " ++ (place_text p ++ nearest_text nearest)
 

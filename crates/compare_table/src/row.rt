@@ -18,10 +18,13 @@ pub struct Spread {
     pub max: u64,
 }
 
-/// A stretch of time, in microseconds of the model's clock.
+/// A stretch of time, in microseconds: of the model's clock for a run of the model, of the
+/// recording's for a recorded one.
 #[derive(Clone, Copy, Debug, PartialEq, Eq)]
 pub struct Stretch {
+    /// When it begins.
     pub start: u64,
+    /// When it ends.
     pub end: u64,
 }
 

@@ -66,6 +66,13 @@ pub(crate) fn put_wide(out: &mut Vec<u8>, width: usize, n: u128) -> Result<(), N
     put_column(out, width, buffer.format(n).as_bytes())
 }
 
+pub(crate) fn put_count(out: &mut Vec<u8>, n: u128) -> Result<(), NoMemory>
+    ensures { OnOk result (out.new.items ≡ out.old.items ++ decimal n) }
+{
+    let mut buffer = Buffer::new();
+    put(out, buffer.format(n).as_bytes())
+}
+
 /// A number below 1000000, in six digits.
 fn put_six(out: &mut Vec<u8>, n: u64) -> Result<(), NoMemory>
     ensures { OnOk result (out.new.items ≡ out.old.items ++ zeros_right 6 (decimal n)) }

@@ -1,10 +1,10 @@
 //! The lines of the table.
 
 ghost use Rattle.std.specs.Prelude.{◌≡◌, ◌≤◌, ◌++◌, codes, decimal, OnOk};
-ghost use Rattle.compare_table.specs.Table.{column, count_columns, header, row_line, shift_line, spread_columns, time_columns};
+ghost use Rattle.compare_table.specs.Table.{column, count_columns, cpus_line, header, row_line, shift_line, spread_columns, time_columns};
 
 use crate::row::{Row, Shift, Spread};
-use crate::text::{put, put_column, put_number, put_right, put_seconds, put_wide};
+use crate::text::{put, put_column, put_count, put_number, put_right, put_seconds, put_wide};
 use no_memory::NoMemory;
 
 /// Puts the line of the shift behind a text: `shift 1705.992138 s`.
@@ -75,5 +75,19 @@ pub fn put_row(out: &mut Vec<u8>, row: &Row<'_>) -> Result<(), NoMemory>
     put_spread(out, 10, row.starts)?;
     put_spread(out, 9, row.ends)?;
     put_times(out, row)?;
+    put(out, b"\n")
+}
+
+/// Puts the line behind a text that says how many of the matched runs were on the same CPU.
+///
+/// # Errors
+/// 12 [`NoMemory`]: a growth was refused; a part of the line may stand behind the text.
+pub fn put_cpus(out: &mut Vec<u8>, same: u128, matched: u128) -> Result<(), NoMemory>
+    ensures { OnOk result (out.new.items ≡ out.old.items ++ cpus_line same matched) }
+{
+    put(out, b"same cpu ")?;
+    put_count(out, same)?;
+    put(out, b" of ")?;
+    put_count(out, matched)?;
     put(out, b"\n")
 }

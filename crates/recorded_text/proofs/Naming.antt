@@ -1,6 +1,6 @@
 -- Names, numbered as they come.
 use Rattle.std.proofs.Common.{◌≡◌, ℕ, zero, suc, ◌-◌, ◌<◌, ⊎_elim, Bool, true, false, List, [], ◌∷◌, ◌++◌, length, get_or, Some, Result, Ok, Err, refl, sym, ap, ◌∙◌, arith, subst, Vec, Global, map}
-use Rattle.std.specs.Prelude.{slice_get, IfOk, OnErr, bytes_eq}
+use Rattle.std.specs.Prelude.{slice_get, IfOk, OnOk, OnErr, bytes_eq}
 use Rattle.std.specs.Option.{option_map}
 use Rattle.std.specs.List.{list_any, position}
 use Rattle.std.proofs.lemmas.List.{map-append, get_or_append_left, length-append}
@@ -9,7 +9,7 @@ use Rattle.std.proofs.lemmas.Bool.{cases_lt, or_parts}
 use Rattle.std.proofs.lemmas.Slice.Eq.{bytes_eq-Decides}
 use Rattle.std.proofs.lemmas.Option.{slice_get-map, slice_get-get_or}
 use Rattle.std.proofs.lemmas.List.Quantifiers.{position-Some}
-use Rattle.recorded_text.specs.Names.{Differ}
+use Rattle.recorded_text.specs.Names.{Differ, with_name}
 use Rattle.indexmap.specs.IndexSet.{insert_key}
 
 abbrev texts : List (Vec ℕ Global) → List (List ℕ)
@@ -54,3 +54,19 @@ kept_differ (Ok p) old new name k h none is ok err =
     let same : texts new ≡ texts old ++ k.items ∷ [] = ap texts keys ∙ map-append (λ (v : Vec ℕ Global). v.items) old (k ∷ []) in
     subst Differ (sym same) (one_more (texts old) k.items h (λ j d l e. absent name old none j d l (e ∙ is)))
 kept_differ (Err e) old new name k h none is ok err = subst (λ keys. Differ (texts keys)) (sym err) h
+
+among : (name : List ℕ) (keys : List (Vec ℕ Global)) → list_any (bytes_eq name) (texts keys) ≡ list_any (λ k. bytes_eq name k.items) keys
+among name [] = refl
+among name (k ∷ ks) = rw (among name ks) refl
+
+-- a name that is there already, and a new one
+pub known_called : (name : List ℕ) (keys : List (Vec ℕ Global)) → list_any (λ k. bytes_eq name k.items) keys ≡ true → texts keys ≡ with_name (texts keys) name
+known_called name keys h = rw (among name keys, h) refl
+
+pub new_called : {E : Type 0} (r : Result (ℕ × Bool) E) (old new : List (Vec ℕ Global)) (name : List ℕ) (k : Vec ℕ Global) → list_any (λ v. bytes_eq name v.items) old ≡ false → k.items ≡ name → IfOk r (λ p. new ≡ insert_key (λ a b. bytes_eq a.items b.items) old k) → OnOk r (texts new ≡ with_name (texts old) name)
+new_called (Ok p) old new name k none is ok =
+    let none_of : list_any (λ (v : Vec ℕ Global). bytes_eq k.items v.items) old ≡ false = subst (λ (t : List ℕ). list_any (λ (v : Vec ℕ Global). bytes_eq t v.items) old ≡ false) (sym is) none in
+    let keys : new ≡ old ++ k ∷ [] = ok ∙ rw none_of refl in
+    let same : texts new ≡ texts old ++ name ∷ [] = ap texts keys ∙ map-append (λ (v : Vec ℕ Global). v.items) old (k ∷ []) ∙ ap (λ (n : List ℕ). texts old ++ n ∷ []) is in
+    same ∙ rw (among name old, none) refl
+new_called (Err e) old new name k none is ok = tt

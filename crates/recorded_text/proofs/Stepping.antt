@@ -4,8 +4,9 @@ use Rattle.std.specs.Prelude.{slice_get, IfSome}
 use Rattle.std.specs.Option.{option_and_then}
 use Rattle.std.specs.List.{AllByRecursion}
 use Rattle.std.proofs.lemmas.List.{map-append}
+use Rattle.std.proofs.lemmas.Grind.{fold-append}
 use Rattle.std.proofs.lemmas.List.Elements.{recursion_from_All}
-use Rattle.recorded_text.specs.Names.{Grows}
+use Rattle.recorded_text.specs.Names.{Grows, with_next, names_on}
 use Rattle.recorded_text.specs.Line.{SwitchView}
 use Rattle.recorded_text.specs.Text.{told, switch_of}
 use Rattle.recorded_text.specs.Line.{Seen, line_at}
@@ -40,3 +41,14 @@ view_more old new before after s line v g h e shown is =
 -- names that grow and grow again have grown
 pub grows_on : (a b c : List (List ℕ)) → Grows a b → Grows b c → Grows a c
 grows_on a b c g h = record { more = g.more ++ h.more; behind = h.behind ∙ ap (λ names. names ++ h.more) g.behind ∙ append_assoc a g.more h.more }
+
+-- the name that the line of a switch brings
+pub line_brings : (old new : List (List ℕ)) (line : List ℕ) (v : SwitchView) → new ≡ with_next old v.next → Seen v ≡ line_at line → new ≡ names_on old (told line)
+line_brings old new line v h is =
+    let tells : told line ≡ v ∷ [] = ap switch_of (sym is) in
+    h ∙ ap (λ switches. names_on old switches) (sym tells)
+
+-- those of more switches
+pub brings_more : (first old new : List (List ℕ)) (found more all : List SwitchView) → old ≡ names_on first found → new ≡ names_on old more → all ≡ found ++ more → new ≡ names_on first all
+brings_more first old new found more all was is same =
+    is ∙ ap (λ names. names_on names more) was ∙ sym (fold-append (λ (before : List (List ℕ)) (s : SwitchView). with_next before s.next) first found more) ∙ ap (λ switches. names_on first switches) (sym same)

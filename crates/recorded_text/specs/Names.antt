@@ -1,5 +1,7 @@
 -- Names of tasks, numbered as they come (own).
-use Rattle.std.specs.Prelude.{◌≡◌, ℕ, ◌<◌, List, ◌++◌, length, slice_index_or}
+use Rattle.std.specs.Prelude.{◌≡◌, ℕ, ◌<◌, if◌then◌else◌, List, [], ◌∷◌, ◌++◌, length, slice_index_or, bytes_eq, fold, Option, Some, None}
+use Rattle.std.specs.List.{list_any}
+use Rattle.recorded_text.specs.Line.{SwitchView}
 
 -- no name stands twice
 pub record Differ (names : List (List ℕ)) : Type 0 where
@@ -10,3 +12,16 @@ pub record Differ (names : List (List ℕ)) : Type 0 where
 pub record Grows (old new : List (List ℕ)) : Type 0 where
   pub more : List (List ℕ)
   pub behind : new ≡ old ++ more
+
+-- a name stands behind the others where it is new
+abbrev pub with_name : List (List ℕ) → List ℕ → List (List ℕ)
+with_name names name = if list_any (bytes_eq name) names then names else names ++ name ∷ []
+
+-- the name that a switch brings, if it brings one
+abbrev pub with_next : List (List ℕ) → Option (List ℕ) → List (List ℕ)
+with_next names None = names
+with_next names (Some name) = with_name names name
+
+-- the names that switches bring, behind those that were there, as they first come
+abbrev pub names_on : List (List ℕ) → List SwitchView → List (List ℕ)
+names_on names switches = fold (λ before s. with_next before s.next) names switches

@@ -2,11 +2,11 @@
 
 ghost use Rattle.std.specs.Prelude.{◌≡◌, ◌+◌, ◌<◌, ◌≤◌, ◌^◌, ◌++◌, [], ◌∷◌, List, ℕ, true, false, map, length, All, IfSome, IfOk, IfErr, OnOk};
 ghost use Rattle.counted_io.specs.Sides.{inner_of, faults_of};
-ghost use Rattle.recorded_text.specs.Names.{Grows};
+ghost use Rattle.recorded_text.specs.Names.{Grows, with_next, names_on};
 ghost use Rattle.recorded_text.specs.Views.{switch_view};
 ghost use Rattle.recorded_text.specs.Text.{is_bad_line, told, IsRead, IsFault, is_read, faults_after};
 ghost use Rattle.recorded_text.specs.Steps.{step_view, IsNamed, AreNamed};
-ghost use Rattle.recorded_text.specs.private.SoFar.{Lacks, IsSoFar, Fails};
+ghost use Rattle.recorded_text.specs.private.SoFar.{Lacks, IsSoFar, Fails, BringsOn};
 
 use crate::fault::{LineFault, RecordedFault};
 use crate::line::{Line, Switch, line_of};
@@ -24,6 +24,7 @@ const READS: u64 = 1 << 32;
 fn step_of(alloc: Global, switch: &Switch<'_>, names: &mut Names) -> Result<Step, AllocError>
     requires { switch.now.time < 2 ^ 61 }
     ensures shown { IfOk result (λ s. step_view names.new s ≡ switch_view switch.now) }
+    ensures called { OnOk result (names.new ≡ with_next names.old (switch_view switch.now).next) }
     ensures named { IfOk result (IsNamed names.new) }
     ensures grows { Grows names.old names.new }
 {
@@ -48,6 +49,7 @@ fn take_line(
     requires { AreNamed names.old steps.old.items }
     ensures shown { OnOk result (map (step_view names.new) steps.new.items
         ≡ map (step_view names.old) steps.old.items ++ told line.now) }
+    ensures called { OnOk result (names.new ≡ names_on names.old (told line.now)) }
     ensures good { OnOk result (is_bad_line line.now ≡ false) }
     ensures named { OnOk result (AreNamed names.new steps.new.items) }
     ensures bad { IfErr result (λ e. Fails e line.now) }
@@ -75,6 +77,7 @@ fn end_line(
     requires { AreNamed names.old steps.old.items }
     ensures shown { OnOk result (map (step_view names.new) steps.new.items
         ≡ map (step_view names.old) steps.old.items ++ told (rest.old.items ++ front.now)) }
+    ensures called { OnOk result (names.new ≡ names_on names.old (told (rest.old.items ++ front.now))) }
     ensures good { OnOk result (is_bad_line (rest.old.items ++ front.now) ≡ false) }
     ensures empty { OnOk result (rest.new.items ≡ []) }
     ensures named { OnOk result (AreNamed names.new steps.new.items) }
@@ -108,6 +111,9 @@ fn take_piece(
     ensures bad { IfErr result (λ e. (whole after : List ℕ) →
         IsSoFar whole ((rest.old.items ++ piece.now) ++ after) lines.old (map (step_view names.old) steps.old.items)
         → IsFault whole e) }
+    ensures called { OnOk result ((first : List (List ℕ)) →
+        BringsOn first names.old (map (step_view names.old) steps.old.items)
+        → BringsOn first names.new (map (step_view names.new) steps.new.items)) }
     ensures not_read { IfErr result (λ e. is_read e ≡ false) }
     ensures rest { OnOk result (Lacks 10 rest.new.items) }
     ensures named { OnOk result (AreNamed names.new steps.new.items) }
@@ -131,8 +137,8 @@ fn take_piece(
 }
 
 /// Reads a recording to its end: the switches of its lines, in their order. Names of tasks that come
-/// with a priority below 0 are added to the names behind those that are there; after an error too
-/// some may have been added.
+/// with a priority below 0 are added to the names behind those that are there, as they first come;
+/// after an error too some may have been added.
 ///
 /// # Errors
 /// [`RecordedFault::BadLine`] with the first line of sched_switch that is not as ftrace,
@@ -148,6 +154,8 @@ pub fn read_switches<R: Read>(
     ensures read { IfOk result (λ steps. IfSome (R.remaining (inner_of reader.old)) (λ text.
         IsRead text names.new steps.items)) }
     ensures named { IfOk result (λ steps. AreNamed names.new steps.items) }
+    ensures called { IfOk result (λ steps.
+        names.new ≡ names_on names.old (map (step_view names.new) steps.items)) }
     ensures small { IfOk result (λ steps. All (λ s. s.time < 2 ^ 61) steps.items) }
     ensures fault { IfErr result (λ e. IfSome (R.remaining (inner_of reader.old)) (λ text.
         IsFault text e)) }

@@ -4,4 +4,5 @@ mod Gathering
 mod Joining
 mod SideBySide
 mod Pairing
+mod Reaching
 mod Walking

@@ -30,7 +30,7 @@ pub fn missing_of(partners: &[Option<Run>]) -> Option<usize>
 /// Whether a recorded run lies inside the model's time, which is from its first start until its last
 /// end.
 fn lies_inside(from: u64, until: u64, shift: u64, run: &Run) -> bool
-    requires from { from < 2 ^ 61 }
+    requires from { from ≤ 2 ^ 61 }
     requires until { until < 2 ^ 61 }
     requires shift { shift < 2 ^ 62 }
     requires run { IsShort run.now }
@@ -41,7 +41,7 @@ fn lies_inside(from: u64, until: u64, shift: u64, run: &Run) -> bool
 
 /// The first recorded run inside the model's time that no run of the model takes.
 pub fn other_of(from: u64, until: u64, shift: u64, left: &[Run]) -> Option<Run>
-    requires from { from < 2 ^ 61 }
+    requires from { from ≤ 2 ^ 61 }
     requires until { until < 2 ^ 61 }
     requires shift { shift < 2 ^ 62 }
     requires left { All IsShort left.now }
@@ -57,7 +57,7 @@ pub fn other_of(from: u64, until: u64, shift: u64, left: &[Run]) -> Option<Run>
 
 /// How many recorded runs inside the model's time no run of the model takes.
 pub fn others_of(from: u64, until: u64, shift: u64, left: &[Run]) -> usize
-    requires from { from < 2 ^ 61 }
+    requires from { from ≤ 2 ^ 61 }
     requires until { until < 2 ^ 61 }
     requires shift { shift < 2 ^ 62 }
     requires left { All IsShort left.now }

@@ -2,6 +2,7 @@
 
 ghost use Rattle.std.specs.Prelude.{◌≡◌, ◌+◌, ◌-◌, ◌<◌, ◌≤◌, ◌^◌, length, fold, min, max, All, IfSome, IfNone};
 ghost use Rattle.trace_compare.specs.Runs.{IsShort};
+ghost use Rattle.trace_compare.specs.Tasks.{IsSound};
 ghost use Rattle.trace_compare.specs.Differences.{far_from, IsNearest, first_start, last_end, all_runs};
 
 use crate::pairs::NO_SHIFT;
@@ -61,7 +62,8 @@ fn latest_of(mut time: u64, runs: &[Run]) -> u64
 
 /// When the model's first run begins, in microseconds; 2^61 where it has none.
 pub fn first_start_of(tasks: &[TaskRuns]) -> u64
-    ensures { result ≡ first_start tasks.now }
+    ensures time { result ≡ first_start tasks.now }
+    ensures small { result ≤ 2 ^ 61 }
 {
     let mut time = NO_SHIFT;
     for task in tasks {
@@ -72,7 +74,8 @@ pub fn first_start_of(tasks: &[TaskRuns]) -> u64
 
 /// When the model's last run ends, in microseconds; 0 where it has none.
 pub fn last_end_of(tasks: &[TaskRuns]) -> u64
-    ensures { result ≡ last_end tasks.now }
+    ensures time { result ≡ last_end tasks.now }
+    ensures small { All IsSound tasks.now → result < 2 ^ 61 }
 {
     let mut time = 0;
     for task in tasks {

@@ -2,6 +2,7 @@
 use Rattle.std.specs.Prelude.{◌≡◌, ℕ, true, false, List, [], ◌∷◌, ◌++◌, length, Option, None, Some}
 use Rattle.std.specs.List.{flat_map, list_any}
 use Rattle.recorded_text.specs.Line.{SwitchView}
+use Rattle.recorded_text.specs.Names.{names_on}
 use Rattle.recorded_text.specs.Text.{lines_of, is_bad_line, told}
 use Rattle.recorded_text.specs.declared.fault.LineFault.{LineFault}
 use Rattle.recorded_text.specs.declared.fault.LineFault.TheVariants.{Bad, Memory}
@@ -30,3 +31,7 @@ abbrev pub AreDone : Option (List ℕ) → Option (List ℕ) → List ℕ → �
 AreDone None left rest count found = Unit {0}
 AreDone (Some whole) None rest count found = ⊥
 AreDone (Some whole) (Some left) rest count found = IsSoFar whole (rest ++ left) count found
+
+-- the names are the first ones with those that the switches bring
+abbrev pub BringsOn : List (List ℕ) → List (List ℕ) → List SwitchView → Type 0
+BringsOn first names switches = names ≡ names_on first switches

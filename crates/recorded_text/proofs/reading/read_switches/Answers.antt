@@ -3,7 +3,7 @@ use Rattle.std.proofs.lemmas.Grind.{common_steps}
 use Rattle.recorded_text.specs.Steps.{step_view}
 use Rattle.recorded_text.specs.Text.{is_bad_line, told}
 use Rattle.recorded_text.proofs.Ending.{end_good, end_bad, piece_done, piece_bad}
-use Rattle.recorded_text.proofs.Stepping.{grows_on}
+use Rattle.recorded_text.proofs.Stepping.{grows_on, brings_more}
 use Rattle.recorded_text.proofs.reading.read_switches.Goals as goal
 
 pub returns-in-Ok-clause-read : goal.returns-in-Ok-clause-read
@@ -38,6 +38,7 @@ loop-preserved g c =
     record {
       done = piece_done _ (g.R.Read.remaining c.loop.reader.inner) (g.R.Read.remaining c.read.new.self.inner) (take c.in-Some.n c.read.new.buf) c.loop.rest.items c.take_piece.new.rest.items c.loop.lines c.take_piece.new.lines (map (step_view c.loop.names) c.loop.steps.items) (map (step_view c.take_piece.new.names) c.take_piece.new.steps.items)
           c.loop.invariant.done c.in-Some.ensures.given e.so_far;
+      called = e.called c.loop.initial.names c.loop.invariant.called;
       lacks = e.rest;
       named = e.named;
       few = few_more c.loop.lines c.take_piece.new.lines c.loop.counter c.in-Some.n c.read.new.buf c.loop.invariant.few (search rules) e.few;
@@ -45,3 +46,9 @@ loop-preserved g c =
       faults = c.in-Some.ensures.faults ∙ c.loop.invariant.faults;
       grows = grows_on _ _ _ c.loop.invariant.grows c.take_piece.ensures.grows;
     }
+
+pub returns-in-Ok-clause-called : goal.returns-in-Ok-clause-called
+returns-in-Ok-clause-called g c =
+    let found = map (step_view c.loop.names) c.loop.steps.items in
+    let all = map (step_view c.take_line.new.names) c.take_line.new.steps.items in
+    brings_more _ c.loop.names c.take_line.new.names found (told c.as_slice.result.now) all c.loop.invariant.called c.in-Ok.ensures.called c.in-Ok.ensures.shown

@@ -1,6 +1,6 @@
 use Rattle.std.proofs.Common.{◌≡◌, ℕ, List, Some, sym, subst}
 use Rattle.std.specs.Prelude.{slice_get}
-use Rattle.recorded_text.proofs.Naming.{found_named, stored_named, kept_differ}
+use Rattle.recorded_text.proofs.Naming.{found_named, stored_named, kept_differ, known_called, new_called}
 use Rattle.recorded_text.proofs.names.Names.number_of.Goals as goal
 
 pub invariant_of-self-in-None : goal.invariant_of-self-in-None
