@@ -1,1 +1,6 @@
 mod Firsts
+mod OneMore
+mod Asked
+mod Lengths
+mod Reports
+mod Answering
