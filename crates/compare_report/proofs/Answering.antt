@@ -71,24 +71,24 @@ of_recorded asked s Memory h order unwritten = record { model = order.no_fault; 
 first_names : (old new : List (List ℕ)) → Grows old new → take (length old) new ≡ old
 first_names old new g = ap (λ names. take (length old) names) g.behind ∙ take-append_seam old g.more
 
-pub are_pair : (of_model of_recorded : Option (List ℕ)) (old new : List (List ℕ)) (many : ℕ) (model recorded : List Step) → many ≡ length old → Grows old new → AreReadFrom of_model [] old model → AreReadFrom of_recorded old new recorded → ArePair of_model of_recorded (pair new many model recorded)
-are_pair of_model of_recorded old new many model recorded is g m r =
+pub are_pair : (one other : Option (List ℕ)) (old new : List (List ℕ)) (many : ℕ) (model recorded : List Step) → many ≡ length old → Grows old new → AreReadFrom one [] old model → AreReadFrom other old new recorded → ArePair one other (pair new many model recorded)
+are_pair one other old new many model recorded is g m r =
     let firsts : take many new ≡ old = ap (λ (n : ℕ). take n new) is ∙ first_names old new g in
     record {
       few = omega (arith, is, ap length g.behind, length-append old g.more);
-      model = subst (λ (names : List (List ℕ)). AreReadFrom of_model [] names model) (sym firsts) m;
-      recorded = subst (λ (names : List (List ℕ)). AreReadFrom of_recorded names new recorded) (sym firsts) r;
+      model = subst (λ (names : List (List ℕ)). AreReadFrom one [] names model) (sym firsts) m;
+      recorded = subst (λ (names : List (List ℕ)). AreReadFrom other names new recorded) (sym firsts) r;
     }
 
 -- the report of what was read, under the names that the code has for the parts
-pub report_is : (asked : CompareOptions) (s : Streams) (none old new : List (List ℕ)) (many : ℕ) (model recorded of_model of_recorded : List Step) (text : List ℕ)
-    → none ≡ [] → many ≡ length old → Grows old new → of_model ≡ model → of_recorded ≡ recorded
+pub report_is : (asked : CompareOptions) (s : Streams) (none old new : List (List ℕ)) (many : ℕ) (model recorded first second : List Step) (text : List ℕ)
+    → none ≡ [] → many ≡ length old → Grows old new → first ≡ model → second ≡ recorded
     → AreReadFrom s.model.before.bytes none old model → AreReadFrom s.recorded.before.bytes old new recorded
-    → IsReport asked (pair new many of_model of_recorded) text → HasNoFault s.model → HasNoFault s.recorded → IsReportOf asked s text
-report_is asked s none old new many model recorded of_model of_recorded text nothing_yet is g same_model same_recorded m r told fine_model fine_recorded = record {
+    → IsReport asked (pair new many first second) text → HasNoFault s.model → HasNoFault s.recorded → IsReportOf asked s text
+report_is asked s none old new many model recorded first second text nothing_yet is g same_model same_recorded m r told fine_model fine_recorded = record {
   pair = pair new many model recorded;
   read = are_pair s.model.before.bytes s.recorded.before.bytes old new many model recorded is g (subst (λ (ns : List (List ℕ)). AreReadFrom s.model.before.bytes ns old model) nothing_yet m) r;
-  report = subst (λ (ss : List Step). IsReport asked (pair new many ss recorded) text) same_model (subst (λ (ss : List Step). IsReport asked (pair new many of_model ss) text) same_recorded told);
+  report = subst (λ (ss : List Step). IsReport asked (pair new many ss recorded) text) same_model (subst (λ (ss : List Step). IsReport asked (pair new many first ss) text) same_recorded told);
   model = fine_model;
   recorded = fine_recorded;
 }

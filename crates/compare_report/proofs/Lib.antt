@@ -1,6 +1,5 @@
 mod Firsts
 mod OneMore
-mod Asked
 mod Lengths
 mod Reports
 mod Answering

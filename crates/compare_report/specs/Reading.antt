@@ -25,8 +25,8 @@ abbrev pub pair : List (List ℕ) → ℕ → List Step → List Step → Pair
 pair names many model recorded =
     record { names = names; many = many; model = model; recorded = recorded }
 
--- those of these two texts, as far as they are known
-pub record ArePair (model recorded : Option (List ℕ)) (p : Pair) : Type 0 where
+-- those of these two texts, the model's and the recorded one, as far as they are known
+pub record ArePair (one other : Option (List ℕ)) (p : Pair) : Type 0 where
   pub few : p.many ≤ length p.names
-  pub model : AreReadFrom model [] (take p.many p.names) p.model
-  pub recorded : AreReadFrom recorded (take p.many p.names) p.names p.recorded
+  pub model : AreReadFrom one [] (take p.many p.names) p.model
+  pub recorded : AreReadFrom other (take p.many p.names) p.names p.recorded
