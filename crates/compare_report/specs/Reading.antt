@@ -1,5 +1,5 @@
 -- Two texts as they were read (own).
-use Rattle.std.specs.Prelude.{◌≡◌, ℕ, ◌<◌, List, [], length, map, IfSome, Option}
+use Rattle.std.specs.Prelude.{◌≡◌, ℕ, ◌<◌, ◌≤◌, List, [], length, map, take, IfSome, Option}
 use Rattle.recorded_text.specs.declared.step.Step.{Step}
 use Rattle.recorded_text.specs.Steps.{step_view, AreNamed}
 use Rattle.recorded_text.specs.Names.{names_on}
@@ -13,14 +13,20 @@ pub record AreReadFrom (text : Option (List ℕ)) (before names : List (List ℕ
   pub called : names ≡ names_on before (map (step_view names) steps)
   pub some : 0 < length steps
 
--- the model's switches and the recorded ones, with the names of the model's tasks and those of all
+-- the model's switches and the recorded ones, and the names of all tasks, of which the first so many
+-- are the model's
 pub record Pair : Type 0 where
-  pub model_names : List (List ℕ)
   pub names : List (List ℕ)
+  pub many : ℕ
   pub model : List Step
   pub recorded : List Step
 
--- those of these two texts, as far as they are known
-pub record ArePair (model recorded : Option (List ℕ)) (p : Pair) : Type 0 where
-  pub model : AreReadFrom model [] p.model_names p.model
-  pub recorded : AreReadFrom recorded p.model_names p.names p.recorded
+abbrev pub pair : List (List ℕ) → ℕ → List Step → List Step → Pair
+pair names many model recorded =
+    record { names = names; many = many; model = model; recorded = recorded }
+
+-- those of these two texts, the model's and the recorded one, as far as they are known
+pub record ArePair (one other : Option (List ℕ)) (p : Pair) : Type 0 where
+  pub few : p.many ≤ length p.names
+  pub model : AreReadFrom one [] (take p.many p.names) p.model
+  pub recorded : AreReadFrom other (take p.many p.names) p.names p.recorded

@@ -22,9 +22,9 @@ asked_shift (negsuc n) = no_shift - suc n
 -- for, or the best; and what is told is of these
 pub record IsReport (asked : CompareOptions) (p : Pair) (text : List ℕ) : Type 0 where
   pub noise : ℕ
-  pub is_noise : IsNoise asked.noise p.model (length p.model_names) noise
+  pub is_noise : IsNoise asked.noise p.model p.many noise
   pub tasks : List TaskRuns
-  pub are_tasks : AreTasksOf noise p.model p.recorded (length p.model_names) tasks
+  pub are_tasks : AreTasksOf noise p.model p.recorded p.many tasks
   pub compared : Compared
   pub is_compared : IsCompared asked.within (option_map asked_shift asked.shift) tasks compared
   pub findings : List Finding

@@ -56,4 +56,4 @@ pub record IsTextOf (cpus : Bool) (shift : ℕ) (fs : List Finding) (text : List
   pub missing_first : IsFirst (missing_starts fs) missing
   pub other : Option ℕ
   pub other_first : IsFirst (other_starts fs) other
-  pub text : text ≡ told cpus shift fs (missing_at fs missing) (other_at fs other)
+  pub shown : text ≡ told cpus shift fs (missing_at fs missing) (other_at fs other)

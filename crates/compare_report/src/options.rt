@@ -27,7 +27,7 @@ fn counted_from_below(shift: i64) -> u64
     ensures small { result < 2 ^ 62 }
 {
     if shift >= 0 {
-        NO_SHIFT + (shift as u64).min(NO_SHIFT - 1)
+        NO_SHIFT + shift.unsigned_abs().min(NO_SHIFT - 1)
     } else {
         NO_SHIFT.saturating_sub(shift.unsigned_abs())
     }

@@ -1,14 +1,12 @@
 //! The report of two texts that were read.
 
-ghost use Rattle.std.specs.Prelude.{◌≡◌, ◌<◌, ◌≤◌, ◌^◌, ℕ, List, All, IfOk, IfSome, length};
-ghost use Rattle.std.specs.Option.{option_map};
+ghost use Rattle.std.specs.Prelude.{◌≡◌, ◌<◌, ◌≤◌, ◌^◌, All, IfOk, length};
 ghost use Rattle.trace_compare.specs.Tasks.{IsSound, HaveSmallTimes};
 ghost use Rattle.trace_compare.specs.Matched.{IsSoundMatching};
 ghost use Rattle.trace_compare.specs.Differences.{first_start, last_end};
-ghost use Rattle.compare_report.specs.Findings.{AreFindings};
-ghost use Rattle.compare_report.specs.Report.{asked_shift, IsReport};
+ghost use Rattle.compare_report.specs.Report.{IsReport};
 ghost use Rattle.compare_report.specs.private.Fitting.{AreFitting, IsReportOfRuns};
-ghost use Rattle.compare_report.specs.Reading.{Pair};
+ghost use Rattle.compare_report.specs.Reading.{pair};
 
 use crate::findings::findings_of;
 use crate::options::{CompareOptions, noise_asked, shift_asked};
@@ -68,8 +66,8 @@ pub(crate) fn report_of(
     requires many { many ≤ length names.now }
     requires model { HaveSmallTimes model.now }
     requires recorded { HaveSmallTimes recorded.now }
-    ensures { IfOk result (λ v. (p : Pair) → length p.model_names ≡ many → p.names ≡ names.now
-        → p.model ≡ model.now → p.recorded ≡ recorded.now → IsReport options p v.items) }
+    ensures { IfOk result (λ v.
+        IsReport options (pair names.now many model.now recorded.now) v.items) }
 {
     let tasks = runs_of_tasks(alloc, noise_asked(options), model, recorded, many)?;
     let within = u64::from(options.within);

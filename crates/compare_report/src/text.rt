@@ -75,7 +75,7 @@ fn put_asked_cpus(
 
 /// Puts the line of a recorded run behind a text, if there is one.
 fn put_some_other(out: &mut Vec<u8>, other: Option<Place<'_>>) -> Result<(), NoMemory>
-    ensures { OnOk result (out.new.items ≡ out.old.items ++ other_told other) }
+    ensures { OnOk result (out.new.items ≡ out.old.items ++ other_told other.entry) }
 {
     match other {
         None => Ok(()),
@@ -89,7 +89,7 @@ fn put_differences(
     missing: Option<Missing<'_>>,
     other: Option<Place<'_>>,
 ) -> Result<(), NoMemory>
-    ensures { OnOk result (out.new.items ≡ out.old.items ++ differences_told missing other) }
+    ensures { OnOk result (out.new.items ≡ out.old.items ++ differences_told missing.entry other.entry) }
 {
     match missing {
         None => match other {
@@ -176,7 +176,7 @@ fn put_all(
     missing: Option<Missing<'_>>,
     other: Option<Place<'_>>,
 ) -> Result<(), NoMemory>
-    ensures { OnOk result (out.new.items ≡ out.old.items ++ told cpus shift findings.now missing other) }
+    ensures { OnOk result (out.new.items ≡ out.old.items ++ told cpus shift findings.now missing.entry other.entry) }
 {
     put_shift(out, shift_of(shift))?;
     put_header(out)?;

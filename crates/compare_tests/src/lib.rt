@@ -2,4 +2,8 @@
 #![tactic(auto)]
 
 #[cfg(test)]
+mod fakes;
+#[cfg(test)]
 mod of_recordings;
+#[cfg(test)]
+mod of_reports;

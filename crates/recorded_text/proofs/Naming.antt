@@ -1,6 +1,6 @@
 -- Names, numbered as they come.
 use Rattle.std.proofs.Common.{◌≡◌, ℕ, zero, suc, ◌-◌, ◌<◌, ⊎_elim, Bool, true, false, List, [], ◌∷◌, ◌++◌, length, get_or, Some, Result, Ok, Err, refl, sym, ap, ◌∙◌, arith, subst, Vec, Global, map}
-use Rattle.std.specs.Prelude.{slice_get, IfOk, OnOk, OnErr, bytes_eq}
+use Rattle.std.specs.Prelude.{slice_get, IfOk, OnErr, bytes_eq}
 use Rattle.std.specs.Option.{option_map}
 use Rattle.std.specs.List.{list_any, position}
 use Rattle.std.proofs.lemmas.List.{map-append, get_or_append_left, length-append}
@@ -12,7 +12,7 @@ use Rattle.std.proofs.lemmas.List.Quantifiers.{position-Some}
 use Rattle.recorded_text.specs.Names.{Differ, with_name}
 use Rattle.indexmap.specs.IndexSet.{insert_key}
 
-abbrev texts : List (Vec ℕ Global) → List (List ℕ)
+abbrev pub texts : List (Vec ℕ Global) → List (List ℕ)
 texts keys = map (λ v. v.items) keys
 
 pub found_named : (name : List ℕ) (keys : List (Vec ℕ Global)) (i : ℕ) → position (λ k. bytes_eq name k.items) keys ≡ Some i → slice_get (texts keys) i ≡ Some name
@@ -63,10 +63,9 @@ among name (k ∷ ks) = rw (among name ks) refl
 pub known_called : (name : List ℕ) (keys : List (Vec ℕ Global)) → list_any (λ k. bytes_eq name k.items) keys ≡ true → texts keys ≡ with_name (texts keys) name
 known_called name keys h = rw (among name keys, h) refl
 
-pub new_called : {E : Type 0} (r : Result (ℕ × Bool) E) (old new : List (Vec ℕ Global)) (name : List ℕ) (k : Vec ℕ Global) → list_any (λ v. bytes_eq name v.items) old ≡ false → k.items ≡ name → IfOk r (λ p. new ≡ insert_key (λ a b. bytes_eq a.items b.items) old k) → OnOk r (texts new ≡ with_name (texts old) name)
-new_called (Ok p) old new name k none is ok =
+pub new_called : (old new : List (Vec ℕ Global)) (name : List ℕ) (k : Vec ℕ Global) → list_any (λ v. bytes_eq name v.items) old ≡ false → k.items ≡ name → new ≡ insert_key (λ a b. bytes_eq a.items b.items) old k → texts new ≡ with_name (texts old) name
+new_called old new name k none is inserted =
     let none_of : list_any (λ (v : Vec ℕ Global). bytes_eq k.items v.items) old ≡ false = subst (λ (t : List ℕ). list_any (λ (v : Vec ℕ Global). bytes_eq t v.items) old ≡ false) (sym is) none in
-    let keys : new ≡ old ++ k ∷ [] = ok ∙ rw none_of refl in
+    let keys : new ≡ old ++ k ∷ [] = inserted ∙ rw none_of refl in
     let same : texts new ≡ texts old ++ name ∷ [] = ap texts keys ∙ map-append (λ (v : Vec ℕ Global). v.items) old (k ∷ []) ∙ ap (λ (n : List ℕ). texts old ++ n ∷ []) is in
     same ∙ rw (among name old, none) refl
-new_called (Err e) old new name k none is ok = tt

@@ -38,7 +38,7 @@ loop-preserved g c =
     record {
       done = piece_done _ (g.R.Read.remaining c.loop.reader.inner) (g.R.Read.remaining c.read.new.self.inner) (take c.in-Some.n c.read.new.buf) c.loop.rest.items c.take_piece.new.rest.items c.loop.lines c.take_piece.new.lines (map (step_view c.loop.names) c.loop.steps.items) (map (step_view c.take_piece.new.names) c.take_piece.new.steps.items)
           c.loop.invariant.done c.in-Some.ensures.given e.so_far;
-      called = e.called c.loop.initial.names c.loop.invariant.called;
+      called = e.called c.args.names.now c.loop.invariant.called;
       lacks = e.rest;
       named = e.named;
       few = few_more c.loop.lines c.take_piece.new.lines c.loop.counter c.in-Some.n c.read.new.buf c.loop.invariant.few (search rules) e.few;
