@@ -43,12 +43,15 @@ pub enum ComparisonEnding<'a> {
 
 impl<'a> ComparisonEnding<'a> {
     /// The end of a comparison, which says nothing, or the line of its fault.
-    pub fn of(ended: Result<(), CompareFault>, names: TraceNames<'a>) -> ComparisonEnding<'a>
-        ensures { IsEndOfComparison ended names result }
+    pub fn of(
+        ended: Result<(), CompareFault>,
+        names: &TraceNames<'a>,
+    ) -> ComparisonEnding<'a>
+        ensures { IsEndOfComparison ended names.now result }
     {
         match ended {
             Ok(()) => ComparisonEnding::Done,
-            Err(fault) => ComparisonEnding::Fault(fault, names),
+            Err(fault) => ComparisonEnding::Fault(fault, *names),
         }
     }
 

@@ -62,7 +62,7 @@ fn compare_readers<M: Read, R: Read>(
     let mut writer = Counted::new(rt.stdout());
     let options = comparison.options;
     let ended = compare_texts(rt.alloc(), &mut model, &mut recorded, &mut writer, options);
-    end_comparison(rt, &ComparisonEnding::of(ended, names))
+    end_comparison(rt, &ComparisonEnding::of(ended, &names))
 }
 
 /// Compares two traces; both files are opened before either is read.
