@@ -1,5 +1,5 @@
 -- What words ask for, from what is read of them.
-use Rattle.std.proofs.Common.{◌≡◌, ◌∙◌, ◌⊎◌, inl, inr, List, Option, Some, None, Ok, Err, ap, ap₂, codes, option_map, refl, subst, sym, unwrap_or, true≢false, is_some}
+use Rattle.std.proofs.Common.{◌≡◌, ◌∙◌, ◌⊎◌, inl, inr, List, Option, Some, None, Result, Ok, Err, IfOk, IfErr, ap, ap₂, codes, option_map, refl, subst, sym, unwrap_or, true≢false, is_some}
 use Rattle.std.specs.Prelude.{Box}
 use Rattle.std.specs.Box.{box_value}
 use Rattle.clap.specs.Simple.{subcommand_rows}
@@ -8,6 +8,7 @@ use Rattle.clap.specs.declared.error.Error.{Error}
 use Rattle.clap.specs.declared.parser.matches.ArgMatches.{ArgMatches}
 use Rattle.clap.specs.declared.parser.matches.ArgMatches.TheViews.{out-ArgMatches, out-SubCommand}
 use Rattle.clap.specs.declared.parser.matches.SubCommand.{SubCommand}
+use Rattle.command_line.specs.Commands.{program_app}
 use Rattle.command_line.specs.Reading.{HasTextOfReplay, HasTextsOfRun, IsReading}
 use Rattle.dlsim.specs.Tasks.{IsAskedBy, IsMeant, IsRefusedBy, IsTaskOf, IsWrong, name_of}
 use Rattle.dlsim.specs.declared.words.Task.{Task}
@@ -57,7 +58,7 @@ of_wrong words m w read refused = record {
   meant = tt;
   taken = tt;
   taken_by_replay = tt;
-  wrong = is_wrong _ words w (subst (λ (command : Option (Text × List Row)). IsRefusedBy command w) read.found refused);
+  wrong = is_wrong (program_app read.run read.replay) words w (subst (λ (command : Option (Text × List Row)). IsRefusedBy command w) read.found refused);
 }
 
 pub of_task : (words : List Text) (m : ArgMatches) (task : Task) → IsReading words (Ok m) → HasTextsOfRun m → HasTextOfReplay m → IsTaskOf (subcommand_name_of m) task
@@ -73,3 +74,8 @@ of_task words m task read texts text named meant = record {
   taken_by_replay = λ rows is. text rows (read.found ∙ is);
   wrong = tt;
 }
+
+pub of_answer : (words : List Text) (m : ArgMatches) (r : Result Task Wrong) → IsReading words (Ok m) → HasTextsOfRun m → HasTextOfReplay m
+    → IfOk r (IsTaskOf (subcommand_name_of m)) → IfOk r (IsMeant (subcommand_rows_of m)) → IfErr r (IsRefusedBy (subcommand_rows_of m)) → IsAskedBy words r
+of_answer words m (Ok task) read texts text named meant refused = of_task words m task read texts text named meant
+of_answer words m (Err w) read texts text named meant refused = of_wrong words m w read refused

@@ -2,7 +2,7 @@
 
 ghost use Rattle.std.specs.Prelude.{◌≡◌, ◌≤◌, ℕ, IfOk, IfSome, List, None, Some, codes};
 ghost use Rattle.clap.specs.Words.{first_value, found_of, rows_of};
-ghost use Rattle.dlsim.specs.Comparing.{AreFit, AreOptionsAt, IsComparisonAt, IsOptionalAt, IsShift, IsShiftAt, IsSource, IsTimeAt, shares_stdin};
+ghost use Rattle.dlsim.specs.Comparing.{AreFit, AreOptionsAt, IsComparisonAt, IsOptionalAt, IsReadAt, IsShift, IsShiftAt, IsSignedAt, IsSource, IsTimeAt, cut, shares_stdin};
 
 use crate::words::text_of;
 use clap::ArgMatches;
@@ -42,15 +42,34 @@ fn source_of(alloc: Global, text: &str) -> Result<Source, AllocError>
     }
 }
 
+/// The number at an option, where it has one.
+fn read_at(found: &ArgMatches<'_>, name: &str) -> Option<u64>
+    ensures { IsReadAt (rows_of (found_of found.now)) name.now result }
+{
+    found.get_one::<u64>(name)
+}
+
+/// The same of a number with a sign.
+fn signed_at(found: &ArgMatches<'_>, name: &str) -> Option<i64>
+    ensures { IsSignedAt (rows_of (found_of found.now)) name.now result }
+{
+    found.get_one::<i64>(name)
+}
+
+/// At most 10^9.
+fn cut(us: u64) -> u32
+    ensures value { result ≡ cut us }
+    ensures most { result ≤ 1000000000 }
+{
+    us.min(MOST_TIME) as u32
+}
+
 /// The number at `within`, at most 10^9. Clap has tested it, and knows its default.
 fn within_of(found: &ArgMatches<'_>) -> u32
     ensures most { result ≤ 1000000000 }
     ensures found { IsTimeAt (rows_of (found_of found.now)) (codes "within") result }
 {
-    found
-        .get_one::<u64>("within")
-        .unwrap_or(1000)
-        .min(MOST_TIME) as u32
+    cut(read_at(found, "within").unwrap_or(1000))
 }
 
 /// The number at `noise`, at most 10^9, where it is there.
@@ -58,9 +77,9 @@ fn noise_of(found: &ArgMatches<'_>) -> Option<u32>
     ensures most { IfSome result (λ us. us ≤ 1000000000) }
     ensures found { IsOptionalAt (rows_of (found_of found.now)) (codes "noise") result }
 {
-    match found.get_one::<u64>("noise") {
+    match read_at(found, "noise") {
         None => None,
-        Some(us) => Some(us.min(MOST_TIME) as u32),
+        Some(us) => Some(cut(us)),
     }
 }
 
@@ -69,7 +88,7 @@ fn shift_of(found: &ArgMatches<'_>) -> Option<i64>
     ensures within { IfSome result IsShift }
     ensures found { IsShiftAt (rows_of (found_of found.now)) (codes "shift") result }
 {
-    match found.get_one::<i64>("shift") {
+    match signed_at(found, "shift") {
         None => None,
         Some(us) => Some(us.clamp(LEAST_SHIFT, MOST_SHIFT)),
     }

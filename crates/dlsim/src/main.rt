@@ -47,7 +47,7 @@ fn name_of(source: &Source) -> &str {
 }
 
 /// Compares what two readers give, and writes the report to standard output.
-fn compare_readers<M: Read, R: Read>(
+fn compare_readers<M: Read + Drop, R: Read + Drop>(
     rt: &HostRuntime,
     model: M,
     recorded: R,
