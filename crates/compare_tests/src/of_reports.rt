@@ -92,7 +92,7 @@ fn what_differs_is_told(rt: HostRuntime) -> Result<(), Fail> {
 #[test]
 fn the_first_fault_is_told(rt: HostRuntime) {
     let (bad, none) = (
-        "\n\n a [0] 1.0: sched_switch: a:7 [-1] S ==> b:8\n",
+        "\n\n a [0] 1.000000: sched_switch: a:7 [-1] S ==> b:8\n",
         "# nothing\n",
     );
     let rows = [
