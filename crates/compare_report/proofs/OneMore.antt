@@ -24,7 +24,7 @@ one_more shift from until names tasks matchings n before after f was here same =
       each = λ j x t m d lt. ⊎_elim
           (λ less. subst (told j x t m) (sym (get_or_append_left before (f ∷ []) d j (omega (arith, less, was.as_many)))) (was.each j x t m d less))
           (λ more. let at : n ≡ j = omega (arith, more, lt) in
-              subst (told j x t m) (sym (last_is before f j d (omega (arith, at, was.as_many)))) (subst (λ (k : ℕ). told k x t m f) at (here x t m)))
+          subst (told j x t m) (sym (last_is before f j d (omega (arith, at, was.as_many)))) (subst (λ (k : ℕ). told k x t m f) at (here x t m)))
           (cases_lt j n);
     })
 

@@ -10,8 +10,8 @@ ghost use Rattle.compare_report.specs.Text.{shift_told, cpus_told, differences_t
 use crate::finding::{Finding, Missing};
 use crate::first::earliest;
 use compare_table::{
-    NoMemory, Place, Shift, put_cpus, put_header, put_missing, put_no_difference, put_other, put_row,
-    put_shift,
+    NoMemory, Place, Shift, put_cpus, put_header, put_missing, put_no_difference, put_other,
+    put_row, put_shift,
 };
 use std::alloc::{AllocError, Global};
 use trace_compare::NO_SHIFT;
@@ -59,11 +59,7 @@ fn matched_in(findings: &[Finding<'_>]) -> u128
 }
 
 /// Puts the line on CPUs behind a text, where it is asked for.
-fn put_asked_cpus(
-    out: &mut Vec<u8>,
-    cpus: bool,
-    findings: &[Finding<'_>],
-) -> Result<(), NoMemory>
+fn put_asked_cpus(out: &mut Vec<u8>, cpus: bool, findings: &[Finding<'_>]) -> Result<(), NoMemory>
     ensures { OnOk result (out.new.items ≡ out.old.items ++ cpus_told cpus findings.now) }
 {
     if cpus {

@@ -24,6 +24,7 @@ const LINUX_6: &str = "# tracer: nop
           filler-31967   [003] d..2.  1678.706053: sched_switch: prev_comm=filler prev_pid=31967 prev_prio=120 prev_state=R ==> next_comm=a next_pid=31968 next_prio=-1
                a-31968   [003] d..2.  1678.706109: sched_switch: prev_comm=a prev_pid=31968 prev_prio=-1 prev_state=X ==> next_comm=filler next_pid=31967 next_prio=120
 ";
+
 const REPORT: &str = "\
 shift 1678.696056 s
 #          task   runs recorded matched  start_p50 start_p95 start_max   end_p50   end_p95   end_max    cpu_us rec_cpu_us
@@ -37,6 +38,7 @@ const LATER: &str = " <idle>-0 [003] 7200.000000: sched_switch:    swapper/3:0 [
                a-7       [003] d..2  7200.003500: sched_switch: prev_comm=a prev_pid=7 prev_prio=-1 prev_state=S ==> next_comm=b next_pid=8 next_prio=120
  b-8 [000] 7200.005000: sched_switch: b:8 [120] R ==> a:7 [-1]
  a-7 [000] 7200.008001: sched_switch: a:7 [-1] S ==> swapper/0:0 [120]";
+
 const DIFFERENT: &str = "\
 shift 7200.000000 s
 #          task   runs recorded matched  start_p50 start_p95 start_max   end_p50   end_p95   end_max    cpu_us rec_cpu_us
@@ -70,7 +72,12 @@ fn report(
 
 #[test]
 fn a_recording_beside_the_model(rt: HostRuntime) -> Result<(), Fail> {
-    let text = report(rt.alloc(), MODEL.as_bytes(), LINUX_6.as_bytes(), asked(false))?;
+    let text = report(
+        rt.alloc(),
+        MODEL.as_bytes(),
+        LINUX_6.as_bytes(),
+        asked(false),
+    )?;
     assert_eq!(rt; text.as_slice(), REPORT.as_bytes());
     Ok(())
 }
@@ -84,15 +91,37 @@ fn what_differs_is_told(rt: HostRuntime) -> Result<(), Fail> {
 
 #[test]
 fn the_first_fault_is_told(rt: HostRuntime) {
-    let (bad, none) = ("\n\n a [0] 1.0: sched_switch: a:7 [-1] S ==> b:8\n", "# nothing\n");
+    let (bad, none) = (
+        "\n\n a [0] 1.000000: sched_switch: a:7 [-1] S ==> b:8\n",
+        "# nothing\n",
+    );
     let rows = [
-        (bad, none, CompareFault::BadLine { input: Input::Model, line: 3 }),
+        (
+            bad,
+            none,
+            CompareFault::BadLine {
+                input: Input::Model,
+                line: 3,
+            },
+        ),
         (none, bad, CompareFault::NoSwitch(Input::Model)),
-        (MODEL, bad, CompareFault::BadLine { input: Input::Recorded, line: 3 }),
+        (
+            MODEL,
+            bad,
+            CompareFault::BadLine {
+                input: Input::Recorded,
+                line: 3,
+            },
+        ),
         (MODEL, none, CompareFault::NoSwitch(Input::Recorded)),
     ];
     for (model, recorded, fault) in &rows {
-        match report(rt.alloc(), model.as_bytes(), recorded.as_bytes(), asked(false)) {
+        match report(
+            rt.alloc(),
+            model.as_bytes(),
+            recorded.as_bytes(),
+            asked(false),
+        ) {
             Err(found) => assert!(rt; found == *fault),
             Ok(_) => assert!(rt; false),
         }
@@ -105,7 +134,13 @@ fn a_reader_that_fails(rt: HostRuntime) -> Result<(), Fail> {
         let mut model = Counted::new(MODEL.as_bytes());
         let mut recorded = Counted::new(Giver::new(LATER.as_bytes(), bad));
         let mut writer = Counted::new(Vec::new(rt.alloc()));
-        let ended = compare_texts(rt.alloc(), &mut model, &mut recorded, &mut writer, asked(true));
+        let ended = compare_texts(
+            rt.alloc(),
+            &mut model,
+            &mut recorded,
+            &mut writer,
+            asked(true),
+        );
         assert!(rt; ended == Err(CompareFault::Read(Input::Recorded)));
         assert_eq!(rt; (recorded.faults(), writer.faults()), (1, 0));
         let written: Vec<u8> = writer.into_inner();
@@ -121,8 +156,19 @@ fn a_writer_that_fails(rt: HostRuntime) -> Result<(), Fail> {
         let mut recorded = Counted::new(LATER.as_bytes());
         let taker = Taker::new(rt.alloc(), 7, room, Some(ErrorKind::BrokenPipe));
         let mut writer = Counted::new(taker);
-        let ended = compare_texts(rt.alloc(), &mut model, &mut recorded, &mut writer, asked(true));
-        assert!(rt; ended == Err(CompareFault::Write { written: room as u64 }));
+        let ended = compare_texts(
+            rt.alloc(),
+            &mut model,
+            &mut recorded,
+            &mut writer,
+            asked(true),
+        );
+        assert!(rt;
+            ended
+                == Err(CompareFault::Write {
+                    written: room as u64
+                })
+        );
         let taker = writer.into_inner();
         assert_eq!(rt; taker.taken.as_slice(), &DIFFERENT.as_bytes()[..room]);
     }
@@ -131,14 +177,38 @@ fn a_writer_that_fails(rt: HostRuntime) -> Result<(), Fail> {
 
 #[test]
 fn hostile_bytes(rt: HostRuntime) -> Result<(), Fail> {
-    let model = b" x-1 [000] 0.000001: sched_switch: a:1 [0] S ==> \xff\0 =:b:2 [-1]\r\n\n x-1 [65535] 1099511627775.999999: sched_switch: ==> :0 [9]\xfe [-999999999999999999]";
-    let recorded = b"\0\xff [000] 1.0: sched_switch\n: sched_switch: \n9.999999: sched_switch: next_prio=\n";
-    match report(rt.alloc(), model.as_slice(), recorded.as_slice(), asked(true)) {
-        Err(fault) => assert!(rt; fault == CompareFault::BadLine { input: Input::Model, line: 3 }),
+    let model =
+        b" x-1 [000] 0.000001: sched_switch: a:1 [0] S ==> \xff\0 =:b:2 [-1]\r\n\n x-1 [65535] 1099511627775.999999: sched_switch: ==> :0 [9]\xfe [-999999999999999999]";
+    let recorded =
+        b"\0\xff [000] 1.0: sched_switch\n: sched_switch: \n9.999999: sched_switch: next_prio=\n";
+    match report(
+        rt.alloc(),
+        model.as_slice(),
+        recorded.as_slice(),
+        asked(true),
+    ) {
+        Err(fault) => assert!(rt;
+            fault
+                == CompareFault::BadLine {
+                    input: Input::Model,
+                    line: 3
+                }
+        ),
         Ok(_) => assert!(rt; false),
     }
-    match report(rt.alloc(), MODEL.as_bytes(), recorded.as_slice(), asked(true)) {
-        Err(fault) => assert!(rt; fault == CompareFault::BadLine { input: Input::Recorded, line: 3 }),
+    match report(
+        rt.alloc(),
+        MODEL.as_bytes(),
+        recorded.as_slice(),
+        asked(true),
+    ) {
+        Err(fault) => assert!(rt;
+            fault
+                == CompareFault::BadLine {
+                    input: Input::Recorded,
+                    line: 3
+                }
+        ),
         Ok(_) => assert!(rt; false),
     }
     Ok(())
