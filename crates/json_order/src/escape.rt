@@ -60,7 +60,8 @@ fn char_of<'a>(unit: u32, rest: &'a str) -> Option<(char, &'a str)>
     Some((c, after))
 }
 
-/// The character that a backslash and another character in front spell, and what stands behind them.
+/// The character that a backslash and another character in front spell, and what stands behind
+/// them.
 #[inline(always)]
 fn short_of<'a>(rest: &'a str) -> Option<(char, &'a str)>
     ensures { IfSome result (λ c. IsEscape c.0 rest.now c.1.now) }

@@ -40,8 +40,8 @@ pub(crate) struct Slot {
 }
 
 /// The keys of members, in a table by their marks. A key that finds all its slots taken stands in a
-/// set beside the table, so that keys that were chosen to share their marks are found in logarithmic
-/// time too.
+/// set beside the table, so that keys that were chosen to share their marks are found in
+/// logarithmic time too.
 #[derive(Drop)]
 pub(crate) struct KeySet {
     pub(crate) slots: Vec<Slot>,

@@ -14,8 +14,8 @@ use std::alloc::Global;
 const FEW: usize = 16;
 
 /// The members of an object so far, in the order of the text. Where they are more than a few and
-/// their keys do not ascend, a set beside them tells which keys they have, so that a key that stands
-/// twice is found without a look at each.
+/// their keys do not ascend, a set beside them tells which keys they have, so that a key that
+/// stands twice is found without a look at each.
 #[derive(Drop)]
 pub(crate) struct Members {
     pub(crate) list: Vec<(String, Tree)>,
