@@ -151,7 +151,7 @@ fn a_reader_that_fails(rt: HostRuntime) -> Result<(), Fail> {
 
 #[test]
 fn a_writer_that_fails(rt: HostRuntime) -> Result<(), Fail> {
-    for room in [0, 100, DIFFERENT.len() - 1] {
+    for room in [0, 100, 400] {
         let mut model = Counted::new(Giver::new(MODEL.as_bytes(), usize::MAX));
         let mut recorded = Counted::new(LATER.as_bytes());
         let taker = Taker::new(rt.alloc(), 7, room, Some(ErrorKind::BrokenPipe));
@@ -170,7 +170,8 @@ fn a_writer_that_fails(rt: HostRuntime) -> Result<(), Fail> {
                 })
         );
         let taker = writer.into_inner();
-        assert_eq!(rt; taker.taken.as_slice(), &DIFFERENT.as_bytes()[..room]);
+        assert_eq!(rt; taker.taken.len(), room);
+        assert!(rt; DIFFERENT.as_bytes().starts_with(taker.taken.as_slice()));
     }
     Ok(())
 }
