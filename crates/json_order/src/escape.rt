@@ -1,4 +1,4 @@
-ghost use Rattle.std.specs.Prelude.{◌≡◌, ◌<◌, ◌≤◌, length, take, drop, IfSome};
+ghost use Rattle.std.specs.Prelude.{◌≡◌, ◌<◌, ◌≤◌, drop, IfSome, MatchOption};
 ghost use Rattle.std.specs.Char.{digit_value};
 ghost use Rattle.json_order.specs.Grammar.{IsHex, IsUnit};
 ghost use Rattle.json_order.specs.private.AtOnce.{IsEscape, UnitEnds};
@@ -8,7 +8,7 @@ use crate::quote::short_escape;
 /// The value of a hexadecimal digit.
 #[inline(always)]
 fn digit_of(byte: u8) -> Option<u32>
-    ensures { IfSome result (λ d. (d ≡ digit_value byte) × (d < 16)) }
+    ensures { MatchOption result (16 ≤ digit_value byte) (λ d. (d ≡ digit_value byte) × (d < 16)) }
 {
     char::from(byte).to_digit(16)
 }

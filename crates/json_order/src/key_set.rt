@@ -1,4 +1,4 @@
-ghost use Rattle.std.specs.Prelude.{◌≡◌, ◌+◌, ◌<◌, ◌≤◌, [], length, take, IfOk, IfErr, OnOk};
+ghost use Rattle.std.specs.Prelude.{◌≡◌, ◌+◌, ◌/◌, ◌<◌, ◌≤◌, ◌↔◌, [], IsTrue, length, take, IfOk, IfErr, OnOk};
 ghost use Rattle.std.specs.List.{All};
 ghost use Rattle.json_order.specs.declared.fault.JsonKind.TheVariants.{Memory};
 ghost use Rattle.json_order.specs.Grammar.{has_key};
@@ -122,7 +122,9 @@ impl KeySet {
     }
 
     /// The table is more than half full with the keys of so many members.
-    pub(crate) fn is_full(&self, members: usize) -> bool {
+    pub(crate) fn is_full(&self, members: usize) -> bool
+        ensures { IsTrue result ↔ length self.now.slots.items / 2 < members }
+    {
         members > self.slots.len() / 2
     }
 
