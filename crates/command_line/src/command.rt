@@ -6,8 +6,10 @@ ghost use Rattle.clap.specs.Words.{rule_of};
 ghost use Rattle.command_line.specs.Commands.{AreTexts, HeldNames, IsCompare, IsProgram, IsReplay, IsRun, counted, file, flag, option, print_option, replay_texts, run_texts, tested};
 
 use crate::texts::{
-    ABOUT, ABOUT_END, CLIENTS_HELP, COMPARE_ABOUT, COMPARE_END, CPUS_HELP, MODEL_HELP, NOISE_HELP, RECORDED_HELP, SHIFT_HELP, WITHIN_HELP, DOMAINS_HELP, PERIOD_HELP, RECLAIM_HELP, REPLAY_ABOUT,
-    REPLAY_END, REPLAY_PRINT_HELP, RUN_ABOUT, RUN_END, RUN_PRINT_HELP, RUNTIME_HELP, WORKERS_HELP,
+    ABOUT, ABOUT_END, CLIENTS_HELP, COMPARE_ABOUT, COMPARE_END, CPUS_HELP, DOMAINS_HELP,
+    MODEL_HELP, NOISE_HELP, PERIOD_HELP, RECLAIM_HELP, RECORDED_HELP, REPLAY_ABOUT, REPLAY_END,
+    REPLAY_PRINT_HELP, RUN_ABOUT, RUN_END, RUN_PRINT_HELP, RUNTIME_HELP, SHIFT_HELP, WITHIN_HELP,
+    WORKERS_HELP,
 };
 use clap::builder::ValueParser;
 use clap::{Arg, ArgAction, Command};
@@ -120,8 +122,9 @@ fn within<'a>(alloc: Global) -> Arg<'a>
         { parser = Some (Unsigned 0 1000000000) } }
     ensures local { result.global ≡ false }
 {
-    option(alloc, "within", "US", "1000", WITHIN_HELP)
-        .value_parser(ValueParser::unsigned(0, MOST_TIME))
+    option(alloc, "within", "US", "1000", WITHIN_HELP).value_parser(ValueParser::unsigned(
+        0, MOST_TIME,
+    ))
 }
 
 /// The option that says which runs are noise.

@@ -1,12 +1,12 @@
 //! How a comparison of two traces ends.
 
-use crate::fault::write_one_line;
-use compare_report::{CompareFault, Input};
-use std::fmt;
-
 ghost use Rattle.std.specs.Prelude.{◌≡◌};
 ghost use Rattle.std.specs.Fmt.{WritesOnOk};
 ghost use Rattle.dl_session.specs.Comparing.{name_of, compare_status, compare_text, comparison_status, IsEndOfComparison};
+
+use crate::fault::write_one_line;
+use compare_report::{CompareFault, Input};
+use std::fmt;
 
 /// The names of two traces, as they are told: those of files, or `standard input`.
 #[derive(Clone, Copy, Debug)]
@@ -43,10 +43,7 @@ pub enum ComparisonEnding<'a> {
 
 impl<'a> ComparisonEnding<'a> {
     /// The end of a comparison, which says nothing, or the line of its fault.
-    pub fn of(
-        ended: Result<(), CompareFault>,
-        names: &TraceNames<'a>,
-    ) -> ComparisonEnding<'a>
+    pub fn of(ended: Result<(), CompareFault>, names: &TraceNames<'a>) -> ComparisonEnding<'a>
         ensures { IsEndOfComparison ended names.now result }
     {
         match ended {

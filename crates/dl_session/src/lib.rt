@@ -32,8 +32,8 @@ mod words;
 
 pub use admitting::admit_all;
 pub use calls_trace::ReplayPrint;
-pub use comparing::{ComparisonEnding, TraceNames};
 pub use compare_report::{CompareOptions, compare_texts};
+pub use comparing::{ComparisonEnding, TraceNames};
 pub use ending::Ending;
 pub use fault::{RefusedLine, SessionFault};
 pub use replaying::{replay, replay_as};

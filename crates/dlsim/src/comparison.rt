@@ -111,10 +111,7 @@ fn options_of(found: &ArgMatches<'_>) -> CompareOptions
 ///
 /// # Errors
 /// A growth was refused.
-pub(crate) fn comparison_of(
-    alloc: Global,
-    found: &ArgMatches<'_>,
-) -> Result<Comparison, AllocError>
+pub(crate) fn comparison_of(alloc: Global, found: &ArgMatches<'_>) -> Result<Comparison, AllocError>
     ensures fit { IfOk result (λ c. AreFit c.options) }
     ensures found { IfOk result (IsComparisonAt (rows_of (found_of found.now))) }
 {

@@ -80,9 +80,7 @@ fn compare(rt: &HostRuntime, comparison: &Comparison) -> Result<ExitCode, ExitCo
             let recorded = open_trace(rt, recorded)?;
             Ok(compare_readers(rt, rt.stdin(), recorded, comparison))
         }
-        (Source::Stdin, Source::Stdin) => {
-            Ok(end_comparison(rt, &ComparisonEnding::BothStdin))
-        }
+        (Source::Stdin, Source::Stdin) => { Ok(end_comparison(rt, &ComparisonEnding::BothStdin)) }
     }
 }
 
