@@ -254,7 +254,12 @@ fn end(alloc: Global, desk: Desk) -> (u64, u64, usize) {
 
 // What a row of calls by one client shows: the limit, the room for calls and for pieces, the calls,
 // and then the replies, with the sum of bandwidths, the word and the number of entries.
-type Row = ((u64, usize, usize), &'static [u8], &'static str, (u64, u64, usize));
+type Row = (
+    (u64, usize, usize),
+    &'static [u8],
+    &'static str,
+    (u64, u64, usize),
+);
 
 // full_book: the second admission is Full and its ticket comes back, as the word shows. regrade: 2 8
 // 8 to 4 8 8 fills the domain, 5 8 8 is too much, and there is no task 7.
@@ -298,7 +303,14 @@ fn played<R: Abort + Threads + Wait>(
 ) -> Result<(String, (u64, u64, usize)), Fail> {
     let (limit, history, pieces) = size;
     let limit = limit.clamp(10485, 1048576);
-    let mut desk = opened_with(rt, alloc, 1, limit, history.clamp(1, 65536), pieces.clamp(1, 4096))?;
+    let mut desk = opened_with(
+        rt,
+        alloc,
+        1,
+        limit,
+        history.clamp(1, 65536),
+        pieces.clamp(1, 4096),
+    )?;
     let got = replies(rt, alloc, &mut desk, text);
     let ends = end(alloc, desk);
     let mut said = String::new(alloc);

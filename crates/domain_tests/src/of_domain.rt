@@ -20,7 +20,10 @@ fn earliest_after(time: u64, segment: Segment) -> u64
 
 #[test]
 fn timer_cursor(rt: HostRuntime) -> Result<(), Fail> {
-    let timer = script(rt.alloc(), forever((4, 8, 8), &[Event::Run(4), Event::Timer(8)]))?;
+    let timer = script(
+        rt.alloc(),
+        forever((4, 8, 8), &[Event::Run(4), Event::Timer(8)]),
+    )?;
     let mut cursor = timer.cursor(0);
     let mut earliest = 0;
     for (time, segment) in [

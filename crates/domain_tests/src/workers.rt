@@ -48,10 +48,12 @@ pub(crate) fn admit(
     let given = params(worker.times, worker.reclaim)?;
     let name = Name::new(String::from_str(alloc, name)?)?;
     let script = script(alloc, worker)?;
-    Ok(match state.admit(number.clamp(1, 65535), name, given, 0, script) {
-        Ok(()) => Reply::Admitted,
-        Err(refused) => refused.reply,
-    })
+    Ok(
+        match state.admit(number.clamp(1, 65535), name, given, 0, script) {
+            Ok(()) => Reply::Admitted,
+            Err(refused) => refused.reply,
+        },
+    )
 }
 
 pub(crate) fn single_ticks(state: &mut State, ticks: u64) -> Result<(), Fail> {

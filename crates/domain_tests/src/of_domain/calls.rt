@@ -9,8 +9,20 @@ use std::test::Fail;
 /// Two tasks of half a CPU and of a quarter, which wait.
 fn two_that_wait(alloc: Global) -> Result<State, Fail> {
     let mut state = State::open(alloc, 1, UNIT)?;
-    admit(alloc, &mut state, 1, "T", forever((4, 8, 8), &[Event::Wait]))?;
-    admit(alloc, &mut state, 2, "T", forever((2, 8, 8), &[Event::Wait]))?;
+    admit(
+        alloc,
+        &mut state,
+        1,
+        "T",
+        forever((4, 8, 8), &[Event::Wait]),
+    )?;
+    admit(
+        alloc,
+        &mut state,
+        2,
+        "T",
+        forever((2, 8, 8), &[Event::Wait]),
+    )?;
     single_ticks(&mut state, 1)?;
     Ok(state)
 }

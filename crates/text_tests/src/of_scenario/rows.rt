@@ -19,7 +19,8 @@ const NO_TASKS: &str = r#"{"tasks":{},"global":{"duration":1}} => scenario 20
 [] => scenario 20"#;
 
 /// The order of members, and all that a scenario has.
-const ORDER: &str = r#"{"tasks":{"p":{"policy":"SCHED_DEADLINE","dl-runtime":5,"dl-period":10,"phases":{"light":{"loop":2,"run0":3,"sleep1":7},"heavy":{"run0":4,"sleep1":2,"run2":1}}}},"global":{"duration":0}} => Scenario { duration_us: 0, tasks: [TaskSpec { number: 1, name: Name { text: "p" }, attr: SchedAttr { policy: 6, flags: 0, runtime: 5000, deadline: 10000, period: 10000 }, cpus: None, delay: 0, script: Script { rounds: None, phases: [Phase { count: 2, events: [Run(3), Sleep(7)] }, Phase { count: 1, events: [Run(4), Sleep(2), Run(1)] }] } }] }"#;
+const ORDER: &str =
+    r#"{"tasks":{"p":{"policy":"SCHED_DEADLINE","dl-runtime":5,"dl-period":10,"phases":{"light":{"loop":2,"run0":3,"sleep1":7},"heavy":{"run0":4,"sleep1":2,"run2":1}}}},"global":{"duration":0}} => Scenario { duration_us: 0, tasks: [TaskSpec { number: 1, name: Name { text: "p" }, attr: SchedAttr { policy: 6, flags: 0, runtime: 5000, deadline: 10000, period: 10000 }, cpus: None, delay: 0, script: Script { rounds: None, phases: [Phase { count: 2, events: [Run(3), Sleep(7)] }, Phase { count: 1, events: [Run(4), Sleep(2), Run(1)] }] } }] }"#;
 
 const ROOTS: &str = r#"{"tasks":{"a":1}} => scenario 21
 {"tasks":{"a":1},"global":1} => scenario 21
