@@ -7,6 +7,7 @@ pub mod Switches
 pub mod Tick
 pub mod Calls
 pub mod Busy
+pub mod Happened
 pub mod Keys
 pub mod Run
 pub mod Views

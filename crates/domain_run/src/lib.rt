@@ -11,6 +11,7 @@ mod calls;
 mod change;
 mod charging;
 mod cursor;
+mod happened;
 mod index;
 mod name;
 mod numbers;
@@ -30,6 +31,7 @@ mod tournament;
 
 pub use call::{Call, Refused, Reply};
 pub use cursor::Cursor;
+pub use happened::{Happened, What};
 pub use name::Name;
 pub use no_memory::NoMemory;
 pub use running::Running;

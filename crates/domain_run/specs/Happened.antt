@@ -1,0 +1,146 @@
+-- What happens to the tasks of a domain, beside the switches: jobs that are released and end, budgets
+-- that are spent and replenished (own; job, release and deadline as in sched(7), "SCHED_DEADLINE",
+-- throttling and replenishment as in sched-deadline.rst, "2. Task scheduling").
+use Rattle.std.specs.Prelude.{ℕ, zero, suc, ◌+◌, ◌-◌, ◌==◌, Bool, true, false, not, ◌&&◌, ◌||◌, nat_lt, if◌then◌else◌, List, [], ◌∷◌, ◌++◌, map, filter, unwrap_or}
+use Rattle.std.specs.List.{flat_map}
+use Rattle.cbs_rules.specs.Serving.{charged}
+use Rattle.edf_pick.specs.Places.{stands}
+use Rattle.domain_run.specs.declared.task.Task.{Task}
+use Rattle.domain_run.specs.declared.script.Segment.{Segment}
+use Rattle.domain_run.specs.declared.script.Segment.TheVariants.{Run as RunFor, Until, Wait as WaitFor, End}
+use Rattle.domain_run.specs.declared.happened.What.{What}
+use Rattle.domain_run.specs.declared.happened.What.TheVariants.{JobEnds, NextReleased, Spent, Cut, Replenished, Released, WokenSpent}
+use Rattle.domain_run.specs.declared.happened.Happened.{Happened}
+use Rattle.domain_run.specs.declared.call.Call.{Call}
+use Rattle.domain_run.specs.declared.call.Call.TheVariants.{Admit, Regrade, Wake, Leave, Advance, Limit, Depart, Arrive}
+use Rattle.domain_run.specs.script.ScriptView.{CursorView}
+use Rattle.domain_run.specs.script.Unrolled.{event_at}
+use Rattle.domain_run.specs.script.Segments.{asked, is_late}
+use Rattle.domain_run.specs.Conditions.{is_throttled, is_over, has_come}
+use Rattle.domain_run.specs.Parts.{replenish_due, settled, is_listed, unblocked, ran}
+use Rattle.domain_run.specs.Domain.{Domain}
+use Rattle.domain_run.specs.Tick.{begun, rate_of, ticks}
+use Rattle.domain_run.specs.Calls.{reply_to, is_refusal, after_call, task_of}
+
+-- something that happens to a task at a time
+abbrev pub told : ℕ → Task → What → Happened
+told time t what = record { time = time; what = what; number = t.number; cpu = t.cpu }
+
+-- the deadline of its server
+abbrev pub due : Task → ℕ
+due t = unwrap_or t.server.deadline 0
+
+-- a job that is released at a time is due at the task's relative deadline
+abbrev pub job_due : ℕ → Task → ℕ
+job_due time t = time + t.params.deadline
+
+-- WHERE A TICK ENDS. A job ends where its script, asked at the end of its work, has anything but more
+-- work, or has that behind a late timer: so much work is the next job's
+abbrev pub told_by_segment : ℕ → Task → Bool → Segment → List Happened
+told_by_segment time t late (RunFor n) =
+    if late then told time t JobEnds ∷ told time t (NextReleased (job_due time t)) ∷ [] else []
+told_by_segment time t late (Until u) = told time t JobEnds ∷ []
+told_by_segment time t late WaitFor = told time t JobEnds ∷ []
+told_by_segment time t late End = told time t JobEnds ∷ []
+
+abbrev pub passes_late_timer : CursorView → ℕ → Bool
+passes_late_timer c time = is_late (event_at c.script c.place) c.reference time
+
+abbrev pub told_by_work : ℕ → Task → List Happened
+told_by_work time t =
+    if t.work == 0
+    then told_by_segment time t (passes_late_timer t.cursor time) (asked t.cursor time).segment
+    else []
+
+-- a running task that is throttled now has spent its budget
+abbrev pub told_by_budget : ℕ → Task → List Happened
+told_by_budget time t =
+    if is_throttled t.condition then told time t (Spent (due t)) ∷ [] else []
+
+-- of a task that ran a tick up to a time, at a rate
+abbrev pub told_by_run : ℕ → ℕ → Task → List Happened
+told_by_run time rate t =
+    told_by_work (time + 1) (record t { server = charged rate 1 t.server; work = t.work - 1 })
+    ++ told_by_budget (time + 1) (ran time rate t)
+
+abbrev pub told_if_ran : Domain → Task → List Happened
+told_if_ran d t = if stands t.number d.curr then told_by_run d.time (rate_of d t) t else []
+
+-- WHERE A TICK BEGINS. A throttled task whose deadline has come has a new one
+abbrev pub told_by_replenishment : ℕ → Task → List Happened
+told_by_replenishment time t =
+    if is_throttled t.condition && has_come time t.server.deadline
+    then told time t (Replenished (due (replenish_due time t))) ∷ [] else []
+
+-- a job is released where a script that was asked has work; a server without budget is throttled then
+abbrev pub told_by_wake : ℕ → Task → Task → Segment → List Happened
+told_by_wake time t woken (RunFor n) =
+    told time t (Released (job_due time t))
+    ∷ (if is_throttled woken.condition then told time t (WokenSpent (due woken)) ∷ [] else [])
+told_by_wake time t woken _ = []
+
+abbrev pub told_by_unblocking : ℕ → Task → List Happened
+told_by_unblocking time t =
+    if is_over time t.condition
+    then told_by_wake time t (unblocked time t) (asked t.cursor time).segment else []
+
+-- THE ORDER: by what happens, then by CPU, then by number
+abbrev pub rank : What → ℕ
+rank JobEnds = 0
+rank (NextReleased deadline) = 1
+rank (Spent deadline) = 2
+rank Cut = 3
+rank (Replenished deadline) = 4
+rank (Released deadline) = 5
+rank (WokenSpent deadline) = 6
+
+abbrev pub is_first : Happened → Happened → Bool
+is_first a b =
+    nat_lt (rank a.what) (rank b.what) || (rank a.what == rank b.what
+    && (nat_lt a.cpu b.cpu || (a.cpu == b.cpu && nat_lt a.number b.number)))
+
+-- in its place among others in order
+abbrev pub with_happened : Happened → List Happened → List Happened
+with_happened h [] = h ∷ []
+with_happened h (other ∷ others) =
+    if is_first h other then h ∷ other ∷ others else other ∷ with_happened h others
+
+abbrev pub in_order : List Happened → List Happened
+in_order [] = []
+in_order (h ∷ others) = with_happened h (in_order others)
+
+-- A TICK: what its beginning tells, and what its end
+abbrev pub told_by_beginning : Domain → List Happened
+told_by_beginning d = in_order (flat_map (told_by_replenishment d.time) d.tasks
+    ++ flat_map (told_by_unblocking d.time)
+    (filter is_listed (map (settled d.time) (map (replenish_due d.time) d.tasks))))
+
+abbrev pub told_by_end : Domain → List Happened
+told_by_end d = in_order (flat_map (told_if_ran d) d.tasks)
+
+abbrev pub told_by_tick : Domain → List Happened
+told_by_tick d = told_by_beginning d ++ told_by_end (begun d)
+
+-- of so many ticks
+abbrev pub told_by_ticks : ℕ → Domain → List Happened
+told_by_ticks zero d = []
+told_by_ticks (suc n) d = told_by_ticks n d ++ told_by_tick (ticks n d)
+
+-- A CALL. Where a task ends by a call, or goes to another domain, its job is cut
+abbrev pub told_by_cut : Domain → ℕ → List Happened
+told_by_cut d number =
+    map (λ t. told d.time t Cut) (filter (λ t. t.number == number) d.tasks)
+
+abbrev pub told_by_granted : Domain → Call → List Happened
+told_by_granted d (Advance n) = told_by_ticks n d
+told_by_granted d (Leave number) = told_by_cut d number
+told_by_granted d (Depart number) = told_by_cut d number
+told_by_granted d _ = []
+
+abbrev pub told_by_call : Domain → Call → List Happened
+told_by_call d c = if is_refusal (reply_to d c) then [] else told_by_granted d c
+
+-- A RUN
+abbrev pub told_by_calls : Domain → List Call → List Happened
+told_by_calls d [] = []
+told_by_calls d (c ∷ cs) = told_by_call d c ++ told_by_calls (after_call d c) cs

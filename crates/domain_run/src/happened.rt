@@ -1,0 +1,36 @@
+//! What happens to a task in a run, beside the switches (own).
+
+/// What happens to a task. Of what happens at one time, this is the order. A deadline is a time in
+/// microseconds.
+#[derive(Clone, Copy, Debug, PartialEq, Eq)]
+pub enum What {
+    /// A tick ends with its job: at the end of its work its script was asked, and passed a sleep, a
+    /// timer or a wait, or has ended.
+    JobEnds,
+    /// A tick ends with its job, and its next one is released at once, since the timer was late. It
+    /// is due its relative deadline later.
+    NextReleased { deadline: u64 },
+    /// A tick ends with its budget, and it is throttled, with this deadline of its server.
+    Spent { deadline: u64 },
+    /// A call ends it, or takes it to another domain: a job that it has is cut.
+    Cut,
+    /// A tick begins, and it is throttled no more. Its server has this new deadline.
+    Replenished { deadline: u64 },
+    /// A tick begins with a job that is released to it. It is due its relative deadline later.
+    Released { deadline: u64 },
+    /// It wakes so without budget, and is throttled at once, with this deadline of its server.
+    WokenSpent { deadline: u64 },
+}
+
+/// Something that happens to a task.
+#[derive(Clone, Copy, Debug, PartialEq, Eq)]
+pub struct Happened {
+    /// When, in microseconds.
+    pub time: u64,
+    /// What.
+    pub what: What,
+    /// The number of the task.
+    pub number: u32,
+    /// The CPU of the domain to which it belongs then, from 0.
+    pub cpu: u16,
+}
