@@ -1,7 +1,7 @@
 -- What happens to the tasks of a domain, beside the switches: jobs that are released and end, budgets
 -- that are spent and replenished (own; job, release and deadline as in sched(7), "SCHED_DEADLINE",
 -- throttling and replenishment as in sched-deadline.rst, "2. Task scheduling").
-use Rattle.std.specs.Prelude.{ℕ, zero, suc, ◌+◌, ◌-◌, ◌==◌, Bool, true, false, not, ◌&&◌, ◌||◌, nat_lt, if◌then◌else◌, List, [], ◌∷◌, ◌++◌, map, filter, unwrap_or}
+use Rattle.std.specs.Prelude.{ℕ, zero, suc, ◌+◌, ◌-◌, ◌==◌, Bool, ◌&&◌, ◌||◌, nat_lt, if◌then◌else◌, List, [], ◌∷◌, ◌++◌, map, filter, unwrap_or}
 use Rattle.std.specs.List.{flat_map}
 use Rattle.cbs_rules.specs.Serving.{charged}
 use Rattle.edf_pick.specs.Places.{stands}
@@ -12,7 +12,7 @@ use Rattle.domain_run.specs.declared.happened.What.{What}
 use Rattle.domain_run.specs.declared.happened.What.TheVariants.{JobEnds, NextReleased, Spent, Cut, Replenished, Released, WokenSpent}
 use Rattle.domain_run.specs.declared.happened.Happened.{Happened}
 use Rattle.domain_run.specs.declared.call.Call.{Call}
-use Rattle.domain_run.specs.declared.call.Call.TheVariants.{Admit, Regrade, Wake, Leave, Advance, Limit, Depart, Arrive}
+use Rattle.domain_run.specs.declared.call.Call.TheVariants.{Leave, Advance, Depart}
 use Rattle.domain_run.specs.script.ScriptView.{CursorView}
 use Rattle.domain_run.specs.script.Unrolled.{event_at}
 use Rattle.domain_run.specs.script.Segments.{asked, is_late}
@@ -20,7 +20,7 @@ use Rattle.domain_run.specs.Conditions.{is_throttled, is_over, has_come}
 use Rattle.domain_run.specs.Parts.{replenish_due, settled, is_listed, unblocked, ran}
 use Rattle.domain_run.specs.Domain.{Domain}
 use Rattle.domain_run.specs.Tick.{begun, rate_of, ticks}
-use Rattle.domain_run.specs.Calls.{reply_to, is_refusal, after_call, task_of}
+use Rattle.domain_run.specs.Calls.{reply_to, is_refusal, after_call}
 
 -- something that happens to a task at a time
 abbrev pub told : ℕ → Task → What → Happened

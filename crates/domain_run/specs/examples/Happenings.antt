@@ -8,7 +8,7 @@ use Rattle.domain_run.specs.declared.call.Call.{Call}
 use Rattle.domain_run.specs.declared.call.Call.TheVariants.{Leave, Advance, Regrade}
 use Rattle.domain_run.specs.Domain.{opened}
 use Rattle.domain_run.specs.Happened.{told_by_calls}
-use Rattle.domain_run.specs.examples.Calling.{plain, reclaiming, once, forever, admit}
+use Rattle.domain_run.specs.examples.Calling.{plain, once, forever, admit}
 
 -- to which task on which CPU, at a time
 abbrev at : ℕ → ℕ → ℕ → What → Happened
