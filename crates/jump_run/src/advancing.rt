@@ -1,14 +1,16 @@
 //! From event to event.
 
-ghost use Rattle.std.specs.Prelude.{◌≡◌, ◌<◌, ◌≤◌, ◌^◌, ◌+◌, IfOk, OnErr, vec_capacity};
+ghost use Rattle.std.specs.Prelude.{◌≡◌, [], ◌<◌, ◌≤◌, ◌^◌, ◌+◌, IfOk, OnErr, vec_capacity};
 ghost use Rattle.domain_run.specs.Tick.{ticks as ticks_of};
+ghost use Rattle.domain_run.specs.Happened.{told_by_ticks};
 ghost use Rattle.domain_run.specs.Keys.{AreKept};
+ghost use Rattle.domain_run.specs.Log.{Tells};
 
 use crate::alone;
 use crate::crew::{self, Crew, Lists};
 use crate::plan::Room;
 use crate::silent::Silent;
-use domain_run::{NoMemory, State};
+use domain_run::{Log, NoMemory, State};
 use std::alloc::Global;
 use std::sync::Wait;
 use std::thread::Threads;
@@ -20,9 +22,15 @@ pub struct Done {
     pub ticks: u64,
 }
 
-/// One event and the ticks up to the next: how many they were. `Err` where room for the event's
-/// switches was refused.
-fn jump<G: Turn>(state: &mut State, most: u64, room: &mut Room, turn: &G) -> Result<u64, NoMemory>
+/// One event and the ticks up to the next, which the log is told: how many they were. `Err` where
+/// room for the event's switches, or in the log, was refused.
+fn jump<G: Turn>(
+    state: &mut State,
+    most: u64,
+    room: &mut Room,
+    turn: &G,
+    log: &mut Log,
+) -> Result<u64, NoMemory>
     requires some { 0 < most }
     requires early { state.old.time + most ≤ 2 ^ 42 }
     ensures some { IfOk result (λ made. 0 < made) }
@@ -30,10 +38,12 @@ fn jump<G: Turn>(state: &mut State, most: u64, room: &mut Room, turn: &G) -> Res
     ensures ok { IfOk result (λ made. state.new ≡ ticks_of made state.old) }
     ensures err { OnErr result (state.new ≡ state.old) }
     ensures keys { AreKept state.old.tasks state.new.tasks }
+    ensures told { IfOk result (λ made. Tells log.old (told_by_ticks made state.old) log.new) }
+    ensures untold { OnErr result (Tells log.old [] log.new) }
 {
-    state.begin()?;
+    state.begin_told(log)?;
     let span = alone::make(state, most, room, turn);
-    state.finish(span.ticks, &room.budgets[..span.count]);
+    state.finish_told(span.ticks, &room.budgets[..span.count], log);
     Ok(span.ticks)
 }
 
@@ -44,6 +54,7 @@ fn jump_with<R: Threads + Wait, G: Turn>(
     most: u64,
     lists: &mut Lists,
     room: &mut Room,
+    log: &mut Log,
 ) -> Result<u64, NoMemory>
     requires some { 0 < most }
     requires early { state.old.time + most ≤ 2 ^ 42 }
@@ -54,26 +65,29 @@ fn jump_with<R: Threads + Wait, G: Turn>(
     ensures ok { IfOk result (λ made. state.new ≡ ticks_of made state.old) }
     ensures err { OnErr result (state.new ≡ state.old) }
     ensures keys { AreKept state.old.tasks state.new.tasks }
+    ensures told { IfOk result (λ made. Tells log.old (told_by_ticks made state.old) log.new) }
+    ensures untold { OnErr result (Tells log.old [] log.new) }
     ensures plans { vec_capacity lists.new.plans ≡ 64 }
     ensures slices { vec_capacity lists.new.slices ≡ 64 }
 {
-    state.begin()?;
+    state.begin_told(log)?;
     let span = crew::make(crew, state, most, lists, room);
-    state.finish(span.ticks, &room.budgets[..span.count]);
+    state.finish_told(span.ticks, &room.budgets[..span.count], log);
     Ok(span.ticks)
 }
 
-/// As [`advance`], with the turns of one piece.
-fn advance_alone<G: Turn>(state: &mut State, n: u64, turn: &G) -> Done
+/// As [`advance_told`], with the turns of one piece.
+fn advance_alone<G: Turn>(state: &mut State, n: u64, turn: &G, log: &mut Log) -> Done
     requires { state.old.time + n ≤ 2 ^ 42 }
     ensures state { state.new ≡ ticks_of result.ticks state.old }
     ensures most { result.ticks ≤ n }
     ensures keys { AreKept state.old.tasks state.new.tasks }
+    ensures told { Tells log.old (told_by_ticks result.ticks state.old) log.new }
 {
     let mut room = Room::new();
     let mut ticks = 0;
     'events: while ticks < n {
-        let Ok(made) = jump(state, n - ticks, &mut room, turn) else {
+        let Ok(made) = jump(state, n - ticks, &mut room, turn, log) else {
             break;
         };
         ticks += made;
@@ -81,12 +95,13 @@ fn advance_alone<G: Turn>(state: &mut State, n: u64, turn: &G) -> Done
     Done { ticks }
 }
 
-/// As [`advance`], by several workers.
+/// As [`advance_told`], by several workers.
 fn advance_by<R: Threads + Wait, G: Turn>(
     crew: &Crew<'_, R, G>,
     state: &mut State,
     n: u64,
     mut lists: Lists,
+    log: &mut Log,
 ) -> Done
     requires early { state.old.time + n ≤ 2 ^ 42 }
     requires plans { vec_capacity lists.plans ≡ 64 }
@@ -94,11 +109,12 @@ fn advance_by<R: Threads + Wait, G: Turn>(
     ensures state { state.new ≡ ticks_of result.ticks state.old }
     ensures most { result.ticks ≤ n }
     ensures keys { AreKept state.old.tasks state.new.tasks }
+    ensures told { Tells log.old (told_by_ticks result.ticks state.old) log.new }
 {
     let mut room = Room::new();
     let mut ticks = 0;
     'events: while ticks < n {
-        let Ok(made) = jump_with(crew, state, n - ticks, &mut lists, &mut room) else {
+        let Ok(made) = jump_with(crew, state, n - ticks, &mut lists, &mut room, log) else {
             break;
         };
         ticks += made;
@@ -117,7 +133,21 @@ pub fn advance(state: &mut State, n: u64) -> Done
     ensures most { result.ticks ≤ n }
     ensures keys { AreKept state.old.tasks state.new.tasks }
 {
-    advance_alone(state, n, &Silent)
+    let mut log = state.silent();
+    advance_alone(state, n, &Silent, &mut log)
+}
+
+/// As [`advance`], and the log is told what happens in these ticks, in the order of "Happened".
+/// Room for what an event tells is made before the event, as for its switches: where it is refused,
+/// the ticks made so far stand, and the log has what they tell.
+pub fn advance_told(state: &mut State, n: u64, log: &mut Log) -> Done
+    requires { state.old.time + n ≤ 2 ^ 42 }
+    ensures state { state.new ≡ ticks_of result.ticks state.old }
+    ensures most { result.ticks ≤ n }
+    ensures keys { AreKept state.old.tasks state.new.tasks }
+    ensures told { Tells log.old (told_by_ticks result.ticks state.old) log.new }
+{
+    advance_alone(state, n, &Silent, log)
 }
 
 /// As [`advance`], by so many workers at most (1 to 8 are meant): before each jump the rates of the
@@ -141,11 +171,33 @@ pub fn advance_with<R: Threads + Wait, G: Turn>(
     ensures most { result.ticks ≤ n }
     ensures keys { AreKept state.old.tasks state.new.tasks }
 {
+    let mut log = state.silent();
+    advance_with_told(rt, alloc, state, n, workers, turn, &mut log)
+}
+
+/// As [`advance_with`], and the log is told as by [`advance_told`]: the number of workers changes
+/// nothing that it is told.
+pub fn advance_with_told<R: Threads + Wait, G: Turn>(
+    rt: &R,
+    alloc: Global,
+    state: &mut State,
+    n: u64,
+    workers: usize,
+    turn: &G,
+    log: &mut Log,
+) -> Done
+    requires workers { 0 < workers }
+    requires early { state.old.time + n ≤ 2 ^ 42 }
+    ensures state { state.new ≡ ticks_of result.ticks state.old }
+    ensures most { result.ticks ≤ n }
+    ensures keys { AreKept state.old.tasks state.new.tasks }
+    ensures told { Tells log.old (told_by_ticks result.ticks state.old) log.new }
+{
     let Some(crew) = Crew::of(rt, alloc, workers, turn) else {
-        return advance_alone(state, n, turn);
+        return advance_alone(state, n, turn, log);
     };
     let Ok(lists) = crew.lists() else {
-        return advance_alone(state, n, turn);
+        return advance_alone(state, n, turn, log);
     };
-    advance_by(&crew, state, n, lists)
+    advance_by(&crew, state, n, lists, log)
 }

@@ -1,6 +1,8 @@
 use Rattle.std.proofs.Common.{◌≡◌, ◌≤◌, ◌-◌}
 use Rattle.domain_run.specs.Tick.{ticks}
+use Rattle.domain_run.specs.Happened.{told_by_ticks}
 use Rattle.domain_run.specs.Keys.{AreKept}
+use Rattle.domain_run.specs.Log.{Tells}
 use Rattle.jump_run.proofs.advancing.advance_alone.Given as goal
 
 abbrev pub invariant-events : goal.invariant-events
@@ -8,6 +10,7 @@ invariant-events g l = record {
   state : l.state ≡ ticks l.ticks l.fn.state;
   most : l.ticks ≤ l.n;
   keys : AreKept l.fn.state.tasks l.state.tasks;
+  told : Tells l.fn.log (told_by_ticks l.ticks l.fn.state) l.log;
 }
 
 abbrev pub decreases-events : goal.decreases-events
