@@ -3,6 +3,7 @@
 mod against_ticks;
 mod by_workers;
 mod limits;
+mod told;
 mod turns;
 
 use self::against_ticks::single_ticks;
