@@ -1,13 +1,15 @@
 //! The book of a domain: what a client does to it under its lock.
 
-ghost use Rattle.std.specs.Prelude.{◌≡◌, ◌<◌, ◌≤◌, ◌+◌, ◌^◌, ◌++◌, [], ℕ, length, map, All, IfOk, IfErr, IfSome, IfNone, slice_get};
+ghost use Rattle.std.specs.Prelude.{◌≡◌, ◌<◌, ◌≤◌, ◌+◌, ◌^◌, ◌++◌, [], ℕ, length, map, All, IfOk, IfErr, OnErr, IfSome, IfNone, slice_get};
 ghost use Rattle.std.specs.Option.{option_to_list};
 ghost use Rattle.attr_check.specs.Ratio.{cap};
 ghost use Rattle.bw_gate.specs.Pieces.{cpus_of};
 ghost use Rattle.domain_run.specs.declared.call.Call.TheVariants as Call;
 ghost use Rattle.domain_run.specs.Tick as tick;
 ghost use Rattle.domain_run.specs.Domain.{IsLimit};
+ghost use Rattle.domain_run.specs.Happened.{told_by_ticks};
 ghost use Rattle.domain_run.specs.Keys.{AreKept};
+ghost use Rattle.domain_run.specs.Log.{Tells};
 ghost use Rattle.call_book.specs.Pieces.{HoldsTickets};
 ghost use Rattle.call_book.specs.private.Kept.{IsAsked, IsLimitAsked};
 
@@ -20,7 +22,7 @@ use crate::book::stock::Stock;
 use crate::section::Entry;
 use attr_check::Params;
 use bw_gate::{Blank, Gate, Ticket, used_of};
-use domain_run::{Call, NoMemory, Reply, State};
+use domain_run::{Call, Log, NoMemory, Reply, State};
 use jump_run::Silent;
 pub use moving::{Move, MoveFault, move_task};
 use std::alloc::Global;
@@ -177,7 +179,7 @@ impl Domain {
     ghost use Rattle.bw_gate.specs.Pieces.{sum_of};
     ghost use Rattle.call_book.specs.Pieces.{IsTicketOf, HoldsTickets};
     ghost use Rattle.call_book.specs.Book.{own_entries, state_of, HasItsLimit, IsBookHistory, IsPassOf, EntersAlone, IsRefusedFull};
-    ghost use Rattle.call_book.specs.BookAnswers.{IsAdmit, IsRegraded, IsAdvanced, IsNotAdvanced};
+    ghost use Rattle.call_book.specs.BookAnswers.{IsAdmit, IsRegraded, IsAdvanced, IsNotAdvanced, TellsAdvance};
     ghost use Rattle.call_book.specs.LimitAnswers.{AnswersLimit, blank_of};
 
     /// An empty book of one of the gate's domains, of its 1 to 64 CPUs, that may give away `limit`
@@ -395,10 +397,32 @@ impl Domain {
         ensures done { IfOk result (IsAdvanced self.old self.new pass.old pass.new n) }
         ensures stopped { IfErr result (IsNotAdvanced self.old self.new pass.old pass.new) }
     {
+        let mut log = self.state.silent();
+        self.advance_told(rt, pass, gate, n, &mut log)
+    }
+
+    /// As [`Domain::advance`], and the log is told what happens in the ticks that were made, in
+    /// the order of "Happened". The book keeps no log. Where it refuses, nothing is told.
+    pub fn advance_told<R: Threads + Wait>(
+        &mut self,
+        rt: &R,
+        pass: &mut Pass,
+        gate: &Gate,
+        n: u64,
+        log: &mut Log,
+    ) -> Result<Reply, AdvanceError>
+        requires pass { IsPassOf self.old pass.old }
+        requires gate { gate.now ≡ self.old.gate }
+        requires call { IsCall (Call.Advance n) }
+        ensures done { IfOk result (IsAdvanced self.old self.new pass.old pass.new n) }
+        ensures stopped { IfErr result (IsNotAdvanced self.old self.new pass.old pass.new) }
+        ensures told { IfOk result (TellsAdvance self.old log.old log.new) }
+        ensures untold { OnErr result (Tells log.old [] log.new) }
+    {
         if self.ledger.is_full() {
             return Err(AdvanceError::Full);
         }
-        let ticks = make_ticks(rt, self.alloc, &mut self.state, n, self.workers);
+        let ticks = make_ticks(rt, self.alloc, &mut self.state, n, self.workers, log);
         if ticks == 0 {
             return Err(AdvanceError::Memory);
         }
@@ -530,19 +554,22 @@ fn sharing(cpus: u32, workers: usize) -> usize
     workers.min(cpus as usize / LEAST_PIECE).max(1)
 }
 
-/// How many of so many ticks were made: fewer only where a growth was refused.
+/// How many of so many ticks were made, which the log is told: fewer only where a growth was
+/// refused.
 fn make_ticks<R: Threads + Wait>(
     rt: &R,
     alloc: Global,
     state: &mut State,
     n: u64,
     workers: Workers,
+    log: &mut Log,
 ) -> u64
     requires { state.old.time + n ≤ 2 ^ 42 }
     ensures most { result ≤ n }
     ensures state { state.new ≡ tick.ticks result state.old }
     ensures keys { AreKept state.old.tasks state.new.tasks }
+    ensures told { Tells log.old (told_by_ticks result state.old) log.new }
 {
     let workers = sharing(state.cpus(), workers.count);
-    jump_run::advance_with(rt, alloc, state, n, workers, &Silent).ticks
+    jump_run::advance_with_told(rt, alloc, state, n, workers, &Silent, log).ticks
 }
