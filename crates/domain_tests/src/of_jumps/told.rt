@@ -83,7 +83,10 @@ fn a_late_timer_ends_its_job(rt: HostRuntime) -> Result<(), Fail> {
     let workers = [forever((6, 8, 8), &[Event::Run(6), Event::Timer(4)])];
     for step in [1, 2, 3, 9] {
         let (log, all) = told(rt.alloc(), 1, &workers, 9, step)?;
-        assert!(rt; all && log.happened() == LATE.as_slice(), "in steps of {step}");
+        assert!(rt;
+            all && log.happened() == LATE.as_slice(),
+            "in steps of {step}"
+        );
     }
     Ok(())
 }
