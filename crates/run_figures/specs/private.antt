@@ -1,0 +1,5 @@
+pub mod Places
+pub mod Telling
+pub mod Running
+pub mod Lines
+pub mod Putting
