@@ -1,6 +1,6 @@
 //! Where a task stands, by its number.
 
-ghost use Rattle.std.specs.Prelude.{◌≡◌, ◌≢◌, ◌<◌, IfOk, IfSome, All, AllPairs, length, map};
+ghost use Rattle.std.specs.Prelude.{◌≡◌, ◌≢◌, ◌<◌, IfOk, IfSome, IfNone, All, AllPairs, length, map};
 ghost use Rattle.run_figures.specs.private.Places as places;
 ghost use Rattle.run_figures.specs.Runs.{AreTasks};
 
@@ -40,14 +40,11 @@ fn numbers_of(alloc: Global, tasks: &[Admitted]) -> Result<Vec<u32>, NoMemory>
 /// The index of numbers below 65536.
 fn index_of(alloc: Global, numbers: &[u32]) -> Result<Vec<usize>, NoMemory>
     requires small { All (λ n. n < 65536) numbers.now }
-    ensures { IfOk result (λ v. places.IsIndex numbers.now v.items) }
+    ensures { IfOk result (λ v. places.IsIndex numbers.now (length numbers.now) v.items) }
 {
     let mut codes = vec![in alloc; 0usize; 65536]?;
     for (place, number) in numbers.iter().enumerate() {
-        let at = *number as usize;
-        if codes[at] == 0 {
-            codes[at] = place + 1;
-        }
+        codes[*number as usize] = place + 1;
     }
     Ok(codes)
 }
@@ -64,7 +61,8 @@ impl Places {
 
     /// The place of a number.
     pub(crate) fn find(&self, number: u32) -> Option<usize>
-        ensures place { result ≡ places.place_of self.now number }
+        ensures found { IfSome result (places.IsAt self.now number) }
+        ensures absent { IfNone result (places.IsAbsent self.now number) }
         ensures apart { AllPairs (λ a b. a ≢ b) self.now }
     {
         match self.codes.get(number as usize) {

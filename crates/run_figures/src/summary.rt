@@ -1,6 +1,6 @@
 //! The figures of a run, put together.
 
-ghost use Rattle.std.specs.Prelude.{◌≡◌, ◌<◌, ◌-◌, ◌*◌, ◌≤◌, ◌^◌, IfOk, OnOk, IfSome, All, map, length, slice_index_or};
+ghost use Rattle.std.specs.Prelude.{◌≡◌, ◌<◌, ◌-◌, ◌^◌, IfOk, All, map, length};
 ghost use Rattle.run_figures.specs.Figures as figures;
 ghost use Rattle.run_figures.specs.Laws as laws;
 ghost use Rattle.run_figures.specs.Runs.{IsRun, view_of};
@@ -34,7 +34,6 @@ fn responses_of(ended: &Ended) -> Responses
 /// The figures of a task, where the run ends at this time.
 fn figures_of(task: &Admitted, told: &Told, ran: &Ran, end: u64) -> TaskFigures
     requires room { telling.IsWithin (2 ^ 64 - 2) told.now }
-    requires some { IfSome told.now.counts.ended (λ e. 0 < e.count) }
     ensures { result ≡ putting.put_task end task.now told.now ran.now }
 {
     let counts = with_over(told.counts, told.job, end);
@@ -67,7 +66,6 @@ fn all_figures(
     requires told { length told.now ≡ length tasks.now }
     requires ran { length ran.now ≡ length tasks.now }
     requires room { All (telling.IsWithin (2 ^ 64 - 2)) told.now }
-    requires some { All (λ t. IfSome t.counts.ended (λ e. 0 < e.count)) told.now }
     ensures { IfOk result (λ v. v.items ≡ putting.put_all end tasks.now told.now ran.now) }
 {
     let mut all = Vec::with_capacity(alloc, tasks.len())?;

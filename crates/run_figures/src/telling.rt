@@ -1,6 +1,6 @@
 //! What happened and who was preempted, told of all tasks at once.
 
-ghost use Rattle.std.specs.Prelude.{◌≡◌, ◌-◌, ◌+◌, ◌≤◌, ◌<◌, ◌^◌, nat_le, IfOk, All, AllPairs, IsTrue, map, length, take, prefix_len};
+ghost use Rattle.std.specs.Prelude.{ℕ, ◌≡◌, ◌-◌, ◌+◌, ◌≤◌, ◌<◌, ◌^◌, nat_le, IfOk, All, AllPairs, IsTrue, map, length, take, prefix_len};
 ghost use Rattle.domain_run.specs.Switches.{is_before};
 ghost use Rattle.run_figures.specs.Runs as runs;
 ghost use Rattle.run_figures.specs.private.Telling as telling;
@@ -15,7 +15,9 @@ use std::alloc::Global;
 fn tell(told: &mut Vec<Told>, places: &Places, happened: &Happened, time: u64)
     requires keyed { map (λ t. t.number) told.old.items ≡ places.now }
     requires room { All (telling.IsWithin (2 ^ 64 - 2)) told.old.items }
-    ensures { told.new.items ≡ map (λ t. telling.told_if time t happened.now) told.old.items }
+    ensures told { told.new.items ≡ map (λ t. telling.told_if time t happened.now) told.old.items }
+    ensures within { (n : ℕ) → All (telling.IsWithin n) told.old.items
+        → All (telling.IsWithin (n + 1)) told.new.items }
 {
     if let Some(place) = places.find(happened.number) {
         let after = told_after(&told[place], happened, time);
@@ -36,6 +38,8 @@ fn tell_until(
     ensures told { told.new.items
         ≡ map (telling.told_all end (take result happened.now)) told.old.items }
     ensures count { result ≡ prefix_len (λ h. nat_le h.time time) happened.now }
+    ensures within { (n : ℕ) → All (telling.IsWithin n) told.old.items
+        → All (telling.IsWithin (n + result)) told.new.items }
 {
     let mut count = 0;
     for entry in happened {
@@ -52,7 +56,9 @@ fn tell_until(
 fn tell_all(told: &mut Vec<Told>, places: &Places, happened: &[Happened], end: u64)
     requires keyed { map (λ t. t.number) told.old.items ≡ places.now }
     requires room { All (telling.HasRoomFor (length happened.now)) told.old.items }
-    ensures { told.new.items ≡ map (telling.told_all end happened.now) told.old.items }
+    ensures told { told.new.items ≡ map (telling.told_all end happened.now) told.old.items }
+    ensures within { (n : ℕ) → All (telling.IsWithin n) told.old.items
+        → All (telling.IsWithin (n + length happened.now)) told.new.items }
 {
     for entry in happened {
         tell(told, places, entry, end);
@@ -63,7 +69,9 @@ fn tell_all(told: &mut Vec<Told>, places: &Places, happened: &[Happened], end: u
 fn tell_switch(told: &mut Vec<Told>, places: &Places, switch: &Switch)
     requires keyed { map (λ t. t.number) told.old.items ≡ places.now }
     requires room { All (λ t. t.preempted ≤ 2 ^ 64 - 2) told.old.items }
-    ensures { told.new.items ≡ map (telling.with_preemption switch.now) told.old.items }
+    ensures told { told.new.items ≡ map (telling.with_preemption switch.now) told.old.items }
+    ensures within { (n : ℕ) → All (telling.IsWithin n) told.old.items
+        → All (telling.IsWithin n) told.new.items }
 {
     let Some(number) = preempted_by(switch) else {
         return;
@@ -96,8 +104,10 @@ pub(crate) fn told_of(
 ) -> Result<Vec<Told>, NoMemory>
     requires places { places.now ≡ map (λ t. t.number) tasks.now }
     requires rising { AllPairs (λ a b. IsTrue (is_before a b)) switches.now }
-    ensures { IfOk result (λ v. v.items
+    ensures told { IfOk result (λ v. v.items
         ≡ map (λ t. telling.told_by end happened.now switches.now t.number) tasks.now) }
+    ensures within { IfOk result (λ v. All (telling.IsWithin (length happened.now)) v.items) }
+    ensures few { IfOk result (λ v. length happened.now < 2 ^ 64) }
 {
     let mut told = untold_all(alloc, tasks)?;
     let mut from = 0;

@@ -62,7 +62,7 @@ pub(crate) fn us_up_to(throttle: &Throttle, time: u64) -> u128
 pub(crate) fn throttle_after(throttle: &Throttle, happened: &Happened) -> Throttle
     requires us { throttle.now.us ≤ (2 ^ 64 - 2) * 2 ^ 64 }
     requires times { throttle.now.times ≤ 2 ^ 64 - 2 }
-    ensures { result ≡ telling.throttle_after throttle.now happened.now }
+    ensures { result ≡ telling.throttle_by happened.now.time happened.now.what throttle.now }
 {
     if throttles(happened.what) {
         return Throttle {

@@ -1,6 +1,6 @@
 //! What is told of a task while its entries go by.
 
-ghost use Rattle.std.specs.Prelude.{◌≡◌, ◌-◌, ◌≤◌, ◌^◌, IfSome};
+ghost use Rattle.std.specs.Prelude.{ℕ, ◌≡◌, ◌+◌, ◌-◌, ◌≤◌, ◌^◌, IfSome};
 ghost use Rattle.run_figures.specs.private.Telling as telling;
 
 use crate::counting::{Counts, with_job};
@@ -56,7 +56,8 @@ pub(crate) fn with_over(counts: Counts, over: Option<Job>, time: u64) -> Counts
 /// What an entry of the task makes of it, where the run ends at this time.
 pub(crate) fn told_after(told: &Told, happened: &Happened, time: u64) -> Told
     requires room { telling.IsWithin (2 ^ 64 - 2) told.now }
-    ensures { result ≡ telling.told_after time happened.now told.now }
+    ensures told { result ≡ telling.told_after time happened.now told.now }
+    ensures within { (n : ℕ) → telling.IsWithin n told.now → telling.IsWithin (n + 1) result }
 {
     Told {
         number: told.number,

@@ -1,22 +1,26 @@
 -- Where a number stands in a list.
-use Rattle.std.specs.Prelude.{ℕ, ◌≡◌, ◌≢◌, ◌+◌, ◌<◌, ◌==◌, ◌^◌, if◌then◌else◌, List, length, map, slice_index, Option, Some, None, AllPairs, All, position}
+use Rattle.std.specs.Prelude.{ℕ, ◌≡◌, ◌≢◌, ◌-◌, ◌<◌, ◌≤◌, ◌==◌, if◌then◌else◌, List, length, slice_index, slice_index_or, All, AllPairs}
 
--- 0 where it stands nowhere, and else its place and one
-abbrev pub code_of : Option ℕ → ℕ
-code_of None = 0
-code_of (Some place) = place + 1
+-- a place of a number
+pub record IsAt (numbers : List ℕ) (n place : ℕ) : Type 0 where
+  pub within : place < length numbers
+  pub is : (d : ℕ) → slice_index_or numbers place d ≡ n
 
-abbrev pub place_of : List ℕ → ℕ → Option ℕ
-place_of numbers n = position (λ m. m == n) numbers
+-- it has none
+abbrev pub IsAbsent : List ℕ → ℕ → Type 0
+IsAbsent numbers n = (k d : ℕ) → k < length numbers → slice_index_or numbers k d ≢ n
 
--- the codes of all numbers below 65536
-pub record IsIndex (numbers codes : List ℕ) : Type 0 where
+-- the code of a number below 65536 is 0, or its place and one; it is not 0 for the first so many
+pub record IsIndex (numbers : List ℕ) (seen : ℕ) (codes : List ℕ) : Type 0 where
   pub wide : length codes ≡ 65536
-  pub codes : (n : ℕ) → n < 65536 → slice_index codes n ≡ code_of (place_of numbers n)
+  pub short : (n : ℕ) → n < 65536 → slice_index codes n ≤ seen
+  pub found : (n : ℕ) → n < 65536 → slice_index codes n ≢ 0
+      → slice_index numbers (slice_index codes n - 1) ≡ n
+  pub listed : (k : ℕ) → k < seen → slice_index codes (slice_index numbers k) ≢ 0
 
--- numbers that stand once each, and their index
+-- numbers below 65536 that stand once each, and their index
 pub record AreIndexed (numbers codes : List ℕ) : Type 0 where
-  pub index : IsIndex numbers codes
+  pub index : IsIndex numbers (length numbers) codes
   pub small : All (λ n. n < 65536) numbers
   pub apart : AllPairs (λ a b. a ≢ b) numbers
 

@@ -1,6 +1,7 @@
 -- What is told of a task while its entries go by.
-use Rattle.std.specs.Prelude.{ℕ, ◌+◌, ◌-◌, ◌*◌, ◌≤◌, ◌^◌, ◌&&◌, Bool, is_none, min, max, fold, if◌then◌else◌, List, Option, Some, None, IfSome}
+use Rattle.std.specs.Prelude.{ℕ, ◌+◌, ◌-◌, ◌*◌, ◌≡◌, ◌≤◌, ◌<◌, ◌^◌, ◌&&◌, is_none, min, max, fold, if◌then◌else◌, List, take, count_by, Option, Some, None, IfSome}
 use Rattle.std.specs.Int.{int_min}
+use Rattle.domain_run.specs.declared.happened.What.{What}
 use Rattle.domain_run.specs.declared.happened.Happened.{Happened}
 use Rattle.domain_run.specs.declared.switch.Switch.{Switch}
 use Rattle.run_figures.specs.declared.job.Job.{Job}
@@ -11,7 +12,7 @@ use Rattle.run_figures.specs.declared.told.Told.{Told}
 use Rattle.run_figures.specs.Jobs.{over_by, under_way}
 use Rattle.run_figures.specs.Figures.{Outcome, outcome_at, is_late}
 use Rattle.run_figures.specs.Stays.{is_task}
-use Rattle.run_figures.specs.Throttling.{throttles, frees, wants_it, preemptions}
+use Rattle.run_figures.specs.Throttling.{throttles, frees, wants_it, preempts, preemptions}
 use Rattle.run_figures.specs.private.Places.{if_number}
 
 -- JOBS
@@ -50,19 +51,19 @@ abbrev pub gap : Option ℕ → ℕ → ℕ
 gap None time = 0
 gap (Some since) time = time - since
 
-abbrev pub throttle_after : Throttle → Happened → Throttle
-throttle_after t h =
-    if throttles h.what
-    then record { times = t.times + 1; us = t.us + gap t.since h.time; since = Some h.time }
-    else (if frees h.what
-    then record { times = t.times; us = t.us + gap t.since h.time; since = None } else t)
+abbrev pub throttle_by : ℕ → What → Throttle → Throttle
+throttle_by time what t =
+    if throttles what
+    then record { times = t.times + 1; us = t.us + gap t.since time; since = Some time }
+    else (if frees what
+    then record { times = t.times; us = t.us + gap t.since time; since = None } else t)
 
 -- A TASK, where the run ends at this time
 abbrev pub told_after : ℕ → Happened → Told → Told
 told_after time h t = record t {
   job = under_way h.time h.what t.job;
   counts = with_over time t.counts (over_by h.time h.what t.job);
-  throttle = throttle_after t.throttle h;
+  throttle = throttle_by h.time h.what t.throttle;
 }
 
 abbrev pub told_if : ℕ → Told → Happened → Told
@@ -83,19 +84,26 @@ untold number = record {
 
 -- counts of at most so many entries
 pub record IsWithinEnded (n : ℕ) (e : Ended) : Type 0 where
+  pub some : 0 < e.count
   pub count : e.count ≤ n
   pub total : e.total ≤ n * 2 ^ 64
 
+pub record IsUnderWay (n : ℕ) (j : Job) : Type 0 where
+  pub throttled : j.throttled ≤ n
+  pub going : j.ended ≡ None
+
 pub record IsWithin (n : ℕ) (t : Told) : Type 0 where
-  pub job : IfSome t.job (λ j. j.throttled ≤ n)
+  pub job : IfSome t.job (IsUnderWay n)
   pub ended : IfSome t.counts.ended (IsWithinEnded n)
   pub late : t.counts.late ≤ n
   pub times : t.throttle.times ≤ n
   pub us : t.throttle.us ≤ n * 2 ^ 64
 
 -- so much more can be told
-abbrev pub HasRoomFor : ℕ → Told → Type 0
-HasRoomFor n t = IsWithin (2 ^ 64 - 1 - n) t
+pub record HasRoomFor (n : ℕ) (t : Told) : Type 0 where
+  pub used : ℕ
+  pub fits : used + n < 2 ^ 64
+  pub within : IsWithin used t
 
 -- A SWITCH
 abbrev pub leaver_wanting : Switch → Option ℕ
@@ -105,6 +113,11 @@ abbrev pub with_preemption : Switch → Told → Told
 with_preemption s t =
     if is_task t.number (leaver_wanting s) && is_none t.throttle.since
     then record t { preempted = t.preempted + 1 } else t
+
+-- what happened up to a place, and the switches up to a place
+abbrev pub so_far : ℕ → List Happened → List Switch → ℕ → ℕ → ℕ → Told
+so_far time happened switches j k number = record (told_all time (take j happened) (untold number)) {
+  preempted = count_by (preempts happened number) (take k switches) }
 
 -- all that happened, and all switches
 abbrev pub told_by : ℕ → List Happened → List Switch → ℕ → Told

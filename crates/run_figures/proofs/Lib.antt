@@ -1,0 +1,9 @@
+pub mod Turning
+pub mod Indexing
+pub mod Telling
+pub mod Told
+pub mod Within
+pub mod Ran
+pub mod Shared
+pub mod Put
+pub mod Lines
