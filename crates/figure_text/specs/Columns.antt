@@ -1,5 +1,5 @@
 -- Columns of a table (own).
-use Rattle.std.specs.Prelude.{ℕ, ◌+◌, ◌-◌, ◌*◌, ◌/◌, ◌%◌, ◌==◌, if◌then◌else◌, List, ◌∷◌, ◌++◌, length, replicate, decimal}
+use Rattle.std.specs.Prelude.{ℕ, ◌+◌, ◌-◌, ◌*◌, ◌/◌, ◌%◌, ◌==◌, if◌then◌else◌, List, [], ◌∷◌, ◌++◌, length, replicate, decimal}
 
 -- a text at the right of a column; one that is wider widens it in its line
 abbrev pub right : ℕ → List ℕ → List ℕ
@@ -27,3 +27,8 @@ per_cent n = column 4 (decimal (n / 100)) ++ (46 ∷ digits_in 2 (n % 100))
 
 abbrev pub share : ℕ → ℕ → List ℕ
 share part whole = per_cent (hundredths part whole)
+
+-- the lines of a list, where the first of it has this number
+abbrev pub numbered : {X : Type 0} → (ℕ → X → List ℕ) → ℕ → List X → List ℕ
+numbered line n [] = []
+numbered line n (x ∷ xs) = line n x ++ numbered line (n + 1) xs

@@ -1,11 +1,11 @@
 -- The jobs of all tasks, as a text (own): by domain, by task, and in their order.
-use Rattle.std.specs.Prelude.{ℕ, ◌+◌, ◌-◌, List, [], ◌∷◌, ◌++◌, flat_map, Option, Some, None, codes, decimal, pos, ◌-ℤ◌, ℤ}
+use Rattle.std.specs.Prelude.{ℕ, ◌-◌, List, ◌++◌, flat_map, Option, Some, None, codes, decimal, pos, ◌-ℤ◌}
 use Rattle.std.specs.Fmt.{signed_decimal}
 use Rattle.run_figures.specs.declared.job.Job.{Job}
 use Rattle.run_figures.specs.LineView.{TaskJobsView}
 use Rattle.switch_text.specs.Names.{named}
 use Rattle.figure_text.specs.declared.jobs.DomainJobs.{DomainJobs}
-use Rattle.figure_text.specs.Columns.{right, column, pid}
+use Rattle.figure_text.specs.Columns.{right, column, pid, numbered}
 
 abbrev pub job_header : List ℕ
 job_header = codes
@@ -27,14 +27,9 @@ job_line name number place j =
     ++ (column 11 (decimal j.release)
     ++ (end_columns j j.ended ++ (column 9 (decimal j.throttled) ++ codes "\n")))))
 
--- the first job has this number
-abbrev pub job_lines : List ℕ → ℕ → ℕ → List Job → List ℕ
-job_lines name number place [] = []
-job_lines name number place (j ∷ js) =
-    job_line name number place j ++ job_lines name number (place + 1) js
-
+-- the first job of a task is job 0
 abbrev pub task_lines : (ℕ → List ℕ) → TaskJobsView → List ℕ
-task_lines names t = job_lines (names t.number) t.number 0 t.jobs
+task_lines names t = numbered (job_line (names t.number) t.number) 0 t.jobs
 
 -- one domain: the names of its tasks by number, and their jobs
 pub record JobsView : Type 0 where

@@ -8,7 +8,7 @@ use Rattle.run_figures.specs.declared.figures.CpuFigures.{CpuFigures}
 use Rattle.run_figures.specs.Laws.{AreShort}
 use Rattle.switch_text.specs.Names.{named}
 use Rattle.figure_text.specs.declared.summary.DomainSummary.{DomainSummary}
-use Rattle.figure_text.specs.Columns.{right, column, digits_in, pid, share}
+use Rattle.figure_text.specs.Columns.{right, column, digits_in, pid, share, numbered}
 
 -- one domain: the names of its tasks by number, their figures and those of its CPUs; the sum of
 -- bandwidths and the cap, in 1/2^20 of a CPU, and the time, in microseconds, at the end
@@ -77,10 +77,12 @@ task_line domain d t =
     ++ (column 3 (decimal domain)
     ++ (job_columns t ++ (count_columns t ++ (share_columns d.time t ++ codes "\n")))))
 
--- the first domain has this number
-abbrev pub task_lines : ℕ → List SummaryView → List ℕ
-task_lines domain [] = []
-task_lines domain (d ∷ ds) = flat_map (task_line domain d) d.tasks ++ task_lines (domain + 1) ds
+abbrev pub tasks_of : ℕ → SummaryView → List ℕ
+tasks_of domain d = flat_map (task_line domain d) d.tasks
+
+-- the first domain is domain 0
+abbrev pub task_lines : List SummaryView → List ℕ
+task_lines domains = numbered tasks_of 0 domains
 
 -- ---- THE CPUS
 
@@ -94,16 +96,15 @@ cpu_line domain time cpu c =
     ++ (column 12 (decimal c.busy_us)
     ++ (share c.busy_us time ++ (column 9 (decimal c.switches) ++ codes "\n")))))
 
--- the first of these is this CPU of the machine
-abbrev pub cpus_of : ℕ → ℕ → ℕ → List CpuFigures → List ℕ
-cpus_of domain time cpu [] = []
-cpus_of domain time cpu (c ∷ cs) = cpu_line domain time cpu c ++ cpus_of domain time (cpu + 1) cs
+-- the first CPU of a domain is this CPU of the machine
+abbrev pub cpus_of : ℕ → ℕ → SummaryView → List ℕ
+cpus_of domain cpu d = numbered (cpu_line domain d.time) cpu d.cpus
 
 -- the first domain has the first CPUs of the machine, the second the next ones, and so on
 abbrev pub cpu_lines : ℕ → ℕ → List SummaryView → List ℕ
 cpu_lines domain cpu [] = []
 cpu_lines domain cpu (d ∷ ds) =
-    cpus_of domain d.time cpu d.cpus ++ cpu_lines (domain + 1) (cpu + length d.cpus) ds
+    cpus_of domain cpu d ++ cpu_lines (domain + 1) (cpu + length d.cpus) ds
 
 -- ---- THE DOMAINS
 
@@ -118,14 +119,13 @@ domain_line domain d =
     ++ (column 10 (decimal d.cap)
     ++ (share d.bandwidth d.cap ++ (column 12 (decimal d.time) ++ codes "\n")))))
 
-abbrev pub domain_lines : ℕ → List SummaryView → List ℕ
-domain_lines domain [] = []
-domain_lines domain (d ∷ ds) = domain_line domain d ++ domain_lines (domain + 1) ds
+abbrev pub domain_lines : List SummaryView → List ℕ
+domain_lines domains = numbered domain_line 0 domains
 
 -- ---- ALL
 
 abbrev pub summary_text : List SummaryView → List ℕ
 summary_text domains =
-    task_header ++ (task_lines 0 domains
+    task_header ++ (task_lines domains
     ++ (cpu_header ++ (cpu_lines 0 0 domains
-    ++ (domain_header ++ domain_lines 0 domains))))
+    ++ (domain_header ++ domain_lines domains))))

@@ -1,6 +1,7 @@
 //! The text of jobs.
 
 ghost use Rattle.std.specs.Prelude.{◌≡◌, ◌++◌, OnOk, map};
+ghost use Rattle.figure_text.specs.Columns.{numbered};
 ghost use Rattle.figure_text.specs.Jobs as texts;
 
 use crate::columns::{put, put_dash, put_number, put_pid, put_right, put_signed};
@@ -58,7 +59,7 @@ fn put_job(
 /// The lines of a task's jobs.
 fn put_task(out: &mut Vec<u8>, name: &[u8], number: u32, jobs: &[Job]) -> Result<(), NoMemory>
     ensures { OnOk result (out.new.items
-        ≡ out.old.items ++ texts.job_lines name.now number 0 jobs.now) }
+        ≡ out.old.items ++ numbered (texts.job_line name.now number) 0 jobs.now) }
 {
     for (place, job) in jobs.iter().enumerate() {
         put_job(out, name, number, place, job)?;

@@ -1,6 +1,6 @@
 //! The text of a summary.
 
-ghost use Rattle.std.specs.Prelude.{◌≡◌, ◌<◌, ◌≤◌, ◌+◌, ◌^◌, ◌++◌, OnOk, All, flat_map, map, length, decimal};
+ghost use Rattle.std.specs.Prelude.{◌≡◌, ◌<◌, ◌≤◌, ◌+◌, ◌^◌, ◌++◌, OnOk, All, map, length, decimal};
 ghost use Rattle.figure_text.specs.Columns.{right};
 ghost use Rattle.figure_text.specs.Summary as texts;
 
@@ -100,7 +100,7 @@ fn put_task(
 fn put_tasks_of(out: &mut Vec<u8>, domain: usize, of: &DomainSummary<'_>) -> Result<(), NoMemory>
     requires { All (λ t. t.cpu_us < 2 ^ 108) of.now.tasks.now }
     ensures { OnOk result (out.new.items
-        ≡ out.old.items ++ flat_map (texts.task_line domain (texts.view_of of.now)) of.now.tasks.now) }
+        ≡ out.old.items ++ texts.tasks_of domain (texts.view_of of.now)) }
 {
     for task in of.tasks {
         put_task(out, domain, of, task)?;
@@ -111,7 +111,7 @@ fn put_tasks_of(out: &mut Vec<u8>, domain: usize, of: &DomainSummary<'_>) -> Res
 fn put_tasks(out: &mut Vec<u8>, domains: &[DomainSummary<'_>]) -> Result<(), NoMemory>
     requires { All texts.IsShort domains.now }
     ensures { OnOk result (out.new.items
-        ≡ out.old.items ++ texts.task_lines 0 (map texts.view_of domains.now)) }
+        ≡ out.old.items ++ texts.task_lines (map texts.view_of domains.now)) }
 {
     for (number, domain) in domains.iter().enumerate() {
         put_tasks_of(out, number, domain)?;
@@ -151,7 +151,7 @@ fn put_cpus_of(
     requires short { All (λ c. c.busy_us < 2 ^ 108) of.now.cpus.now }
     requires few { base + length of.now.cpus.now < 2 ^ 64 }
     ensures { OnOk result (out.new.items
-        ≡ out.old.items ++ texts.cpus_of domain of.now.time base of.now.cpus.now) }
+        ≡ out.old.items ++ texts.cpus_of domain base (texts.view_of of.now)) }
 {
     for (place, figures) in of.cpus.iter().enumerate() {
         put_cpu(out, domain, of.time, base + place, figures)?;
@@ -199,7 +199,7 @@ fn put_domain(out: &mut Vec<u8>, number: usize, domain: &DomainSummary<'_>) -> R
 
 fn put_domains(out: &mut Vec<u8>, domains: &[DomainSummary<'_>]) -> Result<(), NoMemory>
     ensures { OnOk result (out.new.items
-        ≡ out.old.items ++ texts.domain_lines 0 (map texts.view_of domains.now)) }
+        ≡ out.old.items ++ texts.domain_lines (map texts.view_of domains.now)) }
 {
     for (number, domain) in domains.iter().enumerate() {
         put_domain(out, number, domain)?;

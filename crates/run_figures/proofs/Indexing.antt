@@ -6,9 +6,9 @@ use Rattle.run_figures.specs.private.Places.{IsIndex, AreIndexed, IsAt, IsAbsent
 
 pub nothing_seen : (numbers : List ℕ) → IsIndex numbers 0 (replicate 65536 0)
 nothing_seen numbers = record {
-  wide = length-replicate 65536 0;
-  short = λ n h. omega (arith, get_or-replicate 65536 n 0 0 h);
-  found = λ n h some. absurd (some (get_or-replicate 65536 n 0 0 h));
+  wide = length-replicate {A = ℕ} 65536 0;
+  short = λ n h. omega (arith, get_or-replicate {A = ℕ} 65536 n 0 0 h);
+  found = λ n h some. absurd (some (get_or-replicate {A = ℕ} 65536 n 0 0 h));
   listed = λ k h. absurd (omega (arith, h));
 }
 

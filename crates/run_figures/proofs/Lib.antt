@@ -1,9 +1,9 @@
 pub mod Turning
 pub mod Indexing
-pub mod Telling
-pub mod Told
+pub mod Counted
 pub mod Within
-pub mod Ran
+pub mod Passing
+pub mod Behind
 pub mod Shared
 pub mod Put
-pub mod Lines
+pub mod Listed

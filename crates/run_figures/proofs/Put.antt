@@ -1,22 +1,24 @@
 -- The figures that are put together are the definitions'.
 use Rattle.std.proofs.Common.{◌≡◌, ℕ, zero, suc, ◌+◌, ◌<◌, List, [], ◌∷◌, ◌++◌, length, get_or, take, map, Option, Some, None, refl, sym, ap, ◌∙◌, arith}
+use Rattle.std.specs.Prelude.{count_by}
 use Rattle.std.specs.Option.{option_map, option_map_or}
 use Rattle.run_figures.specs.declared.run.Admitted.{Admitted}
 use Rattle.run_figures.specs.declared.counting.Ended.{Ended}
 use Rattle.run_figures.specs.declared.counting.Counts.{Counts}
+use Rattle.run_figures.specs.declared.throttle.Throttle.{Throttle}
 use Rattle.run_figures.specs.declared.told.Told.{Told}
 use Rattle.run_figures.specs.declared.ran.Ran.{Ran}
 use Rattle.run_figures.specs.declared.ran.Cpu.{Cpu}
 use Rattle.run_figures.specs.declared.figures.TaskFigures.{TaskFigures}
 use Rattle.run_figures.specs.Runs.{RunView}
 use Rattle.run_figures.specs.Jobs.{of_task, jobs_of}
-use Rattle.run_figures.specs.Throttling.{preemptions}
+use Rattle.run_figures.specs.Throttling.{throttled_of, throttled_us, preemptions}
 use Rattle.run_figures.specs.Stays.{cpu_us, migrations}
-use Rattle.run_figures.specs.Figures.{outcomes, figures_of, cpu_of, responses_of}
+use Rattle.run_figures.specs.Figures.{outcomes, is_late, figures_of}
 use Rattle.run_figures.specs.private.Telling.{told_all, told_by, untold, with_over, gap}
 use Rattle.run_figures.specs.private.Running.{ran_by, cpu_by}
 use Rattle.run_figures.specs.private.Putting.{responses_by, put_task, put_all, put_cpu}
-use Rattle.run_figures.proofs.Told.{told_own, own_told, jobs_counted, late_counted, ended_counted, count_of_outcomes, responses_counted, own_throttle, throttle_all, times_counted, us_counted}
+use Rattle.run_figures.proofs.Counted.{told_own, own_told, jobs_counted, late_counted, ended_counted, count_of_outcomes, responses_counted, own_throttle, throttle_all, times_counted, us_counted}
 
 pub task_is : (run : RunView) (task : Admitted) → put_task run.time task (told_by run.time run.happened run.switches task.number) (ran_by run.time run.switches task.number) ≡ figures_of run task
 task_is run task =
@@ -29,12 +31,12 @@ task_is run task =
     let none : Counts = record { ended = None; late = 0 } in
     let jobs = jobs_of run.happened n in
     let ended = ap (λ (c : Counts). c.ended) counted ∙ ended_counted run.time jobs none in
-    let late = ap (λ (c : Counts). c.late) counted ∙ late_counted run.time jobs none in
+    let late : counts.late ≡ count_by (is_late run.time) jobs = omega (arith, ap (λ (c : Counts). c.late) counted ∙ late_counted run.time jobs none) in
     let throttle = ap (λ (t : Told). t.throttle) kept ∙ own_throttle run.time own (untold n) in
     let how_many = ap (λ (x : Option Ended). option_map_or (λ (e : Ended). e.count) x 0) ended ∙ count_of_outcomes (outcomes jobs) in
     let responses = ap (option_map responses_by) ended ∙ responses_counted (outcomes jobs) in
-    let times = ap (λ t. t.times) throttle ∙ times_counted own (untold n).throttle in
-    let us = ap (λ t. t.us + gap t.since run.time) throttle ∙ us_counted run.time own (untold n).throttle in
+    let times : told.throttle.times ≡ throttled_of own = omega (arith, ap (λ (t : Throttle). t.times) throttle ∙ times_counted own (untold n).throttle) in
+    let us : told.throttle.us + gap told.throttle.since run.time ≡ throttled_us run.time own = omega (arith, ap (λ (t : Throttle). t.us + gap t.since run.time) throttle ∙ us_counted run.time own (untold n).throttle) in
     λ i. record {
       number = n;
       runtime = task.runtime;
@@ -63,4 +65,5 @@ one_more_put end (x ∷ xs) (y ∷ ys) [] i task t r a b c e f g = absurd (omega
 one_more_put end (x ∷ xs) (y ∷ ys) (z ∷ zs) zero task t r a b c e f g = λ i. put_task end (sym e i) (sym f i) (sym g i) ∷ []
 one_more_put end (x ∷ xs) (y ∷ ys) (z ∷ zs) (suc i) task t r a b c e f g =
     let more = one_more_put end xs ys zs i task t r (omega (arith, a)) (omega (arith, b)) (omega (arith, c)) e f g in
-    ap (λ (fs : List TaskFigures). put_task end x y z ∷ fs) more
+    let e : suc i + 1 ≡ suc (i + 1) = omega arith in
+    rw e (ap (λ (fs : List TaskFigures). put_task end x y z ∷ fs) more)

@@ -5,4 +5,5 @@ pub mod Throttling
 pub mod Runs
 pub mod Figures
 pub mod Laws
+pub mod Examples
 pub mod private

@@ -1,6 +1,7 @@
 //! What happened and who was preempted, told of all tasks at once.
 
-ghost use Rattle.std.specs.Prelude.{ℕ, ◌≡◌, ◌-◌, ◌+◌, ◌≤◌, ◌<◌, ◌^◌, nat_le, IfOk, All, AllPairs, IsTrue, map, length, take, prefix_len};
+ghost use Rattle.std.specs.Prelude.{ℕ, ◌≡◌, ◌-◌, ◌+◌, ◌≤◌, ◌<◌, ◌^◌, nat_le, IfOk, All, AllPairs, IsTrue, map, length, take};
+ghost use Rattle.std.specs.List.{prefix_len};
 ghost use Rattle.domain_run.specs.Switches.{is_before};
 ghost use Rattle.run_figures.specs.Runs as runs;
 ghost use Rattle.run_figures.specs.private.Telling as telling;

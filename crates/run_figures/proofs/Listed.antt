@@ -12,7 +12,7 @@ use Rattle.run_figures.specs.declared.job.Job.{Job}
 use Rattle.run_figures.specs.LineView.{LineView, TaskJobsView}
 use Rattle.run_figures.specs.Jobs.{of_task, over_by, under_way, jobs_from, jobs_of, task_jobs}
 use Rattle.run_figures.specs.private.Lines.{line_after, line_if, line_all, no_line, IsLineWithin}
-use Rattle.run_figures.proofs.Telling.{map-map, map_same}
+use Rattle.run_figures.proofs.Passing.{map-map, map_same}
 
 abbrev pub line_own : LineView → List Happened → LineView
 line_own l own = fold (λ (x : LineView) (h : Happened). line_after h x) l own
@@ -94,4 +94,6 @@ lines_within hs m ns le k d l =
     let inside : k < length ns = omega (arith, l, outer, inner) in
     let here : get_or (map (line_all hs) (map no_line ns)) k d ≡ line_all hs (no_line (get_or ns k 0)) =
         get_or-map (line_all hs) (map no_line ns) k d d (omega (arith, inside, inner)) ∙ ap (line_all hs) (get_or-map no_line ns k 0 d inside) in
-    subst (IsLineWithin m) (sym here) (throttled_more (length hs) m (line_all hs (no_line (get_or ns k 0))).job le (all_within hs 0 (no_line (get_or ns k 0)) tt))
+    let none : 0 + length hs ≡ length hs = omega arith in
+    let here_within : IsLineWithin (length hs) (line_all hs (no_line (get_or ns k 0))) = subst (λ j. IsLineWithin j (line_all hs (no_line (get_or ns k 0)))) none (all_within hs 0 (no_line (get_or ns k 0)) tt) in
+    subst (IsLineWithin m) (sym here) (throttled_more (length hs) m (line_all hs (no_line (get_or ns k 0))).job le here_within)

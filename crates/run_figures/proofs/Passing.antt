@@ -1,6 +1,7 @@
 -- What is told of all tasks, entry by entry and switch by switch.
 use Rattle.std.proofs.Common.{◌≡◌, ℕ, zero, suc, ◌+◌, ◌≤◌, ◌<◌, ◌^◌, Bool, true, false, cond, not, eqb, ◌&&◌, List, [], ◌∷◌, ◌++◌, length, get_or, take, drop, map, Option, Some, None, refl, sym, ap, ◌∙◌, arith, subst, All}
-use Rattle.std.specs.Prelude.{fold, count_by, prefix_len, is_some, is_none, nat_le}
+use Rattle.std.specs.Prelude.{fold, count_by, is_some, is_none, nat_le}
+use Rattle.std.specs.List.{prefix_len}
 use Rattle.std.proofs.lemmas.Bool.{le-leb, leb-true}
 use Rattle.std.proofs.lemmas.List.{take_all, get_or-map, length-map}
 use Rattle.std.proofs.lemmas.List.Sums.{fold-append, fold_more, count_by_more_yes, count_by_more_no}
@@ -12,7 +13,7 @@ use Rattle.run_figures.specs.Jobs.{of_task}
 use Rattle.run_figures.specs.Stays.{is_task}
 use Rattle.run_figures.specs.Throttling.{wants_it, is_throttled_at, preempts, throttled_then}
 use Rattle.run_figures.specs.private.Telling.{told_after, told_if, told_all, untold, so_far, leaver_wanting, with_preemption, IsWithin}
-use Rattle.run_figures.proofs.Told.{own_told, own_throttle, since_counted}
+use Rattle.run_figures.proofs.Counted.{own_told, own_throttle, since_counted}
 use Rattle.run_figures.proofs.Within.{told_within, within_more}
 
 pub map-map : {X Y Z : Type 0} (f : Y → Z) (g : X → Y) (xs : List X) → map f (map g xs) ≡ map (λ x. f (g x)) xs
@@ -65,11 +66,8 @@ told_with end [] t p = refl
 told_with end (h ∷ hs) t p = ap (told_all end hs) (if_with end t p h) ∙ told_with end hs (told_if end t h) p
 
 take_both : (j c : ℕ) (hs : List Happened) → take j hs ++ take c (drop j hs) ≡ take (j + c) hs
-take_both zero c hs = refl
-take_both (suc j) c [] = take_nil c
-  where
-    take_nil : (c : ℕ) → take c [] ≡ take (suc j + c) []
-    take_nil c = sym (take_all (suc j + c) [] (omega arith)) ∙ sym (take_all c [] (omega arith))
+take_both zero c hs = let e : c ≡ 0 + c = omega arith in ap (λ k. take k hs) e
+take_both (suc j) c [] = take_all {A = Happened} c [] (omega arith) ∙ sym (take_all {A = Happened} (suc j + c) [] (omega arith))
 take_both (suc j) c (h ∷ hs) =
     let e : suc j + c ≡ suc (j + c) = omega arith in
     rw e (ap (λ (xs : List Happened). h ∷ xs) (take_both j c hs))

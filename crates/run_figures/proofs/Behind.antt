@@ -20,7 +20,7 @@ moves_are cpu (c ∷ cs) = omega arith
 abbrev pub us_in : (Stay → Bool) → List Stay → ℕ
 us_in p xs = sum_by (λ (s : Stay). s.us) (filter p xs)
 
-us_in-cons : (p : Stay → Bool) (x : Stay) (xs : List Stay) → us_in p (x ∷ xs) ≡ cond (p x) x.us 0 + us_in p xs
+pub us_in-cons : (p : Stay → Bool) (x : Stay) (xs : List Stay) → us_in p (x ∷ xs) ≡ cond (p x) x.us 0 + us_in p xs
 us_in-cons p x xs = elim (p x) as (λ b. sum_by (λ (s : Stay). s.us) (cond b (x ∷ filter p xs) (filter p xs)) ≡ cond b x.us 0 + us_in p xs) [
   | true ↦ sum_by-cons (λ (s : Stay). s.us) x (filter p xs)
   | false ↦ omega arith
@@ -91,13 +91,13 @@ cpu_with time s ss cpu true to from =
     let added : busy_us time (s ∷ ss) cpu ≡ busy_us time ss cpu + busy_if s.next (until time cpu ss - s.time) =
         omega (arith, busy_added time s ss s.next cpu (until time s.cpu ss) true to, ap (λ c. busy_if s.next (until time c ss - s.time)) same) in
     let count : count_by (λ (x : Switch). eqb x.cpu cpu) (s ∷ ss) ≡ count_by (λ (x : Switch). eqb x.cpu cpu) ss + 1 =
-        omega (arith, sum_by-cons (λ (x : Switch). cond (eqb x.cpu cpu) 1 0) s ss, ap (λ b. cond b 1 0) to) in
+        omega (arith, sum_by-cons (λ (x : Switch). cond (eqb x.cpu cpu) 1 0) s ss, ap {B = ℕ} (λ b. cond b 1 0) to) in
     let next : until time cpu (s ∷ ss) ≡ s.time = ap (λ b. cond b s.time (until time cpu ss)) to in
     λ i. record { cpu = cpu; busy_us = added i; switches = count i; next = next i }
 cpu_with time s ss cpu false to from =
     let added : busy_us time (s ∷ ss) cpu ≡ busy_us time ss cpu = omega (arith, busy_added time s ss s.next cpu (until time s.cpu ss) false to) in
     let count : count_by (λ (x : Switch). eqb x.cpu cpu) (s ∷ ss) ≡ count_by (λ (x : Switch). eqb x.cpu cpu) ss =
-        omega (arith, sum_by-cons (λ (x : Switch). cond (eqb x.cpu cpu) 1 0) s ss, ap (λ b. cond b 1 0) to) in
+        omega (arith, sum_by-cons (λ (x : Switch). cond (eqb x.cpu cpu) 1 0) s ss, ap {B = ℕ} (λ b. cond b 1 0) to) in
     let next : until time cpu (s ∷ ss) ≡ until time cpu ss = ap (λ b. cond b s.time (until time cpu ss)) to in
     λ i. record { cpu = cpu; busy_us = added i; switches = count i; next = next i }
 
