@@ -1,15 +1,19 @@
 -- What is told of tasks and CPUs by the switches, with one more before them.
-use Rattle.std.proofs.Common.{◌≡◌, ◌≢◌, ℕ, ◌+◌, ◌-◌, ◌*◌, ◌≤◌, ◌<◌, Bool, true, false, cond, eqb, ⊎_elim, List, [], ◌∷◌, ◌++◌, length, map, Option, Some, None, refl, sym, ap, ◌∙◌, arith, All, eq-eqb}
+use Rattle.std.proofs.Common.{◌≡◌, ◌≢◌, ℕ, ◌+◌, ◌-◌, ◌*◌, ◌≤◌, ◌<◌, Bool, true, false, cond, eqb, ⊎_elim, List, [], ◌∷◌, ◌++◌, length, get_or, drop, map, Option, Some, None, refl, sym, ap, ◌∙◌, arith, subst, All, eq-eqb}
 use Rattle.std.specs.Prelude.{filter, sum_by, count_by}
 use Rattle.std.proofs.lemmas.Bool.{ne_eqb, cases_eq, eqb-true}
-use Rattle.std.proofs.lemmas.List.{length-map}
-use Rattle.std.proofs.lemmas.List.Elements.{All-head, All-tail}
+use Rattle.std.specs.List.{range_with_len}
+use Rattle.std.proofs.lemmas.List.{length-map, drop_more, get_or-map, map-id}
+use Rattle.std.proofs.lemmas.List.FromFn.{length-range_with_len, get_or-range_with_len}
+use Rattle.std.proofs.lemmas.List.Elements.{All-head, All-tail, All-map}
 use Rattle.std.proofs.lemmas.List.Sums.{sum_by-cons, length-filter, count_by-le-length}
 use Rattle.domain_run.specs.declared.switch.Switch.{Switch}
+use Rattle.run_figures.specs.declared.run.Admitted.{Admitted}
 use Rattle.run_figures.specs.declared.ran.Ran.{Ran}
 use Rattle.run_figures.specs.declared.ran.Cpu.{Cpu}
 use Rattle.run_figures.specs.Stays.{Stay, until, stays_by, stays, cpu_us, busy_us, is_task, placements, changes_from, changes, migrations}
 use Rattle.run_figures.specs.private.Running.{first_of, ran_by, moves_to, with_stay, with_stay_of, cpu_by, busy_if, with_switch, with_switch_on}
+use Rattle.run_figures.proofs.Passing.{map-map, map_same}
 
 -- A TASK
 moves_are : (cpu : ℕ) (cpus : List ℕ) → changes (cpu ∷ cpus) ≡ changes cpus + moves_to cpu (first_of cpus)
@@ -151,3 +155,69 @@ pub few_migrations : (ss : List Switch) (n : ℕ) → migrations ss n ≤ length
 few_migrations ss n =
     omega (arith, all_changes_few (placements n ss), length-map (filter (λ (x : Switch). is_task n x.next) ss) (λ (x : Switch). x.cpu),
       length-filter (λ (x : Switch). is_task n x.next) ss, count_by-le-length (λ (x : Switch). is_task n x.next) ss)
+
+abbrev pub blank_cpu : Cpu
+blank_cpu = record { cpu = 0; busy_us = 0; switches = 0; next = 0 }
+
+-- OF ALL TASKS AND CPUS, one switch more
+pub tasks_before : (time : ℕ) (ss : List Switch) (i left n : ℕ) (d : Switch) (e : Cpu) (tasks : List Admitted) (ran after : List Ran) (cpus : List Cpu) → i < length ss → left ≡ i + 1 → (get_or ss i d).cpu < n
+    → ran ≡ map (λ a. ran_by time (drop left ss) a.number) tasks → cpus ≡ map (cpu_by time (drop left ss)) (range_with_len 0 n)
+    → after ≡ map (with_stay_of (get_or ss i d).next (get_or ss i d).cpu ((get_or cpus (get_or ss i d).cpu e).next - (get_or ss i d).time)) ran
+    → after ≡ map (λ a. ran_by time (drop i ss) a.number) tasks
+tasks_before time ss i left n d e tasks ran after cpus l at inside r c a =
+    let s = get_or ss i d in
+    let behind = drop left ss in
+    let all : drop i ss ≡ s ∷ behind = drop_more ss i d l ∙ ap (λ k. s ∷ drop k ss) (sym at) in
+    let next : (get_or cpus s.cpu e).next ≡ until time s.cpu behind =
+        ap (λ (xs : List Cpu). (get_or xs s.cpu e).next) c
+        ∙ ap (λ (x : Cpu). x.next) (get_or-map (cpu_by time behind) (range_with_len 0 n) s.cpu 0 e (omega (arith, inside, length-range_with_len 0 n)))
+        ∙ ap (λ k. until time k behind) (get_or-range_with_len 0 n s.cpu 0 inside ∙ (let z : 0 + s.cpu ≡ s.cpu = omega arith in z)) in
+    let f : ℕ → Ran → Ran = λ u. with_stay_of s.next s.cpu (u - s.time) in
+    a ∙ ap (map (f (get_or cpus s.cpu e).next)) r ∙ ap (λ u. map (f u) (map (λ (x : Admitted). ran_by time behind x.number) tasks)) next
+    ∙ map-map (f (until time s.cpu behind)) (λ (x : Admitted). ran_by time behind x.number) tasks
+    ∙ map_same (λ (x : Admitted). f (until time s.cpu behind) (ran_by time behind x.number)) (λ (x : Admitted). ran_by time (s ∷ behind) x.number) tasks (λ x. sym (ran_before time s behind x.number))
+    ∙ ap (λ (xs : List Switch). map (λ (x : Admitted). ran_by time xs x.number) tasks) (sym all)
+
+pub cpus_before : (time : ℕ) (ss : List Switch) (i left n : ℕ) (d : Switch) (cpus after : List Cpu) → i < length ss → left ≡ i + 1
+    → cpus ≡ map (cpu_by time (drop left ss)) (range_with_len 0 n)
+    → after ≡ map (with_switch_on (get_or ss i d)) cpus
+    → after ≡ map (cpu_by time (drop i ss)) (range_with_len 0 n)
+cpus_before time ss i left n d cpus after l at c a =
+    let s = get_or ss i d in
+    let behind = drop left ss in
+    let all : drop i ss ≡ s ∷ behind = drop_more ss i d l ∙ ap (λ k. s ∷ drop k ss) (sym at) in
+    a ∙ ap (map (with_switch_on s)) c ∙ map-map (with_switch_on s) (cpu_by time behind) (range_with_len 0 n)
+    ∙ map_same (λ k. with_switch_on s (cpu_by time behind k)) (cpu_by time (s ∷ behind)) (range_with_len 0 n) (λ k. sym (cpu_before time s behind k))
+    ∙ ap (λ (xs : List Switch). map (cpu_by time xs) (range_with_len 0 n)) (sym all)
+
+pub ran_keyed : (time : ℕ) (ss : List Switch) (tasks : List Admitted) (ran : List Ran) → ran ≡ map (λ a. ran_by time ss a.number) tasks → map (λ r. r.number) ran ≡ map (λ a. a.number) tasks
+ran_keyed time ss tasks ran is = ap (λ (rs : List Ran). map (λ r. r.number) rs) is ∙ map-map (λ (r : Ran). r.number) (λ (a : Admitted). ran_by time ss a.number) tasks
+
+pub many_cpus : (time : ℕ) (ss : List Switch) (n : ℕ) (cpus : List Cpu) → cpus ≡ map (cpu_by time ss) (range_with_len 0 n) → length cpus ≡ n
+many_cpus time ss n cpus is = ap (λ (cs : List Cpu). length cs) is ∙ length-map (range_with_len 0 n) (cpu_by time ss) ∙ length-range_with_len 0 n
+
+pub cpus_keyed : (time : ℕ) (ss : List Switch) (n : ℕ) (cpus : List Cpu) → cpus ≡ map (cpu_by time ss) (range_with_len 0 n) → map (λ c. c.cpu) cpus ≡ range_with_len 0 (length cpus)
+cpus_keyed time ss n cpus is =
+    ap (λ (cs : List Cpu). map (λ c. c.cpu) cs) is ∙ map-map (λ (c : Cpu). c.cpu) (cpu_by time ss) (range_with_len 0 n) ∙ map-id (range_with_len 0 n)
+    ∙ ap (range_with_len 0) (sym (many_cpus time ss n cpus is))
+
+-- COUNTS of so many switches
+pub tasks_small : (time m bound : ℕ) (ss : List Switch) (tasks : List Admitted) (ran : List Ran) → time ≤ m → All (λ s. s.time ≤ m) ss → length ss * m ≤ bound → ran ≡ map (λ a. ran_by time ss a.number) tasks → All (λ r. r.cpu_us ≤ bound) ran
+tasks_small time m bound ss tasks ran l all b is =
+    subst (All (λ r. r.cpu_us ≤ bound)) (sym is) (All-map (λ (r : Ran). r.cpu_us ≤ bound) (λ (a : Admitted). ran_by time ss a.number) tasks
+      (λ k d h. let one = us_small (λ x. eqb x.number (get_or tasks k d).number) time m ss l all in omega (arith, one, b)))
+
+pub tasks_few : (time : ℕ) (ss : List Switch) (tasks : List Admitted) (ran : List Ran) (m : ℕ) → length ss ≤ m → ran ≡ map (λ a. ran_by time ss a.number) tasks → All (λ r. r.migrated ≤ m) ran
+tasks_few time ss tasks ran m l is =
+    subst (All (λ r. r.migrated ≤ m)) (sym is) (All-map (λ (r : Ran). r.migrated ≤ m) (λ (a : Admitted). ran_by time ss a.number) tasks
+      (λ k d h. omega (arith, l, few_migrations ss (get_or tasks k d).number)))
+
+pub cpus_small : (time m bound n : ℕ) (ss : List Switch) (cpus : List Cpu) → time ≤ m → All (λ s. s.time ≤ m) ss → length ss * m ≤ bound → cpus ≡ map (cpu_by time ss) (range_with_len 0 n) → All (λ c. c.busy_us ≤ bound) cpus
+cpus_small time m bound n ss cpus l all b is =
+    subst (All (λ c. c.busy_us ≤ bound)) (sym is) (All-map (λ (c : Cpu). c.busy_us ≤ bound) (cpu_by time ss) (range_with_len 0 n)
+      (λ k d h. let one = us_small (λ x. eqb x.cpu (get_or (range_with_len 0 n) k d)) time m ss l all in omega (arith, one, b)))
+
+pub cpus_few : (time n m : ℕ) (ss : List Switch) (cpus : List Cpu) → length ss ≤ m → cpus ≡ map (cpu_by time ss) (range_with_len 0 n) → All (λ c. c.switches ≤ m) cpus
+cpus_few time n m ss cpus l is =
+    subst (All (λ c. c.switches ≤ m)) (sym is) (All-map (λ (c : Cpu). c.switches ≤ m) (cpu_by time ss) (range_with_len 0 n)
+      (λ k d h. omega (arith, l, count_by-le-length (λ (x : Switch). eqb x.cpu (get_or (range_with_len 0 n) k d)) ss)))

@@ -1,7 +1,11 @@
 -- The index of numbers, built from the first on.
-use Rattle.std.proofs.Common.{◌≡◌, ◌≢◌, ℕ, suc, ◌+◌, ◌-◌, ◌<◌, ◌≤◌, ⊎_elim, List, length, get_or, set, replicate, refl, sym, ap, ◌∙◌, arith, subst, length-set}
+use Rattle.std.proofs.Common.{◌≡◌, ◌≢◌, ℕ, ◌+◌, ◌-◌, ◌<◌, ◌≤◌, ⊎_elim, List, [], ◌∷◌, length, get_or, set, map, replicate, sym, ap, ◌∙◌, arith, subst, length-set, All}
+use Rattle.std.specs.Prelude.{AllPairs}
 use Rattle.std.proofs.lemmas.Bool.{cases_eq, cases_lt}
-use Rattle.std.proofs.lemmas.List.{get_or-set_same, get_or-set_other, get_or-replicate, length-replicate, get_or_default}
+use Rattle.std.proofs.lemmas.List.{get_or-set_same, get_or-set_other, get_or-replicate, length-replicate, get_or_default, get_or-map, length-map}
+use Rattle.std.proofs.lemmas.List.Elements.{All-map, All-same}
+use Rattle.run_figures.specs.declared.run.Admitted.{Admitted}
+use Rattle.run_figures.specs.Runs.{AreTasks}
 use Rattle.run_figures.specs.private.Places.{IsIndex, AreIndexed, IsAt, IsAbsent}
 
 pub nothing_seen : (numbers : List ℕ) → IsIndex numbers 0 (replicate 65536 0)
@@ -61,3 +65,27 @@ no_code numbers codes n indexed none k d h e =
 
 pub beyond : (numbers codes : List ℕ) (n : ℕ) → AreIndexed numbers codes → 65536 ≤ n → IsAbsent numbers n
 beyond numbers codes n indexed above k d h e = omega (arith, indexed.small k d h, e, above)
+
+-- the numbers of tasks
+pub numbers_small : (tasks : List Admitted) (numbers : List ℕ) → numbers ≡ map (λ t. t.number) tasks → AreTasks tasks → All (λ n. n < 65536) numbers
+numbers_small tasks numbers is h = All-same (λ n. n < 65536) numbers (map (λ t. t.number) tasks) is (All-map (λ n. n < 65536) (λ (t : Admitted). t.number) tasks h.small)
+
+pub numbers_apart : (tasks : List Admitted) → AreTasks tasks → AllPairs (λ a b. a ≢ b) (map (λ t. t.number) tasks)
+numbers_apart tasks h i j d less within same =
+    let number : Admitted → ℕ = λ t. t.number in
+    let inside : j < length tasks = omega (arith, within, length-map tasks number) in
+    let one = some_task tasks inside in
+    let first = get_or-map number tasks i one d (omega (arith, less, inside)) in
+    let second = get_or-map number tasks j one d inside in
+    h.apart i j one less inside (sym first ∙ same ∙ second)
+  where
+    some_task : {k : ℕ} (ts : List Admitted) → k < length ts → Admitted
+    some_task [] l = absurd (omega (arith, l))
+    some_task (t ∷ ts) l = t
+
+pub all_indexed : (tasks : List Admitted) (numbers codes : List ℕ) → numbers ≡ map (λ t. t.number) tasks → AreTasks tasks → IsIndex numbers (length numbers) codes → AreIndexed numbers codes
+all_indexed tasks numbers codes is h index = record {
+  index = index;
+  small = numbers_small tasks numbers is h;
+  apart = subst (λ (ns : List ℕ). AllPairs (λ a b. a ≢ b) ns) (sym is) (numbers_apart tasks h);
+}

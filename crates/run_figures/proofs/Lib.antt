@@ -3,6 +3,8 @@ pub mod Indexing
 pub mod Counted
 pub mod Within
 pub mod Passing
+pub mod Preempting
+pub mod Going
 pub mod Behind
 pub mod Shared
 pub mod Put

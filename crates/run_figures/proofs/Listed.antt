@@ -3,12 +3,13 @@ use Rattle.std.proofs.Common.{◌≡◌, ℕ, ◌+◌, ◌≤◌, ◌<◌, true,
 use Rattle.std.specs.Prelude.{fold, IfSome}
 use Rattle.std.specs.Option.{option_to_list}
 use Rattle.std.proofs.lemmas.Bool.{ne_eqb, eqb-true, eqb-false}
-use Rattle.std.proofs.lemmas.List.{get_or-map, length-map}
+use Rattle.std.proofs.lemmas.List.Elements.{All-map}
 use Rattle.std.proofs.lemmas.List.Sums.{fold_more}
 use Rattle.domain_run.specs.declared.happened.What.{What}
 use Rattle.domain_run.specs.declared.happened.What.TheVariants.{JobEnds, NextReleased, Spent, Cut, Replenished, Released, WokenSpent}
 use Rattle.domain_run.specs.declared.happened.Happened.{Happened}
 use Rattle.run_figures.specs.declared.job.Job.{Job}
+use Rattle.run_figures.specs.declared.run.Admitted.{Admitted}
 use Rattle.run_figures.specs.LineView.{LineView, TaskJobsView}
 use Rattle.run_figures.specs.Jobs.{of_task, over_by, under_way, jobs_from, jobs_of, task_jobs}
 use Rattle.run_figures.specs.private.Lines.{line_after, line_if, line_all, no_line, IsLineWithin}
@@ -87,13 +88,10 @@ all_within (h ∷ hs) n l w =
     let e : n + 1 + length hs ≡ n + length (h ∷ hs) = omega arith in
     subst (λ m. IsLineWithin m (line_all (h ∷ hs) l)) e (all_within hs (n + 1) (line_if l h) (if_within n l h w))
 
-pub lines_within : (hs : List Happened) (m : ℕ) (ns : List ℕ) → length hs ≤ m → All (IsLineWithin m) (map (line_all hs) (map no_line ns))
-lines_within hs m ns le k d l =
-    let outer = length-map (map no_line ns) (line_all hs) in
-    let inner = length-map ns no_line in
-    let inside : k < length ns = omega (arith, l, outer, inner) in
-    let here : get_or (map (line_all hs) (map no_line ns)) k d ≡ line_all hs (no_line (get_or ns k 0)) =
-        get_or-map (line_all hs) (map no_line ns) k d d (omega (arith, inside, inner)) ∙ ap (line_all hs) (get_or-map no_line ns k 0 d inside) in
-    let none : 0 + length hs ≡ length hs = omega arith in
-    let here_within : IsLineWithin (length hs) (line_all hs (no_line (get_or ns k 0))) = subst (λ j. IsLineWithin j (line_all hs (no_line (get_or ns k 0)))) none (all_within hs 0 (no_line (get_or ns k 0)) tt) in
-    subst (IsLineWithin m) (sym here) (throttled_more (length hs) m (line_all hs (no_line (get_or ns k 0))).job le here_within)
+pub lines_within : (hs : List Happened) (m : ℕ) (tasks : List Admitted) → length hs ≤ m → All (IsLineWithin m) (map (line_all hs) (map (λ t. no_line t.number) tasks))
+lines_within hs m tasks le =
+    All-map (IsLineWithin m) (line_all hs) (map (λ (t : Admitted). no_line t.number) tasks)
+    (All-map (λ (l : LineView). IsLineWithin m (line_all hs l)) (λ (t : Admitted). no_line t.number) tasks
+      (λ k d l.
+        let n = (get_or tasks k d).number in
+        throttled_more (0 + length hs) m (line_all hs (no_line n)).job (omega (arith, le)) (all_within hs 0 (no_line n) tt)))

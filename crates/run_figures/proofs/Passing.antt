@@ -1,10 +1,11 @@
 -- What is told of all tasks, entry by entry and switch by switch.
-use Rattle.std.proofs.Common.{◌≡◌, ℕ, zero, suc, ◌+◌, ◌≤◌, ◌<◌, ◌^◌, Bool, true, false, cond, not, eqb, ◌&&◌, List, [], ◌∷◌, ◌++◌, length, get_or, take, drop, map, Option, Some, None, refl, sym, ap, ◌∙◌, arith, subst, All}
+use Rattle.std.proofs.Common.{◌≡◌, ℕ, zero, suc, ◌+◌, ◌-◌, ◌≤◌, ◌<◌, ◌^◌, Bool, true, false, cond, not, eqb, ⊎_elim, ◌&&◌, List, [], ◌∷◌, ◌++◌, length, get_or, take, drop, map, Option, Some, None, refl, sym, ap, ◌∙◌, arith, subst, All}
 use Rattle.std.specs.Prelude.{fold, count_by, is_some, is_none, nat_le}
 use Rattle.std.specs.List.{prefix_len}
-use Rattle.std.proofs.lemmas.Bool.{le-leb, leb-true}
-use Rattle.std.proofs.lemmas.List.{take_all, get_or-map, length-map}
-use Rattle.std.proofs.lemmas.List.Sums.{fold-append, fold_more, count_by_more_yes, count_by_more_no}
+use Rattle.std.proofs.lemmas.Bool.{le-leb, leb-true, lt-leb, cases_lt}
+use Rattle.std.proofs.lemmas.List.{take_all, get_or-map, length-map, get_or_default, map-id}
+use Rattle.std.proofs.lemmas.List.Sums.{fold-append, fold_more, prefix_len_is, count_by_more_yes, count_by_more_no}
+use Rattle.domain_run.specs.declared.happened.What.TheVariants.{JobEnds}
 use Rattle.domain_run.specs.declared.happened.Happened.{Happened}
 use Rattle.domain_run.specs.declared.switch.Switch.{Switch}
 use Rattle.run_figures.specs.declared.throttle.Throttle.{Throttle}
@@ -12,7 +13,7 @@ use Rattle.run_figures.specs.declared.told.Told.{Told}
 use Rattle.run_figures.specs.Jobs.{of_task}
 use Rattle.run_figures.specs.Stays.{is_task}
 use Rattle.run_figures.specs.Throttling.{wants_it, is_throttled_at, preempts, throttled_then}
-use Rattle.run_figures.specs.private.Telling.{told_after, told_if, told_all, untold, so_far, leaver_wanting, with_preemption, IsWithin}
+use Rattle.run_figures.specs.private.Telling.{told_after, told_if, told_all, untold, so_far, leaver_wanting, with_preemption, IsWithin, HaveRoomFor}
 use Rattle.run_figures.proofs.Counted.{own_told, own_throttle, since_counted}
 use Rattle.run_figures.proofs.Within.{told_within, within_more}
 
@@ -56,6 +57,33 @@ one_more_told end hs i h now before ts l is b n =
     let each : (t : Told) → told_if end (told_all end (take i hs) t) h ≡ told_all end (take (i + 1) hs) t = λ t.
         ap (told_if end (told_all end (take i hs) t)) is ∙ sym (fold_more (told_if end) t hs i h l) in
     n ∙ ap (map (λ t. told_if end t h)) b ∙ map-map (λ t. told_if end t h) (told_all end (take i hs)) ts ∙ map_same (λ t. told_if end (told_all end (take i hs) t) h) (told_all end (take (i + 1) hs)) ts each
+
+-- what is told by the first entries of a list
+pub record AreTold (end : ℕ) (hs : List Happened) (i : ℕ) (old now : List Told) : Type 0 where
+  pub told : now ≡ map (told_all end (take i hs)) old
+  pub within : (n : ℕ) → All (IsWithin n) old → All (IsWithin (n + i)) now
+
+pub none_told : (end : ℕ) (hs : List Happened) (old : List Told) → AreTold end hs 0 old old
+none_told end hs old = record {
+  told = sym (map-id old);
+  within = λ n all. all_more n (n + 0) old (omega arith) all;
+}
+
+pub one_told : (end : ℕ) (hs : List Happened) (i : ℕ) (d : Happened) (old before now : List Told) → i < length hs → AreTold end hs i old before → now ≡ map (λ t. told_if end t (get_or hs i d)) before → ((n : ℕ) → All (IsWithin n) before → All (IsWithin (n + 1)) now) → AreTold end hs (i + 1) old now
+one_told end hs i d old before now l b n more = record {
+  told = one_more_told end hs i (get_or hs i d) now before old l (get_or_default hs i d (get_or hs i d) l) b.told n;
+  within = λ m all.
+      let e : m + i + 1 ≡ m + (i + 1) = omega arith in
+      subst (λ k. All (IsWithin k) now) e (more (m + i) (b.within m all));
+}
+
+pub told_keyed : (end : ℕ) (hs : List Happened) (i : ℕ) (old now : List Told) (numbers : List ℕ) → AreTold end hs i old now → map (λ t. t.number) old ≡ numbers → map (λ t. t.number) now ≡ numbers
+told_keyed end hs i old now numbers h keyed =
+    ap (λ (ts : List Told). map (λ t. t.number) ts) h.told ∙ numbers_of_told end (take i hs) old ∙ keyed
+
+pub told_room : (end : ℕ) (hs : List Happened) (i : ℕ) (old now : List Told) → AreTold end hs i old now → i < length hs → HaveRoomFor (length hs) old → All (IsWithin (2 ^ 64 - 2)) now
+told_room end hs i old now h l room =
+    all_more (room.used + i) (2 ^ 64 - 2) now (omega (arith, room.fits)) (h.within room.used room.within)
 
 -- PREEMPTIONS do not touch what is told
 if_with : (end : ℕ) (t : Told) (p : ℕ) (h : Happened) → told_if end (record t { preempted = p }) h ≡ record (told_if end t h) { preempted = p }
@@ -127,3 +155,23 @@ goes_on (h ∷ hs) (suc j) time l =
       | true ↦ λ le. omega (arith, goes_on hs j time (omega (arith, le)))
       | false ↦ λ le. absurd (omega (arith, le))
     ] l
+
+abbrev pub blank : Happened
+blank = record { time = 0; what = JobEnds; number = 0; cpu = 0 }
+
+-- one more that is not later
+pub one_passed : (hs : List Happened) (i : ℕ) (d : Happened) (time : ℕ) → i < length hs → ((k : ℕ) (e : Happened) → k < i → (get_or hs k e).time ≤ time) → (get_or hs i d).time ≤ time → (k : ℕ) (e : Happened) → k < i + 1 → (get_or hs k e).time ≤ time
+one_passed hs i d time l before here k e lt = ⊎_elim
+    (λ (less : k < i). before k e less)
+    (λ (more : i ≤ k).
+        let at : k ≡ i = omega (arith, lt, more) in
+        let same : get_or hs k e ≡ get_or hs i d = ap (λ n. get_or hs n e) at ∙ get_or_default hs i e d l in
+        omega (arith, here, ap (λ (x : Happened). x.time) same))
+    (cases_lt k i)
+
+-- all that is not later was passed, and what comes then is later
+pub all_passed : (hs : List Happened) (i time : ℕ) → i ≤ length hs → ((k : ℕ) (e : Happened) → k < i → (get_or hs k e).time ≤ time) → ((d : Happened) → i < length hs → time < (get_or hs i d).time) → i ≡ prefix_len (λ h. nat_le h.time time) hs
+all_passed hs i time l before later =
+    sym (prefix_len_is (λ (h : Happened). nat_le h.time time) hs i blank l
+      (λ k lt. le-leb (get_or hs k blank).time time (before k blank lt))
+      (λ lt. lt-leb (get_or hs i blank).time time (later blank lt)))

@@ -1,6 +1,9 @@
 -- A change of the element of one number, as a map.
 use Rattle.std.proofs.Common.{◌≡◌, ◌≢◌, ℕ, zero, suc, ◌<◌, Bool, true, false, cond, eqb, List, [], ◌∷◌, length, get_or, set, map, refl, sym, ap, ◌∙◌, arith, eq-eqb, subst}
-use Rattle.std.specs.Prelude.{AllPairs}
+use Rattle.std.specs.Prelude.{AllPairs, OnOk, Result, Ok, Err}
+use Rattle.std.specs.List.{range_with_len}
+use Rattle.std.proofs.lemmas.List.{length-map}
+use Rattle.std.proofs.lemmas.List.FromFn.{length-range_with_len, get_or-range_with_len}
 use Rattle.std.proofs.lemmas.Bool.{ne_eqb}
 use Rattle.run_figures.specs.private.Places.{IsAt, IsAbsent, if_number}
 
@@ -33,3 +36,31 @@ turned_at number n f (x ∷ xs) (suc p) d apart is =
     let first : if_number number n f x ≡ x = ap (λ b. cond b (f x) x) (ne_eqb (number x) n other) in
     let more = turned_at number n f xs p d (rest_apart (number x) (map number xs) apart) rest in
     λ i. first i ∷ more i
+
+-- the same with what was read at the place
+pub turned_place : {X : Type 0} (number : X → ℕ) (n : ℕ) (f : X → X) (xs : List X) (numbers : List ℕ) (p : ℕ) (x : X) → map number xs ≡ numbers → AllPairs (λ a b. a ≢ b) numbers → IsAt numbers n p → x ≡ get_or xs p x → set xs p (f x) ≡ map (if_number number n f) xs
+turned_place number n f xs numbers p x keyed apart at is =
+    ap (λ y. set xs p (f y)) is
+    ∙ sym (turned_at number n f xs p x (subst (λ (ns : List ℕ). AllPairs (λ a b. a ≢ b) ns) (sym keyed) apart) (subst (λ (ns : List ℕ). IsAt ns n p) (sym keyed) at))
+
+pub turned_none : {X : Type 0} (number : X → ℕ) (n : ℕ) (f : X → X) (xs : List X) (numbers : List ℕ) → map number xs ≡ numbers → IsAbsent numbers n → xs ≡ map (if_number number n f) xs
+turned_none number n f xs numbers keyed absent = sym (turned_nowhere number n f xs (subst (λ (ns : List ℕ). IsAbsent ns n) (sym keyed) absent))
+
+pub place_inside : {X : Type 0} (number : X → ℕ) (n : ℕ) (xs : List X) (numbers : List ℕ) (p : ℕ) → map number xs ≡ numbers → IsAt numbers n p → p < length xs
+place_inside number n xs numbers p keyed at = let l : p < length numbers = at.within in omega (arith, l, ap (λ (ns : List ℕ). length ns) keyed, length-map xs number)
+
+-- CPUs stand at their numbers
+pub cpus_apart : (n : ℕ) → AllPairs (λ a b. a ≢ b) (range_with_len 0 n)
+cpus_apart n i j d less within same =
+    let inside : j < n = omega (arith, within, length-range_with_len 0 n) in
+    omega (arith, same, get_or-range_with_len 0 n i d (omega (arith, less, inside)), get_or-range_with_len 0 n j d inside)
+
+pub cpu_at : (n cpu : ℕ) → cpu < n → IsAt (range_with_len 0 n) cpu cpu
+cpu_at n cpu l = record {
+  within = omega (arith, l, length-range_with_len 0 n);
+  is = λ d. omega (arith, get_or-range_with_len 0 n cpu d l);
+}
+
+pub on_ok : {T E : Type 0} (r : Result T E) (P Q : Type 0) → (P → Q) → OnOk r P → OnOk r Q
+on_ok (Ok x) P Q f h = f h
+on_ok (Err e) P Q f h = tt

@@ -82,11 +82,11 @@ fn no_lines(alloc: Global, tasks: &[Admitted]) -> Result<Vec<Line>, NoMemory>
 {
     let mut table = Vec::with_capacity(alloc, tasks.len())?;
     for task in tasks {
-        table.push_reserved(Line {
+        table.push(Line {
             number: task.number,
             over: Vec::new(alloc),
             job: None,
-        });
+        })?;
     }
     Ok(table)
 }
@@ -135,7 +135,7 @@ pub fn jobs_of(alloc: Global, run: &Run<'_>) -> Result<Vec<TaskJobs>, NoMemory>
     let mut all = Vec::with_capacity(alloc, table.len())?;
     table.reverse();
     while let Some(line) = table.pop() {
-        all.push_reserved(closed(line)?);
+        all.push(closed(line)?)?;
     }
     Ok(all)
 }

@@ -42,7 +42,8 @@ fn index_of(alloc: Global, numbers: &[u32]) -> Result<Vec<usize>, NoMemory>
     requires small { All (λ n. n < 65536) numbers.now }
     ensures { IfOk result (λ v. places.IsIndex numbers.now (length numbers.now) v.items) }
 {
-    let mut codes = vec![in alloc; 0usize; 65536]?;
+    let mut codes = Vec::new(alloc);
+    codes.resize(65536, 0)?;
     for (place, number) in numbers.iter().enumerate() {
         codes[*number as usize] = place + 1;
     }

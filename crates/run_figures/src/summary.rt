@@ -70,7 +70,7 @@ fn all_figures(
 {
     let mut all = Vec::with_capacity(alloc, tasks.len())?;
     for (place, task) in tasks.iter().enumerate() {
-        all.push_reserved(figures_of(task, &told[place], &ran[place], end));
+        all.push(figures_of(task, &told[place], &ran[place], end))?;
     }
     Ok(all)
 }

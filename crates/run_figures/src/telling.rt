@@ -35,7 +35,7 @@ fn tell_until(
     end: u64,
 ) -> usize
     requires keyed { map (λ t. t.number) told.old.items ≡ places.now }
-    requires room { All (telling.HasRoomFor (length happened.now)) told.old.items }
+    requires room { telling.HaveRoomFor (length happened.now) told.old.items }
     ensures told { told.new.items
         ≡ map (telling.told_all end (take result happened.now)) told.old.items }
     ensures count { result ≡ prefix_len (λ h. nat_le h.time time) happened.now }
@@ -56,7 +56,7 @@ fn tell_until(
 /// Tells all of this.
 fn tell_all(told: &mut Vec<Told>, places: &Places, happened: &[Happened], end: u64)
     requires keyed { map (λ t. t.number) told.old.items ≡ places.now }
-    requires room { All (telling.HasRoomFor (length happened.now)) told.old.items }
+    requires room { telling.HaveRoomFor (length happened.now) told.old.items }
     ensures told { told.new.items ≡ map (telling.told_all end happened.now) told.old.items }
     ensures within { (n : ℕ) → All (telling.IsWithin n) told.old.items
         → All (telling.IsWithin (n + length happened.now)) told.new.items }

@@ -1,5 +1,5 @@
 -- What is told of a task while its entries go by.
-use Rattle.std.specs.Prelude.{ℕ, ◌+◌, ◌-◌, ◌*◌, ◌≡◌, ◌≤◌, ◌<◌, ◌^◌, ◌&&◌, is_none, min, max, fold, if◌then◌else◌, List, take, count_by, Option, Some, None, IfSome}
+use Rattle.std.specs.Prelude.{ℕ, ◌+◌, ◌-◌, ◌*◌, ◌≡◌, ◌≤◌, ◌<◌, ◌^◌, ◌&&◌, is_none, min, max, fold, if◌then◌else◌, List, All, take, count_by, Option, Some, None, IfSome}
 use Rattle.std.specs.Int.{int_min}
 use Rattle.domain_run.specs.declared.happened.What.{What}
 use Rattle.domain_run.specs.declared.happened.Happened.{Happened}
@@ -100,10 +100,10 @@ pub record IsWithin (n : ℕ) (t : Told) : Type 0 where
   pub us : t.throttle.us ≤ n * 2 ^ 64
 
 -- so much more can be told
-pub record HasRoomFor (n : ℕ) (t : Told) : Type 0 where
+pub record HaveRoomFor (n : ℕ) (ts : List Told) : Type 0 where
   pub used : ℕ
   pub fits : used + n < 2 ^ 64
-  pub within : IsWithin used t
+  pub within : All (IsWithin used) ts
 
 -- A SWITCH
 abbrev pub leaver_wanting : Switch → Option ℕ
