@@ -1,11 +1,19 @@
 -- Lines put behind one another.
 use Rattle.std.proofs.Common.{◌≡◌, ℕ, suc, ◌+◌, ◌<◌, List, [], ◌∷◌, ◌++◌, length, get_or, take, map, refl, sym, ap, ◌∙◌, arith, append_assoc, append-nil}
-use Rattle.std.specs.Prelude.{flat_map, sum_by}
-use Rattle.std.proofs.lemmas.List.{take_more, map-append, length-map, length-take-le, flat_map_more}
+use Rattle.std.specs.Prelude.{OnOk, Result, Ok, Err, flat_map, sum_by}
+use Rattle.std.proofs.lemmas.List.{take_more, map-append, length-map, length-take-le, flat_map_more, get_or_default}
 use Rattle.std.proofs.lemmas.List.Sums.{sum_by-cons, sum_by_push}
 use Rattle.figure_text.specs.Columns.{numbered}
 use Rattle.figure_text.specs.declared.summary.DomainSummary.{DomainSummary}
 use Rattle.figure_text.specs.Summary.{SummaryView, view_of, cpus_of, cpu_lines}
+
+-- one text behind another
+pub behind : (old first rest one all : List ℕ) → one ≡ old ++ first → all ≡ one ++ rest → all ≡ old ++ (first ++ rest)
+behind old first rest one all a b = b ∙ ap (λ t. t ++ rest) a ∙ append_assoc old first rest
+
+pub on_ok : {T E : Type 0} (r : Result T E) (P Q : Type 0) → (P → Q) → OnOk r P → OnOk r Q
+on_ok (Ok x) P Q f h = f h
+on_ok (Err e) P Q f h = tt
 
 numbered_push : {X : Type 0} (line : ℕ → X → List ℕ) (n : ℕ) (xs : List X) (x : X) → numbered line n (xs ++ x ∷ []) ≡ numbered line n xs ++ line (n + length xs) x
 numbered_push line n [] x =
@@ -23,6 +31,11 @@ numbered_more line n xs i x old before after l is b a =
     let more : numbered line n (take (i + 1) xs) ≡ numbered line n (take i xs) ++ line (n + i) x =
         ap (numbered line n) (take_more xs i x l ∙ ap (λ y. take i xs ++ y ∷ []) (sym is)) ∙ numbered_push line n (take i xs) x ∙ ap (λ k. numbered line n (take i xs) ++ line (n + k) x) len in
     a ∙ ap (λ t. t ++ line (n + i) x) b ∙ append_assoc old (numbered line n (take i xs)) (line (n + i) x) ∙ ap (λ t. old ++ t) (sym more)
+
+-- the same of what was read at a place
+pub numbered_at : {X : Type 0} (line : ℕ → X → List ℕ) (n : ℕ) (xs : List X) (i k : ℕ) (d : X) (old before after : List ℕ) → i < length xs → k ≡ n + i → before ≡ old ++ numbered line n (take i xs) → after ≡ before ++ line k (get_or xs i d) → after ≡ old ++ numbered line n (take (i + 1) xs)
+numbered_at line n xs i k d old before after l at b a =
+    numbered_more line n xs i (get_or xs i d) old before after l (get_or_default xs i d (get_or xs i d) l) b (a ∙ ap (λ m. before ++ line m (get_or xs i d)) at)
 
 -- one more line of a list
 pub flat_more : {X : Type 0} (line : X → List ℕ) (xs : List X) (i : ℕ) (x : X) (old before after : List ℕ) → i < length xs → x ≡ get_or xs i x → before ≡ old ++ flat_map line (take i xs) → after ≡ before ++ line x → after ≡ old ++ flat_map line (take (i + 1) xs)

@@ -19,13 +19,16 @@ end_columns j (Some end) =
     ++ (column 11 (decimal (end - j.release))
     ++ column 11 (signed_decimal (pos j.deadline -ℤ pos end)))
 
+-- whose job it is, and which of its jobs
+abbrev pub job_name : List ℕ → ℕ → ℕ → List ℕ
+job_name name number place =
+    right 15 name ++ (column 6 (pid number) ++ column 6 (decimal place))
+
 abbrev pub job_line : List ℕ → ℕ → ℕ → Job → List ℕ
 job_line name number place j =
-    right 15 name
-    ++ (column 6 (pid number)
-    ++ (column 6 (decimal place)
+    job_name name number place
     ++ (column 11 (decimal j.release)
-    ++ (end_columns j j.ended ++ (column 9 (decimal j.throttled) ++ codes "\n")))))
+    ++ (end_columns j j.ended ++ (column 9 (decimal j.throttled) ++ codes "\n")))
 
 -- the first job of a task is job 0
 abbrev pub task_lines : (ℕ → List ℕ) → TaskJobsView → List ℕ

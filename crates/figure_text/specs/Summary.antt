@@ -45,12 +45,19 @@ task_header = codes
     "#          task    pid dom    jobs    late   resp_min   resp_avg   resp_max   slack_min throttled throttled_us preempted migrated       cpu_us   used%    has%\n"
 
 -- of the jobs that ended; dashes where none did
-abbrev pub response_columns : Option Responses → List ℕ
-response_columns None =
+abbrev pub time_columns : Responses → List ℕ
+time_columns r = column 10 (decimal r.least) ++ (column 10 (decimal r.mean) ++ column 10 (decimal r.most))
+
+abbrev pub known_columns : Responses → List ℕ
+known_columns r = time_columns r ++ column 11 (signed_decimal r.slack)
+
+abbrev pub no_columns : List ℕ
+no_columns =
     column 10 (codes "-") ++ (column 10 (codes "-") ++ (column 10 (codes "-") ++ column 11 (codes "-")))
-response_columns (Some r) =
-    column 10 (decimal r.least)
-    ++ (column 10 (decimal r.mean) ++ (column 10 (decimal r.most) ++ column 11 (signed_decimal r.slack)))
+
+abbrev pub response_columns : Option Responses → List ℕ
+response_columns None = no_columns
+response_columns (Some r) = known_columns r
 
 -- how its jobs went
 abbrev pub job_columns : TaskFigures → List ℕ
@@ -70,12 +77,15 @@ share_columns time t =
     column 12 (decimal t.cpu_us)
     ++ (share t.cpu_us time ++ share t.runtime t.period)
 
+-- who it is, and in which domain
+abbrev pub task_name : ℕ → List ℕ → ℕ → List ℕ
+task_name domain name number =
+    right 15 name ++ (column 6 (pid number) ++ column 3 (decimal domain))
+
 abbrev pub task_line : ℕ → SummaryView → TaskFigures → List ℕ
 task_line domain d t =
-    right 15 (d.names t.number)
-    ++ (column 6 (pid t.number)
-    ++ (column 3 (decimal domain)
-    ++ (job_columns t ++ (count_columns t ++ (share_columns d.time t ++ codes "\n")))))
+    task_name domain (d.names t.number) t.number
+    ++ (job_columns t ++ (count_columns t ++ (share_columns d.time t ++ codes "\n")))
 
 abbrev pub tasks_of : ℕ → SummaryView → List ℕ
 tasks_of domain d = flat_map (task_line domain d) d.tasks
@@ -89,12 +99,15 @@ task_lines domains = numbered tasks_of 0 domains
 abbrev pub cpu_header : List ℕ
 cpu_header = codes "#  cpu dom      busy_us   busy%  switches\n"
 
+-- three digits in a column of six
+abbrev pub cpu_name : ℕ → ℕ → List ℕ
+cpu_name domain cpu = codes "   " ++ (digits_in 3 cpu ++ column 3 (decimal domain))
+
 abbrev pub cpu_line : ℕ → ℕ → ℕ → CpuFigures → List ℕ
 cpu_line domain time cpu c =
-    codes "   " ++ (digits_in 3 cpu
-    ++ (column 3 (decimal domain)
+    cpu_name domain cpu
     ++ (column 12 (decimal c.busy_us)
-    ++ (share c.busy_us time ++ (column 9 (decimal c.switches) ++ codes "\n")))))
+    ++ (share c.busy_us time ++ (column 9 (decimal c.switches) ++ codes "\n")))
 
 -- the first CPU of a domain is this CPU of the machine
 abbrev pub cpus_of : ℕ → ℕ → SummaryView → List ℕ
@@ -111,13 +124,16 @@ cpu_lines domain cpu (d ∷ ds) =
 abbrev pub domain_header : List ℕ
 domain_header = codes "#domain cpus  bandwidth        cap  taken%      time_us\n"
 
+-- the sum of bandwidths, the cap, and the one as a share of the other
+abbrev pub bandwidth_columns : SummaryView → List ℕ
+bandwidth_columns d =
+    column 10 (decimal d.bandwidth) ++ (column 10 (decimal d.cap) ++ share d.bandwidth d.cap)
+
 abbrev pub domain_line : ℕ → SummaryView → List ℕ
 domain_line domain d =
     right 7 (decimal domain)
     ++ (column 4 (decimal (length d.cpus))
-    ++ (column 10 (decimal d.bandwidth)
-    ++ (column 10 (decimal d.cap)
-    ++ (share d.bandwidth d.cap ++ (column 12 (decimal d.time) ++ codes "\n")))))
+    ++ (bandwidth_columns d ++ (column 12 (decimal d.time) ++ codes "\n")))
 
 abbrev pub domain_lines : List SummaryView → List ℕ
 domain_lines domains = numbered domain_line 0 domains

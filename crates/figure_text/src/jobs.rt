@@ -37,6 +37,16 @@ fn put_end(out: &mut Vec<u8>, job: &Job) -> Result<(), NoMemory>
     }
 }
 
+/// The columns of whose job it is, and which of its jobs.
+fn put_name(out: &mut Vec<u8>, name: &[u8], number: u32, place: usize) -> Result<(), NoMemory>
+    ensures { OnOk result (out.new.items
+        ≡ out.old.items ++ texts.job_name name.now number place) }
+{
+    put_right(out, 15, name)?;
+    put_pid(out, number)?;
+    put_number(out, 6, place as u64)
+}
+
 fn put_job(
     out: &mut Vec<u8>,
     name: &[u8],
@@ -47,9 +57,7 @@ fn put_job(
     ensures { OnOk result (out.new.items
         ≡ out.old.items ++ texts.job_line name.now number place job.now) }
 {
-    put_right(out, 15, name)?;
-    put_pid(out, number)?;
-    put_number(out, 6, place as u64)?;
+    put_name(out, name, number, place)?;
     put_number(out, 11, job.release)?;
     put_end(out, job)?;
     put_number(out, 9, job.throttled)?;

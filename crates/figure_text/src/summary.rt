@@ -32,22 +32,36 @@ pub struct DomainSummary<'a> {
 
 // ---- the tasks
 
+fn put_times(out: &mut Vec<u8>, responses: &Responses) -> Result<(), NoMemory>
+    ensures { OnOk result (out.new.items ≡ out.old.items ++ texts.time_columns responses.now) }
+{
+    put_number(out, 10, responses.least)?;
+    put_wide(out, 10, responses.mean)?;
+    put_number(out, 10, responses.most)
+}
+
+fn put_known(out: &mut Vec<u8>, responses: &Responses) -> Result<(), NoMemory>
+    ensures { OnOk result (out.new.items ≡ out.old.items ++ texts.known_columns responses.now) }
+{
+    put_times(out, responses)?;
+    put_signed(out, 11, responses.slack)
+}
+
+fn put_none(out: &mut Vec<u8>) -> Result<(), NoMemory>
+    ensures { OnOk result (out.new.items ≡ out.old.items ++ texts.no_columns) }
+{
+    put_dash(out, 10)?;
+    put_dash(out, 10)?;
+    put_dash(out, 10)?;
+    put_dash(out, 11)
+}
+
 fn put_responses(out: &mut Vec<u8>, responses: Option<Responses>) -> Result<(), NoMemory>
     ensures { OnOk result (out.new.items ≡ out.old.items ++ texts.response_columns responses) }
 {
     match responses {
-        None => {
-            put_dash(out, 10)?;
-            put_dash(out, 10)?;
-            put_dash(out, 10)?;
-            put_dash(out, 11)
-        }
-        Some(responses) => {
-            put_number(out, 10, responses.least)?;
-            put_wide(out, 10, responses.mean)?;
-            put_number(out, 10, responses.most)?;
-            put_signed(out, 11, responses.slack)
-        }
+        None => put_none(out),
+        Some(responses) => put_known(out, &responses),
     }
 }
 
@@ -77,6 +91,21 @@ fn put_shares(out: &mut Vec<u8>, task: &TaskFigures, time: u64) -> Result<(), No
     put_share(out, u128::from(task.runtime), task.period)
 }
 
+/// The columns of who it is, and in which domain.
+fn put_task_name(
+    out: &mut Vec<u8>,
+    domain: usize,
+    name: &[u8],
+    number: u32,
+) -> Result<(), NoMemory>
+    ensures { OnOk result (out.new.items
+        ≡ out.old.items ++ texts.task_name domain name.now number) }
+{
+    put_right(out, 15, name)?;
+    put_pid(out, number)?;
+    put_number(out, 3, domain as u64)
+}
+
 fn put_task(
     out: &mut Vec<u8>,
     domain: usize,
@@ -87,9 +116,7 @@ fn put_task(
     ensures { OnOk result (out.new.items
         ≡ out.old.items ++ texts.task_line domain (texts.view_of of.now) task.now) }
 {
-    put_right(out, 15, name_of(of.names, task.number))?;
-    put_pid(out, task.number)?;
-    put_number(out, 3, domain as u64)?;
+    put_task_name(out, domain, name_of(of.names, task.number), task.number)?;
     put_jobs(out, task)?;
     put_counts(out, task)?;
     put_shares(out, task, of.time)?;
@@ -121,6 +148,14 @@ fn put_tasks(out: &mut Vec<u8>, domains: &[DomainSummary<'_>]) -> Result<(), NoM
 
 // ---- the CPUs
 
+fn put_cpu_name(out: &mut Vec<u8>, domain: usize, cpu: usize) -> Result<(), NoMemory>
+    ensures { OnOk result (out.new.items ≡ out.old.items ++ texts.cpu_name domain cpu) }
+{
+    put(out, b"   ")?;
+    put_digits(out, 3, cpu as u64)?;
+    put_number(out, 3, domain as u64)
+}
+
 fn put_cpu(
     out: &mut Vec<u8>,
     domain: usize,
@@ -132,9 +167,7 @@ fn put_cpu(
     ensures { OnOk result (out.new.items
         ≡ out.old.items ++ texts.cpu_line domain time cpu figures.now) }
 {
-    put(out, b"   ")?;
-    put_digits(out, 3, cpu as u64)?;
-    put_number(out, 3, domain as u64)?;
+    put_cpu_name(out, domain, cpu)?;
     put_wide(out, 12, figures.busy_us)?;
     put_share(out, figures.busy_us, time)?;
     put_number(out, 9, figures.switches)?;
@@ -184,15 +217,22 @@ fn put_first(out: &mut Vec<u8>, n: usize) -> Result<(), NoMemory>
     put_right(out, 7, buffer.format(n).as_bytes())
 }
 
+fn put_bandwidth(out: &mut Vec<u8>, domain: &DomainSummary<'_>) -> Result<(), NoMemory>
+    ensures { OnOk result (out.new.items
+        ≡ out.old.items ++ texts.bandwidth_columns (texts.view_of domain.now)) }
+{
+    put_number(out, 10, domain.bandwidth)?;
+    put_number(out, 10, domain.cap)?;
+    put_share(out, u128::from(domain.bandwidth), domain.cap)
+}
+
 fn put_domain(out: &mut Vec<u8>, number: usize, domain: &DomainSummary<'_>) -> Result<(), NoMemory>
     ensures { OnOk result (out.new.items
         ≡ out.old.items ++ texts.domain_line number (texts.view_of domain.now)) }
 {
     put_first(out, number)?;
     put_number(out, 4, domain.cpus.len() as u64)?;
-    put_number(out, 10, domain.bandwidth)?;
-    put_number(out, 10, domain.cap)?;
-    put_share(out, u128::from(domain.bandwidth), domain.cap)?;
+    put_bandwidth(out, domain)?;
     put_number(out, 12, domain.time)?;
     put(out, b"\n")
 }
