@@ -48,7 +48,7 @@ least_each : (time : ℕ) (tasks : List Task) → time < least (map due_of tasks
 least_each time [] h = λ k d within. absurd (omega (arith, within))
 least_each time (t ∷ tasks) h = All-cons (λ u. time < due_of u) t tasks (omega (arith, h)) (least_each time tasks (omega (arith, h)))
 
-still_each : (time : ℕ) (tasks : List Task) → time < least (map due_of tasks) → All (IsStill time) tasks
+pub still_each : (time : ℕ) (tasks : List Task) → time < least (map due_of tasks) → All (IsStill time) tasks
 still_each time tasks h = All-weaker (λ t. time < due_of t) (IsStill time) (λ t k. still_at time t k) tasks (least_each time tasks h)
 
 -- no task is due

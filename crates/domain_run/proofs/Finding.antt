@@ -1,6 +1,6 @@
 -- The task of a number, and a map that changes this task alone.
 use Rattle.std.proofs.Common.{◌≡◌, ◌≢◌, ℕ, zero, suc, ◌<◌, Bool, true, false, cond, eqb, ◌&&◌, not, Option, Some, None, List, [], ◌∷◌, length, get_or, set, map, refl, sym, ap, ◌∙◌, arith, eq-eqb}
-use Rattle.std.specs.Prelude.{AllPairs, find}
+use Rattle.std.specs.Prelude.{AllPairs, filter, find}
 use Rattle.std.proofs.lemmas.Bool.{ne_eqb, eqb-true}
 use Rattle.std.proofs.lemmas.List.{get_or-map}
 use Rattle.domain_run.specs.declared.task.Task.{Task}
@@ -76,3 +76,22 @@ map_at f n (t ∷ tasks) (suc p) d numbered is =
 -- what a map left at a place
 pub read_before : (f : Task → Task) (tasks now : List Task) (p : ℕ) (d : Task) → p < length tasks → now ≡ map f tasks → get_or now p d ≡ f (get_or tasks p d)
 read_before f tasks now p d h is = ap (λ (ts : List Task). get_or ts p d) is ∙ get_or-map f tasks p d d h
+
+-- ALL OF A NUMBER
+pub filter_absent : (tasks : List Task) (n : ℕ) → IsAbsent tasks n → filter (λ t. eqb t.number n) tasks ≡ []
+filter_absent [] n absent = refl
+filter_absent (t ∷ tasks) n absent =
+    ap (λ b. cond b (t ∷ filter (λ t. eqb t.number n) tasks) (filter (λ t. eqb t.number n) tasks)) (ne_eqb t.number n (absent zero t (omega arith)))
+    ∙ filter_absent tasks n (rest_absent t tasks n absent)
+
+pub filter_at : (tasks : List Task) (n p : ℕ) (d : Task) → AreNumbered tasks → IsAt tasks n p → filter (λ t. eqb t.number n) tasks ≡ get_or tasks p d ∷ []
+filter_at [] n p d numbered is = let no : p < 0 = is.within in absurd (omega (arith, no))
+filter_at (t ∷ tasks) n zero d numbered is =
+    ap (λ b. cond b (t ∷ filter (λ t. eqb t.number n) tasks) (filter (λ t. eqb t.number n) tasks)) (eq-eqb t.number n (is.is t))
+    ∙ ap (λ (ts : List Task). t ∷ ts) (filter_absent tasks n (others t tasks n numbered (is.is t)))
+filter_at (t ∷ tasks) n (suc p) d numbered is =
+    let inside : suc p < suc (length tasks) = is.within in
+    let rest : IsAt tasks n p = record { within = omega (arith, inside); is = is.is } in
+    let other : t.number ≢ n = λ e. numbered zero (suc p) t (omega arith) inside (e ∙ sym (is.is t)) in
+    ap (λ b. cond b (t ∷ filter (λ t. eqb t.number n) tasks) (filter (λ t. eqb t.number n) tasks)) (ne_eqb t.number n other)
+    ∙ filter_at tasks n p d (rest_numbered t tasks numbered) rest

@@ -23,7 +23,7 @@ first_push_no : {X : Type 0} (p : X → Bool) (xs : List X) (y : X) → p y ≡ 
 first_push_no p [] y fails = ap (λ b. cond b (Some 0) None) fails
 first_push_no p (x ∷ xs) y fails = ap (λ o. cond (p x) (Some 0) (option_map suc o)) (first_push_no p xs y fails)
 
-position_push_no : {X : Type 0} (p : X → Bool) (xs : List X) (y : X) → p y ≡ false → position p (xs ++ y ∷ []) ≡ position p xs
+pub position_push_no : {X : Type 0} (p : X → Bool) (xs : List X) (y : X) → p y ≡ false → position p (xs ++ y ∷ []) ≡ position p xs
 position_push_no p xs y fails = first_is p (xs ++ y ∷ []) ∙ first_push_no p xs y fails ∙ sym (first_is p xs)
 
 first_none : {X : Type 0} (p : X → Bool) (xs : List X) → All (λ x. p x ≡ false) xs → first_at p xs ≡ None
@@ -132,12 +132,12 @@ standing_idle places i h is =
 -- ---- WHO IS PAID, one running task after another
 
 -- the i-th running task is no earlier one
-record IsIth (running : List ℕ) (i : ℕ) (t : Task) : Type 0 where
+pub record IsIth (running : List ℕ) (i : ℕ) (t : Task) : Type 0 where
   pub whole : index_of running t ≡ Some i
   pub now : index_of (take (i + 1) running) t ≡ Some i
   pub before : index_of (take i running) t ≡ None
 
-ith : (running : List ℕ) (i : ℕ) (t : Task) → AreDistinct running → i < length running → get_or running i 0 ≡ t.number → IsIth running i t
+pub ith : (running : List ℕ) (i : ℕ) (t : Task) → AreDistinct running → i < length running → get_or running i 0 ≡ t.number → IsIth running i t
 ith running i t distinct h at =
     let p : ℕ → Bool = λ n. eqb n t.number in
     let earlier : (k : ℕ) → k < i → p (get_or running k 0) ≡ false = λ k less. ne_eqb (get_or running k 0) t.number (λ e. distinct k i 0 less h (e ∙ sym at)) in

@@ -59,7 +59,7 @@ candidates_alike f same (t ∷ tasks) =
     let more = candidates_alike f same tasks in
     candidates_first (f t) (map f tasks) ∙ (λ i. one (first i) ++ more i) ∙ sym (candidates_first t tasks)
 
-rest_alike : (time : ℕ) (t u : Task) → Alike t u → ticks_to_due_of time u ≡ ticks_to_due_of time t
+pub rest_alike : (time : ℕ) (t u : Task) → Alike t u → ticks_to_due_of time u ≡ ticks_to_due_of time t
 rest_alike time t u same =
     λ i. min (min (ticks_to time (cond (is_throttled (same.condition i)) (same.deadline i) None)) (ticks_to time (same.zero_lag i))) (min (ticks_to time (asks_at (same.condition i))) (ticks_to time (cond (not (is_leaving (same.condition i) && is_none (same.zero_lag i))) None (Some 0))))
 
@@ -109,7 +109,7 @@ not_yet time j None some h = refl
 not_yet time j (Some u) some h = lt-leb u (time + j) (omega (arith, some, h))
 
 -- before the first time at which something is to be done
-still_before : (time j : ℕ) (t : Task) → 0 < j → j ≤ ticks_to_due_of (time + 1) t → IsStill (time + j) t
+pub still_before : (time j : ℕ) (t : Task) → 0 < j → j ≤ ticks_to_due_of (time + 1) t → IsStill (time + j) t
 still_before time j t some h =
     let clock = time + 1 in
     let a : j ≤ ticks_to clock (replenished_at t) = omega (arith, h) in
@@ -133,7 +133,7 @@ still_before time j t some h =
     asks Waiting h = refl
     asks Leaving h = refl
 
-rest_each : (time j : ℕ) (tasks : List Task) → j ≤ ticks_to_due time tasks → All (λ t. j ≤ ticks_to_due_of time t) tasks
+pub rest_each : (time j : ℕ) (tasks : List Task) → j ≤ ticks_to_due time tasks → All (λ t. j ≤ ticks_to_due_of time t) tasks
 rest_each time j [] h = λ k d within. absurd (omega (arith, within))
 rest_each time j (t ∷ tasks) h = All-cons (λ u. j ≤ ticks_to_due_of time u) t tasks (omega (arith, h)) (rest_each time j tasks (omega (arith, h)))
 
@@ -145,7 +145,7 @@ slid b j t = cond (stands t.number b.curr) (record t { server = charged (rate_of
 abbrev pub slid_all : Domain → ℕ → Domain
 slid_all b j = record b { time = b.time + j; tasks = map (slid b j) b.tasks }
 
-alike_slid : (b : Domain) (j : ℕ) (t : Task) → Alike t (slid b j t)
+pub alike_slid : (b : Domain) (j : ℕ) (t : Task) → Alike t (slid b j t)
 alike_slid b j t =
     elim (stands t.number b.curr) as (λ x. Alike t (cond x (record t { server = charged (rate_of b t) j t.server; work = t.work - j }) t)) [
       | true ↦ record { number = refl; params = refl; cpu = refl; condition = refl; zero_lag = refl; deadline = refl }
@@ -210,7 +210,7 @@ no_switches time tasks cpu (o ∷ places) =
     let s : Switch = record { time = time; prev = o; next = o; cpu = cpu; state = state_of tasks o } in
     ap (λ b. cond b (switches_from time tasks (cpu + 1) places places) (s ∷ switches_from time tasks (cpu + 1) places places)) (same_itself o) ∙ no_switches time tasks (cpu + 1) places
 
-begun_still : (d : Domain) (j : ℕ) → 0 < j → j ≤ ticks_to_due (d.time + 1) (begun d).tasks → begun (slid_all (begun d) j) ≡ slid_all (begun d) j
+pub begun_still : (d : Domain) (j : ℕ) → 0 < j → j ≤ ticks_to_due (d.time + 1) (begun d).tasks → begun (slid_all (begun d) j) ≡ slid_all (begun d) j
 begun_still d j some h =
     let b = begun d in
     let w = prepared d.time d.tasks in
@@ -239,7 +239,7 @@ pub record Runs (b : Domain) (ticks : ℕ) (t : Task) : Type 0 where
 abbrev pub RunsIf : Domain → ℕ → Task → Type 0
 RunsIf b ticks t = stands t.number b.curr ≡ true → Runs b ticks t
 
-rate_slid : (b : Domain) (j : ℕ) (t u : Task) → u.params ≡ t.params → u.cpu ≡ t.cpu → rate_of (slid_all b j) u ≡ rate_of b t
+pub rate_slid : (b : Domain) (j : ℕ) (t u : Task) → u.params ≡ t.params → u.cpu ≡ t.cpu → rate_of (slid_all b j) u ≡ rate_of b t
 rate_slid b j t u params cpu =
     let all = shares_alike (slid b j) (alike_slid b j) b.tasks in
     λ i. reclaiming.rate (params i) (uinact (cpu i) (all i)) (total (all i)) b.cpus b.limit
@@ -257,7 +257,7 @@ less_twice left rate j =
 abbrev pub run_by : ℕ → ℤ → ℕ → Task → Task
 run_by time left work t = after_charge time (record t { server = record t.server { left = left }; work = work })
 
-ran_slid : (b : Domain) (j : ℕ) (t : Task) → ran_if (slid_all b j) (slid b j t) ≡ cond (stands t.number b.curr) (run_by (b.time + suc j) (t.server.left -ℤ pos (rate_of b t * suc j)) (t.work - suc j) t) t
+pub ran_slid : (b : Domain) (j : ℕ) (t : Task) → ran_if (slid_all b j) (slid b j t) ≡ cond (stands t.number b.curr) (run_by (b.time + suc j) (t.server.left -ℤ pos (rate_of b t * suc j)) (t.work - suc j) t) t
 ran_slid b j t = by_stands (stands t.number b.curr) refl
   where
     x : Task
@@ -275,7 +275,7 @@ ran_slid b j t = by_stands (stands t.number b.curr) refl
     by_stands false e = ap (λ s. cond s (ran (b.time + j) (rate_of (slid_all b j) t) t) t) e
 
 -- where nothing ends in it, it only slides on
-run_on : (b : Domain) (j k : ℕ) (t : Task) → suc j < k → Runs b k t → run_by (b.time + suc j) (t.server.left -ℤ pos (rate_of b t * suc j)) (t.work - suc j) t ≡ record t { server = charged (rate_of b t) (suc j) t.server; work = t.work - suc j }
+pub run_on : (b : Domain) (j k : ℕ) (t : Task) → suc j < k → Runs b k t → run_by (b.time + suc j) (t.server.left -ℤ pos (rate_of b t * suc j)) (t.work - suc j) t ≡ record t { server = charged (rate_of b t) (suc j) t.server; work = t.work - suc j }
 run_on b j k t less runs =
     let left = t.server.left -ℤ pos (rate_of b t * suc j) in
     let more : eqb (t.work - suc j) 0 ≡ false = ne_eqb (t.work - suc j) 0 (λ e. absurd (omega (arith, e, less, runs.worked))) in
@@ -289,7 +289,7 @@ run_on b j k t less runs =
     above : (z : ℤ) → pos 0 <ℤ z → int_le z (pos 0) ≡ false
     above z h = grind (arith, ints)
 
-slid_more : (b : Domain) (j k : ℕ) (t : Task) → suc j < k → RunsIf b k t → ran_if (slid_all b j) (slid b j t) ≡ slid b (suc j) t
+pub slid_more : (b : Domain) (j k : ℕ) (t : Task) → suc j < k → RunsIf b k t → ran_if (slid_all b j) (slid b j t) ≡ slid b (suc j) t
 slid_more b j k t less runs =
     ran_slid b j t
     ∙ elim (stands t.number b.curr) as (λ s. (s ≡ true → Runs b k t) → cond s (run_by (b.time + suc j) (t.server.left -ℤ pos (rate_of b t * suc j)) (t.work - suc j) t) t ≡ cond s (record t { server = charged (rate_of b t) (suc j) t.server; work = t.work - suc j }) t) [
@@ -298,14 +298,14 @@ slid_more b j k t less runs =
     ] runs
 
 -- so each of these ticks leaves that
-finished_slid : (b : Domain) (j k : ℕ) → suc j < k → All (RunsIf b k) b.tasks → finished (slid_all b j) ≡ slid_all b (suc j)
+pub finished_slid : (b : Domain) (j k : ℕ) → suc j < k → All (RunsIf b k) b.tasks → finished (slid_all b j) ≡ slid_all b (suc j)
 finished_slid b j k less runs =
     let time : b.time + j + 1 ≡ b.time + suc j = omega arith in
     let tasks = map_twice (ran_if (slid_all b j)) (slid b j) (slid b (suc j)) b.tasks (λ i d h. slid_more b j k (get_or b.tasks i d) less (runs i d h)) in
     λ i. record b { time = time i; tasks = tasks i }
 
 -- at the beginning nothing has run
-slid_none : (b : Domain) → slid_all b 0 ≡ b
+pub slid_none : (b : Domain) → slid_all b 0 ≡ b
 slid_none b =
     let time : b.time + 0 ≡ b.time = omega arith in
     let tasks = map_itself (slid b 0) b.tasks (λ i d h. none (get_or b.tasks i d)) in
@@ -325,7 +325,7 @@ slid_none b =
 -- ---- THE JUMP
 
 -- before its last tick nothing ends
-ticks_slid : (d : Domain) (k j : ℕ) → j < k → k - 1 ≤ ticks_to_due (d.time + 1) (begun d).tasks → All (RunsIf (begun d) k) (begun d).tasks → ticks (suc j) d ≡ finished (slid_all (begun d) j)
+pub ticks_slid : (d : Domain) (k j : ℕ) → j < k → k - 1 ≤ ticks_to_due (d.time + 1) (begun d).tasks → All (RunsIf (begun d) k) (begun d).tasks → ticks (suc j) d ≡ finished (slid_all (begun d) j)
 ticks_slid d k zero h quiet runs = ap finished (sym (slid_none (begun d)))
 ticks_slid d k (suc j) h quiet runs =
     ap ticked (ticks_slid d k j (omega (arith, h)) quiet runs ∙ finished_slid (begun d) j k h runs)

@@ -31,3 +31,8 @@ pub mod Sliding
 pub mod Rooted
 pub mod Climbing
 pub mod Leaves
+pub mod ToldOrder
+pub mod ToldChanges
+pub mod Logging
+pub mod ToldTicks
+pub mod ToldPay

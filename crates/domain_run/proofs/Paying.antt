@@ -43,11 +43,11 @@ stands_among number (None ∷ places) = stands_among number places
 stands_among number (Some n ∷ places) = ap (λ b. eqb n number || b) (stands_among number places)
 
 -- the i-th of those that stand
-record IsThere (places : Places) (number i : ℕ) : Type 0 where
+pub record IsThere (places : Places) (number i : ℕ) : Type 0 where
   pub at : slice_get (running_numbers places) i ≡ Some number
   pub stands_there : stands number places ≡ true
 
-there : (places : Places) (number i : ℕ) → position (λ n. eqb n number) (running_numbers places) ≡ Some i → IsThere places number i
+pub there : (places : Places) (number i : ℕ) → position (λ n. eqb n number) (running_numbers places) ≡ Some i → IsThere places number i
 there places number i e =
     let p : ℕ → Bool = λ n. eqb n number in
     let at = first_passes p (running_numbers places) i (sym (first_is p (running_numbers places)) ∙ e) in
@@ -61,7 +61,7 @@ there places number i e =
     found p (y ∷ xs) zero x e is = let same : y ≡ x = cc in rw (ap p same ∙ is) refl
     found p (y ∷ xs) (suc i) x e is = elim (p y) as (λ b. (b || list_any p xs) ≡ true) [ true ↦ refl | false ↦ found p xs i x e is ]
 
-nowhere : (places : Places) (number : ℕ) → position (λ n. eqb n number) (running_numbers places) ≡ None → stands number places ≡ false
+pub nowhere : (places : Places) (number : ℕ) → position (λ n. eqb n number) (running_numbers places) ≡ None → stands number places ≡ false
 nowhere places number e =
     let p : ℕ → Bool = λ n. eqb n number in
     stands_among number places ∙ first_none p (running_numbers places) (sym (first_is p (running_numbers places)) ∙ e)
@@ -91,11 +91,11 @@ is_Ready Leaving h = absurd cc
 
 -- ---- what is told of the budgets, task by task
 
-charged_there : (e : Domain) (ticks : ℕ) (budgets : List ℤ) (k i : ℕ) (d : Task) → AllPairs (λ a b. a.number ≢ b.number) e.tasks → AreCharged e ticks budgets → k < length e.tasks → index_of (running_numbers e.curr) (get_or e.tasks k d) ≡ Some i → IsCharged e ticks (running_of e (get_or e.tasks k d)) (slice_index_or budgets i (pos 0))
+pub charged_there : (e : Domain) (ticks : ℕ) (budgets : List ℤ) (k i : ℕ) (d : Task) → AllPairs (λ a b. a.number ≢ b.number) e.tasks → AreCharged e ticks budgets → k < length e.tasks → index_of (running_numbers e.curr) (get_or e.tasks k d) ≡ Some i → IsCharged e ticks (running_of e (get_or e.tasks k d)) (slice_index_or budgets i (pos 0))
 charged_there e ticks budgets k i d numbered are h at = are.each i (running_of e (get_or e.tasks k d)) (running_there e k i d numbered h at)
 
 -- a task that stands runs on until the last tick
-runs_each : (e : Domain) (ticks : ℕ) (budgets : List ℤ) → AllPairs (λ a b. a.number ≢ b.number) e.tasks → IsPlacement e → AreCharged e ticks budgets → All (RunsIf e ticks) e.tasks
+pub runs_each : (e : Domain) (ticks : ℕ) (budgets : List ℤ) → AllPairs (λ a b. a.number ≢ b.number) e.tasks → IsPlacement e → AreCharged e ticks budgets → All (RunsIf e ticks) e.tasks
 runs_each e ticks budgets numbered placed are k d h = by_index (index_of (running_numbers e.curr) (get_or e.tasks k d)) refl
   where
     by_index : (o : Option ℕ) → index_of (running_numbers e.curr) (get_or e.tasks k d) ≡ o → RunsIf e ticks (get_or e.tasks k d)

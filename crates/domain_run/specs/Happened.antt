@@ -1,7 +1,7 @@
 -- What happens to the tasks of a domain, beside the switches: jobs that are released and end, budgets
 -- that are spent and replenished (own; job, release and deadline as in sched(7), "SCHED_DEADLINE",
 -- throttling and replenishment as in sched-deadline.rst, "2. Task scheduling").
-use Rattle.std.specs.Prelude.{ℕ, zero, suc, ◌+◌, ◌-◌, ◌==◌, Bool, true, false, not, ◌&&◌, ◌||◌, nat_lt, if◌then◌else◌, List, [], ◌∷◌, ◌++◌, map, filter, unwrap_or}
+use Rattle.std.specs.Prelude.{ℕ, zero, suc, ◌+◌, ◌-◌, ◌==◌, Bool, ◌&&◌, ◌||◌, nat_lt, if◌then◌else◌, List, [], ◌∷◌, ◌++◌, map, filter, unwrap_or}
 use Rattle.std.specs.List.{flat_map}
 use Rattle.cbs_rules.specs.Serving.{charged}
 use Rattle.edf_pick.specs.Places.{stands}
@@ -12,7 +12,7 @@ use Rattle.domain_run.specs.declared.happened.What.{What}
 use Rattle.domain_run.specs.declared.happened.What.TheVariants.{JobEnds, NextReleased, Spent, Cut, Replenished, Released, WokenSpent}
 use Rattle.domain_run.specs.declared.happened.Happened.{Happened}
 use Rattle.domain_run.specs.declared.call.Call.{Call}
-use Rattle.domain_run.specs.declared.call.Call.TheVariants.{Admit, Regrade, Wake, Leave, Advance, Limit, Depart, Arrive}
+use Rattle.domain_run.specs.declared.call.Call.TheVariants.{Leave, Advance, Depart}
 use Rattle.domain_run.specs.script.ScriptView.{CursorView}
 use Rattle.domain_run.specs.script.Unrolled.{event_at}
 use Rattle.domain_run.specs.script.Segments.{asked, is_late}
@@ -20,7 +20,7 @@ use Rattle.domain_run.specs.Conditions.{is_throttled, is_over, has_come}
 use Rattle.domain_run.specs.Parts.{replenish_due, settled, is_listed, unblocked, ran}
 use Rattle.domain_run.specs.Domain.{Domain}
 use Rattle.domain_run.specs.Tick.{begun, rate_of, ticks}
-use Rattle.domain_run.specs.Calls.{reply_to, is_refusal, after_call, task_of}
+use Rattle.domain_run.specs.Calls.{reply_to, is_refusal, after_call}
 
 -- something that happens to a task at a time
 abbrev pub told : ℕ → Task → What → Happened
@@ -125,6 +125,10 @@ told_by_tick d = told_by_beginning d ++ told_by_end (begun d)
 abbrev pub told_by_ticks : ℕ → Domain → List Happened
 told_by_ticks zero d = []
 told_by_ticks (suc n) d = told_by_ticks n d ++ told_by_tick (ticks n d)
+
+-- of so many ticks at once, the end of the last
+abbrev pub told_by_last_end : ℕ → Domain → List Happened
+told_by_last_end n d = told_by_end (begun (ticks (n - 1) d))
 
 -- A CALL. Where a task ends by a call, or goes to another domain, its job is cut
 abbrev pub told_by_cut : Domain → ℕ → List Happened

@@ -4,5 +4,6 @@ pub mod Paying
 pub mod Index
 pub mod Timers
 pub mod Roster
+pub mod Telling
 pub mod Progress
 pub mod Tournament

@@ -5,6 +5,7 @@ ghost use Rattle.std.specs.Prelude.{◌≡◌, ◌<◌, ◌≤◌, ◌+◌, ◌^
 ghost use Rattle.domain_run.specs.script.ScriptView.{IsEvent, IsScript};
 ghost use Rattle.domain_run.specs.script.Unrolled.{event_at};
 ghost use Rattle.domain_run.specs.script.Segments.{begun_at, moved, kept_cursor, given_at, is_late, asked, GivesAsWritten, IsSegment, next_ask};
+ghost use Rattle.domain_run.specs.Happened.{passes_late_timer};
 
 use crate::progress;
 use crate::progress::Progress;
@@ -73,6 +74,14 @@ impl Cursor {
         ensures event { IfSome result IsEvent }
     {
         progress::event_of(&self.script, self.progress)
+    }
+
+    /// Whether it would pass a timer that is late, asked at this time, in microseconds.
+    pub(crate) fn passes_late_timer(&self, time: u64) -> bool
+        requires { self.now.reference < 2 ^ 48 }
+        ensures { result ≡ passes_late_timer self.now time }
+    {
+        is_late_at(self.event(), self.reference, time)
     }
 
     fn step(&mut self, reference: u64)

@@ -75,8 +75,17 @@ impl Roster {
         self.tasks.len()
     }
 
+    /// The task at a place. It belongs to a CPU of the domain.
+    pub(crate) fn at(&self, place: usize) -> &Task
+        requires { place < length self.now.tasks }
+        ensures task { (d : Task) → result.now ≡ slice_index_or self.now.tasks place d }
+        ensures home { result.now.cpu < self.now.cpus }
+    {
+        &self.tasks[place]
+    }
+
     /// The place of the task of a number, where it is listed.
-    fn place(&self, number: u32) -> Option<usize>
+    pub(crate) fn place(&self, number: u32) -> Option<usize>
         ensures there { IfSome result (IsAt self.now.tasks number) }
         ensures absent { IfNone result (IsAbsent self.now.tasks number) }
         ensures numbered { AllPairs (λ a b. a.number ≢ b.number) self.now.tasks }
@@ -129,6 +138,7 @@ impl Roster {
         ensures from { from ≤ result }
         ensures most { result ≤ length self.now.tasks }
         ensures others { AreNotDue self.now.tasks time from result }
+        ensures numbered { AllPairs (λ a b. a.number ≢ b.number) self.now.tasks }
     {
         self.queue.timers.next_due(from, time)
     }

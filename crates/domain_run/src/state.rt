@@ -12,6 +12,7 @@ ghost use Rattle.domain_run.specs.Sound.{IsDomain};
 ghost use Rattle.attr_check.specs.Ratio.{cap};
 
 mod calls;
+mod cutting;
 mod jumps;
 mod lending;
 mod machine;
@@ -98,7 +99,7 @@ fn nobody(alloc: Global, cpus: usize) -> Result<Vec<Option<u32>>, AllocError>
 impl State {
     /// An empty domain of 1 to 64 CPUs that may give away `limit` of each, 10485 to 1048576 in
     /// 1/2^20. Room for 256 tasks and for the numbers ever admitted is made here; after it only
-    /// [`State::tick`] and [`State::begin`] take memory. `Err` where a growth was refused.
+    /// [`State::tick`], [`State::begin`] and [`State::begin_told`] take memory. `Err` where a growth was refused.
     pub fn open(alloc: Global, cpus: u32, limit: u64) -> Result<State, NoMemory>
         requires cpus { IsCpus cpus }
         requires limit { IsLimit limit }

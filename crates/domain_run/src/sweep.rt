@@ -1,53 +1,139 @@
 //! The parts of a tick, on all tasks of a domain.
 
-ghost use Rattle.std.specs.Prelude.{IsTrue, ◌≡◌, ◌≢◌, ◌<◌, ◌≤◌, ◌^◌, ◌+◌, map, All, AllPairs, ◌++◌, length, vec_len, vec_capacity};
+ghost use Rattle.std.specs.Prelude.{IsTrue, ◌≡◌, ◌≢◌, ◌<◌, ◌≤◌, ◌^◌, ◌+◌, ◌*◌, map, All, AllPairs, ◌++◌, length, slice_index_or, vec_len, vec_capacity};
+ghost use Rattle.std.specs.List.{flat_map};
+ghost use Rattle.domain_run.specs.declared.task.Task.{Task};
+ghost use Rattle.domain_run.specs.Calls.{of_number};
+ghost use Rattle.domain_run.specs.Log.{HasRoom, Tells};
 ghost use Rattle.domain_run.specs.Parts as parts_spec;
 ghost use Rattle.edf_pick.specs.Places as places_spec;
 ghost use Rattle.domain_run.specs.Sound.{IsSound, IsApart};
 ghost use Rattle.domain_run.specs.Switches as switches_spec;
 ghost use Rattle.domain_run.specs.Tick as tick_spec;
 ghost use Rattle.domain_run.specs.private.Paying.{MayPayIf, paid};
-ghost use Rattle.domain_run.specs.private.Roster.{after_change, homed_here, IsPart};
+ghost use Rattle.domain_run.specs.private.Roster.{after_change, homed_here, IsPart, Fits, MayMake};
+ghost use Rattle.domain_run.specs.private.Timers.{IsStep};
+ghost use Rattle.domain_run.specs.private.Telling as telling_spec;
 ghost use Rattle.domain_run.specs.private.RunQueue.{AreHomed};
 ghost use Rattle.domain_run.specs.Jump as jump;
 
 use crate::change::Change;
-use crate::parts;
+use crate::log::Log;
 use crate::roster::Roster;
 use crate::switch::{PrevState, Switch};
+use crate::{parts, telling};
 use edf_pick::Placement;
+
+/// Changes the task at a place, and tells the log what that tells: in its place among what it was
+/// told from this one on.
+#[inline(always)]
+fn turn(roster: &mut Roster, place: usize, time: u64, change: &Change, log: &mut Log, from: usize)
+    requires there { place < length roster.old.tasks }
+    requires early { time < 2 ^ 43 }
+    requires narrow { roster.old.cpus ≤ 64 }
+    requires fits { Fits roster.old.cpus change.now }
+    requires sound { All (IsSound time) roster.old.tasks }
+    requires may { (d : Task) → MayMake time change.now (slice_index_or roster.old.tasks place d) }
+    requires from { from ≤ length log.old.happened }
+    requires room { HasRoom 3 log.old }
+    ensures cpus { roster.new.cpus ≡ roster.old.cpus }
+    ensures step { IsStep (after_change time change.now) place roster.old.tasks roster.new.tasks }
+    ensures sound { All (IsSound time) roster.new.tasks }
+    ensures told { (d : Task) → telling_spec.Puts from
+        (telling_spec.told_by_change time change.now (slice_index_or roster.old.tasks place d))
+        log.old log.new }
+    ensures more { length log.old.happened ≤ length log.new.happened }
+    ensures room { log.old.room ≤ log.new.room + 3 }
+{
+    if !log.is_wanted() {
+        roster.turn(place, time, change);
+        return;
+    }
+    let before = telling::look(roster.at(place), time, change);
+    roster.turn(place, time, change);
+    log.put_all(
+        from,
+        telling::seen_behind(time, change, before, roster.at(place)),
+    );
+}
+
+/// Changes the task of a number, where it is listed, and tells the log.
+#[inline(always)]
+fn turn_number(
+    roster: &mut Roster,
+    number: u32,
+    time: u64,
+    change: &Change,
+    log: &mut Log,
+    from: usize,
+)
+    requires early { time < 2 ^ 43 }
+    requires narrow { roster.old.cpus ≤ 64 }
+    requires fits { Fits roster.old.cpus change.now }
+    requires sound { All (IsSound time) roster.old.tasks }
+    requires may { All (λ t. t.number ≡ number → MayMake time change.now t) roster.old.tasks }
+    requires from { from ≤ length log.old.happened }
+    requires room { HasRoom 3 log.old }
+    ensures cpus { roster.new.cpus ≡ roster.old.cpus }
+    ensures tasks { roster.new.tasks
+        ≡ map (of_number number (after_change time change.now)) roster.old.tasks }
+    ensures sound { All (IsSound time) roster.new.tasks }
+    ensures told { telling_spec.Puts from
+        (flat_map (telling_spec.told_of_number number (telling_spec.told_by_change time change.now))
+        roster.old.tasks) log.old log.new }
+    ensures more { length log.old.happened ≤ length log.new.happened }
+    ensures room { log.old.room ≤ log.new.room + 3 }
+{
+    if let Some(place) = roster.place(number) {
+        turn(roster, place, time, change, log, from);
+    }
+}
 
 /// One of parts 1 to 3. It goes from one task that is due to the next.
 #[inline(always)]
-fn turn_due(roster: &mut Roster, time: u64, change: &Change)
+fn turn_due(roster: &mut Roster, time: u64, change: &Change, log: &mut Log, from: usize)
+    requires early { time < 2 ^ 42 }
+    requires narrow { roster.old.cpus ≤ 64 }
     requires part { IsPart time change.now }
+    requires quiet { telling_spec.IsQuietPart time change.now }
     requires sound { All (IsSound time) roster.old.tasks }
+    requires from { from ≤ length log.old.happened }
+    requires room { HasRoom (3 * length roster.old.tasks) log.old }
     ensures cpus { roster.new.cpus ≡ roster.old.cpus }
     ensures tasks { roster.new.tasks ≡ map (after_change time change.now) roster.old.tasks }
     ensures sound { All (IsSound time) roster.new.tasks }
+    ensures told { telling_spec.Puts from
+        (flat_map (telling_spec.told_by_change time change.now) roster.old.tasks) log.old log.new }
+    ensures more { length log.old.happened ≤ length log.new.happened }
+    ensures room { log.old.room ≤ log.new.room + 3 * length roster.old.tasks }
 {
     let mut place = roster.next_due(0, time);
     while place < roster.len() {
-        roster.turn(place, time, change);
+        turn(roster, place, time, change, log, from);
         place = roster.next_due(place + 1, time);
     }
 }
 
 /// Parts 1 to 3. Mostly no task is due, and then they have nothing to do.
-fn wake_all(roster: &mut Roster, time: u64)
+fn wake_all(roster: &mut Roster, time: u64, log: &mut Log)
     requires early { time < 2 ^ 42 }
+    requires narrow { roster.old.cpus ≤ 64 }
     requires sound { All (IsSound time) roster.old.tasks }
+    requires room { HasRoom (9 * length roster.old.tasks) log.old }
     ensures cpus { roster.new.cpus ≡ roster.old.cpus }
     ensures tasks { roster.new.tasks ≡ tick_spec.prepared time roster.old.tasks }
     ensures sound { All (IsSound time) roster.new.tasks }
+    ensures told { Tells log.old (telling_spec.told_in_parts time roster.old.tasks) log.new }
+    ensures room { log.old.room ≤ log.new.room + 9 * length roster.old.tasks }
 {
     if !roster.may_be_due(time) {
         return;
     }
-    turn_due(roster, time, &Change::Replenish);
-    turn_due(roster, time, &Change::Settle);
+    let from = log.len();
+    turn_due(roster, time, &Change::Replenish, log, from);
+    turn_due(roster, time, &Change::Settle, log, from);
     roster.drop_left();
-    turn_due(roster, time, &Change::Unblock);
+    turn_due(roster, time, &Change::Unblock, log, from);
 }
 
 /// Part 4: the task that stands on a CPU, if one does, belongs to it.
@@ -154,8 +240,8 @@ fn list_running(running: &mut Vec<u32>, places: &[Option<u32>])
     }
 }
 
-/// Parts 1 to 5: replenishment, zero-lag times, wake-ups, placement and the switches. `before` is
-/// room.
+/// Parts 1 to 5: replenishment, zero-lag times, wake-ups, placement and the switches. The log is
+/// told what happens to the tasks. `before` is room.
 pub(crate) fn begin(
     time: u64,
     roster: &mut Roster,
@@ -163,7 +249,10 @@ pub(crate) fn begin(
     running: &mut Vec<u32>,
     switches: &mut Vec<Switch>,
     before: &mut Vec<Option<u32>>,
+    log: &mut Log,
 )
+    requires narrow { roster.old.cpus ≤ 64 }
+    requires log { HasRoom (9 * length roster.old.tasks) log.old }
     requires runners { length places.old ≤ vec_capacity running.old }
     requires early { time < 2 ^ 42 }
     requires sound { All (IsSound time) roster.old.tasks }
@@ -186,8 +275,10 @@ pub(crate) fn begin(
     ensures before_room { vec_capacity before.new ≡ vec_capacity before.old }
     ensures running { running.new.items ≡ jump.running_numbers places.new }
     ensures runners { vec_capacity running.new ≡ vec_capacity running.old }
+    ensures told { Tells log.old (telling_spec.told_in_parts time roster.old.tasks) log.new }
+    ensures log { log.old.room ≤ log.new.room + 9 * length roster.old.tasks }
 {
-    wake_all(roster, time);
+    wake_all(roster, time, log);
     copy_places(before, places.occupants());
     edf_pick::pick(places, roster.ready());
     list_running(running, places.occupants());
@@ -196,19 +287,39 @@ pub(crate) fn begin(
 }
 
 /// Part 6 of so many ticks at once, up to a time: every running task has its budget, and its work
-/// has fallen.
-pub(crate) fn pay_all(roster: &mut Roster, running: &[u32], budgets: &[i128], ticks: u64, time: u64)
+/// has fallen. The log is told what happens to them.
+pub(crate) fn pay_all(
+    roster: &mut Roster,
+    running: &[u32],
+    budgets: &[i128],
+    ticks: u64,
+    time: u64,
+    log: &mut Log,
+)
     requires early { time < 2 ^ 43 }
+    requires narrow { roster.old.cpus ≤ 64 }
+    requires numbered { AllPairs (λ a b. a.number ≢ b.number) roster.old.tasks }
     requires apart { AllPairs (λ m n. m ≢ n) running.now }
     requires many { length budgets.now ≡ length running.now }
     requires sound { All (IsSound time) roster.old.tasks }
     requires may { All (MayPayIf running.now ticks budgets.now) roster.old.tasks }
+    requires room { HasRoom (3 * length running.now) log.old }
     ensures cpus { roster.new.cpus ≡ roster.old.cpus }
     ensures tasks { roster.new.tasks ≡ map (paid time running.now ticks budgets.now) roster.old.tasks }
     ensures sound { All (IsSound time) roster.new.tasks }
+    ensures told { Tells log.old (telling_spec.told_in_pay time running.now ticks budgets.now
+        roster.old.tasks) log.new }
 {
+    let from = log.len();
     for i in 0..running.len() {
         let left = budgets[i];
-        roster.turn_number(running[i], time, &Change::Run { ticks, left });
+        turn_number(
+            roster,
+            running[i],
+            time,
+            &Change::Run { ticks, left },
+            log,
+            from,
+        );
     }
 }

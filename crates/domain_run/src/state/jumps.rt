@@ -1,17 +1,48 @@
 //! Many ticks at once: a tick begins, and so many end as pass before something else is to be done.
 
-ghost use Rattle.std.specs.Prelude.{◌≡◌, ◌<◌, ◌≤◌, ◌^◌, ◌+◌, ◌<ℤ◌, ◌≤ℤ◌, ◌↔◌, pos, OnOk, OnErr, IfSome, IsTrue, is_some, length};
+ghost use Rattle.std.specs.Prelude.{◌≡◌, ◌++◌, [], false, ◌<◌, ◌≤◌, ◌^◌, ◌+◌, ◌<ℤ◌, ◌≤ℤ◌, ◌↔◌, pos, OnOk, OnErr, IfSome, IsTrue, is_some, length};
 ghost use Rattle.domain_run.specs.Domain.{Domain};
 ghost use Rattle.domain_run.specs.Tick as tick;
 ghost use Rattle.domain_run.specs.Jump as jump;
 ghost use Rattle.domain_run.specs.Sound.{IsDomain};
+ghost use Rattle.domain_run.specs.Happened.{told_by_beginning, told_by_last_end, told_by_ticks};
+ghost use Rattle.domain_run.specs.Log.{Tells, HasRoomToEnd};
 
 use super::State;
+use crate::log::Log;
 use crate::running::{Running, running_of, standing_at};
 use crate::sweep;
 use no_memory::NoMemory;
 
 impl State {
+    /// As [`State::begin`], and the log is told what that tells: replenishments, releases, and wakes
+    /// without budget, in the order of "Happened". Room for it, and for what the tick's end will
+    /// tell, is made first: on `Err` nothing has changed, and nothing is told.
+    pub fn begin_told(&mut self, log: &mut Log) -> Result<(), NoMemory>
+        requires { self.old.time < 2 ^ 42 }
+        ensures ok { OnOk result (self.new ≡ jump.under_way self.old) }
+        ensures begun { OnOk result (jump.IsUnderWay self.new) }
+        ensures err { OnErr result (self.new ≡ self.old) }
+        ensures domain { IsDomain self.old }
+        ensures told { OnOk result (Tells log.old (told_by_beginning self.old) log.new) }
+        ensures room { OnOk result (HasRoomToEnd log.new) }
+        ensures untold { OnErr result (Tells log.old [] log.new) }
+    {
+        self.switches.try_reserve(self.cpus)?;
+        log.make_room(9 * self.roster.len() + 192)?;
+        sweep::begin(
+            self.time,
+            &mut self.roster,
+            &mut self.curr,
+            &mut self.running,
+            &mut self.switches,
+            &mut self.before,
+            log,
+        );
+        self.time += 1;
+        Ok(())
+    }
+
     /// Begins a tick: throttled tasks whose deadline has come are replenished, zero-lag times that
     /// have come are dropped, blocked tasks whose time has come ask their scripts, the ready tasks
     /// with the earliest deadlines are placed, and the switches are added. The clock stands at the
@@ -25,17 +56,8 @@ impl State {
         ensures err { OnErr result (self.new ≡ self.old) }
         ensures domain { IsDomain self.old }
     {
-        self.switches.try_reserve(self.cpus)?;
-        sweep::begin(
-            self.time,
-            &mut self.roster,
-            &mut self.curr,
-            &mut self.running,
-            &mut self.switches,
-            &mut self.before,
-        );
-        self.time += 1;
-        Ok(())
+        let mut log = self.silent();
+        self.begin_told(&mut log)
     }
 
     /// The i-th running task of the tick that has begun, by CPU, from 0: it has budget and work
@@ -84,6 +106,27 @@ impl State {
         1 + self.roster.ticks_to_due(self.time)
     }
 
+    /// As [`State::finish`], and the log is told what happens at the end of the last of the ticks:
+    /// jobs that end, with what is released at once, and budgets that are spent, in the order of
+    /// "Happened". The ends of the others and their beginnings tell nothing. Takes no memory.
+    pub fn finish_told(&mut self, ticks: u64, budgets: &[i128], log: &mut Log)
+        requires begun { jump.IsUnderWay self.old }
+        requires some { 0 < ticks }
+        requires quiet { ticks ≤ jump.ticks_to_event self.old }
+        requires early { self.old.time + ticks ≤ 2 ^ 42 + 1 }
+        requires charged { jump.AreCharged self.old ticks budgets.now }
+        requires room { HasRoomToEnd log.old }
+        ensures domain { (d : Domain) → self.old ≡ jump.under_way d → self.new ≡ tick.ticks ticks d }
+        ensures told { (d : Domain) → self.old ≡ jump.under_way d
+            → Tells log.old (told_by_last_end ticks d) log.new }
+        ensures quiet { (d : Domain) → self.old ≡ jump.under_way d
+            → told_by_ticks ticks d ≡ told_by_beginning d ++ told_by_last_end ticks d }
+    {
+        let time = self.time + (ticks - 1);
+        sweep::pay_all(&mut self.roster, &self.running, budgets, ticks, time, log);
+        self.time = time;
+    }
+
     /// Ends the tick that has begun, and so many ticks in all: every running task has run in each,
     /// and what is left of its budget is told, by CPU. They are at most [`State::quiet`] and at
     /// most the work of each, and no budget is spent before the last of them. The domain is then as
@@ -96,8 +139,14 @@ impl State {
         requires charged { jump.AreCharged self.old ticks budgets.now }
         ensures { (d : Domain) → self.old ≡ jump.under_way d → self.new ≡ tick.ticks ticks d }
     {
-        let time = self.time + (ticks - 1);
-        sweep::pay_all(&mut self.roster, &self.running, budgets, ticks, time);
-        self.time = time;
+        let mut log = self.silent();
+        self.finish_told(ticks, budgets, &mut log);
+    }
+
+    /// A log that keeps nothing, for the calls that tell one. Takes no memory.
+    pub fn silent(&self) -> Log
+        ensures { result.wanted ≡ false }
+    {
+        Log::silent(*self.switches.allocator())
     }
 }

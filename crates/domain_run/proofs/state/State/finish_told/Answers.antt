@@ -8,7 +8,12 @@ use Rattle.domain_run.specs.private.Paying.{paid}
 use Rattle.domain_run.specs.private.RunQueue.{AreHomed}
 use Rattle.domain_run.proofs.AtHome.{homed_map}
 use Rattle.domain_run.proofs.Paying.{sound_later, may_pay, later_is, same_paid, paid_is}
-use Rattle.domain_run.proofs.state.State.finish.Goals as goal
+use Rattle.domain_run.specs.Happened.{told_by_last_end}
+use Rattle.domain_run.specs.Log.{Tells}
+use Rattle.domain_run.specs.private.Telling.{told_in_pay}
+use Rattle.domain_run.proofs.Runners.{standing_short}
+use Rattle.domain_run.proofs.ToldTicks.{told_pay_is, told_ticks_is}
+use Rattle.domain_run.proofs.state.State.finish_told.Goals as goal
 
 pub pay_all-requires-clause-sound : goal.pay_all-requires-clause-sound
 pay_all-requires-clause-sound c =
@@ -53,8 +58,8 @@ invariant_of-self c =
       running_room = c.self.invariant.running_room;
     }
 
-pub returns : goal.returns
-returns c e is =
+pub returns-clause-domain : goal.returns-clause-domain
+returns-clause-domain c e is =
     let s = c.self.inside in
     let d : Domain = record { cpus = s.cpus; limit = s.limit; time = s.time; tasks = s.roster.tasks; used = s.used; curr = s.curr; switches = s.switches.items } in
     let end : ℕ = s.time + (c.args.ticks - 1) in
@@ -65,3 +70,37 @@ returns c e is =
     let tasks : c.pay_all.new.roster.tasks ≡ map (paid end (running_numbers (under_way e).curr) k budgets) (under_way e).tasks = tasks_are ∙ ap (λ (x : Domain). map (paid end (running_numbers x.curr) k budgets) x.tasks) same in
     ap (λ (x : Domain). record x { time = end; tasks = c.pay_all.new.roster.tasks }) same
     ∙ paid_is e k budgets end c.pay_all.new.roster.tasks (subst (λ (x : Domain). IsDomain x) same c.self.invariant.domain).steady (subst IsPlacement is c.requires.begun.placed) c.requires.some (subst (λ (x : Domain). k ≤ ticks_to_event x) is c.requires.quiet) (subst (λ (x : Domain). AreCharged x k budgets) is c.requires.charged) (ap (λ (x : Domain). x.time + (k - 1)) same) tasks
+
+pub pay_all-requires-clause-narrow : goal.pay_all-requires-clause-narrow
+pay_all-requires-clause-narrow c = omega (arith, c.self.invariant.domain.steady.cpus.1, c.self.invariant.wide)
+
+pub pay_all-requires-clause-numbered : goal.pay_all-requires-clause-numbered
+pay_all-requires-clause-numbered c = c.self.invariant.domain.steady.numbered
+
+pub pay_all-requires-clause-room : goal.pay_all-requires-clause-room
+pay_all-requires-clause-room c wanted =
+    let few : length (running_numbers c.self.inside.curr) ≤ 64 = standing_short _ c.self.invariant.domain.steady in
+    omega (arith, c.requires.room wanted, few, ap (λ (ns : List ℕ). length ns) (c.deref.ensures.value ∙ c.self.invariant.running_is))
+
+pub returns-clause-told : goal.returns-clause-told
+returns-clause-told c e is =
+    let s = c.self.inside in
+    let d : Domain = record { cpus = s.cpus; limit = s.limit; time = s.time; tasks = s.roster.tasks; used = s.used; curr = s.curr; switches = s.switches.items } in
+    let end : ℕ = s.time + (c.args.ticks - 1) in
+    let k = c.args.ticks in
+    let budgets = c.args.budgets.now in
+    let same : d ≡ under_way e = c.self.view_is ∙ is in
+    let told : told_in_pay end c.deref.result.now k budgets s.roster.tasks ≡ told_by_last_end k e =
+    ap (λ (ns : List ℕ). told_in_pay end ns k budgets s.roster.tasks) (c.deref.ensures.value ∙ c.self.invariant.running_is)
+    ∙ ap (λ (x : Domain). told_in_pay end (running_numbers x.curr) k budgets x.tasks) same
+    ∙ told_pay_is e k budgets end (subst (λ (x : Domain). IsDomain x) same c.self.invariant.domain).steady (subst IsPlacement is c.requires.begun.placed) c.requires.some (subst (λ (x : Domain). k ≤ ticks_to_event x) is c.requires.quiet) (subst (λ (x : Domain). AreCharged x k budgets) is c.requires.charged) (ap (λ (x : Domain). x.time + (k - 1)) same) in
+    subst (λ hs. Tells c.args.log.now hs c.pay_all.new.log) told c.pay_all.ensures.told
+
+pub returns-clause-quiet : goal.returns-clause-quiet
+returns-clause-quiet c e is =
+    let s = c.self.inside in
+    let d : Domain = record { cpus = s.cpus; limit = s.limit; time = s.time; tasks = s.roster.tasks; used = s.used; curr = s.curr; switches = s.switches.items } in
+    let k = c.args.ticks in
+    let budgets = c.args.budgets.now in
+    let same : d ≡ under_way e = c.self.view_is ∙ is in
+    told_ticks_is e k budgets (subst (λ (x : Domain). IsDomain x) same c.self.invariant.domain).steady (subst IsPlacement is c.requires.begun.placed) c.requires.some (subst (λ (x : Domain). k ≤ ticks_to_event x) is c.requires.quiet) (subst (λ (x : Domain). AreCharged x k budgets) is c.requires.charged)

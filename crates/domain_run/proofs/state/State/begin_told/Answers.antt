@@ -1,10 +1,13 @@
-use Rattle.std.proofs.Common.{◌+◌, ◌<◌, ◌^◌, refl, sym, ap, ◌∙◌, subst, arith}
+use Rattle.std.proofs.Common.{◌+◌, ◌<◌, ◌^◌, [], refl, sym, ap, ◌∙◌, subst, arith}
 use Rattle.domain_run.specs.Domain.{Domain}
 use Rattle.domain_run.specs.Jump.{under_way}
 use Rattle.domain_run.specs.Sound.{IsDomain, IsPlacement}
 use Rattle.domain_run.proofs.Ticking.{middle}
 use Rattle.domain_run.proofs.Paying.{under_way_is}
-use Rattle.domain_run.proofs.state.State.begin.Goals as goal
+use Rattle.domain_run.specs.Happened.{told_by_beginning}
+use Rattle.domain_run.specs.Log.{Tells}
+use Rattle.domain_run.proofs.Logging.{tells_more}
+use Rattle.domain_run.proofs.state.State.begin_told.Goals as goal
 
 pub begin-requires-clause-cpus : goal.begin-requires-clause-cpus
 begin-requires-clause-cpus c = c.self.invariant.domain.steady.wide ∙ sym c.self.invariant.wide
@@ -46,3 +49,20 @@ returns-clause-begun c =
     let placed : IsPlacement (under_way d) = (under_way_is d c.self.invariant.domain early c.begin.ensures.prepared).1 in
     let same = returns-clause-ok c in
     record { before = c.args.self.now; begun = same; placed = subst IsPlacement (sym (same ∙ ap under_way (sym c.self.view_is))) placed }
+
+pub begin-requires-clause-narrow : goal.begin-requires-clause-narrow
+begin-requires-clause-narrow c = omega (arith, c.self.invariant.domain.steady.cpus.1, c.self.invariant.wide)
+
+pub begin-requires-clause-log : goal.begin-requires-clause-log
+begin-requires-clause-log c wanted = omega (arith, c.in_ok-make_room.ensures.ok wanted, c.len.ensures.len)
+
+pub returns-clause-told : goal.returns-clause-told
+returns-clause-told c =
+    let s = c.self.inside in
+    let d : Domain = record { cpus = s.cpus; limit = s.limit; time = s.time; tasks = s.roster.tasks; used = s.used; curr = s.curr; switches = s.switches.items } in
+    let all = tells_more [] (told_by_beginning d) c.args.log.now c.make_room.new.self c.begin.new.log c.make_room.ensures.told c.begin.ensures.told in
+    subst (λ (x : Domain). Tells c.args.log.now (told_by_beginning x) c.begin.new.log) c.self.view_is all
+
+pub returns-clause-room : goal.returns-clause-room
+returns-clause-room c wanted =
+    omega (arith, c.in_ok-make_room.ensures.ok (sym c.begin.ensures.told.wanted ∙ wanted), c.begin.ensures.log, c.len.ensures.len)

@@ -1,0 +1,326 @@
+-- What a change of a task tells, by a look before it and behind it, and what the changes of a list tell.
+use Rattle.std.proofs.Common.{◌≡◌, ◌≢◌, ℕ, zero, suc, ◌+◌, ◌-◌, ◌<◌, Bool, true, false, cond, eqb, ◌&&◌, ◌||◌, not, None, List, [], ◌∷◌, ◌++◌, length, take, get_or, refl, sym, ap, ◌∙◌, inl, inr, subst, arith, eq-eqb}
+use Rattle.std.specs.Prelude.{ℤ, All, AllPairs}
+use Rattle.std.specs.List.{flat_map}
+use Rattle.std.proofs.lemmas.Bool.{ne_eqb}
+use Rattle.std.proofs.lemmas.List.{append-nil, take_more, length-take-le, get_or-take, get_or_default}
+use Rattle.std.proofs.lemmas.Grind.{flat_map-append}
+use Rattle.std.proofs.lemmas.List.Elements.{All-nil, All-cons, All-head, All-tail, All-append, All-weaker}
+use Rattle.cbs_rules.specs.Serving.{replenished, woken, is_spent}
+use Rattle.cbs_rules.specs.declared.server.Server.{Server}
+use Rattle.domain_run.specs.declared.task.Task.{Task}
+use Rattle.domain_run.specs.declared.task.Condition.{Condition}
+use Rattle.domain_run.specs.declared.task.Condition.TheVariants.{Ready, Throttled, Blocked, Waiting, Leaving}
+use Rattle.domain_run.specs.declared.change.Change.{Change}
+use Rattle.domain_run.specs.declared.change.Change.TheVariants.{Replenish, Settle, Unblock, Home, Run, Regrade, Release, End, Depart}
+use Rattle.domain_run.specs.declared.script.Segment.{Segment}
+use Rattle.domain_run.specs.declared.script.Segment.TheVariants.{Run as RunFor, Until, Wait as WaitFor, End as EndNow}
+use Rattle.domain_run.specs.declared.happened.What.{What}
+use Rattle.domain_run.specs.declared.happened.What.TheVariants.{JobEnds, NextReleased, Spent, Replenished, Released, WokenSpent}
+use Rattle.domain_run.specs.declared.happened.Happened.{Happened}
+use Rattle.domain_run.specs.script.Segments.{asked}
+use Rattle.domain_run.specs.Conditions.{is_ready, is_throttled, is_contending, is_over, has_come}
+use Rattle.domain_run.specs.Parts.{replenish_due, unblocked, enqueued, started, starts, running_on, went_on, goes_on}
+use Rattle.domain_run.specs.Happened.{told, due, job_due, passes_late_timer, told_by_segment, told_by_work, told_by_budget, told_by_replenishment, told_by_wake, told_by_unblocking, rank}
+use Rattle.domain_run.specs.private.Index.{IsAt, IsAbsent}
+use Rattle.domain_run.specs.private.Roster.{after_change}
+use Rattle.domain_run.specs.private.Paying.{ran_until}
+use Rattle.domain_run.specs.private.Telling.{told_until, told_by_change, IsQuietPart, told_of_number, look_of, told_if, told_behind, one_of, all_of, put_all}
+use Rattle.domain_run.proofs.Due.{still_at}
+use Rattle.domain_run.proofs.ToldOrder.{IsApart, AreApart, put_append, put_swap, put_swapped}
+
+-- ---- ONE CHANGE, seen before it and behind it
+
+throttled_unready : (c : Condition) → is_throttled c ≡ true → is_ready c ≡ false
+throttled_unready Ready h = absurd cc
+throttled_unready Throttled h = refl
+throttled_unready (Blocked u) h = refl
+throttled_unready Waiting h = refl
+throttled_unready Leaving h = refl
+
+replenishment_seen : (time : ℕ) (t : Task) → all_of (told_behind time Replenish (look_of time Replenish t) (replenish_due time t)) ≡ told_by_replenishment time t
+replenishment_seen time t = by_both (is_throttled t.condition) (has_come time t.server.deadline) refl
+  where
+    u : Task
+    u = record t { server = replenished t.params t.server; condition = Ready }
+
+    by_both : (a b : Bool) → is_throttled t.condition ≡ a →
+        one_of (told_if (a && is_ready (cond (a && b) u t).condition) time (cond (a && b) u t) (Replenished (due (cond (a && b) u t)))) ++ []
+        ≡ cond (a && b) (told time t (Replenished (due (cond (a && b) u t))) ∷ []) []
+    by_both false b e = refl
+    by_both true true e = refl
+    by_both true false e = ap (λ r. one_of (told_if r time t (Replenished (due t))) ++ []) (throttled_unready t.condition e)
+
+-- a task that asked its script in part 3
+unblocking_seen : (time : ℕ) (t : Task) → all_of (told_behind time Unblock (look_of time Unblock t) (unblocked time t)) ≡ told_by_unblocking time t
+unblocking_seen time t = by_over (is_over time t.condition)
+  where
+    seen : Bool → Task → List Happened
+    seen over u = one_of (told_if (over && is_contending u.condition) time u (Released (job_due time u))) ++ (one_of (told_if (over && is_throttled u.condition) time u (WokenSpent (due u))) ++ [])
+
+    wakes : (n : ℕ) (s : Server) (x : Task) → x.number ≡ t.number → x.cpu ≡ t.cpu → x.params ≡ t.params → seen true (enqueued time s x) ≡ told_by_wake time t (enqueued time s x) (RunFor n)
+    wakes n s x number cpu params =
+        let at : (w : What) (u : Task) → u.number ≡ x.number → u.cpu ≡ x.cpu → told time u w ≡ told time t w = λ w u a b. λ i. record { time = time; what = w; number = (a ∙ number) i; cpu = (b ∙ cpu) i } in
+        let later : (u : Task) → u.params ≡ x.params → job_due time u ≡ job_due time t = λ u a. ap (λ p. time + p.deadline) (a ∙ params) in
+        elim (is_spent s) as (λ a. seen true (cond a (cond (has_come time s.deadline) (record x { server = replenished x.params s; condition = Ready }) (record x { server = s; condition = Throttled })) (record x { server = s; condition = Ready }))
+        ≡ told_by_wake time t (cond a (cond (has_come time s.deadline) (record x { server = replenished x.params s; condition = Ready }) (record x { server = s; condition = Throttled })) (record x { server = s; condition = Ready })) (RunFor n)) [
+          | true ↦ elim (has_come time s.deadline) as (λ b. seen true (cond b (record x { server = replenished x.params s; condition = Ready }) (record x { server = s; condition = Throttled }))
+              ≡ told_by_wake time t (cond b (record x { server = replenished x.params s; condition = Ready }) (record x { server = s; condition = Throttled })) (RunFor n)) [
+                | true ↦ let u : Task = record x { server = replenished x.params s; condition = Ready } in (λ i. at (Released (later u refl i)) u refl refl i ∷ [])
+                | false ↦ let u : Task = record x { server = s; condition = Throttled } in (λ i. at (Released (later u refl i)) u refl refl i ∷ at (WokenSpent (due u)) u refl refl i ∷ [])
+              ]
+          | false ↦ let u : Task = record x { server = s; condition = Ready } in (λ i. at (Released (later u refl i)) u refl refl i ∷ [])
+        ]
+
+    asks : (s : Segment) (x : Task) → x.number ≡ t.number → x.cpu ≡ t.cpu → x.params ≡ t.params → seen true (started time s x) ≡ told_by_wake time t (started time s x) s
+    asks (RunFor n) x number cpu params = wakes n (woken x.params time x.server) (record x { zero_lag = None; work = n }) number cpu params
+    asks (Until u) x number cpu params = refl
+    asks WaitFor x number cpu params = refl
+    asks EndNow x number cpu params = refl
+
+    by_over : (over : Bool) → seen over (cond over (starts time t (asked t.cursor time)) t) ≡ cond over (told_by_wake time t (cond over (starts time t (asked t.cursor time)) t) (asked t.cursor time).segment) []
+    by_over true = asks (asked t.cursor time).segment (record t { cursor = (asked t.cursor time).cursor }) refl refl refl
+    by_over false = refl
+
+-- a task that ran
+run_seen : (time ticks : ℕ) (left : ℤ) (t : Task) → all_of (told_behind time (Run ticks left) (look_of time (Run ticks left) t) (ran_until time ticks left t)) ≡ told_until time ticks left t
+run_seen time ticks left t = by_work (eqb (t.work - ticks) 0)
+  where
+    x : Task
+    x = record t { server = record t.server { left = left }; work = t.work - ticks }
+
+    late : Bool
+    late = passes_late_timer t.cursor time
+
+    seen : Bool → Task → List Happened
+    seen l u = one_of (told_if (not (is_contending u.condition) || l) time u JobEnds) ++ (one_of (told_if (is_contending u.condition && l) time u (NextReleased (job_due time u))) ++ one_of (told_if (is_throttled u.condition) time u (Spent (due u))))
+
+    budget : Bool → Task → List Happened
+    budget b u = cond b (told time u (Spent (due u)) ∷ []) []
+
+    -- it runs on, with so much work
+    runs_on : (l : Bool) (y : Task) → seen l (running_on y) ≡ cond l (told time y JobEnds ∷ told time y (NextReleased (job_due time y)) ∷ []) [] ++ told_by_budget time (running_on y)
+    runs_on l y = elim (is_spent y.server) as (λ s. seen l (record y { condition = cond s Throttled Ready }) ≡ cond l (told time y JobEnds ∷ told time y (NextReleased (job_due time y)) ∷ []) [] ++ told_by_budget time (record y { condition = cond s Throttled Ready })) [
+      | true ↦ elim l as (λ l. seen l (record y { condition = Throttled }) ≡ cond l (told time y JobEnds ∷ told time y (NextReleased (job_due time y)) ∷ []) [] ++ told_by_budget time (record y { condition = Throttled })) [ true ↦ refl | false ↦ refl ]
+      | false ↦ elim l as (λ l. seen l (record y { condition = Ready }) ≡ cond l (told time y JobEnds ∷ told time y (NextReleased (job_due time y)) ∷ []) [] ++ told_by_budget time (record y { condition = Ready })) [ true ↦ refl | false ↦ refl ]
+    ]
+
+    asks : (s : Segment) (y : Task) → seen late (went_on time s y) ≡ told_by_segment time y late s ++ told_by_budget time (went_on time s y)
+    asks (RunFor n) y = runs_on late (record y { work = n })
+    asks (Until u) y = refl
+    asks WaitFor y = refl
+    asks EndNow y = refl
+
+    by_work : (w : Bool) → seen (w && late) (cond w (goes_on time x (asked t.cursor time)) (running_on x)) ≡ cond w (told_by_segment time x late (asked t.cursor time).segment) [] ++ told_by_budget time (cond w (goes_on time x (asked t.cursor time)) (running_on x))
+    by_work true = asks (asked t.cursor time).segment (record x { cursor = (asked t.cursor time).cursor })
+    by_work false = runs_on false x
+
+pub change_seen : (time : ℕ) (change : Change) (t : Task) → all_of (told_behind time change (look_of time change t) (after_change time change t)) ≡ told_by_change time change t
+change_seen time Replenish t = replenishment_seen time t
+change_seen time Settle t = refl
+change_seen time Unblock t = unblocking_seen time t
+change_seen time (Home cpu) t = refl
+change_seen time (Run ticks left) t = run_seen time ticks left t
+change_seen time (Regrade params) t = refl
+change_seen time Release t = refl
+change_seen time End t = refl
+change_seen time Depart t = refl
+
+-- ---- nothing, of a task that is not due
+
+pub replenish_quiet : (time : ℕ) → IsQuietPart time Replenish
+replenish_quiet time t h = ap (λ b. cond b (told time t (Replenished (due (replenish_due time t))) ∷ []) []) (still_at time t h).due
+
+pub settle_quiet : (time : ℕ) → IsQuietPart time Settle
+settle_quiet time t h = refl
+
+pub unblock_quiet : (time : ℕ) → IsQuietPart time Unblock
+unblock_quiet time t h = ap (λ b. cond b (told_by_wake time t (unblocked time t) (asked t.cursor time).segment) []) (still_at time t h).over
+
+-- ---- of its task alone
+
+abbrev pub AreOf : ℕ → List Happened → Type 0
+AreOf n hs = All (λ h. h.number ≡ n) hs
+
+one_told : (time : ℕ) (t : Task) (w : What) → AreOf t.number (told time t w ∷ [])
+one_told time t w = All-cons (λ h. h.number ≡ t.number) (told time t w) [] refl (All-nil (λ h. h.number ≡ t.number))
+
+of_if : (n : ℕ) (b : Bool) (hs : List Happened) → AreOf n hs → AreOf n (cond b hs [])
+of_if n true hs is = is
+of_if n false hs is = All-nil (λ h. h.number ≡ n)
+
+of_both : (n : ℕ) (hs gs : List Happened) → AreOf n hs → AreOf n gs → AreOf n (hs ++ gs)
+of_both n hs gs a b = All-append (λ h. h.number ≡ n) hs gs a b
+
+of_two : (time : ℕ) (t : Task) (v w : What) → AreOf t.number (told time t v ∷ told time t w ∷ [])
+of_two time t v w = of_both t.number (told time t v ∷ []) (told time t w ∷ []) (one_told time t v) (one_told time t w)
+
+of_segment : (time : ℕ) (t : Task) (late : Bool) (s : Segment) → AreOf t.number (told_by_segment time t late s)
+of_segment time t late (RunFor n) = of_if t.number late (told time t JobEnds ∷ told time t (NextReleased (job_due time t)) ∷ []) (of_two time t JobEnds (NextReleased (job_due time t)))
+of_segment time t late (Until u) = one_told time t JobEnds
+of_segment time t late WaitFor = one_told time t JobEnds
+of_segment time t late EndNow = one_told time t JobEnds
+
+of_work : (time : ℕ) (t : Task) → AreOf t.number (told_by_work time t)
+of_work time t = of_if t.number (eqb t.work 0) (told_by_segment time t (passes_late_timer t.cursor time) (asked t.cursor time).segment) (of_segment time t (passes_late_timer t.cursor time) (asked t.cursor time).segment)
+
+of_budget : (time : ℕ) (t : Task) → AreOf t.number (told_by_budget time t)
+of_budget time t = of_if t.number (is_throttled t.condition) (told time t (Spent (due t)) ∷ []) (one_told time t (Spent (due t)))
+
+went_number : (time : ℕ) (s : Segment) (t : Task) → (went_on time s t).number ≡ t.number
+went_number time (RunFor n) t = refl
+went_number time (Until u) t = refl
+went_number time WaitFor t = refl
+went_number time EndNow t = refl
+
+ran_number : (time ticks : ℕ) (left : ℤ) (t : Task) → (ran_until time ticks left t).number ≡ t.number
+ran_number time ticks left t =
+    let x : Task = record t { server = record t.server { left = left }; work = t.work - ticks } in
+    elim (eqb x.work 0) as (λ b. (cond b (goes_on time x (asked x.cursor time)) (running_on x)).number ≡ t.number) [
+      | true ↦ went_number time (asked x.cursor time).segment (record x { cursor = (asked x.cursor time).cursor })
+      | false ↦ refl
+    ]
+
+pub of_until : (time ticks : ℕ) (left : ℤ) (t : Task) → AreOf t.number (told_until time ticks left t)
+of_until time ticks left t =
+    let x : Task = record t { server = record t.server { left = left }; work = t.work - ticks } in
+    of_both t.number (told_by_work time x) (told_by_budget time (ran_until time ticks left t)) (of_work time x)
+    (subst (λ n. AreOf n (told_by_budget time (ran_until time ticks left t))) (ran_number time ticks left t) (of_budget time (ran_until time ticks left t)))
+
+of_wake : (time : ℕ) (t u : Task) (s : Segment) → AreOf t.number (told_by_wake time t u s)
+of_wake time t u (RunFor n) =
+    of_both t.number (told time t (Released (job_due time t)) ∷ []) (cond (is_throttled u.condition) (told time t (WokenSpent (due u)) ∷ []) []) (one_told time t (Released (job_due time t)))
+    (of_if t.number (is_throttled u.condition) (told time t (WokenSpent (due u)) ∷ []) (one_told time t (WokenSpent (due u))))
+of_wake time t u (Until n) = All-nil (λ h. h.number ≡ t.number)
+of_wake time t u WaitFor = All-nil (λ h. h.number ≡ t.number)
+of_wake time t u EndNow = All-nil (λ h. h.number ≡ t.number)
+
+pub of_change : (time : ℕ) (change : Change) (t : Task) → AreOf t.number (told_by_change time change t)
+of_change time Replenish t = of_if t.number (is_throttled t.condition && has_come time t.server.deadline) (told time t (Replenished (due (replenish_due time t))) ∷ []) (one_told time t (Replenished (due (replenish_due time t))))
+of_change time Settle t = All-nil (λ h. h.number ≡ t.number)
+of_change time Unblock t = of_if t.number (is_over time t.condition) (told_by_wake time t (unblocked time t) (asked t.cursor time).segment) (of_wake time t (unblocked time t) (asked t.cursor time).segment)
+of_change time (Home cpu) t = All-nil (λ h. h.number ≡ t.number)
+of_change time (Run ticks left) t = of_until time ticks left t
+of_change time (Regrade params) t = All-nil (λ h. h.number ≡ t.number)
+of_change time Release t = All-nil (λ h. h.number ≡ t.number)
+of_change time End t = All-nil (λ h. h.number ≡ t.number)
+of_change time Depart t = All-nil (λ h. h.number ≡ t.number)
+
+-- ---- A LIST, each of whose tasks tells of itself
+
+abbrev pub TellsOwn : (Task → List Happened) → Type 0
+TellsOwn f = (t : Task) → AreOf t.number (f t)
+
+abbrev pub AreNumbered : List Task → Type 0
+AreNumbered tasks = AllPairs (λ a b. a.number ≢ b.number) tasks
+
+apart_of : (n : ℕ) (hs gs : List Happened) → AreOf n hs → All (λ g. g.number ≢ n) gs → AreApart hs gs
+apart_of n hs gs is others =
+    All-weaker (λ a. a.number ≡ n) (λ a. All (IsApart a) gs)
+    (λ a same. All-weaker (λ g. g.number ≢ n) (IsApart a) (λ g other. inr (λ e. other (sym e ∙ same))) gs others) hs is
+
+all_others : (f : Task → List Happened) (n : ℕ) (tasks : List Task) → TellsOwn f → All (λ t. t.number ≢ n) tasks → All (λ h. h.number ≢ n) (flat_map f tasks)
+all_others f n [] own others = All-nil (λ h. h.number ≢ n)
+all_others f n (t ∷ tasks) own others =
+    let other : t.number ≢ n = All-head (λ t. t.number ≢ n) t tasks others in
+    All-append (λ h. h.number ≢ n) (f t) (flat_map f tasks) (All-weaker (λ h. h.number ≡ t.number) (λ h. h.number ≢ n) (λ h same e. other (sym same ∙ e)) (f t) (own t))
+    (all_others f n tasks own (All-tail (λ t. t.number ≢ n) t tasks others))
+
+-- one task after another
+pub told_next : (f : Task → List Happened) (tasks : List Task) (p : ℕ) (d : Task) (xs : List Happened) → TellsOwn f → AreNumbered tasks → p < length tasks → put_all (f (get_or tasks p d) ++ flat_map f (take p tasks)) xs ≡ put_all (flat_map f (take (p + 1) tasks)) xs
+told_next f tasks p d xs own numbered h =
+    let t = get_or tasks p d in
+    let before : All (λ u. u.number ≢ t.number) (take p tasks) = λ k e within.
+    let len : length (take p tasks) ≡ p = length-take-le p tasks (omega (arith, h)) in
+    let less : k < p = omega (arith, within, len) in
+    λ same. numbered k p d less h (sym (ap (λ (u : Task). u.number) (get_or_default (take p tasks) k e d within ∙ get_or-take p tasks k d less)) ∙ same) in
+    put_swapped (f t) (flat_map f (take p tasks)) xs (apart_of t.number (f t) (flat_map f (take p tasks)) (own t) (all_others f t.number (take p tasks) own before))
+    ∙ ap (λ hs. put_all (flat_map f (take p tasks) ++ hs) xs) (sym (append-nil (f t)))
+    ∙ ap (λ hs. put_all hs xs) (sym (ap (flat_map f) (take_more tasks p d h) ∙ flat_map-append f (take p tasks) (t ∷ [])))
+
+-- those that tell nothing may be passed by
+pub told_nothing : (f : Task → List Happened) (tasks : List Task) → All (λ t. f t ≡ []) tasks → flat_map f tasks ≡ []
+told_nothing f [] all = refl
+told_nothing f (t ∷ tasks) all = ap (λ hs. hs ++ flat_map f tasks) (All-head (λ t. f t ≡ []) t tasks all) ∙ told_nothing f tasks (All-tail (λ t. f t ≡ []) t tasks all)
+
+pub told_alike : (f g : Task → List Happened) (tasks : List Task) → All (λ t. f t ≡ g t) tasks → flat_map f tasks ≡ flat_map g tasks
+told_alike f g [] all = refl
+told_alike f g (t ∷ tasks) all =
+    let here : f t ≡ g t = All-head (λ t. f t ≡ g t) t tasks all in
+    let more = told_alike f g tasks (All-tail (λ t. f t ≡ g t) t tasks all) in
+    λ i. here i ++ more i
+
+-- the task of a number alone
+told_others : (f : Task → List Happened) (n : ℕ) (tasks : List Task) → IsAbsent tasks n → flat_map (told_of_number n f) tasks ≡ []
+told_others f n tasks absent = told_nothing (told_of_number n f) tasks (All-weaker (λ t. t.number ≢ n) (λ t. told_of_number n f t ≡ []) (λ t h. ap (λ b. cond b (f t) []) (ne_eqb t.number n h)) tasks absent)
+
+pub told_absent : (f : Task → List Happened) (n : ℕ) (tasks : List Task) → IsAbsent tasks n → flat_map (told_of_number n f) tasks ≡ []
+told_absent f n tasks absent = told_others f n tasks absent
+
+pub told_at : (f : Task → List Happened) (n : ℕ) (tasks : List Task) (p : ℕ) (d : Task) → AreNumbered tasks → IsAt tasks n p → flat_map (told_of_number n f) tasks ≡ f (get_or tasks p d)
+told_at f n [] p d numbered is = let no : p < 0 = is.within in absurd (omega (arith, no))
+told_at f n (t ∷ tasks) zero d numbered is =
+    let here : told_of_number n f t ≡ f t = ap (λ b. cond b (f t) []) (eq-eqb t.number n (is.is t)) in
+    let none : IsAbsent tasks n = λ k e h same. numbered zero (suc k) e (omega arith) (omega arith) (is.is t ∙ sym same) in
+    ap (λ hs. hs ++ flat_map (told_of_number n f) tasks) here ∙ ap (λ hs. f t ++ hs) (told_others f n tasks none) ∙ append-nil (f t)
+told_at f n (t ∷ tasks) (suc p) d numbered is =
+    let inside : suc p < suc (length tasks) = is.within in
+    let rest : IsAt tasks n p = record { within = omega (arith, inside); is = is.is } in
+    let apart : AreNumbered tasks = λ i j e less within. numbered (suc i) (suc j) e (omega arith) (omega arith) in
+    let other : t.number ≢ n = λ e. numbered zero (suc p) t (omega arith) inside (e ∙ sym (is.is t)) in
+    ap (λ b. cond b (f t) [] ++ flat_map (told_of_number n f) tasks) (ne_eqb t.number n other) ∙ told_at f n tasks p d apart rest
+
+-- two passes over a list, each task's own together
+pub told_both : (f g : Task → List Happened) (tasks : List Task) (xs : List Happened) → TellsOwn f → TellsOwn g → AreNumbered tasks → put_all (flat_map f tasks ++ flat_map g tasks) xs ≡ put_all (flat_map (λ t. f t ++ g t) tasks) xs
+told_both f g [] xs own also numbered = refl
+told_both f g (t ∷ tasks) xs own also numbered =
+    let F = flat_map f tasks in
+    let G = flat_map g tasks in
+    let others : All (λ u. u.number ≢ t.number) tasks = λ k d h same. numbered zero (suc k) d (omega arith) (omega arith) (sym same) in
+    let apart : AreNumbered tasks = λ i j e less within. numbered (suc i) (suc j) e (omega arith) (omega arith) in
+    put_append (f t ++ F) (g t ++ G) xs
+    ∙ put_append (f t) F (put_all (g t ++ G) xs)
+    ∙ ap (λ ys. put_all (f t) (put_all F ys)) (put_append (g t) G xs)
+    ∙ ap (put_all (f t)) (sym (put_swap (g t) F (put_all G xs) (apart_of t.number (g t) F (also t) (all_others f t.number tasks own others))))
+    ∙ ap (λ ys. put_all (f t) (put_all (g t) ys)) (sym (put_append F G xs) ∙ told_both f g tasks xs own also apart)
+    ∙ sym (put_append (f t) (g t) (put_all (flat_map (λ t. f t ++ g t) tasks) xs))
+    ∙ sym (put_append (f t ++ g t) (flat_map (λ t. f t ++ g t) tasks) xs)
+
+-- what parts 1 and 3 tell is apart by its kind
+abbrev IsReplenished : Happened → Type 0
+IsReplenished h = rank h.what ≡ 4
+
+abbrev IsRelease : Happened → Type 0
+IsRelease h = 4 < rank h.what
+
+replenished_kind : (time : ℕ) (t : Task) → All IsReplenished (told_by_replenishment time t)
+replenished_kind time t = elim (is_throttled t.condition && has_come time t.server.deadline) as (λ b. All IsReplenished (cond b (told time t (Replenished (due (replenish_due time t))) ∷ []) [])) [
+  | true ↦ All-cons IsReplenished (told time t (Replenished (due (replenish_due time t)))) [] refl (All-nil IsReplenished)
+  | false ↦ All-nil IsReplenished
+]
+
+wake_kind : (time : ℕ) (t u : Task) (s : Segment) → All IsRelease (told_by_wake time t u s)
+wake_kind time t u (RunFor n) = All-cons IsRelease (told time t (Released (job_due time t))) (cond (is_throttled u.condition) (told time t (WokenSpent (due u)) ∷ []) []) (omega arith)
+    (elim (is_throttled u.condition) as (λ b. All IsRelease (cond b (told time t (WokenSpent (due u)) ∷ []) [])) [
+      | true ↦ All-cons IsRelease (told time t (WokenSpent (due u))) [] (omega arith) (All-nil IsRelease)
+      | false ↦ All-nil IsRelease
+    ])
+wake_kind time t u (Until n) = All-nil IsRelease
+wake_kind time t u WaitFor = All-nil IsRelease
+wake_kind time t u EndNow = All-nil IsRelease
+
+release_kind : (time : ℕ) (t : Task) → All IsRelease (told_by_unblocking time t)
+release_kind time t = elim (is_over time t.condition) as (λ b. All IsRelease (cond b (told_by_wake time t (unblocked time t) (asked t.cursor time).segment) [])) [
+  | true ↦ wake_kind time t (unblocked time t) (asked t.cursor time).segment
+  | false ↦ All-nil IsRelease
+]
+
+all_kind : (P : Happened → Type 0) (f : Task → List Happened) (tasks : List Task) → ((t : Task) → All P (f t)) → All P (flat_map f tasks)
+all_kind P f [] each = All-nil P
+all_kind P f (t ∷ tasks) each = All-append P (f t) (flat_map f tasks) (each t) (all_kind P f tasks each)
+
+pub parts_apart : (time : ℕ) (tasks more : List Task) → AreApart (flat_map (told_by_unblocking time) more) (flat_map (told_by_replenishment time) tasks)
+parts_apart time tasks more =
+    let gs = flat_map (told_by_replenishment time) tasks in
+    All-weaker IsRelease (λ a. All (IsApart a) gs) (λ a late. All-weaker IsReplenished (IsApart a) (λ g is. inl (λ e. omega (arith, e, late, is))) gs (all_kind IsReplenished (told_by_replenishment time) tasks (replenished_kind time)))
+    (flat_map (told_by_unblocking time) more) (all_kind IsRelease (told_by_unblocking time) more (release_kind time))

@@ -1,0 +1,106 @@
+-- What is told of the tasks that are due, one after another, and of the running ones.
+use Rattle.std.proofs.Common.{◌≡◌, ℕ, zero, suc, ◌+◌, ◌-◌, ◌<◌, ◌≤◌, true, false, cond, eqb, Option, Some, None, List, [], ◌∷◌, ◌++◌, length, map, take, drop, get_or, refl, sym, ap, ◌∙◌, inl, inr, subst, arith, eq-eqb}
+use Rattle.std.specs.Prelude.{ℤ, pos, slice_index_or}
+use Rattle.std.specs.List.{flat_map}
+use Rattle.std.proofs.lemmas.Bool.{cases_eq, ne_eqb}
+use Rattle.std.proofs.lemmas.List.{append-nil, take_more, length-map, length-take-le, get_or-append_right, get_or-drop}
+use Rattle.std.proofs.lemmas.List.Folds.{flat_map-map}
+use Rattle.std.proofs.lemmas.Grind.{flat_map-append}
+use Rattle.std.proofs.lemmas.List.Elements.{All-nil}
+use Rattle.domain_run.specs.declared.task.Task.{Task}
+use Rattle.domain_run.specs.declared.happened.Happened.{Happened}
+use Rattle.domain_run.specs.private.Paying.{index_of, paid_at, paid}
+use Rattle.domain_run.specs.private.Timers.{due_of, AreNotDue}
+use Rattle.domain_run.specs.private.Telling.{told_until, told_of_number, told_paid, told_paid_at, put_all}
+use Rattle.domain_run.proofs.Due.{some_task}
+use Rattle.domain_run.proofs.Paying.{same_paid}
+use Rattle.domain_run.proofs.Homing.{AreDistinct, ith, position_push_no}
+use Rattle.domain_run.proofs.ToldChanges.{AreOf, AreNumbered, TellsOwn, of_until, told_both, told_alike}
+
+-- ---- TASKS THAT ARE NOT DUE are passed by
+
+passed : (f : Task → List Happened) (first : List Task) (n p : ℕ) → p + n ≤ length first → ((q : ℕ) (d : Task) → p ≤ q → q < p + n → f (get_or first q d) ≡ []) → flat_map f (take p first) ≡ flat_map f (take (p + n) first)
+passed f first zero p h none = ap (λ m. flat_map f (take m first)) (omega arith)
+passed f first (suc n) p h none =
+    let d = some_task first p (omega (arith, h)) in
+    let one : flat_map f (take (p + 1) first) ≡ flat_map f (take p first) =
+    ap (flat_map f) (take_more first p d (omega (arith, h))) ∙ flat_map-append f (take p first) (get_or first p d ∷ [])
+    ∙ ap (λ hs. flat_map f (take p first) ++ (hs ++ [])) (none p d (omega arith) (omega arith)) ∙ append-nil (flat_map f (take p first)) in
+    sym one ∙ passed f first n (p + 1) (omega (arith, h)) (λ q d a b. none q d (omega (arith, a)) (omega (arith, b))) ∙ ap (λ m. flat_map f (take m first)) (omega arith)
+
+-- behind the places that have changed, a list is as it was
+pub as_before : (g : Task → Task) (first now : List Task) (p q : ℕ) (d : Task) → p ≤ length first → p ≤ q → now ≡ map g (take p first) ++ drop p first → get_or now q d ≡ get_or first q d
+as_before g first now p q d h behind written =
+    let len : length (map g (take p first)) ≡ p = length-map (take p first) g ∙ length-take-le p first h in
+    ap (λ (ts : List Task). get_or ts q d) written
+    ∙ get_or-append_right (map g (take p first)) (drop p first) p q d len behind
+    ∙ get_or-drop p first (q - p) d
+    ∙ ap (λ k. get_or first k d) (omega (arith, behind))
+
+pub told_by : (time : ℕ) (f : Task → List Happened) (g : Task → Task) (first now : List Task) (p r : ℕ) → ((t : Task) → time < due_of t → f t ≡ []) → p ≤ r → r ≤ length first → length now ≡ length first → now ≡ map g (take p first) ++ drop p first → AreNotDue now time p r → flat_map f (take p first) ≡ flat_map f (take r first)
+told_by time f g first now p r quiet from most same written later =
+    let whole : p + (r - p) ≡ r = omega (arith, from) in
+    passed f first (r - p) p (omega (arith, whole, most))
+    (λ q d a b. ap f (sym (as_before g first now p q d (omega (arith, from, most)) a written)) ∙ quiet (get_or now q d) (later q d a (omega (arith, b, whole)) (omega (arith, b, whole, most, same))))
+    ∙ ap (λ m. flat_map f (take m first)) whole
+
+-- ---- RUNNING TASKS, one after another
+
+paid_own : (time : ℕ) (running : List ℕ) (ticks : ℕ) (budgets : List ℤ) → TellsOwn (told_paid time running ticks budgets)
+paid_own time running ticks budgets t = by_index (index_of running t)
+  where
+    by_index : (o : Option ℕ) → AreOf t.number (told_paid_at time ticks budgets o t)
+    by_index None = All-nil (λ h. h.number ≡ t.number)
+    by_index (Some i) = of_until time ticks (slice_index_or budgets i (pos 0)) t
+
+pub told_paid_none : (time ticks : ℕ) (budgets : List ℤ) (tasks : List Task) → flat_map (told_paid time [] ticks budgets) tasks ≡ []
+told_paid_none time ticks budgets [] = refl
+told_paid_none time ticks budgets (t ∷ tasks) = told_paid_none time ticks budgets tasks
+
+pub told_paid_next : (time : ℕ) (running : List ℕ) (i ticks : ℕ) (budgets : List ℤ) (first now : List Task) (xs : List Happened) → AreDistinct running → i < length running → AreNumbered first → now ≡ map (paid time (take i running) ticks budgets) first
+    → put_all (flat_map (told_of_number (get_or running i 0) (told_until time ticks (slice_index_or budgets i (pos 0)))) now ++ flat_map (told_paid time (take i running) ticks budgets) first) xs ≡ put_all (flat_map (told_paid time (take (i + 1) running) ticks budgets) first) xs
+told_paid_next time running i ticks budgets first now xs distinct h numbered is =
+    ap (λ (ts : List Task). put_all (flat_map G ts ++ flat_map H first) xs) is
+    ∙ ap (λ hs. put_all (hs ++ flat_map H first) xs) (flat_map-map G f first)
+    ∙ told_both (λ t. G (f t)) H first xs own (paid_own time (take i running) ticks budgets) numbered
+    ∙ ap (λ hs. put_all hs xs) (told_alike (λ t. G (f t) ++ H t) (told_paid time (take (i + 1) running) ticks budgets) first (λ k d inside. each (get_or first k d)))
+  where
+    n : ℕ
+    n = get_or running i 0
+
+    left : ℤ
+    left = slice_index_or budgets i (pos 0)
+
+    f : Task → Task
+    f t = paid time (take i running) ticks budgets t
+
+    G : Task → List Happened
+    G t = told_of_number n (told_until time ticks left) t
+
+    H : Task → List Happened
+    H t = told_paid time (take i running) ticks budgets t
+
+    same : (t : Task) → (f t).number ≡ t.number
+    same t = (same_paid time (take i running) ticks budgets t).number
+
+    own : TellsOwn (λ t. G (f t))
+    own t = subst (λ m. AreOf m (G (f t))) (same t) (elim (eqb (f t).number n) as (λ b. AreOf (f t).number (cond b (told_until time ticks left (f t)) [])) [
+      | true ↦ of_until time ticks left (f t)
+      | false ↦ All-nil (λ h. h.number ≡ (f t).number)
+    ])
+
+    each : (t : Task) → G (f t) ++ H t ≡ told_paid time (take (i + 1) running) ticks budgets t
+    each t =
+        elim (cases_eq t.number n) [
+          | inl e ↦
+              let at = ith running i t distinct h (sym e) in
+              let here : G (f t) ≡ told_until time ticks left t =
+              ap (λ b. cond b (told_until time ticks left (f t)) []) (eq-eqb (f t).number n (same t ∙ e))
+              ∙ ap (λ o. told_until time ticks left (paid_at time ticks budgets o t)) at.before in
+              let none : H t ≡ [] = ap (λ o. told_paid_at time ticks budgets o t) at.before in
+              (λ k. here k ++ none k) ∙ append-nil (told_until time ticks left t) ∙ sym (ap (λ o. told_paid_at time ticks budgets o t) at.now)
+          | inr other ↦
+              ap (λ b. cond b (told_until time ticks left (f t)) [] ++ H t) (ne_eqb (f t).number n (λ e. other (sym (same t) ∙ e)))
+              ∙ sym (ap (λ (ns : List ℕ). told_paid time ns ticks budgets t) (take_more running i 0 h)
+              ∙ ap (λ o. told_paid_at time ticks budgets o t) (position_push_no (λ m. eqb m t.number) (take i running) n (ne_eqb n t.number (λ e. other (sym e)))))
+        ]

@@ -1,0 +1,162 @@
+-- What many ticks at once tell: the beginning of the first, and the end of the last.
+use Rattle.std.proofs.Common.{◌≡◌, ◌≢◌, ℕ, zero, suc, ◌+◌, ◌-◌, ◌*◌, ◌<◌, ◌≤◌, Bool, true, false, cond, eqb, Option, Some, None, List, [], ◌∷◌, ◌++◌, map, get_or, refl, sym, ap, ◌∙◌, arith}
+use Rattle.std.specs.Prelude.{ℤ, pos, ◌-ℤ◌, All, AllPairs, filter}
+use Rattle.std.specs.List.{flat_map}
+use Rattle.std.proofs.lemmas.Bool.{ne_eqb}
+use Rattle.std.proofs.lemmas.List.{append-nil}
+use Rattle.std.proofs.lemmas.List.Folds.{flat_map-map}
+use Rattle.std.proofs.lemmas.List.Elements.{All-map, All-weaker}
+use Rattle.cbs_rules.specs.Serving.{charged}
+use Rattle.edf_pick.specs.Places.{stands}
+use Rattle.domain_run.specs.declared.task.Task.{Task}
+use Rattle.domain_run.specs.declared.happened.Happened.{Happened}
+use Rattle.domain_run.specs.declared.happened.What.TheVariants.{Spent, Replenished}
+use Rattle.domain_run.specs.Conditions.{is_throttled}
+use Rattle.domain_run.specs.script.Segments.{asked}
+use Rattle.domain_run.specs.Parts.{replenish_due, settled, is_listed, unblocked}
+use Rattle.domain_run.specs.Domain.{Domain}
+use Rattle.domain_run.specs.Tick.{begun, rate_of, ticks}
+use Rattle.domain_run.specs.Jump.{under_way, ticks_to_due, ticks_to_due_of, ticks_to_event, running_numbers, AreCharged}
+use Rattle.domain_run.specs.Sound.{IsSteady, IsPlacement}
+use Rattle.domain_run.specs.Happened.{told, due, told_by_segment, told_by_work, told_by_budget, told_by_run, told_if_ran, told_by_replenishment, told_by_wake, told_by_unblocking, in_order, told_by_beginning, told_by_end, told_by_tick, told_by_ticks, told_by_last_end, passes_late_timer}
+use Rattle.domain_run.specs.private.Paying.{ran_until, index_of}
+use Rattle.domain_run.specs.private.Telling.{told_until, told_paid, told_paid_at, told_in_parts, told_in_pay}
+use Rattle.domain_run.proofs.Staying.{map_itself}
+use Rattle.domain_run.proofs.Jumping.{IsStill, still_before, rest_each, rest_alike, alike_slid, filter_whole, slid, slid_all, slid_none, Runs, RunsIf, rate_slid, less_twice, run_by, run_on, finished_slid, begun_still, ticks_slid}
+use Rattle.domain_run.proofs.Paying.{there, nowhere, charged_there, runs_each}
+use Rattle.domain_run.proofs.ToldChanges.{told_nothing, told_alike}
+
+-- ---- parts 1 to 3 have nothing to do, and tell nothing
+
+parts_still : (time : ℕ) (tasks : List Task) → All (IsStill time) tasks → told_in_parts time tasks ≡ []
+parts_still time tasks still =
+    let due_none : flat_map (told_by_replenishment time) tasks ≡ [] = told_nothing (told_by_replenishment time) tasks
+    (All-weaker (IsStill time) (λ t. told_by_replenishment time t ≡ []) (λ t is. ap (λ b. cond b (told time t (Replenished (due (replenish_due time t))) ∷ []) []) is.due) tasks still) in
+    let over_none : flat_map (told_by_unblocking time) tasks ≡ [] = told_nothing (told_by_unblocking time) tasks
+    (All-weaker (IsStill time) (λ t. told_by_unblocking time t ≡ []) (λ t is. ap (λ b. cond b (told_by_wake time t (unblocked time t) (asked t.cursor time).segment) []) is.over) tasks still) in
+    let due : map (replenish_due time) tasks ≡ tasks = map_itself (replenish_due time) tasks (λ k d h. let t = get_or tasks k d in rw (still k d h).due refl) in
+    let lag : map (settled time) tasks ≡ tasks = map_itself (settled time) tasks (λ k d h. let t = get_or tasks k d in rw (still k d h).lag refl) in
+    let listed : filter is_listed tasks ≡ tasks = filter_whole is_listed tasks (λ k d h. (still k d h).listed) in
+    let same : filter is_listed (map (settled time) (map (replenish_due time) tasks)) ≡ tasks = ap (λ ts. filter is_listed (map (settled time) ts)) due ∙ ap (λ ts. filter is_listed ts) lag ∙ listed in
+    (λ i. in_order (due_none i ++ flat_map (told_by_unblocking time) (same i))) ∙ ap in_order over_none
+
+pub parts_none : (time : ℕ) (tasks : List Task) → All (IsStill time) tasks → told_in_parts time tasks ≡ []
+parts_none time tasks still = parts_still time tasks still
+
+beginning_still : (d : Domain) (j : ℕ) → 0 < j → j ≤ ticks_to_due (d.time + 1) (begun d).tasks → told_by_beginning (slid_all (begun d) j) ≡ []
+beginning_still d j some h =
+    let b = begun d in
+    let f = slid b j in
+    let same = alike_slid b j in
+    let c = slid_all b j in
+    parts_still c.time c.tasks (All-map (IsStill c.time) f b.tasks
+    (All-weaker (λ t. j ≤ ticks_to_due_of (d.time + 1) t) (λ t. IsStill c.time (f t)) (λ t k. still_before d.time j (f t) some (rw (rest_alike (d.time + 1) t (f t) (same t)) k)) b.tasks (rest_each (d.time + 1) j b.tasks h)))
+
+-- ---- a tick of running, behind so many
+
+told_slid : (b : Domain) (j : ℕ) (t : Task) → told_if_ran (slid_all b j) (slid b j t) ≡ cond (stands t.number b.curr) (told_until (b.time + suc j) (suc j) (t.server.left -ℤ pos (rate_of b t * suc j)) t) []
+told_slid b j t = by_stands (stands t.number b.curr) refl
+  where
+    x : Task
+    x = record t { server = charged (rate_of b t) j t.server; work = t.work - j }
+
+    e : Domain
+    e = slid_all b j
+
+    by_run : ℕ → ℤ → ℕ → List Happened
+    by_run time left work = told_by_work time (record t { server = record t.server { left = left }; work = work }) ++ told_by_budget time (run_by time left work t)
+
+    by_stands : (s : Bool) → stands t.number b.curr ≡ s → told_if_ran e (cond s x t) ≡ cond s (told_until (b.time + suc j) (suc j) (t.server.left -ℤ pos (rate_of b t * suc j)) t) []
+    by_stands false at = ap (λ s. cond s (told_by_run e.time (rate_of e t) t) []) at
+    by_stands true at =
+        let rate = rate_slid b j t x refl refl in
+        let time : b.time + j + 1 ≡ b.time + suc j = omega arith in
+        let left = less_twice t.server.left (rate_of b t) j in
+        let work : t.work - j - 1 ≡ t.work - suc j = omega arith in
+        ap (λ s. cond s (told_by_run e.time (rate_of e x) x) []) at
+        ∙ ap (λ r. told_by_run e.time r x) rate
+        ∙ (λ i. by_run (time i) (left i) (work i))
+
+-- where it is not the last of anything it tells nothing
+quiet_until : (b : Domain) (j k : ℕ) (t : Task) → suc j < k → Runs b k t → told_until (b.time + suc j) (suc j) (t.server.left -ℤ pos (rate_of b t * suc j)) t ≡ []
+quiet_until b j k t less is =
+    let time = b.time + suc j in
+    let left = t.server.left -ℤ pos (rate_of b t * suc j) in
+    let x : Task = record t { server = record t.server { left = left }; work = t.work - suc j } in
+    let more : eqb (t.work - suc j) 0 ≡ false = ne_eqb (t.work - suc j) 0 (λ q. absurd (omega (arith, q, less, is.worked))) in
+    ap (λ w. cond w (told_by_segment time x (passes_late_timer x.cursor time) (asked x.cursor time).segment) [] ++ told_by_budget time (ran_until time (suc j) left t)) more
+    ∙ ap (told_by_budget time) (run_on b j k t less is)
+    ∙ ap (λ c. cond (is_throttled c) (told time x (Spent (due x)) ∷ []) []) is.ready
+
+quiet_end : (b : Domain) (j k : ℕ) → suc j < k → All (RunsIf b k) b.tasks → told_by_end (slid_all b j) ≡ []
+quiet_end b j k less runs =
+    let e = slid_all b j in
+    ap in_order (flat_map-map (told_if_ran e) (slid b j) b.tasks
+    ∙ told_nothing (λ t. told_if_ran e (slid b j t)) b.tasks (All-weaker (RunsIf b k) (λ t. told_if_ran e (slid b j t) ≡ []) (λ t is. told_slid b j t ∙ by_stands t (stands t.number b.curr) is) b.tasks runs))
+  where
+    by_stands : (t : Task) (s : Bool) → (s ≡ true → Runs b k t) → cond s (told_until (b.time + suc j) (suc j) (t.server.left -ℤ pos (rate_of b t * suc j)) t) [] ≡ []
+    by_stands t true is = quiet_until b j k t less (is refl)
+    by_stands t false is = refl
+
+-- ---- THE TICKS of a jump
+
+begun_ticks : (d : Domain) (k j : ℕ) → j < k → k - 1 ≤ ticks_to_due (d.time + 1) (begun d).tasks → All (RunsIf (begun d) k) (begun d).tasks → begun (ticks j d) ≡ slid_all (begun d) j
+begun_ticks d k zero h quiet runs = sym (slid_none (begun d))
+begun_ticks d k (suc j) h quiet runs =
+    ap begun (ticks_slid d k j (omega (arith, h)) quiet runs ∙ finished_slid (begun d) j k h runs)
+    ∙ begun_still d (suc j) (omega arith) (omega (arith, quiet, h))
+
+told_jump : (d : Domain) (k j : ℕ) → j < k → k - 1 ≤ ticks_to_due (d.time + 1) (begun d).tasks → All (RunsIf (begun d) k) (begun d).tasks → told_by_ticks (suc j) d ≡ told_by_beginning d ++ told_by_end (slid_all (begun d) j)
+told_jump d k zero h quiet runs = ap (λ e. told_by_beginning d ++ told_by_end e) (sym (slid_none (begun d)))
+told_jump d k (suc j) h quiet runs =
+    let b = begun d in
+    let e = slid_all b (suc j) in
+    let before : told_by_ticks (suc j) d ≡ told_by_beginning d = told_jump d k j (omega (arith, h)) quiet runs ∙ ap (λ hs. told_by_beginning d ++ hs) (quiet_end b j k h runs) ∙ append-nil (told_by_beginning d) in
+    let at : ticks (suc j) d ≡ e = ticks_slid d k j (omega (arith, h)) quiet runs ∙ finished_slid b j k h runs in
+    let still : begun e ≡ e = begun_still d (suc j) (omega arith) (omega (arith, quiet, h)) in
+    let last : told_by_tick e ≡ told_by_end e = (λ i. beginning_still d (suc j) (omega arith) (omega (arith, quiet, h)) i ++ told_by_end (still i)) in
+    (λ i. before i ++ told_by_tick (at i)) ∙ ap (λ hs. told_by_beginning d ++ hs) last
+
+-- ---- as the code has it
+
+told_each : (e : Domain) (time ticks : ℕ) (budgets : List ℤ) → AllPairs (λ a b. a.number ≢ b.number) e.tasks → AreCharged e ticks budgets
+    → All (λ t. told_paid time (running_numbers e.curr) ticks budgets t ≡ cond (stands t.number e.curr) (told_until time ticks (t.server.left -ℤ pos (rate_of e t * ticks)) t) []) e.tasks
+told_each e time ticks budgets numbered are k d h = by_index (index_of (running_numbers e.curr) (get_or e.tasks k d)) refl
+  where
+    by_index : (o : Option ℕ) → index_of (running_numbers e.curr) (get_or e.tasks k d) ≡ o
+        → told_paid_at time ticks budgets o (get_or e.tasks k d) ≡ cond (stands (get_or e.tasks k d).number e.curr) (told_until time ticks ((get_or e.tasks k d).server.left -ℤ pos (rate_of e (get_or e.tasks k d) * ticks)) (get_or e.tasks k d)) []
+    by_index None at =
+        let t = get_or e.tasks k d in
+        sym (ap (λ b. cond b (told_until time ticks (t.server.left -ℤ pos (rate_of e t * ticks)) t) []) (nowhere e.curr t.number at))
+    by_index (Some i) at =
+        let t = get_or e.tasks k d in
+        let is = charged_there e ticks budgets k i d numbered are h at in
+        ap (λ left. told_until time ticks left t) is.charged
+        ∙ sym (ap (λ b. cond b (told_until time ticks (t.server.left -ℤ pos (rate_of e t * ticks)) t) []) (there e.curr t.number i at).stands_there)
+
+-- what the running tasks of a jump tell is the end of its last tick
+pub told_pay_is : (d : Domain) (k : ℕ) (budgets : List ℤ) (time : ℕ) → IsSteady (under_way d) → IsPlacement (under_way d) → 0 < k → k ≤ ticks_to_event (under_way d) → AreCharged (under_way d) k budgets
+    → time ≡ (under_way d).time + (k - 1) → told_in_pay time (running_numbers (under_way d).curr) k budgets (under_way d).tasks ≡ told_by_last_end k d
+told_pay_is d zero budgets time steady placed some quiet are at = absurd (omega (arith, some))
+told_pay_is d (suc j) budgets time steady placed some quiet are at =
+    let e = under_way d in
+    let b = begun d in
+    let c = slid_all b j in
+    let clock : time ≡ b.time + suc j = omega (arith, at) in
+    let runs : All (RunsIf b (suc j)) b.tasks = λ i x h stand. let r = runs_each e (suc j) budgets steady.numbered placed are i x h stand in record { ready = r.ready; worked = r.worked; lasted = r.lasted } in
+    let alike : flat_map (told_paid time (running_numbers e.curr) (suc j) budgets) b.tasks ≡ flat_map (λ t. told_if_ran c (slid b j t)) b.tasks =
+    told_alike (told_paid time (running_numbers e.curr) (suc j) budgets) (λ t. told_if_ran c (slid b j t)) b.tasks
+    (λ i x h. told_each e time (suc j) budgets steady.numbered are i x h ∙ ap (λ n. let t = get_or b.tasks i x in cond (stands t.number b.curr) (told_until n (suc j) (t.server.left -ℤ pos (rate_of b t * suc j)) t) []) clock ∙ sym (told_slid b j (get_or b.tasks i x))) in
+    ap in_order (alike ∙ sym (flat_map-map (told_if_ran c) (slid b j) b.tasks))
+    ∙ ap told_by_end (sym (begun_ticks d (suc j) j (omega arith) (omega (arith, quiet)) runs))
+    ∙ (let same : j ≡ suc j - 1 = omega arith in ap (λ n. told_by_end (begun (ticks n d))) same)
+
+-- and its ticks tell this alone behind the first beginning
+pub told_ticks_is : (d : Domain) (k : ℕ) (budgets : List ℤ) → IsSteady (under_way d) → IsPlacement (under_way d) → 0 < k → k ≤ ticks_to_event (under_way d) → AreCharged (under_way d) k budgets
+    → told_by_ticks k d ≡ told_by_beginning d ++ told_by_last_end k d
+told_ticks_is d zero budgets steady placed some quiet are = absurd (omega (arith, some))
+told_ticks_is d (suc j) budgets steady placed some quiet are =
+    let runs : All (RunsIf (begun d) (suc j)) (begun d).tasks = λ i x h stand. let r = runs_each (under_way d) (suc j) budgets steady.numbered placed are i x h stand in record { ready = r.ready; worked = r.worked; lasted = r.lasted } in
+    told_jump d (suc j) j (omega arith) (omega (arith, quiet)) runs
+    ∙ ap (λ e. told_by_beginning d ++ told_by_end e) (sym (begun_ticks d (suc j) j (omega arith) (omega (arith, quiet)) runs))
+    ∙ (let same : j ≡ suc j - 1 = omega arith in ap (λ n. told_by_beginning d ++ told_by_end (begun (ticks n d))) same)

@@ -1,0 +1,58 @@
+//! Calls that end a task here, and tell a log that its job is cut.
+
+ghost use Rattle.std.specs.Prelude.{◌≡◌};
+ghost use Rattle.domain_run.specs.declared.call.Call.TheVariants as Call;
+ghost use Rattle.domain_run.specs.Calls as calls;
+ghost use Rattle.domain_run.specs.Happened.{told_by_cut, told_by_call};
+ghost use Rattle.domain_run.specs.Log.{Tells, HasRoom};
+ghost use Rattle.domain_run.specs.private.Telling.{one_of};
+
+use super::State;
+use crate::call::Reply;
+use crate::happened::Happened;
+use crate::log::Log;
+use crate::telling;
+
+impl State {
+    // What tells that the job of the task of a number is cut now.
+    fn cut_of(&self, number: u32) -> Option<Happened>
+        ensures { one_of result ≡ told_by_cut self.now number }
+    {
+        match self.roster.place(number) {
+            None => None,
+            Some(place) => Some(telling::cut(self.time, self.roster.at(place))),
+        }
+    }
+
+    /// As [`State::leave`], and where the task has left, the log is told that its job is cut. Takes
+    /// no memory: room for one more is there.
+    pub fn leave_told(&mut self, number: u32, log: &mut Log) -> Reply
+        requires room { HasRoom 1 log.old }
+        ensures reply { result ≡ calls.reply_to self.old (Call.Leave number) }
+        ensures domain { self.new ≡ calls.after_call self.old (Call.Leave number) }
+        ensures told { Tells log.old (told_by_call self.old (Call.Leave number)) log.new }
+    {
+        let cut = self.cut_of(number);
+        let reply = self.leave(number);
+        if reply == Reply::Left {
+            log.push(cut);
+        }
+        reply
+    }
+
+    /// As [`State::depart`], and where the task is off the list, the log is told that its job is
+    /// cut. Takes no memory: room for one more is there.
+    pub fn depart_told(&mut self, number: u32, log: &mut Log) -> Reply
+        requires room { HasRoom 1 log.old }
+        ensures reply { result ≡ calls.reply_to self.old (Call.Depart number) }
+        ensures domain { self.new ≡ calls.after_call self.old (Call.Depart number) }
+        ensures told { Tells log.old (told_by_call self.old (Call.Depart number)) log.new }
+    {
+        let cut = self.cut_of(number);
+        let reply = self.depart(number);
+        if reply == Reply::Departed {
+            log.push(cut);
+        }
+        reply
+    }
+}
