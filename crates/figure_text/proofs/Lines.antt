@@ -29,7 +29,7 @@ pub numbered_more : {X : Type 0} (line : ℕ → X → List ℕ) (n : ℕ) (xs :
 numbered_more line n xs i x old before after l is b a =
     let len : length (take i xs) ≡ i = length-take-le i xs (omega arith) in
     let more : numbered line n (take (i + 1) xs) ≡ numbered line n (take i xs) ++ line (n + i) x =
-        ap (numbered line n) (take_more xs i x l ∙ ap (λ y. take i xs ++ y ∷ []) (sym is)) ∙ numbered_push line n (take i xs) x ∙ ap (λ k. numbered line n (take i xs) ++ line (n + k) x) len in
+    ap (numbered line n) (take_more xs i x l ∙ ap (λ y. take i xs ++ y ∷ []) (sym is)) ∙ numbered_push line n (take i xs) x ∙ ap (λ k. numbered line n (take i xs) ++ line (n + k) x) len in
     a ∙ ap (λ t. t ++ line (n + i) x) b ∙ append_assoc old (numbered line n (take i xs)) (line (n + i) x) ∙ ap (λ t. old ++ t) (sym more)
 
 -- the same of what was read at a place
@@ -74,9 +74,9 @@ one_more_domain old before after cpu all i d l is put a =
     let ds = map view_of (take i all) in
     let len : length ds ≡ i = length-map (take i all) view_of ∙ length-take-le i all (omega arith) in
     let more : map view_of (take (i + 1) all) ≡ ds ++ view_of d ∷ [] =
-        ap (map view_of) (take_more all i d l ∙ ap (λ y. take i all ++ y ∷ []) (sym is)) ∙ map-append view_of (take i all) (d ∷ []) in
+    ap (map view_of) (take_more all i d l ∙ ap (λ y. take i all ++ y ∷ []) (sym is)) ∙ map-append view_of (take i all) (d ∷ []) in
     let here : cpus_of i cpu (view_of d) ≡ cpus_of (0 + length ds) (0 + cpus_in ds) (view_of d) =
-        (let n : i ≡ 0 + length ds = omega (arith, len) in let c : cpu ≡ 0 + cpus_in ds = omega (arith, put.base) in λ k. cpus_of (n k) (c k) (view_of d)) in
+    (let n : i ≡ 0 + length ds = omega (arith, len) in let c : cpu ≡ 0 + cpus_in ds = omega (arith, put.base) in λ k. cpus_of (n k) (c k) (view_of d)) in
     record {
       text = a ∙ ap (λ t. t ++ cpus_of i cpu (view_of d)) put.text ∙ append_assoc old (cpu_lines 0 0 ds) (cpus_of i cpu (view_of d))
           ∙ ap (λ t. old ++ (cpu_lines 0 0 ds ++ t)) here ∙ ap (λ t. old ++ t) (sym (cpu_lines_push 0 0 ds (view_of d))) ∙ ap (λ (xs : List SummaryView). old ++ cpu_lines 0 0 xs) (sym more);

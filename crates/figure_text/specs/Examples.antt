@@ -1,8 +1,6 @@
 -- Worked rows: the texts of two domains.
-use Rattle.std.specs.Prelude.{ℕ, ◌≡◌, ◌==◌, true, false, if◌then◌else◌, negsuc, pos, List, [], ◌∷◌, Some, None, codes, refl}
+use Rattle.std.specs.Prelude.{ℕ, ◌≡◌, ◌==◌, true, false, if◌then◌else◌, negsuc, List, [], ◌∷◌, Some, None, codes, refl}
 use Rattle.std.specs.Fmt.{digits}
-use Rattle.run_figures.specs.declared.job.Job.{Job}
-use Rattle.run_figures.specs.declared.figures.TaskFigures.{TaskFigures}
 use Rattle.figure_text.specs.Columns.{share}
 use Rattle.figure_text.specs.Jobs.{JobsView, jobs_text}
 use Rattle.figure_text.specs.Summary.{SummaryView, summary_text}
@@ -14,16 +12,22 @@ names n = if n == 1 then codes "player" else codes "of-sixteen-bytes"
 abbrev first : JobsView
 first = record {
   names = names;
-  tasks = record { number = 1; jobs =
-      record { release = 350000; deadline = 450000; ended = Some 510000; throttled = 2; cut = false }
-      ∷ record { release = 880000; deadline = 980000; ended = None; throttled = 2; cut = false } ∷ [] } ∷ [];
+  tasks = record {
+    number = 1;
+    jobs =
+        record { release = 350000; deadline = 450000; ended = Some 510000; throttled = 2; cut = false }
+        ∷ record { release = 880000; deadline = 980000; ended = None; throttled = 2; cut = false } ∷ [];
+  } ∷ [];
 }
 
 abbrev second : JobsView
 second = record {
   names = names;
-  tasks = record { number = 65535; jobs =
-      record { release = 0; deadline = 5; ended = None; throttled = 0; cut = true } ∷ [] } ∷ [];
+  tasks = record {
+    number = 65535;
+    jobs =
+        record { release = 0; deadline = 5; ended = None; throttled = 0; cut = true } ∷ [];
+  } ∷ [];
 }
 
 jobs : jobs_text (first ∷ second ∷ []) ≡ codes
@@ -44,9 +48,18 @@ abbrev one : SummaryView
 one = record {
   names = names;
   tasks = record {
-      number = 1; runtime = 40000; period = 160000; jobs = 5; late = 1;
-      responses = Some (record { least = 40000; mean = 40001; most = 160000; slack = negsuc 1 });
-      throttled = 6; throttled_us = 7; preempted = 8; migrated = 9; cpu_us = 200000 } ∷ [];
+    number = 1;
+    runtime = 40000;
+    period = 160000;
+    jobs = 5;
+    late = 1;
+    responses = Some (record { least = 40000; mean = 40001; most = 160000; slack = negsuc 1 });
+    throttled = 6;
+    throttled_us = 7;
+    preempted = 8;
+    migrated = 9;
+    cpu_us = 200000;
+  } ∷ [];
   cpus = record { busy_us = 560000; switches = 13 } ∷ [];
   bandwidth = 681574;
   cap = 996147;
@@ -57,8 +70,18 @@ abbrev other : SummaryView
 other = record {
   names = names;
   tasks = record {
-      number = 2; runtime = 2; period = 3; jobs = 0; late = 0; responses = None;
-      throttled = 0; throttled_us = 0; preempted = 0; migrated = 0; cpu_us = 0 } ∷ [];
+    number = 2;
+    runtime = 2;
+    period = 3;
+    jobs = 0;
+    late = 0;
+    responses = None;
+    throttled = 0;
+    throttled_us = 0;
+    preempted = 0;
+    migrated = 0;
+    cpu_us = 0;
+  } ∷ [];
   cpus = record { busy_us = 0; switches = 0 } ∷ record { busy_us = 0; switches = 0 } ∷ [];
   bandwidth = 0;
   cap = 1992294;

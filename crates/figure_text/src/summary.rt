@@ -92,12 +92,7 @@ fn put_shares(out: &mut Vec<u8>, task: &TaskFigures, time: u64) -> Result<(), No
 }
 
 /// The columns of who it is, and in which domain.
-fn put_task_name(
-    out: &mut Vec<u8>,
-    domain: usize,
-    name: &[u8],
-    number: u32,
-) -> Result<(), NoMemory>
+fn put_task_name(out: &mut Vec<u8>, domain: usize, name: &[u8], number: u32) -> Result<(), NoMemory>
     ensures { OnOk result (out.new.items
         ≡ out.old.items ++ texts.task_name domain name.now number) }
 {

@@ -45,27 +45,27 @@ with_own time s ss m n true to from =
     let us = until time s.cpu ss - s.time in
     let stay : Stay = record { number = m; cpu = s.cpu; us = us } in
     let added : us_in (λ x. eqb x.number n) (stay ∷ stays time ss) ≡ cpu_us time ss n + us =
-        omega (arith, us_in-cons (λ x. eqb x.number n) stay (stays time ss), ap (λ b. cond b us 0) to) in
+    omega (arith, us_in-cons (λ x. eqb x.number n) stay (stays time ss), ap (λ b. cond b us 0) to) in
     let moved = moves_are s.cpu (placements n ss) in
     ap (λ b. record {
-        number = n;
-        cpu_us = us_in (λ x. eqb x.number n) (stay ∷ stays time ss);
-        migrated = changes (map (λ (x : Switch). x.cpu) (cond b (s ∷ filter (λ x. is_task n x.next) ss) (filter (λ x. is_task n x.next) ss)));
-        first = first_of (map (λ (x : Switch). x.cpu) (cond b (s ∷ filter (λ x. is_task n x.next) ss) (filter (λ x. is_task n x.next) ss)));
-      }) to
+      number = n;
+      cpu_us = us_in (λ x. eqb x.number n) (stay ∷ stays time ss);
+      migrated = changes (map (λ (x : Switch). x.cpu) (cond b (s ∷ filter (λ x. is_task n x.next) ss) (filter (λ x. is_task n x.next) ss)));
+      first = first_of (map (λ (x : Switch). x.cpu) (cond b (s ∷ filter (λ x. is_task n x.next) ss) (filter (λ x. is_task n x.next) ss)));
+    }) to
     ∙ (λ i. record { number = n; cpu_us = added i; migrated = moved i; first = Some s.cpu })
     ∙ ap (λ b. cond b (with_stay s.cpu us (ran_by time ss n)) (ran_by time ss n)) (sym from)
 with_own time s ss m n false to from =
     let us = until time s.cpu ss - s.time in
     let stay : Stay = record { number = m; cpu = s.cpu; us = us } in
     let added : us_in (λ x. eqb x.number n) (stay ∷ stays time ss) ≡ cpu_us time ss n =
-        omega (arith, us_in-cons (λ x. eqb x.number n) stay (stays time ss), ap (λ b. cond b us 0) to) in
+    omega (arith, us_in-cons (λ x. eqb x.number n) stay (stays time ss), ap (λ b. cond b us 0) to) in
     ap (λ b. record {
-        number = n;
-        cpu_us = us_in (λ x. eqb x.number n) (stay ∷ stays time ss);
-        migrated = changes (map (λ (x : Switch). x.cpu) (cond b (s ∷ filter (λ x. is_task n x.next) ss) (filter (λ x. is_task n x.next) ss)));
-        first = first_of (map (λ (x : Switch). x.cpu) (cond b (s ∷ filter (λ x. is_task n x.next) ss) (filter (λ x. is_task n x.next) ss)));
-      }) to
+      number = n;
+      cpu_us = us_in (λ x. eqb x.number n) (stay ∷ stays time ss);
+      migrated = changes (map (λ (x : Switch). x.cpu) (cond b (s ∷ filter (λ x. is_task n x.next) ss) (filter (λ x. is_task n x.next) ss)));
+      first = first_of (map (λ (x : Switch). x.cpu) (cond b (s ∷ filter (λ x. is_task n x.next) ss) (filter (λ x. is_task n x.next) ss)));
+    }) to
     ∙ (λ i. record { number = n; cpu_us = added i; migrated = migrations ss n; first = first_of (placements n ss) })
     ∙ ap (λ b. cond b (with_stay s.cpu us (ran_by time ss n)) (ran_by time ss n)) (sym from)
 
@@ -93,15 +93,15 @@ cpu_with : (time : ℕ) (s : Switch) (ss : List Switch) (cpu : ℕ) (b : Bool) �
 cpu_with time s ss cpu true to from =
     let same : s.cpu ≡ cpu = eqb-true s.cpu cpu to in
     let added : busy_us time (s ∷ ss) cpu ≡ busy_us time ss cpu + busy_if s.next (until time cpu ss - s.time) =
-        omega (arith, busy_added time s ss s.next cpu (until time s.cpu ss) true to, ap (λ c. busy_if s.next (until time c ss - s.time)) same) in
+    omega (arith, busy_added time s ss s.next cpu (until time s.cpu ss) true to, ap (λ c. busy_if s.next (until time c ss - s.time)) same) in
     let count : count_by (λ (x : Switch). eqb x.cpu cpu) (s ∷ ss) ≡ count_by (λ (x : Switch). eqb x.cpu cpu) ss + 1 =
-        omega (arith, sum_by-cons (λ (x : Switch). cond (eqb x.cpu cpu) 1 0) s ss, ap {B = ℕ} (λ b. cond b 1 0) to) in
+    omega (arith, sum_by-cons (λ (x : Switch). cond (eqb x.cpu cpu) 1 0) s ss, ap {B = ℕ} (λ b. cond b 1 0) to) in
     let next : until time cpu (s ∷ ss) ≡ s.time = ap (λ b. cond b s.time (until time cpu ss)) to in
     λ i. record { cpu = cpu; busy_us = added i; switches = count i; next = next i }
 cpu_with time s ss cpu false to from =
     let added : busy_us time (s ∷ ss) cpu ≡ busy_us time ss cpu = omega (arith, busy_added time s ss s.next cpu (until time s.cpu ss) false to) in
     let count : count_by (λ (x : Switch). eqb x.cpu cpu) (s ∷ ss) ≡ count_by (λ (x : Switch). eqb x.cpu cpu) ss =
-        omega (arith, sum_by-cons (λ (x : Switch). cond (eqb x.cpu cpu) 1 0) s ss, ap {B = ℕ} (λ b. cond b 1 0) to) in
+    omega (arith, sum_by-cons (λ (x : Switch). cond (eqb x.cpu cpu) 1 0) s ss, ap {B = ℕ} (λ b. cond b 1 0) to) in
     let next : until time cpu (s ∷ ss) ≡ until time cpu ss = ap (λ b. cond b s.time (until time cpu ss)) to in
     λ i. record { cpu = cpu; busy_us = added i; switches = count i; next = next i }
 
@@ -110,8 +110,8 @@ cpu_before time s ss cpu =
     ⊎_elim
     (λ (e : s.cpu ≡ cpu). cpu_with time s ss cpu true (eq-eqb s.cpu cpu e) (eq-eqb cpu s.cpu (sym e)) ∙ ap (λ b. cond b (with_switch s (cpu_by time ss cpu)) (cpu_by time ss cpu)) (sym (eq-eqb cpu s.cpu (sym e))))
     (λ (ne : s.cpu ≢ cpu).
-        let other : eqb cpu s.cpu ≡ false = ne_eqb cpu s.cpu (λ (e : cpu ≡ s.cpu). ne (sym e)) in
-        cpu_with time s ss cpu false (ne_eqb s.cpu cpu ne) other ∙ ap (λ b. cond b (with_switch s (cpu_by time ss cpu)) (cpu_by time ss cpu)) (sym other))
+    let other : eqb cpu s.cpu ≡ false = ne_eqb cpu s.cpu (λ (e : cpu ≡ s.cpu). ne (sym e)) in
+    cpu_with time s ss cpu false (ne_eqb s.cpu cpu ne) other ∙ ap (λ b. cond b (with_switch s (cpu_by time ss cpu)) (cpu_by time ss cpu)) (sym other))
     (cases_eq s.cpu cpu)
 
 -- SHORT
@@ -153,8 +153,13 @@ all_changes_few (c ∷ cs) = omega (arith, changes_few c cs)
 
 pub few_migrations : (ss : List Switch) (n : ℕ) → migrations ss n ≤ length ss
 few_migrations ss n =
-    omega (arith, all_changes_few (placements n ss), length-map (filter (λ (x : Switch). is_task n x.next) ss) (λ (x : Switch). x.cpu),
-      length-filter (λ (x : Switch). is_task n x.next) ss, count_by-le-length (λ (x : Switch). is_task n x.next) ss)
+    omega (
+      arith,
+      all_changes_few (placements n ss),
+      length-map (filter (λ (x : Switch). is_task n x.next) ss) (λ (x : Switch). x.cpu),
+      length-filter (λ (x : Switch). is_task n x.next) ss,
+      count_by-le-length (λ (x : Switch). is_task n x.next) ss,
+    )
 
 abbrev pub blank_cpu : Cpu
 blank_cpu = record { cpu = 0; busy_us = 0; switches = 0; next = 0 }
@@ -169,9 +174,9 @@ tasks_before time ss i left n d e tasks ran after cpus l at inside r c a =
     let behind = drop left ss in
     let all : drop i ss ≡ s ∷ behind = drop_more ss i d l ∙ ap (λ k. s ∷ drop k ss) (sym at) in
     let next : (get_or cpus s.cpu e).next ≡ until time s.cpu behind =
-        ap (λ (xs : List Cpu). (get_or xs s.cpu e).next) c
-        ∙ ap (λ (x : Cpu). x.next) (get_or-map (cpu_by time behind) (range_with_len 0 n) s.cpu 0 e (omega (arith, inside, length-range_with_len 0 n)))
-        ∙ ap (λ k. until time k behind) (get_or-range_with_len 0 n s.cpu 0 inside ∙ (let z : 0 + s.cpu ≡ s.cpu = omega arith in z)) in
+    ap (λ (xs : List Cpu). (get_or xs s.cpu e).next) c
+    ∙ ap (λ (x : Cpu). x.next) (get_or-map (cpu_by time behind) (range_with_len 0 n) s.cpu 0 e (omega (arith, inside, length-range_with_len 0 n)))
+    ∙ ap (λ k. until time k behind) (get_or-range_with_len 0 n s.cpu 0 inside ∙ (let z : 0 + s.cpu ≡ s.cpu = omega arith in z)) in
     let f : ℕ → Ran → Ran = λ u. with_stay_of s.next s.cpu (u - s.time) in
     a ∙ ap (map (f (get_or cpus s.cpu e).next)) r ∙ ap (λ u. map (f u) (map (λ (x : Admitted). ran_by time behind x.number) tasks)) next
     ∙ map-map (f (until time s.cpu behind)) (λ (x : Admitted). ran_by time behind x.number) tasks
@@ -205,19 +210,19 @@ cpus_keyed time ss n cpus is =
 pub tasks_small : (time m bound : ℕ) (ss : List Switch) (tasks : List Admitted) (ran : List Ran) → time ≤ m → All (λ s. s.time ≤ m) ss → length ss * m ≤ bound → ran ≡ map (λ a. ran_by time ss a.number) tasks → All (λ r. r.cpu_us ≤ bound) ran
 tasks_small time m bound ss tasks ran l all b is =
     subst (All (λ r. r.cpu_us ≤ bound)) (sym is) (All-map (λ (r : Ran). r.cpu_us ≤ bound) (λ (a : Admitted). ran_by time ss a.number) tasks
-      (λ k d h. let one = us_small (λ x. eqb x.number (get_or tasks k d).number) time m ss l all in omega (arith, one, b)))
+    (λ k d h. let one = us_small (λ x. eqb x.number (get_or tasks k d).number) time m ss l all in omega (arith, one, b)))
 
 pub tasks_few : (time : ℕ) (ss : List Switch) (tasks : List Admitted) (ran : List Ran) (m : ℕ) → length ss ≤ m → ran ≡ map (λ a. ran_by time ss a.number) tasks → All (λ r. r.migrated ≤ m) ran
 tasks_few time ss tasks ran m l is =
     subst (All (λ r. r.migrated ≤ m)) (sym is) (All-map (λ (r : Ran). r.migrated ≤ m) (λ (a : Admitted). ran_by time ss a.number) tasks
-      (λ k d h. omega (arith, l, few_migrations ss (get_or tasks k d).number)))
+    (λ k d h. omega (arith, l, few_migrations ss (get_or tasks k d).number)))
 
 pub cpus_small : (time m bound n : ℕ) (ss : List Switch) (cpus : List Cpu) → time ≤ m → All (λ s. s.time ≤ m) ss → length ss * m ≤ bound → cpus ≡ map (cpu_by time ss) (range_with_len 0 n) → All (λ c. c.busy_us ≤ bound) cpus
 cpus_small time m bound n ss cpus l all b is =
     subst (All (λ c. c.busy_us ≤ bound)) (sym is) (All-map (λ (c : Cpu). c.busy_us ≤ bound) (cpu_by time ss) (range_with_len 0 n)
-      (λ k d h. let one = us_small (λ x. eqb x.cpu (get_or (range_with_len 0 n) k d)) time m ss l all in omega (arith, one, b)))
+    (λ k d h. let one = us_small (λ x. eqb x.cpu (get_or (range_with_len 0 n) k d)) time m ss l all in omega (arith, one, b)))
 
 pub cpus_few : (time n m : ℕ) (ss : List Switch) (cpus : List Cpu) → length ss ≤ m → cpus ≡ map (cpu_by time ss) (range_with_len 0 n) → All (λ c. c.switches ≤ m) cpus
 cpus_few time n m ss cpus l is =
     subst (All (λ c. c.switches ≤ m)) (sym is) (All-map (λ (c : Cpu). c.switches ≤ m) (cpu_by time ss) (range_with_len 0 n)
-      (λ k d h. omega (arith, l, count_by-le-length (λ (x : Switch). eqb x.cpu (get_or (range_with_len 0 n) k d)) ss)))
+    (λ k d h. omega (arith, l, count_by-le-length (λ (x : Switch). eqb x.cpu (get_or (range_with_len 0 n) k d)) ss)))

@@ -1,5 +1,5 @@
 -- What was told of a task, at the end, is what the definitions say of its entries.
-use Rattle.std.proofs.Common.{◌≡◌, ℕ, suc, ◌+◌, ◌-◌, ◌*◌, ◌/◌, ◌≤◌, ◌<◌, Bool, true, false, cond, not, ◌&&◌, ◌||◌, min, max, List, [], ◌∷◌, ◌++◌, length, Option, Some, None, ℤ, refl, sym, ap, ◌∙◌, arith, eq-eqb, eqb}
+use Rattle.std.proofs.Common.{◌≡◌, ℕ, suc, ◌+◌, ◌-◌, ◌/◌, Bool, true, false, cond, ◌||◌, min, max, List, [], ◌∷◌, length, Option, Some, None, ℤ, refl, sym, ap, ◌∙◌, arith, eq-eqb, eqb}
 use Rattle.std.specs.Prelude.{fold, sum_by, count_by, is_some}
 use Rattle.std.specs.Option.{option_map, option_map_or, option_to_list}
 use Rattle.std.specs.Int.{int_min}
@@ -13,7 +13,6 @@ use Rattle.run_figures.specs.declared.counting.Ended.{Ended}
 use Rattle.run_figures.specs.declared.counting.Counts.{Counts}
 use Rattle.run_figures.specs.declared.throttle.Throttle.{Throttle}
 use Rattle.run_figures.specs.declared.told.Told.{Told}
-use Rattle.run_figures.specs.declared.figures.Responses.{Responses}
 use Rattle.run_figures.specs.Jobs.{of_task, over_by, under_way, jobs_from}
 use Rattle.run_figures.specs.Throttling.{throttles, frees, throttled_of, throttled_us, until_free, throttled_then}
 use Rattle.run_figures.specs.Figures.{Outcome, outcome_at, outcomes, is_late, responses_of}
@@ -116,11 +115,11 @@ responses_counted (o ∷ os) =
     let mean : (o.response + sum_by (λ (p : Outcome). p.response) os) / (1 + length os) ≡ sum_by (λ (p : Outcome). p.response) (o ∷ os) / length (o ∷ os) = λ i. total i / count i in
     ap (option_map responses_by) (all_counted os (first_ended o))
     ∙ (λ i. Some (record {
-        least = fold (λ (least : ℕ) (p : Outcome). min least p.response) o.response os;
-        mean = mean i;
-        most = fold (λ (most : ℕ) (p : Outcome). max most p.response) o.response os;
-        slack = fold (λ (least : ℤ) (p : Outcome). int_min least p.slack) o.slack os;
-      }))
+      least = fold (λ (least : ℕ) (p : Outcome). min least p.response) o.response os;
+      mean = mean i;
+      most = fold (λ (most : ℕ) (p : Outcome). max most p.response) o.response os;
+      slack = fold (λ (least : ℤ) (p : Outcome). int_min least p.slack) o.slack os;
+    }))
 
 -- THROTTLING
 abbrev pub throttle_all : Throttle → List Happened → Throttle

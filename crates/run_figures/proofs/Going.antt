@@ -72,7 +72,7 @@ pub few_preemptions : (end : ℕ) (hs : List Happened) (ss : List Switch) (tasks
 few_preemptions end hs ss tasks j k m after at l =
     subst (All (λ t. t.preempted ≤ m)) (sym at)
     (All-map (λ (t : Told). t.preempted ≤ m) (λ (a : Admitted). so_far end hs ss j k a.number) tasks
-      (λ i d h. omega (arith, l, count_by-le-length (preempts hs (get_or tasks i d).number) (take k ss), length-take k ss)))
+    (λ i d h. omega (arith, l, count_by-le-length (preempts hs (get_or tasks i d).number) (take k ss), length-take k ss)))
 
 pub next_switch : (end : ℕ) (hs : List Happened) (ss : List Switch) (tasks : List Admitted) (j k c : ℕ) (d : Switch) (told after last : List Told)
     → IsAtSwitch end hs ss tasks j k told → k < length ss → AllPairs (λ a b. IsTrue (is_before a b)) ss
@@ -89,7 +89,7 @@ next_switch end hs ss tasks j k c d told after last at l rising count a within b
           b ∙ ap (map (with_preemption s)) (entries_told end hs ss tasks j k c told after at.told a)
           ∙ map-map (with_preemption s) (λ (x : Admitted). so_far end hs ss (j + c) k x.number) tasks
           ∙ map_same (λ (x : Admitted). with_preemption s (so_far end hs ss (j + c) k x.number)) (λ (x : Admitted). so_far end hs ss (j + c) (k + 1) x.number) tasks
-            (λ x. more_switched end hs ss (j + c) k x.number s l (get_or_default ss k d s l) all);
+          (λ x. more_switched end hs ss (j + c) k x.number s l (get_or_default ss k d s l) all);
       within = within;
       ahead = λ i e m n.
           let other = get_or ss i e in
@@ -105,5 +105,5 @@ at_the_end end hs ss tasks j k rest told after at l is a =
     let to : j + (length hs - j) ≡ length hs = omega (arith, at.inside) in
     entries_told end hs ss tasks j k (length hs - j) told after at.told (a ∙ ap (λ (xs : List Happened). map (told_all end xs) told) whole)
     ∙ map_same (λ (x : Admitted). so_far end hs ss (j + (length hs - j)) k x.number) (λ (x : Admitted). told_by end hs ss x.number) tasks
-      (λ x. (λ i. record (told_all end (take (to i) hs) (untold x.number)) { preempted = count_by (preempts hs x.number) (take k ss) })
-        ∙ (λ i. record (told_all end (take_all (length hs) hs (omega arith) i) (untold x.number)) { preempted = count_by (preempts hs x.number) (take_all k ss l i) }))
+    (λ x. (λ i. record (told_all end (take (to i) hs) (untold x.number)) { preempted = count_by (preempts hs x.number) (take k ss) })
+    ∙ (λ i. record (told_all end (take_all (length hs) hs (omega arith) i) (untold x.number)) { preempted = count_by (preempts hs x.number) (take_all k ss l i) }))

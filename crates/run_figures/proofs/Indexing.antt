@@ -29,22 +29,22 @@ one_seen numbers seen codes m before is small =
           (cases_eq n m);
       found = λ n h some. ⊎_elim
           (λ (e : n ≡ m).
-              let code : get_or (set codes m (seen + 1)) n 0 - 1 ≡ seen = omega (arith, ap (λ k. get_or (set codes m (seen + 1)) k 0) e ∙ here) in
-              ap (λ k. get_or numbers k 0) code ∙ sym is ∙ sym e)
+          let code : get_or (set codes m (seen + 1)) n 0 - 1 ≡ seen = omega (arith, ap (λ k. get_or (set codes m (seen + 1)) k 0) e ∙ here) in
+          ap (λ k. get_or numbers k 0) code ∙ sym is ∙ sym e)
           (λ (other : n ≢ m).
-              let same = there n other in
-              ap (λ k. get_or numbers (k - 1) 0) same ∙ before.found n h (λ none. some (same ∙ none)))
+          let same = there n other in
+          ap (λ k. get_or numbers (k - 1) 0) same ∙ before.found n h (λ none. some (same ∙ none)))
           (cases_eq n m);
       listed = λ k h none. ⊎_elim
           (λ (e : get_or numbers k 0 ≡ m).
-              let code : get_or (set codes m (seen + 1)) (get_or numbers k 0) 0 ≡ seen + 1 = ap (λ n. get_or (set codes m (seen + 1)) n 0) e ∙ here in
-              absurd (omega (arith, code, none)))
+          let code : get_or (set codes m (seen + 1)) (get_or numbers k 0) 0 ≡ seen + 1 = ap (λ n. get_or (set codes m (seen + 1)) n 0) e ∙ here in
+          absurd (omega (arith, code, none)))
           (λ (other : get_or numbers k 0 ≢ m).
-              let same = there (get_or numbers k 0) other in
-              ⊎_elim
-              (λ (lt : k < seen). before.listed k lt (sym same ∙ none))
-              (λ (le : seen ≤ k). other (ap (λ j. get_or numbers j 0) (omega (arith, h, le)) ∙ sym is))
-              (cases_lt k seen))
+          let same = there (get_or numbers k 0) other in
+          ⊎_elim
+          (λ (lt : k < seen). before.listed k lt (sym same ∙ none))
+          (λ (le : seen ≤ k). other (ap (λ j. get_or numbers j 0) (omega (arith, h, le)) ∙ sym is))
+          (cases_lt k seen))
           (cases_eq (get_or numbers k 0) m);
     }
 

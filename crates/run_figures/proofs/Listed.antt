@@ -11,7 +11,7 @@ use Rattle.domain_run.specs.declared.happened.Happened.{Happened}
 use Rattle.run_figures.specs.declared.job.Job.{Job}
 use Rattle.run_figures.specs.declared.run.Admitted.{Admitted}
 use Rattle.run_figures.specs.LineView.{LineView, TaskJobsView}
-use Rattle.run_figures.specs.Jobs.{of_task, over_by, under_way, jobs_from, jobs_of, task_jobs}
+use Rattle.run_figures.specs.Jobs.{of_task, over_by, under_way, jobs_from, task_jobs}
 use Rattle.run_figures.specs.private.Lines.{line_after, line_if, line_all, no_line, IsLineWithin}
 use Rattle.run_figures.proofs.Passing.{map-map, map_same}
 
@@ -56,7 +56,7 @@ numbers_of_lines hs ls = map-map (λ (l : LineView). l.number) (line_all hs) ls 
 pub one_more_line : (hs : List Happened) (i : ℕ) (h : Happened) (now before ls : List LineView) → i < length hs → h ≡ get_or hs i h → before ≡ map (line_all (take i hs)) ls → now ≡ map (λ l. line_if l h) before → now ≡ map (line_all (take (i + 1) hs)) ls
 one_more_line hs i h now before ls l is b n =
     let each : (x : LineView) → line_if (line_all (take i hs) x) h ≡ line_all (take (i + 1) hs) x = λ x.
-        ap (line_if (line_all (take i hs) x)) is ∙ sym (fold_more line_if x hs i h l) in
+    ap (line_if (line_all (take i hs) x)) is ∙ sym (fold_more line_if x hs i h l) in
     n ∙ ap (map (λ x. line_if x h)) b ∙ map-map (λ x. line_if x h) (line_all (take i hs)) ls ∙ map_same (λ x. line_if (line_all (take i hs) x) h) (line_all (take (i + 1) hs)) ls each
 
 -- COUNTS
@@ -92,6 +92,6 @@ pub lines_within : (hs : List Happened) (m : ℕ) (tasks : List Admitted) → le
 lines_within hs m tasks le =
     All-map (IsLineWithin m) (line_all hs) (map (λ (t : Admitted). no_line t.number) tasks)
     (All-map (λ (l : LineView). IsLineWithin m (line_all hs l)) (λ (t : Admitted). no_line t.number) tasks
-      (λ k d l.
-        let n = (get_or tasks k d).number in
-        throttled_more (0 + length hs) m (line_all hs (no_line n)).job (omega (arith, le)) (all_within hs 0 (no_line n) tt)))
+    (λ k d l.
+    let n = (get_or tasks k d).number in
+    throttled_more (0 + length hs) m (line_all hs (no_line n)).job (omega (arith, le)) (all_within hs 0 (no_line n) tt)))

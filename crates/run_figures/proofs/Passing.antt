@@ -1,5 +1,5 @@
 -- What is told of all tasks, entry by entry and switch by switch.
-use Rattle.std.proofs.Common.{◌≡◌, ℕ, zero, suc, ◌+◌, ◌-◌, ◌≤◌, ◌<◌, ◌^◌, Bool, true, false, cond, not, eqb, ⊎_elim, ◌&&◌, List, [], ◌∷◌, ◌++◌, length, get_or, take, drop, map, Option, Some, None, refl, sym, ap, ◌∙◌, arith, subst, All}
+use Rattle.std.proofs.Common.{◌≡◌, ℕ, zero, suc, ◌+◌, ◌-◌, ◌≤◌, ◌<◌, ◌^◌, Bool, true, false, cond, not, eqb, ⊎_elim, ◌&&◌, List, [], ◌∷◌, ◌++◌, length, get_or, take, drop, map, Option, None, refl, sym, ap, ◌∙◌, arith, subst, All}
 use Rattle.std.specs.Prelude.{fold, count_by, is_some, is_none, nat_le}
 use Rattle.std.specs.List.{prefix_len}
 use Rattle.std.proofs.lemmas.Bool.{le-leb, leb-true, lt-leb, cases_lt}
@@ -55,7 +55,7 @@ all_more n m ts l all k d h = within_more n m (get_or ts k d) l (all k d h)
 pub one_more_told : (end : ℕ) (hs : List Happened) (i : ℕ) (h : Happened) (now before ts : List Told) → i < length hs → h ≡ get_or hs i h → before ≡ map (told_all end (take i hs)) ts → now ≡ map (λ t. told_if end t h) before → now ≡ map (told_all end (take (i + 1) hs)) ts
 one_more_told end hs i h now before ts l is b n =
     let each : (t : Told) → told_if end (told_all end (take i hs) t) h ≡ told_all end (take (i + 1) hs) t = λ t.
-        ap (told_if end (told_all end (take i hs) t)) is ∙ sym (fold_more (told_if end) t hs i h l) in
+    ap (told_if end (told_all end (take i hs) t)) is ∙ sym (fold_more (told_if end) t hs i h l) in
     n ∙ ap (map (λ t. told_if end t h)) b ∙ map-map (λ t. told_if end t h) (told_all end (take i hs)) ts ∙ map_same (λ t. told_if end (told_all end (take i hs) t) h) (told_all end (take (i + 1) hs)) ts each
 
 -- what is told by the first entries of a list
@@ -105,7 +105,7 @@ more_told end hs ss j k c n =
     let p = count_by (preempts hs n) (take k ss) in
     told_with end (take c (drop j hs)) (told_all end (take j hs) (untold n)) p
     ∙ ap (λ (t : Told). record t { preempted = p })
-      (sym (fold-append (told_if end) (untold n) (take j hs) (take c (drop j hs))) ∙ ap (λ (xs : List Happened). told_all end xs (untold n)) (take_both j c hs))
+    (sym (fold-append (told_if end) (untold n) (take j hs) (take c (drop j hs))) ∙ ap (λ (xs : List Happened). told_all end xs (untold n)) (take_both j c hs))
 
 -- A SWITCH
 leaves_too : (n : ℕ) (prev : Option ℕ) (w : Bool) → is_task n (cond w prev None) ≡ (is_task n prev && w)
@@ -127,7 +127,7 @@ more_switched end hs ss j k n s l is e =
     let t = told_all end (take j hs) (untold n) in
     let same : t.number ≡ n = number_of_told end (take j hs) (untold n) in
     let test : (is_task t.number (leaver_wanting s) && is_none t.throttle.since) ≡ preempts hs n s =
-        ap (λ m. is_task m (leaver_wanting s) && is_none t.throttle.since) same ∙ counts_it hs n s (is_some t.throttle.since) (flag_is end hs j n s.time e) in
+    ap (λ m. is_task m (leaver_wanting s) && is_none t.throttle.since) same ∙ counts_it hs n s (is_some t.throttle.since) (flag_is end hs j n s.time e) in
     let here : preempts hs n s ≡ preempts hs n (get_or ss k s) = ap (preempts hs n) is in
     let p = count_by (preempts hs n) (take k ss) in
     ap (λ b. cond b (record t { preempted = p + 1 }) (record t { preempted = p })) test
@@ -164,14 +164,14 @@ pub one_passed : (hs : List Happened) (i : ℕ) (d : Happened) (time : ℕ) → 
 one_passed hs i d time l before here k e lt = ⊎_elim
     (λ (less : k < i). before k e less)
     (λ (more : i ≤ k).
-        let at : k ≡ i = omega (arith, lt, more) in
-        let same : get_or hs k e ≡ get_or hs i d = ap (λ n. get_or hs n e) at ∙ get_or_default hs i e d l in
-        omega (arith, here, ap (λ (x : Happened). x.time) same))
+    let at : k ≡ i = omega (arith, lt, more) in
+    let same : get_or hs k e ≡ get_or hs i d = ap (λ n. get_or hs n e) at ∙ get_or_default hs i e d l in
+    omega (arith, here, ap (λ (x : Happened). x.time) same))
     (cases_lt k i)
 
 -- all that is not later was passed, and what comes then is later
 pub all_passed : (hs : List Happened) (i time : ℕ) → i ≤ length hs → ((k : ℕ) (e : Happened) → k < i → (get_or hs k e).time ≤ time) → ((d : Happened) → i < length hs → time < (get_or hs i d).time) → i ≡ prefix_len (λ h. nat_le h.time time) hs
 all_passed hs i time l before later =
     sym (prefix_len_is (λ (h : Happened). nat_le h.time time) hs i blank l
-      (λ k lt. le-leb (get_or hs k blank).time time (before k blank lt))
-      (λ lt. lt-leb (get_or hs i blank).time time (later blank lt)))
+    (λ k lt. le-leb (get_or hs k blank).time time (before k blank lt))
+    (λ lt. lt-leb (get_or hs i blank).time time (later blank lt)))

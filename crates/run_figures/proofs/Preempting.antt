@@ -1,5 +1,5 @@
 -- Who gives way by a switch, told of all tasks.
-use Rattle.std.proofs.Common.{◌≡◌, ◌≢◌, ℕ, ◌+◌, Bool, true, false, cond, eqb, ◌&&◌, not, ⊎_elim, List, [], ◌∷◌, get_or, map, Option, Some, None, refl, sym, ap, ◌∙◌}
+use Rattle.std.proofs.Common.{◌≡◌, ◌≢◌, ℕ, ◌+◌, true, false, cond, ◌&&◌, not, ⊎_elim, List, get_or, map, Option, Some, None, sym, ap, ◌∙◌}
 use Rattle.std.specs.Prelude.{AllPairs, is_some, is_none}
 use Rattle.std.proofs.Math.ListN.{set}
 use Rattle.std.proofs.lemmas.List.{map-id, set-get_or}

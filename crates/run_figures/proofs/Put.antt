@@ -30,7 +30,7 @@ use Rattle.run_figures.proofs.Indexing.{numbers_apart}
 use Rattle.run_figures.proofs.Passing.{map-map}
 use Rattle.run_figures.proofs.Behind.{us_small}
 use Rattle.run_figures.proofs.Shared.{IsAmong, shared_out, tasks_among, cpus_among}
-use Rattle.run_figures.proofs.Counted.{told_own, own_told, jobs_counted, late_counted, ended_counted, count_of_outcomes, responses_counted, own_throttle, throttle_all, times_counted, us_counted}
+use Rattle.run_figures.proofs.Counted.{told_own, own_told, jobs_counted, late_counted, ended_counted, count_of_outcomes, responses_counted, own_throttle, times_counted, us_counted}
 
 pub task_is : (run : RunView) (task : Admitted) → put_task run.time task (told_by run.time run.happened run.switches task.number) (ran_by run.time run.switches task.number) ≡ figures_of run task
 task_is run task =
@@ -100,11 +100,12 @@ all_cpus run cpus figures c f = f ∙ ap (map put_cpu) c ∙ map-map put_cpu (cp
 -- THEIR TIMES ARE SHORT
 pub all_short : (run : RunView) (tasks : List TaskFigures) (cpus : List CpuFigures) → IsRun run → length run.switches < 2 ^ 64 → tasks ≡ task_figures run → cpus ≡ cpu_figures run → AreShort tasks cpus
 all_short run tasks cpus h few t c =
-    let early = All-weaker (λ (s : Switch). s.time ≤ run.time) (λ (s : Switch). s.time ≤ 2 ^ 42) (λ s l. omega (arith, l, h.early)) run.switches h.past in
-    ( subst (All (λ x. x.cpu_us < 2 ^ 108)) (sym t) (All-map (λ (x : TaskFigures). x.cpu_us < 2 ^ 108) (figures_of run) run.tasks
-        (λ k d l. let one = us_small (λ x. eqb x.number (get_or run.tasks k d).number) run.time (2 ^ 42) run.switches h.early early in omega (arith, one, few)))
-    , subst (All (λ x. x.busy_us < 2 ^ 108)) (sym c) (All-map (λ (x : CpuFigures). x.busy_us < 2 ^ 108) (cpu_of run) (range_with_len 0 run.cpus)
-        (λ k d l. let one = us_small (λ x. eqb x.cpu (get_or (range_with_len 0 run.cpus) k d)) run.time (2 ^ 42) run.switches h.early early in omega (arith, one, few))))
+    let early = All-weaker (λ (s : Switch). s.time ≤ run.time) (λ (s : Switch). s.time ≤ 2 ^ 42) (λ s l. omega (arith, l, h.early)) run.switches h.past in (
+      subst (All (λ x. x.cpu_us < 2 ^ 108)) (sym t) (All-map (λ (x : TaskFigures). x.cpu_us < 2 ^ 108) (figures_of run) run.tasks
+          (λ k d l. let one = us_small (λ x. eqb x.number (get_or run.tasks k d).number) run.time (2 ^ 42) run.switches h.early early in omega (arith, one, few))),
+      subst (All (λ x. x.busy_us < 2 ^ 108)) (sym c) (All-map (λ (x : CpuFigures). x.busy_us < 2 ^ 108) (cpu_of run) (range_with_len 0 run.cpus)
+          (λ k d l. let one = us_small (λ x. eqb x.cpu (get_or (range_with_len 0 run.cpus) k d)) run.time (2 ^ 42) run.switches h.early early in omega (arith, one, few))),
+    )
 
 -- THE LAW
 sum_of_map : {X Y : Type 0} (f : Y → ℕ) (g : X → Y) (xs : List X) → sum_by f (map g xs) ≡ sum_by (λ x. f (g x)) xs
@@ -112,9 +113,11 @@ sum_of_map f g [] = refl
 sum_of_map f g (x ∷ xs) = omega (arith, sum_by-cons f (g x) (map g xs), sum_by-cons (λ y. f (g y)) x xs, sum_of_map f g xs)
 
 task_among : (tasks : List Admitted) (n : ℕ) → Any (λ t. t.number ≡ n) tasks → IsAmong (map (λ t. t.number) tasks) n
-task_among tasks n (k, x, l, at, is) =
-    (k, omega (arith, l, length-map tasks (λ (t : Admitted). t.number)),
-      λ d. get_or-map (λ (t : Admitted). t.number) tasks k x d l ∙ ap (λ (t : Admitted). t.number) at ∙ is)
+task_among tasks n (k, x, l, at, is) = (
+  k,
+  omega (arith, l, length-map tasks (λ (t : Admitted). t.number)),
+  λ d. get_or-map (λ (t : Admitted). t.number) tasks k x d l ∙ ap (λ (t : Admitted). t.number) at ∙ is,
+)
 
 each_among : (tasks : List Admitted) (next : Option ℕ) → IfSome next (λ n. Any (λ t. t.number ≡ n) tasks) → IfSome next (IsAmong (map (λ t. t.number) tasks))
 each_among tasks None h = tt
@@ -124,10 +127,10 @@ pub shared : (run : RunView) (tasks : List TaskFigures) (cpus : List CpuFigures)
 shared run tasks cpus h t c known =
     let numbers = map (λ (a : Admitted). a.number) run.tasks in
     let of_tasks = shared_out (λ x. x.number) numbers (stays run.time run.switches) (numbers_apart run.tasks h.tasks)
-        (tasks_among numbers run.time run.switches (All-weaker (λ (s : Switch). IfSome s.next (λ n. Any (λ (a : Admitted). a.number ≡ n) run.tasks)) (λ (s : Switch). IfSome s.next (IsAmong numbers)) (λ s one. each_among run.tasks s.next one) run.switches known)) in
+    (tasks_among numbers run.time run.switches (All-weaker (λ (s : Switch). IfSome s.next (λ n. Any (λ (a : Admitted). a.number ≡ n) run.tasks)) (λ (s : Switch). IfSome s.next (IsAmong numbers)) (λ s one. each_among run.tasks s.next one) run.switches known)) in
     let of_cpus = shared_out (λ x. x.cpu) (range_with_len 0 run.cpus) (stays run.time run.switches) (cpus_apart run.cpus)
-        (cpus_among (range_with_len 0 run.cpus) run.time run.switches (All-weaker (λ (s : Switch). s.cpu < run.cpus) (λ (s : Switch). IsAmong (range_with_len 0 run.cpus) s.cpu)
-          (λ s one. let at = cpu_at run.cpus s.cpu one in (s.cpu, at.within, at.is)) run.switches h.inside)) in
+    (cpus_among (range_with_len 0 run.cpus) run.time run.switches (All-weaker (λ (s : Switch). s.cpu < run.cpus) (λ (s : Switch). IsAmong (range_with_len 0 run.cpus) s.cpu)
+    (λ s one. let at = cpu_at run.cpus s.cpu one in (s.cpu, at.within, at.is)) run.switches h.inside)) in
     ap (sum_by (λ (x : TaskFigures). x.cpu_us)) t
     ∙ sum_of_map (λ (x : TaskFigures). x.cpu_us) (figures_of run) run.tasks
     ∙ sym (sum_of_map (cpu_us run.time run.switches) (λ (a : Admitted). a.number) run.tasks)

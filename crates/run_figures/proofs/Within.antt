@@ -1,5 +1,5 @@
 -- Counts stay within the number of entries that were told.
-use Rattle.std.proofs.Common.{◌≡◌, ℕ, ℤ, pos, ◌-ℤ◌, ◌+◌, ◌-◌, ◌*◌, ◌≤◌, ◌<◌, ◌^◌, Bool, true, false, cond, min, max, List, [], ◌∷◌, Option, Some, None, refl, sym, ap, ◌∙◌, arith, subst, All}
+use Rattle.std.proofs.Common.{ℕ, pos, ◌-ℤ◌, ◌+◌, ◌-◌, ◌*◌, ◌≤◌, ◌<◌, ◌^◌, Bool, true, false, cond, Option, Some, None, refl, sym, arith, subst}
 use Rattle.std.specs.Prelude.{IfSome, fold}
 use Rattle.domain_run.specs.declared.happened.What.{What}
 use Rattle.domain_run.specs.declared.happened.What.TheVariants.{JobEnds, NextReleased, Spent, Cut, Replenished, Released, WokenSpent}
@@ -11,7 +11,7 @@ use Rattle.run_figures.specs.declared.throttle.Throttle.{Throttle}
 use Rattle.run_figures.specs.declared.told.Told.{Told}
 use Rattle.run_figures.specs.Jobs.{over_by, under_way}
 use Rattle.run_figures.specs.Figures.{Outcome, outcome_at, is_late}
-use Rattle.run_figures.specs.private.Telling.{IsUnderWay, IsWithinEnded, IsWithin, with_outcome, with_end, with_job, with_over, gap, throttle_by, told_after, told_if}
+use Rattle.run_figures.specs.private.Telling.{IsUnderWay, IsWithinEnded, IsWithin, with_outcome, with_over, gap, throttle_by, told_after}
 
 way_more : (n m : ℕ) (o : Option Job) → n ≤ m → IfSome o (IsUnderWay n) → IfSome o (IsUnderWay m)
 way_more n m None l h = tt

@@ -8,8 +8,6 @@ use Rattle.domain_run.specs.declared.switch.PrevState.{PrevState}
 use Rattle.domain_run.specs.declared.switch.PrevState.TheVariants.{Running, Preempted, Sleeping, Dead}
 use Rattle.run_figures.specs.declared.job.Job.{Job}
 use Rattle.run_figures.specs.declared.run.Admitted.{Admitted}
-use Rattle.run_figures.specs.declared.figures.TaskFigures.{TaskFigures}
-use Rattle.run_figures.specs.declared.figures.CpuFigures.{CpuFigures}
 use Rattle.run_figures.specs.Runs.{RunView}
 use Rattle.run_figures.specs.Jobs.{jobs_of}
 use Rattle.run_figures.specs.Throttling.{throttled_us, preemptions}
@@ -46,9 +44,18 @@ its_jobs : jobs_of throttled.happened 1 ≡ job 0 5 (Some 7) 1 ∷ []
 its_jobs = refl
 
 its_figures : figures_of throttled task ≡ record {
-  number = 1; runtime = 2; period = 5; jobs = 1; late = 1;
+  number = 1;
+  runtime = 2;
+  period = 5;
+  jobs = 1;
+  late = 1;
   responses = Some (record { least = 7; mean = 7; most = 7; slack = negsuc 1 });
-  throttled = 1; throttled_us = 3; preempted = 0; migrated = 0; cpu_us = 4 }
+  throttled = 1;
+  throttled_us = 3;
+  preempted = 0;
+  migrated = 0;
+  cpu_us = 4;
+}
 its_figures = refl
 
 its_cpu : cpu_of throttled 0 ≡ record { busy_us = 4; switches = 4 }

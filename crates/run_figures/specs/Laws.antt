@@ -1,5 +1,5 @@
 -- A law of the figures.
-use Rattle.std.specs.Prelude.{ℕ, ◌≡◌, ◌<◌, ◌^◌, List, All, Any, IfSome, sum_by}
+use Rattle.std.specs.Prelude.{◌≡◌, ◌<◌, ◌^◌, List, All, Any, IfSome, sum_by}
 use Rattle.domain_run.specs.declared.switch.Switch.{Switch}
 use Rattle.run_figures.specs.declared.run.Admitted.{Admitted}
 use Rattle.run_figures.specs.declared.figures.TaskFigures.{TaskFigures}

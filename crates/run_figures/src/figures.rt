@@ -37,14 +37,14 @@ pub struct TaskFigures {
     pub preempted: u64,
     /// How often it was placed on another CPU than that on which it ran last.
     pub migrated: u64,
-    /// Its CPU time: less than 2^106.
+    /// Its CPU time: less than 2^108.
     pub cpu_us: u128,
 }
 
 /// The figures of a CPU.
 #[derive(Clone, Copy, Debug, PartialEq, Eq)]
 pub struct CpuFigures {
-    /// How long it had a task, in microseconds: less than 2^106.
+    /// How long it had a task, in microseconds: less than 2^108.
     pub busy_us: u128,
     /// How often it switched.
     pub switches: u64,

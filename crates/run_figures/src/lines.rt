@@ -91,11 +91,7 @@ fn no_lines(alloc: Global, tasks: &[Admitted]) -> Result<Vec<Line>, NoMemory>
     Ok(table)
 }
 
-fn lines_of(
-    alloc: Global,
-    tasks: &[Admitted],
-    happened: &[Happened],
-) -> Result<Vec<Line>, NoMemory>
+fn lines_of(alloc: Global, tasks: &[Admitted], happened: &[Happened]) -> Result<Vec<Line>, NoMemory>
     requires tasks { runs.AreTasks tasks.now }
     ensures { IfOk result (λ v. v.items
         ≡ map (λ t. lines.line_all happened.now (lines.no_line t.number)) tasks.now) }

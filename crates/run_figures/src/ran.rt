@@ -157,11 +157,7 @@ fn put_switch(tables: &mut Tables, places: &Places, switch: &Switch)
 }
 
 /// The time on CPUs by all switches of a run that ends at this time.
-pub(crate) fn ran_of(
-    alloc: Global,
-    run: &Run<'_>,
-    places: &Places,
-) -> Result<Tables, NoMemory>
+pub(crate) fn ran_of(alloc: Global, run: &Run<'_>, places: &Places) -> Result<Tables, NoMemory>
     requires places { places.now ≡ map (λ t. t.number) run.now.tasks.now }
     requires run { IsRun (view_of run.now) }
     ensures tasks { IfOk result (λ t. t.tasks.items

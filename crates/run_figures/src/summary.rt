@@ -13,9 +13,9 @@ use crate::figures::{CpuFigures, Responses, Summary, TaskFigures};
 use crate::places::Places;
 use crate::ran::{Cpu, Ran, ran_of};
 use crate::run::{Admitted, Run};
+use crate::telling::told_of;
 use crate::throttle::us_up_to;
 use crate::told::{Told, with_over};
-use crate::telling::told_of;
 use domain_run::NoMemory;
 use std::alloc::Global;
 

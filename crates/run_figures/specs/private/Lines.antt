@@ -1,8 +1,7 @@
 -- The jobs of a task while its entries go by.
-use Rattle.std.specs.Prelude.{ℕ, ◌≤◌, ◌++◌, List, [], fold, map, Option, None, IfSome}
+use Rattle.std.specs.Prelude.{ℕ, ◌≤◌, ◌++◌, List, [], fold, None, IfSome}
 use Rattle.std.specs.Option.{option_to_list}
 use Rattle.domain_run.specs.declared.happened.Happened.{Happened}
-use Rattle.run_figures.specs.declared.job.Job.{Job}
 use Rattle.run_figures.specs.Jobs.{over_by, under_way}
 use Rattle.run_figures.specs.LineView.{LineView}
 use Rattle.run_figures.specs.private.Places.{if_number}

@@ -18,7 +18,12 @@ use Rattle.run_figures.specs.private.Places.{if_number}
 -- JOBS
 abbrev pub first_ended : Outcome → Ended
 first_ended o = record {
-  count = 1; total = o.response; least = o.response; most = o.response; slack = o.slack }
+  count = 1;
+  total = o.response;
+  least = o.response;
+  most = o.response;
+  slack = o.slack;
+}
 
 abbrev pub one_more : Ended → Outcome → Ended
 one_more e o = record {
@@ -117,9 +122,11 @@ with_preemption s t =
 -- what happened up to a place, and the switches up to a place
 abbrev pub so_far : ℕ → List Happened → List Switch → ℕ → ℕ → ℕ → Told
 so_far time happened switches j k number = record (told_all time (take j happened) (untold number)) {
-  preempted = count_by (preempts happened number) (take k switches) }
+  preempted = count_by (preempts happened number) (take k switches);
+}
 
 -- all that happened, and all switches
 abbrev pub told_by : ℕ → List Happened → List Switch → ℕ → Told
 told_by time happened switches number = record (told_all time happened (untold number)) {
-  preempted = preemptions happened switches number }
+  preempted = preemptions happened switches number;
+}

@@ -1,4 +1,4 @@
-use Rattle.std.proofs.Common.{◌≡◌, ◌++◌, List, map, take, ap, ◌∙◌, sym}
+use Rattle.std.proofs.Common.{◌++◌, List, ap, ◌∙◌, sym}
 use Rattle.std.specs.Prelude.{flat_map}
 use Rattle.std.proofs.lemmas.List.{take_all}
 use Rattle.std.proofs.lemmas.List.Folds.{flat_map-map}
@@ -11,6 +11,6 @@ pub returns : goal.returns
 returns c =
     let domains = c.args.domains.now in
     let all = c.loop-domain.invariant
-        ∙ ap (λ (ds : List DomainJobs). c.put.new.out.items ++ flat_map (λ d. domain_lines (view_of d)) ds) (take_all c.loop-domain.domain-index domains c.loop-domain-test.false)
-        ∙ ap (λ t. c.put.new.out.items ++ t) (sym (flat_map-map domain_lines view_of domains)) in
+    ∙ ap (λ (ds : List DomainJobs). c.put.new.out.items ++ flat_map (λ d. domain_lines (view_of d)) ds) (take_all c.loop-domain.domain-index domains c.loop-domain-test.false)
+    ∙ ap (λ t. c.put.new.out.items ++ t) (sym (flat_map-map domain_lines view_of domains)) in
     behind _ _ _ _ _ c.in_ok-put.ensures all

@@ -1,5 +1,4 @@
 use Rattle.std.proofs.Common.{subst, sym, arith}
-use Rattle.figure_text.specs.declared.summary.DomainSummary.{DomainSummary}
 use Rattle.figure_text.specs.Summary.{IsShort, IsOfMachine}
 use Rattle.figure_text.proofs.Lines.{one_more_domain}
 use Rattle.figure_text.proofs.summary.put_cpus.Goals as goal

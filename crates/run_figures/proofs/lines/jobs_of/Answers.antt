@@ -1,8 +1,8 @@
-use Rattle.std.proofs.Common.{◌≡◌, ℕ, List, [], ◌∷◌, ◌++◌, length, map, sym, ap, ◌∙◌, arith, append-nil}
+use Rattle.std.proofs.Common.{◌≡◌, List, [], ◌++◌, map, sym, ap, ◌∙◌, arith, append-nil}
 use Rattle.std.specs.Prelude.{reverse}
 use Rattle.std.proofs.lemmas.List.{nil_from_length, reverse-reverse}
 use Rattle.run_figures.specs.declared.run.Admitted.{Admitted}
-use Rattle.run_figures.specs.LineView.{LineView, TaskJobsView}
+use Rattle.run_figures.specs.LineView.{LineView}
 use Rattle.run_figures.specs.Jobs.{task_jobs}
 use Rattle.run_figures.specs.private.Lines.{line_all, no_line}
 use Rattle.run_figures.proofs.Passing.{map-map, map_same}

@@ -1,4 +1,4 @@
-use Rattle.std.proofs.Common.{◌≡◌, ℕ, ◌≤◌, List, length, get_or, take, map, sym, ap, ◌∙◌, subst, arith, All}
+use Rattle.std.proofs.Common.{List, get_or, take, map, sym, ap, ◌∙◌, subst, arith, All}
 use Rattle.std.proofs.lemmas.List.{map-id, take_all, length-take, get_or_default}
 use Rattle.domain_run.specs.declared.happened.Happened.{Happened}
 use Rattle.run_figures.specs.declared.run.Admitted.{Admitted}

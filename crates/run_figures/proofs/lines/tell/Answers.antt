@@ -1,4 +1,4 @@
-use Rattle.std.proofs.Common.{◌≡◌, ◌∙◌, ap}
+use Rattle.std.proofs.Common.{◌∙◌, ap}
 use Rattle.std.proofs.Math.ListN.{set}
 use Rattle.run_figures.specs.LineView.{LineView}
 use Rattle.run_figures.specs.private.Lines.{line_after}
@@ -15,5 +15,5 @@ returns-in-Some c =
     let h = c.args.happened.now in
     on_ok c.tell_line.result _ _
     (λ e. ap (λ (x : LineView). set c.args.table.now.items c.in-Some.place x) e
-      ∙ turned_place (λ (l : LineView). l.number) h.number (line_after h) c.args.table.now.items c.args.places.now c.in-Some.place c.index_mut.result.now c.requires.keyed c.find.ensures.apart c.in-Some.ensures.found c.index_mut.ensures.value)
+    ∙ turned_place (λ (l : LineView). l.number) h.number (line_after h) c.args.table.now.items c.args.places.now c.in-Some.place c.index_mut.result.now c.requires.keyed c.find.ensures.apart c.in-Some.ensures.found c.index_mut.ensures.value)
     c.tell_line.ensures

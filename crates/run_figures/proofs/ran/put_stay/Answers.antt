@@ -1,4 +1,4 @@
-use Rattle.std.proofs.Common.{◌≡◌, ℕ, List, map, Option, Some, None, sym, ap, ◌∙◌, refl}
+use Rattle.std.proofs.Common.{ℕ, map, Option, sym, ap, ◌∙◌}
 use Rattle.std.proofs.Math.ListN.{set}
 use Rattle.std.proofs.lemmas.List.{map-id}
 use Rattle.run_figures.specs.declared.ran.Ran.{Ran}

@@ -1,10 +1,5 @@
-use Rattle.std.proofs.Common.{◌≡◌, ◌∙◌, ap, List, map, arith}
-use Rattle.run_figures.specs.declared.told.Told.{Told}
-use Rattle.run_figures.specs.declared.ran.Ran.{Ran}
-use Rattle.run_figures.specs.declared.ran.Cpu.{Cpu}
+use Rattle.std.proofs.Common.{◌∙◌, arith}
 use Rattle.run_figures.specs.Runs.{view_of}
-use Rattle.run_figures.specs.Figures.{task_figures, cpu_figures}
-use Rattle.run_figures.specs.private.Putting.{put_all, put_cpu}
 use Rattle.run_figures.proofs.Put.{all_tasks, all_cpus, all_short, shared}
 use Rattle.run_figures.proofs.summary.summary_of.Goals as goal
 

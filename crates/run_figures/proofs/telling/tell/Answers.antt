@@ -1,4 +1,4 @@
-use Rattle.std.proofs.Common.{◌≡◌, ◌+◌, ap, ◌∙◌, sym, subst, arith}
+use Rattle.std.proofs.Common.{◌+◌, ap, ◌∙◌, sym, subst, arith}
 use Rattle.std.proofs.Math.ListN.{set}
 use Rattle.run_figures.specs.declared.told.Told.{Told}
 use Rattle.run_figures.specs.private.Telling.{told_after, IsWithin}

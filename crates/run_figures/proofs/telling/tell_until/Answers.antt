@@ -1,4 +1,4 @@
-use Rattle.std.proofs.Common.{◌≡◌, ℕ, ◌+◌, ◌<◌, ◌≤◌, length, get_or, ap, ◌∙◌, refl, subst, sym, arith, All}
+use Rattle.std.proofs.Common.{◌+◌, ap, ◌∙◌, refl, subst, sym, arith, All}
 use Rattle.std.proofs.lemmas.List.{get_or_default}
 use Rattle.domain_run.specs.declared.happened.Happened.{Happened}
 use Rattle.run_figures.specs.private.Telling.{IsWithin}
@@ -34,7 +34,7 @@ returns-then-entry-time-clause-count c =
     let l = c.loop-entry-test.true in
     c.loop-entry.invariant.count
     ∙ all_passed hs i c.args.time (omega (arith, l)) c.loop-entry.invariant.passed
-      (λ d m. omega (arith, c.if-entry-time.true, ap (λ (x : Happened). x.time) (get_or_default hs i d blank l)))
+    (λ d m. omega (arith, c.if-entry-time.true, ap (λ (x : Happened). x.time) (get_or_default hs i d blank l)))
 
 pub returns-then-entry-time-clause-within : goal.returns-then-entry-time-clause-within
 returns-then-entry-time-clause-within c n all =
@@ -45,7 +45,7 @@ returns-clause-count c =
     let end = c.loop-entry-test.false in
     c.loop-entry.invariant.count
     ∙ all_passed c.args.happened.now c.loop-entry.entry-index c.args.time (omega arith) c.loop-entry.invariant.passed
-      (λ d m. absurd (omega (arith, end, m)))
+    (λ d m. absurd (omega (arith, end, m)))
 
 pub returns-clause-within : goal.returns-clause-within
 returns-clause-within c n all =

@@ -1,9 +1,9 @@
-use Rattle.std.proofs.Common.{◌≡◌, ℕ, ◌+◌, ◌-◌, ◌≤◌, List, length, get_or, take, drop, map, sym, ap, ◌∙◌, subst, arith, All}
+use Rattle.std.proofs.Common.{◌≡◌, ◌+◌, ◌-◌, List, length, get_or, take, drop, map, ap, ◌∙◌, subst, arith, All}
 use Rattle.std.specs.Prelude.{nat_le}
 use Rattle.std.specs.List.{prefix_len}
 use Rattle.std.proofs.lemmas.List.{take_rest, length-drop}
 use Rattle.domain_run.specs.declared.happened.Happened.{Happened}
-use Rattle.run_figures.specs.private.Telling.{told_all, so_far, IsWithin}
+use Rattle.run_figures.specs.private.Telling.{told_all, IsWithin}
 use Rattle.run_figures.proofs.Going.{at_first, switch_keyed, entries_told, entries_keyed, few_preemptions, next_switch, at_the_end, blank_switch}
 use Rattle.run_figures.proofs.telling.told_of.Goals as goal
 
@@ -20,7 +20,7 @@ tell_switch-requires-clause-keyed c =
     let from = c.loop-switch.from in
     let count = c.tell_until-from.result in
     let after : c.tell_until-from.new.told.items ≡ map (told_all c.args.end (take count (drop from hs))) c.loop-switch.told.items =
-        c.tell_until-from.ensures.told ∙ ap (λ (xs : List Happened). map (told_all c.args.end (take count xs)) c.loop-switch.told.items) (take_rest hs from) in
+    c.tell_until-from.ensures.told ∙ ap (λ (xs : List Happened). map (told_all c.args.end (take count xs)) c.loop-switch.told.items) (take_rest hs from) in
     entries_keyed c.args.end hs c.args.switches.now c.args.tasks.now (from + count) c.loop-switch.switch-index c.tell_until-from.new.told.items c.args.places.now
     (entries_told c.args.end hs c.args.switches.now c.args.tasks.now from c.loop-switch.switch-index count c.loop-switch.told.items c.tell_until-from.new.told.items c.loop-switch.invariant.told after)
     c.requires.places
@@ -31,7 +31,7 @@ tell_switch-requires-clause-room c =
     let from = c.loop-switch.from in
     let count = c.tell_until-from.result in
     let after : c.tell_until-from.new.told.items ≡ map (told_all c.args.end (take count (drop from hs))) c.loop-switch.told.items =
-        c.tell_until-from.ensures.told ∙ ap (λ (xs : List Happened). map (told_all c.args.end (take count xs)) c.loop-switch.told.items) (take_rest hs from) in
+    c.tell_until-from.ensures.told ∙ ap (λ (xs : List Happened). map (told_all c.args.end (take count xs)) c.loop-switch.told.items) (take_rest hs from) in
     few_preemptions c.args.end hs c.args.switches.now c.args.tasks.now (from + count) c.loop-switch.switch-index 18446744073709551614 c.tell_until-from.new.told.items
     (entries_told c.args.end hs c.args.switches.now c.args.tasks.now from c.loop-switch.switch-index count c.loop-switch.told.items c.tell_until-from.new.told.items c.loop-switch.invariant.told after)
     (omega arith)
