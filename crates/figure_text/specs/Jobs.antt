@@ -2,7 +2,7 @@
 use Rattle.std.specs.Prelude.{ℕ, ◌-◌, List, ◌++◌, flat_map, Option, Some, None, codes, decimal, pos, ◌-ℤ◌}
 use Rattle.std.specs.Fmt.{signed_decimal}
 use Rattle.run_figures.specs.declared.job.Job.{Job}
-use Rattle.run_figures.specs.LineView.{TaskJobsView}
+use Rattle.run_figures.specs.TaskJobsView.{TaskJobsView}
 use Rattle.switch_text.specs.Names.{named}
 use Rattle.figure_text.specs.declared.jobs.DomainJobs.{DomainJobs}
 use Rattle.figure_text.specs.Columns.{right, column, pid, numbered}

@@ -10,7 +10,8 @@ use Rattle.domain_run.specs.declared.happened.What.TheVariants.{JobEnds, NextRel
 use Rattle.domain_run.specs.declared.happened.Happened.{Happened}
 use Rattle.run_figures.specs.declared.job.Job.{Job}
 use Rattle.run_figures.specs.declared.run.Admitted.{Admitted}
-use Rattle.run_figures.specs.LineView.{LineView, TaskJobsView}
+use Rattle.run_figures.specs.TaskJobsView.{TaskJobsView}
+use Rattle.run_figures.specs.private.LineView.{LineView}
 use Rattle.run_figures.specs.Jobs.{of_task, over_by, under_way, jobs_from, task_jobs}
 use Rattle.run_figures.specs.private.Lines.{line_after, line_if, line_all, no_line, IsLineWithin}
 use Rattle.run_figures.proofs.Passing.{map-map, map_same}

@@ -6,7 +6,7 @@ use Rattle.domain_run.specs.declared.happened.What.{What}
 use Rattle.domain_run.specs.declared.happened.What.TheVariants.{JobEnds, NextReleased, Spent, Cut, Replenished, Released, WokenSpent}
 use Rattle.domain_run.specs.declared.happened.Happened.{Happened}
 use Rattle.run_figures.specs.declared.job.Job.{Job}
-use Rattle.run_figures.specs.LineView.{TaskJobsView}
+use Rattle.run_figures.specs.TaskJobsView.{TaskJobsView}
 
 -- what happened to one task, in its order
 abbrev pub of_task : ℕ → List Happened → List Happened

@@ -1,4 +1,4 @@
-pub mod LineView
+pub mod TaskJobsView
 pub mod Jobs
 pub mod Stays
 pub mod Throttling

@@ -1,3 +1,4 @@
+pub mod LineView
 pub mod Places
 pub mod Telling
 pub mod Running

@@ -2,7 +2,6 @@
 
 ghost use Rattle.std.specs.Prelude.{◌≡◌, ◌-◌, ◌≤◌, ◌<◌, ◌^◌, ◌++◌, IfOk, OnOk, All, map, length};
 ghost use Rattle.std.specs.Option.{option_to_list};
-ghost use Rattle.run_figures.specs.LineView as views;
 ghost use Rattle.run_figures.specs.Jobs as jobs;
 ghost use Rattle.run_figures.specs.Runs as runs;
 ghost use Rattle.run_figures.specs.private.Lines as lines;
@@ -23,7 +22,7 @@ pub struct TaskJobs {
 }
 
 impl Model for TaskJobs {
-    ghost use Rattle.run_figures.specs.LineView.{TaskJobsView};
+    ghost use Rattle.run_figures.specs.TaskJobsView.{TaskJobsView};
 
     ghost Value = { TaskJobsView };
 
@@ -39,7 +38,7 @@ struct Line {
 }
 
 impl Model for Line {
-    ghost use Rattle.run_figures.specs.LineView.{LineView};
+    ghost use Rattle.run_figures.specs.private.LineView.{LineView};
 
     ghost Value = { LineView };
 

@@ -59,7 +59,7 @@ pub(crate) fn told_after(told: &Told, happened: &Happened, time: u64) -> Told
     ensures told { result ≡ telling.told_after time happened.now told.now }
     ensures within { (n : ℕ) → telling.IsWithin n told.now → telling.IsWithin (n + 1) result }
 {
-    // At most 2^64, for the bounds.
+    // Read, so that its range is known.
     let _time = happened.time;
     Told {
         number: told.number,

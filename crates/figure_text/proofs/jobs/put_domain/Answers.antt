@@ -1,6 +1,6 @@
 use Rattle.std.proofs.Common.{◌++◌, ap, ◌∙◌}
 use Rattle.switch_text.specs.Names.{named}
-use Rattle.run_figures.specs.LineView.{TaskJobsView}
+use Rattle.run_figures.specs.TaskJobsView.{TaskJobsView}
 use Rattle.figure_text.specs.Columns.{numbered}
 use Rattle.figure_text.specs.Jobs.{job_line, task_lines}
 use Rattle.figure_text.proofs.Lines.{flat_more}

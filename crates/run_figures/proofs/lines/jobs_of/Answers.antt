@@ -2,7 +2,7 @@ use Rattle.std.proofs.Common.{◌≡◌, List, [], ◌++◌, map, sym, ap, ◌�
 use Rattle.std.specs.Prelude.{reverse}
 use Rattle.std.proofs.lemmas.List.{nil_from_length, reverse-reverse}
 use Rattle.run_figures.specs.declared.run.Admitted.{Admitted}
-use Rattle.run_figures.specs.LineView.{LineView}
+use Rattle.run_figures.specs.private.LineView.{LineView}
 use Rattle.run_figures.specs.Jobs.{task_jobs}
 use Rattle.run_figures.specs.private.Lines.{line_all, no_line}
 use Rattle.run_figures.proofs.Passing.{map-map, map_same}

@@ -2,7 +2,7 @@ use Rattle.std.proofs.Common.{List, get_or, take, map, sym, ap, ◌∙◌, subst
 use Rattle.std.proofs.lemmas.List.{map-id, take_all, length-take, get_or_default}
 use Rattle.domain_run.specs.declared.happened.Happened.{Happened}
 use Rattle.run_figures.specs.declared.run.Admitted.{Admitted}
-use Rattle.run_figures.specs.LineView.{LineView}
+use Rattle.run_figures.specs.private.LineView.{LineView}
 use Rattle.run_figures.specs.private.Lines.{line_all, no_line, IsLineWithin}
 use Rattle.run_figures.proofs.Passing.{map-map, blank}
 use Rattle.run_figures.proofs.Listed.{numbers_of_lines, one_more_line, lines_within}

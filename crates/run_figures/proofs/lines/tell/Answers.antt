@@ -1,6 +1,6 @@
 use Rattle.std.proofs.Common.{◌∙◌, ap}
 use Rattle.std.proofs.Math.ListN.{set}
-use Rattle.run_figures.specs.LineView.{LineView}
+use Rattle.run_figures.specs.private.LineView.{LineView}
 use Rattle.run_figures.specs.private.Lines.{line_after}
 use Rattle.run_figures.proofs.Turning.{turned_place, turned_none, on_ok}
 use Rattle.run_figures.proofs.lines.tell.Goals as goal
