@@ -1,5 +1,4 @@
--- The figures of a run: of each task and of each CPU (own; response time and lateness as in
--- sched-deadline.rst, "4.1 Schedulability Analysis").
+-- The figures of a run: of each task and of each CPU (own).
 use Rattle.std.specs.Prelude.{ℕ, ◌-◌, ◌/◌, ◌==◌, Bool, not, ◌&&◌, nat_lt, min, max, fold, pos, ℤ, ◌-ℤ◌, List, [], ◌∷◌, length, map, flat_map, sum_by, count_by, Option, Some, None}
 use Rattle.std.specs.List.{range_with_len}
 use Rattle.std.specs.Int.{int_min}
