@@ -9,3 +9,4 @@ pub mod Behind
 pub mod Shared
 pub mod Put
 pub mod Listed
+pub mod Once

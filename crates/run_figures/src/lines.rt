@@ -3,6 +3,7 @@
 ghost use Rattle.std.specs.Prelude.{◌≡◌, ◌-◌, ◌≤◌, ◌<◌, ◌^◌, ◌++◌, IfOk, OnOk, All, map, length};
 ghost use Rattle.std.specs.Option.{option_to_list};
 ghost use Rattle.run_figures.specs.Jobs as jobs;
+ghost use Rattle.run_figures.specs.Laws as laws;
 ghost use Rattle.run_figures.specs.Runs as runs;
 ghost use Rattle.run_figures.specs.private.Lines as lines;
 
@@ -123,8 +124,9 @@ fn closed(line: Line) -> Result<TaskJobs, NoMemory>
 /// 12 [`NoMemory`]: a growth was refused; nothing is left.
 pub fn jobs_of(alloc: Global, run: &Run<'_>) -> Result<Vec<TaskJobs>, NoMemory>
     requires tasks { runs.AreTasks run.now.tasks.now }
-    ensures { IfOk result (λ v. v.items
+    ensures jobs { IfOk result (λ v. v.items
         ≡ map (λ t. jobs.task_jobs run.now.happened.now t.number) run.now.tasks.now) }
+    ensures released { IfOk result (λ v. All (laws.AreReleased run.now.happened.now) v.items) }
 {
     let mut table = lines_of(alloc, run.tasks, run.happened)?;
     let mut all = Vec::with_capacity(alloc, table.len())?;

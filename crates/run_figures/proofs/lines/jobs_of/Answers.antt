@@ -7,10 +7,11 @@ use Rattle.run_figures.specs.Jobs.{task_jobs}
 use Rattle.run_figures.specs.private.Lines.{line_all, no_line}
 use Rattle.run_figures.proofs.Passing.{map-map, map_same}
 use Rattle.run_figures.proofs.Listed.{closed_line, line_is}
+use Rattle.run_figures.proofs.Once.{all_released}
 use Rattle.run_figures.proofs.lines.jobs_of.Goals as goal
 
-pub returns : goal.returns
-returns c =
+pub returns-clause-jobs : goal.returns-clause-jobs
+returns-clause-jobs c =
     let hs = c.args.run.now.happened.now in
     let tasks = c.args.run.now.tasks.now in
     let none : c.loop-line.table.items ≡ [] = nil_from_length c.loop-line.table.items (omega (arith, c.loop-line.table.ok, c.in_default.ensures.cases.0)) in
@@ -22,3 +23,6 @@ returns c =
     ∙ ap (map closed_line) c.in_ok-table.ensures
     ∙ map-map closed_line (λ (t : Admitted). line_all hs (no_line t.number)) tasks
     ∙ map_same (λ (t : Admitted). closed_line (line_all hs (no_line t.number))) (λ (t : Admitted). task_jobs hs t.number) tasks (λ t. line_is hs t.number)
+
+pub returns-clause-released : goal.returns-clause-released
+returns-clause-released c = all_released c.args.run.now.happened.now c.args.run.now.tasks.now c.loop-line.all.items (returns-clause-jobs c)
