@@ -1,0 +1,7 @@
+use Rattle.std.proofs.Common.{◌≡◌, ◌++◌, take}
+use Rattle.figure_text.specs.Columns.{numbered}
+use Rattle.figure_text.specs.Jobs.{job_line}
+use Rattle.figure_text.proofs.jobs.put_task.Given as goal
+
+abbrev pub invariant-loop-place : goal.invariant-loop-place
+invariant-loop-place l = l.out.items ≡ l.initial.out.items ++ numbered (job_line l.name l.number) 0 (take l.place l.jobs)

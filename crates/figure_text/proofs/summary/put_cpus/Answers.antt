@@ -1,0 +1,19 @@
+use Rattle.std.proofs.Common.{subst, sym, arith}
+use Rattle.figure_text.specs.Summary.{IsShort, IsOfMachine}
+use Rattle.figure_text.proofs.Lines.{one_more_domain}
+use Rattle.figure_text.proofs.summary.put_cpus.Goals as goal
+
+pub put_cpus_of-requires-clause-short : goal.put_cpus_of-requires-clause-short
+put_cpus_of-requires-clause-short c =
+    let d = c.index-domains-number.result in
+    let short : IsShort d = subst IsShort (sym c.index-domains-number.is) (c.requires.short c.loop-number.number d c.loop-number-test.true) in
+    short.1
+
+pub loop-number-preserved : goal.loop-number-preserved
+loop-number-preserved c =
+    let d = c.index-domains-number.result in
+    let few : IsOfMachine d = subst IsOfMachine (sym c.index-domains-number.is) (c.requires.few c.loop-number.number d c.loop-number-test.true) in
+    record {
+      put = one_more_domain c.args.out.now.items c.loop-number.out.items c.put_cpus_of.new.out.items c.loop-number.base c.args.domains.now c.loop-number.number d c.loop-number-test.true c.index-domains-number.is c.loop-number.invariant.put c.in_ok-put_cpus_of.ensures;
+      few = omega (arith, few, c.loop-number.invariant.few);
+    }

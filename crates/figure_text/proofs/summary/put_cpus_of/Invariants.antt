@@ -1,0 +1,7 @@
+use Rattle.std.proofs.Common.{◌≡◌, ◌++◌, take}
+use Rattle.figure_text.specs.Columns.{numbered}
+use Rattle.figure_text.specs.Summary.{cpu_line}
+use Rattle.figure_text.proofs.summary.put_cpus_of.Given as goal
+
+abbrev pub invariant-loop-place : goal.invariant-loop-place
+invariant-loop-place l = l.out.items ≡ l.initial.out.items ++ numbered (cpu_line l.domain l.of.time) l.base (take l.place l.of.cpus.now)

@@ -1,0 +1,7 @@
+use Rattle.std.proofs.Common.{◌≡◌, ◌++◌, take}
+use Rattle.figure_text.specs.Columns.{numbered}
+use Rattle.figure_text.specs.Summary.{view_of, tasks_of}
+use Rattle.figure_text.proofs.summary.put_tasks.Given as goal
+
+abbrev pub invariant-loop-number : goal.invariant-loop-number
+invariant-loop-number l = l.out.items ≡ l.initial.out.items ++ numbered (λ k d. tasks_of k (view_of d)) 0 (take l.number l.domains)

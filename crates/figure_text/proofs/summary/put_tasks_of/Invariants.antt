@@ -1,0 +1,7 @@
+use Rattle.std.proofs.Common.{◌≡◌, ◌++◌, take}
+use Rattle.std.specs.Prelude.{flat_map}
+use Rattle.figure_text.specs.Summary.{view_of, task_line}
+use Rattle.figure_text.proofs.summary.put_tasks_of.Given as goal
+
+abbrev pub invariant-loop-task : goal.invariant-loop-task
+invariant-loop-task l = l.out.items ≡ l.initial.out.items ++ flat_map (task_line l.domain (view_of l.of)) (take l.task-index l.of.tasks.now)

@@ -1,0 +1,4 @@
+pub mod Columns
+pub mod Jobs
+pub mod Summary
+pub mod Examples

@@ -1,0 +1,12 @@
+pub mod Turning
+pub mod Indexing
+pub mod Counted
+pub mod Within
+pub mod Passing
+pub mod Preempting
+pub mod Going
+pub mod Behind
+pub mod Shared
+pub mod Put
+pub mod Listed
+pub mod Once

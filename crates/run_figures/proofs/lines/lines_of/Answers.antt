@@ -1,0 +1,38 @@
+use Rattle.std.proofs.Common.{List, get_or, take, map, sym, ap, ◌∙◌, subst, arith, All}
+use Rattle.std.proofs.lemmas.List.{map-id, take_all, length-take, get_or_default}
+use Rattle.domain_run.specs.declared.happened.Happened.{Happened}
+use Rattle.run_figures.specs.declared.run.Admitted.{Admitted}
+use Rattle.run_figures.specs.private.LineView.{LineView}
+use Rattle.run_figures.specs.private.Lines.{line_all, no_line, IsLineWithin}
+use Rattle.run_figures.proofs.Passing.{map-map, blank}
+use Rattle.run_figures.proofs.Listed.{numbers_of_lines, one_more_line, lines_within}
+use Rattle.run_figures.proofs.lines.lines_of.Goals as goal
+
+pub loop-entry-init : goal.loop-entry-init
+loop-entry-init c = c.in_ok-table.ensures ∙ sym (map-id (map (λ (t : Admitted). no_line t.number) c.args.tasks.now))
+
+pub tell-requires-clause-keyed : goal.tell-requires-clause-keyed
+tell-requires-clause-keyed c =
+    ap (λ (ls : List LineView). map (λ l. l.number) ls) c.loop-entry.invariant
+    ∙ numbers_of_lines (take c.loop-entry.entry-index c.args.happened.now) (map (λ (t : Admitted). no_line t.number) c.args.tasks.now)
+    ∙ map-map (λ (l : LineView). l.number) (λ (t : Admitted). no_line t.number) c.args.tasks.now
+    ∙ sym c.in_ok-places.ensures
+
+pub tell-requires-clause-room : goal.tell-requires-clause-room
+tell-requires-clause-room c =
+    let hs = c.args.happened.now in
+    subst (All (IsLineWithin 18446744073709551614)) (sym c.loop-entry.invariant)
+    (lines_within (take c.loop-entry.entry-index hs) 18446744073709551614 c.args.tasks.now (omega (arith, length-take c.loop-entry.entry-index hs)))
+
+pub loop-entry-preserved : goal.loop-entry-preserved
+loop-entry-preserved c =
+    let hs = c.args.happened.now in
+    let i = c.loop-entry.entry-index in
+    one_more_line hs i (get_or hs i blank) c.tell.new.table.items c.loop-entry.table.items (map (λ (t : Admitted). no_line t.number) c.args.tasks.now) c.loop-entry-test.true
+    (get_or_default hs i blank (get_or hs i blank) c.loop-entry-test.true) c.loop-entry.invariant c.in_ok-tell.ensures
+
+pub returns : goal.returns
+returns c =
+    c.loop-entry.invariant
+    ∙ ap (λ (hs : List Happened). map (line_all hs) (map (λ (t : Admitted). no_line t.number) c.args.tasks.now)) (take_all c.loop-entry.entry-index c.args.happened.now c.loop-entry-test.false)
+    ∙ map-map (line_all c.args.happened.now) (λ (t : Admitted). no_line t.number) c.args.tasks.now

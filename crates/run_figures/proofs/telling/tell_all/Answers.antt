@@ -1,0 +1,24 @@
+use Rattle.std.proofs.Common.{◌≡◌, ◌+◌, length, subst, arith, All}
+use Rattle.run_figures.specs.private.Telling.{IsWithin}
+use Rattle.run_figures.proofs.Passing.{none_told, one_told, told_keyed, told_room}
+use Rattle.run_figures.proofs.telling.tell_all.Goals as goal
+
+pub loop-entry-init : goal.loop-entry-init
+loop-entry-init c = none_told c.args.end c.args.happened.now c.args.told.now.items
+
+pub tell-requires-clause-keyed : goal.tell-requires-clause-keyed
+tell-requires-clause-keyed c =
+    told_keyed c.args.end c.args.happened.now c.loop-entry.entry-index c.args.told.now.items c.loop-entry.told.items c.args.places.now c.loop-entry.invariant c.requires.keyed
+
+pub tell-requires-clause-room : goal.tell-requires-clause-room
+tell-requires-clause-room c =
+    told_room c.args.end c.args.happened.now c.loop-entry.entry-index c.args.told.now.items c.loop-entry.told.items c.loop-entry.invariant c.loop-entry-test.true c.requires.room
+
+pub loop-entry-preserved : goal.loop-entry-preserved
+loop-entry-preserved c =
+    one_told c.args.end c.args.happened.now c.loop-entry.entry-index _ c.args.told.now.items c.loop-entry.told.items c.tell.new.told.items c.loop-entry-test.true c.loop-entry.invariant c.tell.ensures.told c.tell.ensures.within
+
+pub returns-clause-within : goal.returns-clause-within
+returns-clause-within c n all =
+    let at : c.loop-entry.entry-index ≡ length c.args.happened.now = omega arith in
+    subst (λ k. All (IsWithin (n + k)) c.loop-entry.told.items) at (c.loop-entry.invariant.within n all)

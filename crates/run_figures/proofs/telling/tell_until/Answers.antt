@@ -1,0 +1,52 @@
+use Rattle.std.proofs.Common.{◌+◌, ap, ◌∙◌, refl, subst, sym, arith, All}
+use Rattle.std.proofs.lemmas.List.{get_or_default}
+use Rattle.domain_run.specs.declared.happened.Happened.{Happened}
+use Rattle.run_figures.specs.private.Telling.{IsWithin}
+use Rattle.run_figures.proofs.Passing.{none_told, one_told, told_keyed, told_room, one_passed, all_passed, blank}
+use Rattle.run_figures.proofs.telling.tell_until.Goals as goal
+
+pub loop-entry-init : goal.loop-entry-init
+loop-entry-init c = record {
+  count = refl;
+  told = none_told c.args.end c.args.happened.now c.args.told.now.items;
+  passed = λ k d l. absurd (omega (arith, l));
+}
+
+pub tell-requires-clause-keyed : goal.tell-requires-clause-keyed
+tell-requires-clause-keyed c =
+    told_keyed c.args.end c.args.happened.now c.loop-entry.entry-index c.args.told.now.items c.loop-entry.told.items c.args.places.now c.loop-entry.invariant.told c.requires.keyed
+
+pub tell-requires-clause-room : goal.tell-requires-clause-room
+tell-requires-clause-room c =
+    told_room c.args.end c.args.happened.now c.loop-entry.entry-index c.args.told.now.items c.loop-entry.told.items c.loop-entry.invariant.told c.loop-entry-test.true c.requires.room
+
+pub loop-entry-preserved : goal.loop-entry-preserved
+loop-entry-preserved c = record {
+  count = omega arith;
+  told = one_told c.args.end c.args.happened.now c.loop-entry.entry-index _ c.args.told.now.items c.loop-entry.told.items c.tell.new.told.items c.loop-entry-test.true c.loop-entry.invariant.told c.tell.ensures.told c.tell.ensures.within;
+  passed = one_passed c.args.happened.now c.loop-entry.entry-index _ c.args.time c.loop-entry-test.true c.loop-entry.invariant.passed c.if-entry-time.false;
+}
+
+pub returns-then-entry-time-clause-count : goal.returns-then-entry-time-clause-count
+returns-then-entry-time-clause-count c =
+    let hs = c.args.happened.now in
+    let i = c.loop-entry.entry-index in
+    let l = c.loop-entry-test.true in
+    c.loop-entry.invariant.count
+    ∙ all_passed hs i c.args.time (omega (arith, l)) c.loop-entry.invariant.passed
+    (λ d m. omega (arith, c.if-entry-time.true, ap (λ (x : Happened). x.time) (get_or_default hs i d blank l)))
+
+pub returns-then-entry-time-clause-within : goal.returns-then-entry-time-clause-within
+returns-then-entry-time-clause-within c n all =
+    subst (λ k. All (IsWithin (n + k)) c.loop-entry.told.items) (sym c.loop-entry.invariant.count) (c.loop-entry.invariant.told.within n all)
+
+pub returns-clause-count : goal.returns-clause-count
+returns-clause-count c =
+    let end = c.loop-entry-test.false in
+    c.loop-entry.invariant.count
+    ∙ all_passed c.args.happened.now c.loop-entry.entry-index c.args.time (omega arith) c.loop-entry.invariant.passed
+    (λ d m. absurd (omega (arith, end, m)))
+
+pub returns-clause-within : goal.returns-clause-within
+returns-clause-within c n all =
+    subst (λ k. All (IsWithin (n + k)) c.loop-entry.told.items) (sym c.loop-entry.invariant.count) (c.loop-entry.invariant.told.within n all)

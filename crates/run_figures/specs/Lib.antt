@@ -1,0 +1,9 @@
+pub mod TaskJobsView
+pub mod Jobs
+pub mod Stays
+pub mod Throttling
+pub mod Runs
+pub mod Figures
+pub mod Laws
+pub mod Examples
+pub mod private

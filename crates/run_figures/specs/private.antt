@@ -1,0 +1,6 @@
+pub mod LineView
+pub mod Places
+pub mod Telling
+pub mod Running
+pub mod Lines
+pub mod Putting

@@ -1,0 +1,132 @@
+-- What is told of a task while its entries go by.
+use Rattle.std.specs.Prelude.{ℕ, ◌+◌, ◌-◌, ◌*◌, ◌≡◌, ◌≤◌, ◌<◌, ◌^◌, ◌&&◌, is_none, min, max, fold, if◌then◌else◌, List, All, take, count_by, Option, Some, None, IfSome}
+use Rattle.std.specs.Int.{int_min}
+use Rattle.domain_run.specs.declared.happened.What.{What}
+use Rattle.domain_run.specs.declared.happened.Happened.{Happened}
+use Rattle.domain_run.specs.declared.switch.Switch.{Switch}
+use Rattle.run_figures.specs.declared.job.Job.{Job}
+use Rattle.run_figures.specs.declared.counting.Ended.{Ended}
+use Rattle.run_figures.specs.declared.counting.Counts.{Counts}
+use Rattle.run_figures.specs.declared.throttle.Throttle.{Throttle}
+use Rattle.run_figures.specs.declared.told.Told.{Told}
+use Rattle.run_figures.specs.Jobs.{over_by, under_way}
+use Rattle.run_figures.specs.Figures.{Outcome, outcome_at, is_late}
+use Rattle.run_figures.specs.Stays.{is_task}
+use Rattle.run_figures.specs.Throttling.{throttles, frees, wants_it, preempts, preemptions}
+use Rattle.run_figures.specs.private.Places.{if_number}
+
+-- JOBS
+abbrev pub first_ended : Outcome → Ended
+first_ended o = record {
+  count = 1;
+  total = o.response;
+  least = o.response;
+  most = o.response;
+  slack = o.slack;
+}
+
+abbrev pub one_more : Ended → Outcome → Ended
+one_more e o = record {
+  count = e.count + 1;
+  total = e.total + o.response;
+  least = min e.least o.response;
+  most = max e.most o.response;
+  slack = int_min e.slack o.slack;
+}
+
+abbrev pub with_outcome : Option Ended → Outcome → Option Ended
+with_outcome None o = Some (first_ended o)
+with_outcome (Some e) o = Some (one_more e o)
+
+abbrev pub with_end : Option Ended → Job → Option Ended
+with_end ended job = fold with_outcome ended (outcome_at job job.ended)
+
+abbrev pub with_job : ℕ → Counts → Job → Counts
+with_job time c job = record {
+  ended = with_end c.ended job;
+  late = if is_late time job then c.late + 1 else c.late;
+}
+
+abbrev pub with_over : ℕ → Counts → Option Job → Counts
+with_over time c None = c
+with_over time c (Some job) = with_job time c job
+
+-- THROTTLING
+abbrev pub gap : Option ℕ → ℕ → ℕ
+gap None time = 0
+gap (Some since) time = time - since
+
+abbrev pub throttle_by : ℕ → What → Throttle → Throttle
+throttle_by time what t =
+    if throttles what
+    then record { times = t.times + 1; us = t.us + gap t.since time; since = Some time }
+    else (if frees what
+    then record { times = t.times; us = t.us + gap t.since time; since = None } else t)
+
+-- A TASK, where the run ends at this time
+abbrev pub told_after : ℕ → Happened → Told → Told
+told_after time h t = record t {
+  job = under_way h.time h.what t.job;
+  counts = with_over time t.counts (over_by h.time h.what t.job);
+  throttle = throttle_by h.time h.what t.throttle;
+}
+
+abbrev pub told_if : ℕ → Told → Happened → Told
+told_if time t h = if_number (λ t. t.number) h.number (told_after time h) t
+
+abbrev pub told_all : ℕ → List Happened → Told → Told
+told_all time hs t = fold (told_if time) t hs
+
+-- nothing is told yet
+abbrev pub untold : ℕ → Told
+untold number = record {
+  number = number;
+  job = None;
+  counts = record { ended = None; late = 0 };
+  throttle = record { times = 0; us = 0; since = None };
+  preempted = 0;
+}
+
+-- counts of at most so many entries
+pub record IsWithinEnded (n : ℕ) (e : Ended) : Type 0 where
+  pub some : 0 < e.count
+  pub count : e.count ≤ n
+  pub total : e.total ≤ n * 2 ^ 64
+
+pub record IsUnderWay (n : ℕ) (j : Job) : Type 0 where
+  pub throttled : j.throttled ≤ n
+  pub going : j.ended ≡ None
+
+pub record IsWithin (n : ℕ) (t : Told) : Type 0 where
+  pub job : IfSome t.job (IsUnderWay n)
+  pub ended : IfSome t.counts.ended (IsWithinEnded n)
+  pub late : t.counts.late ≤ n
+  pub times : t.throttle.times ≤ n
+  pub us : t.throttle.us ≤ n * 2 ^ 64
+
+-- so much more can be told
+pub record HaveRoomFor (n : ℕ) (ts : List Told) : Type 0 where
+  pub used : ℕ
+  pub fits : used + n < 2 ^ 64
+  pub within : All (IsWithin used) ts
+
+-- A SWITCH
+abbrev pub leaver_wanting : Switch → Option ℕ
+leaver_wanting s = if wants_it s.state then s.prev else None
+
+abbrev pub with_preemption : Switch → Told → Told
+with_preemption s t =
+    if is_task t.number (leaver_wanting s) && is_none t.throttle.since
+    then record t { preempted = t.preempted + 1 } else t
+
+-- what happened up to a place, and the switches up to a place
+abbrev pub so_far : ℕ → List Happened → List Switch → ℕ → ℕ → ℕ → Told
+so_far time happened switches j k number = record (told_all time (take j happened) (untold number)) {
+  preempted = count_by (preempts happened number) (take k switches);
+}
+
+-- all that happened, and all switches
+abbrev pub told_by : ℕ → List Happened → List Switch → ℕ → Told
+told_by time happened switches number = record (told_all time happened (untold number)) {
+  preempted = preemptions happened switches number;
+}

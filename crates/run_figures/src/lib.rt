@@ -1,0 +1,26 @@
+//! The figures of a domain's run: the jobs of its tasks, and a summary of each task and each CPU.
+//!
+//! Meets the definitions of jobs (`specs/Jobs.antt`), of throttling and preemption
+//! (`specs/Throttling.antt`), of the time on CPUs (`specs/Stays.antt`) and of the figures
+//! (`specs/Figures.antt`). To the crate above it promises that each figure is the definition's, of the
+//! list of what happened and the switches that it was given, and that nothing overflows.
+#![tactic(auto)]
+
+mod counting;
+mod figures;
+mod job;
+mod lines;
+mod places;
+mod ran;
+mod run;
+mod summary;
+mod telling;
+mod throttle;
+mod told;
+
+pub use domain_run::NoMemory;
+pub use figures::{CpuFigures, Responses, Summary, TaskFigures};
+pub use job::Job;
+pub use lines::{TaskJobs, jobs_of};
+pub use run::{Admitted, Run};
+pub use summary::summary_of;

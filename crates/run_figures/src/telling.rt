@@ -1,0 +1,121 @@
+//! What happened and who was preempted, told of all tasks at once.
+
+ghost use Rattle.std.specs.Prelude.{ℕ, ◌≡◌, ◌-◌, ◌+◌, ◌≤◌, ◌<◌, ◌^◌, nat_le, IfOk, All, AllPairs, IsTrue, map, length, take};
+ghost use Rattle.std.specs.List.{prefix_len};
+ghost use Rattle.domain_run.specs.Switches.{is_before};
+ghost use Rattle.run_figures.specs.Runs as runs;
+ghost use Rattle.run_figures.specs.private.Telling as telling;
+
+use crate::places::Places;
+use crate::run::Admitted;
+use crate::told::{Told, preempted_by, told_after, untold};
+use domain_run::{Happened, NoMemory, Switch};
+use std::alloc::Global;
+
+/// Tells one entry.
+fn tell(told: &mut Vec<Told>, places: &Places, happened: &Happened, time: u64)
+    requires keyed { map (λ t. t.number) told.old.items ≡ places.now }
+    requires room { All (telling.IsWithin (2 ^ 64 - 2)) told.old.items }
+    ensures told { told.new.items ≡ map (λ t. telling.told_if time t happened.now) told.old.items }
+    ensures within { (n : ℕ) → All (telling.IsWithin n) told.old.items
+        → All (telling.IsWithin (n + 1)) told.new.items }
+{
+    if let Some(place) = places.find(happened.number) {
+        let after = told_after(&told[place], happened, time);
+        told[place] = after;
+    }
+}
+
+/// Tells what happened up to a time, where the run ends at `end`, and answers how much that is.
+fn tell_until(
+    told: &mut Vec<Told>,
+    places: &Places,
+    happened: &[Happened],
+    time: u64,
+    end: u64,
+) -> usize
+    requires keyed { map (λ t. t.number) told.old.items ≡ places.now }
+    requires room { telling.HaveRoomFor (length happened.now) told.old.items }
+    ensures told { told.new.items
+        ≡ map (telling.told_all end (take result happened.now)) told.old.items }
+    ensures count { result ≡ prefix_len (λ h. nat_le h.time time) happened.now }
+    ensures within { (n : ℕ) → All (telling.IsWithin n) told.old.items
+        → All (telling.IsWithin (n + result)) told.new.items }
+{
+    let mut count = 0;
+    for entry in happened {
+        if entry.time > time {
+            return count;
+        }
+        tell(told, places, entry, end);
+        count += 1;
+    }
+    count
+}
+
+/// Tells all of this.
+fn tell_all(told: &mut Vec<Told>, places: &Places, happened: &[Happened], end: u64)
+    requires keyed { map (λ t. t.number) told.old.items ≡ places.now }
+    requires room { telling.HaveRoomFor (length happened.now) told.old.items }
+    ensures told { told.new.items ≡ map (telling.told_all end happened.now) told.old.items }
+    ensures within { (n : ℕ) → All (telling.IsWithin n) told.old.items
+        → All (telling.IsWithin (n + length happened.now)) told.new.items }
+{
+    for entry in happened {
+        tell(told, places, entry, end);
+    }
+}
+
+/// Tells a switch.
+fn tell_switch(told: &mut Vec<Told>, places: &Places, switch: &Switch)
+    requires keyed { map (λ t. t.number) told.old.items ≡ places.now }
+    requires room { All (λ t. t.preempted ≤ 2 ^ 64 - 2) told.old.items }
+    ensures told { told.new.items ≡ map (telling.with_preemption switch.now) told.old.items }
+    ensures within { (n : ℕ) → All (telling.IsWithin n) told.old.items
+        → All (telling.IsWithin n) told.new.items }
+{
+    let Some(number) = preempted_by(switch) else {
+        return;
+    };
+    if let Some(place) = places.find(number) {
+        let throttled = told[place].throttle.since.is_some();
+        if !throttled {
+            told[place].preempted += 1;
+        }
+    }
+}
+
+fn untold_all(alloc: Global, tasks: &[Admitted]) -> Result<Vec<Told>, NoMemory>
+    ensures { IfOk result (λ v. v.items ≡ map (λ t. telling.untold t.number) tasks.now) }
+{
+    match tasks.iter().map(|task| untold(task.number)).collect(alloc) {
+        Ok(told) => Ok(told),
+        Err(_) => Err(NoMemory),
+    }
+}
+
+/// Tells all that happened, and each switch behind what happened up to its time.
+pub(crate) fn told_of(
+    alloc: Global,
+    tasks: &[Admitted],
+    places: &Places,
+    happened: &[Happened],
+    switches: &[Switch],
+    end: u64,
+) -> Result<Vec<Told>, NoMemory>
+    requires places { places.now ≡ map (λ t. t.number) tasks.now }
+    requires rising { AllPairs (λ a b. IsTrue (is_before a b)) switches.now }
+    ensures told { IfOk result (λ v. v.items
+        ≡ map (λ t. telling.told_by end happened.now switches.now t.number) tasks.now) }
+    ensures within { IfOk result (λ v. All (telling.IsWithin (length happened.now)) v.items) }
+    ensures few { IfOk result (λ v. length happened.now < 2 ^ 64) }
+{
+    let mut told = untold_all(alloc, tasks)?;
+    let mut from = 0;
+    for switch in switches {
+        from += tell_until(&mut told, places, &happened[from..], switch.time, end);
+        tell_switch(&mut told, places, switch);
+    }
+    tell_all(&mut told, places, &happened[from..], end);
+    Ok(told)
+}
