@@ -11,17 +11,25 @@
 #![tactic(auto)]
 
 mod batch;
+mod event_merge;
+mod events;
 mod fault;
 mod lines;
 mod merge;
 mod piece;
 mod ready;
 mod run;
+mod told;
+mod told_lines;
+mod told_merge;
 mod writing;
 
 pub use counted_io::{Counted, ReadFault};
+pub use events::write_events_in;
 pub use fault::WriteFault;
 pub use lines::line;
 pub use ready::TraceRoom;
 pub use run::Run;
+pub use told::Told;
+pub use told_lines::told_line;
 pub use writing::{write_text, write_trace, write_trace_in};
