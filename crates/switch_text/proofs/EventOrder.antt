@@ -1,23 +1,50 @@
 -- Events in their order: the first comes first.
-use Rattle.std.proofs.Common.{◌≡◌, ◌+◌, true, false, cond, List, [], ◌∷◌, ◌++◌, length, refl, ap, ◌∙◌, arith}
+use Rattle.std.proofs.Common.{◌≡◌, ℕ, ◌+◌, Bool, true, false, cond, List, [], ◌∷◌, ◌++◌, length, refl, ap, ◌∙◌, arith}
+use Rattle.std.specs.Prelude.{nat_lt, ◌==◌, ◌&&◌, ◌||◌}
 use Rattle.std.specs.List.{AllByRecursion}
 use Rattle.std.proofs.lemmas.Bool.Decides.{nat_tests}
 use Rattle.switch_text.specs.Events.{Event, comes_before, with_event, in_sequence}
 
+-- numbers that are compared first, and what decides where they are equal
+lex_trans : (s t u : ℕ) (x y z : Bool) → (x ≡ true → y ≡ true → z ≡ true) → (nat_lt s t || (s == t && x)) ≡ true → (nat_lt t u || (t == u && y)) ≡ true → (nat_lt s u || (s == u && z)) ≡ true
+lex_trans s t u true true z h p q = let r : z ≡ true = h refl refl in grind (arith, nat_tests)
+lex_trans s t u true false z h p q = grind (arith, nat_tests)
+lex_trans s t u false y z h p q = grind (arith, nat_tests)
+
+lex_then : (s t u : ℕ) (x y z : Bool) → (x ≡ true → y ≡ false → z ≡ true) → (nat_lt s t || (s == t && x)) ≡ true → (nat_lt u t || (u == t && y)) ≡ false → (nat_lt s u || (s == u && z)) ≡ true
+lex_then s t u true false z h p q = let r : z ≡ true = h refl refl in grind (arith, nat_tests)
+lex_then s t u true true z h p q = grind (arith, nat_tests)
+lex_then s t u false y z h p q = grind (arith, nat_tests)
+
+-- of one time, and of one place there
+abbrev by_cpu : Event → Event → Bool
+by_cpu a b = nat_lt a.cpu b.cpu || (a.cpu == b.cpu && nat_lt a.number b.number)
+
+abbrev by_rank : Event → Event → Bool
+by_rank a b = nat_lt a.rank b.rank || (a.rank == b.rank && by_cpu a b)
+
+cpu_trans : (a b c : Event) → by_cpu a b ≡ true → by_cpu b c ≡ true → by_cpu a c ≡ true
+cpu_trans a b c p q = grind (arith, nat_tests)
+
+rank_trans : (a b c : Event) → by_rank a b ≡ true → by_rank b c ≡ true → by_rank a c ≡ true
+rank_trans a b c p q = lex_trans a.rank b.rank c.rank (by_cpu a b) (by_cpu b c) (by_cpu a c) (cpu_trans a b c) p q
+
+cpu_then : (a b c : Event) → by_cpu a b ≡ true → by_cpu c b ≡ false → by_cpu a c ≡ true
+cpu_then a b c p q = grind (arith, nat_tests)
+
+rank_then : (a b c : Event) → by_rank a b ≡ true → by_rank c b ≡ false → by_rank a c ≡ true
+rank_then a b c p q = lex_then a.rank b.rank c.rank (by_cpu a b) (by_cpu c b) (by_cpu a c) (cpu_then a b c) p q
+
 pub earlier_trans : (a b c : Event) → comes_before a b ≡ true → comes_before b c ≡ true → comes_before a c ≡ true
-earlier_trans a b c p q = grind (arith, nat_tests)
+earlier_trans a b c p q = lex_trans a.time b.time c.time (by_rank a b) (by_rank b c) (by_rank a c) (rank_trans a b c) p q
 
 -- a is not later than b, and b is earlier than c
 pub not_later_trans : (a b c : Event) → comes_before b a ≡ false → comes_before b c ≡ true → comes_before c a ≡ false
 not_later_trans a b c p q = grind (arith, nat_tests)
 
--- a is not later than b, and b is not later than c
-pub not_later_twice : (a b c : Event) → comes_before b a ≡ false → comes_before c b ≡ false → comes_before c a ≡ false
-not_later_twice a b c p q = grind (arith, nat_tests)
-
 -- a is earlier than b, and b is not later than c
 pub earlier_then : (a b c : Event) → comes_before a b ≡ true → comes_before c b ≡ false → comes_before a c ≡ true
-earlier_then a b c p q = grind (arith, nat_tests)
+earlier_then a b c p q = lex_then a.time b.time c.time (by_rank a b) (by_rank c b) (by_rank a c) (rank_then a b c) p q
 
 pub not_later-from_earlier : (a b : Event) → comes_before a b ≡ true → comes_before b a ≡ false
 not_later-from_earlier a b p = grind (arith, nat_tests)

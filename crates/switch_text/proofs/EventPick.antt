@@ -1,9 +1,9 @@
 -- What comes next of all that happens and of all switches.
-use Rattle.std.proofs.Common.{◌≡◌, ℕ, ◌+◌, ◌*◌, ◌^◌, ◌<◌, ◌≤◌, Bool, true, false, cond, List, [], ◌∷◌, ◌++◌, length, map, Option, Some, None, refl, sym, ap, subst, ◌∙◌, append_assoc, append-nil, arith}
-use Rattle.std.specs.Prelude.{IsTrue, not, ◌||◌, nat_lt}
+use Rattle.std.proofs.Common.{◌≡◌, ℕ, ◌<◌, ◌≤◌, Bool, true, false, cond, List, [], ◌∷◌, ◌++◌, length, map, Option, Some, None, refl, sym, ap, subst, ◌∙◌, append_assoc, arith}
+use Rattle.std.specs.Prelude.{not, ◌||◌, nat_lt}
 use Rattle.std.specs.List.{AllByRecursion}
 use Rattle.std.proofs.lemmas.Bool.Decides.{nat_tests}
-use Rattle.std.proofs.lemmas.List.{length-map, length-append, map-append}
+use Rattle.std.proofs.lemmas.List.{length-append, map-append}
 use Rattle.domain_run.specs.declared.happened.What.{What}
 use Rattle.domain_run.specs.declared.happened.What.TheVariants.{JobEnds, NextReleased, Spent, Cut, Replenished, Released, WokenSpent}
 use Rattle.domain_run.specs.Happened.{rank}
@@ -13,14 +13,13 @@ use Rattle.switch_text.specs.declared.merge.Next.{Next}
 use Rattle.switch_text.specs.declared.told_merge.NextTold.{NextTold}
 use Rattle.switch_text.specs.declared.event_merge.EventPlaces.{EventPlaces}
 use Rattle.switch_text.specs.declared.event_merge.NextEvent.{NextEvent}
-use Rattle.switch_text.specs.declared.event_merge.NextEvent.TheVariants as NextEvent
 use Rattle.switch_text.specs.Trace.{Entry, is_earlier}
 use Rattle.switch_text.specs.Runs.{views}
 use Rattle.switch_text.specs.Events.{ToldView, Event, comes_before, in_sequence, lines_of_events}
 use Rattle.switch_text.specs.Telling.{told_views}
-use Rattle.switch_text.specs.private.Merging.{left_of, stepped, next_entry, IsAhead, IsNextOf, IsFound}
+use Rattle.switch_text.specs.private.Merging.{left_of, stepped, next_entry, IsNextOf, IsFound}
 use Rattle.switch_text.specs.private.ToldMerging.{is_shown, left_told, count_left, next_told_event, IsToldAhead, IsShown, IsNextOrCut, IsNextTold, IsToldFound}
-use Rattle.switch_text.specs.private.EventMerging.{of_entry, left_events, count_events, after_next, line_of_next, goes_first, first_of, IsStep, CanStep, CanShow, IsNextEvent, IsEventFound}
+use Rattle.switch_text.specs.private.EventMerging.{of_entry, left_events, after_next, first_of, IsStep, IsNextEvent, IsEventFound}
 use Rattle.switch_text.proofs.Order.{AllByRecursion-weaker, AllByRecursion-append}
 use Rattle.switch_text.proofs.EventOrder.{in_sequence-first}
 
@@ -129,26 +128,26 @@ IsStep-cut told told' switches same = record {
 -- something that has a line, and no switch before it
 told_shown : (runs : List Run) (told : List Told) (p : EventPlaces) (n : NextTold) → length told ≤ 8 → is_shown n.happened.now ≡ true → IsNextTold told p.told n
     → AllByRecursion (λ x. n.happened.now.time ≤ x.time) (left_of (views runs) p.switches) → IsNextEvent runs told p (NextEvent.Told n)
-told_shown runs told p n few yes next late =
-    let found : IsToldAhead (told_views told) p.told n.index (next_told_event n) × IsShown n = subst (IsNextOrCut told p.told n) yes next.next in
+told_shown runs told p n few shown next late =
+    let found : IsToldAhead (told_views told) p.told n.index (next_told_event n) × IsShown n = subst (IsNextOrCut told p.told n) shown next.next in
     let step = IsStep-told (told_views told) p.told n.index (next_told_event n) (left_of (views runs) p.switches) found.0 (rank-small n.happened.now.what) late in
     let inside : n.index < length told = next.inside in
     let less : count_left (told_views told) (stepped p.told n.index) < count_left (told_views told) p.told = next.smaller in
     record {
-      step = subst (λ (b : Bool). IsStep (left_events runs told p) (left_events runs told (after_next p (NextEvent.Told n))) (cond b (next_told_event n).line [])) (sym yes) step;
+      step = subst (λ (b : Bool). IsStep (left_events runs told p) (left_events runs told (after_next p (NextEvent.Told n))) (cond b (next_told_event n).line [])) (sym shown) step;
       smaller = omega (arith, less);
       places = (omega arith, next.place);
       shown = λ h. found.1;
     }
 
 told_cut : (runs : List Run) (told : List Told) (p : EventPlaces) (n : NextTold) → length told ≤ 8 → is_shown n.happened.now ≡ false → IsNextTold told p.told n → IsNextEvent runs told p (NextEvent.Told n)
-told_cut runs told p n few no next =
-    let same : left_told (told_views told) (stepped p.told n.index) ≡ left_told (told_views told) p.told = subst (IsNextOrCut told p.told n) no next.next in
+told_cut runs told p n few cut next =
+    let same : left_told (told_views told) (stepped p.told n.index) ≡ left_told (told_views told) p.told = subst (IsNextOrCut told p.told n) cut next.next in
     let step = IsStep-cut (left_told (told_views told) p.told) (left_told (told_views told) (stepped p.told n.index)) (map of_entry (left_of (views runs) p.switches)) same in
     let inside : n.index < length told = next.inside in
     let less : count_left (told_views told) (stepped p.told n.index) < count_left (told_views told) p.told = next.smaller in
     record {
-      step = subst (λ (b : Bool). IsStep (left_events runs told p) (left_events runs told (after_next p (NextEvent.Told n))) (cond b (next_told_event n).line [])) (sym no) step;
+      step = subst (λ (b : Bool). IsStep (left_events runs told p) (left_events runs told (after_next p (NextEvent.Told n))) (cond b (next_told_event n).line [])) (sym cut) step;
       smaller = omega (arith, less);
       places = (omega arith, next.place);
       shown = λ h. absurd cc;
@@ -170,8 +169,8 @@ switch_next runs told p n few next late =
 -- where a switch is before the next of what happens, it is before all of it
 all_later : (told : List Told) (p : EventPlaces) (n : NextTold) (s : Next) → IsNextTold told p.told n → is_shown n.happened.now ≡ true → nat_lt s.switch.now.time n.happened.now.time ≡ true
     → AllByRecursion (λ x. s.switch.now.time < x.time) (left_told (told_views told) p.told)
-all_later told p n s next yes lt =
-    let found : IsToldAhead (told_views told) p.told n.index (next_told_event n) × IsShown n = subst (IsNextOrCut told p.told n) yes next.next in
+all_later told p n s next shown lt =
+    let found : IsToldAhead (told_views told) p.told n.index (next_told_event n) × IsShown n = subst (IsNextOrCut told p.told n) shown next.next in
     let before : s.switch.now.time < n.happened.now.time = grind (arith, nat_tests) in
     AllByRecursion-weaker (λ x. n.happened.now.time ≤ x.time) (λ x. s.switch.now.time < x.time) (left_told (told_views told) p.told) (λ x q. omega (arith, before, q)) (times_told (told_views told) p.told n.index (next_told_event n) found.0)
 
@@ -184,14 +183,14 @@ none_sooner runs p n s next ge =
 
 told_alone : (runs : List Run) (told : List Told) (p : EventPlaces) (n : NextTold) (b : Bool) → length told ≤ 8 → is_shown n.happened.now ≡ b → IsNextTold told p.told n → left_of (views runs) p.switches ≡ []
     → IsNextEvent runs told p (NextEvent.Told n)
-told_alone runs told p n true few yes next none = told_shown runs told p n few yes next (subst (λ (es : List Entry). AllByRecursion (λ x. n.happened.now.time ≤ x.time) es) (sym none) tt)
-told_alone runs told p n false few no next none = told_cut runs told p n few no next
+told_alone runs told p n true few shown next none = told_shown runs told p n few shown next (subst (λ (es : List Entry). AllByRecursion (λ x. n.happened.now.time ≤ x.time) es) (sym none) tt)
+told_alone runs told p n false few cut next none = told_cut runs told p n few cut next
 
 of_both : (runs : List Run) (told : List Told) (p : EventPlaces) (n : NextTold) (s : Next) (b c : Bool) → length runs ≤ 8 → length told ≤ 8 → is_shown n.happened.now ≡ b → nat_lt s.switch.now.time n.happened.now.time ≡ c
     → IsNextTold told p.told n → IsNextOf runs p.switches s → IsEventFound runs told p (cond (not b || not c) (Some (NextEvent.Told n)) (Some (NextEvent.Switch s)))
-of_both runs told p n s false c few_runs few_told no sooner next other = told_cut runs told p n few_told no next
-of_both runs told p n s true false few_runs few_told yes sooner next other = told_shown runs told p n few_told yes next (none_sooner runs p n s other sooner)
-of_both runs told p n s true true few_runs few_told yes sooner next other = switch_next runs told p s few_runs other (all_later told p n s next yes sooner)
+of_both runs told p n s false c few_runs few_told cut sooner next other = told_cut runs told p n few_told cut next
+of_both runs told p n s true false few_runs few_told shown sooner next other = told_shown runs told p n few_told shown next (none_sooner runs p n s other sooner)
+of_both runs told p n s true true few_runs few_told shown sooner next other = switch_next runs told p s few_runs other (all_later told p n s next shown sooner)
 
 pub IsEventFound-first_of : (runs : List Run) (told : List Told) (p : EventPlaces) (happens : Option NextTold) (switch : Option Next) → length runs ≤ 8 → length told ≤ 8
     → IsToldFound told p.told happens → IsFound runs p.switches switch → IsEventFound runs told p (first_of happens switch)

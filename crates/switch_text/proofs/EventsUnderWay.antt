@@ -1,5 +1,5 @@
 -- The events text that goes out line by line.
-use Rattle.std.proofs.Common.{◌≡◌, ℕ, zero, suc, ◌+◌, ◌*◌, ◌<◌, ◌≤◌, ◌^◌, true, false, cond, List, [], ◌∷◌, ◌++◌, length, map, take, replicate, Option, refl, sym, ap, subst, ◌∙◌, append_assoc, append-nil, arith}
+use Rattle.std.proofs.Common.{◌≡◌, ℕ, zero, suc, ◌+◌, ◌*◌, ◌<◌, ◌≤◌, ◌^◌, true, false, cond, List, [], ◌∷◌, ◌++◌, length, map, take, replicate, Option, refl, sym, ap, subst, ◌∙◌, append-nil, arith}
 use Rattle.std.specs.Prelude.{All, filter}
 use Rattle.std.specs.List.{AllByRecursion, flat_map}
 use Rattle.std.specs.Io.KnownBytes.{Appends}
@@ -18,7 +18,7 @@ use Rattle.switch_text.specs.Events.{ToldView, Event, told_event, told_events, s
 use Rattle.switch_text.specs.Telling.{told_view, told_views, IsTold}
 use Rattle.switch_text.specs.private.Merging.{left_of}
 use Rattle.switch_text.specs.private.Sending.{Sends}
-use Rattle.switch_text.specs.private.ToldMerging.{is_shown, events_from, left_told}
+use Rattle.switch_text.specs.private.ToldMerging.{is_shown, left_told}
 use Rattle.switch_text.specs.private.EventMerging.{of_entry, left_events, IsStep}
 use Rattle.switch_text.proofs.Few.{few}
 use Rattle.switch_text.proofs.UnderWay.{sends_on, length-sent, left_of-start, length-header}
@@ -77,7 +77,7 @@ switch_events-is : (r : RunView) (ss : List Switch) → map of_entry (map (entry
 switch_events-is r [] = refl
 switch_events-is r (s ∷ ss) = ap (λ (es : List Event). switch_event r s ∷ es) (switch_events-is r ss)
 
-all_switches-are : (runs : List RunView) → map of_entry (flat_map entries_of runs) ≡ flat_map switch_events runs
+pub all_switches-are : (runs : List RunView) → map of_entry (flat_map entries_of runs) ≡ flat_map switch_events runs
 all_switches-are [] = refl
 all_switches-are (r ∷ rs) =
     map-append of_entry (entries_of r) (flat_map entries_of rs) ∙ ap (λ (es : List Event). es ++ map of_entry (flat_map entries_of rs)) (switch_events-is r r.switches)

@@ -14,4 +14,5 @@ mod ToldAhead
 mod ToldFound
 mod EventPick
 mod EventsUnderWay
+pub mod EventLemmas
 pub mod CallerLemmas

@@ -1,6 +1,6 @@
 -- The search for what happens next goes on by one domain.
 use Rattle.std.proofs.Common.{◌≡◌, ℕ, zero, suc, ◌+◌, ◌^◌, ◌<◌, ◌≤◌, Bool, true, false, List, [], ◌∷◌, ◌++◌, length, map, take, drop, set, get_or, Option, Some, None, refl, sym, ap, subst, ◌∙◌, arith}
-use Rattle.std.specs.Prelude.{All, IsTrue, filter, not, ◌||◌}
+use Rattle.std.specs.Prelude.{All, IsTrue, filter}
 use Rattle.std.specs.List.{AllByRecursion}
 use Rattle.std.proofs.lemmas.Bool.Decides.{nat_tests}
 use Rattle.std.proofs.lemmas.List.{length-map, length-take-le, length-drop, get_or-take, get_or-map, get_or-drop, get_or_default, drop_more, drop_all, map_more}
@@ -47,13 +47,12 @@ sooner_event t a b p q h = grind (arith, nat_tests)
 later_among : (t : ToldView) (h : Happened) (hs : List Happened) → is_shown h ≡ true → AllByRecursion (λ x. IsTrue (is_sooner_unless_cut h x)) hs
     → AllByRecursion (λ x. comes_before (told_event t h) x ≡ true) (map (told_event t) (filter is_shown hs))
 later_among t h [] s all = tt
-later_among t h (x ∷ xs) s all = by_shown (is_shown x) refl
+later_among t h (x ∷ xs) s all = by_shown (is_shown x) refl (later_among t h xs s all.1)
   where
-    more : AllByRecursion (λ e. comes_before (told_event t h) e ≡ true) (map (told_event t) (filter is_shown xs))
-    more = later_among t h xs s all.1
-    by_shown : (b : Bool) → is_shown x ≡ b → AllByRecursion (λ e. comes_before (told_event t h) e ≡ true) (map (told_event t) (filter is_shown (x ∷ xs)))
-    by_shown true q = subst (λ (hs : List Happened). AllByRecursion (λ e. comes_before (told_event t h) e ≡ true) (map (told_event t) hs)) (sym (filter-shown x xs q)) (sooner_event t h x s q all.0, more)
-    by_shown false q = subst (λ (hs : List Happened). AllByRecursion (λ e. comes_before (told_event t h) e ≡ true) (map (told_event t) hs)) (sym (filter-cut x xs q)) more
+    by_shown : (b : Bool) → is_shown x ≡ b → AllByRecursion (λ e. comes_before (told_event t h) e ≡ true) (map (told_event t) (filter is_shown xs))
+        → AllByRecursion (λ e. comes_before (told_event t h) e ≡ true) (map (told_event t) (filter is_shown (x ∷ xs)))
+    by_shown true q more = subst (λ (hs : List Happened). AllByRecursion (λ e. comes_before (told_event t h) e ≡ true) (map (told_event t) hs)) (sym (filter-shown x xs q)) (sooner_event t h x s q all.0, more)
+    by_shown false q more = subst (λ (hs : List Happened). AllByRecursion (λ e. comes_before (told_event t h) e ≡ true) (map (told_event t) hs)) (sym (filter-cut x xs q)) more
 
 later_from : (t : Told) (p : ℕ) (h : Happened) → IsTold t → p < length t.happened.now → h ≡ get_or t.happened.now p h → is_shown h ≡ true
     → AllByRecursion (λ x. comes_before (told_event (told_view t) h) x ≡ true) (events_from (told_view t) (p + 1))
@@ -149,6 +148,19 @@ pub record IsNextIn (told : List Told) (places : List ℕ) (n : NextTold) : Type
   pub is : n.happened.now ≡ get_or n.told.now.happened.now (get_or places n.index 0) n.happened.now
   pub small : get_or places n.index 0 + 1 < 2 ^ 64
 
+-- known by equations
+pub IsNextIn-from : (told : List Told) (places : List ℕ) (i : ℕ) (t : Told) (n : NextTold) → IsHere told places i t → n.index ≡ i → n.told.now ≡ t → get_or places i 0 < length t.happened.now
+    → n.happened.now ≡ get_or t.happened.now (get_or places i 0) n.happened.now → get_or places i 0 + 1 < 2 ^ 64 → IsNextIn told places n
+IsNextIn-from told places i t n here index domain left is small =
+    let left' : get_or places i 0 < length n.told.now.happened.now = subst (λ (u : Told). get_or places i 0 < length u.happened.now) (sym domain) left in
+    let is' : n.happened.now ≡ get_or n.told.now.happened.now (get_or places i 0) n.happened.now = subst (λ (u : Told). n.happened.now ≡ get_or u.happened.now (get_or places i 0) n.happened.now) (sym domain) is in
+    record {
+      here = subst (λ (k : ℕ). IsHere told places k n.told.now) (sym index) (subst (IsHere told places i) (sym domain) here);
+      left = subst (λ (k : ℕ). get_or places k 0 < length n.told.now.happened.now) (sym index) left';
+      is = subst (λ (k : ℕ). n.happened.now ≡ get_or n.told.now.happened.now (get_or places k 0) n.happened.now) (sym index) is';
+      small = subst (λ (k : ℕ). get_or places k 0 + 1 < 2 ^ 64) (sym index) small;
+    }
+
 pub has_told_line : (told : List Told) (places : List ℕ) (n : NextTold) → IsNextIn told places n → HasToldLine n.told.now.names.now n.told.now.base n.happened.now
 has_told_line told places n next =
     subst (λ (h : Happened). HasToldLine n.told.now.names.now n.told.now.base h) (sym next.is) (next.here.good.lines (get_or places n.index 0) n.happened.now next.left)
@@ -214,6 +226,18 @@ IsBest-kept told places n (Some b) next s worse found =
       at = IsAtPlace-more told places n.index b next.here.inside found.at;
     }
 
+pub IsBest-better_at : (told : List Told) (places : List ℕ) (i : ℕ) (n : NextTold) (best : Option NextTold) → n.index ≡ i → IsNextIn told places n → is_shown n.happened.now ≡ true
+    → is_better_told n best ≡ true → IsBest (take i told) places best → IsBest (take (i + 1) told) places (Some n)
+IsBest-better_at told places i n best index next s better found =
+    let new = IsBest-better told places n best next s better (subst (λ (k : ℕ). IsBest (take k told) places best) (sym index) found) in
+    subst (λ (k : ℕ). IsBestOf (take (k + 1) told) places n) index new
+
+pub IsBest-kept_at : (told : List Told) (places : List ℕ) (i : ℕ) (n : NextTold) (best : Option NextTold) → n.index ≡ i → IsNextIn told places n → is_shown n.happened.now ≡ true
+    → is_better_told n best ≡ false → IsBest (take i told) places best → IsBest (take (i + 1) told) places best
+IsBest-kept_at told places i n best index next s worse found =
+    let new = IsBest-kept told places n best next s worse (subst (λ (k : ℕ). IsBest (take k told) places best) (sym index) found) in
+    subst (λ (k : ℕ). IsBest (take (k + 1) told) places best) index new
+
 -- ---- one step
 
 -- a step of one domain, behind which as much is left of it
@@ -250,12 +274,12 @@ smaller_at told places n at few =
 pub IsToldFound-best : (told : List Told) (places : List ℕ) (best : Option NextTold) → length told ≤ length places → IsBest told places best → IsToldFound told places best
 IsToldFound-best told places None few found = found
 IsToldFound-best told places (Some n) few found =
-    let yes : is_shown n.happened.now ≡ true = found.shown.shown in
+    let shown : is_shown n.happened.now ≡ true = found.shown.shown in
     record {
       inside = found.at.inside;
       place = found.at.small;
       smaller = smaller_at told places n found.at few;
-      next = subst (IsNextOrCut told places n) (sym yes) (found.ahead, found.shown);
+      next = subst (IsNextOrCut told places n) (sym shown) (found.ahead, found.shown);
     }
 
 pub at_place-next : (told : List Told) (places : List ℕ) (n : NextTold) → IsNextIn told places n → IsAtPlace told places n
@@ -263,14 +287,14 @@ at_place-next told places n next = record { inside = next.here.inside; told_is =
 
 -- so is a cut, at once
 pub IsNextTold-cut : (told : List Told) (places : List ℕ) (n : NextTold) → length told ≤ length places → IsNextIn told places n → is_shown n.happened.now ≡ false → IsNextTold told places n
-IsNextTold-cut told places n few next no =
+IsNextTold-cut told places n few next cut =
     let inside : n.index < length told = next.here.inside in
     let t = told_view n.told.now in
     let same = left_told-set_same (told_views told) places n.index (get_or places n.index 0 + 1) t (view_is told n.index n.told.now next.here.is next.here.inside) (omega (arith, length-map told told_view)) (omega arith)
-    (cut_from t (get_or places n.index 0) n.happened.now next.left next.is no) in
+    (cut_from t (get_or places n.index 0) n.happened.now next.left next.is cut) in
     record {
       inside = next.here.inside;
       place = next.small;
       smaller = smaller_at told places n (at_place-next told places n next) few;
-      next = subst (IsNextOrCut told places n) (sym no) same;
+      next = subst (IsNextOrCut told places n) (sym cut) same;
     }

@@ -1,10 +1,10 @@
 -- Worked rows of the events text, computed by the definitions.
-use Rattle.std.specs.Prelude.{ℕ, ◌≡◌, ◌+◌, List, [], ◌∷◌, ◌++◌, codes, refl, Option, Some, None}
+use Rattle.std.specs.Prelude.{ℕ, ◌≡◌, List, [], ◌∷◌, ◌++◌, codes, refl, Some}
 use Rattle.std.specs.Fmt.{digits}
 use Rattle.domain_run.specs.declared.happened.What.{What}
 use Rattle.domain_run.specs.declared.happened.What.TheVariants.{JobEnds, NextReleased, Spent, Cut, Replenished, Released, WokenSpent}
 use Rattle.domain_run.specs.declared.happened.Happened.{Happened}
-use Rattle.domain_run.specs.declared.switch.PrevState.TheVariants.{Running, Preempted, Sleeping, Dead}
+use Rattle.domain_run.specs.declared.switch.PrevState.TheVariants.{Sleeping}
 use Rattle.switch_text.specs.Line.{task_part, cpu_part, time_part, prev_part, next_part, line_of}
 use Rattle.switch_text.specs.ToldLine.{seconds_part, target_part, deadline_part, event_fields, told_line_of}
 use Rattle.switch_text.specs.Trace.{header}

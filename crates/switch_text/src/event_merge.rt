@@ -20,6 +20,7 @@ pub(crate) enum NextEvent<'a, 'b> {
 }
 
 /// How far each domain has gone, in its switches and in what happens.
+#[derive(Drop)]
 pub(crate) struct EventPlaces {
     pub(crate) switches: [usize; 8],
     pub(crate) told: [usize; 8],
@@ -50,7 +51,7 @@ fn first_of<'a, 'b>(
     happens: Option<NextTold<'a, 'b>>,
     switch: Option<Next<'a, 'b>>,
 ) -> Option<NextEvent<'a, 'b>>
-    ensures { result ≡ merging.first_of happens switch }
+    ensures { result ≡ merging.first_of happens.entry switch.entry }
 {
     match happens {
         None => switch.map(NextEvent::Switch),

@@ -66,9 +66,9 @@ fn append_event(
 }
 
 // The events text, with room for the texts of tasks that holds none yet.
-fn write_with<W: Write>(
-    runs: &[Run<'_>],
-    told: &[Told<'_>],
+fn write_with<'a, 'b, W: Write>(
+    runs: &'a [Run<'b>],
+    told: &'a [Told<'b>],
     slots: &mut [Slot],
     writer: &mut Counted<W>,
 ) -> Result<(), WriteFault>
@@ -120,9 +120,9 @@ fn write_with<W: Write>(
 /// # Errors
 /// The writer's first fault ends the call. [`WriteFault::written`] is exactly the number of bytes
 /// that the writer took; they are the front of the events text, and not all of it.
-pub fn write_events_in<W: Write>(
-    runs: &[Run<'_>],
-    told: &[Told<'_>],
+pub fn write_events_in<'a, 'b, W: Write>(
+    runs: &'a [Run<'b>],
+    told: &'a [Told<'b>],
     mut room: TraceRoom,
     writer: &mut Counted<W>,
 ) -> Result<(), WriteFault>

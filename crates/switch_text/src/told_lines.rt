@@ -59,8 +59,9 @@ fn put_three(out: &mut [u8], at: usize, n: u64) -> usize
 /// A time in the event's fields: seconds, and microseconds.
 #[tactic(auto, unfolding(crate::specs::ToldLine::seconds_part))]
 fn put_seconds(out: &mut [u8], at: usize, time: u64) -> usize
-    requires { at + length (seconds_part time) ≤ length out.old }
+    requires { at + 21 ≤ length out.old }
     ensures place { result ≡ at + length (seconds_part time) }
+    ensures short { result ≤ at + 21 }
     ensures text { take result out.new ≡ take at out.old ++ seconds_part time }
 {
     let at = put_decimal(out, at, time / 1_000_000);
@@ -72,8 +73,9 @@ fn put_seconds(out: &mut [u8], at: usize, time: u64) -> usize
 #[tactic(auto, unfolding(crate::specs::ToldLine::target_part))]
 fn put_target(out: &mut [u8], at: usize, cpu: u32) -> usize
     requires small { cpu < 512 }
-    requires room { at + length (target_part cpu) ≤ length out.old }
+    requires room { at + 23 ≤ length out.old }
     ensures place { result ≡ at + length (target_part cpu) }
+    ensures short { result ≤ at + 23 }
     ensures text { take result out.new ≡ take at out.old ++ target_part cpu }
 {
     let at = put(out, at, b" prio=-1 target_cpu=");
@@ -83,8 +85,9 @@ fn put_target(out: &mut [u8], at: usize, cpu: u32) -> usize
 /// The deadline of a server.
 #[tactic(auto, unfolding(crate::specs::ToldLine::deadline_part))]
 fn put_deadline(out: &mut [u8], at: usize, deadline: u64) -> usize
-    requires { at + length (deadline_part deadline) ≤ length out.old }
+    requires { at + 31 ≤ length out.old }
     ensures place { result ≡ at + length (deadline_part deadline) }
+    ensures short { result ≤ at + 31 }
     ensures text { take result out.new ≡ take at out.old ++ deadline_part deadline }
 {
     let at = put(out, at, b" deadline=");
@@ -94,16 +97,16 @@ fn put_deadline(out: &mut [u8], at: usize, deadline: u64) -> usize
 /// The last fields of the event.
 fn put_last(out: &mut [u8], at: usize, cpu: u32, what: What) -> usize
     requires small { cpu < 512 }
-    requires room { at + length (last_fields cpu what) ≤ length out.old }
+    requires room { at + 31 ≤ length out.old }
     ensures place { result ≡ at + length (last_fields cpu what) }
+    ensures short { result ≤ at + 31 }
     ensures text { take result out.new ≡ take at out.old ++ last_fields cpu what }
 {
     match what {
         What::JobEnds | What::Cut => at,
         What::NextReleased { .. } | What::Released { .. } => put_target(out, at, cpu),
-        What::Spent { deadline }
-        | What::WokenSpent { deadline }
-        | What::Replenished { deadline } => put_deadline(out, at, deadline),
+        What::Spent { deadline } | What::WokenSpent { deadline } | What::Replenished { deadline } =>
+            put_deadline(out, at, deadline),
     }
 }
 
@@ -119,8 +122,9 @@ fn put_fields(
 ) -> usize
     requires small { cpu < 512 }
     requires name { HasName names.now number }
-    requires room { at + length (event_fields (named names.now) cpu number what) ≤ length out.old }
+    requires room { at + 83 ≤ length out.old }
     ensures place { result ≡ at + length (event_fields (named names.now) cpu number what) }
+    ensures short { result ≤ at + 83 }
     ensures text { take result out.new ≡ take at out.old ++ event_fields (named names.now) cpu number what }
 {
     let at = put(out, at, name_of_event(what));

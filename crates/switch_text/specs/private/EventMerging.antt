@@ -1,16 +1,15 @@
 -- What happens and switches at once: what is left of both, and which comes next. The events text knows
 -- nothing of these words.
-use Rattle.std.specs.Prelude.{ℕ, ◌≡◌, ◌+◌, ◌*◌, ◌<◌, ◌≤◌, ◌^◌, IsTrue, Bool, true, false, not, ◌||◌, nat_lt, if◌then◌else◌, List, [], ◌∷◌, ◌++◌, length, map, slice_index, Option, Some, None}
+use Rattle.std.specs.Prelude.{ℕ, ◌≡◌, ◌+◌, ◌*◌, ◌<◌, ◌≤◌, ◌^◌, IsTrue, Bool, not, ◌||◌, nat_lt, if◌then◌else◌, List, [], ◌++◌, length, map, slice_index, Option, Some, None}
 use Rattle.switch_text.specs.declared.run.Run.{Run}
 use Rattle.switch_text.specs.declared.told.Told.{Told}
 use Rattle.switch_text.specs.declared.merge.Next.{Next}
 use Rattle.switch_text.specs.declared.told_merge.NextTold.{NextTold}
 use Rattle.switch_text.specs.declared.event_merge.EventPlaces.{EventPlaces}
 use Rattle.switch_text.specs.declared.event_merge.NextEvent.{NextEvent}
-use Rattle.switch_text.specs.declared.event_merge.NextEvent.TheVariants as NextEvent
-use Rattle.switch_text.specs.Trace.{RunView, Entry}
+use Rattle.switch_text.specs.Trace.{Entry}
 use Rattle.switch_text.specs.Runs.{views}
-use Rattle.switch_text.specs.Events.{ToldView, Event, in_sequence, lines_of_events}
+use Rattle.switch_text.specs.Events.{Event, in_sequence, lines_of_events}
 use Rattle.switch_text.specs.Telling.{told_views}
 use Rattle.switch_text.specs.private.Merging.{left_of, stepped, next_entry, IsPrinted, IsRunAt}
 use Rattle.switch_text.specs.private.ToldMerging.{is_shown, left_told, count_left, next_told_event, IsShown}

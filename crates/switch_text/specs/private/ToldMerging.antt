@@ -1,6 +1,6 @@
 -- What happens in several domains at once: what is left of each, and which of it comes next. The
 -- events text knows nothing of these words.
-use Rattle.std.specs.Prelude.{ℕ, ◌≡◌, ◌+◌, ◌<◌, ◌≤◌, ◌^◌, IsTrue, Bool, true, false, if◌then◌else◌, List, [], ◌∷◌, ◌++◌, length, map, filter, drop, slice_index, slice_index_or, slice_set, Option, Some, None}
+use Rattle.std.specs.Prelude.{ℕ, ◌≡◌, ◌+◌, ◌<◌, ◌^◌, IsTrue, Bool, true, false, List, [], ◌∷◌, ◌++◌, length, map, filter, drop, slice_index, Option, Some, None}
 use Rattle.std.specs.List.{AllByRecursion}
 use Rattle.domain_run.specs.declared.happened.Happened.{Happened}
 use Rattle.switch_text.specs.declared.told.Told.{Told}

@@ -1,4 +1,4 @@
-use Rattle.std.proofs.Common.{◌∙◌, subst, sym}
+use Rattle.std.proofs.Common.{subst, sym}
 use Rattle.switch_text.specs.private.EventMerging.{IsEventFound}
 use Rattle.switch_text.proofs.EventPick.{IsEventFound-first_of}
 use Rattle.switch_text.proofs.event_merge.next_event.Goals as goal

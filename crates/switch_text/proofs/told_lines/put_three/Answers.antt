@@ -1,4 +1,4 @@
-use Rattle.std.proofs.Common.{◌++◌, ◌%◌, ◌/◌, ◌+◌, [], ◌∷◌, take, ap, sym, ◌∙◌}
+use Rattle.std.proofs.Common.{◌++◌, ◌/◌, ◌+◌, [], ◌∷◌, take, ap, sym, ◌∙◌}
 use Rattle.switch_text.proofs.Digits.{digits_three}
 use Rattle.switch_text.proofs.Joined.{joined_2}
 use Rattle.switch_text.proofs.told_lines.put_three.Goals as goal
