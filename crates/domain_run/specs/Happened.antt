@@ -126,6 +126,10 @@ abbrev pub told_by_ticks : ℕ → Domain → List Happened
 told_by_ticks zero d = []
 told_by_ticks (suc n) d = told_by_ticks n d ++ told_by_tick (ticks n d)
 
+-- of so many ticks at once, the end of the last
+abbrev pub told_by_last_end : ℕ → Domain → List Happened
+told_by_last_end n d = told_by_end (begun (ticks (n - 1) d))
+
 -- A CALL. Where a task ends by a call, or goes to another domain, its job is cut
 abbrev pub told_by_cut : Domain → ℕ → List Happened
 told_by_cut d number =

@@ -49,13 +49,13 @@ cut : told_on 1 (admit 1 (plain 4 8 8) (once (Run 100 ∷ [])) ∷ Advance 2 ∷
 cut = refl
 
 -- A REGRADE changes the deadline of the jobs to come, not of one that is released
-regraded : told_on 1 (admit 1 (plain 2 6 8) (once (Run 2 ∷ Sleep 2 ∷ Run 1 ∷ [])) ∷ Advance 1
-    ∷ Regrade 1 (plain 2 8 8) None ∷ Advance 4 ∷ [])
+regraded : told_on 1 (admit 1 (plain 3 6 8) (once (Run 2 ∷ Sleep 2 ∷ Run 1 ∷ [])) ∷ Advance 1
+    ∷ Regrade 1 (plain 3 8 8) None ∷ Advance 4 ∷ [])
     ≡ at 0 1 0 (Released 6) ∷ at 2 1 0 JobEnds ∷ at 4 1 0 (Released 12) ∷ at 5 1 0 JobEnds ∷ []
 regraded = refl
 
--- THE ORDER at one time: by kind, then by CPU, then by number. Tasks 4 and 3 belong to CPU 0, task 1
--- to CPU 1; task 3 is admitted before task 4
+-- THE ORDER at one time: by kind, then by CPU, then by number. Tasks 4 and 2 belong to CPU 0, task 1
+-- to CPU 1, and they are admitted in this order: 4, 1, 2
 order : told_on 2 (admit 4 (plain 2 9 9) (once (Run 1 ∷ [])) ∷ admit 1 (plain 2 8 9) (once (Run 1 ∷ []))
     ∷ admit 2 (plain 2 7 9) (once (Run 3 ∷ [])) ∷ Advance 1 ∷ [])
     ≡ at 0 2 0 (Released 7) ∷ at 0 4 0 (Released 9) ∷ at 0 1 1 (Released 8) ∷ at 1 1 1 JobEnds ∷ []
