@@ -14,9 +14,9 @@ use crate::told_merge::{NextTold, next_told};
 
 /// What comes next: something that happens, or a switch.
 #[derive(Clone, Copy)]
-pub(crate) enum NextEvent<'a, 'b> {
+pub(crate) enum NextEvent<'a, 'b, 'c, 'd> {
     Told(NextTold<'a, 'b>),
-    Switch(Next<'a, 'b>),
+    Switch(Next<'c, 'd>),
 }
 
 /// How far each domain has gone, in its switches and in what happens.
@@ -28,7 +28,7 @@ pub(crate) struct EventPlaces {
 
 impl EventPlaces {
     /// Goes on by what comes next.
-    pub(crate) fn step(&mut self, next: &NextEvent<'_, '_>)
+    pub(crate) fn step(&mut self, next: &NextEvent<'_, '_, '_, '_>)
         requires { CanStep self.old next.now }
         ensures { self.new ≡ after_next self.old next.now }
     {
@@ -47,34 +47,31 @@ fn goes_first(happens: &NextTold<'_, '_>, switch: &Next<'_, '_>) -> bool
     !has_a_line(happens.happened.what) || happens.happened.time <= switch.switch.time
 }
 
-fn first_of<'a, 'b>(
+fn first_of<'a, 'b, 'c, 'd>(
     happens: Option<NextTold<'a, 'b>>,
-    switch: Option<Next<'a, 'b>>,
-) -> Option<NextEvent<'a, 'b>>
+    switch: Option<Next<'c, 'd>>,
+) -> Option<NextEvent<'a, 'b, 'c, 'd>>
     ensures { result ≡ merging.first_of happens.entry switch.entry }
 {
-    match happens {
-        None => switch.map(NextEvent::Switch),
-        Some(happens) => match switch {
-            None => Some(NextEvent::Told(happens)),
-            Some(switch) => {
-                if goes_first(&happens, &switch) {
-                    Some(NextEvent::Told(happens))
-                } else {
-                    Some(NextEvent::Switch(switch))
-                }
-            }
-        },
+    let Some(happens) = happens else {
+        return Some(NextEvent::Switch(switch?));
+    };
+    let Some(switch) = switch else {
+        return Some(NextEvent::Told(happens));
+    };
+    if goes_first(&happens, &switch) {
+        return Some(NextEvent::Told(happens));
     }
+    Some(NextEvent::Switch(switch))
 }
 
 /// What comes next in the order of the events text, where each domain goes on from its places, or
 /// none where nothing is left; a cut, which has no line, at once.
-pub(crate) fn next_event<'a, 'b>(
-    runs: &'a [Run<'b>],
+pub(crate) fn next_event<'a, 'b, 'c, 'd>(
+    runs: &'c [Run<'d>],
     told: &'a [Told<'b>],
     places: &EventPlaces,
-) -> Option<NextEvent<'a, 'b>>
+) -> Option<NextEvent<'a, 'b, 'c, 'd>>
     requires few_runs { length runs.now ≤ 8 }
     requires few_told { length told.now ≤ 8 }
     requires runs { All IsRun runs.now }

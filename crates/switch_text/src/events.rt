@@ -38,7 +38,7 @@ fn append_told(next: &NextTold<'_, '_>, batch: &mut Batch)
 /// Adds the line of what comes next, if it has one.
 fn append_event(
     runs: &[Run<'_>],
-    next: &NextEvent<'_, '_>,
+    next: &NextEvent<'_, '_, '_, '_>,
     slots: &mut [Slot],
     texts: &mut Texts,
     batch: &mut Batch,
@@ -66,9 +66,9 @@ fn append_event(
 }
 
 // The events text, with room for the texts of tasks that holds none yet.
-fn write_with<'a, 'b, W: Write>(
-    runs: &'a [Run<'b>],
-    told: &'a [Told<'b>],
+fn write_with<W: Write>(
+    runs: &[Run<'_>],
+    told: &[Told<'_>],
     slots: &mut [Slot],
     writer: &mut Counted<W>,
 ) -> Result<(), WriteFault>
@@ -120,9 +120,9 @@ fn write_with<'a, 'b, W: Write>(
 /// # Errors
 /// The writer's first fault ends the call. [`WriteFault::written`] is exactly the number of bytes
 /// that the writer took; they are the front of the events text, and not all of it.
-pub fn write_events_in<'a, 'b, W: Write>(
-    runs: &'a [Run<'b>],
-    told: &'a [Told<'b>],
+pub fn write_events_in<W: Write>(
+    runs: &[Run<'_>],
+    told: &[Told<'_>],
     mut room: TraceRoom,
     writer: &mut Counted<W>,
 ) -> Result<(), WriteFault>
