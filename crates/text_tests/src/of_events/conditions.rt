@@ -55,8 +55,7 @@ fn is_sooner(a: &Happened, b: &Happened) -> bool
     a.time < b.time
         || (a.time == b.time
             && (place < other
-                || (place == other
-                    && (a.cpu < b.cpu || (a.cpu == b.cpu && a.number < b.number)))))
+                || (place == other && (a.cpu < b.cpu || (a.cpu == b.cpu && a.number < b.number)))))
 }
 
 fn is_sooner_than_all(first: &Happened, others: &[Happened]) -> bool
