@@ -8,4 +8,11 @@ mod Ahead
 mod Found
 mod Few
 mod UnderWay
+mod EventRoom
+mod EventOrder
+mod ToldAhead
+mod ToldFound
+mod EventPick
+mod EventsUnderWay
+pub mod EventLemmas
 pub mod CallerLemmas

@@ -21,7 +21,7 @@ pub record IsUnderWay (before after : Option (List ℕ)) (runs : List RunView) (
   pub bound : sent + length waiting + 512 * length (left_of runs places) ≤ 14 + 512 * length (flat_map entries_of runs)
 
 -- text ≡ gone ++ (waiting ++ line ++ rest), and of waiting ++ line some more goes out
-sends_on : (before mid after : Option (List ℕ)) (text waiting line rest left : List ℕ) (sent n : ℕ) → Sends before mid text sent (waiting ++ (line ++ rest)) → Sends mid after (waiting ++ line) n left
+pub sends_on : (before mid after : Option (List ℕ)) (text waiting line rest left : List ℕ) (sent n : ℕ) → Sends before mid text sent (waiting ++ (line ++ rest)) → Sends mid after (waiting ++ line) n left
     → Sends before after text (sent + n) (left ++ rest)
 sends_on before mid after text waiting line rest left sent n s t = record {
   gone = s.gone ++ t.gone;
@@ -32,7 +32,7 @@ sends_on before mid after text waiting line rest left sent n s t = record {
       ∙ sym (append_assoc s.gone t.gone (left ++ rest));
 }
 
-length-sent : (before after : Option (List ℕ)) (text left : List ℕ) (n : ℕ) → Sends before after text n left → length text ≡ n + length left
+pub length-sent : (before after : Option (List ℕ)) (text left : List ℕ) (n : ℕ) → Sends before after text n left → length text ≡ n + length left
 length-sent before after text left n s = ap length s.whole ∙ omega (arith, length-append s.gone left, s.count)
 
 pub IsUnderWay-next : (before mid after : Option (List ℕ)) (runs : List RunView) (places places' : List ℕ) (sent n : ℕ) (waiting left : List ℕ) (e : Entry) → IsUnderWay before mid runs places sent waiting
@@ -74,12 +74,12 @@ IsUnderWay-ends before mid after runs places sent n waiting left u none s empty 
     (ap (λ (xs : List ℕ). waiting ++ xs) made ∙ append-nil waiting ∙ s.whole ∙ ap (λ (xs : List ℕ). s.gone ++ xs) empty ∙ append-nil s.gone) in
     subst (λ (xs : List ℕ). Appends before after xs) (sym text) (Appends-trans before mid after u.sends.gone s.gone u.sends.taken s.taken)
 
-left_of-start : (runs : List RunView) (n : ℕ) → length runs ≤ n → left_of runs (replicate n 0) ≡ flat_map entries_of runs
+pub left_of-start : (runs : List RunView) (n : ℕ) → length runs ≤ n → left_of runs (replicate n 0) ≡ flat_map entries_of runs
 left_of-start [] n h = refl
 left_of-start (r ∷ rs) zero h = absurd (omega arith)
 left_of-start (r ∷ rs) (suc n) h = ap (λ (es : List Entry). entries_of r ++ es) (left_of-start rs n (omega arith))
 
-length-header : length header ≡ 14
+pub length-header : length header ≡ 14
 unfolding header
 length-header = refl
 

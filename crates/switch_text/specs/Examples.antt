@@ -7,15 +7,15 @@ use Rattle.domain_run.specs.declared.switch.PrevState.TheVariants.{Running, Pree
 use Rattle.switch_text.specs.Line.{task_part, cpu_part, time_part, prev_part, next_part, line_of}
 use Rattle.switch_text.specs.Trace.{RunView, in_order, header, lines_of, trace_of}
 
-abbrev at : ℕ → ℕ → Option ℕ → PrevState → Option ℕ → Switch
+abbrev pub at : ℕ → ℕ → Option ℕ → PrevState → Option ℕ → Switch
 at time cpu prev state next =
     record { time = time; cpu = cpu; prev = prev; state = state; next = next }
 
 -- T1, T2, ..
-abbrev numbered : ℕ → List ℕ
+abbrev pub numbered : ℕ → List ℕ
 numbered n = codes "T" ++ (48 + n) ∷ []
 
-abbrev run : ℕ → List Switch → RunView
+abbrev pub run : ℕ → List Switch → RunView
 run base switches = record { base = base; names = numbered; switches = switches }
 
 -- the document's example of reclaiming: T1 sleeps at 2, T2 is throttled at 8

@@ -2,5 +2,9 @@ pub mod Names
 pub mod Line
 pub mod Trace
 pub mod Runs
+pub mod ToldLine
+pub mod Events
+pub mod Telling
 pub mod Examples
+pub mod EventExamples
 pub mod private

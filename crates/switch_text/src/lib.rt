@@ -1,5 +1,6 @@
 //! The trace text: the switches of all domains as lines, in the form in which ftrace prints its
-//! event sched_switch.
+//! event sched_switch. And the events text: the trace, and between its lines those of what happens
+//! to the tasks.
 //!
 //! Meets the definition "Trace text": a line (`specs/Line.antt`) and the whole text of several runs
 //! (`specs/Trace.antt`, with worked rows in `specs/Examples.antt`). To the crates above it promises
@@ -8,20 +9,35 @@
 //! crate `counted_io`'s. `proofs/CallerLemmas.antt` has laws of the text for callers: the trace of
 //! one run is its lines as they stand, only the names that occur matter, and what it means that the
 //! entries are in order.
+//!
+//! Meets the definition "Events text" in the same way: a line (`specs/ToldLine.antt`) and the whole
+//! text (`specs/Events.antt`, with worked rows in `specs/EventExamples.antt`), which
+//! [`write_events_in`] appends, or stops as [`write_trace`] does. It stands here, since its lines
+//! of switches are put together from the texts that are kept for the trace's. Laws for callers are
+//! in `proofs/EventLemmas.antt`: where nothing happens it is the trace, and its switches stand in
+//! the trace's order.
 #![tactic(auto)]
 
 mod batch;
+mod event_merge;
+mod events;
 mod fault;
 mod lines;
 mod merge;
 mod piece;
 mod ready;
 mod run;
+mod told;
+mod told_lines;
+mod told_merge;
 mod writing;
 
 pub use counted_io::{Counted, ReadFault};
+pub use events::write_events_in;
 pub use fault::WriteFault;
 pub use lines::line;
 pub use ready::TraceRoom;
 pub use run::Run;
+pub use told::Told;
+pub use told_lines::told_line;
 pub use writing::{write_text, write_trace, write_trace_in};

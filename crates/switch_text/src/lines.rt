@@ -32,7 +32,7 @@ fn put_times(out: &mut [u8], at: usize, times: usize, byte: u8) -> usize
     end
 }
 
-fn put_decimal(out: &mut [u8], at: usize, n: u64) -> usize
+pub(crate) fn put_decimal(out: &mut [u8], at: usize, n: u64) -> usize
     requires { at + length (decimal n) ≤ length out.old }
     ensures place { result ≡ at + length (decimal n) }
     ensures text { take result out.new ≡ take at out.old ++ decimal n }
@@ -63,7 +63,7 @@ fn put_left(out: &mut [u8], at: usize, width: usize, text: &[u8]) -> usize
 
 /// The two digits of a number below 100.
 #[inline(always)]
-fn two_digits(n: u64) -> [u8; 2]
+pub(crate) fn two_digits(n: u64) -> [u8; 2]
     requires { n < 100 }
     ensures { result ≡ digits_in 2 n }
 {
@@ -83,7 +83,7 @@ pub(crate) fn put_micros(out: &mut [u8], at: usize, n: u64) -> usize
     put(out, at, &two_digits(n % 100))
 }
 
-fn name_of(names: &IndexMap<u32, String>, number: u32) -> &str
+pub(crate) fn name_of(names: &IndexMap<u32, String>, number: u32) -> &str
     requires { HasName names.now number }
     ensures { result.now ≡ named names.now number }
 {

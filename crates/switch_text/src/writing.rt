@@ -18,7 +18,7 @@ use counted_io::Counted;
 use std::io::Write;
 
 #[tactic(auto, unfolding(crate::specs::Trace::header))]
-fn header_text() -> &'static [u8]
+pub(crate) fn header_text() -> &'static [u8]
     ensures text { result.now ≡ header }
     ensures short { length result.now ≤ 256 }
 {
@@ -27,7 +27,7 @@ fn header_text() -> &'static [u8]
 
 /// Adds the line of the next switch.
 #[inline(always)]
-fn append_line(
+pub(crate) fn append_line(
     runs: &[Run<'_>],
     next: &Next<'_, '_>,
     slots: &mut [Slot],
@@ -65,7 +65,7 @@ fn append_line(
     batch.append_end(&coming);
 }
 
-fn stopped_after(written: usize, more: usize) -> WriteFault
+pub(crate) fn stopped_after(written: usize, more: usize) -> WriteFault
     requires { written + more < 2 ^ 64 }
     ensures { result.written ≡ written + more }
 {

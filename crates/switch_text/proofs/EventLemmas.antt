@@ -1,0 +1,92 @@
+-- Laws of the events text that callers may cite: where nothing happens it is the trace, and its switches are those of the
+-- trace, in the trace's order.
+use Rattle.std.proofs.Common.{◌≡◌, Bool, true, false, cond, List, [], ◌∷◌, ◌++◌, map, refl, sym, ap, ◌∙◌, arith}
+use Rattle.std.specs.Prelude.{filter, ◌==◌}
+use Rattle.std.specs.List.{AllByRecursion, flat_map}
+use Rattle.std.proofs.lemmas.Bool.Decides.{nat_tests}
+use Rattle.domain_run.specs.declared.happened.What.{What}
+use Rattle.domain_run.specs.declared.happened.What.TheVariants.{JobEnds, NextReleased, Spent, Cut, Replenished, Released, WokenSpent}
+use Rattle.domain_run.specs.declared.happened.Happened.{Happened}
+use Rattle.domain_run.specs.Happened.{rank}
+use Rattle.switch_text.specs.Trace.{RunView, Entry, entries_of, is_earlier, placed_in, in_order, header, lines_of, trace_of}
+use Rattle.switch_text.specs.Events.{ToldView, Event, told_event, told_events, switch_events, all_events, comes_before, with_event, in_sequence, lines_of_events, events_of}
+use Rattle.switch_text.specs.private.ToldMerging.{is_shown}
+use Rattle.switch_text.specs.private.EventMerging.{of_entry}
+use Rattle.switch_text.proofs.Order.{AllByRecursion-append}
+use Rattle.switch_text.proofs.EventsUnderWay.{all_switches-are}
+
+same_order : (e f : Entry) → comes_before (of_entry e) (of_entry f) ≡ is_earlier e f
+same_order e f = grind (arith, nat_tests)
+
+with_event-of_entry : (e : Entry) (es : List Entry) → with_event (of_entry e) (map of_entry es) ≡ map of_entry (placed_in e es)
+with_event-of_entry e [] = refl
+with_event-of_entry e (f ∷ fs) =
+    let more = with_event-of_entry e fs in
+    ap (λ (b : Bool). cond b (of_entry f ∷ with_event (of_entry e) (map of_entry fs)) (of_entry e ∷ of_entry f ∷ map of_entry fs)) (same_order f e)
+    ∙ elim (is_earlier f e) as (λ b. cond b (of_entry f ∷ with_event (of_entry e) (map of_entry fs)) (of_entry e ∷ of_entry f ∷ map of_entry fs) ≡ map of_entry (cond b (f ∷ placed_in e fs) (e ∷ f ∷ fs))) [
+      | true ↦ ap (λ (es : List Event). of_entry f ∷ es) more
+      | false ↦ refl
+    ]
+
+-- the switches alone stand in the order of the trace
+in_sequence-of_entry : (es : List Entry) → in_sequence (map of_entry es) ≡ map of_entry (in_order es)
+unfolding in_sequence in_order
+in_sequence-of_entry [] = refl
+in_sequence-of_entry (e ∷ es) = ap (with_event (of_entry e)) (in_sequence-of_entry es) ∙ with_event-of_entry e (in_order es)
+
+lines_of_events-of_entry : (es : List Entry) → lines_of_events (map of_entry es) ≡ lines_of es
+unfolding lines_of_events lines_of
+lines_of_events-of_entry [] = refl
+lines_of_events-of_entry (e ∷ es) = ap (λ (more : _). e.line ++ more) (lines_of_events-of_entry es)
+
+-- where nothing happens the events are the trace
+pub events_of-nothing : (runs : List RunView) → events_of runs [] ≡ trace_of runs
+unfolding events_of trace_of
+events_of-nothing runs =
+    ap (λ (es : List Event). header ++ lines_of_events (in_sequence es)) (sym (all_switches-are runs))
+    ∙ ap (λ (es : List Event). header ++ lines_of_events es) (in_sequence-of_entry (flat_map entries_of runs))
+    ∙ ap (λ (text : _). header ++ text) (lines_of_events-of_entry (in_order (flat_map entries_of runs)))
+
+abbrev pub is_switch : Event → Bool
+is_switch e = e.rank == 7
+
+filter-with_other : (e : Event) (es : List Event) → is_switch e ≡ false → filter is_switch (with_event e es) ≡ filter is_switch es
+filter-with_other e [] other = rw other refl
+filter-with_other e (f ∷ fs) other = by_order (comes_before f e) (filter-with_other e fs other)
+  where
+    by_order : (b : Bool) → filter is_switch (with_event e fs) ≡ filter is_switch fs → filter is_switch (cond b (f ∷ with_event e fs) (e ∷ f ∷ fs)) ≡ filter is_switch (f ∷ fs)
+    by_order true more = ap (λ (es : List Event). cond (is_switch f) (f ∷ es) es) more
+    by_order false more = rw other refl
+
+filter-among : (told es : List Event) → AllByRecursion (λ e. is_switch e ≡ false) told → filter is_switch (in_sequence (told ++ es)) ≡ filter is_switch (in_sequence es)
+unfolding in_sequence
+filter-among [] es none = refl
+filter-among (t ∷ ts) es none = filter-with_other t (in_sequence (ts ++ es)) none.0 ∙ filter-among ts es none.1
+
+not_seven : (what : What) → (rank what == 7) ≡ false
+not_seven JobEnds = refl
+not_seven (NextReleased d) = refl
+not_seven (Spent d) = refl
+not_seven Cut = refl
+not_seven (Replenished d) = refl
+not_seven (Released d) = refl
+not_seven (WokenSpent d) = refl
+
+no_switch_in : (t : ToldView) (hs : List Happened) → AllByRecursion (λ e. is_switch e ≡ false) (map (told_event t) hs)
+no_switch_in t [] = tt
+no_switch_in t (h ∷ hs) = (not_seven h.what, no_switch_in t hs)
+
+no_switch : (told : List ToldView) → AllByRecursion (λ e. is_switch e ≡ false) (flat_map told_events told)
+no_switch [] = tt
+no_switch (t ∷ ts) = AllByRecursion-append (λ e. is_switch e ≡ false) (told_events t) (flat_map told_events ts) (no_switch_in t (filter is_shown t.happened)) (no_switch ts)
+
+filter-of_entry : (es : List Entry) → filter is_switch (map of_entry es) ≡ map of_entry es
+filter-of_entry [] = refl
+filter-of_entry (e ∷ es) = ap (λ (more : List Event). of_entry e ∷ more) (filter-of_entry es)
+
+-- the switches among the events stand as they do where nothing happens, which is in the order of the trace
+pub filter-all_events : (runs : List RunView) (told : List ToldView) → filter is_switch (in_sequence (all_events runs told)) ≡ in_sequence (all_events runs [])
+filter-all_events runs told =
+    let switches = flat_map entries_of runs in
+    let alone : in_sequence (flat_map switch_events runs) ≡ map of_entry (in_order switches) = ap in_sequence (sym (all_switches-are runs)) ∙ in_sequence-of_entry switches in
+    filter-among (flat_map told_events told) (flat_map switch_events runs) (no_switch told) ∙ ap (filter is_switch) alone ∙ filter-of_entry (in_order switches) ∙ sym alone

@@ -1,0 +1,131 @@
+-- The events text that goes out line by line.
+use Rattle.std.proofs.Common.{◌≡◌, ℕ, zero, suc, ◌+◌, ◌*◌, ◌<◌, ◌≤◌, ◌^◌, true, false, cond, List, [], ◌∷◌, ◌++◌, length, map, take, replicate, Option, refl, sym, ap, subst, ◌∙◌, append-nil, arith}
+use Rattle.std.specs.Prelude.{All, filter}
+use Rattle.std.specs.List.{AllByRecursion, flat_map}
+use Rattle.std.specs.Io.KnownBytes.{Appends}
+use Rattle.std.proofs.KnownBytes.{Appends-nil, Appends-trans}
+use Rattle.std.proofs.lemmas.List.{length-append, length-map, map-append, take-append-le}
+use Rattle.std.proofs.lemmas.List.Elements.{recursion_from_All}
+use Rattle.std.proofs.Math.Seq.{take-append-add}
+use Rattle.domain_run.specs.declared.happened.Happened.{Happened}
+use Rattle.domain_run.specs.declared.switch.Switch.{Switch}
+use Rattle.counted_io.specs.Faults.{TakesFront}
+use Rattle.switch_text.specs.declared.run.Run.{Run}
+use Rattle.switch_text.specs.declared.told.Told.{Told}
+use Rattle.switch_text.specs.Trace.{RunView, entry_of, entries_of, header}
+use Rattle.switch_text.specs.Runs.{view_of, views, IsRun}
+use Rattle.switch_text.specs.Events.{ToldView, Event, told_event, told_events, switch_event, switch_events, all_events, in_sequence, lines_of_events, events_of}
+use Rattle.switch_text.specs.Telling.{told_view, told_views, IsTold}
+use Rattle.switch_text.specs.private.Merging.{left_of}
+use Rattle.switch_text.specs.private.Sending.{Sends}
+use Rattle.switch_text.specs.private.ToldMerging.{is_shown, left_told}
+use Rattle.switch_text.specs.private.EventMerging.{of_entry, left_events, IsStep}
+use Rattle.switch_text.proofs.Few.{few}
+use Rattle.switch_text.proofs.UnderWay.{sends_on, length-sent, left_of-start, length-header}
+
+-- so many bytes of the events text went out, these wait, and the others are still to be made
+pub record AreUnderWay (before after : Option (List ℕ)) (text : List ℕ) (total : ℕ) (left : List Event) (sent : ℕ) (waiting : List ℕ) : Type 0 where
+  pub sends : Sends before after text sent (waiting ++ lines_of_events (in_sequence left))
+  pub bound : sent + length waiting + 512 * length left ≤ 14 + 512 * total
+
+pub AreUnderWay-next : (before mid after : Option (List ℕ)) (text : List ℕ) (total : ℕ) (left left' : List Event) (sent n : ℕ) (waiting rest line : List ℕ) → AreUnderWay before mid text total left sent waiting
+    → IsStep left left' line → Sends mid after (waiting ++ line) n rest → length line ≤ 512 → AreUnderWay before after text total left' (sent + n) rest
+AreUnderWay-next before mid after text total left left' sent n waiting rest line u step s short =
+    let sends = subst (λ (xs : List ℕ). Sends before mid text sent (waiting ++ xs)) step.lines u.sends in
+    let bound = u.bound in
+    record {
+      sends = sends_on before mid after text waiting line (lines_of_events (in_sequence left')) rest sent n sends s;
+      bound = omega (arith, length-sent mid after (waiting ++ line) rest n s, length-append waiting line, step.count short, bound);
+    }
+
+pub AreUnderWay-stop : (before mid after : Option (List ℕ)) (text : List ℕ) (total : ℕ) (left : List Event) (sent n : ℕ) (waiting : List ℕ) → AreUnderWay before mid text total left sent waiting → TakesFront mid after waiting n
+    → TakesFront before after text (sent + n)
+AreUnderWay-stop before mid after text total left sent n waiting u s =
+    let gone = u.sends.gone in
+    let rest = lines_of_events (in_sequence left) in
+    let some_left : n < length waiting = s.some_left in
+    let le : n ≤ length waiting = omega arith in
+    let front : take (sent + n) text ≡ gone ++ take n waiting = ap (take (sent + n)) u.sends.whole ∙ ap (λ (k : ℕ). take (k + n) (gone ++ (waiting ++ rest))) u.sends.count
+    ∙ take-append-add gone (waiting ++ rest) n ∙ ap (λ (xs : List ℕ). gone ++ xs) (take-append-le n waiting rest le) in
+    record {
+      taken = subst (λ (xs : List ℕ). Appends before after xs) (sym front) (Appends-trans before mid after gone (take n waiting) u.sends.taken s.taken);
+      some_left = omega (arith, length-sent before mid text (waiting ++ rest) sent u.sends, length-append waiting rest);
+    }
+
+pub AreUnderWay-end : (before mid after : Option (List ℕ)) (text : List ℕ) (total : ℕ) (left : List Event) (sent n : ℕ) (waiting rest : List ℕ) → AreUnderWay before mid text total left sent waiting
+    → left ≡ [] → Sends mid after waiting n rest → rest ≡ [] → Appends before after text
+unfolding lines_of_events in_sequence
+AreUnderWay-end before mid after text total left sent n waiting rest u none s empty =
+    let made : lines_of_events (in_sequence left) ≡ [] = ap (λ (es : List Event). lines_of_events (in_sequence es)) none in
+    let whole : text ≡ u.sends.gone ++ s.gone = u.sends.whole ∙ ap (λ (xs : List ℕ). u.sends.gone ++ xs)
+    (ap (λ (xs : List ℕ). waiting ++ xs) made ∙ append-nil waiting ∙ s.whole ∙ ap (λ (xs : List ℕ). s.gone ++ xs) empty ∙ append-nil s.gone) in
+    subst (λ (xs : List ℕ). Appends before after xs) (sym whole) (Appends-trans before mid after u.sends.gone s.gone u.sends.taken s.taken)
+
+-- what is counted stays below 2^64
+pub counts_fit : (before after : Option (List ℕ)) (text : List ℕ) (total : ℕ) (left : List Event) (sent n : ℕ) (waiting : List ℕ) → AreUnderWay before after text total left sent waiting
+    → total ≤ 2 ^ 53 + 2 ^ 54 → n ≤ length waiting → sent + n < 2 ^ 64
+counts_fit before after text total left sent n waiting u few le = let bound = u.bound in omega (arith, bound)
+
+-- ---- at first all is left
+
+left_told-start : (told : List ToldView) (n : ℕ) → length told ≤ n → left_told told (replicate n 0) ≡ flat_map told_events told
+left_told-start [] n h = refl
+left_told-start (t ∷ ts) zero h = absurd (omega arith)
+left_told-start (t ∷ ts) (suc n) h = ap (λ (es : List Event). told_events t ++ es) (left_told-start ts n (omega arith))
+
+switch_events-is : (r : RunView) (ss : List Switch) → map of_entry (map (entry_of r) ss) ≡ map (switch_event r) ss
+switch_events-is r [] = refl
+switch_events-is r (s ∷ ss) = ap (λ (es : List Event). switch_event r s ∷ es) (switch_events-is r ss)
+
+pub all_switches-are : (runs : List RunView) → map of_entry (flat_map entries_of runs) ≡ flat_map switch_events runs
+all_switches-are [] = refl
+all_switches-are (r ∷ rs) =
+    map-append of_entry (entries_of r) (flat_map entries_of rs) ∙ ap (λ (es : List Event). es ++ map of_entry (flat_map entries_of rs)) (switch_events-is r r.switches)
+    ∙ ap (λ (es : List Event). switch_events r ++ es) (all_switches-are rs)
+
+pub left_events-start : (runs : List Run) (told : List Told) → length runs ≤ 8 → length told ≤ 8
+    → left_events runs told (record { switches = replicate 8 0; told = replicate 8 0 }) ≡ all_events (views runs) (told_views told)
+left_events-start runs told few_runs few_told =
+    ap (λ (es : List Event). es ++ map of_entry (left_of (views runs) (replicate 8 0))) (left_told-start (told_views told) 8 (omega (arith, length-map told told_view)))
+    ∙ ap (λ (es : List Event). flat_map told_events (told_views told) ++ es) (ap (map of_entry) (left_of-start (views runs) 8 (omega (arith, length-map runs view_of))) ∙ all_switches-are (views runs))
+
+pub AreUnderWay-start : (before : Option (List ℕ)) (runs : List RunView) (told : List ToldView) (left : List Event) → left ≡ all_events runs told
+    → AreUnderWay before before (events_of runs told) (length (all_events runs told)) left 0 header
+unfolding events_of
+AreUnderWay-start before runs told left start =
+    record {
+      sends = record {
+        gone = [];
+        taken = Appends-nil before;
+        count = refl;
+        whole = ap (λ (es : List Event). header ++ lines_of_events (in_sequence es)) (sym start);
+      };
+      bound = omega (arith, ap length start, length-header);
+    }
+
+-- ---- they are few enough to be counted
+
+length-shown : (hs : List Happened) → length (filter is_shown hs) ≤ length hs
+length-shown [] = omega arith
+length-shown (h ∷ hs) =
+    let more = length-shown hs in
+    elim (is_shown h) as (λ b. length (cond b (h ∷ filter is_shown hs) (filter is_shown hs)) ≤ length (h ∷ hs)) [ true ↦ omega arith | false ↦ omega arith ]
+
+few_told : (t : Told) → IsTold t → length (told_events (told_view t)) ≤ 2 ^ 50
+few_told t good =
+    let few : length t.happened.now ≤ 2 ^ 50 = good.few in
+    omega (arith, length-map (filter is_shown t.happened.now) (told_event (told_view t)), length-shown t.happened.now, few)
+
+told_in : (told : List Told) → AllByRecursion IsTold told → length (flat_map told_events (told_views told)) ≤ length told * 2 ^ 50
+told_in [] all = omega arith
+told_in (t ∷ ts) all =
+    let more = told_in ts all.1 in
+    let here = few_told t all.0 in
+    omega (arith, length-append (told_events (told_view t)) (flat_map told_events (told_views ts)), more, here)
+
+pub few_events : (runs : List Run) (told : List Told) → length runs ≤ 8 → length told ≤ 8 → All IsRun runs → All IsTold told → length (all_events (views runs) (told_views told)) ≤ 2 ^ 53 + 2 ^ 54
+few_events runs told few_runs few_tolds are_runs are_told =
+    let told_bound = told_in told (recursion_from_All IsTold told are_told) in
+    let run_bound = few runs few_runs are_runs in
+    let same : length (flat_map switch_events (views runs)) ≡ length (flat_map entries_of (views runs)) = sym (ap length (all_switches-are (views runs))) ∙ length-map (flat_map entries_of (views runs)) of_entry in
+    omega (arith, length-append (flat_map told_events (told_views told)) (flat_map switch_events (views runs)), told_bound, run_bound, same)

@@ -1,0 +1,85 @@
+//! What comes next of all that happens and of all switches.
+
+ghost use Rattle.std.specs.Prelude.{ℕ, ◌≡◌, ◌≤◌, length, All};
+ghost use Rattle.switch_text.specs.Runs.{IsRun};
+ghost use Rattle.switch_text.specs.Telling.{IsTold};
+ghost use Rattle.switch_text.specs.private.EventMerging as merging;
+ghost use Rattle.switch_text.specs.private.EventMerging.{after_next, CanStep, IsEventFound};
+
+use crate::merge::{Next, earliest};
+use crate::run::Run;
+use crate::told::Told;
+use crate::told_lines::has_a_line;
+use crate::told_merge::{NextTold, next_told};
+
+/// What comes next: something that happens, or a switch.
+#[derive(Clone, Copy)]
+pub(crate) enum NextEvent<'a, 'b, 'c, 'd> {
+    Told(NextTold<'a, 'b>),
+    Switch(Next<'c, 'd>),
+}
+
+/// How far each domain has gone, in its switches and in what happens.
+#[derive(Drop)]
+pub(crate) struct EventPlaces {
+    pub(crate) switches: [usize; 8],
+    pub(crate) told: [usize; 8],
+}
+
+impl EventPlaces {
+    /// Goes on by what comes next.
+    pub(crate) fn step(&mut self, next: &NextEvent<'_, '_, '_, '_>)
+        requires { CanStep self.old next.now }
+        ensures { self.new ≡ after_next self.old next.now }
+    {
+        match next {
+            NextEvent::Told(next) => self.told[next.index] += 1,
+            NextEvent::Switch(next) => self.switches[next.index] += 1,
+        }
+    }
+}
+
+/// Whether it goes before the switch: a cut does, and all that happens before the switch or at its
+/// time.
+fn goes_first(happens: &NextTold<'_, '_>, switch: &Next<'_, '_>) -> bool
+    ensures { result ≡ merging.goes_first happens.now switch.now }
+{
+    !has_a_line(happens.happened.what) || happens.happened.time <= switch.switch.time
+}
+
+fn first_of<'a, 'b, 'c, 'd>(
+    happens: Option<NextTold<'a, 'b>>,
+    switch: Option<Next<'c, 'd>>,
+) -> Option<NextEvent<'a, 'b, 'c, 'd>>
+    ensures { result ≡ merging.first_of happens.entry switch.entry }
+{
+    let Some(happens) = happens else {
+        return Some(NextEvent::Switch(switch?));
+    };
+    let Some(switch) = switch else {
+        return Some(NextEvent::Told(happens));
+    };
+    if goes_first(&happens, &switch) {
+        return Some(NextEvent::Told(happens));
+    }
+    Some(NextEvent::Switch(switch))
+}
+
+/// What comes next in the order of the events text, where each domain goes on from its places, or
+/// none where nothing is left; a cut, which has no line, at once.
+pub(crate) fn next_event<'a, 'b, 'c, 'd>(
+    runs: &'c [Run<'d>],
+    told: &'a [Told<'b>],
+    places: &EventPlaces,
+) -> Option<NextEvent<'a, 'b, 'c, 'd>>
+    requires few_runs { length runs.now ≤ 8 }
+    requires few_told { length told.now ≤ 8 }
+    requires runs { All IsRun runs.now }
+    requires told { All IsTold told.now }
+    ensures { IsEventFound runs.now told.now places.now result }
+{
+    first_of(
+        next_told(told, &places.told),
+        earliest(runs, &places.switches),
+    )
+}

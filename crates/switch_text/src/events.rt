@@ -1,0 +1,143 @@
+//! The events text of runs.
+
+ghost use Rattle.std.specs.Prelude.{◌≡◌, ◌+◌, ◌<◌, ◌≤◌, ◌^◌, ◌++◌, length, is_ok, All, IfErr, OnOk};
+ghost use Rattle.std.specs.Io.KnownBytes.{Appends};
+ghost use Rattle.counted_io.specs.Sides.{inner_of, faults_of};
+ghost use Rattle.counted_io.specs.Faults.{one_more_unless, TakesFront};
+ghost use Rattle.switch_text.specs.Runs.{views, IsRun};
+ghost use Rattle.switch_text.specs.Events.{events_of};
+ghost use Rattle.switch_text.specs.Telling.{told_views, IsTold};
+ghost use Rattle.switch_text.specs.private.EventMerging.{line_of_next, CanShow};
+ghost use Rattle.switch_text.specs.private.Ready.{AreNobodys, IsSlot, IsTexts};
+ghost use Rattle.switch_text.specs.private.ToldMerging.{next_told_event, IsShown};
+
+use crate::batch::Batch;
+use crate::event_merge::{EventPlaces, NextEvent, next_event};
+use crate::fault::WriteFault;
+use crate::ready::{Slot, Texts, TraceRoom, no_texts};
+use crate::run::Run;
+use crate::told::Told;
+use crate::told_lines::{has_a_line, told_line};
+use crate::told_merge::NextTold;
+use crate::writing::{append_line, header_text, stopped_after};
+use counted_io::Counted;
+use std::io::Write;
+
+/// Adds the line of what happens.
+fn append_told(next: &NextTold<'_, '_>, batch: &mut Batch)
+    requires shown { IsShown next.now }
+    requires room { length batch.old ≤ 65152 }
+    ensures text { batch.new ≡ batch.old ++ (next_told_event next.now).line }
+    ensures short { length batch.new ≤ length batch.old + 384 }
+{
+    let mut line = [0u8; 256];
+    let len = told_line(next.happened, next.told.base, next.told.names, &mut line);
+    batch.append(&line[..len]);
+}
+
+/// Adds the line of what comes next, if it has one.
+fn append_event(
+    runs: &[Run<'_>],
+    next: &NextEvent<'_, '_, '_, '_>,
+    slots: &mut [Slot],
+    texts: &mut Texts,
+    batch: &mut Batch,
+)
+    requires few { length runs.now ≤ 8 }
+    requires shown { CanShow runs.now next.now }
+    requires many { length slots.old ≡ 640 }
+    requires slots { All (IsSlot runs.now) slots.old }
+    requires texts { IsTexts texts.old }
+    requires room { length batch.old ≤ 65152 }
+    ensures text { batch.new ≡ batch.old ++ line_of_next next.now }
+    ensures short { length batch.new ≤ length batch.old + 384 }
+    ensures many { length slots.new ≡ 640 }
+    ensures slots { All (IsSlot runs.now) slots.new }
+    ensures texts { IsTexts texts.new }
+{
+    match next {
+        NextEvent::Told(next) => {
+            if has_a_line(next.happened.what) {
+                append_told(next, batch);
+            }
+        }
+        NextEvent::Switch(next) => append_line(runs, next, slots, texts, batch),
+    }
+}
+
+// The events text, with room for the texts of tasks that holds none yet.
+fn write_with<W: Write>(
+    runs: &[Run<'_>],
+    told: &[Told<'_>],
+    slots: &mut [Slot],
+    writer: &mut Counted<W>,
+) -> Result<(), WriteFault>
+    requires few_runs { length runs.now ≤ 8 }
+    requires few_told { length told.now ≤ 8 }
+    requires runs { All IsRun runs.now }
+    requires told { All IsTold told.now }
+    requires many { length slots.old ≡ 640 }
+    requires empty { AreNobodys slots.old }
+    requires faults { faults_of writer.old < 2 ^ 63 }
+    ensures ok { OnOk result (Appends
+        (W.contents (inner_of writer.old)) (W.contents (inner_of writer.new))
+        (events_of (views runs.now) (told_views told.now))) }
+    ensures err { IfErr result (λ f. TakesFront
+        (W.contents (inner_of writer.old)) (W.contents (inner_of writer.new))
+        (events_of (views runs.now) (told_views told.now)) f.written) }
+    ensures faults { faults_of writer.new ≡ one_more_unless (is_ok result) (faults_of writer.old) }
+{
+    let mut batch = Batch::new();
+    batch.append(header_text());
+    let mut written = 0;
+    let mut places = EventPlaces {
+        switches: [0; 8],
+        told: [0; 8],
+    };
+    let mut texts = no_texts();
+    while let Some(next) = next_event(runs, told, &places) {
+        places.step(&next);
+        match batch.make_room(writer) {
+            Ok(n) => written += n,
+            Err(n) => return Err(stopped_after(written, n)),
+        }
+        append_event(runs, &next, slots, &mut texts, &mut batch);
+    }
+    match batch.flush(writer) {
+        Ok(_) => Ok(()),
+        Err(n) => Err(stopped_after(written, n)),
+    }
+}
+
+/// Writes the events text of at most 8 domains: the header `# tracer: nop`, and then the lines of
+/// the switches of `runs` and of what happens in `told`, in one order. They are ordered by time. At
+/// one time there stand first what ended a tick (the end of a job, a release at once, a spent
+/// budget), then what begins one (a replenishment, a release, a wake without budget), then the
+/// switches; of each of these, by CPU of the machine, and then by number. A cut has no line. Takes
+/// no memory but the room that it is given: up to 64 KiB wait in a fixed buffer, which goes out in
+/// one write when it is full.
+///
+/// # Errors
+/// The writer's first fault ends the call. [`WriteFault::written`] is exactly the number of bytes
+/// that the writer took; they are the front of the events text, and not all of it.
+pub fn write_events_in<W: Write>(
+    runs: &[Run<'_>],
+    told: &[Told<'_>],
+    mut room: TraceRoom,
+    writer: &mut Counted<W>,
+) -> Result<(), WriteFault>
+    requires few_runs { length runs.now ≤ 8 }
+    requires few_told { length told.now ≤ 8 }
+    requires runs { All IsRun runs.now }
+    requires told { All IsTold told.now }
+    requires faults { faults_of writer.old < 2 ^ 63 }
+    ensures ok { OnOk result (Appends
+        (W.contents (inner_of writer.old)) (W.contents (inner_of writer.new))
+        (events_of (views runs.now) (told_views told.now))) }
+    ensures err { IfErr result (λ f. TakesFront
+        (W.contents (inner_of writer.old)) (W.contents (inner_of writer.new))
+        (events_of (views runs.now) (told_views told.now)) f.written) }
+    ensures faults { faults_of writer.new ≡ one_more_unless (is_ok result) (faults_of writer.old) }
+{
+    write_with(runs, told, room.slots.as_mut_slice(), writer)
+}

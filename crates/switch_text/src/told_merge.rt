@@ -1,0 +1,116 @@
+//! What of all that happens in several domains comes next.
+
+ghost use Rattle.std.specs.Prelude.{ℕ, ◌≡◌, ◌+◌, ◌<◌, ◌≤◌, ◌^◌, length, slice_index_or, All, IfSome, IsTrue, ◌↔◌};
+ghost use Rattle.domain_run.specs.Happened.{rank};
+ghost use Rattle.switch_text.specs.Events.{comes_before};
+ghost use Rattle.switch_text.specs.Telling.{IsTold};
+ghost use Rattle.switch_text.specs.private.ToldMerging.{IsToldFound, IsShown, is_better_told, next_told_event};
+
+use crate::told::Told;
+use crate::told_lines::has_a_line;
+use domain_run::{Happened, What};
+
+/// What happens next in a domain, and which of the domains it is.
+#[derive(Clone, Copy)]
+pub(crate) struct NextTold<'a, 'b> {
+    /// The place of the domain among those told of.
+    pub(crate) index: usize,
+    pub(crate) told: &'a Told<'b>,
+    pub(crate) happened: &'b Happened,
+}
+
+/// Its place in the order of what happens at one time.
+fn place_at_time(what: What) -> u32
+    ensures { result ≡ rank what }
+{
+    match what {
+        What::JobEnds => 0,
+        What::NextReleased { .. } => 1,
+        What::Spent { .. } => 2,
+        What::Cut => 3,
+        What::Replenished { .. } => 4,
+        What::Released { .. } => 5,
+        What::WokenSpent { .. } => 6,
+    }
+}
+
+/// Of two of one time, whether the first comes before the second.
+fn is_first_at_time(a: &NextTold<'_, '_>, b: &NextTold<'_, '_>) -> bool
+    requires first { IsShown a.now }
+    requires second { IsShown b.now }
+    requires time { a.now.happened.now.time ≡ b.now.happened.now.time }
+    ensures { result ≡ comes_before (next_told_event a.now) (next_told_event b.now) }
+{
+    let place = place_at_time(a.happened.what);
+    let other = place_at_time(b.happened.what);
+    let cpu = a.told.base + u32::from(a.happened.cpu);
+    let other_cpu = b.told.base + u32::from(b.happened.cpu);
+    place < other
+        || (place == other
+            && (cpu < other_cpu || (cpu == other_cpu && a.happened.number < b.happened.number)))
+}
+
+/// Whether it comes before the best so far.
+fn is_before_best(next: &NextTold<'_, '_>, best: &Option<NextTold<'_, '_>>) -> bool
+    requires next { IsShown next.now }
+    requires best { IfSome best.now IsShown }
+    ensures { result ≡ is_better_told next.now best.now }
+{
+    match best {
+        None => true,
+        Some(best) => {
+            let time = next.happened.time;
+            let best_time = best.happened.time;
+            time < best_time || (time == best_time && is_first_at_time(next, best))
+        }
+    }
+}
+
+/// Whether anything stands at a place of what happens in a domain.
+fn is_left(told: &Told<'_>, place: usize) -> bool
+    ensures inside { IsTrue result ↔ (place < length told.now.happened.now) }
+    ensures counted { length told.now.happened.now < 2 ^ 64 }
+{
+    place < told.happened.len()
+}
+
+/// What stands at a place of what happens in a domain.
+fn next_in<'a, 'b>(told: &'a Told<'b>, index: usize, place: usize) -> NextTold<'a, 'b>
+    requires { place < length told.now.happened.now }
+    ensures index { result.index ≡ index }
+    ensures told { result.told.now ≡ told.now }
+    ensures happened { result.happened.now ≡ slice_index_or told.now.happened.now place result.happened.now }
+{
+    NextTold {
+        index,
+        told,
+        happened: &told.happened[place],
+    }
+}
+
+/// What happens next by time, by what it is, by CPU of the machine and by number, where each domain
+/// goes on from its place, or none where nothing is left. Where a cut stands at a place, which has
+/// no line, it is given at once.
+pub(crate) fn next_told<'a, 'b>(
+    told: &'a [Told<'b>],
+    places: &[usize; 8],
+) -> Option<NextTold<'a, 'b>>
+    requires few { length told.now ≤ 8 }
+    requires told { All IsTold told.now }
+    ensures { IsToldFound told.now places.now result }
+{
+    let mut best = None;
+    for (i, domain) in told.iter().enumerate() {
+        let place = places[i];
+        if is_left(domain, place) {
+            let next = next_in(domain, i, place);
+            if !has_a_line(next.happened.what) {
+                return Some(next);
+            }
+            if is_before_best(&next, &best) {
+                best = Some(next);
+            }
+        }
+    }
+    best
+}
