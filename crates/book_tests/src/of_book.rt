@@ -7,6 +7,7 @@ use call_book::{
 };
 use domain_run::{Call, NoMemory, Reply, State};
 use std::alloc::Global;
+use std::fmt::Write;
 use std::process::Abort;
 use std::sync::Wait;
 use std::test::Fail;
@@ -251,36 +252,81 @@ fn end(alloc: Global, desk: Desk) -> (u64, u64, usize) {
     (state.sum(), word, calls.len())
 }
 
-// A book of one entry: the second admission is Full and its ticket comes back, as the word shows.
-#[test]
-fn full_book(rt: HostRuntime) -> Result<(), Fail> {
-    let mut desk = opened(&rt, rt.alloc(), 1048576, 1)?;
-    let text =
-        b"dlcalls 1\ndomain 1 1048576\nadmit 1 1 a 2 5 5 - 0 1:1{r1}\nadmit 1 2 b 2 5 5 - 0 1:1{r1}\nwake 1 1\n";
-    let got = replies(&rt, rt.alloc(), &mut desk, text);
-    let ends = end(rt.alloc(), desk);
-    assert_eq!(rt;
-        got?.as_slice(),
-        [Reply::Admitted, Reply::Full, Reply::Full].as_slice()
-    );
-    assert_eq!(rt; ends, (419430, 419430, 1));
-    Ok(())
+// What a row of calls by one client shows: the limit, the room for calls and for pieces, the calls,
+// and then the replies, with the sum of bandwidths, the word and the number of entries.
+type Row = (
+    (u64, usize, usize),
+    &'static [u8],
+    &'static str,
+    (u64, u64, usize),
+);
+
+// full_book: the second admission is Full and its ticket comes back, as the word shows. regrade: 2 8
+// 8 to 4 8 8 fills the domain, 5 8 8 is too much, and there is no task 7.
+// full_domain_and_no_bandwidth: 500 of 1000 fills the domain, 2 of 100 is refused at the word and
+// stands nowhere, and 2 us of 4 s, which is no bandwidth, is admitted still.
+// refused_then_given_back: two thirds of a CPU leave no room for as much again, until the task has
+// left and its bandwidth is back; there are two pieces.
+const ROWS: [Row; 4] = [
+    (
+        (1048576, 1, 8),
+        b"dlcalls 1\ndomain 1 1048576\nadmit 1 1 a 2 5 5 - 0 1:1{r1}\nadmit 1 2 b 2 5 5 - 0 1:1{r1}\nwake 1 1\n",
+        "Admitted; Full; Full; ",
+        (419430, 419430, 1),
+    ),
+    (
+        (524288, 9, 8),
+        b"dlcalls 1\ndomain 1 524288\nadmit 1 1 a 2 8 8 - 0 1:1{r1}\nregrade 1 1 4 8 8 -\nregrade 1 1 5 8 8 -\nregrade 1 7 2 8 8 -\n",
+        "Admitted; Changed; Busy { seen: 524288 }; NotListed; ",
+        (524288, 524288, 4),
+    ),
+    (
+        (524288, 9, 8),
+        b"dlcalls 1\ndomain 1 524288\nadmit 1 1 a 500 1000 1000 - 0 1:1{r1}\nadmit 1 2 b 2 100 100 - 0 1:1{r1}\nadmit 1 3 c 2 4000000 4000000 - 0 1:1{r1}\n",
+        "Admitted; Busy { seen: 524288 }; Admitted; ",
+        (524288, 524288, 2),
+    ),
+    (
+        (1048576, 9, 2),
+        b"dlcalls 1\ndomain 1 1048576\nadmit 1 1 a 10000 15000 15000 - 0 1:1{r1}\nadmit 1 2 b 10000 15000 15000 - 0 1:1{r1}\nleave 1 1\nadvance 1 1\nadmit 1 2 b 10000 15000 15000 - 0 1:1{r1}\n",
+        "Admitted; Busy { seen: 699050 }; Left; Done { ticks: 1 }; Admitted; ",
+        (699050, 699050, 4),
+    ),
+];
+
+// Makes the calls of a text in a book of one CPU: the replies, and what is left.
+fn played<R: Abort + Threads + Wait>(
+    rt: &R,
+    alloc: Global,
+    size: (u64, usize, usize),
+    text: &[u8],
+) -> Result<(String, (u64, u64, usize)), Fail> {
+    let (limit, history, pieces) = size;
+    let limit = limit.clamp(10485, 1048576);
+    let mut desk = opened_with(
+        rt,
+        alloc,
+        1,
+        limit,
+        history.clamp(1, 65536),
+        pieces.clamp(1, 4096),
+    )?;
+    let got = replies(rt, alloc, &mut desk, text);
+    let ends = end(alloc, desk);
+    let mut said = String::new(alloc);
+    for reply in &got? {
+        write!(said, "{reply:?}; ")?;
+    }
+    Ok((said, ends))
 }
 
-// regrade: 2 8 8 to 4 8 8 fills the domain, 5 8 8 is too much, and there is no task 7.
 #[test]
-fn regrade(rt: HostRuntime) -> Result<(), Fail> {
-    let mut desk = opened(&rt, rt.alloc(), 524288, 9)?;
-    let text =
-        b"dlcalls 1\ndomain 1 524288\nadmit 1 1 a 2 8 8 - 0 1:1{r1}\nregrade 1 1 4 8 8 -\nregrade 1 1 5 8 8 -\nregrade 1 7 2 8 8 -\n";
-    let got = replies(&rt, rt.alloc(), &mut desk, text);
-    let ends = end(rt.alloc(), desk);
-    let busy = Reply::Busy { seen: 524288 };
-    assert_eq!(rt;
-        got?.as_slice(),
-        [Reply::Admitted, Reply::Changed, busy, Reply::NotListed].as_slice()
-    );
-    assert_eq!(rt; ends, (524288, 524288, 4));
+fn rows_of_one_client(rt: HostRuntime) -> Result<(), Fail> {
+    for (size, text, wanted, left) in ROWS {
+        let (said, ends) = played(&rt, rt.alloc(), size, text)?;
+        assert_eq!(rt; said.as_str(), wanted);
+        assert_eq!(rt; ends, left);
+    }
     Ok(())
 }
 
@@ -485,41 +531,5 @@ fn refused_growth_of_prepare(rt: HostRuntime) -> Result<(), Fail> {
         None => prepared_of(rt.alloc(), text),
     };
     assert_eq!(rt; prepared.map(|prepared| prepared.bw()), Some(419430));
-    Ok(())
-}
-
-// full_domain_and_no_bandwidth: 500 of 1000 fills the domain, 2 of 100 is refused at the word and
-// stands nowhere, and 2 us of 4 s, which is no bandwidth, is admitted still.
-#[test]
-fn full_domain_and_no_bandwidth(rt: HostRuntime) -> Result<(), Fail> {
-    let mut desk = opened(&rt, rt.alloc(), 524288, 9)?;
-    let text =
-        b"dlcalls 1\ndomain 1 524288\nadmit 1 1 a 500 1000 1000 - 0 1:1{r1}\nadmit 1 2 b 2 100 100 - 0 1:1{r1}\nadmit 1 3 c 2 4000000 4000000 - 0 1:1{r1}\n";
-    let got = replies(&rt, rt.alloc(), &mut desk, text);
-    let ends = end(rt.alloc(), desk);
-    let busy = Reply::Busy { seen: 524288 };
-    assert_eq!(rt;
-        got?.as_slice(),
-        [Reply::Admitted, busy, Reply::Admitted].as_slice()
-    );
-    assert_eq!(rt; ends, (524288, 524288, 2));
-    Ok(())
-}
-
-// refused_then_given_back: two thirds of a CPU leave no room for as much again, until the task has
-// left and its bandwidth is back.
-#[test]
-fn refused_then_given_back(rt: HostRuntime) -> Result<(), Fail> {
-    let mut desk = opened_with(&rt, rt.alloc(), 1, 1048576, 9, 2)?;
-    let text =
-        b"dlcalls 1\ndomain 1 1048576\nadmit 1 1 a 10000 15000 15000 - 0 1:1{r1}\nadmit 1 2 b 10000 15000 15000 - 0 1:1{r1}\nleave 1 1\nadvance 1 1\nadmit 1 2 b 10000 15000 15000 - 0 1:1{r1}\n";
-    let got = replies(&rt, rt.alloc(), &mut desk, text);
-    let ends = end(rt.alloc(), desk);
-    let (busy, done) = (Reply::Busy { seen: 699050 }, Reply::Done { ticks: 1 });
-    assert_eq!(rt;
-        got?.as_slice(),
-        [Reply::Admitted, busy, Reply::Left, done, Reply::Admitted].as_slice()
-    );
-    assert_eq!(rt; ends, (699050, 699050, 4));
     Ok(())
 }

@@ -128,7 +128,10 @@ each_run run replay held = (
   λ words name e. run_has run replay held words e,
   (
     λ words name e. let bad : 101 ≡ 117 = ap (λ xs. slice_index xs 1) name in absurd (omega arith),
-    (λ words name e. let bad : 104 ≡ 114 = ap (λ xs. slice_index xs 0) name in absurd (omega arith), tt),
+    (
+      λ words name e. let bad : 99 ≡ 114 = ap (λ xs. slice_index xs 0) name in absurd (omega arith),
+      (λ words name e. let bad : 104 ≡ 114 = ap (λ xs. slice_index xs 0) name in absurd (omega arith), tt),
+    ),
   ),
 )
 
@@ -137,7 +140,10 @@ each_replay run replay held = (
   λ words name e. let bad : 117 ≡ 101 = ap (λ xs. slice_index xs 1) name in absurd (omega arith),
   (
     λ words name e. replay_has run replay held words e,
-    (λ words name e. let bad : 104 ≡ 114 = ap (λ xs. slice_index xs 0) name in absurd (omega arith), tt),
+    (
+      λ words name e. let bad : 99 ≡ 114 = ap (λ xs. slice_index xs 0) name in absurd (omega arith),
+      (λ words name e. let bad : 104 ≡ 114 = ap (λ xs. slice_index xs 0) name in absurd (omega arith), tt),
+    ),
   ),
 )
 

@@ -1,13 +1,14 @@
 -- What clap reads of the program's command: the commands, their options, and what each option
 -- takes.
-use Rattle.std.specs.Prelude.{◌≡◌, ℕ, List, [], ◌∷◌, Some, true, false, fold, map, codes}
+use Rattle.std.specs.Prelude.{◌≡◌, ◌^◌, ℕ, pos, neg_ℤ, List, [], ◌∷◌, Some, true, false, fold, map, codes}
 use Rattle.std.specs.Borrow.{Bor}
 use Rattle.clap.specs.Words.{App, Rule, Text, app_of, new_app, new_rule, with_rule, with_subcommand}
 use Rattle.clap.specs.declared.builder.command.Command.TheViews.{out-Command}
 use Rattle.clap.specs.Simple.{on_top}
 use Rattle.clap.specs.declared.builder.action.ArgAction.TheVariants.{SetTrue}
 use Rattle.clap.specs.declared.builder.command.Command.{Command}
-use Rattle.clap.specs.declared.builder.value_parser.ValueParser.TheVariants.{Names, Unsigned}
+use Rattle.clap.specs.declared.builder.value_parser.ValueParser.{ValueParser}
+use Rattle.clap.specs.declared.builder.value_parser.ValueParser.TheVariants.{Names, Signed, Unsigned}
 
 -- names as clap holds them: references to texts
 abbrev pub HeldNames : Type 0
@@ -43,10 +44,9 @@ counted name most default = record (option name default) { parser = Some (Unsign
 abbrev pub print_option : HeldNames → Rule
 print_option names = record (option (codes "print") (codes "trace")) { parser = Some (Names names) }
 
--- `--reclaim`, which takes no value
-abbrev pub reclaim_flag : Rule
-reclaim_flag =
-    record (new_rule (codes "reclaim")) { long = Some (codes "reclaim"); action = Some SetTrue }
+-- a flag, which takes no value
+abbrev pub flag : Text → Rule
+flag name = record (new_rule name) { long = Some name; action = Some SetTrue }
 
 -- the options of `run`
 abbrev pub run_options : HeldNames → List Rule
@@ -56,7 +56,7 @@ run_options names =
     ∷ counted (codes "rt-period") 1000000000 (codes "1000000")
     ∷ counted (codes "clients") 64 (codes "1")
     ∷ counted (codes "workers") 8 (codes "1")
-    ∷ reclaim_flag
+    ∷ flag (codes "reclaim")
     ∷ print_option names
     ∷ []
 
@@ -68,11 +68,35 @@ run_app names = fold with_rule (new_app (codes "run")) (run_options names)
 abbrev pub replay_app : HeldNames → App
 replay_app names = with_rule (new_app (codes "replay")) (print_option names)
 
--- `dlsim`, which wants one of its commands `run` and `replay`
+-- a file, named by its place among the words, which has to be there
+abbrev pub file : Text → Rule
+file name = record (new_rule name) { value_names = 1; required = true }
+
+-- an option whose value passes a test, and which has no default
+abbrev pub tested : Text → ValueParser → Rule
+tested name test =
+    record (new_rule name) { long = Some name; value_names = 1; parser = Some test }
+
+-- the files and the options of `compare`; times are in microseconds
+abbrev pub compare_options : List Rule
+compare_options =
+    file (codes "MODEL") ∷ file (codes "RECORDED")
+    ∷ record (option (codes "within") (codes "1000")) { parser = Some (Unsigned 0 1000000000) }
+    ∷ tested (codes "noise") (Unsigned 0 1000000000)
+    ∷ tested (codes "shift") (Signed (neg_ℤ (pos (2 ^ 60))) (pos (2 ^ 60)))
+    ∷ flag (codes "cpus")
+    ∷ []
+
+-- `dlsim compare`
+abbrev pub compare_app : App
+compare_app = fold with_rule (new_app (codes "compare")) compare_options
+
+-- `dlsim`, which wants one of its commands `run`, `replay` and `compare`
 abbrev pub program_app : HeldNames → HeldNames → App
 program_app run replay =
     let top = on_top (λ s. record s { subcommand_required = true }) (new_app (codes "dlsim")) in
-    with_subcommand (with_subcommand top (run_app run).top) (replay_app replay).top
+    let both = with_subcommand (with_subcommand top (run_app run).top) (replay_app replay).top in
+    with_subcommand both compare_app.top
 
 -- clap's command is `dlsim run`
 pub record IsRun (c : Command) : Type 0 where
@@ -86,6 +110,11 @@ pub record IsReplay (c : Command) : Type 0 where
   pub names : HeldNames
   pub are_texts : AreTexts replay_texts names
   pub app : app_of c ≡ replay_app names
+  pub local : (out-Command c).has_globals ≡ false
+
+-- clap's command is `dlsim compare`
+pub record IsCompare (c : Command) : Type 0 where
+  pub app : app_of c ≡ compare_app
   pub local : (out-Command c).has_globals ≡ false
 
 -- clap's command is `dlsim`

@@ -1,12 +1,15 @@
 //! The command, as clap wants it.
 
-ghost use Rattle.std.specs.Prelude.{◌≡◌, IfOk, false};
+ghost use Rattle.std.specs.Prelude.{◌≡◌, ◌^◌, neg_ℤ, pos, IfOk, Some, codes, false};
+ghost use Rattle.clap.specs.declared.builder.value_parser.ValueParser.TheVariants.{Signed, Unsigned};
 ghost use Rattle.clap.specs.Words.{rule_of};
-ghost use Rattle.command_line.specs.Commands.{AreTexts, HeldNames, IsProgram, IsReplay, IsRun, counted, option, print_option, reclaim_flag, replay_texts, run_texts};
+ghost use Rattle.command_line.specs.Commands.{AreTexts, HeldNames, IsCompare, IsProgram, IsReplay, IsRun, counted, file, flag, option, print_option, replay_texts, run_texts, tested};
 
 use crate::texts::{
-    ABOUT, ABOUT_END, CLIENTS_HELP, DOMAINS_HELP, PERIOD_HELP, RECLAIM_HELP, REPLAY_ABOUT,
-    REPLAY_END, REPLAY_PRINT_HELP, RUN_ABOUT, RUN_END, RUN_PRINT_HELP, RUNTIME_HELP, WORKERS_HELP,
+    ABOUT, ABOUT_END, CLIENTS_HELP, COMPARE_ABOUT, COMPARE_END, CPUS_HELP, DOMAINS_HELP,
+    MODEL_HELP, NOISE_HELP, PERIOD_HELP, RECLAIM_HELP, RECORDED_HELP, REPLAY_ABOUT, REPLAY_END,
+    REPLAY_PRINT_HELP, RUN_ABOUT, RUN_END, RUN_PRINT_HELP, RUNTIME_HELP, SHIFT_HELP, WITHIN_HELP,
+    WORKERS_HELP,
 };
 use clap::builder::ValueParser;
 use clap::{Arg, ArgAction, Command};
@@ -14,6 +17,12 @@ use std::alloc::{AllocError, Global};
 
 /// The most microseconds that `--rt-runtime` and `--rt-period` take.
 pub const MOST_TIME: u64 = 1000000000;
+
+/// The least and the most microseconds that `--shift` takes: 2^60 to either side.
+pub const LEAST_SHIFT: i64 = -(1 << 60);
+
+/// See [`LEAST_SHIFT`].
+pub const MOST_SHIFT: i64 = 1 << 60;
 
 /// How many clients may admit tasks.
 pub const MOST_CLIENTS: u64 = 64;
@@ -73,15 +82,68 @@ fn print_replay<'a>(alloc: Global) -> Arg<'a>
     ))
 }
 
-/// The flag by which every task reclaims.
-fn reclaim<'a>(alloc: Global) -> Arg<'a>
-    ensures rule { rule_of result ≡ reclaim_flag }
+/// A flag, which takes no value.
+fn flag<'a>(alloc: Global, name: &'a str, help: &'a str) -> Arg<'a>
+    ensures rule { rule_of result ≡ flag name.now }
     ensures local { result.global ≡ false }
 {
-    Arg::new(alloc, "reclaim")
-        .long("reclaim")
+    Arg::new(alloc, name)
+        .long(name)
         .action(ArgAction::SetTrue)
-        .help(RECLAIM_HELP)
+        .help(help)
+}
+
+/// A file, named by its place among the words.
+fn file<'a>(alloc: Global, name: &'a str, help: &'a str) -> Arg<'a>
+    ensures rule { rule_of result ≡ file name.now }
+    ensures local { result.global ≡ false }
+{
+    Arg::new(alloc, name)
+        .value_name(name)
+        .required(true)
+        .help(help)
+}
+
+/// An option whose value passes a test, and which has no default.
+fn tested<'a>(alloc: Global, name: &'a str, test: ValueParser<'a>, help: &'a str) -> Arg<'a>
+    ensures rule { rule_of result ≡ tested name.now test.entry }
+    ensures local { result.global ≡ false }
+{
+    Arg::new(alloc, name)
+        .long(name)
+        .value_name("US")
+        .help(help)
+        .value_parser(test)
+}
+
+/// The option that says how near a match is.
+fn within<'a>(alloc: Global) -> Arg<'a>
+    ensures rule { rule_of result ≡ record (option (codes "within") (codes "1000"))
+        { parser = Some (Unsigned 0 1000000000) } }
+    ensures local { result.global ≡ false }
+{
+    option(alloc, "within", "US", "1000", WITHIN_HELP).value_parser(ValueParser::unsigned(
+        0, MOST_TIME,
+    ))
+}
+
+/// The option that says which runs are noise.
+fn noise<'a>(alloc: Global) -> Arg<'a>
+    ensures rule { rule_of result ≡ tested (codes "noise") (Unsigned 0 1000000000) }
+    ensures local { result.global ≡ false }
+{
+    let test = ValueParser::unsigned(0, MOST_TIME);
+    tested(alloc, "noise", test, NOISE_HELP)
+}
+
+/// The option that says how far the two clocks are apart.
+fn shift<'a>(alloc: Global) -> Arg<'a>
+    ensures rule { rule_of result
+        ≡ tested (codes "shift") (Signed (neg_ℤ (pos (2 ^ 60))) (pos (2 ^ 60))) }
+    ensures local { result.global ≡ false }
+{
+    let test = ValueParser::signed(LEAST_SHIFT, MOST_SHIFT);
+    tested(alloc, "shift", test, SHIFT_HELP)
 }
 
 /// The command that runs a scenario. An option is made where it is added, so that none has to be
@@ -97,7 +159,7 @@ fn run_command<'a>(alloc: Global) -> Result<Command<'a>, AllocError>
         .arg(counted(alloc, "rt-period", MOST_TIME, "1000000", PERIOD_HELP))?
         .arg(counted(alloc, "clients", MOST_CLIENTS, "1", CLIENTS_HELP))?
         .arg(counted(alloc, "workers", MOST_WORKERS, "1", WORKERS_HELP))?
-        .arg(reclaim(alloc))?
+        .arg(flag(alloc, "reclaim", RECLAIM_HELP))?
         .arg(print_run(alloc))
 }
 
@@ -111,17 +173,34 @@ fn replay_command<'a>(alloc: Global) -> Result<Command<'a>, AllocError>
         .arg(print_replay(alloc))
 }
 
+/// The command that compares two traces.
+fn compare_command<'a>(alloc: Global) -> Result<Command<'a>, AllocError>
+    ensures { IfOk result IsCompare }
+{
+    Command::new(alloc, "compare")
+        .about(COMPARE_ABOUT)
+        .after_help(COMPARE_END)
+        .arg(file(alloc, "MODEL", MODEL_HELP))?
+        .arg(file(alloc, "RECORDED", RECORDED_HELP))?
+        .arg(within(alloc))?
+        .arg(noise(alloc))?
+        .arg(shift(alloc))?
+        .arg(flag(alloc, "cpus", CPUS_HELP))
+}
+
 /// The whole command. It is finished before anything is asked of it, as clap wants it.
 pub(crate) fn program<'a>(alloc: Global) -> Result<Command<'a>, AllocError>
     ensures { IfOk result IsProgram }
 {
     let run = run_command(alloc)?;
     let replay = replay_command(alloc)?;
+    let compare = compare_command(alloc)?;
     Command::new(alloc, "dlsim")
         .about(ABOUT)
         .after_help(ABOUT_END)
         .subcommand_required(true)
         .subcommand(run)?
         .subcommand(replay)?
+        .subcommand(compare)?
         .bin_name("dlsim")
 }

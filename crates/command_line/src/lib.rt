@@ -1,4 +1,4 @@
-//! The command line of the program: its two commands, their options with defaults, limits and help
+//! The command line of the program: its three commands, their options with defaults, limits and help
 //! texts, and the reading of words by clap.
 //!
 //! [`matches_of`] meets the definitions "Commands" (`specs/Commands.antt`) and "Reading of words"
@@ -12,5 +12,5 @@ mod command;
 mod reading;
 mod texts;
 
-pub use command::{MOST_CLIENTS, MOST_TIME, MOST_WORKERS};
+pub use command::{LEAST_SHIFT, MOST_CLIENTS, MOST_SHIFT, MOST_TIME, MOST_WORKERS};
 pub use reading::{matches_of, not_utf8};

@@ -6,10 +6,11 @@ pub(crate) const ABOUT: &str =
 pub(crate) const ABOUT_END: &str = "\
 `dlsim run` reads an rt-app file, `dlsim replay` recorded calls, both from
 standard input. The trace on standard output has the lines of ftrace's event
-sched_switch.
+sched_switch; `dlsim compare` sets it beside one that a kernel recorded.
 
   dlsim run < examples/periodic.json
   dlsim replay < examples/reclaiming.calls
+  dlsim compare model.txt recorded.txt
 
 Exit status: 0 done; 1 bad input; 2 wrong words; 3 reading or writing failed;
 4 out of memory. Where it is not 0, a line on standard error says why, and
@@ -86,3 +87,41 @@ pub(crate) const RUN_PRINT_HELP: &str =
 
 pub(crate) const REPLAY_PRINT_HELP: &str =
     "What is written: the trace, or the calls with their replies";
+
+pub(crate) const COMPARE_ABOUT: &str = "Sets a recorded trace beside the model's";
+
+pub(crate) const COMPARE_END: &str = "\
+In:  MODEL, a trace that this program wrote, and RECORDED, text that ftrace,
+     `trace-cmd report` or `perf script` printed; `-` is standard input, for
+     one of the two.
+Out: the shift between both clocks; a line for each task of MODEL with its
+     runs, how many were matched and how far these were apart; and the first
+     run of either side that nothing of the other matches.
+
+  dlsim run < mine.json > model.txt
+  dlsim compare model.txt recorded.txt
+
+Exit status: 0 compared, matched or not; 1 `dlsim: trace line N`, a line of
+sched_switch in no such form, or `dlsim: no switch`; 2 wrong words; 3 a file
+that cannot be opened or read, with its name, or `dlsim: write failed after N`;
+4 `dlsim: out of memory`. docs/FORMATS.md explains the table and the messages.";
+
+pub(crate) const MODEL_HELP: &str = "A trace of this program; `-` is standard input";
+
+pub(crate) const RECORDED_HELP: &str = "A recorded trace; `-` is standard input";
+
+pub(crate) const WITHIN_HELP: &str = "\
+Two runs match where their starts and their ends are at most so many
+microseconds apart, 0 to 1000000000";
+
+pub(crate) const NOISE_HELP: &str = "\
+Runs of a task with less than so many microseconds between them are one, and
+shorter runs are left out, 0 to 1000000000 [default: 100 where each run of
+MODEL is longer, else 0]";
+
+pub(crate) const SHIFT_HELP: &str = "\
+Microseconds from a time in MODEL to the same time in RECORDED, as --shift=-5
+where it is negative [default: that under which most runs match]";
+
+pub(crate) const CPUS_HELP: &str = "\
+Also says how many of the matched runs were on the same CPU";

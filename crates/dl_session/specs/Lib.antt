@@ -4,6 +4,7 @@ pub mod Status
 pub mod Lines
 pub mod Words
 pub mod Ending
+pub mod Comparing
 pub mod ScenarioAnswers
 pub mod FullBook
 pub mod InOrder

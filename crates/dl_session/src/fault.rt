@@ -127,10 +127,11 @@ fn write_shown<W: fmt::Write>(f: &mut fmt::Formatter<W>, c: char) -> fmt::Result
     }
 }
 
-fn write_key<W: fmt::Write>(f: &mut fmt::Formatter<W>, key: &str) -> fmt::Result
-    ensures { WritesOnOk W.write_str_gives f.old result (one_line key.now) f.new }
+/// Writes a text, so that it stays on one line.
+pub(crate) fn write_one_line<W: fmt::Write>(f: &mut fmt::Formatter<W>, text: &str) -> fmt::Result
+    ensures { WritesOnOk W.write_str_gives f.old result (one_line text.now) f.new }
 {
-    for c in key.chars() {
+    for c in text.chars() {
         write_shown(f, c)?;
     }
     Ok(())
@@ -144,7 +145,7 @@ fn write_scenario<W: fmt::Write>(f: &mut fmt::Formatter<W>, fault: &ScenarioFaul
     match fault {
         ScenarioFault::Unsupported(key) | ScenarioFault::Value(key) => {
             write!(f, "scenario {number} key ")?;
-            write_key(f, key)
+            write_one_line(f, key)
         }
         _ => write!(f, "scenario {number}"),
     }

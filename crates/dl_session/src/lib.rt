@@ -14,11 +14,15 @@
 //! own, or their calls with the replies, and nothing else; each fault means what it says, and where
 //! it is no fault of the writer, nothing was written.
 //!
+//! [`compare_texts`] is for two traces, and the crate `compare_report`'s; how it ends is a
+//! [`ComparisonEnding`] (`specs/Comparing.antt`).
+//!
 //! A [`Session`] with its [`Client`]s is the crate `session`'s, for whoever wants its calls without
 //! texts; [`admit_all`] is its call with the faults of a run.
 #![tactic(auto)]
 
 mod admitting;
+mod comparing;
 mod ending;
 mod fault;
 mod printing;
@@ -28,6 +32,8 @@ mod words;
 
 pub use admitting::admit_all;
 pub use calls_trace::ReplayPrint;
+pub use compare_report::{CompareOptions, compare_texts};
+pub use comparing::{ComparisonEnding, TraceNames};
 pub use ending::Ending;
 pub use fault::{RefusedLine, SessionFault};
 pub use replaying::{replay, replay_as};

@@ -1,17 +1,18 @@
 -- What words ask for, from what is read of them.
-use Rattle.std.proofs.Common.{◌≡◌, ◌∙◌, List, Option, Some, None, Ok, Err, ap, ap₂, codes, option_map, refl, subst, sym, unwrap_or, true≢false, is_some}
+use Rattle.std.proofs.Common.{◌≡◌, ◌∙◌, ◌⊎◌, inl, inr, List, Option, Some, None, Result, Ok, Err, IfOk, IfErr, ap, ap₂, codes, option_map, refl, subst, sym, unwrap_or, true≢false, is_some}
 use Rattle.std.specs.Prelude.{Box}
 use Rattle.std.specs.Box.{box_value}
 use Rattle.clap.specs.Simple.{subcommand_rows}
-use Rattle.clap.specs.Words.{Row, Text, subcommand_name_of, subcommand_rows_of}
+use Rattle.clap.specs.Words.{App, Row, Text, subcommand_name_of, subcommand_of, subcommand_rows_of}
 use Rattle.clap.specs.declared.error.Error.{Error}
 use Rattle.clap.specs.declared.parser.matches.ArgMatches.{ArgMatches}
 use Rattle.clap.specs.declared.parser.matches.ArgMatches.TheViews.{out-ArgMatches, out-SubCommand}
 use Rattle.clap.specs.declared.parser.matches.SubCommand.{SubCommand}
+use Rattle.command_line.specs.Commands.{program_app}
 use Rattle.command_line.specs.Reading.{HasTextOfReplay, HasTextsOfRun, IsReading}
-use Rattle.dl_session.specs.declared.words.WordsFault.{WordsFault}
-use Rattle.dlsim.specs.Tasks.{IsAskedBy, IsMeant, IsRefused, IsTaskOf, name_of}
+use Rattle.dlsim.specs.Tasks.{IsAskedBy, IsMeant, IsRefusedBy, IsTaskOf, IsWrong, name_of}
 use Rattle.dlsim.specs.declared.words.Task.{Task}
+use Rattle.dlsim.specs.declared.words.Wrong.{Wrong}
 use Rattle.dlsim.specs.declared.words.Wrong.TheVariants as wrong
 
 name_in : {Z : Type 0} (o : Option (Box SubCommand Z)) → name_of (subcommand_rows o) ≡ option_map (λ b. (out-SubCommand (box_value b)).name.now) o
@@ -41,9 +42,15 @@ not_found m name rows is = sym (name_found m) ∙ ap name_of is
 pub of_error : (words : List Text) (e : Error) → IsReading words (Err e) → IsAskedBy words (Err (wrong.Clap e))
 of_error words e read = record { run = read.run; replay = read.replay; are_held = read.are_held; named = tt; meant = tt; taken = tt; taken_by_replay = tt; wrong = read.refused }
 
-pub of_fault : (words : List Text) (m : ArgMatches) (fault : WordsFault) → IsReading words (Ok m) → IsRefused (subcommand_rows_of m) fault
-    → IsAskedBy words (Err (wrong.Options fault))
-of_fault words m fault read refused = record {
+is_wrong : (app : App) (words : List Text) (w : Wrong) → IsRefusedBy (subcommand_of app words) w → IsWrong app words w
+is_wrong app words (wrong.Clap e) (inl r) = absurd r.2
+is_wrong app words (wrong.Clap e) (inr r) = absurd r.2
+is_wrong app words (wrong.Options fault) refused = refused
+is_wrong app words wrong.BothStdin refused = refused
+
+pub of_wrong : (words : List Text) (m : ArgMatches) (w : Wrong) → IsReading words (Ok m) → IsRefusedBy (subcommand_rows_of m) w
+    → IsAskedBy words (Err w)
+of_wrong words m w read refused = record {
   run = read.run;
   replay = read.replay;
   are_held = read.are_held;
@@ -51,7 +58,7 @@ of_fault words m fault read refused = record {
   meant = tt;
   taken = tt;
   taken_by_replay = tt;
-  wrong = subst (λ (command : Option (Text × List Row)). IsRefused command fault) read.found refused;
+  wrong = is_wrong (program_app read.run read.replay) words w (subst (λ (command : Option (Text × List Row)). IsRefusedBy command w) read.found refused);
 }
 
 pub of_task : (words : List Text) (m : ArgMatches) (task : Task) → IsReading words (Ok m) → HasTextsOfRun m → HasTextOfReplay m → IsTaskOf (subcommand_name_of m) task
@@ -67,3 +74,8 @@ of_task words m task read texts text named meant = record {
   taken_by_replay = λ rows is. text rows (read.found ∙ is);
   wrong = tt;
 }
+
+pub of_answer : (words : List Text) (m : ArgMatches) (r : Result Task Wrong) → IsReading words (Ok m) → HasTextsOfRun m → HasTextOfReplay m
+    → IfOk r (IsTaskOf (subcommand_name_of m)) → IfOk r (IsMeant (subcommand_rows_of m)) → IfErr r (IsRefusedBy (subcommand_rows_of m)) → IsAskedBy words r
+of_answer words m (Ok task) read texts text named meant refused = of_task words m task read texts text named meant
+of_answer words m (Err w) read texts text named meant refused = of_wrong words m w read refused

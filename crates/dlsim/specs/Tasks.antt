@@ -1,25 +1,32 @@
 -- What the words of a command line may ask for.
-use Rattle.std.specs.Prelude.{◌≡◌, ◌≢◌, ℕ, List, Option, Some, Result, IfErr, IfOk, codes, option_map}
+use Rattle.std.specs.Prelude.{◌≡◌, ◌≢◌, ◌⊎◌, ℕ, false, List, Option, Some, Result, IfErr, IfOk, codes, option_map}
 use Rattle.clap.specs.Words.{App, HasKind, Row, Text, fault_of, subcommand_of}
 use Rattle.command_line.specs.Commands.{AreHeld, HeldNames, program_app}
 use Rattle.command_line.specs.Reading.{HasText, HasTexts}
 use Rattle.session.specs.Options.{AreOptions}
 use Rattle.dl_session.specs.declared.words.WordsFault.{WordsFault}
+use Rattle.dl_session.specs.declared.words.WordsFault.TheVariants.{Memory}
+use Rattle.dlsim.specs.Comparing.{IsComparisonAt, IsWithItself, shares_stdin, AreFit}
 use Rattle.dlsim.specs.Found.{AreMeantBy, IsFaultOf, IsReplayPrintAt}
 use Rattle.dlsim.specs.declared.words.Task.{Task}
-use Rattle.dlsim.specs.declared.words.Task.TheVariants.{Replay, Run}
+use Rattle.dlsim.specs.declared.words.Task.TheVariants.{Compare, Replay, Run}
 use Rattle.dlsim.specs.declared.words.Wrong.{Wrong}
 use Rattle.dlsim.specs.declared.words.Wrong.TheVariants as wrong
 
--- a run's options are within their limits
+-- a run's options and a comparison's numbers are within their limits, and two traces come from two
+-- places
 abbrev pub IsFit : Task → Type 0
 IsFit (Replay print) = Unit {0}
 IsFit (Run options) = AreOptions options
+IsFit (Compare comparison) = AreFit comparison.options × (shares_stdin comparison ≡ false)
 
--- the command that was named: a run where it is `run`, a replay where it is another
+-- the command that was named: a run where it is `run`, a comparison where it is `compare`, a replay
+-- where it is another
 abbrev pub IsTaskOf : Option (List ℕ) → Task → Type 0
-IsTaskOf command (Replay print) = command ≢ Some (codes "run")
+IsTaskOf command (Replay print) =
+    (command ≢ Some (codes "run")) × (command ≢ Some (codes "compare"))
 IsTaskOf command (Run options) = command ≡ Some (codes "run")
+IsTaskOf command (Compare comparison) = command ≡ Some (codes "compare")
 
 -- the command that was found, with what was found at its options
 abbrev pub Command : Type 0
@@ -28,28 +35,58 @@ Command = Option (Text × List Row)
 abbrev pub name_of : Command → Option Text
 name_of = option_map (λ command. command.0)
 
--- a run's options are those that the words at the options of `run` mean; a replay prints what the
--- words at those of `replay` say
+-- a run, with the options that the words at the options of `run` mean
+abbrev pub IsRunBy : List Row → Task → Type 0
+IsRunBy rows (Run options) = AreMeantBy rows options
+IsRunBy rows (Replay print) = ⊥
+IsRunBy rows (Compare comparison) = ⊥
+
+-- a comparison, with the traces and numbers at the options of `compare`
+abbrev pub IsComparisonBy : List Row → Task → Type 0
+IsComparisonBy rows (Compare comparison) = IsComparisonAt rows comparison
+IsComparisonBy rows (Run options) = ⊥
+IsComparisonBy rows (Replay print) = ⊥
+
+-- a replay prints what the words at its options say
 abbrev pub IsMeant : Command → Task → Type 0
 IsMeant command (Replay print) =
     (rows : List Row) → command ≡ Some (codes "replay", rows) → IsReplayPrintAt rows print
 IsMeant command (Run options) =
     (rows : List Row) × (command ≡ Some (codes "run", rows)) × AreMeantBy rows options
+IsMeant command (Compare comparison) =
+    (rows : List Row) × (command ≡ Some (codes "compare", rows)) × IsComparisonAt rows comparison
 
--- the words at the options of `run` mean no options, for this reason
-abbrev pub IsRefused : Command → WordsFault → Type 0
-IsRefused command fault =
-    (rows : List Row) × (command ≡ Some (codes "run", rows)) × IsFaultOf rows fault
+-- what is wrong with the words at the options of `run`: they mean no options, for this reason
+abbrev pub IsRunRefusedBy : List Row → Wrong → Type 0
+IsRunRefusedBy rows (wrong.Options fault) = IsFaultOf rows fault
+IsRunRefusedBy rows (wrong.Clap error) = ⊥
+IsRunRefusedBy rows wrong.BothStdin = ⊥
 
--- what is wrong: clap's rules refuse the words, or memory ran out; or they accept them, and the
--- words at the options of `run` mean none
+-- with those at the options of `compare`: both traces are standard input, or there was no memory to
+-- copy them
+abbrev pub IsComparisonRefusedBy : List Row → Wrong → Type 0
+IsComparisonRefusedBy rows (wrong.Options fault) = fault ≡ Memory
+IsComparisonRefusedBy rows (wrong.Clap error) = ⊥
+IsComparisonRefusedBy rows wrong.BothStdin = IsWithItself rows
+
+-- with those of either
+abbrev pub IsRefusedBy : Command → Wrong → Type 0
+IsRefusedBy command w =
+    ((rows : List Row) × (command ≡ Some (codes "run", rows)) × IsRunRefusedBy rows w)
+    ⊎ ((rows : List Row) × (command ≡ Some (codes "compare", rows)) × IsComparisonRefusedBy rows w)
+
+-- what is wrong: clap's rules refuse the words, or memory ran out; or they accept them, and the words
+-- at the options of the command are refused
 abbrev pub IsWrong : App → List Text → Wrong → Type 0
 IsWrong app words (wrong.Clap error) = HasKind (fault_of app words) error
-IsWrong app words (wrong.Options fault) = IsRefused (subcommand_of app words) fault
+IsWrong app words (wrong.Options fault) =
+    IsRefusedBy (subcommand_of app words) (wrong.Options fault)
+IsWrong app words wrong.BothStdin = IsRefusedBy (subcommand_of app words) wrong.BothStdin
 
 -- what the words of a command line, of which the first is the program's name, ask for: the command
--- that clap's rules find in them, a run with the options that its words mean, or a replay with what
--- it prints, and each option has a text that it takes; or what is wrong with them
+-- that clap's rules find in them, a run with the options that its words mean, a comparison with its
+-- traces and numbers, or a replay with what it prints, and each option of a run and of a replay has a
+-- text that it takes; or what is wrong with them
 pub record IsAskedBy (words : List Text) (r : Result Task Wrong) : Type 0 where
   pub run : HeldNames
   pub replay : HeldNames

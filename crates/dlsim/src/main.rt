@@ -1,16 +1,23 @@
 //! dlsim: a model of SCHED_DEADLINE that writes the switches of a scenario, or of recorded calls,
-//! as a trace, or the calls with their replies.
+//! as a trace, or the calls with their replies, and compares a trace with a recorded one.
 //!
 //! The program reads its words with clap (`words`), and calls [`dl_session::run`] or
-//! [`dl_session::replay_as`] with standard input and standard output. What it says on standard error
-//! then, and its exit status, are those of the [`Ending`].
+//! [`dl_session::replay_as`] with standard input and standard output, or
+//! [`dl_session::compare_texts`] with two files or one, and standard input. What it says on standard
+//! error then, and its exit status, are those of the [`Ending`] or the [`ComparisonEnding`].
 #![tactic(auto)]
 
+mod comparison;
 mod words;
 
+use crate::comparison::{Comparison, Source};
 use crate::words::{Task, Wrong, read_words};
 use clap::error::ErrorKind;
-use dl_session::{AllPass, Ending, WordsFault, replay_as, run};
+use dl_session::{
+    AllPass, ComparisonEnding, Ending, TraceNames, WordsFault, compare_texts, replay_as, run,
+};
+use std::fs::{self, File};
+use std::io::Read;
 use std::process::ExitCode;
 use switch_text::Counted;
 
@@ -20,11 +27,69 @@ fn end_with(rt: &impl Eprint, ending: &Ending<'_>) -> ExitCode {
     ExitCode::from(ending.status())
 }
 
+/// The same of the end of a comparison.
+fn end_comparison(rt: &impl Eprint, ending: &ComparisonEnding<'_>) -> ExitCode {
+    let _ = eprint!(rt; "{ending}");
+    ExitCode::from(ending.status())
+}
+
+/// Opens a trace's file, or tells that it was not opened.
+fn open_trace(rt: &HostRuntime, name: &str) -> Result<File, ExitCode> {
+    fs::open(rt, name).map_err(|_| end_comparison(rt, &ComparisonEnding::NotOpened(name)))
+}
+
+/// How a source is called where something is told of it.
+fn name_of(source: &Source) -> &str {
+    match source {
+        Source::Stdin => "standard input",
+        Source::File(name) => name,
+    }
+}
+
+/// Compares what two readers give, and writes the report to standard output.
+fn compare_readers<M: Read + Drop, R: Read + Drop>(
+    rt: &HostRuntime,
+    model: M,
+    recorded: R,
+    comparison: &Comparison,
+) -> ExitCode {
+    let names = TraceNames {
+        model: name_of(&comparison.model),
+        recorded: name_of(&comparison.recorded),
+    };
+    let mut model = Counted::new(model);
+    let mut recorded = Counted::new(recorded);
+    let mut writer = Counted::new(rt.stdout());
+    let options = comparison.options;
+    let ended = compare_texts(rt.alloc(), &mut model, &mut recorded, &mut writer, options);
+    end_comparison(rt, &ComparisonEnding::of(ended, &names))
+}
+
+/// Compares two traces; both files are opened before either is read.
+fn compare(rt: &HostRuntime, comparison: &Comparison) -> Result<ExitCode, ExitCode> {
+    match (&comparison.model, &comparison.recorded) {
+        (Source::File(model), Source::File(recorded)) => {
+            let model = open_trace(rt, model)?;
+            Ok(compare_readers(rt, model, open_trace(rt, recorded)?, comparison))
+        }
+        (Source::File(model), Source::Stdin) => {
+            let model = open_trace(rt, model)?;
+            Ok(compare_readers(rt, model, rt.stdin(), comparison))
+        }
+        (Source::Stdin, Source::File(recorded)) => {
+            let recorded = open_trace(rt, recorded)?;
+            Ok(compare_readers(rt, rt.stdin(), recorded, comparison))
+        }
+        (Source::Stdin, Source::Stdin) => { Ok(end_comparison(rt, &ComparisonEnding::BothStdin)) }
+    }
+}
+
 /// Tells what is wrong with the words. What clap has to say of `--help` goes to standard output,
 /// with status 0.
 fn refuse(rt: &(impl Print + Eprint), wrong: &Wrong) -> ExitCode {
     match wrong {
         Wrong::Options(fault) => end_with(rt, &Ending::Words(*fault)),
+        Wrong::BothStdin => end_comparison(rt, &ComparisonEnding::BothStdin),
         Wrong::Clap(error) if error.kind() == ErrorKind::OutOfMemory => {
             end_with(rt, &Ending::Words(WordsFault::Memory))
         }
@@ -52,5 +117,8 @@ fn main(rt: HostRuntime) -> ExitCode {
             let ended = run(&rt, alloc, &mut reader, &mut writer, &options, &AllPass);
             end_with(&rt, &Ending::of_run(&ended))
         }
+        Task::Compare(comparison) => match compare(&rt, &comparison) {
+            Ok(status) | Err(status) => status,
+        },
     }
 }

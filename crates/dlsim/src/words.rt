@@ -4,8 +4,9 @@ ghost use Rattle.std.specs.Prelude.{◌≡◌, ◌<◌, ◌≤◌, ◌↔◌, �
 ghost use Rattle.clap.specs.Words.{Row, first_value, found_of, rows_of, subcommand_name_of, subcommand_rows_of};
 ghost use Rattle.session.specs.Options.{AreOptions};
 ghost use Rattle.dlsim.specs.Found.{AreFound, AreMeantBy, IsFaultOf, IsNumberAt, IsPrintAt, IsReplayPrintAt, Prints};
-ghost use Rattle.dlsim.specs.Tasks.{IsAskedBy, IsFit, IsMeant, IsRefused, IsTaskOf};
+ghost use Rattle.dlsim.specs.Tasks.{IsAskedBy, IsComparisonBy, IsComparisonRefusedBy, IsFit, IsMeant, IsRefusedBy, IsRunBy, IsRunRefusedBy, IsTaskOf};
 
+use crate::comparison::{Comparison, comparison_of, shares_stdin};
 use clap::{ArgMatches, Error};
 use command_line::{MOST_CLIENTS, MOST_TIME, MOST_WORKERS, matches_of, not_utf8};
 use dl_session::{Options, Print, ReplayPrint, Words, WordsFault, read_options};
@@ -18,6 +19,7 @@ use std::io;
 pub(crate) enum Task {
     Replay(ReplayPrint),
     Run(Options),
+    Compare(Comparison),
 }
 
 /// What is wrong with the words.
@@ -26,6 +28,8 @@ pub(crate) enum Wrong {
     /// What clap has to say, of `--help` too.
     Clap(Error),
     Options(WordsFault),
+    /// Both traces of `compare` are standard input.
+    BothStdin,
 }
 
 impl From<Error> for Wrong {
@@ -67,7 +71,7 @@ fn number(found: &ArgMatches<'_>, name: &str, most: u64) -> u64
 }
 
 /// The text at an option; the empty text where it has none, which clap does not let come.
-fn text_of<'a>(found: &ArgMatches<'a>, name: &str) -> &'a str
+pub(crate) fn text_of<'a>(found: &ArgMatches<'a>, name: &str) -> &'a str
     ensures some { (text : List ℕ) → first_value (found_of found.now) name.now ≡ Some text
         → result.now ≡ text }
     ensures none { first_value (found_of found.now) name.now ≡ None → result.now ≡ codes "" }
@@ -152,34 +156,73 @@ fn replay_print(matches: &ArgMatches<'_>) -> ReplayPrint
     }
 }
 
-/// What the matches ask for: `run` with its options, or `replay` with what it prints.
+/// A run, with what the words at its options mean.
 ///
 /// # Errors
-/// Those of [`options_of`], of a `run` alone.
-fn task_of(alloc: Global, matches: &ArgMatches<'_>) -> Result<Task, WordsFault>
+/// [`Wrong::Options`] with those of [`options_of`].
+fn run_of(alloc: Global, found: &ArgMatches<'_>) -> Result<Task, Wrong>
+    ensures fit { IfOk result IsFit }
+    ensures meant { IfOk result (IsRunBy (rows_of (found_of found.now))) }
+    ensures refused { IfErr result (IsRunRefusedBy (rows_of (found_of found.now))) }
+{
+    match options_of(alloc, found) {
+        Ok(options) => Ok(Task::Run(options)),
+        Err(fault) => Err(Wrong::Options(fault)),
+    }
+}
+
+/// A comparison, with what the words at its options mean.
+///
+/// # Errors
+/// [`Wrong::Options`] with [`WordsFault::Memory`] where a growth was refused; [`Wrong::BothStdin`]
+/// where both traces are standard input.
+fn compare_of(alloc: Global, found: &ArgMatches<'_>) -> Result<Task, Wrong>
+    ensures fit { IfOk result IsFit }
+    ensures meant { IfOk result (IsComparisonBy (rows_of (found_of found.now))) }
+    ensures refused { IfErr result (IsComparisonRefusedBy (rows_of (found_of found.now))) }
+{
+    let Ok(comparison) = comparison_of(alloc, found) else {
+        return Err(Wrong::Options(WordsFault::Memory));
+    };
+    if shares_stdin(&comparison) {
+        Err(Wrong::BothStdin)
+    } else {
+        Ok(Task::Compare(comparison))
+    }
+}
+
+/// What the matches ask for: `run` with its options, `compare` with its traces and numbers, or
+/// `replay` with what it prints.
+///
+/// # Errors
+/// Those of [`run_of`] and [`compare_of`].
+fn task_of(alloc: Global, matches: &ArgMatches<'_>) -> Result<Task, Wrong>
     ensures fit { IfOk result IsFit }
     ensures named { IfOk result (IsTaskOf (subcommand_name_of matches.now)) }
     ensures meant { IfOk result (IsMeant (subcommand_rows_of matches.now)) }
-    ensures refused { IfErr result (IsRefused (subcommand_rows_of matches.now)) }
+    ensures refused { IfErr result (IsRefusedBy (subcommand_rows_of matches.now)) }
 {
     match matches.subcommand_matches("run") {
-        Some(found) => Ok(Task::Run(options_of(alloc, found)?)),
-        None => Ok(Task::Replay(replay_print(matches))),
+        Some(found) => run_of(alloc, found),
+        None => match matches.subcommand_matches("compare") {
+            Some(found) => compare_of(alloc, found),
+            None => Ok(Task::Replay(replay_print(matches))),
+        },
     }
 }
 
 /// What words ask for, of which the first is the program's name; or what is wrong with them: first
-/// what clap says of them, then the list of domains, then the limit.
+/// what clap says of them, then of `run` the list of domains and the limit, of `compare` that
+/// standard input is for one of its traces.
 ///
 /// # Errors
-/// [`Wrong::Clap`]: what clap says, also where it is asked for help. [`Wrong::Options`]: those of
-/// [`options_of`].
+/// [`Wrong::Clap`]: what clap says, also where it is asked for help. Then those of [`task_of`].
 fn task_in(alloc: Global, words: &[String]) -> Result<Task, Wrong>
     ensures fit { IfOk result IsFit }
     ensures asked { IsAskedBy (map string_bytes words.now) result }
 {
     let matches = matches_of(alloc, words)?;
-    Ok(task_of(alloc, &matches)?)
+    task_of(alloc, &matches)
 }
 
 /// What the words of this process ask for, or what is wrong with them ([`task_in`]); a word that is

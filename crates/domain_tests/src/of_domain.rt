@@ -1,21 +1,13 @@
 ghost use Rattle.std.specs.Prelude.{◌≡◌};
 ghost use Rattle.domain_run.specs.script.Segments.{next_ask};
 
-use domain_run::{Event, Name, Phase, PrevState, Reply, Script, Segment, State, Switch};
+use crate::workers::{forever, script};
+use domain_run::{Event, Name, Phase, Script, Segment, Switch};
 use std::alloc::Global;
 use std::test::Fail;
 
+mod calls;
 mod lending;
-mod rows;
-
-fn script(alloc: Global, loops: i64, events: &[Event]) -> Result<Script, Fail> {
-    let mut phases = Vec::new(alloc);
-    phases.push(Phase {
-        count: 1,
-        events: events.to_vec(alloc)?,
-    })?;
-    Ok(Script::new(loops, phases)?)
-}
 
 fn earliest_after(time: u64, segment: Segment) -> u64
     ensures { result ≡ next_ask time segment }
@@ -28,7 +20,10 @@ fn earliest_after(time: u64, segment: Segment) -> u64
 
 #[test]
 fn timer_cursor(rt: HostRuntime) -> Result<(), Fail> {
-    let timer = script(rt.alloc(), -1, &[Event::Run(4), Event::Timer(8)])?;
+    let timer = script(
+        rt.alloc(),
+        forever((4, 8, 8), &[Event::Run(4), Event::Timer(8)]),
+    )?;
     let mut cursor = timer.cursor(0);
     let mut earliest = 0;
     for (time, segment) in [

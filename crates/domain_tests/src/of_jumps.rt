@@ -1,4 +1,4 @@
-//! Worked rows through jumps, and jumps against single ticks.
+//! Jumps, by one worker and by several. Worked rows by one worker are what the built program replays.
 
 mod against_ticks;
 mod by_workers;
@@ -6,22 +6,11 @@ mod limits;
 mod told;
 mod turns;
 
-use self::against_ticks::single_ticks;
-use crate::workers::{UNIT, Worker, forever, once, params, reclaiming, script, switch};
-use domain_run::{Event, Name, PrevState, State, Switch};
+use crate::workers::{UNIT, Worker, admit, forever, single_ticks, switch};
+use domain_run::{Event, PrevState, State, Switch};
 use jump_run::{Done, advance};
 use std::alloc::Global;
-use std::process::Abort;
 use std::test::Fail;
-
-/// Whether the task was admitted.
-fn admit(alloc: Global, state: &mut State, number: u32, worker: Worker<'_>) -> Result<bool, Fail> {
-    let given = params(worker.times, worker.reclaim)?;
-    let name = Name::new(String::from_str(alloc, "T")?)?;
-    let script = script(alloc, worker)?;
-    let number = number.clamp(1, 65535);
-    Ok(matches!(state.admit(number, name, given, 0, script), Ok(())))
-}
 
 /// Tasks 1, 2, .., admitted at 0.
 fn admitted(alloc: Global, cpus: u32, limit: u64, workers: &[Worker<'_>]) -> Result<State, Fail> {
@@ -29,7 +18,7 @@ fn admitted(alloc: Global, cpus: u32, limit: u64, workers: &[Worker<'_>]) -> Res
     let mut number: u32 = 0;
     for worker in workers {
         number = number.saturating_add(1);
-        admit(alloc, &mut state, number, *worker)?;
+        admit(alloc, &mut state, number, "T", *worker)?;
     }
     Ok(state)
 }
@@ -48,59 +37,6 @@ fn played(
     Ok((state, done))
 }
 
-/// The tasks bring these switches in so many ticks.
-fn shows(
-    rt: &impl Abort,
-    alloc: Global,
-    machine: (u32, u64),
-    workers: &[Worker<'_>],
-    ticks: u64,
-    switches: &[Switch],
-) -> Result<(), Fail> {
-    let (cpus, limit) = machine;
-    let (state, done) = played(alloc, cpus, limit, workers, ticks)?;
-    assert_eq!(rt; done.ticks, ticks);
-    assert_eq!(rt; state.switches(), switches);
-    Ok(())
-}
-
-#[test]
-fn reclaiming_example(rt: HostRuntime) -> Result<(), Fail> {
-    let workers = [
-        reclaiming(forever((4, 8, 8), &[Event::Run(2), Event::Sleep(6)])),
-        reclaiming(once((4, 8, 8), &[Event::Run(100)])),
-    ];
-    let switches = [
-        switch(0, 0, None, PrevState::Running, Some(1)),
-        switch(2, 0, Some(1), PrevState::Sleeping, Some(2)),
-        switch(8, 0, Some(2), PrevState::Preempted, Some(1)),
-    ];
-    shows(&rt, rt.alloc(), (1, UNIT), &workers, 9, &switches)
-}
-
-#[test]
-fn throttled_inside_a_job(rt: HostRuntime) -> Result<(), Fail> {
-    let workers = [once((2, 5, 5), &[Event::Run(4)])];
-    let switches = [
-        switch(0, 0, None, PrevState::Running, Some(1)),
-        switch(2, 0, Some(1), PrevState::Preempted, None),
-        switch(5, 0, None, PrevState::Running, Some(1)),
-        switch(7, 0, Some(1), PrevState::Dead, None),
-    ];
-    shows(&rt, rt.alloc(), (1, UNIT), &workers, 10, &switches)
-}
-
-#[test]
-fn spent_while_blocking(rt: HostRuntime) -> Result<(), Fail> {
-    let workers = [forever((4, 8, 8), &[Event::Run(4), Event::Sleep(2)])];
-    let switches = [
-        switch(0, 0, None, PrevState::Running, Some(1)),
-        switch(4, 0, Some(1), PrevState::Sleeping, None),
-        switch(8, 0, None, PrevState::Running, Some(1)),
-    ];
-    shows(&rt, rt.alloc(), (1, UNIT), &workers, 9, &switches)
-}
-
 const CARRYING: [Event; 1] = [Event::Run(1000)];
 
 fn carried() -> [Switch; 3] {
@@ -109,12 +45,6 @@ fn carried() -> [Switch; 3] {
         switch(23, 0, Some(1), PrevState::Preempted, None),
         switch(24, 0, None, PrevState::Running, Some(1)),
     ]
-}
-
-#[test]
-fn fraction_and_carry(rt: HostRuntime) -> Result<(), Fail> {
-    let tasks = [reclaiming(once((4, 8, 8), &CARRYING))];
-    shows(&rt, rt.alloc(), (1, 996147), &tasks, 25, &carried())
 }
 
 const HALF_OF_8_US: [Event; 2] = [Event::Run(4), Event::Timer(8)];
@@ -130,11 +60,6 @@ fn on_two_cpus() -> [Switch; 4] {
         switch(4, 0, Some(2), PrevState::Sleeping, None),
         switch(4, 1, Some(1), PrevState::Sleeping, Some(3)),
     ]
-}
-
-#[test]
-fn two_cpus(rt: HostRuntime) -> Result<(), Fail> {
-    shows(&rt, rt.alloc(), (2, UNIT), &three(), 5, &on_two_cpus())
 }
 
 /// Two ticks are left, one that is made singly and one of an advance.

@@ -1,7 +1,7 @@
 //! The tasks of worked rows, as the tests of a domain and of its jumps tell them.
 
 use attr_check::{Params, SchedAttr, check};
-use domain_run::{Event, Phase, PrevState, Script, Switch};
+use domain_run::{Event, Name, Phase, PrevState, Reply, Script, State, Switch};
 use std::alloc::Global;
 use std::test::Fail;
 
@@ -35,6 +35,34 @@ pub(crate) fn script(alloc: Global, worker: Worker<'_>) -> Result<Script, Fail> 
         events: worker.events.to_vec(alloc)?,
     })?;
     Ok(Script::new(worker.loops, phases)?)
+}
+
+/// What the admission of a task by this name is answered.
+pub(crate) fn admit(
+    alloc: Global,
+    state: &mut State,
+    number: u32,
+    name: &str,
+    worker: Worker<'_>,
+) -> Result<Reply, Fail> {
+    let given = params(worker.times, worker.reclaim)?;
+    let name = Name::new(String::from_str(alloc, name)?)?;
+    let script = script(alloc, worker)?;
+    Ok(
+        match state.admit(number.clamp(1, 65535), name, given, 0, script) {
+            Ok(()) => Reply::Admitted,
+            Err(refused) => refused.reply,
+        },
+    )
+}
+
+pub(crate) fn single_ticks(state: &mut State, ticks: u64) -> Result<(), Fail> {
+    for _ in 0..ticks {
+        if state.now() < 1 << 42 {
+            state.tick()?;
+        }
+    }
+    Ok(())
 }
 
 pub(crate) fn once(times: (u64, u64, u64), events: &[Event]) -> Worker<'_> {

@@ -80,7 +80,7 @@ last_push [] x key = refl
 last_push (k ∷ []) x key = refl
 last_push (k ∷ l ∷ ks) x key = last_push (l ∷ ks) x key
 
-keys_push : (ms : List (String Global × Tree)) (k : String Global) (v : Tree) → keys_of (ms ++ (k, v) ∷ []) ≡ keys_of ms ++ string_bytes k ∷ []
+pub keys_push : (ms : List (String Global × Tree)) (k : String Global) (v : Tree) → keys_of (ms ++ (k, v) ∷ []) ≡ keys_of ms ++ string_bytes k ∷ []
 keys_push [] k v = refl
 keys_push (m ∷ ms) k v = ap (λ ks. string_bytes m.0 ∷ ks) (keys_push ms k v)
 

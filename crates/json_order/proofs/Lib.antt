@@ -14,5 +14,6 @@ pub mod KeySets
 pub mod Trees
 pub mod Frames
 pub mod AtOnce
+pub mod Escapes
 pub mod Turns
 pub mod Rows

@@ -7,6 +7,7 @@
 //! has a kind of its own.
 #![tactic(auto)]
 
+mod escape;
 mod fault;
 mod key_set;
 mod members;

@@ -14,8 +14,8 @@ use std::alloc::Global;
 const FEW: usize = 16;
 
 /// The members of an object so far, in the order of the text. Where they are more than a few and
-/// their keys do not ascend, their keys stand beside them in a set, so that a key that stands twice
-/// is found in logarithmic time.
+/// their keys do not ascend, a set beside them tells which keys they have, so that a key that
+/// stands twice is found without a look at each.
 #[derive(Drop)]
 pub(crate) struct Members {
     pub(crate) list: Vec<(String, Tree)>,
@@ -42,7 +42,7 @@ impl Members {
         ensures { result ≡ has_key (keys_of self.now.list.items) key.now }
     {
         if !self.sets.is_empty() {
-            return self.sets[0].has(key);
+            return self.sets[0].has(&self.list, key);
         }
         if self.list.len() > FEW && is_behind(&self.list, key) {
             return false;
@@ -92,9 +92,9 @@ fn set_of(alloc: Global, members: &[(String, Tree)]) -> Result<KeySet, JsonKind>
     ensures ok { IfOk result (λ set. HasKeys set (keys_of members.now)) }
     ensures err { IfErr result (λ k. k ≡ Memory) }
 {
-    let mut set = KeySet::new(alloc);
-    for (name, _) in members {
-        set.add(name.clone()?)?;
+    let mut set = KeySet::new(alloc, members.len())?;
+    for place in 0..members.len() {
+        set.add(members, place)?;
     }
     Ok(set)
 }
@@ -148,8 +148,12 @@ fn with_known(members: Members, key: String, value: Tree) -> Result<Members, Jso
     ensures err { IfErr result (λ k. k ≡ Memory) }
 {
     let Members { mut list, mut sets } = members;
-    sets[0].add(key.clone()?)?;
+    let place = list.len();
     add_member(&mut list, 2, key, value)?;
+    if sets[0].is_full(list.len()) {
+        return with_set(list);
+    }
+    sets[0].add(&list, place)?;
     Ok(Members { list, sets })
 }
 

@@ -30,7 +30,8 @@ fn spelled(text: &mut String, escape: &mut Escape, c: char) -> Result<(), JsonKi
     Ok(())
 }
 
-fn short_escape(c: char) -> Option<char>
+/// What a backslash and this character spell.
+pub(crate) fn short_escape(c: char) -> Option<char>
     ensures { result ≡ grammar.short_escape c }
 {
     match c {

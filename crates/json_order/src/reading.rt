@@ -19,10 +19,11 @@ use std::str;
 /// and objects inside one another, no key twice in one object, no lone surrogate). The members of
 /// an object keep the order of the text.
 ///
-/// Memory is taken for the tree, for a stack of at most 17 frames, and for a second copy of the
-/// keys of an open object that has more than 16 of them, not in rising order. The time is linear in
-/// the input but for these keys, which cost the logarithm of their number, and for the first 16,
-/// which are compared one by one.
+/// Memory is taken for the tree, for a stack of at most 17 frames, and, for an open object that has
+/// more than 16 members whose keys do not rise, for a table of their numbers: 2 to 5 slots a member.
+/// The first 16 keys of an object are compared one by one. The time is linear in the input, but for
+/// keys that were chosen to share their slots in the table: of them a second copy is kept, and they
+/// cost the logarithm of their number.
 ///
 /// An Err tells the kind and the place of the first fault; see [`JsonKind`] and [`JsonFault`]. Utf8
 /// is tested first, over the whole input. Memory may come before any other fault.

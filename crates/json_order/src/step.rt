@@ -5,7 +5,7 @@ ghost use Rattle.json_order.specs.Fault.{strict};
 ghost use Rattle.json_order.specs.Grammar as grammar;
 ghost use Rattle.json_order.specs.Json.{array, no_items, object, no_members};
 ghost use Rattle.json_order.specs.private.Machine.{Frame as StackFrame, IsFine, IsFinePlace, state, judged, step as machine_step, move, at_first_item, at_first_key, at_next_key, in_key, behind_key, in_string, in_number, in_word, value_move, next_move, behind_move};
-ghost use Rattle.json_order.specs.private.Places.{place_of, frames_of, state_of, entries_of, letters_from, value_of, Says, IsInObject};
+ghost use Rattle.json_order.specs.private.Places.{place_of, frames_of, state_of, entries_of, letters_from, value_of, Says, IsInObject, IsMoving};
 ghost use Rattle.json_order.specs.Seen.{json_of, items_with, members_with};
 
 use crate::fault::JsonKind;
@@ -404,6 +404,31 @@ fn word_step(
     }
 }
 
+/// The same where the place holds what is read so far, which moves on.
+#[inline(always)]
+fn turn_moving(
+    alloc: Global,
+    place: &mut Place,
+    stack: &mut Vec<Frame>,
+    c: char,
+) -> Result<(), JsonKind>
+    requires moving { IsMoving place.old }
+    requires fine { IsFinePlace (place_of place.old) }
+    ensures ok { OnOk result (machine_step strict (state_of place.old stack.old.items) c
+        ≡ Ok (state_of place.new stack.new.items)) }
+    ensures err { IfErr result (Says (machine_step strict (state_of place.old stack.old.items) c)) }
+{
+    match mem::replace(place, Place::Value) {
+        Place::Behind(value) => behind_step(place, stack, value, c),
+        Place::NextKey(members) => next_key_step(alloc, place, members, c),
+        Place::Key(members, text, escape) => key_step(place, members, text, escape, c),
+        Place::Colon(members, key) => colon_step(place, stack, members, key, c),
+        Place::Text(text, escape) => text_step(place, text, escape, c),
+        Place::Number(text, part) => number_step(place, stack, text, part, c),
+        Place::Value | Place::FirstItem | Place::FirstKey | Place::Word(_, _) => unreachable!(),
+    }
+}
+
 /// The place and the stack once c follows. On an error they are left as they may be.
 #[inline(always)]
 pub(crate) fn turn(
@@ -417,7 +442,7 @@ pub(crate) fn turn(
         ≡ Ok (state_of place.new stack.new.items)) }
     ensures err { IfErr result (Says (machine_step strict (state_of place.old stack.old.items) c)) }
 {
-    match mem::replace(place, Place::Value) {
+    match place {
         Place::Value => {
             if is_space(c) {
                 return Ok(());
@@ -425,13 +450,16 @@ pub(crate) fn turn(
             value_step(alloc, place, stack, c)
         }
         Place::FirstItem => first_item_step(alloc, place, stack, c),
-        Place::Behind(value) => behind_step(place, stack, value, c),
         Place::FirstKey => first_key_step(alloc, place, c),
-        Place::NextKey(members) => next_key_step(alloc, place, members, c),
-        Place::Key(members, text, escape) => key_step(place, members, text, escape, c),
-        Place::Colon(members, key) => colon_step(place, stack, members, key, c),
-        Place::Text(text, escape) => text_step(place, text, escape, c),
-        Place::Number(text, part) => number_step(place, stack, text, part, c),
-        Place::Word(word, read) => word_step(place, stack, word, read, c),
+        Place::Word(word, read) => {
+            let (word, read) = (*word, *read);
+            word_step(place, stack, word, read, c)
+        }
+        Place::Behind(_)
+        | Place::NextKey(_)
+        | Place::Key(_, _, _)
+        | Place::Colon(_, _)
+        | Place::Text(_, _)
+        | Place::Number(_, _) => turn_moving(alloc, place, stack, c),
     }
 }

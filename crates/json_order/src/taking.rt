@@ -4,12 +4,13 @@ ghost use Rattle.json_order.specs.declared.fault.JsonKind.TheVariants.{Memory};
 ghost use Rattle.json_order.specs.Grammar as grammar;
 ghost use Rattle.json_order.specs.private.Places.{place_of, letters_from, value_of};
 ghost use Rattle.json_order.specs.private.AtOnce.{Takes, TakesQuoted, MovesPlain, parts_after};
-ghost use Rattle.json_order.specs.private.Machine.{IsFine, IsFinePlace, in_number, in_word};
+ghost use Rattle.json_order.specs.declared.place.Escape.TheVariants.{Outside};
+ghost use Rattle.json_order.specs.private.Machine.{in_number, in_word};
 
+use crate::escape::escape_of;
 use crate::fault::JsonKind;
 use crate::number::part_step;
 use crate::place::{Escape, Part, Place};
-use crate::quote::{Quote, quote_step};
 use crate::word::Word;
 
 /// A byte that stands for itself in a string: from the space on, and no quote or backslash.
@@ -47,43 +48,36 @@ fn move_plain<'a>(text: &mut String, rest: &'a str) -> Result<&'a str, JsonKind>
     Ok(after)
 }
 
-/// The same where the string is in no escape; in one, nothing changes.
+/// Takes the plain characters and the whole escapes in front at once; what stands behind them.
+fn take_characters<'a>(text: &mut String, rest: &'a str) -> Result<&'a str, JsonKind>
+    ensures ok { IfOk result (λ after. TakesQuoted (string_bytes text.old) Outside
+        (string_bytes text.new) Outside rest.now after.now) }
+    ensures err { IfErr result (λ k. k ≡ Memory) }
+{
+    let mut chars = rest.chars();
+    loop {
+        let behind = move_plain(text, chars.as_str())?;
+        match escape_of(behind) {
+            Some((c, after)) => {
+                text.push(c)?;
+                chars = after.chars();
+            }
+            None => return Ok(behind),
+        }
+    }
+}
+
+/// Takes the characters in front that a string goes on with, at once, unless it stands in an escape;
+/// what stands behind them.
 #[inline(always)]
-fn move_outside<'a>(text: &mut String, escape: Escape, rest: &'a str) -> Result<&'a str, JsonKind>
+fn take_quoted<'a>(text: &mut String, escape: Escape, rest: &'a str) -> Result<&'a str, JsonKind>
     ensures ok { IfOk result (λ after. TakesQuoted (string_bytes text.old) escape
         (string_bytes text.new) escape rest.now after.now) }
     ensures err { IfErr result (λ k. k ≡ Memory) }
 {
     match escape {
-        Escape::Outside => move_plain(text, rest),
+        Escape::Outside => take_characters(text, rest),
         _ => Ok(rest),
-    }
-}
-
-/// Takes the characters in front that a string goes on with, at once; what stands behind them.
-fn take_quoted<'a>(
-    text: &mut String,
-    escape: &mut Escape,
-    rest: &'a str,
-) -> Result<&'a str, JsonKind>
-    requires fine { IsFine escape.old }
-    ensures ok { IfOk result (λ after. TakesQuoted (string_bytes text.old) escape.old
-        (string_bytes text.new) escape.new rest.now after.now) }
-    ensures err { IfErr result (λ k. k ≡ Memory) }
-{
-    let mut chars = rest.chars();
-    loop {
-        let left = move_outside(text, *escape, chars.as_str())?;
-        chars = left.chars();
-        match chars.next() {
-            None => return Ok(left),
-            Some(c) => match quote_step(text, escape, c) {
-                Ok(Quote::Going) => {}
-                Ok(Quote::Closed) => return Ok(left),
-                Err(JsonKind::Syntax) => return Ok(left),
-                Err(kind) => return Err(kind),
-            },
-        }
     }
 }
 
@@ -138,14 +132,13 @@ fn take_word<'a>(word: Word, read: &mut usize, rest: &'a str) -> &'a str
 /// stands behind them. On an error the place is left as it may be.
 #[inline(always)]
 pub(crate) fn take_run<'a>(place: &mut Place, rest: &'a str) -> Result<&'a str, JsonKind>
-    requires fine { IsFinePlace (place_of place.old) }
     ensures ok { IfOk result (λ after. Takes (place_of place.old) (place_of place.new)
         rest.now after.now) }
     ensures err { IfErr result (λ k. k ≡ Memory) }
 {
     match place {
-        Place::Text(text, escape) => take_quoted(text, escape, rest),
-        Place::Key(_, text, escape) => take_quoted(text, escape, rest),
+        Place::Text(text, escape) => take_quoted(text, *escape, rest),
+        Place::Key(_, text, escape) => take_quoted(text, *escape, rest),
         Place::Number(text, part) => take_number(text, part, rest),
         Place::Word(word, read) => Ok(take_word(*word, read, rest)),
         _ => Ok(rest),

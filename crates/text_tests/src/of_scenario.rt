@@ -4,8 +4,6 @@ mod rows;
 use json_order::read;
 use rtapp_scenario::parse;
 use std::alloc::{AllocError, Global};
-use std::fmt::Write;
-use std::test::Fail;
 
 /// What a text gives: its scenario with all fields, or its fault as it prints.
 fn given(alloc: Global, text: &str) -> Result<String, AllocError> {
@@ -45,17 +43,4 @@ fn first_wrong<'a>(
         }
     }
     Ok(None)
-}
-
-#[test]
-fn member_order(rt: HostRuntime) -> Result<(), Fail> {
-    let text = given(
-        rt.alloc(),
-        r#"{"tasks":{"p":{"policy":"SCHED_DEADLINE","dl-runtime":5,"dl-period":10,"phases":{"light":{"loop":2,"run0":3,"sleep1":7},"heavy":{"run0":4,"sleep1":2,"run2":1}}}},"global":{"duration":0}}"#,
-    )?;
-    assert_eq!(rt;
-        text.as_str(),
-        "Scenario { duration_us: 0, tasks: [TaskSpec { number: 1, name: Name { text: \"p\" }, attr: SchedAttr { policy: 6, flags: 0, runtime: 5000, deadline: 10000, period: 10000 }, cpus: None, delay: 0, script: Script { rounds: None, phases: [Phase { count: 2, events: [Run(3), Sleep(7)] }, Phase { count: 1, events: [Run(4), Sleep(2), Run(1)] }] } }] }"
-    );
-    Ok(())
 }

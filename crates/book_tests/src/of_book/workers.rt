@@ -34,57 +34,45 @@ fn made_by<R: Abort + Threads + Wait>(
     limit: u64,
     text: &[u8],
 ) -> Result<(Vec<Switch>, usize), Fail>
-    requires workers { (1 ≤ workers) × (workers ≤ 8) }
     requires cpus { (0 < cpus) × (cpus ≤ 64) }
     requires limit { (10485 ≤ limit) × (limit ≤ 1048576) }
 {
     let mut desk = opened_with(rt, alloc, cpus, limit, 8, 8)?;
-    desk.domain.set_workers(workers);
+    desk.domain.set_workers(workers.clamp(1, 8));
     let made = replies(rt, alloc, &mut desk, text);
     let (state, _, calls) = closed(alloc, desk);
     made?;
     Ok((state.switches().to_vec(alloc)?, calls.len()))
 }
 
-// two_cpus by two workers. Run with each growth refused in turn too (`rt try --test --fail-alloc
-// N`): where it is one of a worker's start the switches are the same.
+// two_cpus, which no number of workers changes. Run with each growth refused in turn too (`rt try
+// --test --fail-alloc N`): where it is one of a worker's start the switches are the same.
 #[test]
 fn two_cpus(rt: HostRuntime) -> Result<(), Fail> {
-    let (switches, calls) = made_by(&rt, rt.alloc(), 2, 2, 1048576, TWO_CPUS)?;
     let wanted = [
         switch(0, 0, None, PrevState::Running, Some(2)),
         switch(0, 1, None, PrevState::Running, Some(1)),
         switch(4, 0, Some(2), PrevState::Sleeping, None),
         switch(4, 1, Some(1), PrevState::Sleeping, Some(3)),
     ];
-    assert_eq!(rt; switches.as_slice(), wanted.as_slice());
-    assert_eq!(rt; calls, 4);
-    Ok(())
-}
-
-// No number of workers changes a switch.
-#[test]
-fn two_cpus_by_one_and_eight(rt: HostRuntime) -> Result<(), Fail> {
-    let two = made_by(&rt, rt.alloc(), 2, 2, 1048576, TWO_CPUS)?;
-    let one = made_by(&rt, rt.alloc(), 1, 2, 1048576, TWO_CPUS)?;
-    let eight = made_by(&rt, rt.alloc(), 8, 2, 1048576, TWO_CPUS)?;
-    assert_eq!(rt; one.0.as_slice(), two.0.as_slice());
-    assert_eq!(rt; eight.0.as_slice(), two.0.as_slice());
+    for workers in [2, 1, 8] {
+        let (switches, calls) = made_by(&rt, rt.alloc(), workers, 2, 1048576, TWO_CPUS)?;
+        assert_eq!(rt; switches.as_slice(), wanted.as_slice());
+        assert_eq!(rt; calls, 4);
+    }
     Ok(())
 }
 
 #[test]
 fn fraction_and_carry(rt: HostRuntime) -> Result<(), Fail> {
-    let one = made_by(&rt, rt.alloc(), 1, 1, 996147, FRACTION)?;
-    let two = made_by(&rt, rt.alloc(), 2, 1, 996147, FRACTION)?;
-    let eight = made_by(&rt, rt.alloc(), 8, 1, 996147, FRACTION)?;
     let wanted = [
         switch(0, 0, None, PrevState::Running, Some(1)),
         switch(23, 0, Some(1), PrevState::Preempted, None),
         switch(24, 0, None, PrevState::Running, Some(1)),
     ];
-    for made in [one, two, eight] {
-        assert_eq!(rt; made.0.as_slice(), wanted.as_slice());
+    for workers in [1, 2, 8] {
+        let (switches, _) = made_by(&rt, rt.alloc(), workers, 1, 996147, FRACTION)?;
+        assert_eq!(rt; switches.as_slice(), wanted.as_slice());
     }
     Ok(())
 }

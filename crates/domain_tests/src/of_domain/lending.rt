@@ -1,39 +1,18 @@
 //! What is lent of listed tasks, and of a number that is not listed.
 
-use attr_check::{SchedAttr, check};
-use domain_run::{Event, Name, Phase, Script, State};
-use std::alloc::Global;
+use crate::workers::{UNIT, Worker, admit, forever};
+use domain_run::{Event, State};
 use std::process::Abort;
 use std::test::Fail;
 
-fn script(alloc: Global, loops: i64) -> Result<Script, Fail> {
-    let mut phases = Vec::new(alloc);
-    phases.push(Phase {
-        count: 1,
-        events: [Event::Wait].to_vec(alloc)?,
-    })?;
-    Ok(Script::new(loops, phases)?)
-}
+const WAITING: [Event; 1] = [Event::Wait];
 
-fn admit(
-    rt: &impl Abort,
-    alloc: Global,
-    state: &mut State,
-    number: u32,
-    name: &str,
-) -> Result<(), Fail> {
-    assert!(rt; 0 < number && number < 65536);
-    let params = check(&SchedAttr {
-        policy: 6,
-        flags: 0,
-        runtime: 2000,
-        deadline: 8000,
-        period: 8000,
-    })?;
-    let name = Name::new(String::from_str(alloc, name)?)?;
-    let job = script(alloc, i64::from(number))?;
-    state.admit(number, name, params, 0, job)?;
-    Ok(())
+/// A task that waits in so many rounds.
+fn rounds<'a>(loops: i64) -> Worker<'a> {
+    Worker {
+        loops,
+        ..forever((2, 8, 8), &WAITING)
+    }
 }
 
 /// The domain lends this name of a number, and a script of as many loops as the number says; of a
@@ -47,9 +26,9 @@ fn lends(rt: &impl Abort, state: &State, number: u32, name: Option<&str>) {
 #[test]
 fn names_and_scripts_of_two_tasks(rt: HostRuntime) -> Result<(), Fail> {
     let alloc = rt.alloc();
-    let mut state = State::open(alloc, 1, 1048576)?;
-    admit(&rt, alloc, &mut state, 2, "second")?;
-    admit(&rt, alloc, &mut state, 1, "first")?;
+    let mut state = State::open(alloc, 1, UNIT)?;
+    admit(alloc, &mut state, 2, "second", rounds(2))?;
+    admit(alloc, &mut state, 1, "first", rounds(1))?;
     for (number, name) in [(1, Some("first")), (2, Some("second")), (3, None)] {
         lends(&rt, &state, number, name);
     }

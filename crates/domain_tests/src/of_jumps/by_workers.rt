@@ -2,8 +2,8 @@
 
 ghost use Rattle.std.specs.Prelude.{◌<◌};
 
-use super::{CARRYING, admit, admitted, carried, on_two_cpus, three};
-use crate::workers::{UNIT, Worker, forever, once, reclaiming};
+use super::{CARRYING, admitted, carried, on_two_cpus, three};
+use crate::workers::{UNIT, Worker, admit, forever, once, reclaiming};
 use domain_run::{Event, State, Switch};
 use jump_run::{Done, Silent, Turn, advance_with};
 use std::alloc::Global;
@@ -73,7 +73,7 @@ fn made_from<R: Threads + Wait>(
     advanced(rt, alloc, &mut state, start, 1, &Silent);
     for number in 1..3 {
         let worker = forever((4, 32, 32), &FOUR_OF_32_US);
-        admit(alloc, &mut state, number, worker)?;
+        admit(alloc, &mut state, number, "T", worker)?;
     }
     let done = advanced(rt, alloc, &mut state, 2100, workers, &Silent);
     let told = state.now() == start.wrapping_add(done.ticks);

@@ -1,8 +1,8 @@
 //! The turns of an advance: which are taken, in what order, and in whose thread.
 
 use super::by_workers::advanced;
-use super::{CARRYING, HALF_OF_8_US, admitted, single_ticks, three};
-use crate::workers::{UNIT, forever, once};
+use super::{CARRYING, HALF_OF_8_US, admitted, three};
+use crate::workers::{UNIT, forever, once, single_ticks};
 use domain_run::State;
 use jump_run::{Silent, Turn};
 use std::alloc::{AllocError, Global};

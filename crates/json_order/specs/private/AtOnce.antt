@@ -1,7 +1,9 @@
 -- What the reader takes at once: several characters in front of what is left.
-use Rattle.std.specs.Prelude.{ℕ, ◌≡◌, true, List, [], ◌∷◌, ◌++◌, Option, Some, Ok, option_and_then, encode_utf8_all}
+use Rattle.std.specs.Prelude.{ℕ, ◌≡◌, ◌⊎◌, true, List, [], ◌∷◌, ◌++◌, Option, Some, Ok, option_and_then, encode_utf8_all}
+use Rattle.std.specs.Char.{IsScalar}
+use Rattle.std.specs.Char.Utf16.{surrogate_pair_char}
 use Rattle.std.specs.List.{AllByRecursion}
-use Rattle.json_order.specs.Grammar.{is_plain}
+use Rattle.json_order.specs.Grammar.{is_plain, is_high_surrogate, is_low_surrogate, IsUnit, IsCharacter}
 use Rattle.json_order.specs.Fault.{strict}
 use Rattle.json_order.specs.private.Machine.{Entries, Place, in_string, in_key, Frame, State, state, start, run, part_step}
 use Rattle.json_order.specs.declared.place.Part.{Part}
@@ -35,3 +37,15 @@ parts_after p (c ∷ cs) = option_and_then (λ q. parts_after q cs) (part_step p
 abbrev pub Stands : List ℕ → State → List ℕ → Type 0
 Stands text s rest =
     (ys : List ℕ) × (text ≡ encode_utf8_all ys ++ rest) × (run strict (Ok start) ys ≡ Ok s)
+
+-- c is the character of the unit u, or of u and the unit that follows
+abbrev pub UnitEnds : ℕ → ℕ → List ℕ → List ℕ → Type 0
+UnitEnds u c before after =
+    ((c ≡ u) × IsScalar u × (before ≡ after))
+    ⊎ ((is_high_surrogate u ≡ true)
+    × ((low : ℕ) × IsUnit low before after × (is_low_surrogate low ≡ true)
+    × (c ≡ surrogate_pair_char u low)))
+
+-- an escape in front spells the character
+abbrev pub IsEscape : ℕ → List ℕ → List ℕ → Type 0
+IsEscape c before after = IsCharacter c before after × ((tail : List ℕ) × (before ≡ 92 ∷ tail))

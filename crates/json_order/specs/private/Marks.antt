@@ -1,9 +1,9 @@
 -- A number made of a key's bytes.
 use Rattle.std.specs.Prelude.{ℕ, ◌+◌, ◌*◌, ◌%◌, ◌^◌, List, [], ◌∷◌}
 
--- one byte more, in 64 bits
+-- one byte more, in 32 bits
 abbrev pub mark_with : ℕ → ℕ → ℕ
-mark_with mark byte = ((mark * 1099511628211) % 2 ^ 64 + byte) % 2 ^ 64
+mark_with mark byte = (((mark + byte) % 2 ^ 32) * 2654435761) % 2 ^ 32
 
 abbrev pub mark_on : ℕ → List ℕ → ℕ
 mark_on mark [] = mark

@@ -84,3 +84,16 @@ abbrev pub IsInObject : List Frame → Type 0
 IsInObject [] = ⊥
 IsInObject (in_list vs ∷ fs) = ⊥
 IsInObject (in_object es key ∷ fs) = Unit {0}
+
+-- what is read so far stands in the place
+abbrev pub IsMoving : CodePlace → Type 0
+IsMoving Value = ⊥
+IsMoving FirstItem = ⊥
+IsMoving (Behind t) = Unit {0}
+IsMoving FirstKey = ⊥
+IsMoving (NextKey ms) = Unit {0}
+IsMoving (Key ms s e) = Unit {0}
+IsMoving (Colon ms s) = Unit {0}
+IsMoving (Text s e) = Unit {0}
+IsMoving (Number s p) = Unit {0}
+IsMoving (WordPlace w n) = ⊥

@@ -163,72 +163,79 @@ fn entered(report: &Report) -> usize {
     }
 }
 
-#[test]
-fn waiting(rt: HostRuntime) -> Result<(), Fail> {
-    let text =
-        b"dlcalls 1\ndomain 1 1048576\nadmit 1 1 w 2 10 10 - 0 -1:1{w,r1}\nadvance 1 3\nwake 1 1\nwake 1 1\nadvance 1 3\n";
-    let (said, report) = ran(&rt, rt.alloc(), text, 1024)?;
-    assert_eq!(rt;
-        said.as_str(),
-        "Admitted; Done { ticks: 3 }; Woken; NotWaiting; Done { ticks: 3 }; "
-    );
-    assert_eq!(rt; entered(&report), 5);
-    Ok(())
-}
+// The room of the history, the calls, the answers, and then the number of entries, what is used of
+// the word, and its cap.
+type Row = (usize, &'static [u8], &'static str, (usize, u64, u64));
 
-// All ticks of a call are made, up to the most that one may ask for.
-#[test]
-fn most_ticks_of_a_call(rt: HostRuntime) -> Result<(), Fail> {
-    let text =
-        b"dlcalls 1\ndomain 1 1048576\nadvance 1 60000000\nadmit 1 1 a 2 8 8 - 0 -1:1{r1,t8}\nadvance 1 3000\n";
-    let (said, report) = ran(&rt, rt.alloc(), text, 4)?;
-    assert_eq!(rt;
-        said.as_str(),
-        "Done { ticks: 60000000 }; Admitted; Done { ticks: 3000 }; "
-    );
-    assert_eq!(rt; entered(&report), 3);
-    Ok(())
-}
+const TWICE: &[u8] =
+    b"dlcalls 1\ndomain 1 1048576\nadmit 1 1 a 2 8 8 - 0 1:1{r2}\nadmit 1 1 b 2 8 8 - 0 1:1{r2}\nadmit 1 2 b 2 8 8 - 0 1:1{r2}\nadmit 1 1 c 2 8 8 - 0 1:1{r2}\n";
 
-#[test]
-fn regrade(rt: HostRuntime) -> Result<(), Fail> {
-    let text =
-        b"dlcalls 1\ndomain 1 524288\nadmit 1 1 a 2 8 8 - 0 1:1{r2}\nregrade 1 1 4 8 8 -\nregrade 1 1 5 8 8 -\nregrade 1 7 4 8 8 -\nleave 1 7\n";
-    let (said, report) = ran(&rt, rt.alloc(), text, 1024)?;
-    assert_eq!(rt;
-        said.as_str(),
-        "Admitted; Changed; Busy { seen: 524288 }; NotListed; NotListed; "
-    );
-    assert_eq!(rt; report.words.as_slice(), [524288].as_slice());
-    Ok(())
-}
+// waiting: a refused wake is entered too. most_ticks_of_a_call: all ticks of a call are made, up to
+// the most that one may ask for. regrade: the word goes with the book. limit_calls: the limit is not
+// set below what the task has; then it holds for admissions, down and up. limit_in_a_full_book: a
+// book that is full changes no limit. full_book. number_twice: a number is admitted once, and that
+// the book is full is found first.
+const ROWS: [Row; 8] = [
+    (
+        1024,
+        b"dlcalls 1\ndomain 1 1048576\nadmit 1 1 w 2 10 10 - 0 -1:1{w,r1}\nadvance 1 3\nwake 1 1\nwake 1 1\nadvance 1 3\n",
+        "Admitted; Done { ticks: 3 }; Woken; NotWaiting; Done { ticks: 3 }; ",
+        (5, 209715, 1048576),
+    ),
+    (
+        4,
+        b"dlcalls 1\ndomain 1 1048576\nadvance 1 60000000\nadmit 1 1 a 2 8 8 - 0 -1:1{r1,t8}\nadvance 1 3000\n",
+        "Done { ticks: 60000000 }; Admitted; Done { ticks: 3000 }; ",
+        (3, 262144, 1048576),
+    ),
+    (
+        1024,
+        b"dlcalls 1\ndomain 1 524288\nadmit 1 1 a 2 8 8 - 0 1:1{r2}\nregrade 1 1 4 8 8 -\nregrade 1 1 5 8 8 -\nregrade 1 7 4 8 8 -\nleave 1 7\n",
+        "Admitted; Changed; Busy { seen: 524288 }; NotListed; NotListed; ",
+        (5, 524288, 524288),
+    ),
+    (
+        1024,
+        b"dlcalls 2\ndomain 1 524288\nadmit 1 1 a 2 8 8 - 0 1:1{r2}\nlimit 1 131072\nlimit 1 262144\nadmit 1 2 b 2 8 8 - 0 1:1{r2}\nlimit 1 1048576\nadmit 1 3 c 2 8 8 - 0 1:1{r2}\n",
+        "Admitted; Busy { seen: 262144 }; Set; EBUSY 16 seen 262144; Set; Admitted; ",
+        (5, 524288, 1048576),
+    ),
+    (
+        1,
+        b"dlcalls 2\ndomain 1 1048576\nadmit 1 1 a 2 8 8 - 0 1:1{r2}\nlimit 1 524288\n",
+        "Admitted; Full 40; ",
+        (1, 262144, 1048576),
+    ),
+    (
+        1,
+        b"dlcalls 1\ndomain 1 1048576\nadmit 1 1 a 2 8 8 - 0 1:1{r2}\nadmit 1 2 b 2 8 8 - 0 1:1{r2}\nleave 1 1\nadvance 1 1\n",
+        "Admitted; Full 40; Full 40; Full 40; ",
+        (1, 262144, 1048576),
+    ),
+    (
+        1024,
+        TWICE,
+        "Admitted; Twice 41; Admitted; Twice 41; ",
+        (2, 524288, 1048576),
+    ),
+    (
+        2,
+        TWICE,
+        "Admitted; Twice 41; Admitted; Full 40; ",
+        (2, 524288, 1048576),
+    ),
+];
 
-// The limit is not set below what the task has; then it holds for admissions, down and up.
+// Each row's calls in a session of its own, with all pieces home in the end.
 #[test]
-fn limit_calls(rt: HostRuntime) -> Result<(), Fail> {
-    let text =
-        b"dlcalls 2\ndomain 1 524288\nadmit 1 1 a 2 8 8 - 0 1:1{r2}\nlimit 1 131072\nlimit 1 262144\nadmit 1 2 b 2 8 8 - 0 1:1{r2}\nlimit 1 1048576\nadmit 1 3 c 2 8 8 - 0 1:1{r2}\n";
-    let (said, report) = ran(&rt, rt.alloc(), text, 1024)?;
-    assert_eq!(rt;
-        said.as_str(),
-        "Admitted; Busy { seen: 262144 }; Set; EBUSY 16 seen 262144; Set; Admitted; "
-    );
-    assert_eq!(rt; entered(&report), 5);
-    assert_eq!(rt; report.words.as_slice(), [524288].as_slice());
-    assert_eq!(rt; report.caps.as_slice(), [1048576].as_slice());
-    assert_eq!(rt; report.home, 257);
-    Ok(())
-}
-
-// A book that is full changes no limit.
-#[test]
-fn limit_in_a_full_book(rt: HostRuntime) -> Result<(), Fail> {
-    let text = b"dlcalls 2\ndomain 1 1048576\nadmit 1 1 a 2 8 8 - 0 1:1{r2}\nlimit 1 524288\n";
-    let (said, report) = ran(&rt, rt.alloc(), text, 1)?;
-    assert_eq!(rt; said.as_str(), "Admitted; Full 40; ");
-    assert_eq!(rt; report.words.as_slice(), [262144].as_slice());
-    assert_eq!(rt; report.caps.as_slice(), [1048576].as_slice());
-    assert_eq!(rt; report.home, 257);
+fn rows_of_one_client(rt: HostRuntime) -> Result<(), Fail> {
+    for (room, text, wanted, (calls, word, cap)) in ROWS {
+        let (said, report) = ran(&rt, rt.alloc(), text, room.clamp(1, 65536))?;
+        assert_eq!(rt; said.as_str(), wanted);
+        assert_eq!(rt; (entered(&report), report.home), (calls, 257));
+        assert_eq!(rt; report.words.as_slice(), [word].as_slice());
+        assert_eq!(rt; report.caps.as_slice(), [cap].as_slice());
+    }
     Ok(())
 }
 
@@ -252,34 +259,6 @@ fn admission_race(rt: HostRuntime) -> Result<(), Fail> {
     assert_eq!(rt; entered(&report), 3);
     assert_eq!(rt; report.words.as_slice(), [1572864].as_slice());
     assert_eq!(rt; report.home, 257);
-    Ok(())
-}
-
-#[test]
-fn full_book(rt: HostRuntime) -> Result<(), Fail> {
-    let text =
-        b"dlcalls 1\ndomain 1 1048576\nadmit 1 1 a 2 8 8 - 0 1:1{r2}\nadmit 1 2 b 2 8 8 - 0 1:1{r2}\nleave 1 1\nadvance 1 1\n";
-    let (said, report) = ran(&rt, rt.alloc(), text, 1)?;
-    assert_eq!(rt; said.as_str(), "Admitted; Full 40; Full 40; Full 40; ");
-    assert_eq!(rt; report.words.as_slice(), [262144].as_slice());
-    assert_eq!(rt; report.home, 257);
-    Ok(())
-}
-
-// A number is admitted once. That the book is full is found first.
-#[test]
-fn number_twice(rt: HostRuntime) -> Result<(), Fail> {
-    let text =
-        b"dlcalls 1\ndomain 1 1048576\nadmit 1 1 a 2 8 8 - 0 1:1{r2}\nadmit 1 1 b 2 8 8 - 0 1:1{r2}\nadmit 1 2 b 2 8 8 - 0 1:1{r2}\nadmit 1 1 c 2 8 8 - 0 1:1{r2}\n";
-    for (room, wanted) in [
-        (1024, "Admitted; Twice 41; Admitted; Twice 41; "),
-        (2, "Admitted; Twice 41; Admitted; Full 40; "),
-    ] {
-        let (said, report) = ran(&rt, rt.alloc(), text, room)?;
-        assert_eq!(rt; said.as_str(), wanted);
-        assert_eq!(rt; report.words.as_slice(), [524288].as_slice());
-        assert_eq!(rt; report.home, 257);
-    }
     Ok(())
 }
 

@@ -1,6 +1,7 @@
 //! Tables of texts and what they give: the keys at the ends of what they take, and each fault as it
 //! prints.
 use super::*;
+use std::test::Fail;
 
 /// A root with one thread `a`, up to its members.
 const THREAD: &str = r#"{"global":{"duration":1},"tasks":{"a":{"#;
@@ -12,15 +13,14 @@ const TASK: &str =
 /// What stands behind the members of that thread.
 const END: &str = "}}}";
 
-#[test]
-fn no_tasks(rt: HostRuntime) -> Result<(), Fail> {
-    let rows = r#"{"tasks":{},"global":{"duration":1}} => scenario 20
+const NO_TASKS: &str = r#"{"tasks":{},"global":{"duration":1}} => scenario 20
 {"tasks":[],"global":{"duration":1}} => scenario 20
 {"global":{"duration":61},"other":1} => scenario 20
 [] => scenario 20"#;
-    assert_eq!(rt; first_wrong(rt.alloc(), "", rows, "")?, None);
-    Ok(())
-}
+
+/// The order of members, and all that a scenario has.
+const ORDER: &str =
+    r#"{"tasks":{"p":{"policy":"SCHED_DEADLINE","dl-runtime":5,"dl-period":10,"phases":{"light":{"loop":2,"run0":3,"sleep1":7},"heavy":{"run0":4,"sleep1":2,"run2":1}}}},"global":{"duration":0}} => Scenario { duration_us: 0, tasks: [TaskSpec { number: 1, name: Name { text: "p" }, attr: SchedAttr { policy: 6, flags: 0, runtime: 5000, deadline: 10000, period: 10000 }, cpus: None, delay: 0, script: Script { rounds: None, phases: [Phase { count: 2, events: [Run(3), Sleep(7)] }, Phase { count: 1, events: [Run(4), Sleep(2), Run(1)] }] } }] }"#;
 
 const ROOTS: &str = r#"{"tasks":{"a":1}} => scenario 21
 {"tasks":{"a":1},"global":1} => scenario 21
@@ -39,21 +39,8 @@ const PROFILE: &str = r#""runtime":5 => scenario 22 key runtime
 "sleep":0 => scenario 27
 "instance":2,"run":5,"timer":{"ref":"tick","period":1000} => scenario 22 key ref
 "instance":2,"run":5,"timer":{"ref":"unique","period":1000} => number: 2, name: Name { text: "a-1" }
-"instance":1,"run":5,"timer":{"ref":"tick","period":1000} => number: 1, name: Name { text: "a" }"#;
-
-#[test]
-fn profile_faults(rt: HostRuntime) -> Result<(), Fail> {
-    assert_eq!(rt; first_wrong(rt.alloc(), "", ROOTS, "")?, None);
-    assert_eq!(rt; first_wrong(rt.alloc(), TASK, PROFILE, END)?, None);
-    Ok(())
-}
-
-#[test]
-fn timer_cursor(rt: HostRuntime) -> Result<(), Fail> {
-    let row = r#""run":4,"timer":{"ref":"unique","period":8} => events: [Run(4), Timer(8)]"#;
-    assert_eq!(rt; first_wrong(rt.alloc(), TASK, row, END)?, None);
-    Ok(())
-}
+"instance":1,"run":5,"timer":{"ref":"tick","period":1000} => number: 1, name: Name { text: "a" }
+"run":4,"timer":{"ref":"unique","period":8} => events: [Run(4), Timer(8)]"#;
 
 /// What is missing is told behind the members.
 const MISSING: &str = r#""run":1 => scenario 25
@@ -145,6 +132,10 @@ const NAMED: &str =
 /// The first wrong row of all these tables.
 fn first_wrong_of_all(alloc: Global) -> Result<Option<&'static str>, AllocError> {
     for (front, rows, end) in [
+        ("", NO_TASKS, ""),
+        ("", ORDER, ""),
+        ("", ROOTS, ""),
+        (TASK, PROFILE, END),
         (THREAD, MISSING, END),
         (TIMES, OF_TIMES, END),
         (TASK, KEYS, END),
@@ -160,52 +151,7 @@ fn first_wrong_of_all(alloc: Global) -> Result<Option<&'static str>, AllocError>
 }
 
 #[test]
-fn every_key(rt: HostRuntime) -> Result<(), Fail> {
+fn every_row(rt: HostRuntime) -> Result<(), Fail> {
     assert_eq!(rt; first_wrong_of_all(rt.alloc())?, None);
-    Ok(())
-}
-
-/// So many members of a key and its number, each of this value.
-fn many(alloc: Global, key: &str, value: &str, count: u64) -> Result<String, AllocError> {
-    let mut text = String::new(alloc);
-    for i in 0..count {
-        if i > 0 {
-            text.push_str(",")?;
-        }
-        write!(text, "\"{key}{i}\":{value}")?;
-    }
-    Ok(text)
-}
-
-/// So many events of one phase give this answer.
-fn are_events(alloc: Global, value: &str, count: u64, answer: &str) -> Result<bool, AllocError> {
-    let events = many(alloc, "run", value, count)?;
-    let row = format!(in alloc; "\"phases\":{{\"p\":{{{events}}}}} => {answer}")?;
-    is_right(alloc, TASK, &row, END)
-}
-
-/// So many phases of one thread give this answer.
-fn are_phases(alloc: Global, value: &str, count: u64, answer: &str) -> Result<bool, AllocError> {
-    let phases = many(alloc, "p", value, count)?;
-    let row = format!(in alloc; "\"phases\":{{{phases}}} => {answer}")?;
-    is_right(alloc, TASK, &row, END)
-}
-
-/// 64 are read. Events of 0 us count, and neither the value of the 65th event is read nor any of 65
-/// phases.
-fn are_counted(alloc: Global) -> Result<bool, AllocError> {
-    Ok(
-        are_events(alloc, "1", 64, "Run(1), Run(1)] }")?
-            && are_events(alloc, "0", 64, "scenario 27")?
-            && are_events(alloc, "0", 65, "scenario 26")?
-            && are_phases(alloc, "{\"run\":1}", 64, "events: [Run(1)] }] }")?
-            && are_phases(alloc, "1", 64, "scenario 23 key p0")?
-            && are_phases(alloc, "1", 65, "scenario 26")?,
-    )
-}
-
-#[test]
-fn too_many(rt: HostRuntime) -> Result<(), Fail> {
-    assert!(rt; are_counted(rt.alloc())?);
     Ok(())
 }

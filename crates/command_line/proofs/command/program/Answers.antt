@@ -18,5 +18,6 @@ returns c =
     let required = changed _ _ _ _ _ c.subcommand_required.ensures (ap (on_top (λ s. record s { subcommand_required = true })) after_help.is) refl after_help in
     let with_run = with_command _ _ _ _ _ required run_made c.in_ok-subcommand.ensures in
     let with_replay = with_command _ _ _ _ _ with_run replay_made c.in_ok-subcommand-2.ensures in
+    let with_compare = with_command _ _ _ _ _ with_replay (record { is = c.in_ok-compare.ensures.app; local = c.in_ok-compare.ensures.local }) c.in_ok-subcommand-3.ensures in
     IfOk-weaker c.bin_name.result _ IsProgram (λ command named.
-    record { run = run.names; replay = replay.names; are_held = record { of_run = run.are_texts; of_replay = replay.are_texts }; app = ap app_of_fields named.0 ∙ with_replay.is }) c.bin_name.ensures
+    record { run = run.names; replay = replay.names; are_held = record { of_run = run.are_texts; of_replay = replay.are_texts }; app = ap app_of_fields named.0 ∙ with_compare.is }) c.bin_name.ensures

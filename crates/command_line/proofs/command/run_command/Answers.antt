@@ -15,7 +15,7 @@ returns c =
     let period = with_option _ _ _ _ _ runtime c.counted-2.ensures.rule c.counted-2.ensures.local c.in_ok-arg-3.ensures in
     let clients = with_option _ _ _ _ _ period c.counted-3.ensures.rule c.counted-3.ensures.local c.in_ok-arg-4.ensures in
     let workers = with_option _ _ _ _ _ clients c.counted-4.ensures.rule c.counted-4.ensures.local c.in_ok-arg-5.ensures in
-    let reclaim = with_option _ _ _ _ _ workers c.reclaim.ensures.rule c.reclaim.ensures.local c.in_ok-arg-6.ensures in
+    let reclaim = with_option _ _ _ _ _ workers c.flag.ensures.rule c.flag.ensures.local c.in_ok-arg-6.ensures in
     let print = c.print_run.ensures.rule in
     IfOk-weaker c.arg-7.result _ IsRun (λ command adds.
     let made = with_option _ _ _ _ _ reclaim print.2 c.print_run.ensures.local adds in

@@ -3,5 +3,5 @@ use Rattle.json_order.specs.private.Entries.{keys_of}
 use Rattle.json_order.specs.private.KeySets.{HasKeys}
 use Rattle.json_order.proofs.members.set_of.Given as goal
 
-abbrev pub invariant-loop-name : goal.invariant-loop-name
-invariant-loop-name l = HasKeys l.set (keys_of (take l.name-index l.members))
+abbrev pub invariant-loop-place : goal.invariant-loop-place
+invariant-loop-place l = HasKeys l.set (keys_of (take l.place l.members))

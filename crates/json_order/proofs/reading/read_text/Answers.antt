@@ -21,12 +21,6 @@ returns-in-Err-turn-clause-fault c =
     c.in-Err-turn.kind (length (encode_utf8_all ys)) c.fault_at-in-Err-turn.result.kind c.fault_at-in-Err-turn.result.at
     c.utf8.text c.loop-c.invariant.stands.1 c.in-Some.ensures.steps.0 c.loop-c.invariant.stands.2 c.in-Err-turn.ensures.err refl told
 
-pub take_run-requires : goal.take_run-requires
-take_run-requires c =
-    let u = state_of c.turn.new.place c.turn.new.stack.items in
-    let more = stands_more c.args.text.now (chars_rest c.loop-c.chars) (chars_rest c.next.new.self) c.in-Some.c (state_of c.loop-c.place c.loop-c.stack.items) u c.loop-c.invariant.stands c.in-Some.ensures.steps.0 c.in-Ok-turn.ensures.ok in
-    record { fine = stands_fine c.args.text.now (chars_rest c.next.new.self) u more }
-
 pub loop-c-preserved : goal.loop-c-preserved
 loop-c-preserved c =
     let u = state_of c.turn.new.place c.turn.new.stack.items in

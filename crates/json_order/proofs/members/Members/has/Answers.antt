@@ -10,5 +10,5 @@ returns-then-is_behind c =
     let none = none_of c.args.self.now.sets.items zero in
     let many : 16 < length c.args.self.now.list.items = search rules in
     let below : last_below (keys_of c.args.self.now.list.items) c.args.key.now ≡ true =
-    ap (λ x. last_below (keys_of x) c.args.key.now) (sym c.deref.ensures.value) ∙ sym c.is_behind.ensures ∙ c.if-is_behind.true in
+    ap (λ x. last_below (keys_of x) c.args.key.now) (sym c.deref-then-len-gt-FEW.ensures.value) ∙ sym c.is_behind.ensures ∙ c.if-is_behind.true in
     sym (below_new (keys_of c.args.self.now.list.items) c.args.key.now (c.args.self.now.ascending none many c.args.key.now below))

@@ -1,0 +1,5 @@
+mod Firsts
+mod OneMore
+mod Lengths
+mod Reports
+mod Answering

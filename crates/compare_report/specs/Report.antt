@@ -1,0 +1,32 @@
+-- The report of two texts (own).
+use Rattle.std.specs.Prelude.{◌≡◌, ℕ, suc, ℤ, pos, negsuc, ◌+◌, ◌-◌, min, List, length, Option}
+use Rattle.std.specs.Option.{option_map}
+use Rattle.trace_compare.specs.declared.task.TaskRuns.{TaskRuns}
+use Rattle.trace_compare.specs.declared.comparing.Compared.{Compared}
+use Rattle.trace_compare.specs.Pairs.{no_shift}
+use Rattle.trace_compare.specs.Tasks.{IsNoise, AreTasksOf}
+use Rattle.trace_compare.specs.Compared.{IsCompared}
+use Rattle.trace_compare.specs.Differences.{first_start, last_end}
+use Rattle.compare_report.specs.declared.finding.Finding.{Finding}
+use Rattle.compare_report.specs.declared.options.CompareOptions.{CompareOptions}
+use Rattle.compare_report.specs.Findings.{AreFindings}
+use Rattle.compare_report.specs.Text.{IsTextOf}
+use Rattle.compare_report.specs.Reading.{Pair}
+
+-- a shift that is asked for, counted from -2^61 us: to either side at most so far
+abbrev pub asked_shift : ℤ → ℕ
+asked_shift (pos n) = no_shift + min n 2305843009213693951
+asked_shift (negsuc n) = no_shift - suc n
+
+-- the tasks are the model's; their runs in both texts are compared under the shift that was asked
+-- for, or the best; and what is told is of these
+pub record IsReport (asked : CompareOptions) (p : Pair) (text : List ℕ) : Type 0 where
+  pub noise : ℕ
+  pub is_noise : IsNoise asked.noise p.model p.many noise
+  pub tasks : List TaskRuns
+  pub are_tasks : AreTasksOf noise p.model p.recorded p.many tasks
+  pub compared : Compared
+  pub is_compared : IsCompared asked.within (option_map asked_shift asked.shift) tasks compared
+  pub findings : List Finding
+  pub are_findings : AreFindings compared.shift (first_start tasks) (last_end tasks) p.names tasks compared.tasks.items (length tasks) findings
+  pub is_text : IsTextOf asked.cpus compared.shift findings text

@@ -1,0 +1,76 @@
+//! The report of two texts that were read.
+
+ghost use Rattle.std.specs.Prelude.{◌≡◌, ◌<◌, ◌≤◌, ◌^◌, All, IfOk, length};
+ghost use Rattle.trace_compare.specs.Tasks.{IsSound, HaveSmallTimes};
+ghost use Rattle.trace_compare.specs.Matched.{IsSoundMatching};
+ghost use Rattle.trace_compare.specs.Differences.{first_start, last_end};
+ghost use Rattle.compare_report.specs.Report.{IsReport};
+ghost use Rattle.compare_report.specs.private.Fitting.{AreFitting, IsReportOfRuns};
+ghost use Rattle.compare_report.specs.Reading.{pair};
+
+use crate::findings::findings_of;
+use crate::options::{CompareOptions, noise_asked, shift_asked};
+use crate::row::Span;
+use crate::text::text_of;
+use compare_table::NoMemory;
+use std::alloc::Global;
+use trace_compare::{
+    Compared, Names, Step, TaskRuns, compare, first_start_of, last_end_of, runs_of_tasks,
+};
+
+/// The model's time, under a shift.
+fn span_of(shift: u64, tasks: &[TaskRuns]) -> Span
+    requires { All IsSound tasks.now }
+    ensures shift { result.shift ≡ shift }
+    ensures from { result.from ≡ first_start tasks.now }
+    ensures until { result.until ≡ last_end tasks.now }
+    ensures small_from { result.from ≤ 2 ^ 61 }
+    ensures small_until { result.until < 2 ^ 61 }
+{
+    Span {
+        shift,
+        from: first_start_of(tasks),
+        until: last_end_of(tasks),
+    }
+}
+
+/// The report of runs that were compared.
+fn report_of_compared(
+    alloc: Global,
+    cpus: bool,
+    names: &Names,
+    tasks: &[TaskRuns],
+    compared: &Compared,
+) -> Result<Vec<u8>, NoMemory>
+    requires names { length tasks.now ≤ length names.now }
+    requires tasks { All IsSound tasks.now }
+    requires shift { compared.now.shift < 2 ^ 62 }
+    requires fitting { AreFitting tasks.now compared.now.tasks.items }
+    requires matched { All IsSoundMatching compared.now.tasks.items }
+    ensures { IfOk result (λ v. IsReportOfRuns cpus names.now tasks.now compared.now v.items) }
+{
+    let span = span_of(compared.shift, tasks);
+    let findings = findings_of(alloc, names, tasks, compared.tasks.as_slice(), span)?;
+    text_of(alloc, cpus, compared.shift, findings.as_slice())
+}
+
+/// The report of the switches of two texts, whose tasks are those of the first so many names.
+pub(crate) fn report_of(
+    alloc: Global,
+    options: CompareOptions,
+    names: &Names,
+    many: usize,
+    model: &[Step],
+    recorded: &[Step],
+) -> Result<Vec<u8>, NoMemory>
+    requires many { many ≤ length names.now }
+    requires model { HaveSmallTimes model.now }
+    requires recorded { HaveSmallTimes recorded.now }
+    ensures { IfOk result (λ v.
+        IsReport options (pair names.now many model.now recorded.now) v.items) }
+{
+    let tasks = runs_of_tasks(alloc, noise_asked(options), model, recorded, many)?;
+    let within = u64::from(options.within);
+    let compared = compare(alloc, within, shift_asked(options), tasks.as_slice())?;
+    report_of_compared(alloc, options.cpus, names, tasks.as_slice(), &compared)
+}

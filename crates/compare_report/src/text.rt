@@ -1,0 +1,205 @@
+//! The text of a report.
+
+ghost use Rattle.std.specs.Prelude.{◌≡◌, ◌++◌, IfOk, OnOk, map, sum_by};
+ghost use Rattle.std.specs.Option.{option_map};
+ghost use Rattle.std.specs.List.{flat_map};
+ghost use Rattle.compare_table.specs.Table.{row_line};
+ghost use Rattle.compare_report.specs.First.{IsFirst};
+ghost use Rattle.compare_report.specs.Text.{shift_told, cpus_told, differences_told, told, other_told, missing_starts, other_starts, missing_at, other_at, IsTextOf};
+
+use crate::finding::{Finding, Missing};
+use crate::first::earliest;
+use compare_table::{
+    NoMemory, Place, Shift, put_cpus, put_header, put_missing, put_no_difference, put_other,
+    put_row, put_shift,
+};
+use std::alloc::{AllocError, Global};
+use trace_compare::NO_SHIFT;
+
+/// By how much the recording's clock is ahead, or behind.
+fn shift_of(shift: u64) -> Shift
+    ensures { result ≡ shift_told shift }
+{
+    Shift {
+        behind: shift < NO_SHIFT,
+        us: shift.abs_diff(NO_SHIFT),
+    }
+}
+
+/// Puts the rows of tasks behind a text.
+fn put_rows(out: &mut Vec<u8>, findings: &[Finding<'_>]) -> Result<(), NoMemory>
+    ensures { OnOk result (out.new.items ≡ out.old.items ++ flat_map (λ f. row_line f.row) findings.now) }
+{
+    for finding in findings {
+        put_row(out, &finding.row)?;
+    }
+    Ok(())
+}
+
+/// How many matched runs of all tasks were on the same CPU.
+fn same_of(findings: &[Finding<'_>]) -> u128
+    ensures { result ≡ sum_by (λ f. f.same_cpu) findings.now }
+{
+    let mut total: u128 = 0;
+    for finding in findings {
+        total += u128::from(finding.same_cpu);
+    }
+    total
+}
+
+/// How many runs of all tasks matched.
+fn matched_in(findings: &[Finding<'_>]) -> u128
+    ensures { result ≡ sum_by (λ f. f.row.matched) findings.now }
+{
+    let mut total: u128 = 0;
+    for finding in findings {
+        total += u128::from(finding.row.matched);
+    }
+    total
+}
+
+/// Puts the line on CPUs behind a text, where it is asked for.
+fn put_asked_cpus(out: &mut Vec<u8>, cpus: bool, findings: &[Finding<'_>]) -> Result<(), NoMemory>
+    ensures { OnOk result (out.new.items ≡ out.old.items ++ cpus_told cpus findings.now) }
+{
+    if cpus {
+        put_cpus(out, same_of(findings), matched_in(findings))
+    } else {
+        Ok(())
+    }
+}
+
+/// Puts the line of a recorded run behind a text, if there is one.
+fn put_some_other(out: &mut Vec<u8>, other: Option<Place<'_>>) -> Result<(), NoMemory>
+    ensures { OnOk result (out.new.items ≡ out.old.items ++ other_told other.entry) }
+{
+    match other {
+        None => Ok(()),
+        Some(place) => put_other(out, &place),
+    }
+}
+
+/// Puts the lines of the first differences behind a text.
+fn put_differences(
+    out: &mut Vec<u8>,
+    missing: Option<Missing<'_>>,
+    other: Option<Place<'_>>,
+) -> Result<(), NoMemory>
+    ensures { OnOk result (out.new.items ≡ out.old.items ++ differences_told missing.entry other.entry) }
+{
+    match missing {
+        None => match other {
+            None => put_no_difference(out),
+            Some(place) => put_other(out, &place),
+        },
+        Some(found) => {
+            put_missing(out, &found.place, found.nearest)?;
+            put_some_other(out, other)
+        }
+    }
+}
+
+fn missing_start(finding: &Finding<'_>) -> Option<u64>
+    ensures { result ≡ option_map (λ x. x.place.run.start) finding.now.missing }
+{
+    match finding.missing {
+        None => None,
+        Some(missing) => Some(missing.place.run.start),
+    }
+}
+
+fn other_start(finding: &Finding<'_>) -> Option<u64>
+    ensures { result ≡ option_map (λ p. p.run.start) finding.now.other }
+{
+    match finding.other {
+        None => None,
+        Some(place) => Some(place.run.start),
+    }
+}
+
+/// The task whose run of the model that matches nothing is the earliest.
+fn first_missing(alloc: Global, findings: &[Finding<'_>]) -> Result<Option<usize>, AllocError>
+    ensures { IfOk result (IsFirst (missing_starts findings.now)) }
+{
+    let mut starts = Vec::new(alloc);
+    for finding in findings {
+        starts.push(missing_start(finding))?;
+    }
+    Ok(earliest(starts.as_slice()))
+}
+
+/// The task whose recorded run that matches nothing is the earliest.
+fn first_other(alloc: Global, findings: &[Finding<'_>]) -> Result<Option<usize>, AllocError>
+    ensures { IfOk result (IsFirst (other_starts findings.now)) }
+{
+    let mut starts = Vec::new(alloc);
+    for finding in findings {
+        starts.push(other_start(finding))?;
+    }
+    Ok(earliest(starts.as_slice()))
+}
+
+fn missing_of<'a>(findings: &[Finding<'a>], task: Option<usize>) -> Option<Missing<'a>>
+    ensures { result ≡ missing_at findings.now task }
+{
+    match task {
+        None => None,
+        Some(task) => match findings.get(task) {
+            None => None,
+            Some(finding) => finding.missing,
+        },
+    }
+}
+
+fn other_of<'a>(findings: &[Finding<'a>], task: Option<usize>) -> Option<Place<'a>>
+    ensures { result ≡ other_at findings.now task }
+{
+    match task {
+        None => None,
+        Some(task) => match findings.get(task) {
+            None => None,
+            Some(finding) => finding.other,
+        },
+    }
+}
+
+/// Puts the whole text behind another.
+fn put_all(
+    out: &mut Vec<u8>,
+    cpus: bool,
+    shift: u64,
+    findings: &[Finding<'_>],
+    missing: Option<Missing<'_>>,
+    other: Option<Place<'_>>,
+) -> Result<(), NoMemory>
+    ensures { OnOk result (out.new.items ≡ out.old.items ++ told cpus shift findings.now missing.entry other.entry) }
+{
+    put_shift(out, shift_of(shift))?;
+    put_header(out)?;
+    put_rows(out, findings)?;
+    put_asked_cpus(out, cpus, findings)?;
+    put_differences(out, missing, other)
+}
+
+/// The text of findings.
+pub(crate) fn text_of(
+    alloc: Global,
+    cpus: bool,
+    shift: u64,
+    findings: &[Finding<'_>],
+) -> Result<Vec<u8>, NoMemory>
+    ensures { IfOk result (λ v. IsTextOf cpus shift findings.now v.items) }
+{
+    let missing = first_missing(alloc, findings)?;
+    let other = first_other(alloc, findings)?;
+    let mut out = Vec::new(alloc);
+    put_all(
+        &mut out,
+        cpus,
+        shift,
+        findings,
+        missing_of(findings, missing),
+        other_of(findings, other),
+    )?;
+    Ok(out)
+}

@@ -1,0 +1,9 @@
+//! The tests of the crates that compare a recording with the model's trace, apart from them.
+#![tactic(auto)]
+
+#[cfg(test)]
+mod fakes;
+#[cfg(test)]
+mod of_recordings;
+#[cfg(test)]
+mod of_reports;

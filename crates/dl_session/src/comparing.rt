@@ -1,0 +1,129 @@
+//! How a comparison of two traces ends.
+
+ghost use Rattle.std.specs.Prelude.{◌≡◌};
+ghost use Rattle.std.specs.Fmt.{WritesOnOk};
+ghost use Rattle.dl_session.specs.Comparing.{name_of, compare_status, compare_text, comparison_status, IsEndOfComparison};
+
+use crate::fault::write_one_line;
+use compare_report::{CompareFault, Input};
+use std::fmt;
+
+/// The names of two traces, as they are told: those of files, or `standard input`.
+#[derive(Clone, Copy, Debug)]
+pub struct TraceNames<'a> {
+    pub model: &'a str,
+    pub recorded: &'a str,
+}
+
+impl<'a> TraceNames<'a> {
+    /// The name of one of the two.
+    fn of(&self, input: Input) -> &'a str
+        ensures { result.now ≡ name_of self.now input }
+    {
+        match input {
+            Input::Model => self.model,
+            Input::Recorded => self.recorded,
+        }
+    }
+}
+
+/// How a comparison ends: what it says on standard error, which is what this displays, and its exit
+/// status.
+#[derive(Clone, Copy)]
+pub enum ComparisonEnding<'a> {
+    /// The report was written.
+    Done,
+    /// Both traces are standard input, which is for one of them.
+    BothStdin,
+    /// The file of this name was not opened, and nothing was read.
+    NotOpened(&'a str),
+    /// There is no report, or only its front: this fault was met, with traces of these names.
+    Fault(CompareFault, TraceNames<'a>),
+}
+
+impl<'a> ComparisonEnding<'a> {
+    /// The end of a comparison, which says nothing, or the line of its fault.
+    pub fn of(ended: Result<(), CompareFault>, names: &TraceNames<'a>) -> ComparisonEnding<'a>
+        ensures { IsEndOfComparison ended names.now result }
+    {
+        match ended {
+            Ok(()) => ComparisonEnding::Done,
+            Err(fault) => ComparisonEnding::Fault(fault, *names),
+        }
+    }
+
+    /// The exit status of the program: 0 where the report was written, 1 for a trace that is none, 2
+    /// where both are standard input, 3 where a file was not opened or reading or writing failed, 4
+    /// for want of memory.
+    pub fn status(&self) -> u8
+        ensures { result ≡ comparison_status self.now }
+    {
+        match self {
+            ComparisonEnding::Done => 0,
+            ComparisonEnding::BothStdin => 2,
+            ComparisonEnding::NotOpened(_) => 3,
+            ComparisonEnding::Fault(fault, _) => status_of(*fault),
+        }
+    }
+}
+
+fn status_of(fault: CompareFault) -> u8
+    ensures { result ≡ compare_status fault }
+{
+    match fault {
+        CompareFault::BadLine { .. } | CompareFault::NoSwitch(_) => 1,
+        CompareFault::Read(_) | CompareFault::Endless(_) | CompareFault::Write { .. } => 3,
+        CompareFault::Memory => 4,
+    }
+}
+
+/// Writes the line of a fault, without the program's name and the LF.
+fn write_fault<W: fmt::Write>(
+    f: &mut fmt::Formatter<W>,
+    fault: CompareFault,
+    names: &TraceNames<'_>,
+) -> fmt::Result
+    ensures { WritesOnOk W.write_str_gives f.old result (compare_text fault names.now) f.new }
+{
+    match fault {
+        CompareFault::BadLine { input, line } => {
+            write!(f, "trace line {line} in ")?;
+            write_one_line(f, names.of(input))
+        }
+        CompareFault::NoSwitch(input) => {
+            f.write_str("no switch in ")?;
+            write_one_line(f, names.of(input))
+        }
+        CompareFault::Read(input) | CompareFault::Endless(input) => {
+            f.write_str("read failed in ")?;
+            write_one_line(f, names.of(input))
+        }
+        CompareFault::Write { written } => write!(f, "write failed after {written}"),
+        CompareFault::Memory => f.write_str("out of memory"),
+    }
+}
+
+/// The line ends with an LF.
+impl fmt::Display for ComparisonEnding<'_> {
+    ghost use Rattle.std.specs.Prelude.{Some};
+    ghost use Rattle.dl_session.specs.Comparing.{comparison_text};
+
+    ghost output = { λ ending. Some (comparison_text ending) };
+
+    fn fmt<W: fmt::Write>(&self, f: &mut fmt::Formatter<W>) -> fmt::Result {
+        match self {
+            ComparisonEnding::Done => Ok(()),
+            ComparisonEnding::BothStdin => f.write_str("dlsim: both traces are standard input\n"),
+            ComparisonEnding::NotOpened(name) => {
+                f.write_str("dlsim: cannot open ")?;
+                write_one_line(f, name)?;
+                f.write_str("\n")
+            }
+            ComparisonEnding::Fault(fault, names) => {
+                f.write_str("dlsim: ")?;
+                write_fault(f, *fault, names)?;
+                f.write_str("\n")
+            }
+        }
+    }
+}

@@ -1,0 +1,6 @@
+mod Cutting
+mod Digits
+mod Ending
+mod Lining
+mod Naming
+mod Stepping

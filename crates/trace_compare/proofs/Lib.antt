@@ -1,0 +1,8 @@
+mod Choosing
+mod Gathered
+mod Gathering
+mod Joining
+mod SideBySide
+mod Pairing
+mod Reaching
+mod Walking

@@ -1,0 +1,20 @@
+use Rattle.trace_compare.proofs.Joining.{none_runs, none_turn, short_later, all_told, all_in_turn}
+use Rattle.trace_compare.proofs.runs.settled.Goals as goal
+
+pub returns-in-None-clause-runs : goal.returns-in-None-clause-runs
+returns-in-None-clause-runs c = none_runs c.args.noise c.args.raw.now c.new-runs.result.items c.in-None.ensures.cases c.new-runs.ensures.items
+
+pub returns-in-None-clause-turn : goal.returns-in-None-clause-turn
+returns-in-None-clause-turn c = none_turn c.new-runs.result.items c.new-runs.ensures.items
+
+pub take_run-requires-clause-run : goal.take_run-requires-clause-run
+take_run-requires-clause-run c = short_later c.args.raw.now c.in-Some.parts.0.now c.in-Some.parts.1.now c.loop-run.run-index _ c.in-Some.ensures.cases.0 c.requires.small c.loop-run-test.true
+
+pub returns-clause-runs : goal.returns-clause-runs
+returns-clause-runs c =
+    all_told c.args.noise c.args.raw.now c.loop-run.runs.items c.push_kept.new.runs.items c.loop-run.current c.in-Some.parts.0.now c.in-Some.parts.1.now c.loop-run.run-index c.in-Some.ensures.cases.0 c.loop-run-test.false c.in_ok-push_kept.ensures.kept c.loop-run.invariant.told
+
+pub returns-clause-turn : goal.returns-clause-turn
+returns-clause-turn c =
+    all_in_turn c.args.noise c.args.raw.now c.push_kept.new.runs.items c.in-Some.parts.0.now c.in-Some.parts.1.now c.in-Some.ensures.cases.0 c.requires.small
+    (all_told c.args.noise c.args.raw.now c.loop-run.runs.items c.push_kept.new.runs.items c.loop-run.current c.in-Some.parts.0.now c.in-Some.parts.1.now c.loop-run.run-index c.in-Some.ensures.cases.0 c.loop-run-test.false c.in_ok-push_kept.ensures.kept c.loop-run.invariant.told)

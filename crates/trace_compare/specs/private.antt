@@ -1,0 +1,3 @@
+pub mod Meetings
+pub mod Behind
+pub mod Choices

@@ -1,0 +1,17 @@
+-- The better of two shifts. No public clause names it.
+use Rattle.std.specs.Prelude.{◌≡◌, ℕ, ◌<◌, ◌≤◌, ◌⊎◌, List, slice_index, Contains}
+use Rattle.trace_compare.specs.declared.shift.Choice.{Choice}
+
+pub record IsBetter (a b r : Choice) : Type 0 where
+  pub one : (r ≡ a) ⊎ (r ≡ b)
+  pub most_a : a.score ≤ r.score
+  pub most_b : b.score ≤ r.score
+  pub least_a : a.score ≡ r.score → r.shift ≤ a.shift
+  pub least_b : b.score ≡ r.score → r.shift ≤ b.shift
+
+-- the best of the first n shifts, or of the list's first
+pub record IsBestSoFar (score_at : ℕ → ℕ) (shifts : List ℕ) (n : ℕ) (best : Choice) : Type 0 where
+  pub among : Contains shifts best.shift
+  pub value : best.score ≡ score_at best.shift
+  pub most : (k : ℕ) → k < n → score_at (slice_index shifts k) ≤ best.score
+  pub smallest : (k : ℕ) → k < n → score_at (slice_index shifts k) ≡ best.score → best.shift ≤ slice_index shifts k

@@ -1,0 +1,79 @@
+//! All tasks of the model beside their recorded runs.
+
+ghost use Rattle.std.specs.Prelude.{◌≡◌, ◌<◌, ◌^◌, length, All, IfOk, IfSome};
+ghost use Rattle.trace_compare.specs.Tasks.{IsSound};
+ghost use Rattle.trace_compare.specs.Matched.{IsSoundMatching};
+ghost use Rattle.trace_compare.specs.Compared.{AreMatched, IsCompared};
+
+use crate::pairs::{Matching, match_runs};
+use crate::shift::find_shift;
+use crate::task::TaskRuns;
+use std::alloc::{AllocError, Global};
+
+/// The runs of all tasks, matched.
+#[derive(Drop)]
+pub struct Compared {
+    /// By how much the recording's clock is ahead, counted from -2^61 us.
+    pub shift: u64,
+    /// Of each task which runs match.
+    pub tasks: Vec<Matching>,
+}
+
+/// Matches the runs of each task.
+fn match_all(
+    alloc: Global,
+    within: u64,
+    shift: u64,
+    tasks: &[TaskRuns],
+) -> Result<Vec<Matching>, AllocError>
+    requires within { within < 2 ^ 61 }
+    requires shift { shift < 2 ^ 62 }
+    requires tasks { All IsSound tasks.now }
+    ensures matched { IfOk result (λ v. AreMatched within shift tasks.now (length tasks.now) v.items) }
+    ensures sound { IfOk result (λ v. All IsSoundMatching v.items) }
+{
+    let mut matchings = Vec::new(alloc);
+    for j in 0..tasks.len() {
+        let task = &tasks[j];
+        let matching = match_runs(
+            alloc,
+            within,
+            shift,
+            task.model.as_slice(),
+            task.recorded.as_slice(),
+        )?;
+        matchings.push(matching)?;
+    }
+    Ok(matchings)
+}
+
+/// Matches the runs of all tasks, under the shift that was asked for, or else under the one under
+/// which most of them match ([`find_shift`]). Two runs match where their starts and their ends are
+/// each within so many microseconds of one another; in order of time each run of the model takes the
+/// first recorded one of its task behind those that were taken.
+///
+/// # Errors
+/// Where a growth was refused.
+pub fn compare(
+    alloc: Global,
+    within: u64,
+    asked: Option<u64>,
+    tasks: &[TaskRuns],
+) -> Result<Compared, AllocError>
+    requires within { within < 2 ^ 61 }
+    requires asked { IfSome asked (λ s. s < 2 ^ 62) }
+    requires tasks { All IsSound tasks.now }
+    ensures compared { IfOk result (IsCompared within asked tasks.now) }
+    ensures sound { IfOk result (λ c. All IsSoundMatching c.tasks.items) }
+    ensures small { IfOk result (λ c. c.shift < 2 ^ 62) }
+{
+    let shift = match asked {
+        Some(shift) => shift,
+        None => find_shift(alloc, within, tasks)?,
+    };
+    let matchings = match_all(alloc, within, shift, tasks)?;
+    Ok(Compared {
+        shift,
+        tasks: matchings,
+    })
+}

@@ -1,0 +1,85 @@
+//! The nearest recorded run, and the model's time.
+
+ghost use Rattle.std.specs.Prelude.{◌≡◌, ◌+◌, ◌-◌, ◌<◌, ◌≤◌, ◌^◌, length, fold, min, max, All, IfSome, IfNone};
+ghost use Rattle.trace_compare.specs.Runs.{IsShort};
+ghost use Rattle.trace_compare.specs.Tasks.{IsSound};
+ghost use Rattle.trace_compare.specs.Differences.{far_from, IsNearest, first_start, last_end, all_runs};
+
+use crate::pairs::NO_SHIFT;
+use crate::run::Run;
+use crate::task::TaskRuns;
+
+/// How far a recorded run is from one of the model.
+fn far(shift: u64, m: &Run, r: &Run) -> u64
+    requires shift { shift < 2 ^ 62 }
+    requires model { IsShort m.now }
+    requires recorded { IsShort r.now }
+    ensures { result ≡ far_from shift m.now r.now }
+{
+    (m.start + shift).abs_diff(r.start + NO_SHIFT) + (m.end + shift).abs_diff(r.end + NO_SHIFT)
+}
+
+/// The place of the recorded run that is nearest to one of the model, by its start and its end
+/// together; the first of equals.
+pub fn nearest_of(shift: u64, m: &Run, recorded: &[Run]) -> Option<usize>
+    requires shift { shift < 2 ^ 62 }
+    requires model { IsShort m.now }
+    requires recorded { All IsShort recorded.now }
+    ensures found { IfSome result (IsNearest shift m.now recorded.now) }
+    ensures none { IfNone result (length recorded.now ≡ 0) }
+{
+    if recorded.is_empty() {
+        return None;
+    }
+    let mut nearest = 0;
+    for i in 1..recorded.len() {
+        if far(shift, m, &recorded[i]) < far(shift, m, &recorded[nearest]) {
+            nearest = i;
+        }
+    }
+    Some(nearest)
+}
+
+/// The earliest start among a time and some runs.
+fn earliest_of(mut time: u64, runs: &[Run]) -> u64
+    ensures { result ≡ fold (λ at r. min at r.start) time runs.now }
+{
+    for run in runs {
+        time = time.min(run.start);
+    }
+    time
+}
+
+/// The latest end among a time and some runs.
+fn latest_of(mut time: u64, runs: &[Run]) -> u64
+    ensures { result ≡ fold (λ at r. max at r.«end») time runs.now }
+{
+    for run in runs {
+        time = time.max(run.end);
+    }
+    time
+}
+
+/// When the model's first run begins, in microseconds; 2^61 where it has none.
+pub fn first_start_of(tasks: &[TaskRuns]) -> u64
+    ensures time { result ≡ first_start tasks.now }
+    ensures small { result ≤ 2 ^ 61 }
+{
+    let mut time = NO_SHIFT;
+    for task in tasks {
+        time = earliest_of(time, task.model.as_slice());
+    }
+    time
+}
+
+/// When the model's last run ends, in microseconds; 0 where it has none.
+pub fn last_end_of(tasks: &[TaskRuns]) -> u64
+    ensures time { result ≡ last_end tasks.now }
+    ensures small { All IsSound tasks.now → result < 2 ^ 61 }
+{
+    let mut time = 0;
+    for task in tasks {
+        time = latest_of(time, task.model.as_slice());
+    }
+    time
+}

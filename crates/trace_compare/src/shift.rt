@@ -1,0 +1,187 @@
+//! The shift of the recording's clock.
+
+ghost use Rattle.std.specs.Prelude.{◌≡◌, ◌+◌, ◌-◌, ◌*◌, ◌/◌, ◌<◌, ◌≤◌, ◌^◌, ℕ, List, [], ◌++◌, ◌∷◌, length, vec_len, take, map, sum_by, min, max, All, IfOk, OnOk, Contains};
+ghost use Rattle.std.specs.List.{flat_map};
+ghost use Rattle.trace_compare.specs.Runs.{IsShort, InTurn};
+ghost use Rattle.trace_compare.specs.Tasks.{IsSound};
+ghost use Rattle.trace_compare.specs.Pairs.{no_shift, fits, partners, matched};
+ghost use Rattle.trace_compare.specs.Shift.{shifts_from, shifts_of, looked_at, candidates, share_of, task_score, score, IsBestOf, IsShift};
+ghost use Rattle.trace_compare.specs.private.Choices.{IsBetter};
+
+use crate::pairs::{NO_SHIFT, matched_count};
+use crate::run::Run;
+use crate::task::TaskRuns;
+use std::alloc::{AllocError, Global};
+
+/// How many tasks are looked at (own).
+const TASKS: usize = 256;
+/// How many runs of the model are looked at, of all tasks (own).
+const RUNS: usize = 4096;
+/// How many recorded starts of a task are tried.
+const STARTS: usize = 50;
+
+/// At most so many from the front.
+fn front(runs: &[Run], most: usize) -> &[Run]
+    ensures { result.now ≡ take most runs.now }
+{
+    if runs.len() <= most {
+        runs
+    } else {
+        &runs[..most]
+    }
+}
+
+/// How many of the first runs of a task match under a shift.
+fn score_of_task(within: u64, share: usize, shift: u64, task: &TaskRuns) -> usize
+    requires within { within < 2 ^ 61 }
+    requires share { share ≤ 4096 }
+    requires shift { shift < 2 ^ 62 }
+    requires task { IsSound task.now }
+    ensures value { result ≡ task_score within share shift task.now }
+    ensures small { result ≤ 4096 }
+{
+    let ms = front(task.model.as_slice(), share);
+    let rs = front(task.recorded.as_slice(), 4 * share + STARTS);
+    matched_count(within, shift, ms, rs)
+}
+
+/// How many of the first runs of the tasks match under a shift.
+fn score_of(within: u64, share: usize, shift: u64, tasks: &[TaskRuns]) -> usize
+    requires within { within < 2 ^ 61 }
+    requires share { share ≤ 4096 }
+    requires shift { shift < 2 ^ 62 }
+    requires few { length tasks.now ≤ 256 }
+    requires tasks { All IsSound tasks.now }
+    ensures { result ≡ sum_by (task_score within share shift) tasks.now }
+{
+    let mut total = 0;
+    for task in tasks {
+        total += score_of_task(within, share, shift, task);
+    }
+    total
+}
+
+/// The shift from a start of the model to a recorded one.
+fn shift_to(start: u64, run: &Run) -> u64
+    requires start { start < 2 ^ 61 }
+    requires run { IsShort run.now }
+    ensures value { result ≡ run.now.start + no_shift - start }
+    ensures small { result < 2 ^ 62 }
+{
+    run.start + NO_SHIFT - start
+}
+
+/// Adds the shifts from a start of the model to each of the recorded ones.
+fn push_from(shifts: &mut Vec<u64>, start: u64, runs: &[Run]) -> Result<(), AllocError>
+    requires start { start < 2 ^ 61 }
+    requires runs { All IsShort runs.now }
+    ensures shifts { OnOk result (shifts.new.items
+        ≡ shifts.old.items ++ map (λ r. r.start + no_shift - start) runs.now) }
+    ensures small { All (λ s. s < 2 ^ 62) shifts.old.items → All (λ s. s < 2 ^ 62) shifts.new.items }
+{
+    for run in runs {
+        shifts.push(shift_to(start, run))?;
+    }
+    Ok(())
+}
+
+/// Adds the shifts from the model's first start to each of the first recorded ones.
+fn push_shifts(shifts: &mut Vec<u64>, task: &TaskRuns) -> Result<(), AllocError>
+    requires { IsSound task.now }
+    ensures shifts { OnOk result (shifts.new.items ≡ shifts.old.items ++ shifts_of task.now) }
+    ensures small { All (λ s. s < 2 ^ 62) shifts.old.items → All (λ s. s < 2 ^ 62) shifts.new.items }
+{
+    match task.model.as_slice().first() {
+        None => Ok(()),
+        Some(first) => push_from(shifts, first.start, front(task.recorded.as_slice(), STARTS)),
+    }
+}
+
+/// The shifts that are tried.
+fn all_shifts(alloc: Global, tasks: &[TaskRuns]) -> Result<Vec<u64>, AllocError>
+    requires { All IsSound tasks.now }
+    ensures shifts { IfOk result (λ v. v.items ≡ flat_map shifts_of tasks.now) }
+    ensures small { IfOk result (λ v. All (λ s. s < 2 ^ 62) v.items) }
+{
+    let mut shifts = Vec::new(alloc);
+    for task in tasks {
+        push_shifts(&mut shifts, task)?;
+    }
+    Ok(shifts)
+}
+
+/// At most so many tasks from the front.
+fn front_tasks(tasks: &[TaskRuns], most: usize) -> &[TaskRuns]
+    ensures value { result.now ≡ take most tasks.now }
+    ensures few { length result.now ≤ most }
+{
+    if tasks.len() <= most {
+        tasks
+    } else {
+        &tasks[..most]
+    }
+}
+
+/// A shift, and how many runs match under it.
+#[derive(Clone, Copy)]
+struct Choice {
+    shift: u64,
+    score: usize,
+}
+
+/// The one with the greater score, or the smaller one of equals.
+fn better(a: Choice, b: Choice) -> Choice
+    ensures { IsBetter a b result }
+{
+    if b.score > a.score || (b.score == a.score && b.shift < a.shift) {
+        b
+    } else {
+        a
+    }
+}
+
+/// The best of several shifts.
+fn best_of(within: u64, share: usize, shifts: &[u64], tasks: &[TaskRuns]) -> u64
+    requires within { within < 2 ^ 61 }
+    requires share { share ≤ 4096 }
+    requires some { 0 < length shifts.now }
+    requires small { All (λ s. s < 2 ^ 62) shifts.now }
+    requires few { length tasks.now ≤ 256 }
+    requires tasks { All IsSound tasks.now }
+    ensures best { IsBestOf (λ s. sum_by (task_score within share s) tasks.now) shifts.now result }
+    ensures small { result < 2 ^ 62 }
+{
+    let mut best = Choice {
+        shift: shifts[0],
+        score: score_of(within, share, shifts[0], tasks),
+    };
+    for shift in shifts {
+        let next = Choice {
+            shift: *shift,
+            score: score_of(within, share, *shift, tasks),
+        };
+        best = better(best, next);
+    }
+    best.shift
+}
+
+/// The shift of the recording's clock: of the differences between a recorded start and the model's
+/// first start of that task, for the first 50 recorded starts of each task, the one under which most
+/// of the model's first runs match; the smallest of equals. [`NO_SHIFT`] where there is none.
+///
+/// # Errors
+/// Where a growth was refused.
+pub fn find_shift(alloc: Global, within: u64, tasks: &[TaskRuns]) -> Result<u64, AllocError>
+    requires within { within < 2 ^ 61 }
+    requires tasks { All IsSound tasks.now }
+    ensures shift { IfOk result (IsShift within tasks.now) }
+    ensures small { IfOk result (λ s. s < 2 ^ 62) }
+{
+    let looked_at = front_tasks(tasks, TASKS);
+    let shifts = all_shifts(alloc, looked_at)?;
+    if shifts.is_empty() {
+        return Ok(NO_SHIFT);
+    }
+    let share = RUNS / looked_at.len().max(1);
+    Ok(best_of(within, share, shifts.as_slice(), looked_at))
+}

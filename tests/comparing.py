@@ -1,0 +1,161 @@
+"""Rows of `dlsim compare`: two traces, and the report that the definitions give of them, worked out by hand."""
+import collections
+
+# A row: the words behind `compare`, with MODEL and RECORDED in them, the two texts, and what has to come.
+Comparison = collections.namedtuple("Comparison", "name words model recorded status out err")
+
+IDLE = None
+FORMS = {
+    # ftrace of Linux 6.x, and of 5.x with its four flags
+    "ftrace": "{prev:>16}-{pid:<7} [{cpu:03}] d..2. {seconds:5}.{us:06}: sched_switch: {fields}",
+    "ftrace 5.x": "{prev:>16}-{pid:<5} [{cpu:03}] d..2 {seconds:5}.{us:06}: sched_switch: {fields}",
+    "cut": "{prev:>16}-{pid:<7} [{cpu:03}] {seconds:5}.{us:06}: sched_switch: {fields}",
+    "trace-cmd": "{prev:>16}-{pid:<5} [{cpu:03}] {seconds:5}.{us:06}: sched_switch:         {short}",
+    "trace-cmd, flags and ns": "{prev:>16}-{pid:<5} [{cpu:03}] d..2. {seconds:5}.{us:06}000: sched_switch:         {short}",
+    "perf": "{prev:>16} {pid:5} [{cpu:03}] {seconds:5}.{us:06}:       sched:sched_switch: {fields}",
+    "perf, short": "{prev:>16} {pid:5} [{cpu:03}] {seconds:5}.{us:06}:       sched:sched_switch: {short}",
+}
+
+
+def who(task):
+    return ("swapper/0", 0, 120) if task is IDLE else (task, 1000 + len(task), -1)
+
+
+def line(form, time, prev, following, cpu=0):
+    a, b = who(prev), who(following)
+    fields = f"prev_comm={a[0]} prev_pid={a[1]} prev_prio={a[2]} prev_state=S ==> next_comm={b[0]} next_pid={b[1]} next_prio={b[2]}"
+    short = f"{a[0]}:{a[1]} [{a[2]}] S ==> {b[0]}:{b[1]} [{b[2]}]"
+    name = "<idle>" if prev is IDLE else prev
+    seconds, us = divmod(time, 1000000)
+    return FORMS[form].format(prev=name, pid=a[1], cpu=cpu, seconds=seconds, us=us, fields=fields, short=short) + "\n"
+
+
+def recording(*switches, form="ftrace", ahead=0):
+    """A text of switches: time, who leaves, who comes, and the CPU where it is not 0."""
+    return "# tracer: nop\n#\n" + "".join(line(form, time + ahead, *others) for time, *others in switches)
+
+
+# Two tasks: `a` runs at 0 to 2000 and 10000 to 12000, `b` at 2000 to 5000.
+MODEL = [(0, IDLE, "a"), (2000, "a", "b"), (5000, "b", IDLE), (10000, IDLE, "a"), (12000, "a", IDLE)]
+WITHOUT_THE_LAST = MODEL[:3]
+LATER = [*MODEL[:3], (11001, IDLE, "a"), (13001, "a", IDLE)]
+SPLIT = [*MODEL[:2], (3000, "b", IDLE), (3050, IDLE, "b"), *MODEL[2:]]
+OTHER_CPU = [(0, IDLE, "a"), (2000, "a", IDLE), (2000, IDLE, "b", 1), (5000, "b", IDLE, 1), (10000, IDLE, "a"), (12000, "a", IDLE)]
+ONE_MORE = [*MODEL[:3], (7000, IDLE, "b"), (8000, "b", IDLE), *MODEL[3:]]
+NAMES = [(0, IDLE, "a = b: c"), (2000, "a = b: c", IDLE)]
+BAD = "a-1 [000] d..2. 0.000000: sched_switch: prev_comm=a prev_pid=1 next_prio=x\n"
+
+HEADER = "#          task   runs recorded matched  start_p50 start_p95 start_max   end_p50   end_p95   end_max    cpu_us rec_cpu_us\n"
+NOTHING = ("-", "-", "-")
+EXACT = (0, 0, 0)
+NONE = "first difference: none\n"
+
+
+def row(name, runs, recorded, matched, starts, ends, cpu, recorded_cpu):
+    columns = [f"{name:>15}", f"{runs:6}", f"{recorded:8}", f"{matched:7}"]
+    columns += [f"{starts[0]:>10}", f"{starts[1]:>9}", f"{starts[2]:>9}", *(f"{end:>9}" for end in ends)]
+    return " ".join([*columns, f"{cpu:9}", f"{recorded_cpu:10}"]) + "\n"
+
+
+A = row("a", 2, 2, 2, EXACT, EXACT, 4000, 4000)
+B = row("b", 1, 1, 1, EXACT, EXACT, 3000, 3000)
+ONE_A = row("a", 2, 1, 1, EXACT, EXACT, 4000, 2000)
+AT_0 = "shift 0.000000 s\n"
+ALL = AT_0 + HEADER + A + B + NONE
+MISSING_A = "first difference: model run 1 of a, 0.010000 to 0.012000 s, nearest recorded "
+
+
+def matches(name, recorded, out, words="MODEL RECORDED", model=MODEL):
+    return Comparison(name, words, recording(*model), recorded, 0, out, "")
+
+
+def fault(name, status, err, words="MODEL RECORDED", model=None, recorded=None):
+    known = recording(*MODEL)
+    return Comparison(name, words, known if model is None else model, known if recorded is None else recorded, status, "", err)
+
+
+ROWS = [
+    matches("a trace and itself", recording(*MODEL), ALL),
+    *(matches(f"a recording by {form}", recording(*MODEL, form=form), ALL) for form in FORMS),
+    matches("five hours later", recording(*MODEL, ahead=18000000000), ALL.replace("0.000000 s", "18000.000000 s", 1)),
+    matches(
+        "a run that was not recorded",
+        recording(*WITHOUT_THE_LAST),
+        AT_0 + HEADER + ONE_A + B + MISSING_A + "0.000000 to 0.002000 s\n",
+    ),
+    matches("1001 us later", recording(*LATER), AT_0 + HEADER + ONE_A + B + MISSING_A + "0.011001 to 0.013001 s\n"),
+    matches(
+        "within 1001 us",
+        recording(*LATER),
+        AT_0 + HEADER + row("a", 2, 2, 2, (0, 1001, 1001), (0, 1001, 1001), 4000, 4000) + B + NONE,
+        words="--within 1001 MODEL RECORDED",
+    ),
+    matches("a run that an interrupt split", recording(*SPLIT), ALL),
+    matches(
+        "the same without noise",
+        recording(*SPLIT),
+        AT_0
+        + HEADER
+        + A
+        + row("b", 1, 2, 0, NOTHING, NOTHING, 3000, 2950)
+        + "first difference: model run 0 of b, 0.002000 to 0.005000 s, nearest recorded 0.003050 to 0.005000 s\n"
+        + "first difference: recorded run 0 of b, 0.002000 to 0.003000 s\n",
+        words="--noise 0 MODEL RECORDED",
+    ),
+    matches(
+        "a run more, three seconds on",
+        recording(*ONE_MORE, ahead=3000000),
+        "shift 3.000000 s\n"
+        + HEADER
+        + A
+        + row("b", 1, 2, 1, EXACT, EXACT, 3000, 4000)
+        + "first difference: recorded run 1 of b, 3.007000 to 3.008000 s\n",
+    ),
+    matches("on another CPU", recording(*OTHER_CPU), ALL.replace(NONE, "same cpu 2 of 3\n" + NONE), words="--cpus MODEL RECORDED"),
+    matches("a shift that is told", recording(*MODEL), AT_0 + HEADER + A + B + NONE, words="--shift 0 MODEL RECORDED"),
+    matches(
+        "one that is below 0",
+        recording(*MODEL),
+        "shift -0.000500 s\n" + HEADER + row("a", 2, 2, 2, (500,) * 3, (500,) * 3, 4000, 4000) + row("b", 1, 1, 1, (500,) * 3, (500,) * 3, 3000, 3000) + NONE,
+        words="--shift=-500 MODEL RECORDED",
+    ),
+    matches(
+        "nobody of the model",
+        recording((0, IDLE, "c"), (5000, "c", IDLE)),
+        AT_0
+        + HEADER
+        + row("a", 2, 0, 0, NOTHING, NOTHING, 4000, 0)
+        + row("b", 1, 0, 0, NOTHING, NOTHING, 3000, 0)
+        + "first difference: model run 0 of a, 0.000000 to 0.002000 s, and nothing was recorded of this task\n",
+    ),
+    matches(
+        "a name with spaces, a colon and an equals sign",
+        recording(*NAMES, form="trace-cmd"),
+        AT_0 + HEADER + row("a = b: c", 1, 1, 1, EXACT, EXACT, 2000, 2000) + NONE,
+        model=NAMES,
+    ),
+    matches("bytes that are no text", "\0\xff : sched_switch: \n" + recording(*MODEL) + "x" * 100000, ALL),
+    matches("standard input for the recording", recording(*MODEL), ALL, words="MODEL -"),
+    matches("standard input for the model", recording(*MODEL), ALL, words="- RECORDED"),
+    fault("a bad line of the model", 1, "dlsim: trace line 2 in model.txt\n", model="# tracer: nop\n" + BAD, recorded=BAD),
+    fault("a bad line of the recording", 1, "dlsim: trace line 8 in recorded.txt\n", recorded=recording(*MODEL) + BAD),
+    fault("a bad line of standard input", 1, "dlsim: trace line 1 in standard input\n", words="MODEL -", recorded=BAD),
+    fault("no switch in the model", 1, "dlsim: no switch in model.txt\n", model="# tracer: nop\n", recorded=""),
+    fault("no switch in the recording", 1, "dlsim: no switch in recorded.txt\n", recorded="a-1 [000] 0.000000: sched_wakeup: comm=a\n"),
+    fault("both are standard input", 2, "dlsim: both traces are standard input\n", words="- -"),
+    fault("a file that is not there", 3, "dlsim: cannot open none.txt\n", words="MODEL none.txt"),
+    fault("a name with a line break", 3, "dlsim: cannot open a\\u000ab\n", words="'a\nb' RECORDED"),
+    fault("a folder", 3, "dlsim: read failed in .\n", words="MODEL ."),
+]
+
+# What clap refuses.
+REFUSED = [
+    "compare",
+    "compare model.txt",
+    "compare model.txt recorded.txt more",
+    "compare --within -1 model.txt recorded.txt",
+    "compare --within 1000000001 model.txt recorded.txt",
+    "compare --noise x model.txt recorded.txt",
+    "compare --shift 1152921504606846977 model.txt recorded.txt",
+    "compare --print trace model.txt recorded.txt",
+]
