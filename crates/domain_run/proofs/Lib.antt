@@ -31,3 +31,8 @@ pub mod Sliding
 pub mod Rooted
 pub mod Climbing
 pub mod Leaves
+pub mod SeatTimes
+pub mod Waiting
+pub mod Turning
+pub mod Seatings
+pub mod Passing

@@ -6,3 +6,5 @@ pub mod Timers
 pub mod Roster
 pub mod Progress
 pub mod Tournament
+pub mod Seats
+pub mod Waiting
