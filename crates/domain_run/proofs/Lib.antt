@@ -36,3 +36,4 @@ pub mod Waiting
 pub mod Turning
 pub mod Seatings
 pub mod Passing
+pub mod Leaping
