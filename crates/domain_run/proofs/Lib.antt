@@ -36,3 +36,4 @@ pub mod ToldChanges
 pub mod Logging
 pub mod ToldTicks
 pub mod ToldPay
+pub mod Balance

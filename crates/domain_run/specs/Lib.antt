@@ -8,6 +8,7 @@ pub mod Tick
 pub mod Calls
 pub mod Busy
 pub mod Happened
+pub mod Throttles
 pub mod Log
 pub mod Keys
 pub mod Run

@@ -7,6 +7,7 @@ ghost use Rattle.domain_run.specs.Jump as jump;
 ghost use Rattle.domain_run.specs.Sound.{IsDomain};
 ghost use Rattle.domain_run.specs.Happened.{told_by_beginning, told_by_last_end, told_by_ticks};
 ghost use Rattle.domain_run.specs.Log.{Tells, HasRoomToEnd};
+ghost use Rattle.domain_run.specs.Throttles.{AreBalanced};
 
 use super::State;
 use crate::log::Log;
@@ -121,6 +122,8 @@ impl State {
             → Tells log.old (told_by_last_end ticks d) log.new }
         ensures quiet { (d : Domain) → self.old ≡ jump.under_way d
             → told_by_ticks ticks d ≡ told_by_beginning d ++ told_by_last_end ticks d }
+        ensures balanced { (d : Domain) → self.old ≡ jump.under_way d
+            → AreBalanced d.tasks (told_by_ticks ticks d) self.new.tasks }
     {
         let time = self.time + (ticks - 1);
         sweep::pay_all(&mut self.roster, &self.running, budgets, ticks, time, log);

@@ -1,4 +1,4 @@
-use Rattle.std.proofs.Common.{◌≡◌, ℕ, List, ◌+◌, ◌-◌, ◌≤◌, ◌^◌, length, map, sym, ap, ◌∙◌, subst, arith}
+use Rattle.std.proofs.Common.{◌≡◌, ℕ, List, ◌++◌, ◌+◌, ◌-◌, ◌≤◌, ◌^◌, length, map, sym, ap, ◌∙◌, subst, arith}
 use Rattle.domain_run.specs.Jump.{running_numbers}
 use Rattle.domain_run.proofs.Homing.{standing_distinct}
 use Rattle.domain_run.specs.Domain.{Domain}
@@ -8,7 +8,11 @@ use Rattle.domain_run.specs.private.Paying.{paid}
 use Rattle.domain_run.specs.private.RunQueue.{AreHomed}
 use Rattle.domain_run.proofs.AtHome.{homed_map}
 use Rattle.domain_run.proofs.Paying.{sound_later, may_pay, later_is, same_paid, paid_is}
-use Rattle.domain_run.specs.Happened.{told_by_last_end}
+use Rattle.domain_run.specs.declared.happened.Happened.{Happened}
+use Rattle.domain_run.specs.declared.task.Task.{Task}
+use Rattle.domain_run.specs.Happened.{told_by_beginning, told_by_last_end, told_by_ticks}
+use Rattle.domain_run.specs.Throttles.{AreBalanced}
+use Rattle.domain_run.proofs.Balance.{beginning_balanced, end_balanced, balanced_more}
 use Rattle.domain_run.specs.Log.{Tells}
 use Rattle.domain_run.specs.private.Telling.{told_in_pay}
 use Rattle.domain_run.proofs.Runners.{standing_short}
@@ -104,3 +108,24 @@ returns-clause-quiet c e is =
     let budgets = c.args.budgets.now in
     let same : d ≡ under_way e = c.self.view_is ∙ is in
     told_ticks_is e k budgets (subst (λ (x : Domain). IsDomain x) same c.self.invariant.domain).steady (subst IsPlacement is c.requires.begun.placed) c.requires.some (subst (λ (x : Domain). k ≤ ticks_to_event x) is c.requires.quiet) (subst (λ (x : Domain). AreCharged x k budgets) is c.requires.charged)
+
+pub returns-clause-balanced : goal.returns-clause-balanced
+returns-clause-balanced c e is =
+    let s = c.self.inside in
+    let d : Domain = record { cpus = s.cpus; limit = s.limit; time = s.time; tasks = s.roster.tasks; used = s.used; curr = s.curr; switches = s.switches.items } in
+    let end : ℕ = s.time + (c.args.ticks - 1) in
+    let k = c.args.ticks in
+    let budgets = c.args.budgets.now in
+    let ns = running_numbers s.curr in
+    let same : d ≡ under_way e = c.self.view_is ∙ is in
+    let charged : AreCharged d k budgets = subst (λ (x : Domain). AreCharged x k budgets) (sym c.self.view_is) c.requires.charged in
+    let placed : IsPlacement d = subst IsPlacement (sym c.self.view_is) c.requires.begun.placed in
+    let tasks_are : c.pay_all.new.roster.tasks ≡ map (paid end ns k budgets) s.roster.tasks = c.pay_all.ensures.tasks ∙ ap (λ (ms : List ℕ). map (paid end ms k budgets) s.roster.tasks) (c.deref.ensures.value ∙ c.self.invariant.running_is) in
+    let told : told_in_pay end ns k budgets s.roster.tasks ≡ told_by_last_end k e =
+        ap (λ (x : Domain). told_in_pay end (running_numbers x.curr) k budgets x.tasks) same
+        ∙ told_pay_is e k budgets end (subst (λ (x : Domain). IsDomain x) same c.self.invariant.domain).steady (subst IsPlacement is c.requires.begun.placed) c.requires.some (subst (λ (x : Domain). k ≤ ticks_to_event x) is c.requires.quiet) (subst (λ (x : Domain). AreCharged x k budgets) is c.requires.charged) (ap (λ (x : Domain). x.time + (k - 1)) same) in
+    let last = end_balanced end ns k budgets s.roster.tasks (may_pay d k budgets c.self.invariant.domain.steady placed c.requires.some charged) in
+    let first : AreBalanced e.tasks (told_by_beginning e) s.roster.tasks = subst (λ (ts : List Task). AreBalanced e.tasks (told_by_beginning e) ts) (sym (ap (λ (x : Domain). x.tasks) same)) (beginning_balanced e) in
+    let both = balanced_more e.tasks s.roster.tasks (map (paid end ns k budgets) s.roster.tasks) (told_by_beginning e) (told_in_pay end ns k budgets s.roster.tasks) first last in
+    let all : told_by_beginning e ++ told_in_pay end ns k budgets s.roster.tasks ≡ told_by_ticks k e = ap (λ hs. told_by_beginning e ++ hs) told ∙ sym (returns-clause-quiet c e is) in
+    subst (λ (ts : List Task). AreBalanced e.tasks (told_by_ticks k e) ts) (sym tasks_are) (subst (λ (hs : List Happened). AreBalanced e.tasks hs (map (paid end ns k budgets) s.roster.tasks)) all both)
