@@ -6,7 +6,7 @@ use Rattle.std.proofs.lemmas.Bool.Decides.{nat_tests}
 use Rattle.switch_text.specs.Events.{Event, comes_before, with_event, in_sequence}
 
 -- numbers that are compared first, and what decides where they are equal
-lex_trans : (s t u : ℕ) (x y z : Bool) → (x ≡ true → y ≡ true → z ≡ true) → (nat_lt s t || (s == t && x)) ≡ true → (nat_lt t u || (t == u && y)) ≡ true → (nat_lt s u || (s == u && z)) ≡ true
+pub lex_trans : (s t u : ℕ) (x y z : Bool) → (x ≡ true → y ≡ true → z ≡ true) → (nat_lt s t || (s == t && x)) ≡ true → (nat_lt t u || (t == u && y)) ≡ true → (nat_lt s u || (s == u && z)) ≡ true
 lex_trans s t u true true z h p q = let r : z ≡ true = h refl refl in grind (arith, nat_tests)
 lex_trans s t u true false z h p q = grind (arith, nat_tests)
 lex_trans s t u false y z h p q = grind (arith, nat_tests)

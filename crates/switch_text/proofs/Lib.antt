@@ -15,4 +15,5 @@ mod ToldFound
 mod EventPick
 mod EventsUnderWay
 pub mod EventLemmas
+pub mod ToldRises
 pub mod CallerLemmas
