@@ -9,6 +9,8 @@ mod of_counting;
 #[cfg(test)]
 mod of_json;
 #[cfg(test)]
+mod of_reports;
+#[cfg(test)]
 mod of_scenario;
 #[cfg(test)]
 mod of_traces;
