@@ -101,10 +101,11 @@ Out: the shift between both clocks; a line for each task of MODEL with its
   dlsim run < mine.json > model.txt
   dlsim compare model.txt recorded.txt
 
-Exit status: 0 compared, matched or not; 1 `dlsim: trace line N`, a line of
-sched_switch in no such form, or `dlsim: no switch`; 2 wrong words; 3 a file
-that cannot be opened or read, with its name, or `dlsim: write failed after N`;
-4 `dlsim: out of memory`. docs/FORMATS.md explains the table and the messages.";
+Exit status: 0 compared, matched or not; 1 `dlsim: trace line N in FILE`, a line
+of sched_switch in no such form, or `dlsim: no switch in FILE`; 2 wrong words;
+3 a file that cannot be opened or read, with its name, or `dlsim: write failed
+after N`; 4 `dlsim: out of memory`. docs/FORMATS.md explains the table and the
+messages.";
 
 pub(crate) const MODEL_HELP: &str = "A trace of this program; `-` is standard input";
 

@@ -1,5 +1,5 @@
 -- What a comparison answers, by what it met.
-use Rattle.std.proofs.Common.{◌≡◌, ℕ, ◌<◌, List, [], ◌∷◌, ◌++◌, length, take, map, Option, Some, None, refl, sym, ap, ◌∙◌, subst, arith}
+use Rattle.std.proofs.Common.{◌≡◌, ℕ, List, [], ◌∷◌, length, take, map, Option, Some, None, refl, sym, ap, ◌∙◌, subst, arith}
 use Rattle.std.specs.Prelude.{IfSome}
 use Rattle.std.proofs.Math.Seq.{take-append_seam}
 use Rattle.std.proofs.lemmas.List.{length-append}
@@ -15,7 +15,7 @@ use Rattle.compare_report.specs.declared.fault.Input.{Input}
 use Rattle.compare_report.specs.declared.fault.Input.TheVariants.{Model, Recorded}
 use Rattle.compare_report.specs.declared.options.CompareOptions.{CompareOptions}
 use Rattle.compare_report.specs.Reading.{AreReadFrom, pair, ArePair}
-use Rattle.compare_report.specs.Answer.{Streams, IsUntouched, IsWell, HasBadLine, HasNoSwitch, StopsAt, IsOutOfMemory, IsFaultOf, IsReportOf}
+use Rattle.compare_report.specs.Answer.{Streams, IsUntouched, IsWell, HasBadLine, HasNoSwitch, StopsAt, IsFaultOf, IsReportOf}
 use Rattle.compare_report.specs.Report.{IsReport}
 use Rattle.compare_report.specs.private.Met.{IsTextFault}
 

@@ -4,7 +4,6 @@ ghost use Rattle.std.specs.Prelude.{◌≡◌, ◌<◌, ◌≤◌, ◌^◌, All,
 ghost use Rattle.trace_compare.specs.Runs.{IsShort};
 ghost use Rattle.trace_compare.specs.Tasks.{IsSound};
 ghost use Rattle.trace_compare.specs.Matched.{IsSoundMatching};
-ghost use Rattle.trace_compare.specs.Differences.{pairs_of, same_cpu};
 ghost use Rattle.compare_report.specs.Findings.{stretch_of, IsNearestOf, IsMissingAt, IsMissingOf, IsOtherAt, IsOtherOf, IsFinding};
 
 use crate::row::{Span, row_of};
@@ -129,22 +128,6 @@ fn other_in<'a>(
     }
 }
 
-/// How many matched runs of a task were on the same CPU.
-fn same_cpu_of(
-    alloc: Global,
-    shift: u64,
-    task: &TaskRuns,
-    matching: &Matching,
-) -> Result<u64, AllocError>
-    requires shift { shift < 2 ^ 62 }
-    requires task { IsSound task.now }
-    requires matching { IsSoundMatching matching.now }
-    ensures { IfOk result (λ n. n ≡ same_cpu (pairs_of task.now.model.items matching.now.partners.items)) }
-{
-    let apart = apart_in(alloc, shift, task, matching)?;
-    Ok(apart.same_cpu as u64)
-}
-
 /// What is told of a task.
 pub(crate) fn finding_of<'a>(
     alloc: Global,
@@ -161,8 +144,9 @@ pub(crate) fn finding_of<'a>(
     requires as_many { length matching.now.partners.items ≡ length task.now.model.items }
     ensures { IfOk result (IsFinding span.shift span.from span.until name.now task.now matching.now) }
 {
-    let row = row_of(alloc, name, task, matching, span)?;
-    let same_cpu = same_cpu_of(alloc, span.shift, task, matching)?;
+    let apart = apart_in(alloc, span.shift, task, matching)?;
+    let same_cpu = apart.same_cpu as u64;
+    let row = row_of(alloc, name, task, matching, apart, span)?;
     Ok(Finding {
         row,
         missing: missing_in(span.shift, name, task, matching),

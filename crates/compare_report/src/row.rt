@@ -1,16 +1,16 @@
 //! The row of a task.
 
-ghost use Rattle.std.specs.Prelude.{◌≡◌, ◌<◌, ◌≤◌, ◌^◌, All, IfOk, filter, length};
+ghost use Rattle.std.specs.Prelude.{◌≡◌, ◌<◌, ◌≤◌, ◌^◌, All, IfOk, filter, length, map};
 ghost use Rattle.trace_compare.specs.Runs.{IsShort};
 ghost use Rattle.trace_compare.specs.Tasks.{IsSound};
 ghost use Rattle.trace_compare.specs.Matched.{IsSoundMatching};
-ghost use Rattle.trace_compare.specs.Differences.{is_inside};
+ghost use Rattle.trace_compare.specs.Differences.{pairs_of, start_apart, end_apart, is_inside};
 ghost use Rattle.compare_report.specs.Rows.{IsRow, IsSpreadOf};
 
 use compare_table::{Row, Spread, spread};
 use std::alloc::{AllocError, Global};
 use trace_compare::{
-    Matching, NO_SHIFT, Run, TaskRuns, apart_in, cpu_time_of, matched_of, others_of, taken_time_of,
+    Apart, Matching, NO_SHIFT, Run, TaskRuns, cpu_time_of, matched_of, others_of, taken_time_of,
 };
 
 /// The model's time, and where it lies in the recording.
@@ -57,12 +57,13 @@ fn spread_of(distances: &mut Vec<u64>) -> Option<Spread>
     spread(distances.as_mut_slice())
 }
 
-/// The row of a task.
+/// The row of a task, whose matched runs are so far apart.
 pub(crate) fn row_of<'a>(
     alloc: Global,
     name: &'a [u8],
     task: &TaskRuns,
     matching: &Matching,
+    mut apart: Apart,
     span: Span,
 ) -> Result<Row<'a>, AllocError>
     requires shift { span.shift < 2 ^ 62 }
@@ -70,10 +71,11 @@ pub(crate) fn row_of<'a>(
     requires until { span.until < 2 ^ 61 }
     requires task { IsSound task.now }
     requires matching { IsSoundMatching matching.now }
+    requires starts { apart.starts.items ≡ map (start_apart span.shift) (pairs_of task.now.model.items matching.now.partners.items) }
+    requires ends { apart.ends.items ≡ map (end_apart span.shift) (pairs_of task.now.model.items matching.now.partners.items) }
     ensures { IfOk result (IsRow span.shift span.from span.until name.now task.now matching.now) }
 {
     let others = inside_of(alloc, span, &matching.left)?;
-    let mut apart = apart_in(alloc, span.shift, task, matching)?;
     let matched = matched_of(&matching.partners);
     let left = others_of(span.from, span.until, span.shift, &matching.left);
     let taken = u128::from(taken_time_of(&matching.partners));

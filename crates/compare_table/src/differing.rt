@@ -69,7 +69,7 @@ pub fn put_other(out: &mut Vec<u8>, place: &Place<'_>) -> Result<(), NoMemory>
 /// Puts the line that there is no difference behind a text.
 ///
 /// # Errors
-/// 12 [`NoMemory`]: a growth was refused; the text is as before.
+/// 12 [`NoMemory`]: a growth was refused; a part of the line may stand behind the text.
 pub fn put_no_difference(out: &mut Vec<u8>) -> Result<(), NoMemory>
     ensures { OnOk result (out.new.items ≡ out.old.items ++ no_difference) }
 {

@@ -23,7 +23,7 @@ pub fn put_shift(out: &mut Vec<u8>, shift: Shift) -> Result<(), NoMemory>
 /// Puts the header of the table behind a text.
 ///
 /// # Errors
-/// 12 [`NoMemory`]: a growth was refused; the text is as before.
+/// 12 [`NoMemory`]: a growth was refused; a part of the line may stand behind the text.
 pub fn put_header(out: &mut Vec<u8>) -> Result<(), NoMemory>
     ensures { OnOk result (out.new.items ≡ out.old.items ++ header) }
 {

@@ -2,8 +2,4 @@
 #![tactic(auto)]
 
 #[cfg(test)]
-mod fakes;
-#[cfg(test)]
 mod of_recordings;
-#[cfg(test)]
-mod of_reports;

@@ -1,5 +1,5 @@
 -- What words ask for, from what is read of them.
-use Rattle.std.proofs.Common.{◌≡◌, ◌∙◌, ◌⊎◌, inl, inr, List, Option, Some, None, Result, Ok, Err, IfOk, IfErr, ap, ap₂, codes, option_map, refl, subst, sym, unwrap_or, true≢false, is_some}
+use Rattle.std.proofs.Common.{◌≡◌, ◌∙◌, inl, inr, List, Option, Some, None, Result, Ok, Err, IfOk, IfErr, ap, ap₂, codes, option_map, refl, subst, sym, unwrap_or, true≢false, is_some}
 use Rattle.std.specs.Prelude.{Box}
 use Rattle.std.specs.Box.{box_value}
 use Rattle.clap.specs.Simple.{subcommand_rows}

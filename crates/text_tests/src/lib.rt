@@ -11,6 +11,8 @@ mod of_events;
 #[cfg(test)]
 mod of_json;
 #[cfg(test)]
+mod of_reports;
+#[cfg(test)]
 mod of_scenario;
 #[cfg(test)]
 mod of_traces;

@@ -1,5 +1,4 @@
 use Rattle.std.proofs.Common.{◌<◌, length, sym, subst, arith}
-use Rattle.trace_compare.specs.Tasks.{IsSound}
 use Rattle.trace_compare.specs.Matched.{IsSoundMatching}
 use Rattle.compare_report.proofs.OneMore.{at_place}
 use Rattle.compare_report.proofs.findings.finding_at.Goals as goal
