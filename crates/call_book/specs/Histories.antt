@@ -1,6 +1,8 @@
--- Histories of several domains, and the states that they lead to (own).
-use Rattle.std.specs.Prelude.{◌≡◌, ℕ, ◌<◌, List, length, All, slice_index_or}
-use Rattle.domain_run.specs.Domain.{Domain}
+-- Histories of several domains, the states that they lead to, and what they tell (own).
+use Rattle.std.specs.Prelude.{◌≡◌, ℕ, ◌<◌, Bool, IsTrue, List, length, All, slice_index_or}
+use Rattle.domain_run.specs.Domain.{Domain, opened}
+use Rattle.domain_run.specs.Happened.{told_by_calls}
+use Rattle.domain_run.specs.Log.{LogView}
 use Rattle.domain_run.specs.Run.{run_of}
 use Rattle.call_book.specs.SectionView.{SectionView}
 use Rattle.call_book.specs.Book.{calls_of, IsLegal}
@@ -15,3 +17,12 @@ AreRuns histories states =
     (d : ℕ) (s : SectionView) (x : Domain) → d < length histories
     → let h = slice_index_or histories d s in
     slice_index_or states d x ≡ run_of h.cpus h.limit (calls_of h.entries)
+
+-- the logs are of one kind, and one that keeps what it is told has what the history of its domain
+-- tells, and nothing else
+pub record AreTold (wanted : Bool) (histories : List SectionView) (logs : List LogView) : Type 0 where
+  pub alike : (d : ℕ) (x : LogView) → d < length histories
+      → (slice_index_or logs d x).wanted ≡ wanted
+  pub told : (d : ℕ) (s : SectionView) (x : LogView) → d < length histories → IsTrue wanted
+      → let h = slice_index_or histories d s in
+      (slice_index_or logs d x).happened ≡ told_by_calls (opened h.cpus h.limit) (calls_of h.entries)

@@ -1,4 +1,5 @@
 pub mod Replay
+pub mod Told
 pub mod Answer
 pub mod Written
 pub mod Upward

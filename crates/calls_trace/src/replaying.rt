@@ -24,6 +24,12 @@ pub enum ReplayPrint {
     Trace,
     /// The calls, each with its reply.
     Replies,
+    /// The trace, and between its lines those of what happens to the tasks.
+    Events,
+    /// Each job of each task.
+    Jobs,
+    /// The figures of each task, of each CPU and of each domain.
+    Summary,
 }
 
 /// Writes the trace of the run of sections.

@@ -32,6 +32,7 @@ use Rattle.dl_session.specs.FullBook.{IsFullDomain}
 use Rattle.dl_session.specs.InOrder.{sections_in_order}
 use Rattle.reply_text.specs.Replies.{replies_of}
 use Rattle.calls_trace.specs.Replay.{trace_of_sections}
+use Rattle.calls_trace.specs.Told.{events_of_sections, jobs_of_sections, summary_of_sections}
 use Rattle.calls_trace.specs.Answer.{Streams, IsInput, NothingWritten, IsUnread, IsOutOfMemory}
 
 -- ---- the scenario
@@ -81,12 +82,15 @@ pub record IsRun (s : Streams) (o : Options) (histories : List SectionView)
   pub in_order : trace_of_sections histories
       ≡ trace_of_sections (sections_in_order id answers.asked scenario.duration_us)
 
--- what is written of histories: the trace of their run, their calls text, or their calls with the
--- replies
+-- what is written of histories: the trace of their run, their calls text, their calls with the
+-- replies, the trace with what happens, or the jobs or the figures of what happens
 abbrev pub printed : Print → List SectionView → List ℕ
 printed prints.Trace histories = trace_of_sections histories
 printed prints.Calls histories = spelling histories
 printed prints.Replies histories = replies_of histories
+printed prints.Events histories = events_of_sections histories
+printed prints.Jobs histories = jobs_of_sections histories
+printed prints.Summary histories = summary_of_sections histories
 
 -- ---- what is answered
 

@@ -1,5 +1,5 @@
 -- Marks and the numbers that they stand for.
-use Rattle.std.proofs.Common.{◌≡◌, ℕ, zero, suc, ◌+◌, ◌<◌, Bool, true, false, eqb, List, [], ◌∷◌, length, get_or, set, replicate, refl, sym, ap, arith, eq-eqb}
+use Rattle.std.proofs.Common.{◌≡◌, ℕ, zero, suc, ◌+◌, ◌<◌, Bool, true, false, cond, eqb, List, [], ◌∷◌, ◌++◌, length, take, get_or, set, replicate, refl, sym, ap, arith, eq-eqb}
 use Rattle.std.specs.List.{list_any}
 use Rattle.std.proofs.lemmas.Bool.{lt-ltb, le-ltb, ne_eqb}
 use Rattle.domain_run.specs.private.Numbers.{marked}
@@ -33,3 +33,11 @@ marked_set from (true ∷ bs) zero n e h free = absurd cc
 marked_set from (true ∷ bs) (suc k) n e h free = rw (le-ltb n from (omega arith)) (ap (λ (ms : List ℕ). from ∷ ms) (marked_set (from + 1) bs k n (omega arith) (omega arith) free))
 marked_set from (false ∷ bs) zero n e h free = let same : n ≡ from = omega arith in rw same (sym (first (from + 1) bs from (omega arith)))
 marked_set from (false ∷ bs) (suc k) n e h free = marked_set (from + 1) bs k n (omega arith) (omega arith) free
+
+-- one place more
+pub marked_next : (from : ℕ) (bs : List Bool) (k n : ℕ) → n ≡ from + k → k < length bs → marked from (take (k + 1) bs) ≡ marked from (take k bs) ++ cond (get_or bs k false) (n ∷ []) []
+marked_next from [] k n e h = absurd (omega arith)
+marked_next from (true ∷ bs) zero n e h = let same : n ≡ from = omega arith in rw same refl
+marked_next from (false ∷ bs) zero n e h = refl
+marked_next from (true ∷ bs) (suc k) n e h = ap (λ (ms : List ℕ). from ∷ ms) (marked_next (from + 1) bs k n (omega arith) (omega arith))
+marked_next from (false ∷ bs) (suc k) n e h = marked_next (from + 1) bs k n (omega arith) (omega arith)

@@ -66,4 +66,17 @@ impl Numbers {
     {
         self.marks[number as usize] = true;
     }
+
+    /// All of them, in rising order.
+    pub(crate) fn list(&self, alloc: Global) -> Result<Vec<u32>, NoMemory>
+        ensures { IfOk result (λ v. v.items ≡ self.now) }
+    {
+        let mut numbers = Vec::new(alloc);
+        for number in 0..self.marks.len() {
+            if self.marks[number] {
+                numbers.push(number as u32)?;
+            }
+        }
+        Ok(numbers)
+    }
 }

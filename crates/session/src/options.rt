@@ -7,6 +7,12 @@ pub enum Print {
     Calls,
     /// The calls of the histories, each with its reply.
     Replies,
+    /// The trace, and between its lines those of what happens to the tasks.
+    Events,
+    /// Each job of each task.
+    Jobs,
+    /// The figures of each task, of each CPU and of each domain.
+    Summary,
 }
 
 /// With what a scenario is to be run. A session is opened from its domains, limit, clients, workers

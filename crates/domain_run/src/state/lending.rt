@@ -1,7 +1,7 @@
 //! What a state lends of a listed task: its name, its script and its number, and what it takes along
 //! to another domain.
 
-ghost use Rattle.std.specs.Prelude.{◌≡◌, IfSome, option_map};
+ghost use Rattle.std.specs.Prelude.{◌≡◌, IfOk, IfSome, option_map};
 ghost use Rattle.std.specs.Option.{option_copied};
 ghost use Rattle.attr_check.specs.ParamsView.{IsOrdered};
 ghost use Rattle.domain_run.specs.NameView.{IsName};
@@ -13,6 +13,8 @@ use crate::name::Name;
 use crate::script::Script;
 use crate::task::Task;
 use attr_check::Params;
+use no_memory::NoMemory;
+use std::alloc::Global;
 
 fn runtime_of(params: &Params) -> u64
     ensures { IsOrdered params.now }
@@ -84,5 +86,15 @@ impl State {
             None => None,
             Some(task) => Some(task.number),
         }
+    }
+
+    /// The numbers ever admitted, in rising order.
+    ///
+    /// # Errors
+    /// 12 [`NoMemory`]: a growth was refused.
+    pub fn numbers(&self, alloc: Global) -> Result<Vec<u32>, NoMemory>
+        ensures { IfOk result (λ numbers. numbers.items ≡ self.now.used) }
+    {
+        self.used.list(alloc)
     }
 }
