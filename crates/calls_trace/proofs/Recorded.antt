@@ -1,30 +1,35 @@
--- The names that a legal history's replies tell are those of its run.
-use Rattle.std.proofs.Common.{◌≡◌, ℕ, suc, arith, get_or, drop, ◌++◌, ◌<◌, Bool, true, false, cond, eqb, leb, ltb, ◌+◌, List, [], ◌∷◌, length, map, Option, Some, refl, sym, ap, ◌∙◌, subst}
-use Rattle.std.specs.Prelude.{All}
+-- The names and the parameters that a legal history's replies tell are those of its run.
+use Rattle.std.proofs.Common.{◌≡◌, ℕ, suc, arith, get_or, drop, ◌++◌, ◌<◌, ◌≤◌, Bool, true, false, cond, eqb, leb, ltb, ◌+◌, List, [], ◌∷◌, length, map, Option, Some, None, refl, sym, ap, ◌∙◌, subst}
+use Rattle.std.specs.Prelude.{All, IsTrue}
 use Rattle.std.specs.List.{list_any}
 use Rattle.std.proofs.lemmas.List.{length_push, drop_more}
 use Rattle.std.proofs.lemmas.List.Elements.{All-head, All-tail}
+use Rattle.attr_check.specs.ParamsView.{ParamsView}
 use Rattle.attr_check.specs.Ratio.{cap}
+use Rattle.domain_run.specs.declared.task.Task.{Task}
+use Rattle.domain_run.specs.declared.happened.Happened.{Happened}
 use Rattle.domain_run.specs.declared.call.Call.{Call}
 use Rattle.domain_run.specs.declared.call.Call.TheVariants.{Admit, Regrade, Wake, Leave, Advance, Limit, Depart, Arrive}
 use Rattle.domain_run.specs.declared.call.Reply.{Reply}
-use Rattle.domain_run.specs.declared.call.Reply.TheVariants.{Admitted, Full, Twice, Busy}
+use Rattle.domain_run.specs.declared.call.Reply.TheVariants.{Admitted, Changed, Full, Twice, Busy}
 use Rattle.domain_run.specs.Domain.{Domain, opened}
 use Rattle.domain_run.specs.Tick.{sum_of}
-use Rattle.domain_run.specs.Calls.{admit_reply, reply_to, is_refusal, granted, after_call, task_of, regrade_reply, wake_reply, leave_reply, limit_reply, depart_reply}
+use Rattle.domain_run.specs.Calls.{admit_reply, reply_to, is_refusal, granted, after_call, task_of, word_reply, regrade_reply, wake_reply, leave_reply, limit_reply, depart_reply}
 use Rattle.domain_run.specs.Run.{after_calls, replies_to, run_of}
 use Rattle.domain_run.specs.Sound.{IsAdmitted}
+use Rattle.domain_run.specs.Log.{LogView}
 use Rattle.domain_run.proofs.CallerLemmas.{with_number_contains}
 use Rattle.call_book.specs.declared.section.Entry.{Entry}
 use Rattle.call_book.specs.SectionView.{SectionView}
 use Rattle.call_book.specs.Limits.{IsCall, IsEntry, IsSection}
 use Rattle.call_book.specs.Book.{calls_of, IsLegal}
+use Rattle.call_book.specs.Histories.{AreTold}
 use Rattle.switch_text.specs.Names.{Names}
-use Rattle.switch_text.specs.Trace.{RunView}
 use Rattle.calls_trace.specs.declared.placed_run.PlacedRun.{PlacedRun}
-use Rattle.calls_trace.specs.Replay.{with_name, named_by, names_after, names_of, no_names, runs_from}
-use Rattle.calls_trace.specs.private.Replaying.{Gives, IsRunOf, view_of}
-use Rattle.calls_trace.specs.private.Recorded.{named_where, given_by, given_by_all, HaveNames}
+use Rattle.calls_trace.specs.Replay.{with_name, named_by, names_after, names_of, no_names}
+use Rattle.calls_trace.specs.Told.{told_of, no_params, with_params, params_by, params_after, params_of}
+use Rattle.calls_trace.specs.private.Replaying.{Gives, Given, GivesParams, IsRunOf, IsToldOf, PlacedView, view_of, views_from}
+use Rattle.calls_trace.specs.private.Recorded.{named_where, given_by, given_by_all, HaveNames, params_where, params_given_by, params_given_by_all}
 use Rattle.calls_trace.proofs.Naming.{ticks_used, one_more_named}
 use Rattle.calls_trace.proofs.Written.{runs_more}
 
@@ -70,6 +75,65 @@ given_is d (e ∷ entries) names legal =
     let others : map (λ x. x.reply) entries ≡ map Some (replies_to (after_call d e.call) (calls_of entries)) = cc in
     let here : given_by e names ≡ names_after d e.call names = ap (λ (r : Option Reply). named_where r e.call names) first ∙ named_as d e.call names in
     ap (given_by_all entries) here ∙ given_is (after_call d e.call) entries (names_after d e.call names) others
+
+-- ---- and so are the parameters
+
+-- of an admission's replies, Admitted alone gives parameters
+admit_gives : (call : Call) (given : ℕ → ParamsView) (a b c : Bool) (sum : ℕ) (r : Reply) → r ≡ cond a Full (cond b Twice (cond c (Busy sum) Admitted))
+    → params_where call (Some Admitted) given ≡ params_by call given → params_where call (Some Full) given ≡ given → params_where call (Some Twice) given ≡ given → params_where call (Some (Busy sum)) given ≡ given
+    → params_where call (Some r) given ≡ cond (is_refusal r) given (params_by call given)
+admit_gives call given true b c sum r is ok full twice busy = rw is full
+admit_gives call given false true c sum r is ok full twice busy = rw is twice
+admit_gives call given false false true sum r is ok full twice busy = rw is busy
+admit_gives call given false false false sum r is ok full twice busy = rw is ok
+
+-- of a change's replies, Changed alone does
+changes_on : (number : ℕ) (params : ParamsView) (word : Option ℕ) (given : ℕ → ParamsView) (b : Bool) (sum : ℕ) (w : Option ℕ) (r : Reply) → r ≡ cond b (Busy sum) (word_reply w)
+    → params_where (Regrade number params word) (Some r) given ≡ cond (is_refusal r) given (with_params given number params)
+changes_on number params word given true sum w r is = rw is refl
+changes_on number params word given false sum None r is = rw is refl
+changes_on number params word given false sum (Some seen) r is = rw is refl
+
+regrade_gives : (d : Domain) (number : ℕ) (params : ParamsView) (word : Option ℕ) (given : ℕ → ParamsView) (o : Option Task) (r : Reply) → r ≡ regrade_reply d params word o
+    → params_where (Regrade number params word) (Some r) given ≡ cond (is_refusal r) given (with_params given number params)
+regrade_gives d number params word given None r is = rw is refl
+regrade_gives d number params word given (Some t) r is = changes_on number params word given _ _ word r is
+
+-- a call that gives none
+same_either : (b : Bool) (given : ℕ → ParamsView) → given ≡ cond b given given
+same_either true given = refl
+same_either false given = refl
+
+params_as : (d : Domain) (c : Call) (given : ℕ → ParamsView) → params_where c (Some (reply_to d c)) given ≡ params_after d c given
+params_as d (Admit number name params delay script) given =
+    admit_gives (Admit number name params delay script) given (leb 256 (length d.tasks)) (list_any (λ n. eqb n number) d.used) (ltb (cap d.cpus d.limit) (sum_of d.tasks + params.bw)) (sum_of d.tasks) (admit_reply d number params) refl refl refl refl refl
+params_as d (Regrade number params word) given = regrade_gives d number params word given (task_of d number) (regrade_reply d params word (task_of d number)) refl
+params_as d (Wake number) given = same_either (is_refusal (wake_reply (task_of d number))) given
+params_as d (Leave number) given = same_either (is_refusal (leave_reply (task_of d number))) given
+params_as d (Advance n) given = refl
+params_as d (Limit limit word) given = same_either (is_refusal (limit_reply d limit word)) given
+params_as d (Depart number) given = same_either (is_refusal (depart_reply (task_of d number))) given
+params_as d (Arrive number name params script) given =
+    admit_gives (Arrive number name params script) given (leb 256 (length d.tasks)) (list_any (λ n. eqb n number) d.used) (ltb (cap d.cpus d.limit) (sum_of d.tasks + params.bw)) (sum_of d.tasks) (admit_reply d number params) refl refl refl refl refl
+
+params_are : (d : Domain) (entries : List Entry) (given : ℕ → ParamsView) → map (λ e. e.reply) entries ≡ map Some (replies_to d (calls_of entries)) → params_given_by_all entries given ≡ params_of d (calls_of entries) given
+params_are d [] given legal = refl
+params_are d (e ∷ entries) given legal =
+    let first : e.reply ≡ Some (reply_to d e.call) = cc in
+    let others : map (λ x. x.reply) entries ≡ map Some (replies_to (after_call d e.call) (calls_of entries)) = cc in
+    let here : params_given_by e given ≡ params_after d e.call given = ap (λ (r : Option Reply). params_where e.call r given) first ∙ params_as d e.call given in
+    ap (params_given_by_all entries) here ∙ params_are (after_call d e.call) entries (params_after d e.call given) others
+
+-- what a history leaves: its parameters, and what its log was told
+pub told_is : (s : SectionView) (given : Given) (log : LogView) (entries : List Entry) → IsLegal s.cpus s.limit s.entries → entries ≡ s.entries → GivesParams given (params_given_by_all entries no_params)
+    → (IsTrue log.wanted → log.happened ≡ told_of s) → IsToldOf log.wanted s given log
+told_is s given log entries legal same gives told =
+    let are = ap (λ (es : List Entry). params_given_by_all es no_params) same ∙ params_are (opened s.cpus s.limit) s.entries no_params legal in
+    record { params = λ n. gives n ∙ ap (λ (f : ℕ → ParamsView). f n) are; alike = refl; told = hears log.wanted log.happened (told_of s) told }
+  where
+    hears : (w : Bool) (hs ts : List Happened) → (IsTrue w → hs ≡ ts) → cond w hs [] ≡ cond w ts []
+    hears true hs ts same = same refl
+    hears false hs ts same = refl
 
 -- ---- whoever was admitted has a name
 
@@ -143,13 +207,28 @@ states_left from next left after histories states more d are first place one j s
     sym at ∙ are (suc j) s x there ∙ ap (λ (i : ℕ). state_in (get_or histories i s)) same
 
 -- one run more
-pub placed_more : (histories : List SectionView) (was new : List PlacedRun) (r : PlacedRun) (h : SectionView) (base : ℕ) (all : List RunView) → new ≡ was ++ r ∷ [] → h ≡ get_or histories (length was) h → length was < length histories
-    → r.base ≡ base → IsRunOf h r.run.state r.run.names → map view_of was ++ runs_from base (drop (length was) histories) ≡ all → map view_of new ++ runs_from (base + h.cpus) (drop (length new) histories) ≡ all
-placed_more histories was new r h base all is here inside at is_run so_far =
+pub placed_more : (wanted : Bool) (histories : List SectionView) (was new : List PlacedRun) (r : PlacedRun) (h : SectionView) (base : ℕ) (all : List PlacedView) → new ≡ was ++ r ∷ [] → h ≡ get_or histories (length was) h → length was < length histories
+    → r.base ≡ base → IsRunOf h r.run.state r.run.names → IsToldOf wanted h r.run.given r.run.log
+    → map view_of was ++ views_from wanted base (drop (length was) histories) ≡ all → map view_of new ++ views_from wanted (base + h.cpus) (drop (length new) histories) ≡ all
+placed_more wanted histories was new r h base all is here inside at is_run is_told so_far =
     let n = length was in
     let long : length new ≡ n + 1 = ap length is ∙ length_push was r in
     let left = drop (n + 1) histories in
     let first : drop n histories ≡ h ∷ left = drop_more histories n h inside ∙ ap (λ (x : SectionView). x ∷ left) (sym here) in
-    ap (λ (k : ℕ). map view_of new ++ runs_from (base + h.cpus) (drop k histories)) long
-    ∙ ap (λ (rs : List PlacedRun). map view_of rs ++ runs_from (base + h.cpus) left) is
-    ∙ runs_more was r h base left (drop n histories) all at is_run first so_far
+    ap (λ (k : ℕ). map view_of new ++ views_from wanted (base + h.cpus) (drop k histories)) long
+    ∙ ap (λ (rs : List PlacedRun). map view_of rs ++ views_from wanted (base + h.cpus) left) is
+    ∙ runs_more wanted was r h base left (drop n histories) all at is_run is_told first so_far
+
+-- ---- the logs in their places
+
+pub log_there : (logs now : List LogView) (n place : ℕ) (log : LogView) → place ≡ n → ((x : LogView) → log ≡ get_or now place x) → ((d : ℕ) (x : LogView) → n ≤ d → get_or now d x ≡ get_or logs d x) → log ≡ get_or logs n log
+log_there logs now n place log at taken left = taken log ∙ ap (λ (k : ℕ). get_or now k log) at ∙ left n log (omega arith)
+
+pub log_wanted : (wanted : Bool) (histories : List SectionView) (logs : List LogView) (n : ℕ) (log : LogView) → AreTold wanted histories logs → n < length histories → log ≡ get_or logs n log → log.wanted ≡ wanted
+log_wanted wanted histories logs n log told inside is = ap (λ (l : LogView). l.wanted) is ∙ told.alike n log inside
+
+pub log_told : (wanted : Bool) (histories : List SectionView) (logs : List LogView) (n : ℕ) (log : LogView) (h : SectionView) → AreTold wanted histories logs → n < length histories → log ≡ get_or logs n log → h ≡ get_or histories n h → IsTrue log.wanted → log.happened ≡ told_of h
+log_told wanted histories logs n log h told inside is at wants =
+    ap (λ (l : LogView). l.happened) is
+    ∙ told.told n h log inside (subst IsTrue (log_wanted wanted histories logs n log told inside is) wants)
+    ∙ ap told_of (sym at)

@@ -77,6 +77,7 @@ fn as_counted<'a>(placed: &'a PlacedRun, tasks: &'a [Admitted]) -> Run<'a>
 // ---- jobs
 
 /// A run, and the jobs of its tasks.
+#[derive(Drop)]
 struct CountedJobs<'a> {
     placed: &'a PlacedRun,
     jobs: Vec<TaskJobs>,
@@ -140,6 +141,7 @@ fn jobs_text(alloc: Global, placed: &[PlacedRun]) -> Result<Vec<u8>, NoMemory>
 // ---- the summary
 
 /// A run, and its figures.
+#[derive(Drop)]
 struct CountedRun<'a> {
     placed: &'a PlacedRun,
     summary: Summary,

@@ -81,8 +81,9 @@ pub(crate) fn place_runs(
     let mut base: u32 = 0;
     let mut rest = states.into_iter();
     while let Some(state) = rest.next() {
-        let history = &histories[runs.len()];
-        let log = take_log(alloc, &mut logs, runs.len());
+        let place = runs.len();
+        let history = &histories[place];
+        let log = take_log(alloc, &mut logs, place);
         let run = recorded(alloc, history, state, log)?;
         runs.push_reserved(PlacedRun { base, run });
         base += history.cpus;

@@ -62,7 +62,7 @@ heard log = if log.wanted then log.happened else []
 
 -- the parameters that the calls of a section leave, and what they tell a log that wants it
 pub record IsToldOf (wanted : Bool) (s : SectionView) (given : Given) (log : LogView) : Type 0 where
-  pub given : GivesParams given (params_in s)
+  pub params : GivesParams given (params_in s)
   pub alike : log.wanted ≡ wanted
   pub told : heard log ≡ (if wanted then told_of s else [])
 

@@ -2,14 +2,16 @@ use Rattle.std.proofs.Common.{arith}
 use Rattle.std.proofs.lemmas.List.{length_push}
 use Rattle.std.proofs.lemmas.List.Elements.{All-push}
 use Rattle.switch_text.specs.Runs.{IsRun}
-use Rattle.calls_trace.proofs.Written.{views_more}
+use Rattle.switch_text.specs.Runs as lent
+use Rattle.calls_trace.specs.private.Replaying.{view_of, run_in}
+use Rattle.calls_trace.proofs.Texts.{views_more}
 use Rattle.calls_trace.proofs.trace.all_as_written.Goals as goal
 
 pub loop-run-preserved : goal.loop-run-preserved
 loop-run-preserved c =
     let i = c.loop-run.invariant in
     rw c.push_reserved.ensures.items (record {
-      views = views_more c.loop-run.written.items c.as_written.result c.args.placed.now c.loop-run.run-index c.run-item.result c.loop-run-test.true c.run-item.is c.as_written.ensures.view i.views;
+      views = views_more lent.view_of (λ p. run_in (view_of p)) c.loop-run.written.items c.as_written.result c.args.placed.now c.loop-run.run-index c.run-item.result c.loop-run-test.true c.run-item.is c.as_written.ensures.view i.views;
       runs = All-push IsRun c.loop-run.written.items c.as_written.result i.runs c.as_written.ensures.run;
       count = omega (arith, i.count, length_push c.loop-run.written.items c.as_written.result);
       room = omega (arith, i.room, c.push_reserved.ensures.capacity);

@@ -4,8 +4,8 @@ use Rattle.std.specs.Io.KnownBytes.{Appends}
 use Rattle.switch_text.specs.Runs.{IsRun}
 use Rattle.counted_io.specs.Sides.{Side, side}
 use Rattle.counted_io.specs.Faults.{TakesFront}
-use Rattle.calls_trace.proofs.Written.{trace_is}
-use Rattle.calls_trace.proofs.trace.write_runs.Goals as goal
+use Rattle.calls_trace.proofs.Texts.{trace_is}
+use Rattle.calls_trace.proofs.trace.write_trace_of.Goals as goal
 
 pub write_trace_in-requires-clause-runs : goal.write_trace_in-requires-clause-runs
 write_trace_in-requires-clause-runs g c = subst (All IsRun) (sym c.deref.ensures.value) c.in_ok-written.ensures.runs

@@ -1,0 +1,18 @@
+use Rattle.std.proofs.Common.{arith}
+use Rattle.std.proofs.lemmas.List.{length_push}
+use Rattle.std.proofs.lemmas.List.Elements.{All-push}
+use Rattle.switch_text.specs.Telling.{told_view, IsTold}
+use Rattle.calls_trace.specs.private.Replaying.{view_of, told_in}
+use Rattle.calls_trace.proofs.Texts.{views_more}
+use Rattle.calls_trace.proofs.trace.all_as_told.Goals as goal
+
+pub loop-run-preserved : goal.loop-run-preserved
+loop-run-preserved c =
+    let i = c.loop-run.invariant in
+    let one = c.in_ok-as_told.field-0 in
+    rw c.push_reserved.ensures.items (record {
+      views = views_more told_view (λ p. told_in (view_of p)) c.loop-run.told.items one c.args.placed.now c.loop-run.run-index c.run-item.result c.loop-run-test.true c.run-item.is c.in_ok-as_told.ensures.view i.views;
+      told = All-push IsTold c.loop-run.told.items one i.told c.in_ok-as_told.ensures.told;
+      count = omega (arith, i.count, length_push c.loop-run.told.items one);
+      room = omega (arith, i.room, c.push_reserved.ensures.capacity);
+    })

@@ -1,0 +1,27 @@
+use Rattle.std.proofs.Common.{List, ℕ, sym, subst}
+use Rattle.std.specs.Prelude.{All}
+use Rattle.std.specs.Io.KnownBytes.{Appends}
+use Rattle.switch_text.specs.Runs.{IsRun}
+use Rattle.switch_text.specs.Telling.{IsTold}
+use Rattle.counted_io.specs.Sides.{Side, side}
+use Rattle.counted_io.specs.Faults.{TakesFront}
+use Rattle.calls_trace.proofs.Texts.{events_are}
+use Rattle.calls_trace.proofs.trace.write_events_of.Goals as goal
+
+pub write_events_in-requires-clause-runs : goal.write_events_in-requires-clause-runs
+write_events_in-requires-clause-runs g c = subst (All IsRun) (sym c.deref.ensures.value) c.in_ok-written.ensures.runs
+
+pub write_events_in-requires-clause-told : goal.write_events_in-requires-clause-told
+write_events_in-requires-clause-told g c = subst (All IsTold) (sym c.deref-2.ensures.value) c.in_ok-told.ensures.told
+
+pub returns-in-Ok-clause-ok : goal.returns-in-Ok-clause-ok
+returns-in-Ok-clause-ok g c =
+    let w : Side = side g.W.Write.contents c.args.writer.now c.write_events_in.new.writer in
+    let same = events_are c.in_ok-written.written.items c.deref.result.now c.in_ok-told.told.items c.deref-2.result.now c.args.placed.now c.deref.ensures.value c.deref-2.ensures.value c.in_ok-written.ensures.views c.in_ok-told.ensures.views in
+    record { taken = subst (Appends w.before.bytes w.after.bytes) same c.in-Ok.ensures.ok; writes = c.in-Ok.ensures.faults }
+
+pub returns-clause-err : goal.returns-clause-err
+returns-clause-err g c =
+    let w : Side = side g.W.Write.contents c.args.writer.now c.write_events_in.new.writer in
+    let same = events_are c.in_ok-written.written.items c.deref.result.now c.in_ok-told.told.items c.deref-2.result.now c.args.placed.now c.deref.ensures.value c.deref-2.ensures.value c.in_ok-written.ensures.views c.in_ok-told.ensures.views in
+    record { taken = subst (λ (t : List ℕ). TakesFront w.before.bytes w.after.bytes t c.in-Err.fault.written) same c.in-Err.ensures.err; writes = c.in-Err.ensures.faults }
