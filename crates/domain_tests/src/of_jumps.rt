@@ -3,7 +3,6 @@
 mod against_ticks;
 mod by_workers;
 mod limits;
-mod told;
 mod turns;
 
 use crate::workers::{UNIT, Worker, admit, forever, single_ticks, switch};

@@ -7,8 +7,6 @@ mod fakes;
 #[cfg(test)]
 mod of_counting;
 #[cfg(test)]
-mod of_events;
-#[cfg(test)]
 mod of_json;
 #[cfg(test)]
 mod of_reports;

@@ -1,4 +1,4 @@
-pub(crate) mod conditions;
+mod conditions;
 
 use crate::fakes::Taker;
 use conditions::{are_runs, has_line};
@@ -26,7 +26,7 @@ fn at(time: u64, prev: Option<u32>, state: PrevState, next: Option<u32>) -> Swit
     }
 }
 
-pub(crate) fn throttled() -> [Switch; 4] {
+fn throttled() -> [Switch; 4] {
     [
         at(0, None, PrevState::Running, Some(1)),
         at(2, Some(1), PrevState::Preempted, None),
@@ -35,7 +35,7 @@ pub(crate) fn throttled() -> [Switch; 4] {
     ]
 }
 
-pub(crate) fn named(alloc: Global, number: u32, name: &str) -> Result<IndexMap<u32, String>, Fail> {
+fn named(alloc: Global, number: u32, name: &str) -> Result<IndexMap<u32, String>, Fail> {
     let mut names = IndexMap::new(alloc);
     names.insert(number, String::from_str(alloc, name)?)?;
     Ok(names)
