@@ -1,5 +1,5 @@
 -- What a replay answers, and what it leaves.
-use Rattle.std.specs.Prelude.{ℕ, ◌≡◌, List, IfSome}
+use Rattle.std.specs.Prelude.{ℕ, ◌≡◌, Bool, true, false, List, IfSome}
 use Rattle.std.specs.Io.KnownBytes.{Appends, Keeps}
 use Rattle.call_book.specs.SectionView.{SectionView}
 use Rattle.call_book.specs.Spelling.{spelling}
@@ -98,3 +98,11 @@ replayed Replies = replies_of
 replayed Events = events_of_sections
 replayed Jobs = jobs_of_sections
 replayed Summary = summary_of_sections
+
+-- whether what happens has to be known for it
+abbrev pub print_tells : ReplayPrint → Bool
+print_tells Trace = false
+print_tells Replies = false
+print_tells Events = true
+print_tells Jobs = true
+print_tells Summary = true

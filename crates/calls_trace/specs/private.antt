@@ -1,2 +1,3 @@
 pub mod Replaying
+pub mod RunTexts
 pub mod Recorded

@@ -1,21 +1,26 @@
 //! From the calls of several domains to the trace of their runs.
 //!
-//! [`replay_as`] reads recorded calls and writes their trace, or their replies; [`replay`] writes
-//! the trace. They meet the definition of what a replay answers (`specs/Answer.antt`), over the
-//! trace of the sections that a calls text spells (`specs/Replay.antt`). [`write_run_trace`] writes the trace of histories whose states are at
+//! [`replay_as`] reads recorded calls and writes the text that is asked for: their trace, their
+//! replies, the trace with what happens, or the jobs or the figures of what happens; [`replay`]
+//! writes the trace. They meet the definition of what a replay answers (`specs/Answer.antt`), over
+//! the trace of the sections that a calls text spells (`specs/Replay.antt`) and what happens in them
+//! (`specs/Told.antt`). [`write_run_as`] writes the same of histories whose states and logs are at
 //! hand (`specs/Written.antt`); nothing is run again. To the crate above they promise: `Ok` means
-//! that what was written is the trace of the runs of the sections, each on a domain of its own, and
+//! that what was written is that text of the runs of the sections, each on a domain of its own, and
 //! nothing else; each fault means what it says, and where it is no fault of the writer, nothing was
 //! written. `proofs/CallerLemmas.antt` has laws for callers: the calls text of histories is read
 //! again, and its replay writes the same trace.
 #![tactic(auto)]
 
 mod fault;
+mod figures;
 mod named_run;
 mod placed_run;
 mod replaying;
+mod run_text;
 mod trace;
+mod writing;
 
 pub use fault::{ReplayFault, TraceFault};
 pub use replaying::{ReplayPrint, replay, replay_as};
-pub use trace::write_run_trace;
+pub use writing::write_run_as;

@@ -1,31 +1,38 @@
 //! The run of the calls of a section.
 
-ghost use Rattle.std.specs.Prelude.{◌≡◌, ◌<◌, ◌≤◌, ◌+◌, ◌^◌, OnOk, IfOk, All, vec_len};
+ghost use Rattle.std.specs.Prelude.{◌≡◌, ◌<◌, ◌≤◌, ◌+◌, ◌^◌, OnOk, IfOk, All, IsTrue, vec_len, length};
 ghost use Rattle.std.specs.String.{string_bytes};
 ghost use Rattle.domain_run.specs.NameView.{IsName};
 ghost use Rattle.domain_run.specs.declared.call.Call.TheVariants as Call;
 ghost use Rattle.domain_run.specs.Domain.{IsLimit, opened};
 ghost use Rattle.domain_run.specs.Calls.{after_call};
+ghost use Rattle.domain_run.specs.Happened.{told_by_call, told_by_ticks};
+ghost use Rattle.domain_run.specs.Log.{Tells};
 ghost use Rattle.domain_run.specs.Run.{run_of};
 ghost use Rattle.domain_run.specs.Tick.{ticks as ticked_by};
 ghost use Rattle.call_book.specs.Limits.{IsNumber, IsCall, IsEntry, IsSection};
 ghost use Rattle.call_book.specs.Book.{IsLegal};
 ghost use Rattle.switch_text.specs.Names.{named};
 ghost use Rattle.calls_trace.specs.Replay.{no_names, with_name, names_after, calls_of};
-ghost use Rattle.calls_trace.specs.private.Replaying.{AreNamed, Gives, IsRunOf, section_view};
-ghost use Rattle.calls_trace.specs.private.Recorded.{given_by, given_by_all};
+ghost use Rattle.calls_trace.specs.Told.{no_params, with_params, params_after, told_of};
+ghost use Rattle.calls_trace.specs.private.Replaying.{AreNamed, Gives, GivesParams, given_in, IsRunOf, IsToldOf, section_view};
+ghost use Rattle.calls_trace.specs.private.Recorded.{given_by, given_by_all, params_given_by, params_given_by_all};
 
 use attr_check::Params;
 use call_book::{Entry, Section};
-use domain_run::{Call, Name, NoMemory, Reply, Script, State};
+use domain_run::{Call, Log, Name, NoMemory, Reply, Script, State};
 use indexmap::IndexMap;
 use std::alloc::Global;
 
-/// A domain whose calls are made one by one, and the names of its tasks by number.
+/// A domain whose calls are made one by one, and what is known of its tasks by their numbers.
 #[derive(Drop)]
 pub(crate) struct RunWithNames {
     pub(crate) state: State,
     pub(crate) names: IndexMap<u32, String>,
+    /// The parameters of each number that was admitted, as they are now.
+    pub(crate) given: IndexMap<u32, Params>,
+    /// What happens, where that is asked for.
+    pub(crate) log: Log,
 }
 
 fn text_of(alloc: Global, name: &Name) -> Result<String, NoMemory>
@@ -47,23 +54,67 @@ fn put_name(names: &mut IndexMap<u32, String>, number: u32, text: String) -> Res
     }
 }
 
+fn put_params(
+    given: &mut IndexMap<u32, Params>,
+    number: u32,
+    params: Params,
+) -> Result<(), NoMemory>
+    ensures ok { OnOk result
+        (GivesParams given.new (with_params (given_in given.old) number params)) }
+{
+    match given.insert(number, params) {
+        Ok(_) => Ok(()),
+        Err(_) => Err(NoMemory),
+    }
+}
+
+/// A log, as it is asked for.
+fn log_of(alloc: Global, wanted: bool) -> Log
+    ensures wanted { result.wanted ≡ wanted }
+    ensures empty { IsTrue wanted → result.happened ≡ [] }
+{
+    if wanted {
+        Log::open(alloc)
+    } else {
+        Log::silent(alloc)
+    }
+}
+
 impl RunWithNames {
-    fn open(alloc: Global, cpus: u32, limit: u64) -> Result<RunWithNames, NoMemory>
+    fn open(alloc: Global, cpus: u32, limit: u64, wanted: bool) -> Result<RunWithNames, NoMemory>
         requires cpus { (0 < cpus) × (cpus ≤ 64) }
         requires limit { IsLimit limit }
         ensures state { IfOk result (λ r. r.state ≡ opened cpus limit) }
         ensures names { IfOk result (λ r. Gives r.names no_names) }
+        ensures given { IfOk result (λ r. GivesParams r.given no_params) }
+        ensures wanted { IfOk result (λ r. r.log.wanted ≡ wanted) }
+        ensures untold { IfOk result (λ r. IsTrue wanted → r.log.happened ≡ []) }
     {
         match State::open(alloc, cpus, limit) {
             Ok(state) => Ok(RunWithNames {
                 state,
                 names: IndexMap::new(alloc),
+                given: IndexMap::new(alloc),
+                log: log_of(alloc, wanted),
             }),
             Err(NoMemory) => Err(NoMemory),
         }
     }
 
-    /// Admits a task; the name of a task that is admitted is kept.
+    /// Keeps the name and the parameters of a task that is admitted.
+    fn know(&mut self, number: u32, text: String, params: Params) -> Result<(), NoMemory>
+        ensures state { self.new.state ≡ self.old.state }
+        ensures names { OnOk result (Gives self.new.names
+            (with_name (named self.old.names) number (string_bytes text))) }
+        ensures given { OnOk result (GivesParams self.new.given
+            (with_params (given_in self.old.given) number params)) }
+        ensures log { self.new.log ≡ self.old.log }
+    {
+        put_name(&mut self.names, number, text)?;
+        put_params(&mut self.given, number, params)
+    }
+
+    /// Admits a task; its name and its parameters are kept where it is admitted.
     fn admit(
         &mut self,
         alloc: Global,
@@ -81,17 +132,64 @@ impl RunWithNames {
         ensures names { let call = Call.Admit number name params delay script in
             OnOk result (Gives self.new.names
             (names_after self.old.state call (named self.old.names))) }
+        ensures given { let call = Call.Admit number name params delay script in
+            OnOk result (GivesParams self.new.given
+            (params_after self.old.state call (given_in self.old.given))) }
         ensures named { OnOk result (AreNamed self.new.state self.new.names) }
         ensures time { OnOk result (self.new.state.time ≡ self.old.state.time) }
+        ensures log { self.new.log ≡ self.old.log }
     {
         let text = text_of(alloc, &name)?;
         match self.state.admit(number, name, params, delay, script) {
-            Ok(()) => put_name(&mut self.names, number, text),
+            Ok(()) => self.know(number, text, params),
             Err(_) => Ok(()),
         }
     }
 
-    /// Makes a call.
+    /// Changes the parameters of a task; they are kept where they are changed.
+    fn regrade(&mut self, number: u32, params: Params, word: Option<u64>) -> Result<(), NoMemory>
+        ensures state { OnOk result
+            (self.new.state ≡ after_call self.old.state (Call.Regrade number params word)) }
+        ensures names { self.new.names ≡ self.old.names }
+        ensures given { OnOk result (GivesParams self.new.given
+            (params_after self.old.state (Call.Regrade number params word) (given_in self.old.given))) }
+        ensures log { self.new.log ≡ self.old.log }
+    {
+        match self.state.regrade(number, params, word) {
+            Reply::Changed => put_params(&mut self.given, number, params),
+            _ => Ok(()),
+        }
+    }
+
+    /// Ends a task; the log is told that its job is cut.
+    fn leave(&mut self, number: u32) -> Result<(), NoMemory>
+        ensures state { OnOk result
+            (self.new.state ≡ after_call self.old.state (Call.Leave number)) }
+        ensures names { self.new.names ≡ self.old.names }
+        ensures given { self.new.given ≡ self.old.given }
+        ensures told { OnOk result (Tells self.old.log
+            (told_by_call self.old.state (Call.Leave number)) self.new.log) }
+    {
+        self.log.make_room(1)?;
+        self.state.leave_told(number, &mut self.log);
+        Ok(())
+    }
+
+    /// Takes a task off the list; the log is told that its job is cut.
+    fn depart(&mut self, number: u32) -> Result<(), NoMemory>
+        ensures state { OnOk result
+            (self.new.state ≡ after_call self.old.state (Call.Depart number)) }
+        ensures names { self.new.names ≡ self.old.names }
+        ensures given { self.new.given ≡ self.old.given }
+        ensures told { OnOk result (Tells self.old.log
+            (told_by_call self.old.state (Call.Depart number)) self.new.log) }
+    {
+        self.log.make_room(1)?;
+        self.state.depart_told(number, &mut self.log);
+        Ok(())
+    }
+
+    /// Makes a call; the log is told what it tells.
     fn make(&mut self, alloc: Global, call: Call) -> Result<(), NoMemory>
         requires call { IsCall call }
         requires early { self.old.state.time + 60000000 ≤ 2 ^ 42 }
@@ -99,6 +197,10 @@ impl RunWithNames {
         ensures state { OnOk result (self.new.state ≡ after_call self.old.state call) }
         ensures names { OnOk result (Gives self.new.names
             (names_after self.old.state call (named self.old.names))) }
+        ensures given { OnOk result (GivesParams self.new.given
+            (params_after self.old.state call (given_in self.old.given))) }
+        ensures told { OnOk result
+            (Tells self.old.log (told_by_call self.old.state call) self.new.log) }
         ensures named { OnOk result (AreNamed self.new.state self.new.names) }
         ensures time { OnOk result (self.new.state.time ≤ self.old.state.time + 60000000) }
     {
@@ -115,26 +217,17 @@ impl RunWithNames {
                 number,
                 params,
                 word,
-            } => {
-                self.state.regrade(number, params, word);
-                Ok(())
-            }
+            } => self.regrade(number, params, word),
             Call::Wake { number } => {
                 self.state.wake(number);
                 Ok(())
             }
-            Call::Leave { number } => {
-                self.state.leave(number);
-                Ok(())
-            }
+            Call::Leave { number } => self.leave(number),
             Call::Limit { limit, word } => {
                 self.state.set_limit(limit, word);
                 Ok(())
             }
-            Call::Depart { number } => {
-                self.state.depart(number);
-                Ok(())
-            }
+            Call::Depart { number } => self.depart(number),
             // As an admission without a delay.
             Call::Arrive {
                 number,
@@ -152,8 +245,11 @@ impl RunWithNames {
         ensures time { OnOk result (self.new.state.time ≡ self.old.state.time + ticks) }
         ensures used { OnOk result (self.new.state.used ≡ self.old.state.used) }
         ensures names { self.new.names ≡ self.old.names }
+        ensures given { self.new.given ≡ self.old.given }
+        ensures told { OnOk result
+            (Tells self.old.log (told_by_ticks ticks self.old.state) self.new.log) }
     {
-        let done = jump_run::advance(&mut self.state, ticks);
+        let done = jump_run::advance_told(&mut self.state, ticks, &mut self.log);
         if done.ticks < ticks {
             return Err(NoMemory);
         }
@@ -167,6 +263,7 @@ fn run_entries(
     cpus: u32,
     limit: u64,
     mut entries: Vec<Entry>,
+    wanted: bool,
 ) -> Result<RunWithNames, NoMemory>
     requires cpus { (0 < cpus) × (cpus ≤ 64) }
     requires limit { IsLimit limit }
@@ -174,8 +271,10 @@ fn run_entries(
     requires entries { All IsEntry entries.items }
     ensures run { IfOk result (λ r.
         IsRunOf (section_view cpus limit entries.items) r.state r.names) }
+    ensures told { IfOk result (λ r.
+        IsToldOf wanted (section_view cpus limit entries.items) r.given r.log) }
 {
-    let mut run = RunWithNames::open(alloc, cpus, limit)?;
+    let mut run = RunWithNames::open(alloc, cpus, limit, wanted)?;
     entries.reverse();
     while let Some(entry) = entries.pop() {
         run.make(alloc, entry.call)?;
@@ -183,17 +282,22 @@ fn run_entries(
     Ok(run)
 }
 
-/// The run of a section.
-pub(crate) fn run_section(alloc: Global, section: Section) -> Result<RunWithNames, NoMemory>
+/// The run of a section; what happens in it is told where that is wanted.
+pub(crate) fn run_section(
+    alloc: Global,
+    section: Section,
+    wanted: bool,
+) -> Result<RunWithNames, NoMemory>
     requires section { IsSection section }
     ensures run { IfOk result (λ r. IsRunOf section r.state r.names) }
+    ensures told { IfOk result (λ r. IsToldOf wanted section r.given r.log) }
 {
     let Section {
         cpus,
         limit,
         entries,
     } = section;
-    run_entries(alloc, cpus, limit, entries)
+    run_entries(alloc, cpus, limit, entries, wanted)
 }
 
 /// Puts down the name that an entry gives: that of an admission, or an arrival, that was granted.
@@ -224,18 +328,57 @@ fn names_given(alloc: Global, entries: &[Entry]) -> Result<IndexMap<u32, String>
     Ok(names)
 }
 
-/// The run that a history led to, which is not made again: its state, and the names that its
-/// replies tell.
+/// Puts down the parameters that an entry gives: those of an admission or an arrival that was
+/// granted, or of a change that was.
+fn put_given_params(given: &mut IndexMap<u32, Params>, entry: &Entry) -> Result<(), NoMemory>
+    ensures ok { OnOk result
+        (GivesParams given.new (params_given_by entry.now (given_in given.old))) }
+{
+    match (&entry.call, &entry.reply) {
+        (
+            Call::Admit { number, params, .. } | Call::Arrive { number, params, .. },
+            Some(Reply::Admitted),
+        )
+        | (Call::Regrade { number, params, .. }, Some(Reply::Changed)) => {
+            put_params(given, *number, *params)
+        }
+        _ => Ok(()),
+    }
+}
+
+/// The parameters that entries leave, by number.
+fn params_given(alloc: Global, entries: &[Entry]) -> Result<IndexMap<u32, Params>, NoMemory>
+    ensures given { IfOk result (λ given.
+        GivesParams given (params_given_by_all entries.now no_params)) }
+{
+    let mut given = IndexMap::new(alloc);
+    for entry in entries {
+        put_given_params(&mut given, entry)?;
+    }
+    Ok(given)
+}
+
+/// The run that a history led to, which is not made again: its state, what its log was told, and
+/// the names and the parameters that its replies tell.
 pub(crate) fn recorded(
     alloc: Global,
     history: &Section,
     state: State,
+    log: Log,
 ) -> Result<RunWithNames, NoMemory>
     requires section { IsSection history.now }
     requires legal { IsLegal history.now.cpus history.now.limit history.now.entries }
     requires state { state ≡ run_of history.now.cpus history.now.limit (calls_of history.now) }
+    requires told { IsTrue log.wanted → log.happened ≡ told_of history.now }
     ensures run { IfOk result (λ r. IsRunOf history.now r.state r.names) }
+    ensures told { IfOk result (λ r. IsToldOf log.wanted history.now r.given r.log) }
 {
     let names = names_given(alloc, &history.entries)?;
-    Ok(RunWithNames { state, names })
+    let given = params_given(alloc, &history.entries)?;
+    Ok(RunWithNames {
+        state,
+        names,
+        given,
+        log,
+    })
 }

@@ -1,16 +1,17 @@
 //! The runs of several domains on the CPUs of one machine.
 
-ghost use Rattle.std.specs.Prelude.{◌≡◌, ◌≤◌, All, IfOk, length, map};
+ghost use Rattle.std.specs.Prelude.{◌≡◌, ◌<◌, ◌≤◌, ℕ, All, IfOk, length, map, slice_index_or};
+ghost use Rattle.domain_run.specs.Log.{LogView};
 ghost use Rattle.call_book.specs.Limits.{IsSection};
-ghost use Rattle.call_book.specs.Histories.{AreLegal, AreRuns};
-ghost use Rattle.calls_trace.specs.Replay.{runs_from};
-ghost use Rattle.calls_trace.specs.private.Replaying.{IsPlaced, view_of};
+ghost use Rattle.call_book.specs.Histories.{AreLegal, AreRuns, AreTold};
+ghost use Rattle.calls_trace.specs.private.Replaying.{IsPlaced, view_of, views_from};
 
 use crate::named_run::{RunWithNames, recorded, run_section};
 use call_book::Section;
-use domain_run::{NoMemory, State};
+use domain_run::{Log, NoMemory, State};
 use std::alloc::Global;
 use std::collections::VecDeque;
+use std::mem;
 
 /// The run of one domain of the machine.
 #[derive(Drop)]
@@ -21,14 +22,15 @@ pub(crate) struct PlacedRun {
 }
 
 /// The runs of sections, each on a domain of its own: the first has the first CPUs of the machine,
-/// the second the next ones, and so on.
+/// the second the next ones, and so on. What happens in them is told where that is wanted.
 pub(crate) fn run_sections(
     alloc: Global,
     sections: Vec<Section>,
+    wanted: bool,
 ) -> Result<Vec<PlacedRun>, NoMemory>
     requires few { length sections.items ≤ 8 }
     requires sections { All IsSection sections.items }
-    ensures runs { IfOk result (λ v. map view_of v.items ≡ runs_from 0 sections.items) }
+    ensures runs { IfOk result (λ v. map view_of v.items ≡ views_from wanted 0 sections.items) }
     ensures few { IfOk result (λ v. length v.items ≤ 8) }
     ensures placed { IfOk result (λ v. All IsPlaced v.items) }
 {
@@ -37,26 +39,41 @@ pub(crate) fn run_sections(
     let mut base: u32 = 0;
     while let Some(section) = left.pop_front() {
         let cpus = section.cpus;
-        let run = run_section(alloc, section)?;
+        let run = run_section(alloc, section, wanted)?;
         runs.push_reserved(PlacedRun { base, run });
         base += cpus;
     }
     Ok(runs)
 }
 
-/// The runs that histories led to, each on a domain of its own, with these states; nothing is run
-/// again.
+/// Takes a log out of its place; one that keeps nothing stays there.
+fn take_log(alloc: Global, logs: &mut Vec<Log>, place: usize) -> Log
+    requires { place < length logs.old.items }
+    ensures taken { (x : LogView) → result ≡ slice_index_or logs.old.items place x }
+    ensures others { (d : ℕ) (x : LogView) → place < d
+        → slice_index_or logs.new.items d x ≡ slice_index_or logs.old.items d x }
+    ensures count { length logs.new.items ≡ length logs.old.items }
+{
+    mem::replace(&mut logs[place], Log::silent(alloc))
+}
+
+/// The runs that histories led to, each on a domain of its own, with these states, and with what
+/// their logs were told; nothing is run again.
 pub(crate) fn place_runs(
     alloc: Global,
     histories: &[Section],
     states: Vec<State>,
+    mut logs: Vec<Log>,
+    wanted: bool,
 ) -> Result<Vec<PlacedRun>, NoMemory>
     requires few { length histories.now ≤ 8 }
     requires count { length states.items ≡ length histories.now }
+    requires counted { length logs.items ≡ length histories.now }
     requires sections { All IsSection histories.now }
     requires legal { AreLegal histories.now }
     requires runs { AreRuns histories.now states.items }
-    ensures runs { IfOk result (λ v. map view_of v.items ≡ runs_from 0 histories.now) }
+    requires told { AreTold wanted histories.now logs.items }
+    ensures runs { IfOk result (λ v. map view_of v.items ≡ views_from wanted 0 histories.now) }
     ensures few { IfOk result (λ v. length v.items ≤ 8) }
     ensures placed { IfOk result (λ v. All IsPlaced v.items) }
 {
@@ -65,7 +82,8 @@ pub(crate) fn place_runs(
     let mut rest = states.into_iter();
     while let Some(state) = rest.next() {
         let history = &histories[runs.len()];
-        let run = recorded(alloc, history, state)?;
+        let log = take_log(alloc, &mut logs, runs.len());
+        let run = recorded(alloc, history, state, log)?;
         runs.push_reserved(PlacedRun { base, run });
         base += history.cpus;
     }

@@ -1,21 +1,15 @@
 //! From bytes to bytes: recorded calls in, a text of their run out.
 
-ghost use Rattle.std.specs.Prelude.{◌<◌, ◌≤◌, ◌^◌, All, OnOk, IfErr, length};
+ghost use Rattle.std.specs.Prelude.{◌≡◌, ◌<◌, ◌^◌, OnOk, IfErr};
 ghost use Rattle.counted_io.specs.Sides.{faults_of, side};
-ghost use Rattle.call_book.specs.Limits.{IsSection};
-ghost use Rattle.calls_trace.specs.Answer.{streams, IsAnswered, IsAnsweredBy, IsFaultBy, IsFaultOf, replayed};
-ghost use Rattle.calls_trace.specs.Written.{IsWritten, IsUnwritten};
-ghost use Rattle.reply_text.specs.Replies.{replies_of};
-ghost use Rattle.calls_trace.specs.Replay.{trace_of_sections};
+ghost use Rattle.calls_trace.specs.Answer.{streams, IsAnswered, IsAnsweredBy, IsFaultBy, IsFaultOf, replayed, print_tells};
 
-use crate::fault::{ReplayFault, TraceFault};
-use crate::placed_run::run_sections;
-use crate::trace::write_runs;
-use call_book::{CallsFault, Section, read_calls};
-use reply_text::write_replies;
+use crate::fault::ReplayFault;
+use crate::writing::write_sections;
+use call_book::{CallsFault, read_calls};
 use std::alloc::Global;
 use std::io::{Read, Write};
-use switch_text::{Counted, ReadFault, write_text};
+use switch_text::{Counted, ReadFault};
 
 /// What is written of a replay.
 #[derive(Clone, Copy, Debug, PartialEq, Eq)]
@@ -32,71 +26,23 @@ pub enum ReplayPrint {
     Summary,
 }
 
-/// Writes the trace of the run of sections.
-fn write_trace<W: Write>(
-    alloc: Global,
-    sections: Vec<Section>,
-    writer: &mut Counted<W>,
-) -> Result<(), TraceFault>
-    requires few { length sections.items ≤ 8 }
-    requires sections { All IsSection sections.items }
-    requires faults { faults_of writer.old < 2 ^ 63 }
-    ensures ok { OnOk result
-        (IsWritten (side W.contents writer.old writer.new) (trace_of_sections sections.items)) }
-    ensures err { IfErr result
-        (IsUnwritten (side W.contents writer.old writer.new) (trace_of_sections sections.items)) }
-{
-    let runs = run_sections(alloc, sections)?;
-    write_runs(alloc, &runs, writer)
-}
-
-/// Writes the calls of sections with their replies, in one piece.
-fn write_answered<W: Write>(
-    alloc: Global,
-    sections: Vec<Section>,
-    writer: &mut Counted<W>,
-) -> Result<(), TraceFault>
-    requires sections { All IsSection sections.items }
-    requires faults { faults_of writer.old < 2 ^ 63 }
-    ensures ok { OnOk result
-        (IsWritten (side W.contents writer.old writer.new) (replies_of sections.items)) }
-    ensures err { IfErr result
-        (IsUnwritten (side W.contents writer.old writer.new) (replies_of sections.items)) }
-{
-    let text = write_replies(alloc, sections)?;
-    match write_text(&text, writer) {
-        Ok(()) => Ok(()),
-        Err(fault) => Err(TraceFault::Write {
-            written: fault.written,
-        }),
-    }
-}
-
-/// Writes what is asked for of sections.
-fn write_sections<W: Write>(
-    alloc: Global,
-    print: ReplayPrint,
-    sections: Vec<Section>,
-    writer: &mut Counted<W>,
-) -> Result<(), TraceFault>
-    requires few { length sections.items ≤ 8 }
-    requires sections { All IsSection sections.items }
-    requires faults { faults_of writer.old < 2 ^ 63 }
-    ensures ok { OnOk result
-        (IsWritten (side W.contents writer.old writer.new) (replayed print sections.items)) }
-    ensures err { IfErr result
-        (IsUnwritten (side W.contents writer.old writer.new) (replayed print sections.items)) }
-{
-    match print {
-        ReplayPrint::Trace => write_trace(alloc, sections, writer),
-        ReplayPrint::Replies => write_answered(alloc, sections, writer),
+impl ReplayPrint {
+    /// Whether what happens has to be known for it.
+    pub fn tells(self) -> bool
+        ensures { result ≡ print_tells self }
+    {
+        match self {
+            ReplayPrint::Trace | ReplayPrint::Replies => false,
+            ReplayPrint::Events | ReplayPrint::Jobs | ReplayPrint::Summary => true,
+        }
     }
 }
 
 /// Reads a calls text to its end, runs the calls of each of its 1 to 8 sections on a domain of its
 /// own, and writes what is asked for: one trace of all domains, by time and CPU of the machine, in
-/// which the first domain has the first CPUs of the machine, the second the next ones; or each
-/// section's calls, each with the reply that it gets.
+/// which the first domain has the first CPUs of the machine, the second the next ones; the same with
+/// lines of what happens to the tasks; each job of each task; the figures of tasks, CPUs and domains;
+/// or each section's calls, each with the reply that it gets.
 ///
 /// `Ok`: the input spells sections, and what was written is that text of their run, and nothing
 /// else.

@@ -1,26 +1,24 @@
-//! The last step: the runs of the domains of a machine as one trace.
+//! The runs of the domains of a machine as one trace, alone or with what happens in them.
 
 ghost use Rattle.std.specs.Prelude.{◌≡◌, ◌<◌, ◌≤◌, ◌^◌, All, IfOk, IfErr, OnOk, length, map};
 ghost use Rattle.switch_text.specs.Runs as runs;
+ghost use Rattle.switch_text.specs.Telling.{told_view, told_views, IsTold};
 ghost use Rattle.counted_io.specs.Sides.{faults_of, side};
-ghost use Rattle.call_book.specs.Limits.{IsSection};
-ghost use Rattle.call_book.specs.Histories.{AreLegal, AreRuns};
-ghost use Rattle.calls_trace.specs.Replay.{trace_of_sections};
 ghost use Rattle.calls_trace.specs.Written.{IsWritten, IsUnwritten};
-ghost use Rattle.calls_trace.specs.private.Replaying.{IsPlaced, view_of, trace_of_runs};
+ghost use Rattle.calls_trace.specs.declared.run_text.RunText.TheVariants as texts;
+ghost use Rattle.calls_trace.specs.private.Replaying.{IsPlaced, view_of, run_in, told_in, heard, text_of_runs};
 
 use crate::fault::TraceFault;
-use crate::placed_run::{PlacedRun, place_runs};
-use call_book::Section;
-use domain_run::{NoMemory, State};
+use crate::placed_run::PlacedRun;
+use domain_run::{Happened, Log, NoMemory};
 use std::alloc::Global;
 use std::io::Write;
-use switch_text::{Counted, Run, TraceRoom, write_trace_in};
+use switch_text::{Counted, Run, Told, TraceRoom, write_events_in, write_trace_in};
 
 /// A run as it is written.
 fn as_written(placed: &PlacedRun) -> Run<'_>
     requires { IsPlaced placed.now }
-    ensures view { runs.view_of result ≡ view_of placed.now }
+    ensures view { runs.view_of result ≡ run_in (view_of placed.now) }
     ensures run { runs.IsRun result }
 {
     Run {
@@ -33,7 +31,7 @@ fn as_written(placed: &PlacedRun) -> Run<'_>
 /// Runs as they are written.
 fn all_as_written(alloc: Global, placed: &[PlacedRun]) -> Result<Vec<Run<'_>>, NoMemory>
     requires { All IsPlaced placed.now }
-    ensures views { IfOk result (λ v. runs.views v.items ≡ map view_of placed.now) }
+    ensures views { IfOk result (λ v. runs.views v.items ≡ map run_in (map view_of placed.now)) }
     ensures runs { IfOk result (λ v. All runs.IsRun v.items) }
 {
     let mut written = Vec::with_capacity(alloc, placed.len())?;
@@ -43,6 +41,44 @@ fn all_as_written(alloc: Global, placed: &[PlacedRun]) -> Result<Vec<Run<'_>>, N
     Ok(written)
 }
 
+/// What a log keeps of what it was told.
+pub(crate) fn heard_by(log: &Log) -> &[Happened]
+    ensures { result.now ≡ heard log.now }
+{
+    if log.is_wanted() { log.happened() } else { &[] }
+}
+
+/// What happened in a run as it is written. More than 2^50 of it is in no memory.
+fn as_told(placed: &PlacedRun) -> Result<Told<'_>, NoMemory>
+    requires { IsPlaced placed.now }
+    ensures view { IfOk result (λ t. told_view t ≡ told_in (view_of placed.now)) }
+    ensures told { IfOk result IsTold }
+{
+    let happened = heard_by(&placed.run.log);
+    if happened.len() > 1 << 50 {
+        return Err(NoMemory);
+    }
+    Ok(Told {
+        base: placed.base,
+        names: &placed.run.names,
+        happened,
+    })
+}
+
+/// What happened in runs as it is written.
+fn all_as_told(alloc: Global, placed: &[PlacedRun]) -> Result<Vec<Told<'_>>, NoMemory>
+    requires { All IsPlaced placed.now }
+    ensures views { IfOk result (λ v. told_views v.items ≡ map told_in (map view_of placed.now)) }
+    ensures told { IfOk result (λ v. All IsTold v.items) }
+    ensures count { IfOk result (λ v. length v.items ≡ length placed.now) }
+{
+    let mut told = Vec::with_capacity(alloc, placed.len())?;
+    for run in placed {
+        told.push_reserved(as_told(run)?);
+    }
+    Ok(told)
+}
+
 // Room for the texts of tasks: in memory, whose want is told, and not on the stack, whose want is
 // not.
 fn room_in(alloc: Global) -> Result<TraceRoom, NoMemory> {
@@ -50,11 +86,7 @@ fn room_in(alloc: Global) -> Result<TraceRoom, NoMemory> {
 }
 
 /// Writes the runs of 1 to 8 domains as one trace, by time and CPU of the machine.
-///
-/// # Errors
-/// [`TraceFault::Memory`]: a growth was refused, and nothing was written. [`TraceFault::Write`]:
-/// the writer failed; it took exactly so many bytes, the front of the trace, and not all.
-pub(crate) fn write_runs<W: Write>(
+pub(crate) fn write_trace_of<W: Write>(
     alloc: Global,
     placed: &[PlacedRun],
     writer: &mut Counted<W>,
@@ -63,9 +95,9 @@ pub(crate) fn write_runs<W: Write>(
     requires placed { All IsPlaced placed.now }
     requires faults { faults_of writer.old < 2 ^ 63 }
     ensures ok { OnOk result
-        (IsWritten (side W.contents writer.old writer.new) (trace_of_runs placed.now)) }
+        (IsWritten (side W.contents writer.old writer.new) (text_of_runs texts.Trace placed.now)) }
     ensures err { IfErr result
-        (IsUnwritten (side W.contents writer.old writer.new) (trace_of_runs placed.now)) }
+        (IsUnwritten (side W.contents writer.old writer.new) (text_of_runs texts.Trace placed.now)) }
 {
     let written = all_as_written(alloc, placed)?;
     let room = room_in(alloc)?;
@@ -77,30 +109,27 @@ pub(crate) fn write_runs<W: Write>(
     }
 }
 
-/// Writes the trace of 1 to 8 histories that led to these states, by time and CPU of the machine:
-/// the first domain has the first CPUs of the machine, the second the next ones. Nothing is run
-/// again.
-///
-/// # Errors
-/// [`TraceFault::Memory`]: a growth was refused, and nothing was written. [`TraceFault::Write`]:
-/// the writer failed; it took exactly so many bytes, the front of the trace, and not all.
-pub fn write_run_trace<W: Write>(
+/// The same, and between its lines those of what happens.
+pub(crate) fn write_events_of<W: Write>(
     alloc: Global,
-    histories: &[Section],
-    states: Vec<State>,
+    placed: &[PlacedRun],
     writer: &mut Counted<W>,
 ) -> Result<(), TraceFault>
-    requires few { length histories.now ≤ 8 }
-    requires count { length states.items ≡ length histories.now }
-    requires sections { All IsSection histories.now }
-    requires legal { AreLegal histories.now }
-    requires runs { AreRuns histories.now states.items }
+    requires few { length placed.now ≤ 8 }
+    requires placed { All IsPlaced placed.now }
     requires faults { faults_of writer.old < 2 ^ 63 }
     ensures ok { OnOk result
-        (IsWritten (side W.contents writer.old writer.new) (trace_of_sections histories.now)) }
+        (IsWritten (side W.contents writer.old writer.new) (text_of_runs texts.Events placed.now)) }
     ensures err { IfErr result
-        (IsUnwritten (side W.contents writer.old writer.new) (trace_of_sections histories.now)) }
+        (IsUnwritten (side W.contents writer.old writer.new) (text_of_runs texts.Events placed.now)) }
 {
-    let runs = place_runs(alloc, histories, states)?;
-    write_runs(alloc, &runs, writer)
+    let written = all_as_written(alloc, placed)?;
+    let told = all_as_told(alloc, placed)?;
+    let room = room_in(alloc)?;
+    match write_events_in(&written, &told, room, writer) {
+        Ok(()) => Ok(()),
+        Err(fault) => Err(TraceFault::Write {
+            written: fault.written,
+        }),
+    }
 }

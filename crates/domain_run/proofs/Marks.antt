@@ -1,7 +1,10 @@
 -- Marks and the numbers that they stand for.
-use Rattle.std.proofs.Common.{◌≡◌, ℕ, zero, suc, ◌+◌, ◌<◌, Bool, true, false, cond, eqb, List, [], ◌∷◌, ◌++◌, length, take, get_or, set, replicate, refl, sym, ap, arith, eq-eqb}
+use Rattle.std.proofs.Common.{◌≡◌, ◌≢◌, ℕ, zero, suc, ◌+◌, ◌<◌, ◌≤◌, Bool, true, false, cond, eqb, List, [], ◌∷◌, ◌++◌, length, take, get_or, set, replicate, refl, sym, ap, arith, eq-eqb}
+use Rattle.std.specs.Prelude.{All, AllPairs}
 use Rattle.std.specs.List.{list_any}
 use Rattle.std.proofs.lemmas.Bool.{lt-ltb, le-ltb, ne_eqb}
+use Rattle.std.proofs.lemmas.List.Elements.{All-nil, All-cons, All-weaker}
+use Rattle.std.proofs.lemmas.List.Kept.{AllPairs-cons}
 use Rattle.domain_run.specs.private.Numbers.{marked}
 use Rattle.domain_run.specs.Calls.{with_number}
 
@@ -35,9 +38,27 @@ marked_set from (false ∷ bs) zero n e h free = let same : n ≡ from = omega a
 marked_set from (false ∷ bs) (suc k) n e h free = marked_set (from + 1) bs k n (omega arith) (omega arith) free
 
 -- one place more
-pub marked_next : (from : ℕ) (bs : List Bool) (k n : ℕ) → n ≡ from + k → k < length bs → marked from (take (k + 1) bs) ≡ marked from (take k bs) ++ cond (get_or bs k false) (n ∷ []) []
-marked_next from [] k n e h = absurd (omega arith)
-marked_next from (true ∷ bs) zero n e h = let same : n ≡ from = omega arith in rw same refl
-marked_next from (false ∷ bs) zero n e h = refl
-marked_next from (true ∷ bs) (suc k) n e h = ap (λ (ms : List ℕ). from ∷ ms) (marked_next (from + 1) bs k n (omega arith) (omega arith))
-marked_next from (false ∷ bs) (suc k) n e h = marked_next (from + 1) bs k n (omega arith) (omega arith)
+pub marked_next : (from : ℕ) (bs : List Bool) (k m n : ℕ) → n ≡ from + k → m ≡ k + 1 → k < length bs → marked from (take m bs) ≡ marked from (take k bs) ++ cond (get_or bs k false) (n ∷ []) []
+marked_next from [] k m n e f h = absurd (omega arith)
+marked_next from (b ∷ bs) k zero n e f h = absurd (omega arith)
+marked_next from (true ∷ bs) zero (suc m) n e f h = let same : n ≡ from = omega arith in let none : m ≡ 0 = omega (arith, f) in rw (same, none) refl
+marked_next from (false ∷ bs) zero (suc m) n e f h = let none : m ≡ 0 = omega (arith, f) in rw none refl
+marked_next from (true ∷ bs) (suc k) (suc m) n e f h = ap (λ (ms : List ℕ). from ∷ ms) (marked_next (from + 1) bs k m n (omega arith) (omega (arith, f)) (omega arith))
+marked_next from (false ∷ bs) (suc k) (suc m) n e f h = marked_next (from + 1) bs k m n (omega arith) (omega (arith, f)) (omega arith)
+
+-- each is a place of the marks
+pub marked_within : (from end : ℕ) (bs : List Bool) → from + length bs ≤ end → All (λ n. (from ≤ n) × (n < end)) (marked from bs)
+marked_within from end [] h = All-nil (λ n. (from ≤ n) × (n < end))
+marked_within from end (true ∷ bs) h =
+    All-cons (λ n. (from ≤ n) × (n < end)) from (marked (from + 1) bs) (omega arith, omega (arith, h))
+    (All-weaker (λ n. (from + 1 ≤ n) × (n < end)) (λ n. (from ≤ n) × (n < end)) (λ n p. (omega (arith, p.0), p.1)) (marked (from + 1) bs) (marked_within (from + 1) end bs (omega (arith, h))))
+marked_within from end (false ∷ bs) h =
+    All-weaker (λ n. (from + 1 ≤ n) × (n < end)) (λ n. (from ≤ n) × (n < end)) (λ n p. (omega (arith, p.0), p.1)) (marked (from + 1) bs) (marked_within (from + 1) end bs (omega (arith, h)))
+
+pub marked_apart : (from : ℕ) (bs : List Bool) → AllPairs (λ (a b : ℕ). a ≢ b) (marked from bs)
+marked_apart from [] = λ i j d less within. absurd (omega arith)
+marked_apart from (true ∷ bs) =
+    AllPairs-cons (λ (a b : ℕ). a ≢ b) from (marked (from + 1) bs)
+    (All-weaker (λ n. (from + 1 ≤ n) × (n < from + 1 + length bs)) (λ n. from ≢ n) (λ n p. λ e. absurd (omega (arith, p.0, e))) (marked (from + 1) bs) (marked_within (from + 1) (from + 1 + length bs) bs (omega arith)))
+    (marked_apart (from + 1) bs)
+marked_apart from (false ∷ bs) = marked_apart (from + 1) bs

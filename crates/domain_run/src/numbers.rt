@@ -1,6 +1,6 @@
 //! The numbers ever admitted: a mark for each, so that the test is one look.
 
-ghost use Rattle.std.specs.Prelude.{◌≡◌, ℕ, ◌<◌, ◌==◌, false, List, [], IfOk, replicate, vec_len, vec_capacity};
+ghost use Rattle.std.specs.Prelude.{◌≡◌, ◌≢◌, ℕ, ◌<◌, ◌==◌, false, List, [], All, AllPairs, IfOk, replicate, vec_len, vec_capacity};
 ghost use Rattle.std.specs.List.{list_any};
 ghost use Rattle.domain_run.specs.Calls.{with_number};
 
@@ -69,7 +69,9 @@ impl Numbers {
 
     /// All of them, in rising order.
     pub(crate) fn list(&self, alloc: Global) -> Result<Vec<u32>, NoMemory>
-        ensures { IfOk result (λ v. v.items ≡ self.now) }
+        ensures all { IfOk result (λ v. v.items ≡ self.now) }
+        ensures small { IfOk result (λ v. All (λ n. n < 65536) v.items) }
+        ensures apart { IfOk result (λ v. AllPairs (λ a b. a ≢ b) v.items) }
     {
         let mut numbers = Vec::new(alloc);
         for number in 0..self.marks.len() {

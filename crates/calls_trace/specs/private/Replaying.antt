@@ -1,14 +1,32 @@
 -- Runs under way, and what is written of them.
-use Rattle.std.specs.Prelude.{ℕ, ◌≡◌, ◌+◌, ◌≤◌, List, map}
+use Rattle.std.specs.Prelude.{ℕ, ◌≡◌, ◌+◌, ◌≤◌, Bool, IsTrue, if◌then◌else◌, List, [], ◌∷◌, map, nat_eq, unwrap_or, All, AllPairs}
+use Rattle.std.specs.declared.hash.FoldHasher.{FoldHasher}
+use Rattle.std.specs.declared.hash.BuildHasherDefault.{BuildHasherDefault}
+use Rattle.indexmap.specs.IndexMap.{IndexMap, get}
+use Rattle.attr_check.specs.ParamsView.{ParamsView}
+use Rattle.attr_check.specs.Ratio.{cap}
+use Rattle.domain_run.specs.declared.happened.Happened.{Happened}
 use Rattle.domain_run.specs.Domain.{Domain, opened}
+use Rattle.domain_run.specs.Tick.{sum_of}
 use Rattle.domain_run.specs.Sound.{IsAdmitted}
+use Rattle.domain_run.specs.Log.{LogView}
 use Rattle.domain_run.specs.Run.{run_of}
 use Rattle.call_book.specs.declared.section.Entry.{Entry}
 use Rattle.call_book.specs.SectionView.{SectionView}
 use Rattle.switch_text.specs.Names.{Names, named, HasName}
 use Rattle.switch_text.specs.Trace.{RunView, trace_of}
+use Rattle.switch_text.specs.Events.{ToldView, events_of}
+use Rattle.switch_text.specs.Telling.{HasToldLine, is_sooner_unless_cut}
+use Rattle.run_figures.specs.Runs as counted
+use Rattle.run_figures.specs.Jobs.{task_jobs}
+use Rattle.run_figures.specs.Figures.{task_figures, cpu_figures}
+use Rattle.figure_text.specs.Jobs.{JobsView, jobs_text}
+use Rattle.figure_text.specs.Summary.{SummaryView, summary_text}
 use Rattle.calls_trace.specs.declared.placed_run.PlacedRun.{PlacedRun}
+use Rattle.calls_trace.specs.declared.run_text.RunText.{RunText}
+use Rattle.calls_trace.specs.declared.run_text.RunText.TheVariants.{Trace, Events, Jobs, Summary}
 use Rattle.calls_trace.specs.Replay.{names_of, no_names, calls_of}
+use Rattle.calls_trace.specs.Told.{domain_of, names_in, told_of, no_params, params_in, admitted}
 
 abbrev pub section_view : ℕ → ℕ → List Entry → SectionView
 section_view cpus limit entries = record { cpus = cpus; limit = limit; entries = entries }
@@ -27,15 +45,105 @@ pub record IsRunOf (s : SectionView) (d : Domain) (names : Names) : Type 0 where
   pub called : Gives names (names_of (opened s.cpus s.limit) (calls_of s) no_names)
   pub all_named : AreNamed d names
 
--- the run of one domain of the machine, as it is written
-abbrev pub view_of : PlacedRun → RunView
-view_of r = record { base = r.base; names = named r.run.names; switches = r.run.state.switches }
+-- parameters by the tasks' numbers
+abbrev pub Given : Type 0
+Given = IndexMap ℕ ParamsView (BuildHasherDefault FoldHasher)
 
--- its CPUs are CPUs of the machine, and each number that was admitted has a name
+abbrev pub given_in : Given → ℕ → ParamsView
+given_in given number = unwrap_or (get nat_eq given number) (no_params number)
+
+-- the map gives these parameters
+abbrev pub GivesParams : Given → (ℕ → ParamsView) → Type 0
+GivesParams given wanted = (n : ℕ) → given_in given n ≡ wanted n
+
+-- what a log keeps of what it was told
+abbrev pub heard : LogView → List Happened
+heard log = if log.wanted then log.happened else []
+
+-- the parameters that the calls of a section leave, and what they tell a log that wants it
+pub record IsToldOf (wanted : Bool) (s : SectionView) (given : Given) (log : LogView) : Type 0 where
+  pub given : GivesParams given (params_in s)
+  pub alike : log.wanted ≡ wanted
+  pub told : heard log ≡ (if wanted then told_of s else [])
+
+-- ---- the run of one domain of the machine
+
+-- its CPU 0, the domain at the end, names and parameters by number, and what happened
+pub record PlacedView : Type 0 where
+  pub base : ℕ
+  pub domain : Domain
+  pub names : ℕ → List ℕ
+  pub given : ℕ → ParamsView
+  pub happened : List Happened
+
+abbrev pub view_of : PlacedRun → PlacedView
+view_of r = record {
+  base = r.base;
+  domain = r.run.state;
+  names = named r.run.names;
+  given = given_in r.run.given;
+  happened = heard r.run.log;
+}
+
+-- the run of a section
+abbrev pub view_at : Bool → ℕ → SectionView → PlacedView
+view_at wanted base s = record {
+  base = base;
+  domain = domain_of s;
+  names = names_in s;
+  given = params_in s;
+  happened = if wanted then told_of s else [];
+}
+
+-- the first domain has the first CPUs of the machine, the second the next ones, and so on
+abbrev pub views_from : Bool → ℕ → List SectionView → List PlacedView
+views_from wanted base [] = []
+views_from wanted base (s ∷ ss) = view_at wanted base s ∷ views_from wanted (base + s.cpus) ss
+
+-- its CPUs are CPUs of the machine, each number that was admitted has a name, and what happened has
+-- lines and rises
 pub record IsPlaced (r : PlacedRun) : Type 0 where
   pub inside : r.base + r.run.state.cpus ≤ 512
   pub named : AreNamed r.run.state r.run.names
+  pub lines : All (HasToldLine r.run.names r.base) (heard r.run.log)
+  pub rising : AllPairs (λ a b. IsTrue (is_sooner_unless_cut a b)) (heard r.run.log)
 
--- the trace of the domains of a machine
-unfoldable pub trace_of_runs : List PlacedRun → List ℕ
-trace_of_runs runs = trace_of (map view_of runs)
+-- ---- what is written of runs
+
+abbrev pub run_in : PlacedView → RunView
+run_in v = record { base = v.base; names = v.names; switches = v.domain.switches }
+
+abbrev pub told_in : PlacedView → ToldView
+told_in v = record { base = v.base; names = v.names; happened = v.happened }
+
+abbrev pub figures_in : PlacedView → counted.RunView
+figures_in v = record {
+  cpus = v.domain.cpus;
+  time = v.domain.time;
+  tasks = map (admitted v.given) v.domain.used;
+  happened = v.happened;
+  switches = v.domain.switches;
+}
+
+abbrev pub jobs_in : PlacedView → JobsView
+jobs_in v = record { names = v.names; tasks = map (task_jobs v.happened) v.domain.used }
+
+abbrev pub summary_in : PlacedView → SummaryView
+summary_in v = record {
+  names = v.names;
+  tasks = task_figures (figures_in v);
+  cpus = cpu_figures (figures_in v);
+  bandwidth = sum_of v.domain.tasks;
+  cap = cap v.domain.cpus v.domain.limit;
+  time = v.domain.time;
+}
+
+-- a text of the domains of a machine
+abbrev pub text_in : RunText → List PlacedView → List ℕ
+text_in Trace vs = trace_of (map run_in vs)
+text_in Events vs = events_of (map run_in vs) (map told_in vs)
+text_in Jobs vs = jobs_text (map jobs_in vs)
+text_in Summary vs = summary_text (map summary_in vs)
+
+unfoldable pub text_of_runs : RunText → List PlacedRun → List ℕ
+text_of_runs text runs = text_in text (map view_of runs)

@@ -1,7 +1,7 @@
 //! What a state lends of a listed task: its name, its script and its number, and what it takes along
 //! to another domain.
 
-ghost use Rattle.std.specs.Prelude.{◌≡◌, IfOk, IfSome, option_map};
+ghost use Rattle.std.specs.Prelude.{◌≡◌, ◌≢◌, ◌<◌, All, AllPairs, IfOk, IfSome, option_map};
 ghost use Rattle.std.specs.Option.{option_copied};
 ghost use Rattle.attr_check.specs.ParamsView.{IsOrdered};
 ghost use Rattle.domain_run.specs.NameView.{IsName};
@@ -93,7 +93,9 @@ impl State {
     /// # Errors
     /// 12 [`NoMemory`]: a growth was refused.
     pub fn numbers(&self, alloc: Global) -> Result<Vec<u32>, NoMemory>
-        ensures { IfOk result (λ numbers. numbers.items ≡ self.now.used) }
+        ensures used { IfOk result (λ numbers. numbers.items ≡ self.now.used) }
+        ensures small { IfOk result (λ numbers. All (λ n. n < 65536) numbers.items) }
+        ensures apart { IfOk result (λ numbers. AllPairs (λ a b. a ≢ b) numbers.items) }
     {
         self.used.list(alloc)
     }

@@ -2,5 +2,6 @@ use Rattle.std.proofs.Common.{◌≡◌, take}
 use Rattle.domain_run.specs.private.Numbers.{marked}
 use Rattle.domain_run.proofs.numbers.Numbers.list.Given as goal
 
-abbrev pub invariant-loop : goal.invariant-loop
-invariant-loop l = l.numbers.items ≡ marked 0 (take l.number l.self.now)
+-- the marked numbers of the places so far
+abbrev pub invariant-loop-number : goal.invariant-loop-number
+invariant-loop-number l = l.numbers.items ≡ marked 0 (take l.number l.self-inside.marks.items)

@@ -1,0 +1,25 @@
+-- The texts that are made of runs.
+use Rattle.std.specs.Prelude.{ℕ, Bool, true, false, List, Option, Some, None}
+use Rattle.call_book.specs.SectionView.{SectionView}
+use Rattle.calls_trace.specs.declared.replaying.ReplayPrint.{ReplayPrint}
+use Rattle.calls_trace.specs.declared.replaying.ReplayPrint.TheVariants as prints
+use Rattle.calls_trace.specs.declared.run_text.RunText.{RunText}
+use Rattle.calls_trace.specs.declared.run_text.RunText.TheVariants.{Trace, Events, Jobs, Summary}
+use Rattle.calls_trace.specs.private.Replaying.{views_from, text_in}
+
+abbrev pub run_text : ReplayPrint → Option RunText
+run_text prints.Trace = Some Trace
+run_text prints.Replies = None
+run_text prints.Events = Some Events
+run_text prints.Jobs = Some Jobs
+run_text prints.Summary = Some Summary
+
+abbrev pub tells : RunText → Bool
+tells Trace = false
+tells Events = true
+tells Jobs = true
+tells Summary = true
+
+-- that of the runs of sections
+unfoldable pub text_of_all : RunText → List SectionView → List ℕ
+text_of_all text sections = text_in text (views_from (tells text) 0 sections)

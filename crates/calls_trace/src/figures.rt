@@ -1,0 +1,266 @@
+//! The jobs and the figures of the runs of a machine's domains, as texts.
+
+ghost use Rattle.std.specs.Prelude.{◌≡◌, ◌<◌, ◌≤◌, ◌^◌, All, IfOk, IfErr, OnOk, length, map};
+ghost use Rattle.counted_io.specs.Sides.{faults_of, side};
+ghost use Rattle.run_figures.specs.Runs as counted;
+ghost use Rattle.run_figures.specs.Figures.{task_figures, cpu_figures};
+ghost use Rattle.run_figures.specs.Laws.{AreShort};
+ghost use Rattle.figure_text.specs.Jobs as jobs;
+ghost use Rattle.figure_text.specs.Summary as summaries;
+ghost use Rattle.calls_trace.specs.Told.{admitted};
+ghost use Rattle.calls_trace.specs.Written.{IsWritten, IsUnwritten};
+ghost use Rattle.calls_trace.specs.declared.run_text.RunText.TheVariants as texts;
+ghost use Rattle.calls_trace.specs.private.Replaying.{view_of, given_in, figures_in, jobs_in, summary_in, text_of_runs};
+
+use crate::fault::TraceFault;
+use crate::named_run::RunWithNames;
+use crate::placed_run::PlacedRun;
+use crate::trace::heard_by;
+use attr_check::Params;
+use domain_run::NoMemory;
+use figure_text::{DomainJobs, DomainSummary, put_jobs, put_summary};
+use indexmap::IndexMap;
+use run_figures::{Admitted, Run, Summary, TaskJobs, jobs_of, summary_of};
+use std::alloc::Global;
+use std::io::Write;
+use switch_text::{Counted, write_text};
+
+/// A task that was admitted, with the parameters that are known of it.
+fn admitted_as(given: &IndexMap<u32, Params>, number: u32) -> Admitted
+    ensures { result ≡ admitted (given_in given.now) number }
+{
+    match given.get(&number) {
+        Some(params) => Admitted {
+            number,
+            runtime: params.runtime,
+            period: params.period,
+        },
+        None => Admitted {
+            number,
+            runtime: 0,
+            period: 0,
+        },
+    }
+}
+
+/// The tasks that were admitted in a run, by number.
+fn tasks_of(alloc: Global, run: &RunWithNames) -> Result<Vec<Admitted>, NoMemory>
+    ensures tasks { IfOk result (λ v. v.items
+        ≡ map (admitted (given_in run.now.given)) run.now.state.used) }
+    ensures apart { IfOk result (λ v. counted.AreTasks v.items) }
+{
+    let numbers = run.state.numbers(alloc)?;
+    let mut tasks = Vec::with_capacity(alloc, numbers.len())?;
+    for number in &numbers {
+        tasks.push_reserved(admitted_as(&run.given, *number));
+    }
+    Ok(tasks)
+}
+
+/// A run, as figures are made of it.
+fn as_counted<'a>(placed: &'a PlacedRun, tasks: &'a [Admitted]) -> Run<'a>
+    requires tasks { tasks.now
+        ≡ map (admitted (given_in placed.now.run.given)) placed.now.run.state.used }
+    requires apart { counted.AreTasks tasks.now }
+    ensures view { counted.view_of result ≡ figures_in (view_of placed.now) }
+    ensures run { counted.IsRun (counted.view_of result) }
+{
+    Run {
+        cpus: placed.run.state.cpus(),
+        time: placed.run.state.now(),
+        tasks,
+        happened: heard_by(&placed.run.log),
+        switches: placed.run.state.switches(),
+    }
+}
+
+// ---- jobs
+
+/// A run, and the jobs of its tasks.
+struct CountedJobs<'a> {
+    placed: &'a PlacedRun,
+    jobs: Vec<TaskJobs>,
+    ghost are: { jobs.items ≡ (jobs_in (view_of placed.now)).tasks },
+}
+
+fn count_jobs(alloc: Global, placed: &PlacedRun) -> Result<CountedJobs<'_>, NoMemory>
+    ensures { IfOk result (λ c. c.placed.now ≡ placed.now) }
+{
+    let tasks = tasks_of(alloc, &placed.run)?;
+    let jobs = jobs_of(alloc, &as_counted(placed, &tasks))?;
+    Ok(CountedJobs { placed, jobs })
+}
+
+/// The jobs of each run.
+fn all_jobs(alloc: Global, placed: &[PlacedRun]) -> Result<Vec<CountedJobs<'_>>, NoMemory>
+    ensures { IfOk result (λ v. map (λ c. c.placed.now) v.items ≡ placed.now) }
+{
+    let mut all = Vec::with_capacity(alloc, placed.len())?;
+    for run in placed {
+        all.push_reserved(count_jobs(alloc, run)?);
+    }
+    Ok(all)
+}
+
+fn as_jobs<'a>(counted: &'a CountedJobs<'_>) -> DomainJobs<'a>
+    ensures { jobs.view_of result ≡ jobs_in (view_of counted.now.placed.now) }
+{
+    DomainJobs {
+        names: &counted.placed.run.names,
+        tasks: &counted.jobs,
+    }
+}
+
+/// The jobs of runs as they are written.
+fn all_as_jobs<'a>(
+    alloc: Global,
+    counted: &'a [CountedJobs<'_>],
+) -> Result<Vec<DomainJobs<'a>>, NoMemory>
+    ensures { IfOk result (λ v. map jobs.view_of v.items
+        ≡ map (λ c. jobs_in (view_of c.placed.now)) counted.now) }
+{
+    let mut written = Vec::with_capacity(alloc, counted.len())?;
+    for one in counted {
+        written.push_reserved(as_jobs(one));
+    }
+    Ok(written)
+}
+
+/// The text of the jobs of runs.
+fn jobs_text(alloc: Global, placed: &[PlacedRun]) -> Result<Vec<u8>, NoMemory>
+    ensures { IfOk result (λ v. v.items ≡ text_of_runs texts.Jobs placed.now) }
+{
+    let counted = all_jobs(alloc, placed)?;
+    let domains = all_as_jobs(alloc, &counted)?;
+    let mut text = Vec::new(alloc);
+    put_jobs(&mut text, &domains)?;
+    Ok(text)
+}
+
+// ---- the summary
+
+/// A run, and its figures.
+struct CountedRun<'a> {
+    placed: &'a PlacedRun,
+    summary: Summary,
+    ghost tasks: { summary.tasks.items ≡ task_figures (figures_in (view_of placed.now)) },
+    ghost cpus: { summary.cpus.items ≡ cpu_figures (figures_in (view_of placed.now)) },
+    ghost short: { AreShort summary.tasks.items summary.cpus.items },
+}
+
+fn count_run(alloc: Global, placed: &PlacedRun) -> Result<CountedRun<'_>, NoMemory>
+    ensures { IfOk result (λ c. c.placed.now ≡ placed.now) }
+{
+    let tasks = tasks_of(alloc, &placed.run)?;
+    let summary = summary_of(alloc, &as_counted(placed, &tasks))?;
+    Ok(CountedRun { placed, summary })
+}
+
+/// The figures of each run.
+fn all_counted(alloc: Global, placed: &[PlacedRun]) -> Result<Vec<CountedRun<'_>>, NoMemory>
+    ensures { IfOk result (λ v. map (λ c. c.placed.now) v.items ≡ placed.now) }
+{
+    let mut all = Vec::with_capacity(alloc, placed.len())?;
+    for run in placed {
+        all.push_reserved(count_run(alloc, run)?);
+    }
+    Ok(all)
+}
+
+fn as_summary<'a>(counted: &'a CountedRun<'_>) -> DomainSummary<'a>
+    ensures view { summaries.view_of result ≡ summary_in (view_of counted.now.placed.now) }
+    ensures short { summaries.IsShort result }
+    ensures machine { summaries.IsOfMachine result }
+{
+    let state = &counted.placed.run.state;
+    DomainSummary {
+        names: &counted.placed.run.names,
+        tasks: &counted.summary.tasks,
+        cpus: &counted.summary.cpus,
+        bandwidth: state.sum(),
+        cap: u64::from(state.cpus()) * state.limit(),
+        time: state.now(),
+    }
+}
+
+/// The figures of runs as they are written.
+fn all_as_summaries<'a>(
+    alloc: Global,
+    counted: &'a [CountedRun<'_>],
+) -> Result<Vec<DomainSummary<'a>>, NoMemory>
+    ensures views { IfOk result (λ v. map summaries.view_of v.items
+        ≡ map (λ c. summary_in (view_of c.placed.now)) counted.now) }
+    ensures short { IfOk result (λ v. All summaries.IsShort v.items) }
+    ensures machine { IfOk result (λ v. All summaries.IsOfMachine v.items) }
+    ensures count { IfOk result (λ v. length v.items ≡ length counted.now) }
+{
+    let mut written = Vec::with_capacity(alloc, counted.len())?;
+    for one in counted {
+        written.push_reserved(as_summary(one));
+    }
+    Ok(written)
+}
+
+/// The text of the figures of runs.
+fn summary_text(alloc: Global, placed: &[PlacedRun]) -> Result<Vec<u8>, NoMemory>
+    requires few { length placed.now ≤ 8 }
+    ensures { IfOk result (λ v. v.items ≡ text_of_runs texts.Summary placed.now) }
+{
+    let counted = all_counted(alloc, placed)?;
+    let domains = all_as_summaries(alloc, &counted)?;
+    let mut text = Vec::new(alloc);
+    put_summary(&mut text, &domains)?;
+    Ok(text)
+}
+
+// ---- written
+
+/// Writes a text in one piece.
+pub(crate) fn write_whole<W: Write>(
+    text: &[u8],
+    writer: &mut Counted<W>,
+) -> Result<(), TraceFault>
+    requires faults { faults_of writer.old < 2 ^ 63 }
+    ensures ok { OnOk result (IsWritten (side W.contents writer.old writer.new) text.now) }
+    ensures err { IfErr result (IsUnwritten (side W.contents writer.old writer.new) text.now) }
+{
+    match write_text(text, writer) {
+        Ok(()) => Ok(()),
+        Err(fault) => Err(TraceFault::Write {
+            written: fault.written,
+        }),
+    }
+}
+
+/// Writes the jobs of the tasks of 1 to 8 domains.
+pub(crate) fn write_jobs_of<W: Write>(
+    alloc: Global,
+    placed: &[PlacedRun],
+    writer: &mut Counted<W>,
+) -> Result<(), TraceFault>
+    requires faults { faults_of writer.old < 2 ^ 63 }
+    ensures ok { OnOk result
+        (IsWritten (side W.contents writer.old writer.new) (text_of_runs texts.Jobs placed.now)) }
+    ensures err { IfErr result
+        (IsUnwritten (side W.contents writer.old writer.new) (text_of_runs texts.Jobs placed.now)) }
+{
+    let text = jobs_text(alloc, placed)?;
+    write_whole(&text, writer)
+}
+
+/// Writes the figures of the runs of 1 to 8 domains.
+pub(crate) fn write_summary_of<W: Write>(
+    alloc: Global,
+    placed: &[PlacedRun],
+    writer: &mut Counted<W>,
+) -> Result<(), TraceFault>
+    requires few { length placed.now ≤ 8 }
+    requires faults { faults_of writer.old < 2 ^ 63 }
+    ensures ok { OnOk result
+        (IsWritten (side W.contents writer.old writer.new) (text_of_runs texts.Summary placed.now)) }
+    ensures err { IfErr result
+        (IsUnwritten (side W.contents writer.old writer.new) (text_of_runs texts.Summary placed.now)) }
+{
+    let text = summary_text(alloc, placed)?;
+    write_whole(&text, writer)
+}

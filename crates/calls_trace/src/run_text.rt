@@ -1,0 +1,40 @@
+//! The texts that are made of runs.
+
+ghost use Rattle.std.specs.Prelude.{◌≡◌};
+ghost use Rattle.calls_trace.specs.private.RunTexts as texts;
+
+use crate::replaying::ReplayPrint;
+
+/// A text that is made of the runs of a machine's domains.
+#[derive(Clone, Copy, Debug, PartialEq, Eq)]
+pub(crate) enum RunText {
+    Trace,
+    Events,
+    Jobs,
+    Summary,
+}
+
+impl RunText {
+    /// The text that is asked for; the calls with their replies are made of no run.
+    pub(crate) fn of(print: ReplayPrint) -> Option<RunText>
+        ensures { result ≡ texts.run_text print }
+    {
+        match print {
+            ReplayPrint::Trace => Some(RunText::Trace),
+            ReplayPrint::Replies => None,
+            ReplayPrint::Events => Some(RunText::Events),
+            ReplayPrint::Jobs => Some(RunText::Jobs),
+            ReplayPrint::Summary => Some(RunText::Summary),
+        }
+    }
+
+    /// Whether it needs to be known what happens.
+    pub(crate) fn tells(self) -> bool
+        ensures { result ≡ texts.tells self }
+    {
+        match self {
+            RunText::Trace => false,
+            RunText::Events | RunText::Jobs | RunText::Summary => true,
+        }
+    }
+}
