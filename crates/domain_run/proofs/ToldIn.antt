@@ -342,3 +342,6 @@ run_tells cpus limit calls some = calls_in (opened cpus limit) calls (has_opened
 -- and it rises
 pub run_rises : (cpus limit : ℕ) (calls : List Call) → 0 < cpus → IsRising (told_by_calls (opened cpus limit) calls)
 run_rises cpus limit calls some = (calls_rise (opened cpus limit) calls [] (has_opened cpus limit some) (none_rises 0)).rising
+
+pub run_cpus : (cpus limit : ℕ) (calls : List Call) → (run_of cpus limit calls).cpus ≡ cpus
+run_cpus cpus limit calls = (follows_calls (opened cpus limit) calls).cpus
