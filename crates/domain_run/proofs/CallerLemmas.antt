@@ -34,6 +34,8 @@ pub use Rattle.domain_run.proofs.OrderLists.{same_length, same_any, same_found, 
 pub use Rattle.domain_run.proofs.OrderTicks.{Alike, relisted, same_sum_of, ticks_alike, alike_switches}
 pub use Rattle.domain_run.proofs.OrderGathered.{gathered, gather, gathered_both}
 pub use Rattle.domain_run.proofs.Logging.{tells_none, tells_more}
+pub use Rattle.domain_run.proofs.ToldRising.{IsSooner, IsSoonerUnlessCut, IsRising}
+pub use Rattle.domain_run.proofs.ToldIn.{IsToldIn, run_tells, run_rises, run_cpus}
 
 and_left : (a b : Bool) → (a && b) ≡ true → a ≡ true
 and_left true b e = refl

@@ -32,7 +32,10 @@ pub mod Rooted
 pub mod Climbing
 pub mod Leaves
 pub mod ToldOrder
+pub mod ToldOf
 pub mod ToldChanges
+pub mod ToldRising
+pub mod ToldIn
 pub mod Logging
 pub mod ToldTicks
 pub mod ToldPay

@@ -15,7 +15,7 @@ nobody_at n i =
       | inr h ↦ get_or_past (replicate n nothing) i nothing (omega (arith, length-replicate n nothing))
     ]
 
-nobody_twice : (n : ℕ) → IsApart (replicate n None)
+pub nobody_twice : (n : ℕ) → IsApart (replicate n None)
 nobody_twice n = record { once = λ i j k a b. let no : None ≡ Some k = sym (nobody_at n i) ∙ a in absurd cc }
 
 opened_steady : (cpus limit : ℕ) → 0 < cpus → cpus ≤ 64 → 10485 ≤ limit → limit ≤ 1048576 → IsSteady (opened cpus limit)

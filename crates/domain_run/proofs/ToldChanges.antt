@@ -214,12 +214,12 @@ TellsOwn f = (t : Task) → AreOf t.number (f t)
 abbrev pub AreNumbered : List Task → Type 0
 AreNumbered tasks = AllPairs (λ a b. a.number ≢ b.number) tasks
 
-apart_of : (n : ℕ) (hs gs : List Happened) → AreOf n hs → All (λ g. g.number ≢ n) gs → AreApart hs gs
+pub apart_of : (n : ℕ) (hs gs : List Happened) → AreOf n hs → All (λ g. g.number ≢ n) gs → AreApart hs gs
 apart_of n hs gs is others =
     All-weaker (λ a. a.number ≡ n) (λ a. All (IsApart a) gs)
     (λ a same. All-weaker (λ g. g.number ≢ n) (IsApart a) (λ g other. inr (λ e. other (sym e ∙ same))) gs others) hs is
 
-all_others : (f : Task → List Happened) (n : ℕ) (tasks : List Task) → TellsOwn f → All (λ t. t.number ≢ n) tasks → All (λ h. h.number ≢ n) (flat_map f tasks)
+pub all_others : (f : Task → List Happened) (n : ℕ) (tasks : List Task) → TellsOwn f → All (λ t. t.number ≢ n) tasks → All (λ h. h.number ≢ n) (flat_map f tasks)
 all_others f n [] own others = All-nil (λ h. h.number ≢ n)
 all_others f n (t ∷ tasks) own others =
     let other : t.number ≢ n = All-head (λ t. t.number ≢ n) t tasks others in

@@ -29,7 +29,7 @@ tells a b h =
           )
     ]
 
-passes : (a b : Happened) → Precedes a b → is_first a b ≡ true
+pub passes : (a b : Happened) → Precedes a b → is_first a b ≡ true
 passes a b (inl x) = or_left (ltb (rank a.what) (rank b.what)) (eqb (rank a.what) (rank b.what) && (ltb a.cpu b.cpu || (eqb a.cpu b.cpu && ltb a.number b.number))) (lt-ltb (rank a.what) (rank b.what) x)
 passes a b (inr (same, rest)) =
     let behind = ltb a.cpu b.cpu || (eqb a.cpu b.cpu && ltb a.number b.number) in
@@ -48,7 +48,7 @@ through a b c (inr (s, inl x)) (inr (t, inr (u, y))) = inr (s ∙ t, inl (omega 
 through a b c (inr (s, inr (u, x))) (inr (t, inl y)) = inr (s ∙ t, inl (omega (arith, u, y)))
 through a b c (inr (s, inr (u, x))) (inr (t, inr (v, y))) = inr (s ∙ t, inr (u ∙ v, omega (arith, x, y)))
 
-first_both : (a b c : Happened) → is_first a b ≡ true → is_first b c ≡ true → is_first a c ≡ true
+pub first_both : (a b c : Happened) → is_first a b ≡ true → is_first b c ≡ true → is_first a c ≡ true
 first_both a b c p q = passes a c (through a b c (tells a b p) (tells b c q))
 
 never : (a : Happened) → Precedes a a → ⊥
@@ -76,7 +76,7 @@ either a b apart =
       | inr o ↦ elim o [ inl x ↦ inl (inl x) | inr x ↦ inr (inl x) ]
     ]
 
-other : (a b : Happened) → IsApart a b → is_first a b ≡ false → is_first b a ≡ true
+pub other : (a b : Happened) → IsApart a b → is_first a b ≡ false → is_first b a ≡ true
 other a b apart h =
     elim (either a b apart) [
       | inl x ↦ absurd (both_ways (is_first a b) h (passes a b x))

@@ -1,0 +1,370 @@
+-- What happens in a domain rises: strictly by time, and at one time strictly by its order. Cuts alone, which calls
+-- tell between two ticks, stand where they come.
+use Rattle.std.proofs.Common.{◌≡◌, ◌≢◌, ℕ, zero, suc, ◌+◌, ◌-◌, ◌<◌, Bool, true, false, cond, eqb, ◌&&◌, List, [], ◌∷◌, ◌++◌, map, refl, sym, subst, ◌∙◌, inl, inr, arith}
+use Rattle.std.specs.Prelude.{All, AllPairs, ◌⊎◌, filter}
+use Rattle.std.specs.List.{flat_map}
+use Rattle.std.proofs.lemmas.List.{append-nil, append_assoc}
+use Rattle.std.proofs.lemmas.List.Elements.{All-nil, All-cons, All-head, All-tail, All-append, All-weaker, All-map}
+use Rattle.std.proofs.lemmas.List.Kept.{AllPairs-cons, AllPairs-filter}
+use Rattle.cbs_rules.specs.Serving.{charged}
+use Rattle.edf_pick.specs.Places.{stands}
+use Rattle.domain_run.specs.declared.task.Task.{Task}
+use Rattle.domain_run.specs.declared.script.Segment.{Segment}
+use Rattle.domain_run.specs.declared.script.Segment.TheVariants.{Run as RunFor, Until, Wait as WaitFor, End as EndNow}
+use Rattle.domain_run.specs.declared.happened.What.TheVariants.{JobEnds, NextReleased, Spent, Cut, Replenished, Released, WokenSpent}
+use Rattle.domain_run.specs.declared.happened.Happened.{Happened}
+use Rattle.domain_run.specs.declared.call.Call.{Call}
+use Rattle.domain_run.specs.declared.call.Call.TheVariants.{Admit, Regrade, Wake, Leave, Advance, Limit, Depart, Arrive}
+use Rattle.domain_run.specs.script.Segments.{asked}
+use Rattle.domain_run.specs.Conditions.{is_throttled, is_over, has_come}
+use Rattle.domain_run.specs.Parts.{replenish_due, settled, is_listed, unblocked, with_last_cpu, ran}
+use Rattle.domain_run.specs.Domain.{Domain}
+use Rattle.domain_run.specs.Tick.{begun, prepared, rate_of, ticks}
+use Rattle.domain_run.specs.Calls.{reply_to, is_refusal, granted, after_call}
+use Rattle.domain_run.specs.Happened.{told, due, job_due, passes_late_timer, told_by_segment, told_by_work, told_by_budget, told_by_run, told_if_ran, told_by_replenishment, told_by_wake, told_by_unblocking, rank, is_first, with_happened, in_order, told_by_beginning, told_by_end, told_by_tick, told_by_ticks, told_by_cut, told_by_granted, told_by_call}
+use Rattle.domain_run.proofs.Keeping.{same_replenished, same_settled, AllPairs-map}
+use Rattle.domain_run.proofs.KeptKeys.{AreNumbered, ticks_numbered, others_first, others_rest}
+use Rattle.domain_run.proofs.OrderTicks.{prepared_apart}
+use Rattle.domain_run.proofs.Homing.{homed_keeps}
+use Rattle.domain_run.proofs.ToldOrder.{passes, first_both, IsApart, other}
+use Rattle.domain_run.proofs.ToldChanges.{AreOf, all_others, apart_of}
+use Rattle.domain_run.proofs.ToldOf.{each_placed, each_in_order, each_task, each_replenishment, each_unblocking, each_work, each_budget, each_end}
+
+-- ---- what rises
+
+-- earlier, or at the same time and first there
+abbrev pub IsSooner : Happened → Happened → Type 0
+IsSooner a b = (a.time < b.time) ⊎ ((a.time ≡ b.time) × (is_first a b ≡ true))
+
+abbrev pub IsCut : Happened → Type 0
+IsCut h = rank h.what ≡ 3
+
+-- where neither is a cut, the first is sooner
+abbrev pub IsSoonerUnlessCut : Happened → Happened → Type 0
+IsSoonerUnlessCut a b = (rank a.what ≢ 3) → (rank b.what ≢ 3) → IsSooner a b
+
+abbrev pub IsRising : List Happened → Type 0
+IsRising hs = AllPairs IsSoonerUnlessCut hs
+
+-- ---- pairs of a list
+
+pairs_first : {X : Type 0} (R : X → X → Type 0) (x : X) (xs : List X) → AllPairs R (x ∷ xs) → All (R x) xs
+pairs_first R x xs all k d h = all zero (suc k) d (omega arith) (omega arith)
+
+pairs_rest : {X : Type 0} (R : X → X → Type 0) (x : X) (xs : List X) → AllPairs R (x ∷ xs) → AllPairs R xs
+pairs_rest R x xs all i j d less within = all (suc i) (suc j) d (omega arith) (omega arith)
+
+pairs_none : {X : Type 0} (R : X → X → Type 0) → AllPairs R []
+pairs_none R i j d less within = absurd (omega (arith, within))
+
+pairs_append : {X : Type 0} (R : X → X → Type 0) (xs ys : List X) → AllPairs R xs → AllPairs R ys → All (λ x. All (R x) ys) xs → AllPairs R (xs ++ ys)
+pairs_append R [] ys one two across = two
+pairs_append R (x ∷ xs) ys one two across =
+    AllPairs-cons R x (xs ++ ys) (All-append (R x) xs ys (pairs_first R x xs one) (All-head (λ x. All (R x) ys) x xs across))
+    (pairs_append R xs ys (pairs_rest R x xs one) two (All-tail (λ x. All (R x) ys) x xs across))
+
+across_by : {X : Type 0} (P Q : X → Type 0) (R : X → X → Type 0) (xs ys : List X) → ((x y : X) → P x → Q y → R x y) → All P xs → All Q ys → All (λ x. All (R x) ys) xs
+across_by P Q R xs ys f one two = All-weaker P (λ x. All (R x) ys) (λ x p. All-weaker Q (R x) (λ y q. f x y p q) ys two) xs one
+
+-- ---- in its order, where each two are apart
+
+abbrev IsBefore : Happened → Happened → Type 0
+IsBefore a b = is_first a b ≡ true
+
+with_first : (h : Happened) (hs : List Happened) → All (IsApart h) hs → AllPairs IsBefore hs → AllPairs IsBefore (with_happened h hs)
+with_first h [] apart rising = AllPairs-cons IsBefore h [] (All-nil (IsBefore h)) rising
+with_first h (o ∷ os) apart rising = by_first (is_first h o) refl (with_first h os (All-tail (IsApart h) o os apart) (pairs_rest IsBefore o os rising))
+  where
+    behind : All (IsBefore o) os
+    behind = pairs_first IsBefore o os rising
+
+    by_first : (b : Bool) → is_first h o ≡ b → AllPairs IsBefore (with_happened h os) → AllPairs IsBefore (cond b (h ∷ o ∷ os) (o ∷ with_happened h os))
+    by_first true is more = AllPairs-cons IsBefore h (o ∷ os) (All-cons (IsBefore h) o os is (All-weaker (IsBefore o) (IsBefore h) (λ x next. first_both h o x is next) os behind)) rising
+    by_first false is more = AllPairs-cons IsBefore o (with_happened h os) (each_placed (IsBefore o) h os (other h o (All-head (IsApart h) o os apart) is) behind) more
+
+in_order_first : (hs : List Happened) → AllPairs IsApart hs → AllPairs IsBefore (in_order hs)
+in_order_first [] apart = pairs_none IsBefore
+in_order_first (h ∷ hs) apart = with_first h (in_order hs) (each_in_order (IsApart h) hs (pairs_first IsApart h hs apart)) (in_order_first hs (pairs_rest IsApart h hs apart))
+
+-- at one time
+rising_at : (time : ℕ) (hs : List Happened) → All (λ h. h.time ≡ time) hs → AllPairs IsBefore hs → IsRising hs
+rising_at time hs at before i j d less within x y = inr (at i d (omega (arith, less, within)) ∙ sym (at j d within), before i j d less within)
+
+-- ---- of one task
+
+by_rank : (a b : Happened) → rank a.what < rank b.what → IsApart a b
+by_rank a b less = inl (λ e. absurd (omega (arith, less, e)))
+
+apart_one : (h : Happened) → AllPairs IsApart (h ∷ [])
+apart_one h = AllPairs-cons IsApart h [] (All-nil (IsApart h)) (pairs_none IsApart)
+
+apart_two : (h g : Happened) → rank h.what < rank g.what → AllPairs IsApart (h ∷ g ∷ [])
+apart_two h g less = AllPairs-cons IsApart h (g ∷ []) (All-cons (IsApart h) g [] (by_rank h g less) (All-nil (IsApart h))) (apart_one g)
+
+apart_if : (b : Bool) (hs : List Happened) → AllPairs IsApart hs → AllPairs IsApart (cond b hs [])
+apart_if true hs apart = apart
+apart_if false hs apart = pairs_none IsApart
+
+apart_replenishment : (time : ℕ) (t : Task) → AllPairs IsApart (told_by_replenishment time t)
+apart_replenishment time t =
+    let h : Happened = told time t (Replenished (due (replenish_due time t))) in
+    apart_if (is_throttled t.condition && has_come time t.server.deadline) (h ∷ []) (apart_one h)
+
+apart_wake : (time : ℕ) (t woken : Task) (s : Segment) → AllPairs IsApart (told_by_wake time t woken s)
+apart_wake time t woken (RunFor n) = by_throttle (is_throttled woken.condition)
+  where
+    h : Happened
+    h = told time t (Released (job_due time t))
+
+    g : Happened
+    g = told time t (WokenSpent (due woken))
+
+    by_throttle : (b : Bool) → AllPairs IsApart (h ∷ cond b (g ∷ []) [])
+    by_throttle true = apart_two h g (omega arith)
+    by_throttle false = apart_one h
+apart_wake time t woken (Until n) = pairs_none IsApart
+apart_wake time t woken WaitFor = pairs_none IsApart
+apart_wake time t woken EndNow = pairs_none IsApart
+
+apart_unblocking : (time : ℕ) (t : Task) → AllPairs IsApart (told_by_unblocking time t)
+apart_unblocking time t =
+    let s = (asked t.cursor time).segment in
+    apart_if (is_over time t.condition) (told_by_wake time t (unblocked time t) s) (apart_wake time t (unblocked time t) s)
+
+apart_segment : (time : ℕ) (t : Task) (late : Bool) (s : Segment) → AllPairs IsApart (told_by_segment time t late s)
+apart_segment time t late (RunFor n) =
+    let h : Happened = told time t JobEnds in
+    let g : Happened = told time t (NextReleased (job_due time t)) in
+    apart_if late (h ∷ g ∷ []) (apart_two h g (omega arith))
+apart_segment time t late (Until n) = apart_one (told time t JobEnds)
+apart_segment time t late WaitFor = apart_one (told time t JobEnds)
+apart_segment time t late EndNow = apart_one (told time t JobEnds)
+
+apart_run : (time rate : ℕ) (t : Task) → AllPairs IsApart (told_by_run time rate t)
+apart_run time rate t =
+    let later : ℕ = time + 1 in
+    let x : Task = record t { server = charged rate 1 t.server; work = t.work - 1 } in
+    let y : Task = ran time rate t in
+    let late = passes_late_timer x.cursor later in
+    let s = (asked x.cursor later).segment in
+    let h : Happened = told later y (Spent (due y)) in
+    let low : Happened → Type 0 = λ g. rank g.what < 2 in
+    let high : Happened → Type 0 = λ g. rank g.what ≡ 2 in
+    pairs_append IsApart (told_by_work later x) (told_by_budget later y)
+    (apart_if (eqb x.work 0) (told_by_segment later x late s) (apart_segment later x late s))
+    (apart_if (is_throttled y.condition) (h ∷ []) (apart_one h))
+    (across_by low high IsApart (told_by_work later x) (told_by_budget later y) (λ a b p q. by_rank a b (omega (arith, p, q))) (each_work low later x (λ w p. p)) (each_budget high later y (λ w p. p)))
+
+-- ---- of all tasks
+
+abbrev OwnApart : (Task → List Happened) → Type 0
+OwnApart f = (t : Task) → AllPairs IsApart (f t)
+
+abbrev OwnOf : (Task → List Happened) → Type 0
+OwnOf f = (t : Task) → AreOf t.number (f t)
+
+apart_tasks : (f : Task → List Happened) (tasks : List Task) → OwnOf f → OwnApart f → AreNumbered tasks → AllPairs IsApart (flat_map f tasks)
+apart_tasks f [] own apart numbered = pairs_none IsApart
+apart_tasks f (t ∷ tasks) own apart numbered =
+    let others : All (λ u. u.number ≢ t.number) tasks = All-weaker (λ u. t.number ≢ u.number) (λ u. u.number ≢ t.number) (λ u ne e. ne (sym e)) tasks (others_first t tasks numbered) in
+    pairs_append IsApart (f t) (flat_map f tasks) (apart t) (apart_tasks f tasks own apart (others_rest t tasks numbered))
+    (apart_of t.number (f t) (flat_map f tasks) (own t) (all_others f t.number tasks own others))
+
+own_end : (d : Domain) → OwnOf (told_if_ran d)
+own_end d t = each_end (λ h. h.number ≡ t.number) d t (λ u same w low. same.number)
+
+apart_end : (d : Domain) → OwnApart (told_if_ran d)
+apart_end d t = apart_if (stands t.number d.curr) (told_by_run d.time (rate_of d t) t) (apart_run d.time (rate_of d t) t)
+
+-- ---- WHERE A TICK BEGINS, and where it ends
+
+abbrev IsBeginning : ℕ → Happened → Type 0
+IsBeginning time h = (h.time ≡ time) × (3 < rank h.what)
+
+abbrev IsEnd : ℕ → Happened → Type 0
+IsEnd time h = (h.time ≡ time) × (rank h.what < 3)
+
+-- what parts 1 to 3 tell, before it is in its order
+abbrev replenished_tell : Domain → List Happened
+replenished_tell d = flat_map (told_by_replenishment d.time) d.tasks
+
+abbrev left_listed : Domain → List Task
+left_listed d = filter is_listed (map (settled d.time) (map (replenish_due d.time) d.tasks))
+
+abbrev woken_tell : Domain → List Happened
+woken_tell d = flat_map (told_by_unblocking d.time) (left_listed d)
+
+-- whichever task it is
+abbrev IsWhichever : Task → Type 0
+IsWhichever t = Unit {0}
+
+whichever : (tasks : List Task) → All IsWhichever tasks
+whichever tasks k d h = tt
+
+abbrev IsReplenishment : ℕ → Happened → Type 0
+IsReplenishment time h = (h.time ≡ time) × (rank h.what ≡ 4)
+
+abbrev IsWake : ℕ → Happened → Type 0
+IsWake time h = (h.time ≡ time) × (4 < rank h.what)
+
+replenished_are : (d : Domain) → All (IsReplenishment d.time) (replenished_tell d)
+replenished_are d = each_task IsWhichever (IsReplenishment d.time) (told_by_replenishment d.time) d.tasks (λ t which. each_replenishment (IsReplenishment d.time) d.time t (λ w at. (refl, at))) (whichever d.tasks)
+
+woken_are : (d : Domain) → All (IsWake d.time) (woken_tell d)
+woken_are d = each_task IsWhichever (IsWake d.time) (told_by_unblocking d.time) (left_listed d) (λ t which. each_unblocking (IsWake d.time) d.time t (λ w at. (refl, at))) (whichever (left_listed d))
+
+beginning_is : (d : Domain) → All (IsBeginning d.time) (told_by_beginning d)
+beginning_is d =
+    each_in_order (IsBeginning d.time) (replenished_tell d ++ woken_tell d)
+    (All-append (IsBeginning d.time) (replenished_tell d) (woken_tell d)
+    (All-weaker (IsReplenishment d.time) (IsBeginning d.time) (λ h p. (p.0, omega (arith, p.1))) (replenished_tell d) (replenished_are d))
+    (All-weaker (IsWake d.time) (IsBeginning d.time) (λ h p. (p.0, omega (arith, p.1))) (woken_tell d) (woken_are d)))
+
+numbered_map : (f : Task → Task) → ((t : Task) → (f t).number ≡ t.number) → (tasks : List Task) → AreNumbered tasks → AreNumbered (map f tasks)
+numbered_map f keeps tasks numbered = AllPairs-map (λ a b. a.number ≢ b.number) f (λ a b h e. h (sym (keeps a) ∙ e ∙ keeps b)) tasks numbered
+
+left_numbered : (d : Domain) → AreNumbered d.tasks → AreNumbered (left_listed d)
+left_numbered d numbered =
+    let due = map (replenish_due d.time) d.tasks in
+    AllPairs-filter (λ (a b : Task). a.number ≢ b.number) is_listed (map (settled d.time) due)
+    (numbered_map (settled d.time) (λ t. (same_settled d.time t).number) due (numbered_map (replenish_due d.time) (λ t. (same_replenished d.time t).number) d.tasks numbered))
+
+own_replenishment : (time : ℕ) → OwnOf (told_by_replenishment time)
+own_replenishment time t = each_replenishment (λ h. h.number ≡ t.number) time t (λ w at. refl)
+
+own_unblocking : (time : ℕ) → OwnOf (told_by_unblocking time)
+own_unblocking time t = each_unblocking (λ h. h.number ≡ t.number) time t (λ w at. refl)
+
+beginning_rises : (d : Domain) → AreNumbered d.tasks → IsRising (told_by_beginning d)
+beginning_rises d numbered =
+    let across : All (λ a. All (IsApart a) (woken_tell d)) (replenished_tell d) = across_by (IsReplenishment d.time) (IsWake d.time) IsApart (replenished_tell d) (woken_tell d) (λ a b p q. by_rank a b (omega (arith, p.1, q.1))) (replenished_are d) (woken_are d) in
+    let apart : AllPairs IsApart (replenished_tell d ++ woken_tell d) = pairs_append IsApart (replenished_tell d) (woken_tell d)
+    (apart_tasks (told_by_replenishment d.time) d.tasks (own_replenishment d.time) (apart_replenishment d.time) numbered)
+    (apart_tasks (told_by_unblocking d.time) (left_listed d) (own_unblocking d.time) (apart_unblocking d.time) (left_numbered d numbered)) across in
+    rising_at d.time (told_by_beginning d) (All-weaker (IsBeginning d.time) (λ h. h.time ≡ d.time) (λ h p. p.0) (told_by_beginning d) (beginning_is d)) (in_order_first (replenished_tell d ++ woken_tell d) apart)
+
+ending_is : (d : Domain) → All (IsEnd (d.time + 1)) (told_by_end d)
+ending_is d =
+    each_in_order (IsEnd (d.time + 1)) (flat_map (told_if_ran d) d.tasks)
+    (each_task IsWhichever (IsEnd (d.time + 1)) (told_if_ran d) d.tasks (λ t which. each_end (IsEnd (d.time + 1)) d t (λ u same w low. (refl, low))) (whichever d.tasks))
+
+ending_rises : (d : Domain) → AreNumbered d.tasks → IsRising (told_by_end d)
+ending_rises d numbered =
+    rising_at (d.time + 1) (told_by_end d) (All-weaker (IsEnd (d.time + 1)) (λ h. h.time ≡ d.time + 1) (λ h p. p.0) (told_by_end d) (ending_is d)) (in_order_first (flat_map (told_if_ran d) d.tasks) (apart_tasks (told_if_ran d) d.tasks (own_end d) (apart_end d) numbered))
+
+-- ---- TICKS: what is told is told until a time, and the next beginning is behind it
+
+abbrev IsPast : ℕ → Happened → Type 0
+IsPast time h = (h.time < time) ⊎ ((h.time ≡ time) × (rank h.what < 4))
+
+pub record RisesTo (time : ℕ) (hs : List Happened) : Type 0 where
+  pub rising : IsRising hs
+  pub past : All (IsPast time) hs
+
+past_begins : (time : ℕ) (a b : Happened) → IsPast time a → IsBeginning time b → IsSoonerUnlessCut a b
+past_begins time a b (inl less) at = λ x y. inl (omega (arith, less, at.0))
+past_begins time a b (inr is) at = λ x y. inr (is.0 ∙ sym at.0, passes a b (inl (omega (arith, is.1, at.1))))
+
+past_ends : (time : ℕ) (a b : Happened) → IsPast time a → IsEnd (time + 1) b → IsSoonerUnlessCut a b
+past_ends time a b (inl less) at = λ x y. inl (omega (arith, less, at.0))
+past_ends time a b (inr is) at = λ x y. inl (omega (arith, is.0, at.0))
+
+begins_ends : (time : ℕ) (a b : Happened) → IsBeginning time a → IsEnd (time + 1) b → IsSoonerUnlessCut a b
+begins_ends time a b is at = λ x y. inl (omega (arith, is.0, at.0))
+
+past_later : (time : ℕ) (a : Happened) → IsPast time a → IsPast (time + 1) a
+past_later time a (inl less) = inl (omega (arith, less))
+past_later time a (inr is) = inl (omega (arith, is.0))
+
+begins_past : (time : ℕ) (a : Happened) → IsBeginning time a → IsPast (time + 1) a
+begins_past time a is = inl (omega (arith, is.0))
+
+ends_past : (time : ℕ) (a : Happened) → IsEnd time a → IsPast time a
+ends_past time a is = inr (is.0, omega (arith, is.1))
+
+begun_numbered : (d : Domain) → AreNumbered d.tasks → AreNumbered (begun d).tasks
+begun_numbered d numbered = numbered_map (with_last_cpu (begun d).curr) (homed_keeps (begun d).curr) (prepared d.time d.tasks) (prepared_apart d.time d.tasks numbered)
+
+with_beginning : (d : Domain) (hs : List Happened) → AreNumbered d.tasks → RisesTo d.time hs → IsRising (hs ++ told_by_beginning d)
+with_beginning d hs numbered to =
+    let more = told_by_beginning d in
+    pairs_append IsSoonerUnlessCut hs more to.rising (beginning_rises d numbered) (across_by (IsPast d.time) (IsBeginning d.time) IsSoonerUnlessCut hs more (past_begins d.time) to.past (beginning_is d))
+
+-- one way or the other before the end of a tick
+abbrev IsBeforeEnd : ℕ → Happened → Type 0
+IsBeforeEnd time h = IsPast time h ⊎ IsBeginning time h
+
+before_ends : (time : ℕ) (a b : Happened) → IsBeforeEnd time a → IsEnd (time + 1) b → IsSoonerUnlessCut a b
+before_ends time a b (inl is) at = past_ends time a b is at
+before_ends time a b (inr is) at = begins_ends time a b is at
+
+before_past : (time : ℕ) (a : Happened) → IsBeforeEnd time a → IsPast (time + 1) a
+before_past time a (inl is) = past_later time a is
+before_past time a (inr is) = begins_past time a is
+
+all_before : (d : Domain) (hs : List Happened) → RisesTo d.time hs → All (IsBeforeEnd d.time) (hs ++ told_by_beginning d)
+all_before d hs to =
+    All-append (IsBeforeEnd d.time) hs (told_by_beginning d) (All-weaker (IsPast d.time) (IsBeforeEnd d.time) (λ h p. inl p) hs to.past)
+    (All-weaker (IsBeginning d.time) (IsBeforeEnd d.time) (λ h p. inr p) (told_by_beginning d) (beginning_is d))
+
+tick_rises : (d : Domain) (hs : List Happened) → AreNumbered d.tasks → RisesTo d.time hs → RisesTo (d.time + 1) (hs ++ told_by_tick d)
+tick_rises d hs numbered to =
+    let front = told_by_beginning d in
+    let b : Domain = begun d in
+    let back = told_by_end b in
+    let later : ℕ = d.time + 1 in
+    let ends : All (IsEnd later) back = ending_is b in
+    let before = all_before d hs to in
+    subst (RisesTo later) (append_assoc hs front back) (record {
+      rising = pairs_append IsSoonerUnlessCut (hs ++ front) back (with_beginning d hs numbered to) (ending_rises b (begun_numbered d numbered)) (across_by (IsBeforeEnd d.time) (IsEnd later) IsSoonerUnlessCut (hs ++ front) back (before_ends d.time) before ends);
+      past = All-append (IsPast later) (hs ++ front) back (All-weaker (IsBeforeEnd d.time) (IsPast later) (before_past d.time) (hs ++ front) before) (All-weaker (IsEnd later) (IsPast later) (ends_past later) back ends);
+    })
+
+-- nothing more
+with_none : (time : ℕ) (hs : List Happened) → RisesTo time hs → RisesTo time (hs ++ [])
+with_none time hs to = subst (RisesTo time) (sym (append-nil hs)) to
+
+ticks_rise : (n : ℕ) (d : Domain) (hs : List Happened) → AreNumbered d.tasks → RisesTo d.time hs → RisesTo (ticks n d).time (hs ++ told_by_ticks n d)
+ticks_rise zero d hs numbered to = with_none d.time hs to
+ticks_rise (suc n) d hs numbered to =
+    let e : Domain = ticks n d in
+    let seen = hs ++ told_by_ticks n d in
+    subst (RisesTo (e.time + 1)) (append_assoc hs (told_by_ticks n d) (told_by_tick e)) (tick_rises e seen (ticks_numbered n d numbered) (ticks_rise n d hs numbered to))
+
+-- ---- A CALL
+
+cuts_are : (time : ℕ) (tasks : List Task) → All (λ h. (h.time ≡ time) × IsCut h) (map (λ t. told time t Cut) tasks)
+cuts_are time tasks = All-map (λ (h : Happened). (h.time ≡ time) × IsCut h) (λ (t : Task). told time t Cut) tasks (λ k d h. (refl, refl))
+
+cut_rises : (d : Domain) (number : ℕ) (hs : List Happened) → RisesTo d.time hs → RisesTo d.time (hs ++ told_by_cut d number)
+cut_rises d number hs to =
+    let ts = filter (λ (t : Task). eqb t.number number) d.tasks in
+    let cuts = map (λ (t : Task). told d.time t Cut) ts in
+    let are : All (λ h. (h.time ≡ d.time) × IsCut h) cuts = cuts_are d.time ts in
+    record {
+      rising = pairs_append IsSoonerUnlessCut hs cuts to.rising (λ i j x less within a b. absurd (b (are j x within).1))
+          (across_by (IsPast d.time) (λ h. (h.time ≡ d.time) × IsCut h) IsSoonerUnlessCut hs cuts (λ a b p q x y. absurd (y q.1)) to.past are);
+      past = All-append (IsPast d.time) hs cuts to.past (All-weaker (λ h. (h.time ≡ d.time) × IsCut h) (IsPast d.time) (λ h p. inr (p.0, omega (arith, p.1))) cuts are);
+    }
+
+granted_rises : (d : Domain) (c : Call) (hs : List Happened) → AreNumbered d.tasks → RisesTo d.time hs → RisesTo (granted d c).time (hs ++ told_by_granted d c)
+granted_rises d (Admit number name params delay script) hs numbered to = with_none d.time hs to
+granted_rises d (Regrade number params word) hs numbered to = with_none d.time hs to
+granted_rises d (Wake number) hs numbered to = with_none d.time hs to
+granted_rises d (Leave number) hs numbered to = cut_rises d number hs to
+granted_rises d (Advance n) hs numbered to = ticks_rise n d hs numbered to
+granted_rises d (Limit limit word) hs numbered to = with_none d.time hs to
+granted_rises d (Depart number) hs numbered to = cut_rises d number hs to
+granted_rises d (Arrive number name params script) hs numbered to = with_none d.time hs to
+
+either_rises : (b : Bool) (d e : Domain) (hs gs : List Happened) → RisesTo d.time hs → RisesTo e.time (hs ++ gs) → RisesTo (cond b d e).time (hs ++ cond b [] gs)
+either_rises true d e hs gs to more = with_none d.time hs to
+either_rises false d e hs gs to more = more
+
+-- what a call tells is behind all that was told before
+pub call_rises : (d : Domain) (c : Call) (hs : List Happened) → AreNumbered d.tasks → RisesTo d.time hs → RisesTo (after_call d c).time (hs ++ told_by_call d c)
+call_rises d c hs numbered to = either_rises (is_refusal (reply_to d c)) d (granted d c) hs (told_by_granted d c) to (granted_rises d c hs numbered to)
+
+-- nothing was told at first
+pub none_rises : (time : ℕ) → RisesTo time []
+none_rises time = record { rising = pairs_none IsSoonerUnlessCut; past = All-nil (IsPast time) }
