@@ -1,6 +1,6 @@
 mod Naming
 mod Sections
-mod Telling
+mod ToldLines
 mod Written
 mod Texts
 mod Recorded

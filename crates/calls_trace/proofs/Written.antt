@@ -19,7 +19,7 @@ use Rattle.calls_trace.specs.declared.placed_run.PlacedRun.{PlacedRun}
 use Rattle.calls_trace.specs.Replay.{calls_of}
 use Rattle.calls_trace.specs.Told.{domain_of, names_in, told_of, params_in}
 use Rattle.calls_trace.specs.private.Replaying.{AreNamed, IsRunOf, IsToldOf, given_in, heard, PlacedView, view_of, view_at, views_from, IsPlaced}
-use Rattle.calls_trace.proofs.Telling.{lines_told, rising_told}
+use Rattle.calls_trace.proofs.ToldLines.{told_lines, told_rises}
 
 some_named : (d : Domain) (names : Names) → AreNamed d names → (o : Option ℕ) → IfSome o (IsAdmitted d.used) → IfSome o (HasName names)
 some_named d names named None h = tt
@@ -56,8 +56,8 @@ placed_is wanted r s section is told inside =
     record {
       inside = omega (arith, cpus, inside);
       named = is.all_named;
-      lines = subst (All (HasToldLine r.run.names r.base)) (sym told.told) (lines wanted (lines_told s r.run.names r.base section all_named inside));
-      rising = subst (AllPairs (λ a b. IsTrue (is_sooner_unless_cut a b))) (sym told.told) (rises wanted (rising_told s section));
+      lines = subst (All (HasToldLine r.run.names r.base)) (sym told.told) (lines wanted (told_lines s r.base r.run.names section all_named inside));
+      rising = subst (AllPairs (λ a b. IsTrue (is_sooner_unless_cut a b))) (sym told.told) (rises wanted (told_rises s section));
     }
   where
     lines : (w : Bool) → All (HasToldLine r.run.names r.base) (told_of s) → All (HasToldLine r.run.names r.base) (cond w (told_of s) [])

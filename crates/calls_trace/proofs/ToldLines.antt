@@ -1,0 +1,113 @@
+-- What happens in the run of a section can be written: each of it has a line, and it rises.
+use Rattle.std.proofs.Common.{◌≡◌, ◌≢◌, ℕ, ◌+◌, ◌*◌, ◌^◌, ◌<◌, ◌≤◌, Bool, true, false, cond, eqb, ltb, ◌&&◌, ◌||◌, List, [], ◌∷◌, length, map, get_or, refl, sym, ap, subst, ◌∙◌, inl, inr, arith, eq-eqb}
+use Rattle.std.specs.Prelude.{All, AllPairs, IsTrue, not}
+use Rattle.std.proofs.lemmas.Bool.{or_left, or_right, and_from, lt-ltb}
+use Rattle.std.proofs.lemmas.List.Elements.{All-nil, All-head, All-tail, All-weaker}
+use Rattle.domain_run.specs.declared.happened.What.{What}
+use Rattle.domain_run.specs.declared.happened.What.TheVariants.{JobEnds, NextReleased, Spent, Cut, Replenished, Released, WokenSpent}
+use Rattle.domain_run.specs.declared.happened.Happened.{Happened}
+use Rattle.domain_run.specs.declared.call.Call.{Call}
+use Rattle.domain_run.specs.declared.call.Call.TheVariants.{Admit, Regrade, Wake, Leave, Advance, Limit, Depart, Arrive}
+use Rattle.domain_run.specs.Domain.{Domain, opened}
+use Rattle.domain_run.specs.Calls.{after_call}
+use Rattle.domain_run.specs.Run.{after_calls, run_of}
+use Rattle.domain_run.specs.Happened.{rank, is_first}
+use Rattle.domain_run.proofs.CallerLemmas.{ticks_of, call_time, IsSooner, IsSoonerUnlessCut, IsToldIn, run_tells, run_rises, run_cpus}
+use Rattle.call_book.specs.declared.section.Entry.{Entry}
+use Rattle.call_book.specs.SectionView.{SectionView}
+use Rattle.call_book.specs.Limits.{IsCall, IsEntry, IsSection}
+use Rattle.switch_text.specs.Names.{Names, HasName}
+use Rattle.switch_text.specs.ToldLine.{has_line}
+use Rattle.switch_text.specs.Telling.{HasToldLine, is_sooner, is_sooner_unless_cut, IsTold}
+use Rattle.switch_text.specs.declared.told.Told.{Told}
+use Rattle.calls_trace.specs.Replay.{calls_of}
+use Rattle.calls_trace.specs.Told.{domain_of, told_of}
+use Rattle.calls_trace.specs.private.Replaying.{AreNamed}
+
+-- ---- until when
+
+ticks_most : (c : Call) → IsCall c → ticks_of c ≤ 60000000
+ticks_most (Admit number name params delay script) is = omega arith
+ticks_most (Regrade number params word) is = omega arith
+ticks_most (Wake number) is = omega arith
+ticks_most (Leave number) is = omega arith
+ticks_most (Advance n) is = is.1
+ticks_most (Limit limit word) is = omega arith
+ticks_most (Depart number) is = omega arith
+ticks_most (Arrive number name params script) is = omega arith
+
+time_after : (d : Domain) (entries : List Entry) → All IsEntry entries → (after_calls d (map (λ e. e.call) entries)).time ≤ d.time + 60000000 * length entries
+time_after d [] are = omega arith
+time_after d (e ∷ entries) are =
+    let step : (after_call d e.call).time ≡ d.time + ticks_of e.call = call_time d e.call in
+    let most : ticks_of e.call ≤ 60000000 = ticks_most e.call (All-head IsEntry e entries are).call in
+    let rest = time_after (after_call d e.call) entries (All-tail IsEntry e entries are) in
+    omega (arith, step, most, rest)
+
+-- a section ends before 2^42 us
+section_time : (s : SectionView) → IsSection s → (domain_of s).time < 2 ^ 42
+section_time s is =
+    let last = time_after (opened s.cpus s.limit) s.entries is.entries in
+    omega (arith, last, is.most_entries)
+
+-- ---- its order
+
+line_no_cut : (w : What) → has_line w ≡ true → rank w ≢ 3
+line_no_cut JobEnds is e = absurd (omega (arith, e))
+line_no_cut (NextReleased deadline) is e = absurd (omega (arith, e))
+line_no_cut (Spent deadline) is e = absurd (omega (arith, e))
+line_no_cut Cut is e = absurd cc
+line_no_cut (Replenished deadline) is e = absurd (omega (arith, e))
+line_no_cut (Released deadline) is e = absurd (omega (arith, e))
+line_no_cut (WokenSpent deadline) is e = absurd (omega (arith, e))
+
+sooner : (a b : Happened) → IsSooner a b → is_sooner a b ≡ true
+sooner a b (inl less) = or_left (ltb a.time b.time) (eqb a.time b.time && is_first a b) (lt-ltb a.time b.time less)
+sooner a b (inr is) = or_right (ltb a.time b.time) (eqb a.time b.time && is_first a b) (and_from (eqb a.time b.time) (is_first a b) (eq-eqb a.time b.time is.0) is.1)
+
+unless_cut : (a b : Happened) → IsSoonerUnlessCut a b → IsTrue (is_sooner_unless_cut a b)
+unless_cut a b is = by_lines (has_line a.what) (has_line b.what) refl refl
+  where
+    by_lines : (x y : Bool) → has_line a.what ≡ x → has_line b.what ≡ y → (not x || not y || is_sooner a b) ≡ true
+    by_lines false y p q = refl
+    by_lines true false p q = refl
+    by_lines true true p q = sooner a b (is (line_no_cut a.what p) (line_no_cut b.what q))
+
+pub told_rises : (s : SectionView) → IsSection s → AllPairs (λ a b. IsTrue (is_sooner_unless_cut a b)) (told_of s)
+told_rises s is i j d less within =
+    let hs = told_of s in
+    unless_cut (get_or hs i d) (get_or hs j d) (run_rises s.cpus s.limit (calls_of s) is.some_cpus i j d less within)
+
+-- ---- its lines
+
+pub told_lines : (s : SectionView) (base : ℕ) (names : Names) → IsSection s → AreNamed (domain_of s) names → base + s.cpus ≤ 512 → All (HasToldLine names base) (told_of s)
+told_lines s base names is named inside =
+    let d : Domain = domain_of s in
+    let early : d.time < 2 ^ 42 = section_time s is in
+    let cpus : d.cpus ≡ s.cpus = run_cpus s.cpus s.limit (calls_of s) in
+    All-weaker (IsToldIn d) (HasToldLine names base) (λ h in_it. record { time = omega (arith, in_it.past, early); cpu = omega (arith, in_it.inside, cpus, inside); name = named h.number in_it.admitted })
+    (told_of s) (run_tells s.cpus s.limit (calls_of s) is.some_cpus)
+
+-- what is kept of it, where it is wanted
+pub kept_lines : (wanted : Bool) (s : SectionView) (base : ℕ) (names : Names) (kept : List Happened) → kept ≡ cond wanted (told_of s) [] → IsSection s → AreNamed (domain_of s) names → base + s.cpus ≤ 512 → All (HasToldLine names base) kept
+kept_lines wanted s base names kept same is named inside = subst (All (HasToldLine names base)) (sym same) (by_wanted wanted)
+  where
+    by_wanted : (b : Bool) → All (HasToldLine names base) (cond b (told_of s) [])
+    by_wanted true = told_lines s base names is named inside
+    by_wanted false = All-nil (HasToldLine names base)
+
+pub kept_rises : (wanted : Bool) (s : SectionView) (kept : List Happened) → kept ≡ cond wanted (told_of s) [] → IsSection s → AllPairs (λ a b. IsTrue (is_sooner_unless_cut a b)) kept
+kept_rises wanted s kept same is = subst (AllPairs (λ a b. IsTrue (is_sooner_unless_cut a b))) (sym same) (by_wanted wanted)
+  where
+    by_wanted : (b : Bool) → AllPairs (λ x y. IsTrue (is_sooner_unless_cut x y)) (cond b (told_of s) [])
+    by_wanted true = told_rises s is
+    by_wanted false = λ i j d less within. absurd (omega (arith, within))
+
+-- what happens in a section's run, where it is few enough: the domain's CPU 0 is this CPU of the machine, and whoever
+-- was admitted has a name
+pub told_is : (t : Told) (s : SectionView) → IsSection s → AreNamed (domain_of s) t.names.now → t.base + s.cpus ≤ 512 → t.happened.now ≡ told_of s → length t.happened.now ≤ 2 ^ 50 → IsTold t
+told_is t s is named inside same few = record {
+  lines = subst (All (HasToldLine t.names.now t.base)) (sym same) (told_lines s t.base t.names.now is named inside);
+  rising = subst (AllPairs (λ a b. IsTrue (is_sooner_unless_cut a b))) (sym same) (told_rises s is);
+  few = few;
+}
