@@ -1,31 +1,37 @@
 -- The advance of each domain at the end of a run.
-use Rattle.std.proofs.Common.{◌≡◌, ◌≢◌, ℕ, zero, suc, ◌+◌, ◌≤◌, ◌<◌, ◌&&◌, Bool, true, false, eqb, cond, List, [], ◌∷◌, ◌++◌, length, map, set, get_or, Some, None, Ok, All, refl, sym, ap, subst, ◌∙◌, arith}
+use Rattle.std.proofs.Common.{◌≡◌, ◌≢◌, ℕ, zero, suc, ◌+◌, ◌-◌, ◌≤◌, ◌<◌, ◌&&◌, Bool, true, false, eqb, cond, List, [], ◌∷◌, ◌++◌, length, take, map, set, get_or, Some, None, Ok, All, refl, sym, ap, subst, ◌∙◌, arith}
 use Rattle.std.specs.Prelude.{slice_index_or, nat_lt}
 use Rattle.std.specs.List.{cons_option}
 use Rattle.std.proofs.lemmas.Bool.{lt-ltb, eqb-true, eqb-false}
-use Rattle.std.proofs.lemmas.List.{append-nil, get_or_default, get_or-set_same, get_or-set_other, length-set}
-use Rattle.std.proofs.lemmas.List.Elements.{All-cons, All-head, All-tail}
+use Rattle.std.proofs.lemmas.List.{append-nil, get_or_default, get_or-set_same, get_or-set_other, length-set, length_push}
+use Rattle.std.proofs.lemmas.List.Elements.{All-cons, All-head, All-tail, All-get_or}
+use Rattle.std.proofs.Math.Seq.{take-append_seam}
 use Rattle.pass_seats.specs.Lists.{PassView}
-use Rattle.domain_run.specs.Domain.{opened}
+use Rattle.domain_run.specs.Domain.{Domain, opened}
+use Rattle.domain_run.specs.declared.happened.Happened.{Happened}
+use Rattle.domain_run.specs.Happened.{told_by_ticks}
+use Rattle.domain_run.specs.Log.{LogView, kept, Tells}
+use Rattle.domain_run.specs.Run.{run_of}
 use Rattle.domain_run.specs.declared.call.Call.TheVariants.{Advance}
 use Rattle.domain_run.specs.declared.call.Reply.{Reply}
 use Rattle.domain_run.specs.declared.call.Reply.TheVariants as replies
 use Rattle.call_book.specs.declared.section.Entry.{Entry}
-use Rattle.call_book.specs.Book.{BookView, IsFull, own_entries}
-use Rattle.call_book.specs.BookAnswers.{IsAdvanced}
+use Rattle.call_book.specs.Book.{BookView, IsFull, own_entries, calls_of, state_of, entry_by}
+use Rattle.call_book.specs.BookAnswers.{IsAdvanced, TellsAdvance}
 use Rattle.call_book.specs.SectionView.{SectionView}
 use Rattle.session.specs.declared.fault.EndFault.{EndFault}
 use Rattle.session.specs.declared.fault.EndFault.TheVariants as faults
 use Rattle.session.specs.declared.report.Finished.{Finished}
 use Rattle.session.specs.SessionId.{SessionId}
 use Rattle.session.specs.Asks.{ClientView, Makes, Made, entries_from, pass_in, followed_by}
+use Rattle.session.specs.declared.report.Report.{Report}
 use Rattle.session.specs.Report.{IsReport}
 use Rattle.session.specs.RunEnd.{advance_of, EndsWith}
 use Rattle.session.specs.private.Entering.{IsSessionBook, pass_after}
 use Rattle.session.specs.private.Parts.{AreSessionBooks}
 use Rattle.session.specs.private.Closing.{HaveEnded}
-use Rattle.session.specs.private.Ending.{MakesAll, IsEndBy, AllEnd, IsFullAmong}
-use Rattle.session.specs.RunEnd.{HaveAdvanced, IsFinished, IsFullWith, IsStopped}
+use Rattle.session.specs.private.Ending.{MakesAll, IsEndBy, AllEnd, AllTellEnds, AreOpenLogs, AreEndLogs, IsFullAmong}
+use Rattle.session.specs.RunEnd.{HaveAdvanced, IsFinished, IsFullWith, IsLogOf, IsStopped, told_at_end}
 use Rattle.session.proofs.Asked.{makes_at, makes_nothing}
 
 -- ---- one domain
@@ -168,6 +174,95 @@ ends_more n m duration books b there more before last = λ d x upto. by d x upto
         let other = eqb-false n d is in
         subst (λ (v : BookView). EndsWith duration v.history) (sym (get_or-set_other books n d b x (λ at. other (sym at)))) (before d x (omega (arith, upto, more, other)))
 
+-- ---- the logs
+
+all_but_last : (es : List Entry) (e : Entry) → take (length (es ++ e ∷ []) - 1) (es ++ e ∷ []) ≡ es
+all_but_last es e =
+    let less : length (es ++ e ∷ []) - 1 ≡ length es = omega (arith, length_push es e) in
+    ap (λ (n : ℕ). take n (es ++ e ∷ [])) less ∙ take-append_seam es (e ∷ [])
+
+-- an advance of which all ticks were made told what they tell from the state before it
+pub tells_end : (old new : BookView) (p q : PassView Entry) (ticks made : ℕ) (reply : Reply) (before after : LogView)
+    → IsAdvanced old new p q ticks reply → TellsAdvance old before after reply → reply ≡ replies.Done made → made ≡ ticks
+    → Tells before (told_at_end ticks new.cpus new.limit new.history) after
+tells_end old new p q ticks made reply before after a t is all =
+    let done : reply ≡ replies.Done t.made = t.done in
+    let same : t.made ≡ ticks = cc in
+    let cpus = ap (λ (b : BookView). b.cpus) a.entered.book in
+    let limit = ap (λ (b : BookView). b.limit) a.entered.book in
+    let history = ap (λ (b : BookView). b.history) a.entered.book in
+    let cut : take (length new.history - 1) new.history ≡ old.history =
+    ap (λ (es : List Entry). take (length es - 1) es) history ∙ all_but_last old.history (entry_by p (Advance a.made) reply) in
+    let told : told_by_ticks t.made (state_of old) ≡ told_at_end ticks new.cpus new.limit new.history =
+    ap (λ (n : ℕ). told_by_ticks n (state_of old)) same
+    ∙ ap (λ (n : ℕ). told_by_ticks ticks (run_of n old.limit (calls_of old.history))) (sym cpus)
+    ∙ ap (λ (n : ℕ). told_by_ticks ticks (run_of new.cpus n (calls_of old.history))) (sym limit)
+    ∙ ap (λ (es : List Entry). told_by_ticks ticks (run_of new.cpus new.limit (calls_of es))) (sym cut) in
+    subst (λ (hs : List Happened). Tells before hs after) told t.told
+
+-- the logs of the first so many books were told
+abbrev pub FirstTell : ℕ → ℕ → List BookView → List LogView → List LogView → Type 0
+FirstTell n ticks books before after =
+    (d : ℕ) (y : BookView) (x : LogView) → d < n
+    → let b = slice_index_or books d y in
+    Tells (slice_index_or before d x) (told_at_end ticks b.cpus b.limit b.history) (slice_index_or after d x)
+
+-- the others were not
+abbrev pub RestStay : ℕ → List LogView → List LogView → Type 0
+RestStay n before after = (d : ℕ) (x : LogView) → n ≤ d → slice_index_or after d x ≡ slice_index_or before d x
+
+pub tell_more : (n m ticks : ℕ) (books : List BookView) (b : BookView) (before after : List LogView) (was log : LogView) → n < length books → n < length after → m ≡ n + 1
+    → FirstTell n ticks books before after → RestStay n before after → was ≡ get_or after n was → Tells was (told_at_end ticks b.cpus b.limit b.history) log
+    → FirstTell m ticks (set books n b) before (set after n log)
+tell_more n m ticks books b before after was log there inside more first rest at last = λ d y x upto. by d y x upto (eqb n d) refl
+  where
+    by : (d : ℕ) (y : BookView) (x : LogView) → d < m → (e : Bool) → eqb n d ≡ e
+        → Tells (get_or before d x) (told_at_end ticks (get_or (set books n b) d y).cpus (get_or (set books n b) d y).limit (get_or (set books n b) d y).history) (get_or (set after n log) d x)
+    by d y x upto true is =
+        let began : was ≡ get_or before n x = at ∙ get_or_default after n was x inside ∙ rest n x (omega arith) in
+        let here : Tells (get_or before n x) (told_at_end ticks (get_or (set books n b) n y).cpus (get_or (set books n b) n y).limit (get_or (set books n b) n y).history) (get_or (set after n log) n x) =
+        subst (λ (l : LogView). Tells l (told_at_end ticks (get_or (set books n b) n y).cpus (get_or (set books n b) n y).limit (get_or (set books n b) n y).history) (get_or (set after n log) n x)) began
+        (subst (λ (v : BookView). Tells was (told_at_end ticks v.cpus v.limit v.history) (get_or (set after n log) n x)) (sym (get_or-set_same books n b y there))
+        (subst (λ (l : LogView). Tells was (told_at_end ticks b.cpus b.limit b.history) l) (sym (get_or-set_same after n log x inside)) last)) in
+        subst (λ (k : ℕ). Tells (get_or before k x) (told_at_end ticks (get_or (set books n b) k y).cpus (get_or (set books n b) k y).limit (get_or (set books n b) k y).history) (get_or (set after n log) k x)) (eqb-true n d is) here
+    by d y x upto false is =
+        let other = eqb-false n d is in
+        subst (λ (v : BookView). Tells (get_or before d x) (told_at_end ticks v.cpus v.limit v.history) (get_or (set after n log) d x)) (sym (get_or-set_other books n d b y (λ same. other (sym same))))
+        (subst (λ (l : LogView). Tells (get_or before d x) (told_at_end ticks (get_or books d y).cpus (get_or books d y).limit (get_or books d y).history) l) (sym (get_or-set_other after n d log x (λ same. other (sym same))))
+        (first d y x (omega (arith, upto, more, other))))
+
+pub rest_stay : (n m : ℕ) (before after : List LogView) (log : LogView) → m ≡ n + 1 → RestStay n before after → RestStay m before (set after n log)
+rest_stay n m before after log more rest = λ d x behind.
+    get_or-set_other after n d log x (λ same. absurd (omega (arith, same, behind, more))) ∙ rest d x (omega (arith, behind, more))
+
+-- what a log that had nothing has, once it was told
+log_of : (wanted : Bool) (told : List Happened) (before after : LogView) → IsLogOf wanted [] before → Tells before told after → IsLogOf wanted told after
+log_of wanted told before after is tells = record {
+  alike = tells.wanted ∙ is.alike;
+  has = λ yes.
+      tells.happened
+      ∙ ap (λ (hs : List Happened). hs ++ kept before told) (is.has yes)
+      ∙ ap (λ (b : Bool). cond b told []) (is.alike ∙ yes);
+}
+
+pub end_logs : (wanted : Bool) (ticks : ℕ) (books : List BookView) (before after : List LogView) → AreOpenLogs (length books) wanted before → length after ≡ length before
+    → AllTellEnds ticks books before after → AreEndLogs wanted ticks books after
+end_logs wanted ticks books before after is count tell = record {
+  count = count ∙ is.count;
+  each = λ d y x inside.
+      log_of wanted _ (get_or before d x) (get_or after d x) (All-get_or (IsLogOf wanted []) before d x (omega (arith, inside, is.count)) is.each) (tell d y x inside);
+}
+
+-- where nothing is advanced
+pub open_is_end : (wanted : Bool) (ticks : ℕ) (books : List BookView) (logs : List LogView) → ticks ≡ 0 → AreOpenLogs (length books) wanted logs → AreEndLogs wanted ticks books logs
+open_is_end wanted ticks books logs none is = record {
+  count = is.count;
+  each = λ d y x inside.
+      let b = get_or books d y in
+      subst (λ (n : ℕ). IsLogOf wanted (told_at_end n b.cpus b.limit b.history) (get_or logs d x)) (sym none)
+      (All-get_or (IsLogOf wanted []) logs d x (omega (arith, inside, is.count)) is.each);
+}
+
 -- ---- an advance that was not made
 
 -- what is said of a full book, said otherwise
@@ -206,10 +301,10 @@ no_book id = record {
   left = None;
 }
 
-pub is_finished : (id : SessionId) (duration : ℕ) (cs es : List ClientView) (books : List BookView) (f : Finished)
-    → HaveAdvanced duration cs es → IsReport id es f.report → HaveEnded books f.report.histories.items f.states.items → length books ≡ length id.cpu_sets → AllEnd duration books
-    → IsFinished id duration cs f
-is_finished id duration cs es books f advanced is ended count end = record {
+pub is_finished : (id : SessionId) (duration : ℕ) (wanted : Bool) (cs es : List ClientView) (books : List BookView) (f : Finished)
+    → HaveAdvanced duration cs es → IsReport id es f.report → HaveEnded books f.report.histories.items f.states.items → length books ≡ length id.cpu_sets → AreSessionBooks id books → AllEnd duration books
+    → AreEndLogs wanted duration books f.logs.items → IsFinished id duration wanted cs f
+is_finished id duration wanted cs es books f advanced is ended count named end logs = record {
   after = es;
   advanced = advanced;
   report = is;
@@ -218,6 +313,20 @@ is_finished id duration cs es books f advanced is ended count end = record {
       subst (EndsWith duration) (sym last.entries) (end d (no_book id) (omega (arith, inside, count)));
   count = ended.states_count ∙ is.left.count;
   runs = λ d s x inside. (ended.each d (no_book id) s x inside).run;
+  logs_count = logs.count ∙ count;
+  logs = λ d s x inside.
+      let within : d < length f.report.histories.items = omega (arith, inside, is.left.count) in
+      let place : d < length books = omega (arith, inside, count) in
+      let b = get_or books d (no_book id) in
+      let h = get_or f.report.histories.items d s in
+      let left = is.left.histories d s inside in
+      let book = named d (no_book id) place in
+      let entries = (ended.each d (no_book id) s (opened 0 0) within).entries in
+      let told : told_at_end duration b.cpus b.limit b.history ≡ told_at_end duration h.cpus h.limit h.entries =
+      ap (λ (n : ℕ). told_at_end duration n b.limit b.history) (book.cpus ∙ sym left.cpus)
+      ∙ ap (λ (n : ℕ). told_at_end duration h.cpus n b.history) (book.limit ∙ sym left.limit)
+      ∙ ap (told_at_end duration h.cpus h.limit) (sym entries) in
+      subst (λ (hs : List Happened). IsLogOf wanted hs (get_or f.logs.items d x)) told (logs.each d (no_book id) x place);
 }
 
 -- what the clients have in a domain in which the first of them has entered nothing more
@@ -231,15 +340,15 @@ kept_own d history (v ∷ cs) b c some first number kept own =
     (All-tail (λ (v : ClientView). pass_in v d ≡ own_entries v.number history) c cs own)
 
 -- a full book is closed as it was found
-pub full_with : (id : SessionId) (duration : ℕ) (cs : List ClientView) (b c : ClientView) (books : List BookView) (f : Finished) → 0 < length cs → b ≡ get_or cs 0 b
-    → IsReport id (set cs 0 c) f.report → HaveEnded books f.report.histories.items f.states.items → length books ≡ length id.cpu_sets → AreSessionBooks id books
+pub full_with : (id : SessionId) (duration : ℕ) (cs : List ClientView) (b c : ClientView) (books : List BookView) (r : Report) (states : List Domain) → 0 < length cs → b ≡ get_or cs 0 b
+    → IsReport id (set cs 0 c) r → HaveEnded books r.histories.items states → length books ≡ length id.cpu_sets → AreSessionBooks id books
     → IsFullAmong duration books b c → IsFullWith id duration cs
-full_with id duration cs b c books f some first is ended count named met =
+full_with id duration cs b c books r states some first is ended count named met =
     let d = met.domain in
     let x = no_book id in
     let s : SectionView = record { cpus = 0; limit = 0; entries = [] } in
     let place : d < length id.cpu_sets = omega (arith, met.place, count) in
-    let h = get_or f.report.histories.items d s in
+    let h = get_or r.histories.items d s in
     let left = is.left.histories d s place in
     let last = ended.each d x s (opened 0 0) (omega (arith, place, is.left.count)) in
     record {

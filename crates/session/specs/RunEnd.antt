@@ -1,9 +1,14 @@
 -- How a run of a scenario ends: client 1 advances each domain, and all books are closed (own).
-use Rattle.std.specs.Prelude.{◌≡◌, ℕ, ◌+◌, ◌<◌, ◌==◌, ◌&&◌, nat_lt, if◌then◌else◌, List, [], ◌∷◌}
-use Rattle.std.specs.Prelude.{◌++◌, length, Some, slice_index_or}
+use Rattle.std.specs.Prelude.{◌≡◌, ℕ, ◌+◌, ◌-◌, ◌<◌, ◌==◌, ◌&&◌, nat_lt, if◌then◌else◌, Bool, IsTrue, List, [], ◌∷◌}
+use Rattle.std.specs.Prelude.{◌++◌, length, take, Some, slice_index_or}
 use Rattle.domain_run.specs.declared.call.Call.TheVariants.{Advance}
 use Rattle.domain_run.specs.declared.call.Reply.TheVariants as replies
+use Rattle.domain_run.specs.declared.happened.Happened.{Happened}
+use Rattle.domain_run.specs.Happened.{told_by_ticks}
+use Rattle.domain_run.specs.Log.{LogView}
+use Rattle.domain_run.specs.Run.{run_of}
 use Rattle.call_book.specs.declared.section.Entry.{Entry}
+use Rattle.call_book.specs.Book.{calls_of}
 use Rattle.call_book.specs.SectionView.{SectionView}
 use Rattle.call_book.specs.Histories.{AreRuns}
 use Rattle.session.specs.declared.fault.EndFault.{EndFault}
@@ -34,6 +39,17 @@ pub record IsEnd (duration : ℕ) (history : List Entry) : Type 0 where
 abbrev pub EndsWith : ℕ → List Entry → Type 0
 EndsWith duration history = 0 < duration → IsEnd duration history
 
+-- what so many ticks at the end of a domain's history tell: from the state that all entries but the
+-- last lead to
+abbrev pub told_at_end : ℕ → ℕ → ℕ → List Entry → List Happened
+told_at_end ticks cpus limit entries =
+    told_by_ticks ticks (run_of cpus limit (calls_of (take (length entries - 1) entries)))
+
+-- a log that keeps what it is told where that is wanted, and has exactly this then
+pub record IsLogOf (wanted : Bool) (told : List Happened) (log : LogView) : Type 0 where
+  pub alike : log.wanted ≡ wanted
+  pub has : IsTrue wanted → log.happened ≡ told
+
 -- ---- what it leaves
 
 -- the first of these clients is client 1
@@ -48,8 +64,9 @@ pub record HaveAdvanced (duration : ℕ) (before after : List ClientView) : Type
       → Makes (slice_index_or before i x) (slice_index_or after i x)
       (λ d. advance_of duration (i + 1))
 
--- what the end of a run leaves, by clients that had entered so much
-pub record IsFinished (id : SessionId) (duration : ℕ) (clients : List ClientView)
+-- what the end of a run leaves, by clients that had entered so much; the log of each domain has what
+-- client 1's advance tells, where that is wanted, and nothing where the duration is 0
+pub record IsFinished (id : SessionId) (duration : ℕ) (wanted : Bool) (clients : List ClientView)
     (f : Finished) : Type 0 where
   pub after : List ClientView
   pub advanced : HaveAdvanced duration clients after
@@ -58,6 +75,10 @@ pub record IsFinished (id : SessionId) (duration : ℕ) (clients : List ClientVi
       → EndsWith duration (slice_index_or f.report.histories.items d x).entries
   pub count : length f.states.items ≡ length id.cpu_sets
   pub runs : AreRuns f.report.histories.items f.states.items
+  pub logs_count : length f.logs.items ≡ length id.cpu_sets
+  pub logs : (d : ℕ) (s : SectionView) (x : LogView) → d < length id.cpu_sets
+      → let h = slice_index_or f.report.histories.items d s in
+      IsLogOf wanted (told_at_end duration h.cpus h.limit h.entries) (slice_index_or f.logs.items d x)
 
 -- ---- why there is none
 

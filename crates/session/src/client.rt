@@ -4,6 +4,7 @@ ghost use Rattle.std.specs.Prelude.{◌≡◌, Some, None, IfSome, IfNone, IfErr
 ghost use Rattle.attr_check.specs.Accepted.{accepted, params_of};
 ghost use Rattle.domain_run.specs.declared.call.Call.TheVariants as calls;
 ghost use Rattle.domain_run.specs.Domain.{IsLimit};
+ghost use Rattle.domain_run.specs.Log.{Tells};
 ghost use Rattle.call_book.specs.Limits.{IsCall};
 ghost use Rattle.call_book.specs.Book.{IsMember, IsFull, admission, own_entries};
 ghost use Rattle.session.specs.SessionId.{IsSession, IsDomainIndex, cpus_of, spine_of};
@@ -11,7 +12,7 @@ ghost use Rattle.session.specs.Asks.{Asks, call_of, pass_in, Makes, made_by, Mak
 ghost use Rattle.session.specs.Clients.{IsNew};
 ghost use Rattle.session.specs.private.Parts.{IsHand};
 ghost use Rattle.session.specs.private.Entering.{IsAdvancedFor, IsAsk, IsDoneFor, IsVerdict, IsSessionBook};
-ghost use Rattle.session.specs.RunEnd.{IsStopped};
+ghost use Rattle.session.specs.RunEnd.{IsStopped, told_at_end};
 ghost use Rattle.session.specs.private.Ending.{MakesAll, IsEndBy};
 
 use crate::books::at_place;
@@ -24,7 +25,7 @@ use crate::shared::{Shared, Shares};
 use attr_check::{Params, check};
 use bw_gate::{Blank, Gate, Take, used_of};
 use call_book::{AdvanceError, Domain, NoMemory, Pass, Prepared, prepare};
-use domain_run::Reply;
+use domain_run::{Log, Reply};
 use rtapp_scenario::TaskSpec;
 use std::alloc::Global;
 use std::marker::{Model, PhantomData};
@@ -154,8 +155,9 @@ impl<N: Names> Client<N> {
     }
 
     /// Makes exactly so many ticks of a domain that stands behind no lock, 1 to 60000000, as one
-    /// entry of its book. `Full` where the book is full: nothing has changed. `Memory` where there
-    /// was no memory for all ticks: an entry of those that were made stands, where there were any.
+    /// entry of its book; the log is told what happens in them. `Full` where the book is full:
+    /// nothing has changed. `Memory` where there was no memory for all ticks: an entry of those
+    /// that were made stands, where there were any.
     pub(crate) fn advance_book<R: Threads + Wait>(
         &mut self,
         rt: &R,
@@ -163,6 +165,7 @@ impl<N: Names> Client<N> {
         domain: &mut Domain,
         place: usize,
         ticks: u64,
+        log: &mut Log,
     ) -> Result<(), EndFault>
         requires gate { gate.now ≡ N.id.gate }
         requires named { IsSessionBook N.id place domain.old }
@@ -171,9 +174,11 @@ impl<N: Names> Client<N> {
         ensures domains { length self.old.passes ≡ length N.id.cpu_sets }
         ensures made { OnOk result (MakesAll self.old self.new place ticks) }
         ensures ends { OnOk result (IsEndBy self.old.number ticks domain.new.history) }
+        ensures told { let told = told_at_end ticks domain.new.cpus domain.new.limit domain.new.history in
+            OnOk result (Tells log.old told log.new) }
         ensures err { IfErr result (IsStopped (IsFull domain.new × (self.new ≡ self.old))) }
     {
-        match domain.advance(rt, &mut self.passes[place], gate, ticks) {
+        match domain.advance_told(rt, &mut self.passes[place], gate, ticks, log) {
             Ok(Reply::Done { ticks: made }) if made == ticks => Ok(()),
             Err(AdvanceError::Full) => Err(EndFault::Full),
             _ => Err(EndFault::Memory),

@@ -14,7 +14,7 @@ use crate::client::Client;
 use crate::names::Names;
 use crate::parts::{Hand, PIECES};
 use crate::refusal::Refusal;
-use crate::report::{Finished, Report};
+use crate::report::Report;
 use bw_gate::{Blank, Gate, Ticket, Words};
 use call_book::{Closed, Domain, NoMemory, Section};
 use domain_run::State;
@@ -238,6 +238,13 @@ fn put_row(row: &[u64; 8], count: usize, numbers: &mut Vec<u64>)
     }
 }
 
+/// What a closed session leaves, with the state of each domain, in their order.
+#[derive(Drop)]
+pub(crate) struct Remains {
+    pub(crate) report: Report,
+    pub(crate) states: Vec<State>,
+}
+
 /// A session whose domains stand behind no lock any more, with all room that its end needs. It is
 /// neither cloned nor dropped, but closed.
 pub(crate) struct Unlocked<N: Names> {
@@ -283,7 +290,7 @@ impl<N: Names> Unlocked<N> {
     }
 
     /// Closes all books and then the gate.
-    pub(crate) fn close(self, alloc: Global, mut clients: Vec<Client<N>>) -> Finished
+    pub(crate) fn close(self, alloc: Global, mut clients: Vec<Client<N>>) -> Remains
         ensures report { IsReport N.id clients.items result.report }
         ensures ended { HaveEnded self.books.items result.report.histories.items result.states.items }
     {
@@ -334,6 +341,6 @@ impl<N: Names> Unlocked<N> {
             caps,
             home,
         };
-        Finished { report, states }
+        Remains { report, states }
     }
 }

@@ -1,3 +1,6 @@
+ghost use Rattle.std.specs.Prelude.{◌≡◌};
+ghost use Rattle.session.specs.Options.{tells};
+
 /// What is written of a run.
 #[derive(Clone, Copy, Debug, PartialEq, Eq)]
 pub enum Print {
@@ -13,6 +16,15 @@ pub enum Print {
     Jobs,
     /// The figures of each task, of each CPU and of each domain.
     Summary,
+}
+
+impl Print {
+    /// Whether what happens to the tasks is told.
+    pub fn tells(&self) -> bool
+        ensures { result ≡ tells self.now }
+    {
+        matches!(self, Print::Events | Print::Jobs | Print::Summary)
+    }
 }
 
 /// With what a scenario is to be run. A session is opened from its domains, limit, clients, workers

@@ -1,6 +1,6 @@
 use crate::refusal::Refusal;
 use call_book::Section;
-use domain_run::State;
+use domain_run::{Log, State};
 
 /// What a session left.
 #[derive(Debug, Drop)]
@@ -19,12 +19,15 @@ pub struct Report {
     pub home: usize,
 }
 
-/// What a run in a session left, with the state of each domain, in their order. For the crate
-/// above, which writes the run.
+/// What a run in a session left, with the state of each domain and what happened in it, in their
+/// order. For the crate above, which writes the run.
 #[derive(Drop)]
 pub struct Finished {
     /// As the session's end gives it; nobody stands among the refused.
     pub report: Report,
     /// The state of each domain, to which its history leads.
     pub states: Vec<State>,
+    /// One for each domain; it keeps what happened in the advance at the end where that was asked
+    /// for, else nothing.
+    pub logs: Vec<Log>,
 }

@@ -6,11 +6,11 @@ ghost use Rattle.session.specs.Report.{IsReport};
 
 use crate::books::{Books, unlock_all};
 use crate::client::Client;
-use crate::closing_session::{Room, Unlocked, pour_waiting};
+use crate::closing_session::{Remains, Room, Unlocked, pour_waiting};
 use crate::names::Names;
 use crate::parts::{Hand, Parts, shut};
 use crate::pool::Pool;
-use crate::report::{Finished, Report};
+use crate::report::Report;
 use crate::shared::{Shared, Shares};
 use bw_gate::Gate;
 use call_book::{Domain, NoMemory};
@@ -124,7 +124,7 @@ impl<N: Names> Session<N> {
     pub fn close(self, alloc: Global, clients: Vec<Client<N>>) -> Result<Report, NoMemory>
         ensures { IfOk result (IsReport N.id clients.items) }
     {
-        let Finished { report, states: _ } = self.unlock(alloc)?.close(alloc, clients);
+        let Remains { report, states: _ } = self.unlock(alloc)?.close(alloc, clients);
         Ok(report)
     }
 

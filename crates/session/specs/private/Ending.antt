@@ -1,11 +1,12 @@
 -- One domain after the other is advanced, at the end of a run.
-use Rattle.std.specs.Prelude.{◌≡◌, ℕ, ◌<◌, List, [], ◌∷◌, ◌++◌, length, Some, Ok, slice_index_or}
+use Rattle.std.specs.Prelude.{◌≡◌, ℕ, ◌<◌, Bool, List, [], ◌∷◌, ◌++◌, length, All, Some, Ok, slice_index_or}
 use Rattle.domain_run.specs.declared.call.Call.TheVariants.{Advance}
 use Rattle.domain_run.specs.declared.call.Reply.TheVariants as replies
+use Rattle.domain_run.specs.Log.{LogView, Tells}
 use Rattle.call_book.specs.declared.section.Entry.{Entry}
 use Rattle.call_book.specs.Book.{BookView, IsFull}
 use Rattle.session.specs.Asks.{ClientView, Makes, made_by, pass_in}
-use Rattle.session.specs.RunEnd.{EndsWith}
+use Rattle.session.specs.RunEnd.{EndsWith, IsLogOf, told_at_end}
 
 -- a client has entered one advance of so many ticks, all made, in a domain, and nothing else
 abbrev pub MakesAll : ClientView → ClientView → ℕ → ℕ → Type 0
@@ -27,6 +28,27 @@ pub record IsEndBy (client duration : ℕ) (history : List Entry) : Type 0 where
 abbrev pub AllEnd : ℕ → List BookView → Type 0
 AllEnd duration books =
     (d : ℕ) (b : BookView) → d < length books → EndsWith duration (slice_index_or books d b).history
+
+-- the log of each of these books was told what so many ticks at its end tell
+abbrev pub AllTellEnds : ℕ → List BookView → List LogView → List LogView → Type 0
+AllTellEnds ticks books before after =
+    (d : ℕ) (y : BookView) (x : LogView) → d < length books
+    → let b = slice_index_or books d y in
+    Tells (slice_index_or before d x) (told_at_end ticks b.cpus b.limit b.history)
+    (slice_index_or after d x)
+
+-- so many logs, which have nothing yet
+pub record AreOpenLogs (many : ℕ) (wanted : Bool) (logs : List LogView) : Type 0 where
+  pub count : length logs ≡ many
+  pub each : All (λ log. IsLogOf wanted [] log) logs
+
+-- a log for each of these books, which has what so many ticks at its end tell
+pub record AreEndLogs (wanted : Bool) (ticks : ℕ) (books : List BookView)
+    (logs : List LogView) : Type 0 where
+  pub count : length logs ≡ length books
+  pub each : (d : ℕ) (y : BookView) (x : LogView) → d < length books
+      → let b = slice_index_or books d y in
+      IsLogOf wanted (told_at_end ticks b.cpus b.limit b.history) (slice_index_or logs d x)
 
 -- one of these books is full, and a client that was to advance it has entered nothing in it
 pub record IsFullAmong (duration : ℕ) (books : List BookView) (c c' : ClientView) : Type 0 where

@@ -3,7 +3,7 @@ use Rattle.std.proofs.lemmas.List.{length-set}
 use Rattle.std.proofs.lemmas.Result.{err_from_is_err_and}
 use Rattle.call_book.specs.Book.{IsFull}
 use Rattle.session.specs.private.Ending.{IsFullAmong}
-use Rattle.session.proofs.Advanced.{makes_everywhere, makes_more, named_set, ends_by, ends_more, stopped_so, full_among}
+use Rattle.session.proofs.Advanced.{makes_everywhere, makes_more, named_set, ends_by, ends_more, tell_more, rest_stay, stopped_so, full_among}
 use Rattle.session.proofs.ending_run.advance_all.Goals as goal
 
 pub loop-place-preserved : goal.loop-place-preserved
@@ -16,12 +16,18 @@ loop-place-preserved g c =
     let b = c.advance_book.new.domain in
     let inside : n < length books = omega (arith, c.loop-place-test.true, inv.count, c.len-place-end.ensures, c.args.books.now.ok.0) in
     let first : c.loop-place.client.number ≡ 1 = inv.made.number ∙ c.requires.first in
+    let logs = c.loop-place.logs.items in
+    let log = c.advance_book.new.log in
+    let within : n < length logs = omega (arith, inside, inv.logs, inv.count, c.requires.logs) in
     record {
       named = named_set g.N.Names.id books n b inside inv.named told.named;
       count = length-set books n b ∙ inv.count;
       domains = λ some. sym inv.made.domains ∙ told.domains;
       made = makes_more n (n + 1) c.args.duration c.args.client.now c.loop-place.client c.advance_book.new.self refl inv.made done.made;
       ends = ends_more n (n + 1) c.args.duration books b inside refl inv.ends (ends_by c.args.duration c.loop-place.client.number b.history first done.ends);
+      logs = length-set logs n log ∙ inv.logs;
+      told = tell_more n (n + 1) c.args.duration books b c.args.logs.now.items logs c.index_mut-log.result.now log inside within refl inv.told inv.rest c.index_mut-log.ensures.value done.told;
+      rest = rest_stay n (n + 1) c.args.logs.now.items logs log refl inv.rest;
     }
 
 pub returns-clause-made : goal.returns-clause-made
@@ -33,6 +39,9 @@ returns-clause-made g c =
 
 pub returns-clause-ends : goal.returns-clause-ends
 returns-clause-ends g c = λ d b inside. c.loop-place.invariant.ends d b (omega (arith, inside, c.loop-place.invariant.count, c.loop-place-test.false, c.len-place-end.ensures, c.args.books.now.ok.0))
+
+pub returns-clause-told : goal.returns-clause-told
+returns-clause-told g c = λ d y x inside. c.loop-place.invariant.told d y x (omega (arith, inside, c.loop-place.invariant.count, c.loop-place-test.false, c.len-place-end.ensures, c.args.books.now.ok.0))
 
 pub returns-in_err-advance_book-clause-err : goal.returns-in_err-advance_book-clause-err
 returns-in_err-advance_book-clause-err g c =
