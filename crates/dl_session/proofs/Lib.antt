@@ -9,5 +9,6 @@ pub mod OrderVerdicts
 pub mod OrderSplit
 pub mod ByCap
 pub mod OrderLaw
+pub mod Logged
 pub mod Ran
 pub mod Endings

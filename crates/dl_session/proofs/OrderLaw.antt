@@ -23,7 +23,7 @@ use Rattle.dl_session.specs.InOrder.{granted_in, section_in_order, sections_from
 use Rattle.dl_session.proofs.OrderRuns.{opened_listing}
 use Rattle.dl_session.proofs.OrderEntries.{calls_in, granted_are}
 use Rattle.dl_session.proofs.OrderVerdicts.{others_most}
-use Rattle.dl_session.proofs.OrderSplit.{last_calls, split, ShowSame, shows_same}
+use Rattle.dl_session.proofs.OrderSplit.{last_calls, IsSplit, split, ShowSame, shows_same}
 
 -- ---- one domain
 
@@ -82,6 +82,22 @@ runs_same id asked duration d base (cpus ∷ sets) (h ∷ hs) count each =
 
 -- ---- the law
 
+-- each history of a run is its admissions, and then the advance
+pub split_of : (id : SessionId) (clients : ℕ) (tasks : List TaskSpecView) (duration : ℕ) (histories : List SectionView) (refused : List (ℕ × Refusal))
+    → length histories ≡ length id.cpu_sets
+    → ((d : ℕ) (x : SectionView) → IsDomainIndex id d → IsHistoryOf id d [] (get_or histories d x))
+    → AnswersScenario id clients tasks duration (map (λ h. h.entries) histories) refused
+    → (j : ℕ) (x : SectionView) → j < length id.cpu_sets
+    → IsSplit (opened (get_or histories j x).cpus (get_or histories j x).limit) duration (get_or histories j x).entries
+split_of id clients tasks duration histories refused count legal answers j x inside =
+    let h = get_or histories j x in
+    let within : j < length histories = omega (arith, inside, count) in
+    let there : j < length (map (λ (s : SectionView). s.entries) histories) = omega (arith, within, length-map histories (λ (s : SectionView). s.entries)) in
+    let entries : history_of (map (λ (s : SectionView). s.entries) histories) j ≡ h.entries = get_or-map (λ (s : SectionView). s.entries) histories j x [] within in
+    let members = subst (λ (es : List Entry). All (λ e. IsMember clients e.client) es) entries (answers.members j there) in
+    let own = λ (i : ℕ) (below : i < clients). subst (λ (es : List Entry). own_entries (i + 1) es ≡ entries_from (i + 1) 0 (made_in id j (own_asked clients i answers.asked) ++ advance_of duration (i + 1))) entries (answers.entries j i there below) in
+    split (opened h.cpus h.limit) duration h.entries (others_most id clients j duration answers.asked h.entries answers.lawful members own) (subst (EndsWith duration) entries (answers.ends j there)) (legal j x inside).legal
+
 pub in_order : (id : SessionId) (clients : ℕ) (tasks : List TaskSpecView) (duration : ℕ) (histories : List SectionView) (refused : List (ℕ × Refusal)) → 0 < clients
     → length histories ≡ length id.cpu_sets
     → ((d : ℕ) (x : SectionView) → IsDomainIndex id d → IsHistoryOf id d [] (get_or histories d x))
@@ -100,10 +116,8 @@ in_order id clients tasks duration histories refused some count legal answers =
         let entries : history_of (map (λ (s : SectionView). s.entries) histories) j ≡ h.entries = get_or-map (λ (s : SectionView). s.entries) histories j x [] within in
         let members = subst (λ (es : List Entry). All (λ e. IsMember clients e.client) es) entries (answers.members j there) in
         let own = λ (i : ℕ) (below : i < clients). subst (λ (es : List Entry). own_entries (i + 1) es ≡ entries_from (i + 1) 0 (made_in id j (own_asked clients i asked) ++ advance_of duration (i + 1))) entries (answers.entries j i there below) in
-        let ending = subst (EndsWith duration) entries (answers.ends j there) in
         let start = opened h.cpus h.limit in
-        let most = others_most id clients j duration asked h.entries answers.lawful members own in
-        let parts = split start duration h.entries most ending is.legal in
+        let parts = split_of id clients tasks duration histories refused count legal answers j x inside in
         let order = granted_are id clients j duration asked h.entries some members own in
         let section = section_in_order id asked duration j (cpus_of id j) in
         let shows : ShowSame start (calls_of h) (calls_of section) =

@@ -23,7 +23,7 @@ use Rattle.dl_session.proofs.OrderVerdicts.{others, others_both, one_if, all_ver
 
 -- ---- calls behind calls
 
-after_both : (d : Domain) (xs ys : List Call) → after_calls d (xs ++ ys) ≡ after_calls (after_calls d xs) ys
+pub after_both : (d : Domain) (xs ys : List Call) → after_calls d (xs ++ ys) ≡ after_calls (after_calls d xs) ys
 after_both d [] ys = refl
 after_both d (x ∷ xs) ys = after_both (after_call d x) xs ys
 
@@ -48,7 +48,7 @@ last_calls duration = map (λ m. m.call) (advance_of duration 1)
 abbrev calls_if : Bool → ℕ → List Call
 calls_if b duration = map (λ (m : Made). m.call) (cond b (record { call = Advance duration; reply = Done duration } ∷ []) [])
 
-last_if : (b : Bool) (duration : ℕ) → ltb 0 duration ≡ b → last_calls duration ≡ calls_if b duration
+pub last_if : (b : Bool) (duration : ℕ) → ltb 0 duration ≡ b → last_calls duration ≡ calls_if b duration
 last_if b duration e = ap (λ (x : Bool). calls_if x duration) e
 
 end_alike : (b : Bool) (duration : ℕ) (d e : Domain) → Alike d e → IsListing d → Alike (after_calls d (calls_if b duration)) (after_calls e (calls_if b duration))

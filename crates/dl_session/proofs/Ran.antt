@@ -1,5 +1,5 @@
 -- What a run answers, from what its parts answered.
-use Rattle.std.proofs.Common.{◌≡◌, ◌≢◌, ℕ, ◌<◌, arith, List, [], Option, Some, None, length, map, refl, sym, ap, subst, ◌∙◌}
+use Rattle.std.proofs.Common.{◌≡◌, ◌≢◌, ℕ, ◌<◌, arith, Bool, List, [], Option, Some, None, length, map, get_or, refl, sym, ap, subst, ◌∙◌}
 use Rattle.std.proofs.lemmas.List.Elements.{All-nil}
 use Rattle.std.specs.Io.KnownBytes.{Appends, Keeps}
 use Rattle.json_order.specs.Json.{Json}
@@ -21,7 +21,7 @@ use Rattle.session.specs.declared.options.Options.{Options}
 use Rattle.session.specs.declared.refusal.Refusal.{Refusal}
 use Rattle.session.specs.declared.report.Report.{Report}
 use Rattle.session.specs.declared.report.Finished.{Finished}
-use Rattle.session.specs.SessionId.{SessionId}
+use Rattle.session.specs.SessionId.{SessionId, IsDomainIndex}
 use Rattle.session.specs.Asks.{ClientView, pass_in}
 use Rattle.session.specs.Admissions.{AreNew, AllAsked}
 use Rattle.session.specs.Report.{IsHistoryOf}
@@ -40,6 +40,7 @@ use Rattle.dl_session.specs.Upward.{of_end, of_trace}
 use Rattle.dl_session.specs.private.Running.{IsJsonTold, IsScenarioTold, IsRan, IsOrMemory, IsHalted}
 use Rattle.dl_session.proofs.ScenarioLaw.{answers_all, answers_tasks}
 use Rattle.dl_session.proofs.OrderLaw.{in_order}
+use Rattle.dl_session.proofs.Logged.{are_told}
 use Rattle.calls_trace.proofs.CallerLemmas.{read_again, same_trace}
 use Rattle.session.proofs.CallerLemmas.{length_sets}
 
@@ -94,21 +95,23 @@ pub first_is : (id : SessionId) (tasks : List TaskSpecView) (cs es : List Client
 first_is id tasks cs es refused some new asked x = (asked.each 0 x some).made.number ∙ (new.each 0 x some).numbered
 
 -- what the parts of a run left, with the refusals in the report
-pub is_ran : (id : SessionId) (tasks : List TaskSpecView) (duration : ℕ) (cs es : List ClientView) (r s : Report) (f g : Finished)
-    → 0 < id.clients → AreNew id cs → AllAsked id tasks cs es s.refused.items → IsFinished id duration es f
-    → r ≡ f.report → s.histories ≡ r.histories → s.words ≡ r.words → s.caps ≡ r.caps → s.home ≡ r.home → g.report ≡ s → g.states ≡ f.states
-    → IsRan id tasks duration g
-is_ran id tasks duration cs es r s f g some new asked finished is histories words caps home report states =
+pub is_ran : (id : SessionId) (tasks : List TaskSpecView) (duration : ℕ) (wanted : Bool) (cs es : List ClientView) (r s : Report) (f g : Finished)
+    → 0 < id.clients → AreNew id cs → AllAsked id tasks cs es s.refused.items → IsFinished id duration wanted es f
+    → r ≡ f.report → s.histories ≡ r.histories → s.words ≡ r.words → s.caps ≡ r.caps → s.home ≡ r.home → g.report ≡ s → g.states ≡ f.states → g.logs ≡ f.logs
+    → IsRan id tasks duration wanted g
+is_ran id tasks duration wanted cs es r s f g some new asked finished is histories words caps home report states logs =
     let left = finished.report.left in
     let same_h : g.report.histories ≡ f.report.histories = ap (λ (x : Report). x.histories) report ∙ histories ∙ ap (λ (x : Report). x.histories) is in
     let same_w : g.report.words ≡ f.report.words = ap (λ (x : Report). x.words) report ∙ words ∙ ap (λ (x : Report). x.words) is in
     let same_c : g.report.caps ≡ f.report.caps = ap (λ (x : Report). x.caps) report ∙ caps ∙ ap (λ (x : Report). x.caps) is in
     let same_o : g.report.home ≡ f.report.home = ap (λ (x : Report). x.home) report ∙ home ∙ ap (λ (x : Report). x.home) is in
     let same_r : g.report.refused ≡ s.refused = ap (λ (x : Report). x.refused) report in
+    let anyone : (d : ℕ) (x : SectionView) → IsDomainIndex id d → IsHistoryOf id d [] (get_or f.report.histories.items d x) = λ d x place. by_nobody id d finished.after _ (left.histories d x place) in
+    let answers = answers_all id tasks duration cs es finished.after s.refused.items f.report.histories.items some new asked finished.advanced left.count left.histories finished.ends in
     record {
       left = record {
         count = rw same_h left.count;
-        histories = rw same_h (λ d x place. by_nobody id d finished.after _ (left.histories d x place));
+        histories = rw same_h anyone;
         words = rw same_w left.words;
         room = rw (same_h, same_w) left.room;
         caps = rw same_c left.caps;
@@ -116,9 +119,10 @@ is_ran id tasks duration cs es r s f g some new asked finished is histories word
         capped = rw (same_w, same_c) left.capped;
         exact = rw (same_h, same_w, same_o) left.exact;
       };
-      answers = rw (same_h, same_r) (answers_all id tasks duration cs es finished.after s.refused.items f.report.histories.items some new asked finished.advanced left.count left.histories finished.ends);
+      answers = rw (same_h, same_r) answers;
       count = rw (same_h, states) (finished.count ∙ sym left.count);
       runs = rw (same_h, states) finished.runs;
+      told = rw (same_h, logs) (are_told id id.clients tasks duration wanted f.report.histories.items s.refused.items f.logs.items left.count anyone answers finished.logs);
     }
 
 -- the domain that was full, once the tasks were asked
@@ -136,19 +140,19 @@ full_domain id tasks duration cs es refused some new asked met = (
   },
 )
 
-abbrev pub ran_answers : (o : Options) (scenario : ScenarioView) (duration : ℕ) (given tasks : List TaskSpecView) (id : SessionId) (f : Finished)
-    → record { duration_us = duration; tasks = given } ≡ scenario → tasks ≡ map (flagged o.reclaim) given → IsSessionOf o id → IsRan id tasks duration f
+abbrev pub ran_answers : (o : Options) (scenario : ScenarioView) (duration : ℕ) (wanted : Bool) (given tasks : List TaskSpecView) (id : SessionId) (f : Finished)
+    → record { duration_us = duration; tasks = given } ≡ scenario → tasks ≡ map (flagged o.reclaim) given → IsSessionOf o id → IsRan id tasks duration wanted f
     → AnswersScenario id o.clients (map (flagged o.reclaim) scenario.tasks) scenario.duration_us (map (λ h. h.entries) f.report.histories.items) f.report.refused.items
-ran_answers o scenario duration given tasks id f view same session ran =
+ran_answers o scenario duration wanted given tasks id f view same session ran =
     let hs = map (λ h. h.entries) f.report.histories.items in
     subst (λ (x : ScenarioView). AnswersScenario id o.clients (map (flagged o.reclaim) x.tasks) x.duration_us hs f.report.refused.items) view
     (subst (λ (ts : List TaskSpecView). AnswersScenario id o.clients ts duration hs f.report.refused.items) same
     (subst (λ (n : ℕ). AnswersScenario id n tasks duration hs f.report.refused.items) session.clients ran.answers))
 
-abbrev pub is_run : (s : Streams) (o : Options) (scenario : ScenarioView) (duration : ℕ) (given tasks : List TaskSpecView) (id : SessionId) (f : Finished)
-    → AreOptions o → IsScenario s scenario → record { duration_us = duration; tasks = given } ≡ scenario → tasks ≡ map (flagged o.reclaim) given → IsSessionOf o id → IsRan id tasks duration f
+abbrev pub is_run : (s : Streams) (o : Options) (scenario : ScenarioView) (duration : ℕ) (wanted : Bool) (given tasks : List TaskSpecView) (id : SessionId) (f : Finished)
+    → AreOptions o → IsScenario s scenario → record { duration_us = duration; tasks = given } ≡ scenario → tasks ≡ map (flagged o.reclaim) given → IsSessionOf o id → IsRan id tasks duration wanted f
     → IsRun s o f.report.histories.items f.report.refused.items
-is_run s o scenario duration given tasks id f options input view same session ran = record {
+is_run s o scenario duration wanted given tasks id f options input view same session ran = record {
   scenario = scenario;
   input = input;
   id = id;
@@ -162,17 +166,17 @@ is_run s o scenario duration given tasks id f options input view same session ra
         read_again f.report.histories.items (omega (arith, options.some_domains, domains, count)) (omega (arith, options.few_domains, domains, count)) (λ d x inside. (ran.left.histories d x (omega (arith, inside, count))).spelled);
     same = same_trace f.report.histories.items;
   };
-  answers = ran_answers o scenario duration given tasks id f view same session ran;
+  answers = ran_answers o scenario duration wanted given tasks id f view same session ran;
   in_order = in_order id o.clients (map (flagged o.reclaim) scenario.tasks) scenario.duration_us f.report.histories.items f.report.refused.items options.a_client ran.left.count ran.left.histories
-      (ran_answers o scenario duration given tasks id f view same session ran);
+      (ran_answers o scenario duration wanted given tasks id f view same session ran);
 }
 
 -- the text of the run was written
-pub run_answered : (s : Streams) (o : Options) (scenario : ScenarioView) (duration : ℕ) (given tasks : List TaskSpecView) (id : SessionId) (f : Finished) (histories : List SectionView)
-    → AreOptions o → IsScenario s scenario → record { duration_us = duration; tasks = given } ≡ scenario → tasks ≡ map (flagged o.reclaim) given → IsSessionOf o id → IsRan id tasks duration f
+pub run_answered : (s : Streams) (o : Options) (scenario : ScenarioView) (duration : ℕ) (wanted : Bool) (given tasks : List TaskSpecView) (id : SessionId) (f : Finished) (histories : List SectionView)
+    → AreOptions o → IsScenario s scenario → record { duration_us = duration; tasks = given } ≡ scenario → tasks ≡ map (flagged o.reclaim) given → IsSessionOf o id → IsRan id tasks duration wanted f
     → histories ≡ f.report.histories.items → HasNoFault s.reader → IsWritten s.writer (printed o.print histories) → IsRunAnswer s o f.report
-run_answered s o scenario duration given tasks id f histories options input view same session ran written_are reads written = record {
-  run = is_run s o scenario duration given tasks id f options input view same session ran;
+run_answered s o scenario duration wanted given tasks id f histories options input view same session ran written_are reads written = record {
+  run = is_run s o scenario duration wanted given tasks id f options input view same session ran;
   left = ran.left;
   written = subst (λ (hs : List SectionView). Appends s.writer.before.bytes s.writer.after.bytes (printed o.print hs)) written_are written.taken;
   reads = reads;

@@ -6,12 +6,13 @@ ghost use Rattle.call_book.specs.Spelling.{spelling};
 ghost use Rattle.counted_io.specs.Sides.{faults_of, side};
 ghost use Rattle.reply_text.specs.Replies.{replies_of};
 ghost use Rattle.dl_session.specs.RunAnswer.{printed};
-ghost use Rattle.call_book.specs.Histories.{AreLegal, AreRuns};
+ghost use Rattle.call_book.specs.Histories.{AreLegal, AreRuns, AreTold};
+ghost use Rattle.session.specs.Options.{tells};
 ghost use Rattle.calls_trace.specs.Written.{IsWritten, IsUnwritten};
 
 use call_book::{Section, write_calls};
 use calls_trace::{TraceFault, write_run_trace};
-use domain_run::State;
+use domain_run::{Log, State};
 use reply_text::write_recorded;
 use session::Print;
 use std::alloc::Global;
@@ -63,7 +64,8 @@ fn write_answered<W: Write>(
     }
 }
 
-/// Writes the text of histories that led to these states. Nothing is run again.
+/// Writes the text of histories that led to these states, with what happened in them as these logs
+/// have it, where that is printed. Nothing is run again.
 ///
 /// # Errors
 /// [`TraceFault::Memory`]: a growth was refused, and nothing was written. [`TraceFault::Write`]:
@@ -73,6 +75,7 @@ pub(crate) fn write_run<W: Write>(
     print: Print,
     histories: &[Section],
     states: Vec<State>,
+    logs: &[Log],
     writer: &mut Counted<W>,
 ) -> Result<(), TraceFault>
     requires few { length histories.now ≤ 8 }
@@ -80,6 +83,7 @@ pub(crate) fn write_run<W: Write>(
     requires sections { All IsSection histories.now }
     requires legal { AreLegal histories.now }
     requires runs { AreRuns histories.now states.items }
+    requires told { AreTold (tells print) histories.now logs.now }
     requires faults { faults_of writer.old < 2 ^ 63 }
     ensures ok { OnOk result
         (IsWritten (side W.contents writer.old writer.new) (printed print histories.now)) }

@@ -102,7 +102,8 @@ fn take_clients<N: Names>(
 }
 
 /// Runs tasks in a session of these parts: the admissions, then the advance of each domain by the
-/// whole duration, in microseconds, and the end.
+/// whole duration, in microseconds, and the end. What happens stands in the logs where it is
+/// wanted.
 fn run_in<N: Names + Send + Sync, T: Turnstile, X: Threads + Wait + Sync>(
     rt: &X,
     alloc: Global,
@@ -110,13 +111,14 @@ fn run_in<N: Names + Send + Sync, T: Turnstile, X: Threads + Wait + Sync>(
     many: u32,
     tasks: &[TaskSpec],
     duration: u64,
+    wanted: bool,
     turnstile: &T,
 ) -> Result<Finished, SessionFault>
     requires parts { N.id ≡ parts }
     requires many { many ≡ parts.clients }
     requires some { 0 < many }
     requires duration { duration ≤ 60000000 }
-    ensures ok { IfOk result (IsRan N.id tasks.now duration) }
+    ensures ok { IfOk result (IsRan N.id tasks.now duration wanted) }
     ensures err { IfErr result (IsHalted ((0 < duration) × IsFullDomain N.id N.id.clients tasks.now)) }
 {
     let mut session: Session<N> = Session::open(parts);
@@ -126,7 +128,7 @@ fn run_in<N: Names + Send + Sync, T: Turnstile, X: Threads + Wait + Sync>(
     };
     match admit_all(rt, alloc, &session, clients, tasks, turnstile) {
         Ok((clients, refused)) => {
-            let mut finished = end_run(rt, alloc, session, clients, duration)?;
+            let mut finished = end_run(rt, alloc, session, clients, duration, wanted)?;
             finished.report.refused = refused;
             Ok(finished)
         }
@@ -184,16 +186,22 @@ pub fn run<R: Read, W: Write, T: Turnstile, X: Threads + Wait + Sync>(
         return Err(SessionFault::Memory);
     };
     let many = options.clients;
-    let Finished { report, states } = run_in::<Brand, T, X>(
+    let Finished {
+        report,
+        states,
+        logs,
+    } = run_in::<Brand, T, X>(
         rt,
         alloc,
         parts,
         many,
         &tasks,
         duration_us,
+        options.print.tells(),
         turnstile,
     )?;
-    match write_run(alloc, options.print, &report.histories, states, writer) {
+    let histories = &report.histories;
+    match write_run(alloc, options.print, histories, states, &logs, writer) {
         Ok(()) => Ok(report),
         Err(fault) => Err(SessionFault::from(fault)),
     }

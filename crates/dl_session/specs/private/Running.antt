@@ -1,12 +1,12 @@
 -- The steps of a run: the input is told, tasks are run in a session, and the text of their run is
 -- written.
-use Rattle.std.specs.Prelude.{◌≡◌, ◌≢◌, ℕ, List, [], length, map}
+use Rattle.std.specs.Prelude.{◌≡◌, ◌≢◌, ℕ, Bool, List, [], length, map}
 use Rattle.json_order.specs.declared.fault.JsonFault.{JsonFault}
 use Rattle.json_order.specs.declared.fault.JsonKind.TheVariants as kinds
 use Rattle.rtapp_scenario.specs.declared.fault.ScenarioFault.{ScenarioFault}
 use Rattle.rtapp_scenario.specs.declared.fault.ScenarioFault.TheVariants as scenario_faults
 use Rattle.rtapp_scenario.specs.ScenarioView.{TaskSpecView}
-use Rattle.call_book.specs.Histories.{AreRuns}
+use Rattle.call_book.specs.Histories.{AreRuns, AreTold}
 use Rattle.session.specs.declared.report.Finished.{Finished}
 use Rattle.session.specs.SessionId.{SessionId}
 use Rattle.session.specs.Report.{IsLeft}
@@ -26,14 +26,16 @@ IsJsonTold found = IsOrMemory (λ e. (e ≡ Json found) × (found.kind ≢ kinds
 abbrev pub IsScenarioTold : ScenarioFault → SessionFault → Type 0
 IsScenarioTold found = IsOrMemory (λ e. (e ≡ Scenario found) × (found ≢ scenario_faults.Memory))
 
--- what a run of tasks leaves: the histories and the refusals answer them
-pub record IsRan (id : SessionId) (tasks : List TaskSpecView) (duration : ℕ)
+-- what a run of tasks leaves: the histories and the refusals answer them, and the logs have what the
+-- histories tell, where that is wanted
+pub record IsRan (id : SessionId) (tasks : List TaskSpecView) (duration : ℕ) (wanted : Bool)
     (f : Finished) : Type 0 where
   pub left : IsLeft id [] f.report
   pub answers : AnswersScenario id id.clients tasks duration
       (map (λ h. h.entries) f.report.histories.items) f.report.refused.items
   pub count : length f.states.items ≡ length f.report.histories.items
   pub runs : AreRuns f.report.histories.items f.states.items
+  pub told : AreTold wanted f.report.histories.items f.logs.items
 
 -- ---- why it did not come to its end
 
