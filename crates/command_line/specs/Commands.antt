@@ -20,11 +20,14 @@ AreTexts texts names = map (λ name. name.now) names.now ≡ texts
 
 -- what `--print` of `run` takes
 abbrev pub run_texts : List Text
-run_texts = codes "trace" ∷ codes "calls" ∷ codes "replies" ∷ []
+run_texts =
+    codes "trace" ∷ codes "calls" ∷ codes "replies"
+    ∷ codes "events" ∷ codes "jobs" ∷ codes "summary" ∷ []
 
 -- what `--print` of `replay` takes
 abbrev pub replay_texts : List Text
-replay_texts = codes "trace" ∷ codes "replies" ∷ []
+replay_texts =
+    codes "trace" ∷ codes "replies" ∷ codes "events" ∷ codes "jobs" ∷ codes "summary" ∷ []
 
 -- the names that clap holds for the two
 pub record AreHeld (run replay : HeldNames) : Type 0 where

@@ -7,9 +7,8 @@ ghost use Rattle.command_line.specs.Commands.{AreTexts, HeldNames, IsCompare, Is
 
 use crate::texts::{
     ABOUT, ABOUT_END, CLIENTS_HELP, COMPARE_ABOUT, COMPARE_END, CPUS_HELP, DOMAINS_HELP,
-    MODEL_HELP, NOISE_HELP, PERIOD_HELP, RECLAIM_HELP, RECORDED_HELP, REPLAY_ABOUT, REPLAY_END,
-    REPLAY_PRINT_HELP, RUN_ABOUT, RUN_END, RUN_PRINT_HELP, RUNTIME_HELP, SHIFT_HELP, WITHIN_HELP,
-    WORKERS_HELP,
+    MODEL_HELP, NOISE_HELP, PERIOD_HELP, PRINT_HELP, RECLAIM_HELP, RECORDED_HELP, REPLAY_ABOUT,
+    REPLAY_END, RUN_ABOUT, RUN_END, RUNTIME_HELP, SHIFT_HELP, WITHIN_HELP, WORKERS_HELP,
 };
 use clap::builder::ValueParser;
 use clap::{Arg, ArgAction, Command};
@@ -30,9 +29,9 @@ pub const MOST_CLIENTS: u64 = 64;
 /// How many workers may compute a domain.
 pub const MOST_WORKERS: u64 = 8;
 
-const RUN_TEXTS: [&str; 3] = ["trace", "calls", "replies"];
+const RUN_TEXTS: [&str; 6] = ["trace", "calls", "replies", "events", "jobs", "summary"];
 
-const REPLAY_TEXTS: [&str; 2] = ["trace", "replies"];
+const REPLAY_TEXTS: [&str; 5] = ["trace", "replies", "events", "jobs", "summary"];
 
 /// An option with one value, which has a default.
 fn option<'a>(
@@ -66,9 +65,7 @@ fn print_run<'a>(alloc: Global) -> Arg<'a>
         × (rule_of result ≡ print_option names) }
     ensures local { result.global ≡ false }
 {
-    option(alloc, "print", "TEXT", "trace", RUN_PRINT_HELP).value_parser(ValueParser::Names(
-        &RUN_TEXTS,
-    ))
+    option(alloc, "print", "TEXT", "trace", PRINT_HELP).value_parser(ValueParser::Names(&RUN_TEXTS))
 }
 
 /// The option that says what is written of a replay.
@@ -77,7 +74,7 @@ fn print_replay<'a>(alloc: Global) -> Arg<'a>
         × (rule_of result ≡ print_option names) }
     ensures local { result.global ≡ false }
 {
-    option(alloc, "print", "TEXT", "trace", REPLAY_PRINT_HELP).value_parser(ValueParser::Names(
+    option(alloc, "print", "TEXT", "trace", PRINT_HELP).value_parser(ValueParser::Names(
         &REPLAY_TEXTS,
     ))
 }

@@ -1,14 +1,16 @@
 //! The texts of `--help`.
 
 pub(crate) const ABOUT: &str =
-    "A model of Linux SCHED_DEADLINE: deadline tasks in, the trace of their switches out";
+    "A model of Linux SCHED_DEADLINE: deadline tasks in, trace and figures out";
 
 pub(crate) const ABOUT_END: &str = "\
 `dlsim run` reads an rt-app file, `dlsim replay` recorded calls, both from
-standard input. The trace on standard output has the lines of ftrace's event
-sched_switch; `dlsim compare` sets it beside one that a kernel recorded.
+standard input. Both write a trace, with the lines of ftrace's event
+sched_switch, or with `--print` another text, as who was late and by how much.
+`dlsim compare` sets a trace beside one that a kernel recorded.
 
   dlsim run < examples/periodic.json
+  dlsim run --print summary < examples/periodic.json
   dlsim replay < examples/reclaiming.calls
   dlsim compare model.txt recorded.txt
 
@@ -18,14 +20,21 @@ nothing was written, unless that line says `write failed after N`.
 docs/FORMATS.md explains every option, format and message.";
 
 pub(crate) const REPLAY_ABOUT: &str =
-    "Reads recorded calls, runs them and writes the trace, or their replies";
+    "Runs recorded calls and writes their trace, replies, jobs or figures";
 
 pub(crate) const REPLAY_END: &str = "\
 In:  a calls text on standard input: the line `dlcalls 1`, then for each root
      domain a line `domain CPUS LIMIT` and a line for each call on it.
-Out: `# tracer: nop`, then a line for each switch of a CPU, as ftrace prints
-     its event sched_switch, by time and CPU; with `--print replies` the calls
-     of each domain, each with its reply, as `leave 1 2 = Left`.
+Out: the text that --print names, of all domains:
+     trace    `# tracer: nop`, then a line for each switch of a CPU, as ftrace
+              prints its event sched_switch, by time and CPU
+     replies  the calls of each domain, each with its reply, as
+              `leave 1 2 = Left`
+     events   the trace, and between its lines those of what happens to tasks:
+              jobs that are released and end, throttles, replenishments
+     jobs     a line for each job: its release, end, response time and slack
+     summary  a table each of the tasks, the CPUs and the domains: late jobs,
+              response times, throttles, CPU time, bandwidth
 
   dlsim replay < examples/reclaiming.calls
   dlsim replay --print replies < examples/rounding-down.calls
@@ -35,22 +44,29 @@ words; 3 `dlsim: read failed` or `dlsim: write failed after N`; 4 `dlsim: out
 of memory`. docs/FORMATS.md explains the format and the messages.";
 
 pub(crate) const RUN_ABOUT: &str =
-    "Reads an rt-app scenario, admits its tasks, runs them and writes the trace";
+    "Runs an rt-app scenario and writes its trace, calls, jobs or figures";
 
 pub(crate) const RUN_END: &str = "\
 In:  an rt-app file (JSON) on standard input: `tasks` with the policy
      SCHED_DEADLINE, dl-runtime, dl-deadline and dl-period in microseconds, and
      their events run, sleep and timer; `global` with the `duration` in
      seconds, 0 to 60.
-Out: `# tracer: nop`, then a line for each switch of a CPU, as ftrace prints
-     its event sched_switch, by time and CPU; with `--print calls` the calls
-     that were made, of which `dlsim replay` writes that same trace; with
-     `--print replies` these calls, each with its reply.
+Out: the text that --print names, of all domains:
+     trace    `# tracer: nop`, then a line for each switch of a CPU, as ftrace
+              prints its event sched_switch, by time and CPU
+     calls    the calls that were made, of which `dlsim replay` writes that
+              same trace
+     replies  these calls, each with its reply
+     events   the trace, and between its lines those of what happens to tasks:
+              jobs that are released and end, throttles, replenishments
+     jobs     a line for each job: its release, end, response time and slack
+     summary  a table each of the tasks, the CPUs and the domains: late jobs,
+              response times, throttles, CPU time, bandwidth
 Err: a line for each task that was not admitted, as
      `dlsim: task 4 EBUSY 16 seen 1572864`; the others run.
 
   dlsim run --domains 2 < examples/race.json > race.txt
-  dlsim run --reclaim < examples/reclaim.json
+  dlsim run --print summary < examples/periodic.json
 
 Exit status: 0 done, refused tasks or not; 1 the input is no JSON (`dlsim: json
 KIND at BYTE`) or no scenario (`dlsim: scenario 22 key resources`); 2 wrong
@@ -82,11 +98,7 @@ pub(crate) const RECLAIM_HELP: &str = "\
 Every task reclaims unused bandwidth (GRUB, SCHED_FLAG_RECLAIM); without it
 none does";
 
-pub(crate) const RUN_PRINT_HELP: &str =
-    "What is written: the trace, the calls that were made, or these with their replies";
-
-pub(crate) const REPLAY_PRINT_HELP: &str =
-    "What is written: the trace, or the calls with their replies";
+pub(crate) const PRINT_HELP: &str = "Which of the texts under `Out:` is written\n";
 
 pub(crate) const COMPARE_ABOUT: &str = "Sets a recorded trace beside the model's";
 

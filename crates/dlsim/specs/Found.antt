@@ -26,22 +26,35 @@ pub record IsNumberAt (rows : List Row) (name : List ℕ) (most n : ℕ) : Type 
       → n ≡ min (max v 1) most
   pub other : (text : List ℕ) → one_of name rows ≡ Some text → ((v : ℕ) → Spells text v → ⊥) → n ≡ 1
 
--- the text at `print` is this one
-abbrev pub Prints : List Row → List ℕ → Type 0
-Prints rows text = first_of (codes "print") rows ≡ Some text
+-- what is printed: what the text at `print` asks for, each by a text of its own; and where it asks for
+-- nothing, this one
+pub record IsAskedAt {P : Type 0} (text_of : P → List ℕ) (otherwise : P) (rows : List Row) (print : P)
+    : Type 0 where
+  pub asked : (p : P) → first_of (codes "print") rows ≡ Some (text_of p) → print ≡ p
+  pub unasked : ((p : P) → first_of (codes "print") rows ≡ Some (text_of p) → ⊥) → print ≡ otherwise
 
--- of a run: the calls where the text at `print` is "calls", their replies where it is "replies",
--- else the trace
-pub record IsPrintAt (rows : List Row) (print : Print) : Type 0 where
-  pub calls : Prints rows (codes "calls") → print ≡ prints.Calls
-  pub replies : Prints rows (codes "replies") → print ≡ prints.Replies
-  pub trace : (Prints rows (codes "calls") → ⊥) → (Prints rows (codes "replies") → ⊥)
-      → print ≡ prints.Trace
+-- the texts that ask for what is printed of a run
+abbrev pub print_text : Print → List ℕ
+print_text prints.Trace = codes "trace"
+print_text prints.Calls = codes "calls"
+print_text prints.Replies = codes "replies"
+print_text prints.Events = codes "events"
+print_text prints.Jobs = codes "jobs"
+print_text prints.Summary = codes "summary"
 
--- of a replay: the replies where the text at `print` is "replies", else the trace
-pub record IsReplayPrintAt (rows : List Row) (print : ReplayPrint) : Type 0 where
-  pub replies : Prints rows (codes "replies") → print ≡ replay_prints.Replies
-  pub trace : (Prints rows (codes "replies") → ⊥) → print ≡ replay_prints.Trace
+abbrev pub IsPrintAt : List Row → Print → Type 0
+IsPrintAt = IsAskedAt print_text prints.Trace
+
+-- and of a replay
+abbrev pub replay_print_text : ReplayPrint → List ℕ
+replay_print_text replay_prints.Trace = codes "trace"
+replay_print_text replay_prints.Replies = codes "replies"
+replay_print_text replay_prints.Events = codes "events"
+replay_print_text replay_prints.Jobs = codes "jobs"
+replay_print_text replay_prints.Summary = codes "summary"
+
+abbrev pub IsReplayPrintAt : List Row → ReplayPrint → Type 0
+IsReplayPrintAt = IsAskedAt replay_print_text replay_prints.Trace
 
 -- a flag that is there, and one that is not
 pub record IsFlagAt (rows : List Row) (name : List ℕ) (flag : Bool) : Type 0 where

@@ -1,5 +1,6 @@
-//! dlsim: a model of SCHED_DEADLINE that writes the switches of a scenario, or of recorded calls,
-//! as a trace, or the calls with their replies, and compares a trace with a recorded one.
+//! dlsim: a model of SCHED_DEADLINE that writes of a scenario, or of recorded calls, the switches as a
+//! trace, also with what happens between them, the jobs, a summary, or the calls with their replies;
+//! and that compares a trace with a recorded one.
 //!
 //! The program reads its words with clap (`words`), and calls [`dl_session::run`] or
 //! [`dl_session::replay_as`] with standard input and standard output, or

@@ -1,9 +1,9 @@
 //! What the words of the command line ask for.
 
-ghost use Rattle.std.specs.Prelude.{◌≡◌, ◌<◌, ◌≤◌, ◌↔◌, ℕ, List, None, Some, IfErr, IfOk, IsTrue, codes, map, string_bytes};
-ghost use Rattle.clap.specs.Words.{Row, first_value, found_of, rows_of, subcommand_name_of, subcommand_rows_of};
+ghost use Rattle.std.specs.Prelude.{◌≡◌, ◌<◌, ◌≤◌, List, Some, IfErr, IfOk, codes, map, string_bytes};
+ghost use Rattle.clap.specs.Words.{Row, found_of, rows_of, subcommand_name_of, subcommand_rows_of};
 ghost use Rattle.session.specs.Options.{AreOptions};
-ghost use Rattle.dlsim.specs.Found.{AreFound, AreMeantBy, IsFaultOf, IsNumberAt, IsPrintAt, IsReplayPrintAt, Prints};
+ghost use Rattle.dlsim.specs.Found.{AreFound, AreMeantBy, IsFaultOf, IsNumberAt, IsPrintAt, IsReplayPrintAt, IsTextAt};
 ghost use Rattle.dlsim.specs.Tasks.{IsAskedBy, IsComparisonBy, IsComparisonRefusedBy, IsFit, IsMeant, IsRefusedBy, IsRunBy, IsRunRefusedBy, IsTaskOf};
 
 use crate::comparison::{Comparison, comparison_of, shares_stdin};
@@ -72,9 +72,7 @@ fn number(found: &ArgMatches<'_>, name: &str, most: u64) -> u64
 
 /// The text at an option; the empty text where it has none, which clap does not let come.
 pub(crate) fn text_of<'a>(found: &ArgMatches<'a>, name: &str) -> &'a str
-    ensures some { (text : List ℕ) → first_value (found_of found.now) name.now ≡ Some text
-        → result.now ≡ text }
-    ensures none { first_value (found_of found.now) name.now ≡ None → result.now ≡ codes "" }
+    ensures { IsTextAt (rows_of (found_of found.now)) name.now result.now }
 {
     match found.get_str(name) {
         Some(text) => text,
@@ -82,35 +80,31 @@ pub(crate) fn text_of<'a>(found: &ArgMatches<'a>, name: &str) -> &'a str
     }
 }
 
-/// Whether the text at `print` is this one.
-fn prints(found: &ArgMatches<'_>, text: &str) -> bool
-    ensures { IsTrue result ↔ Prints (rows_of (found_of found.now)) text.now }
-{
-    found.get_str("print") == Some(text)
-}
-
-/// What is printed of a run: the calls, or these with their replies, where the words say so, else
-/// the trace.
+/// What is printed of a run: what the text at `print` asks for. Where it asks for nothing, which clap
+/// does not let come, the trace.
 fn print_of(found: &ArgMatches<'_>) -> Print
     ensures { IsPrintAt (rows_of (found_of found.now)) result }
 {
-    if prints(found, "calls") {
-        Print::Calls
-    } else if prints(found, "replies") {
-        Print::Replies
-    } else {
-        Print::Trace
+    match text_of(found, "print") {
+        "calls" => Print::Calls,
+        "replies" => Print::Replies,
+        "events" => Print::Events,
+        "jobs" => Print::Jobs,
+        "summary" => Print::Summary,
+        _ => Print::Trace,
     }
 }
 
-/// What is printed of a replay: the replies where the words say so, else the trace.
+/// The same of a replay.
 fn replay_print_of(found: &ArgMatches<'_>) -> ReplayPrint
     ensures { IsReplayPrintAt (rows_of (found_of found.now)) result }
 {
-    if prints(found, "replies") {
-        ReplayPrint::Replies
-    } else {
-        ReplayPrint::Trace
+    match text_of(found, "print") {
+        "replies" => ReplayPrint::Replies,
+        "events" => ReplayPrint::Events,
+        "jobs" => ReplayPrint::Jobs,
+        "summary" => ReplayPrint::Summary,
+        _ => ReplayPrint::Trace,
     }
 }
 

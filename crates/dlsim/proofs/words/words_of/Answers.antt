@@ -1,15 +1,14 @@
 use Rattle.std.proofs.Common.{◌∙◌, codes}
 use Rattle.clap.specs.Words.{found_of}
-use Rattle.clap.proofs.WalkLemmas.{first_value-rows, one_text-rows}
+use Rattle.clap.proofs.WalkLemmas.{one_text-rows}
 use Rattle.dlsim.proofs.words.words_of.Goals as goal
 
 pub returns-clause-found : goal.returns-clause-found
 returns-clause-found c =
     let found = found_of c.args.found.now in
-    let domains = first_value-rows found (codes "domains") in
     let reclaim = one_text-rows found (codes "reclaim") in
     record {
-      domains = record { absent = λ e. c.text_of.ensures.none (domains ∙ e); some = λ text e. c.text_of.ensures.some text (domains ∙ e) };
+      domains = c.text_of.ensures;
       rt_runtime = c.number.ensures.found;
       rt_period = c.number-2.ensures.found;
       clients = c.number-3.ensures.found;
