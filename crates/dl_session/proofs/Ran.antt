@@ -121,6 +121,7 @@ is_ran id tasks duration wanted cs es r s f g some new asked finished is histori
       };
       answers = rw (same_h, same_r) answers;
       count = rw (same_h, states) (finished.count ∙ sym left.count);
+      as_many = rw (same_h, logs) (finished.logs_count ∙ sym left.count);
       runs = rw (same_h, states) finished.runs;
       told = rw (same_h, logs) (are_told id id.clients tasks duration wanted f.report.histories.items s.refused.items f.logs.items left.count anyone answers finished.logs);
     }

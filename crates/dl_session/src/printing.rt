@@ -1,23 +1,36 @@
-//! The last step of a run: its trace, the calls text of its histories, or their replies.
+//! The last step of a run: the text that is asked for of its histories.
 
 ghost use Rattle.std.specs.Prelude.{◌≡◌, ◌<◌, ◌≤◌, ◌^◌, All, OnOk, IfErr, length};
 ghost use Rattle.call_book.specs.Limits.{IsSection};
 ghost use Rattle.call_book.specs.Spelling.{spelling};
-ghost use Rattle.counted_io.specs.Sides.{faults_of, side};
-ghost use Rattle.reply_text.specs.Replies.{replies_of};
-ghost use Rattle.dl_session.specs.RunAnswer.{printed};
 ghost use Rattle.call_book.specs.Histories.{AreLegal, AreRuns, AreTold};
+ghost use Rattle.counted_io.specs.Sides.{faults_of, side};
 ghost use Rattle.session.specs.Options.{tells};
 ghost use Rattle.calls_trace.specs.Written.{IsWritten, IsUnwritten};
+ghost use Rattle.dl_session.specs.RunAnswer.{printed};
+ghost use Rattle.dl_session.specs.private.Printing as printing;
 
 use call_book::{Section, write_calls};
-use calls_trace::{TraceFault, write_run_trace};
+use calls_trace::{ReplayPrint, TraceFault, write_run_as};
 use domain_run::{Log, State};
-use reply_text::write_recorded;
 use session::Print;
 use std::alloc::Global;
 use std::io::Write;
 use switch_text::{Counted, write_text};
+
+/// What a replay of the calls text would be asked for; nothing where that text itself is.
+fn replay_print(print: Print) -> Option<ReplayPrint>
+    ensures { result ≡ printing.replay_print print }
+{
+    match print {
+        Print::Trace => Some(ReplayPrint::Trace),
+        Print::Calls => None,
+        Print::Replies => Some(ReplayPrint::Replies),
+        Print::Events => Some(ReplayPrint::Events),
+        Print::Jobs => Some(ReplayPrint::Jobs),
+        Print::Summary => Some(ReplayPrint::Summary),
+    }
+}
 
 /// Writes the calls text of histories, in one piece.
 fn write_histories<W: Write>(
@@ -42,28 +55,6 @@ fn write_histories<W: Write>(
     }
 }
 
-/// Writes the calls of histories with their replies, in one piece.
-fn write_answered<W: Write>(
-    alloc: Global,
-    histories: &[Section],
-    writer: &mut Counted<W>,
-) -> Result<(), TraceFault>
-    requires legal { AreLegal histories.now }
-    requires faults { faults_of writer.old < 2 ^ 63 }
-    ensures ok { OnOk result
-        (IsWritten (side W.contents writer.old writer.new) (replies_of histories.now)) }
-    ensures err { IfErr result
-        (IsUnwritten (side W.contents writer.old writer.new) (replies_of histories.now)) }
-{
-    let text = write_recorded(alloc, histories)?;
-    match write_text(&text, writer) {
-        Ok(()) => Ok(()),
-        Err(fault) => Err(TraceFault::Write {
-            written: fault.written,
-        }),
-    }
-}
-
 /// Writes the text of histories that led to these states, with what happened in them as these logs
 /// have it, where that is printed. Nothing is run again.
 ///
@@ -75,24 +66,24 @@ pub(crate) fn write_run<W: Write>(
     print: Print,
     histories: &[Section],
     states: Vec<State>,
-    logs: &[Log],
+    logs: Vec<Log>,
     writer: &mut Counted<W>,
 ) -> Result<(), TraceFault>
     requires few { length histories.now ≤ 8 }
     requires count { length states.items ≡ length histories.now }
+    requires as_many { length logs.items ≡ length histories.now }
     requires sections { All IsSection histories.now }
     requires legal { AreLegal histories.now }
     requires runs { AreRuns histories.now states.items }
-    requires told { AreTold (tells print) histories.now logs.now }
+    requires told { AreTold (tells print) histories.now logs.items }
     requires faults { faults_of writer.old < 2 ^ 63 }
     ensures ok { OnOk result
         (IsWritten (side W.contents writer.old writer.new) (printed print histories.now)) }
     ensures err { IfErr result
         (IsUnwritten (side W.contents writer.old writer.new) (printed print histories.now)) }
 {
-    match print {
-        Print::Calls => write_histories(alloc, histories, writer),
-        Print::Replies => write_answered(alloc, histories, writer),
-        Print::Trace => write_run_trace(alloc, histories, states, writer),
+    match replay_print(print) {
+        Some(text) => write_run_as(alloc, text, histories, states, logs, writer),
+        None => write_histories(alloc, histories, writer),
     }
 }

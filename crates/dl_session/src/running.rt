@@ -1,4 +1,4 @@
-//! From bytes to bytes: a scenario in, the trace or the calls text of its run out.
+//! From bytes to bytes: a scenario in, a text of its run out.
 
 ghost use Rattle.std.specs.Prelude.{◌≡◌, ◌<◌, ◌≤◌, ◌^◌, true, map, replicate, IfOk, IfErr, OnOk};
 ghost use Rattle.counted_io.specs.Sides.{Side, HasNoFault, faults_of, side};
@@ -142,8 +142,9 @@ fn run_in<N: Names + Send + Sync, T: Turnstile, X: Threads + Wait + Sync>(
 /// Reads a scenario to its end, opens a session, lets its clients admit the scenario's tasks by
 /// [`admit_all`](crate::admit_all), each in a thread of its own, with the turnstile round each
 /// admission. Then client 1 advances each domain by the scenario's duration as the last entry of
-/// its book, the session is closed, and the trace of all domains is written, or the calls text of
-/// the histories. A duration of 0 makes no advance.
+/// its book, the session is closed, and what is asked for is written of all domains: the trace, the
+/// calls text of the histories, these with their replies, the trace with what happens, the jobs, or
+/// the summary. A duration of 0 makes no advance.
 ///
 /// `Ok`: the histories in the report are legal and answer the scenario together with the refusals,
 /// and what was written is the text of their run, and nothing else. A task that is refused is no
@@ -201,7 +202,7 @@ pub fn run<R: Read, W: Write, T: Turnstile, X: Threads + Wait + Sync>(
         turnstile,
     )?;
     let histories = &report.histories;
-    match write_run(alloc, options.print, histories, states, &logs, writer) {
+    match write_run(alloc, options.print, histories, states, logs, writer) {
         Ok(()) => Ok(report),
         Err(fault) => Err(SessionFault::from(fault)),
     }

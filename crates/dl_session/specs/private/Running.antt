@@ -34,6 +34,7 @@ pub record IsRan (id : SessionId) (tasks : List TaskSpecView) (duration : ℕ) (
   pub answers : AnswersScenario id id.clients tasks duration
       (map (λ h. h.entries) f.report.histories.items) f.report.refused.items
   pub count : length f.states.items ≡ length f.report.histories.items
+  pub as_many : length f.logs.items ≡ length f.report.histories.items
   pub runs : AreRuns f.report.histories.items f.states.items
   pub told : AreTold wanted f.report.histories.items f.logs.items
 

@@ -1,22 +1,21 @@
-use Rattle.std.proofs.Common.{◌≡◌, ℕ, List, sym, ap, subst}
-use Rattle.std.specs.Prelude.{OnOk, IfErr}
+use Rattle.std.proofs.Common.{◌≡◌, List, ℕ, sym, subst, ◌∙◌}
+use Rattle.std.specs.Prelude.{IfErr, OnOk}
 use Rattle.counted_io.specs.Sides.{Side, side}
-use Rattle.calls_trace.specs.Replay.{trace_of_sections}
-use Rattle.calls_trace.specs.Written.{IsWritten, IsUnwritten}
-use Rattle.session.specs.declared.options.Print.{Print}
-use Rattle.dl_session.specs.RunAnswer.{printed}
+use Rattle.calls_trace.specs.Written.{IsUnwritten, IsWritten}
+use Rattle.dl_session.proofs.Printing.{text_is, told_as, calls_alone}
 use Rattle.dl_session.proofs.printing.write_run.Goals as goal
 
-pub returns-in-Trace-clause-ok : goal.returns-in-Trace-clause-ok
-returns-in-Trace-clause-ok g c =
-    let w : Side = side g.W.Write.contents c.args.writer.now c.write_run_trace.new.writer in
-    let hs = c.args.histories.now in
-    let same : trace_of_sections hs ≡ printed c.args.print hs = ap (λ (p : Print). printed p hs) (sym c.in-Trace.is) in
-    subst (λ (t : List ℕ). OnOk c.write_run_trace.result (IsWritten w t)) same c.write_run_trace.ensures.ok
+pub write_run_as-requires-clause-told : goal.write_run_as-requires-clause-told
+write_run_as-requires-clause-told g c = told_as c.args.print c.in-Some.text (sym c.replay_print.ensures ∙ c.in-Some.is) c.args.histories.now c.args.logs.items c.requires.told
 
-pub returns-in-Trace-clause-err : goal.returns-in-Trace-clause-err
-returns-in-Trace-clause-err g c =
-    let w : Side = side g.W.Write.contents c.args.writer.now c.write_run_trace.new.writer in
-    let hs = c.args.histories.now in
-    let same : trace_of_sections hs ≡ printed c.args.print hs = ap (λ (p : Print). printed p hs) (sym c.in-Trace.is) in
-    subst (λ (t : List ℕ). IfErr c.write_run_trace.result (IsUnwritten w t)) same c.write_run_trace.ensures.err
+pub returns-in-Some-clause-ok : goal.returns-in-Some-clause-ok
+returns-in-Some-clause-ok g c =
+    let w : Side = side g.W.Write.contents c.args.writer.now c.write_run_as.new.writer in
+    let same = text_is c.args.print c.in-Some.text (sym c.replay_print.ensures ∙ c.in-Some.is) c.args.histories.now in
+    subst (λ (t : List ℕ). OnOk c.write_run_as.result (IsWritten w t)) same c.write_run_as.ensures.ok
+
+pub returns-in-Some-clause-err : goal.returns-in-Some-clause-err
+returns-in-Some-clause-err g c =
+    let w : Side = side g.W.Write.contents c.args.writer.now c.write_run_as.new.writer in
+    let same = text_is c.args.print c.in-Some.text (sym c.replay_print.ensures ∙ c.in-Some.is) c.args.histories.now in
+    subst (λ (t : List ℕ). IfErr c.write_run_as.result (IsUnwritten w t)) same c.write_run_as.ensures.err
