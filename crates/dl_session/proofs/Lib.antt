@@ -10,6 +10,6 @@ pub mod OrderSplit
 pub mod ByCap
 pub mod OrderLaw
 pub mod Logged
-pub mod Printing
+pub mod PrintedAs
 pub mod Ran
 pub mod Endings

@@ -2,7 +2,7 @@ use Rattle.std.proofs.Common.{◌≡◌, List, ℕ, sym, subst, ◌∙◌}
 use Rattle.std.specs.Prelude.{IfErr, OnOk}
 use Rattle.counted_io.specs.Sides.{Side, side}
 use Rattle.calls_trace.specs.Written.{IsUnwritten, IsWritten}
-use Rattle.dl_session.proofs.Printing.{text_is, told_as, calls_alone}
+use Rattle.dl_session.proofs.PrintedAs.{text_is, told_as, calls_alone}
 use Rattle.dl_session.proofs.printing.write_run.Goals as goal
 
 pub write_run_as-requires-clause-told : goal.write_run_as-requires-clause-told
