@@ -63,6 +63,7 @@ placed_is wanted r s section is told inside =
     lines : (w : Bool) → All (HasToldLine r.run.names r.base) (told_of s) → All (HasToldLine r.run.names r.base) (cond w (told_of s) [])
     lines true all = all
     lines false all = All-nil (HasToldLine r.run.names r.base)
+
     rises : (w : Bool) → AllPairs (λ a b. IsTrue (is_sooner_unless_cut a b)) (told_of s) → AllPairs (λ a b. IsTrue (is_sooner_unless_cut a b)) (cond w (told_of s) [])
     rises true all = all
     rises false all = λ i j d less within. absurd (omega (arith, within))

@@ -218,10 +218,7 @@ fn summary_text(alloc: Global, placed: &[PlacedRun]) -> Result<Vec<u8>, NoMemory
 // ---- written
 
 /// Writes a text in one piece.
-pub(crate) fn write_whole<W: Write>(
-    text: &[u8],
-    writer: &mut Counted<W>,
-) -> Result<(), TraceFault>
+pub(crate) fn write_whole<W: Write>(text: &[u8], writer: &mut Counted<W>) -> Result<(), TraceFault>
     requires faults { faults_of writer.old < 2 ^ 63 }
     ensures ok { OnOk result (IsWritten (side W.contents writer.old writer.new) text.now) }
     ensures err { IfErr result (IsUnwritten (side W.contents writer.old writer.new) text.now) }

@@ -12,7 +12,7 @@ pub returns : goal.returns
 returns c =
     let counted = c.in_ok-counted.counted.items in
     let views : map summaries.view_of c.deref-2.result.now ≡ map (λ x. summary_in (view_of x.placed.now)) counted =
-        ap (map summaries.view_of) c.deref-2.ensures.value ∙ c.in_ok-domains.ensures.views ∙ ap (map (λ x. summary_in (view_of x.placed.now))) c.deref.ensures.value in
+    ap (map summaries.view_of) c.deref-2.ensures.value ∙ c.in_ok-domains.ensures.views ∙ ap (map (λ x. summary_in (view_of x.placed.now))) c.deref.ensures.value in
     c.in_ok-put_summary.ensures
     ∙ ap (λ (front : List ℕ). front ++ summaries.summary_text (map summaries.view_of c.deref-2.result.now)) c.new-text.ensures.items
     ∙ summary_is (λ x. x.placed.now) counted c.args.placed.now (map summaries.view_of c.deref-2.result.now) c.in_ok-counted.ensures views

@@ -11,5 +11,5 @@ returns-clause-apart c =
     let given = given_in c.args.run.now.given in
     let numbers = c.in_ok-numbers.numbers.items in
     let are : c.loop-number.tasks.items ≡ map (admitted given) numbers =
-        c.loop-number.invariant.tasks ∙ ap (map (admitted given)) (take_all c.loop-number.number-index c.deref-number-items.result.now c.loop-number-test.false ∙ c.deref-number-items.ensures.value) in
+    c.loop-number.invariant.tasks ∙ ap (map (admitted given)) (take_all c.loop-number.number-index c.deref-number-items.result.now c.loop-number-test.false ∙ c.deref-number-items.ensures.value) in
     subst AreTasks (sym are) (tasks_apart given numbers c.in_ok-numbers.ensures.small c.in_ok-numbers.ensures.apart)
