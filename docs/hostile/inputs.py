@@ -3,6 +3,9 @@ import dataclasses
 import json
 
 UNIT = 1 << 20
+# What --print takes; each of a replay is a text of a run too.
+REPLAY_TEXTS = ["trace", "replies", "events", "jobs", "summary"]
+RUN_TEXTS = ["calls", *REPLAY_TEXTS]
 
 
 @dataclasses.dataclass
@@ -45,13 +48,13 @@ class Scenario:
     workers: int = 1
     reclaim: bool = False
     limit: tuple = (950000, 1000000)
-    calls: bool = False
+    printed: str = "trace"
 
     def words(self):
         words = ["run", "--domains", ",".join(map(str, self.domains))]
         words += ["--rt-runtime", str(self.limit[0]), "--rt-period", str(self.limit[1])]
         words += ["--clients", str(self.clients), "--workers", str(self.workers)]
-        return words + ["--reclaim"] * self.reclaim + ["--print", "calls"] * self.calls
+        return words + ["--reclaim"] * self.reclaim + ["--print", self.printed] * (self.printed != "trace")
 
     def of_a_cpu(self):
         return self.limit[0] * UNIT // self.limit[1]
@@ -175,7 +178,7 @@ def draw_scenario(rng):
     return scenario_of(
         threads, duration=rng.choice([0, 1, 1]), domains=domains, clients=rng.choice([1, 2, 8, rng.randint(1, 64)]),
         workers=rng.choice([1, 2, rng.randint(1, 8)]) if count <= 4 and longest > 20000 else 1, reclaim=bool(rng.randint(0, 1)),
-        limit=(rng.randint(-(-period // 100), period), period), calls=rng.randint(1, 6) == 1)
+        limit=(rng.randint(-(-period // 100), period), period), printed=rng.choice(["trace"] * 5 + RUN_TEXTS))
 
 
 def draw_call(rng, number, longest):
