@@ -2,7 +2,7 @@
 use Rattle.std.proofs.Common.{◌≡◌, ℕ, zero, suc, ◌+◌, ◌-◌, ◌<◌, ◌||◌, Bool, true, false, cond, ltb, Option, Some, None, List, [], ◌∷◌, ◌++◌, length, take, map, get_or, refl, sym, ap, ◌∙◌, subst, arith, inl, inr, append-nil}
 use Rattle.std.specs.Prelude.{All, IsTrue}
 use Rattle.std.proofs.lemmas.Bool.{cases_Bool, lt-ltb}
-use Rattle.std.proofs.lemmas.List.{length-map, length_push, take-map, append-assoc}
+use Rattle.std.proofs.lemmas.List.{length-map, length_push, take-map, append_assoc}
 use Rattle.std.proofs.lemmas.List.Elements.{All-head, All-tail}
 use Rattle.std.proofs.Math.Seq.{take-append_seam}
 use Rattle.domain_run.specs.declared.task.Task.{Task}
@@ -80,7 +80,7 @@ told_both : (d : Domain) (xs ys : List Call) → told_by_calls d (xs ++ ys) ≡ 
 told_both d [] ys = refl
 told_both d (x ∷ xs) ys =
     ap (λ (hs : List Happened). told_by_call d x ++ hs) (told_both (after_call d x) xs ys)
-    ∙ sym (append-assoc (told_by_call d x) (told_by_calls (after_call d x) xs) (told_by_calls (after_calls (after_call d x) xs) ys))
+    ∙ sym (append_assoc (told_by_call d x) (told_by_calls (after_call d x) xs) (told_by_calls (after_calls (after_call d x) xs) ys))
 
 -- all entries but the last are those before the advance
 before_last : (entries before : List Entry) (c : Call) → calls_of entries ≡ calls_of before ++ c ∷ [] → calls_of (take (length entries - 1) entries) ≡ calls_of before
