@@ -15,8 +15,6 @@ use std::thread::Threads;
 mod memory;
 mod moves;
 mod rates;
-mod shared;
-mod threads;
 
 // A gate of one domain of one CPU, its book with one client, and the client's blanks.
 struct Desk {
@@ -189,11 +187,6 @@ fn make<R: Abort + Threads + Wait>(
                 .regrade(rt, &mut desk.pass, &desk.gate, *number, *params)
                 .unwrap_or(Reply::Full),
         ),
-        Call::Wake { number } => Ok(
-            desk.domain
-                .wake(&mut desk.pass, *number)
-                .unwrap_or(Reply::Full),
-        ),
         Call::Leave { number } => Ok(
             desk.domain
                 .leave(&mut desk.pass, *number)
@@ -202,8 +195,9 @@ fn make<R: Abort + Threads + Wait>(
         Call::Advance { ticks } => {
             Ok(desk.domain.advance(rt, &mut desk.pass, &desk.gate, *ticks)?)
         }
-        Call::Limit { limit, word: _ } => Ok(set_limit(rt, desk, *limit)),
-        Call::Depart { .. } | Call::Arrive { .. } => panic!(rt; "a move takes two books"),
+        Call::Wake { .. } | Call::Limit { .. } | Call::Depart { .. } | Call::Arrive { .. } => {
+            panic!(rt; "no such call is made here")
+        }
     }
 }
 
