@@ -24,7 +24,7 @@ fn cut_short_by_memory(rt: HostRuntime) -> Result<(), Fail> {
     let mut jumping = admitted(rt.alloc(), 1, &tasks)?;
     let mut ticking = admitted(rt.alloc(), 1, &tasks)?;
     let left = (1_u64 << 42).saturating_sub(jumping.now());
-    let done = advance(&mut jumping, left.min(5000));
+    let done = advance(&mut jumping, 5000_u64.min(left));
     single_ticks(&mut ticking, done.ticks)?;
     let same = jumping.now() == ticking.now()
         && jumping.sum() == ticking.sum()
