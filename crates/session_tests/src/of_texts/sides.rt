@@ -78,7 +78,7 @@ fn told<X: Threads + Wait + Sync>(
     let mut reader = Counted::new(Stumbler::new(text, step, bad.0));
     let mut writer = Counted::new(Stumbler::new(Vec::new(alloc), step, bad.1));
     let fault = if runs {
-        let options = options_on(vec![in alloc; 1]?, 1, 1024);
+        let options = options_on(vec![in alloc; 1]?, 1, 4);
         run(rt, alloc, &mut reader, &mut writer, &options, &AllPass).err()
     } else {
         replay(alloc, &mut reader, &mut writer).err()
