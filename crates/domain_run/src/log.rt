@@ -83,20 +83,25 @@ fn put_in(happened: &mut Vec<Happened>, from: usize, one: Happened)
 
 // One on the CPU where its task stands, if it stands on one.
 fn at_home(one: &Happened, places: &[Option<u32>]) -> Happened
+    requires narrow { length places.now ≤ 64 }
     ensures { result ≡ happened_spec.at_home places.now one.now }
 {
-    let cpu = places
+    match places
         .iter()
-        .position(|occupant| *occupant == Some(one.number));
-    Happened {
-        cpu: cpu.unwrap_or(one.cpu),
-        ..*one
+        .position(|occupant| *occupant == Some(one.number))
+    {
+        Some(cpu) => Happened {
+            cpu: cpu as u16,
+            ..*one
+        },
+        None => *one,
     }
 }
 
 // Puts the one at a place on the CPU of its task, and in its place among those behind it.
 fn go_home(happened: &mut Vec<Happened>, place: usize, places: &[Option<u32>])
     requires there { place < vec_len happened.old }
+    requires narrow { length places.now ≤ 64 }
     ensures home { GoesHome places.now place happened.old.items happened.new.items }
     ensures len { vec_len happened.new ≡ vec_len happened.old }
     ensures room { vec_capacity happened.new ≡ vec_capacity happened.old }
@@ -108,6 +113,7 @@ fn go_home(happened: &mut Vec<Happened>, place: usize, places: &[Option<u32>])
 // Puts each from this place on on the CPU of its task, and in its place among them: the last first.
 fn go_all_home(happened: &mut Vec<Happened>, from: usize, places: &[Option<u32>])
     requires from { from ≤ vec_len happened.old }
+    requires narrow { length places.now ≤ 64 }
     ensures home { GoHome places.now from happened.old.items happened.new.items }
     ensures len { vec_len happened.new ≡ vec_len happened.old }
     ensures room { vec_capacity happened.new ≡ vec_capacity happened.old }
@@ -237,6 +243,7 @@ impl Log {
     /// stand on one, and has its place by those.
     pub(crate) fn go_home(&mut self, from: usize, places: &[Option<u32>])
         requires from { from ≤ length self.old.happened }
+        requires narrow { length places.now ≤ 64 }
         ensures wanted { self.new.wanted ≡ self.old.wanted }
         ensures home { GoHome places.now from self.old.happened self.new.happened }
         ensures room { self.new.room ≡ self.old.room }
