@@ -1,13 +1,15 @@
 -- What a tick's beginning told, on the CPUs behind the placement.
-use Rattle.std.proofs.Common.{◌≡◌, ℕ, suc, ◌+◌, ◌≤◌, Bool, true, false, cond, List, [], ◌∷◌, ◌++◌, length, map, refl, sym, ap, ◌∙◌, inl, inr, arith, subst}
+use Rattle.std.proofs.Common.{◌≡◌, ℕ, zero, suc, ◌+◌, ◌-◌, ◌≤◌, Bool, true, false, cond, List, [], ◌∷◌, ◌++◌, length, get_or, map, refl, sym, ap, ◌∙◌, inl, inr, arith, subst}
 use Rattle.std.specs.Prelude.{All, AllPairs}
-use Rattle.std.proofs.lemmas.List.{append-nil, append_assoc, length-append}
+use Rattle.std.proofs.lemmas.List.{append-nil, append_assoc, length-append, get_or-append-add}
+use Rattle.std.proofs.lemmas.List.Edits.{remove-append_right}
+use Rattle.std.specs.List.{remove}
 use Rattle.std.proofs.lemmas.List.Elements.{All-head, All-tail}
 use Rattle.edf_pick.specs.Places.{Places}
 use Rattle.domain_run.specs.declared.happened.Happened.{Happened}
 use Rattle.domain_run.specs.Happened.{is_first, with_happened, in_order, at_home}
 use Rattle.domain_run.specs.Log.{LogView, kept, Tells}
-use Rattle.domain_run.specs.private.Telling.{GoesHome, GoHome}
+use Rattle.domain_run.specs.private.Telling.{PutsIn, GoesHome, GoHome}
 use Rattle.domain_run.proofs.ToldOrder.{IsApart, with_swap}
 use Rattle.domain_run.proofs.ToldOf.{each_in_order}
 
@@ -37,7 +39,7 @@ home_with places h (x ∷ xs) apart = by_first (is_first h x)
     by_first false = behind
 
 pairs_first : (h : Happened) (hs : List Happened) → AllPairs IsApart (h ∷ hs) → All (IsApart h) hs
-pairs_first h hs all k d less = all 0 (suc k) d (omega arith) (omega (arith, less))
+pairs_first h hs all k d less = all zero (suc k) d (omega arith) (omega (arith, less))
 
 pairs_rest : (h : Happened) (hs : List Happened) → AllPairs IsApart (h ∷ hs) → AllPairs IsApart hs
 pairs_rest h hs all i j d less within = all (suc i) (suc j) d (omega (arith, less)) (omega (arith, within))
@@ -49,6 +51,18 @@ home_in_order places (h ∷ hs) apart =
     ∙ ap (with_happened (at_home places h)) (home_in_order places hs (pairs_rest h hs apart))
 
 -- ---- ONE AFTER ANOTHER, the last first
+
+-- one that is taken out, and put in on its CPU
+pub went_home : (places : Places) (place : ℕ) (one d : Happened) (items left after : List Happened) → one ≡ get_or items place d → left ≡ remove items place → PutsIn place (at_home places one) left after → GoesHome places place items after
+went_home places place one d items left after value gone put base o others len is =
+    let whole : length base + zero ≡ place = omega (arith, len) in
+    let read : one ≡ o = value ∙ (λ i. get_or (is i) (sym whole i) d) ∙ get_or-append-add base (o ∷ others) zero d in
+    let none : length base - length base ≡ zero = omega arith in
+    let rest : left ≡ base ++ others =
+        gone ∙ (λ i. remove (is i) (sym len i))
+        ∙ remove-append_right base (o ∷ others) (length base) (length base) refl (omega arith)
+        ∙ ap (λ n. base ++ remove (o ∷ others) n) none in
+    put base others len rest ∙ ap (λ h. base ++ with_happened (at_home places h) others) read
 
 -- none behind all
 pub home_none : (places : Places) (hs : List Happened) → GoHome places (length hs) hs hs
