@@ -1,6 +1,7 @@
 //! A log of what happens to the tasks of a domain.
 
-ghost use Rattle.std.specs.Prelude.{◌≡◌, ◌<◌, ◌≤◌, ◌+◌, [], ◌∷◌, true, false, length, OnOk, vec_len, vec_capacity};
+ghost use Rattle.std.specs.Prelude.{◌≡◌, ◌<◌, ◌≤◌, ◌+◌, [], ◌∷◌, true, false, length, position, OnOk, IfSome, vec_len, vec_capacity};
+ghost use Rattle.edf_pick.specs.Places.{is_task};
 ghost use Rattle.domain_run.specs.Happened as happened_spec;
 ghost use Rattle.domain_run.specs.Log.{Tells, HasRoom};
 ghost use Rattle.domain_run.specs.private.Telling.{Puts, PutsIn, IsPlaceOf, GoesHome, GoHome, one_of, all_of};
@@ -81,15 +82,20 @@ fn put_in(happened: &mut Vec<Happened>, from: usize, one: Happened)
     happened.insert(place, one).unwrap();
 }
 
+// The CPU on which a task stands, if it stands on one.
+fn cpu_of(number: u32, places: &[Option<u32>]) -> Option<usize>
+    ensures cpu { result ≡ position (is_task number) places.now }
+    ensures within { IfSome result (λ cpu. cpu < length places.now) }
+{
+    places.iter().position(|occupant| *occupant == Some(number))
+}
+
 // One on the CPU where its task stands, if it stands on one.
 fn at_home(one: &Happened, places: &[Option<u32>]) -> Happened
     requires narrow { length places.now ≤ 64 }
     ensures { result ≡ happened_spec.at_home places.now one.now }
 {
-    match places
-        .iter()
-        .position(|occupant| *occupant == Some(one.number))
-    {
+    match cpu_of(one.number, places) {
         Some(cpu) => Happened {
             cpu: cpu as u16,
             ..*one
