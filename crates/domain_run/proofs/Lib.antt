@@ -32,6 +32,7 @@ pub mod Rooted
 pub mod Climbing
 pub mod Leaves
 pub mod ToldOrder
+pub mod ToldHome
 pub mod ToldOf
 pub mod ToldChanges
 pub mod ToldRising
