@@ -32,8 +32,8 @@ pub mod Rooted
 pub mod Climbing
 pub mod Leaves
 pub mod ToldOrder
-pub mod ToldHome
 pub mod ToldOf
+pub mod ToldHome
 pub mod ToldChanges
 pub mod ToldRising
 pub mod ToldIn
