@@ -1,6 +1,6 @@
 -- What a run tells of, call by call: tasks that were admitted, on CPUs of the domain, until its time.
-use Rattle.std.proofs.Common.{◌≡◌, ◌≢◌, ℕ, zero, suc, ◌+◌, ◌<◌, ◌≤◌, Bool, true, false, cond, eqb, leb, ltb, ◌||◌, None, List, [], ◌∷◌, ◌++◌, length, map, refl, sym, ap, subst, ◌∙◌, arith, eq-eqb}
-use Rattle.std.specs.Prelude.{All, filter, position}
+use Rattle.std.proofs.Common.{◌≡◌, ◌≢◌, ℕ, zero, suc, ◌+◌, ◌<◌, ◌≤◌, Bool, true, false, cond, eqb, leb, ltb, ◌||◌, Option, Some, None, List, [], ◌∷◌, ◌++◌, length, map, refl, sym, ap, subst, ◌∙◌, arith, eq-eqb}
+use Rattle.std.specs.Prelude.{All, filter, position, unwrap_or}
 use Rattle.std.specs.List.{flat_map, list_any}
 use Rattle.std.proofs.lemmas.List.{append-nil, append_assoc, length-replicate}
 use Rattle.std.proofs.lemmas.List.Elements.{All-nil, All-append, All-weaker, All-map, All-filter, All-push}
@@ -25,7 +25,7 @@ use Rattle.domain_run.specs.Tick.{sum_of, candidates, prepared, begun, ran_if, f
 use Rattle.domain_run.specs.Calls.{admit_reply, new_task, with_number, listed, of_number, changed, regraded, released, ended, with_limit, is_other, departed, reply_to, is_refusal, granted, after_call}
 use Rattle.domain_run.specs.Run.{after_calls, run_of}
 use Rattle.domain_run.specs.Sound.{IsAdmitted, IsApart}
-use Rattle.domain_run.specs.Happened.{told, told_if_ran, told_by_replenishment, told_by_unblocking, told_by_beginning, told_by_end, told_by_tick, told_by_ticks, told_by_cut, told_by_granted, told_by_call, told_by_calls}
+use Rattle.domain_run.specs.Happened.{told, told_if_ran, told_by_replenishment, told_by_unblocking, at_home, told_to_begin, told_by_beginning, told_by_end, told_by_tick, told_by_ticks, told_by_cut, told_by_granted, told_by_call, told_by_calls}
 use Rattle.domain_run.proofs.Keeping.{Same, same_itself, same_either, same_replenished, same_settled, same_unblocked, AllPairs-map}
 use Rattle.domain_run.proofs.KeptKeys.{AreNumbered, ticked_numbered}
 use Rattle.domain_run.proofs.Ticking.{same_ran_if}
@@ -218,16 +218,31 @@ pub record IsToldIn (d : Domain) (h : Happened) : Type 0 where
 told_known : (d : Domain) (time : ℕ) (t : Task) (w : What) → time ≤ d.time → IsKnown d.cpus d.used t → IsToldIn d (told time t w)
 told_known d time t w past is = record { past = past; inside = is.home; admitted = is.admitted }
 
+-- on the CPU on which its task stands it is inside too
+home_within : (cpus : ℕ) (o : Option ℕ) (before : ℕ) → ((cpu : ℕ) → o ≡ Some cpu → cpu < cpus) → before < cpus → unwrap_or o before < cpus
+home_within cpus None before inside is = is
+home_within cpus (Some cpu) before inside is = inside cpu refl
+
+home_in : (d : Domain) (places : Places) (h : Happened) → length places ≡ d.cpus → IsToldIn d h → IsToldIn d (at_home places h)
+home_in d places h wide is = record {
+  past = is.past;
+  inside = home_within d.cpus (position (is_task h.number) places) h.cpu (λ cpu e. subst (λ (n : ℕ). cpu < n) wide (position_within h.number places cpu e)) is.inside;
+  admitted = is.admitted;
+}
+
 beginning_in : (d : Domain) → HasKnown d → All (IsToldIn d) (told_by_beginning d)
 beginning_in d has =
     let left = filter is_listed (map (settled d.time) (map (replenish_due d.time) d.tasks)) in
     let back = flat_map (told_by_replenishment d.time) d.tasks in
     let woken = flat_map (told_by_unblocking d.time) left in
     let same : d.time ≤ d.time = omega arith in
-    each_in_order (IsToldIn d) (back ++ woken)
-    (All-append (IsToldIn d) back woken
+    let places : Places = (begun d).curr in
+    let wide : length places ≡ d.cpus = (placed_is d.cpus (candidates (prepared d.time d.tasks)) d.curr has.wide has.apart).wide in
+    let all : All (IsToldIn d) (told_to_begin d) = All-append (IsToldIn d) back woken
     (each_task (IsKnown d.cpus d.used) (IsToldIn d) (told_by_replenishment d.time) d.tasks (λ t is. each_replenishment (IsToldIn d) d.time t (λ w at. told_known d d.time t w same is)) has.known)
-    (each_task (IsKnown d.cpus d.used) (IsToldIn d) (told_by_unblocking d.time) left (λ t is. each_unblocking (IsToldIn d) d.time t (λ w at. told_known d d.time t w same is)) (left_known d.cpus d.used d.time d.tasks has.known)))
+    (each_task (IsKnown d.cpus d.used) (IsToldIn d) (told_by_unblocking d.time) left (λ t is. each_unblocking (IsToldIn d) d.time t (λ w at. told_known d d.time t w same is)) (left_known d.cpus d.used d.time d.tasks has.known)) in
+    each_in_order (IsToldIn d) (map (at_home places) (told_to_begin d))
+    (All-map (IsToldIn d) (at_home places) (told_to_begin d) (All-weaker (IsToldIn d) (λ h. IsToldIn d (at_home places h)) (λ h is. home_in d places h wide is) (told_to_begin d) all))
 
 ending_in : (d : Domain) → All (IsKnown d.cpus d.used) d.tasks → All (IsToldIn (finished d)) (told_by_end d)
 ending_in d known =

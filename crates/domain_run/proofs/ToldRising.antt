@@ -21,7 +21,7 @@ use Rattle.domain_run.specs.Parts.{replenish_due, settled, is_listed, unblocked,
 use Rattle.domain_run.specs.Domain.{Domain}
 use Rattle.domain_run.specs.Tick.{begun, prepared, rate_of, ticks}
 use Rattle.domain_run.specs.Calls.{reply_to, is_refusal, granted, after_call}
-use Rattle.domain_run.specs.Happened.{told, due, job_due, passes_late_timer, told_by_segment, told_by_work, told_by_budget, told_by_run, told_if_ran, told_by_replenishment, told_by_wake, told_by_unblocking, rank, is_first, with_happened, in_order, told_by_beginning, told_by_end, told_by_tick, told_by_ticks, told_by_cut, told_by_granted, told_by_call}
+use Rattle.domain_run.specs.Happened.{told, due, job_due, passes_late_timer, told_by_segment, told_by_work, told_by_budget, told_by_run, told_if_ran, told_by_replenishment, told_by_wake, told_by_unblocking, rank, is_first, with_happened, in_order, at_home, told_to_begin, told_by_beginning, told_by_end, told_by_tick, told_by_ticks, told_by_cut, told_by_granted, told_by_call}
 use Rattle.domain_run.proofs.Keeping.{same_replenished, same_settled, AllPairs-map}
 use Rattle.domain_run.proofs.KeptKeys.{AreNumbered, ticks_numbered, others_first, others_rest}
 use Rattle.domain_run.proofs.OrderTicks.{prepared_apart}
@@ -213,9 +213,15 @@ replenished_are d = each_task IsWhichever (IsReplenishment d.time) (told_by_repl
 woken_are : (d : Domain) → All (IsWake d.time) (woken_tell d)
 woken_are d = each_task IsWhichever (IsWake d.time) (told_by_unblocking d.time) (left_listed d) (λ t which. each_unblocking (IsWake d.time) d.time t (λ w at. (refl, at))) (whichever (left_listed d))
 
+-- on another CPU each is what it was, of its kind and its number
+each_home : (P : Happened → Type 0) (d : Domain) → ((h : Happened) → P h → P (at_home (begun d).curr h)) → All P (told_to_begin d) → All P (told_by_beginning d)
+each_home P d keeps all =
+    let f = at_home (begun d).curr in
+    each_in_order P (map f (told_to_begin d)) (All-map P f (told_to_begin d) (All-weaker P (λ h. P (f h)) keeps (told_to_begin d) all))
+
 beginning_is : (d : Domain) → All (IsBeginning d.time) (told_by_beginning d)
 beginning_is d =
-    each_in_order (IsBeginning d.time) (replenished_tell d ++ woken_tell d)
+    each_home (IsBeginning d.time) d (λ h p. p)
     (All-append (IsBeginning d.time) (replenished_tell d) (woken_tell d)
     (All-weaker (IsReplenishment d.time) (IsBeginning d.time) (λ h p. (p.0, omega (arith, p.1))) (replenished_tell d) (replenished_are d))
     (All-weaker (IsWake d.time) (IsBeginning d.time) (λ h p. (p.0, omega (arith, p.1))) (woken_tell d) (woken_are d)))
@@ -235,13 +241,18 @@ own_replenishment time t = each_replenishment (λ h. h.number ≡ t.number) time
 own_unblocking : (time : ℕ) → OwnOf (told_by_unblocking time)
 own_unblocking time t = each_unblocking (λ h. h.number ≡ t.number) time t (λ w at. refl)
 
+pub beginning_apart : (d : Domain) → AreNumbered d.tasks → AllPairs IsApart (told_to_begin d)
+beginning_apart d numbered =
+    let across : All (λ a. All (IsApart a) (woken_tell d)) (replenished_tell d) = across_by (IsReplenishment d.time) (IsWake d.time) IsApart (replenished_tell d) (woken_tell d) (λ a b p q. by_rank a b (omega (arith, p.1, q.1))) (replenished_are d) (woken_are d) in
+    pairs_append IsApart (replenished_tell d) (woken_tell d)
+    (apart_tasks (told_by_replenishment d.time) d.tasks (own_replenishment d.time) (apart_replenishment d.time) numbered)
+    (apart_tasks (told_by_unblocking d.time) (left_listed d) (own_unblocking d.time) (apart_unblocking d.time) (left_numbered d numbered)) across
+
 beginning_rises : (d : Domain) → AreNumbered d.tasks → IsRising (told_by_beginning d)
 beginning_rises d numbered =
-    let across : All (λ a. All (IsApart a) (woken_tell d)) (replenished_tell d) = across_by (IsReplenishment d.time) (IsWake d.time) IsApart (replenished_tell d) (woken_tell d) (λ a b p q. by_rank a b (omega (arith, p.1, q.1))) (replenished_are d) (woken_are d) in
-    let apart : AllPairs IsApart (replenished_tell d ++ woken_tell d) = pairs_append IsApart (replenished_tell d) (woken_tell d)
-    (apart_tasks (told_by_replenishment d.time) d.tasks (own_replenishment d.time) (apart_replenishment d.time) numbered)
-    (apart_tasks (told_by_unblocking d.time) (left_listed d) (own_unblocking d.time) (apart_unblocking d.time) (left_numbered d numbered)) across in
-    rising_at d.time (told_by_beginning d) (All-weaker (IsBeginning d.time) (λ h. h.time ≡ d.time) (λ h p. p.0) (told_by_beginning d) (beginning_is d)) (in_order_first (replenished_tell d ++ woken_tell d) apart)
+    let f = at_home (begun d).curr in
+    let apart : AllPairs IsApart (map f (told_to_begin d)) = AllPairs-map IsApart f (λ a b h. h) (told_to_begin d) (beginning_apart d numbered) in
+    rising_at d.time (told_by_beginning d) (All-weaker (IsBeginning d.time) (λ h. h.time ≡ d.time) (λ h p. p.0) (told_by_beginning d) (beginning_is d)) (in_order_first (map f (told_to_begin d)) apart)
 
 ending_is : (d : Domain) → All (IsEnd (d.time + 1)) (told_by_end d)
 ending_is d =

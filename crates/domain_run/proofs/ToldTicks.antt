@@ -18,9 +18,9 @@ use Rattle.domain_run.specs.Domain.{Domain}
 use Rattle.domain_run.specs.Tick.{begun, rate_of, ticks}
 use Rattle.domain_run.specs.Jump.{under_way, ticks_to_due, ticks_to_due_of, ticks_to_event, running_numbers, AreCharged}
 use Rattle.domain_run.specs.Sound.{IsSteady, IsPlacement}
-use Rattle.domain_run.specs.Happened.{told, due, told_by_segment, told_by_work, told_by_budget, told_by_run, told_if_ran, told_by_replenishment, told_by_wake, told_by_unblocking, in_order, told_by_beginning, told_by_end, told_by_tick, told_by_ticks, told_by_last_end, passes_late_timer}
+use Rattle.domain_run.specs.Happened.{told, due, told_by_segment, told_by_work, told_by_budget, told_by_run, told_if_ran, told_by_replenishment, told_by_wake, told_by_unblocking, in_order, at_home, told_by_beginning, told_by_end, told_by_tick, told_by_ticks, told_by_last_end, passes_late_timer}
 use Rattle.domain_run.specs.private.Paying.{ran_until, index_of}
-use Rattle.domain_run.specs.private.Telling.{told_until, told_paid, told_paid_at, told_in_parts, told_in_pay}
+use Rattle.domain_run.specs.private.Telling.{told_until, told_paid, told_paid_at, told_of_parts, told_in_parts, told_in_pay}
 use Rattle.domain_run.proofs.Staying.{map_itself}
 use Rattle.domain_run.proofs.Jumping.{IsStill, still_before, rest_each, rest_alike, alike_slid, filter_whole, slid, slid_all, slid_none, Runs, RunsIf, rate_slid, less_twice, run_by, run_on, finished_slid, begun_still, ticks_slid}
 use Rattle.domain_run.proofs.Paying.{there, nowhere, charged_there, runs_each}
@@ -28,7 +28,7 @@ use Rattle.domain_run.proofs.ToldChanges.{told_nothing, told_alike}
 
 -- ---- parts 1 to 3 have nothing to do, and tell nothing
 
-parts_still : (time : ℕ) (tasks : List Task) → All (IsStill time) tasks → told_in_parts time tasks ≡ []
+parts_still : (time : ℕ) (tasks : List Task) → All (IsStill time) tasks → told_of_parts time tasks ≡ []
 parts_still time tasks still =
     let due_none : flat_map (told_by_replenishment time) tasks ≡ [] = told_nothing (told_by_replenishment time) tasks
     (All-weaker (IsStill time) (λ t. told_by_replenishment time t ≡ []) (λ t is. ap (λ b. cond b (told time t (Replenished (due (replenish_due time t))) ∷ []) []) is.due) tasks still) in
@@ -38,10 +38,10 @@ parts_still time tasks still =
     let lag : map (settled time) tasks ≡ tasks = map_itself (settled time) tasks (λ k d h. let t = get_or tasks k d in rw (still k d h).lag refl) in
     let listed : filter is_listed tasks ≡ tasks = filter_whole is_listed tasks (λ k d h. (still k d h).listed) in
     let same : filter is_listed (map (settled time) (map (replenish_due time) tasks)) ≡ tasks = ap (λ ts. filter is_listed (map (settled time) ts)) due ∙ ap (λ ts. filter is_listed ts) lag ∙ listed in
-    (λ i. in_order (due_none i ++ flat_map (told_by_unblocking time) (same i))) ∙ ap in_order over_none
+    (λ i. due_none i ++ flat_map (told_by_unblocking time) (same i)) ∙ over_none
 
 pub parts_none : (time : ℕ) (tasks : List Task) → All (IsStill time) tasks → told_in_parts time tasks ≡ []
-parts_none time tasks still = parts_still time tasks still
+parts_none time tasks still = ap in_order (parts_still time tasks still)
 
 beginning_still : (d : Domain) (j : ℕ) → 0 < j → j ≤ ticks_to_due (d.time + 1) (begun d).tasks → told_by_beginning (slid_all (begun d) j) ≡ []
 beginning_still d j some h =
@@ -49,8 +49,8 @@ beginning_still d j some h =
     let f = slid b j in
     let same = alike_slid b j in
     let c = slid_all b j in
-    parts_still c.time c.tasks (All-map (IsStill c.time) f b.tasks
-    (All-weaker (λ t. j ≤ ticks_to_due_of (d.time + 1) t) (λ t. IsStill c.time (f t)) (λ t k. still_before d.time j (f t) some (rw (rest_alike (d.time + 1) t (f t) (same t)) k)) b.tasks (rest_each (d.time + 1) j b.tasks h)))
+    ap (λ hs. in_order (map (at_home (begun c).curr) hs)) (parts_still c.time c.tasks (All-map (IsStill c.time) f b.tasks
+    (All-weaker (λ t. j ≤ ticks_to_due_of (d.time + 1) t) (λ t. IsStill c.time (f t)) (λ t k. still_before d.time j (f t) some (rw (rest_alike (d.time + 1) t (f t) (same t)) k)) b.tasks (rest_each (d.time + 1) j b.tasks h))))
 
 -- ---- a tick of running, behind so many
 

@@ -1,10 +1,10 @@
 -- What happens to the tasks of a domain, beside the switches: jobs that are released and end, budgets
 -- that are spent and replenished (own; job, release and deadline as in sched(7), "SCHED_DEADLINE",
 -- throttling and replenishment as in sched-deadline.rst, "2. Task scheduling").
-use Rattle.std.specs.Prelude.{ℕ, zero, suc, ◌+◌, ◌-◌, ◌==◌, Bool, ◌&&◌, ◌||◌, nat_lt, if◌then◌else◌, List, [], ◌∷◌, ◌++◌, map, filter, unwrap_or}
+use Rattle.std.specs.Prelude.{ℕ, zero, suc, ◌+◌, ◌-◌, ◌==◌, Bool, ◌&&◌, ◌||◌, nat_lt, if◌then◌else◌, List, [], ◌∷◌, ◌++◌, map, filter, position, unwrap_or}
 use Rattle.std.specs.List.{flat_map}
 use Rattle.cbs_rules.specs.Serving.{charged}
-use Rattle.edf_pick.specs.Places.{stands}
+use Rattle.edf_pick.specs.Places.{Places, is_task, stands}
 use Rattle.domain_run.specs.declared.task.Task.{Task}
 use Rattle.domain_run.specs.declared.script.Segment.{Segment}
 use Rattle.domain_run.specs.declared.script.Segment.TheVariants.{Run as RunFor, Until, Wait as WaitFor, End}
@@ -109,11 +109,20 @@ abbrev pub in_order : List Happened → List Happened
 in_order [] = []
 in_order (h ∷ others) = with_happened h (in_order others)
 
--- A TICK: what its beginning tells, and what its end
-abbrev pub told_by_beginning : Domain → List Happened
-told_by_beginning d = in_order (flat_map (told_by_replenishment d.time) d.tasks
+-- where its task stands on a CPU, on that one: the task belongs to it from then on
+abbrev pub at_home : Places → Happened → Happened
+at_home places h =
+    record h { cpu = unwrap_or (position (is_task h.number) places) h.cpu }
+
+-- A TICK: what its beginning tells, each on the CPU of its task behind the placement, and what its
+-- end
+abbrev pub told_to_begin : Domain → List Happened
+told_to_begin d = flat_map (told_by_replenishment d.time) d.tasks
     ++ flat_map (told_by_unblocking d.time)
-    (filter is_listed (map (settled d.time) (map (replenish_due d.time) d.tasks))))
+    (filter is_listed (map (settled d.time) (map (replenish_due d.time) d.tasks)))
+
+abbrev pub told_by_beginning : Domain → List Happened
+told_by_beginning d = in_order (map (at_home (begun d).curr) (told_to_begin d))
 
 abbrev pub told_by_end : Domain → List Happened
 told_by_end d = in_order (flat_map (told_if_ran d) d.tasks)

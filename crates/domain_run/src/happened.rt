@@ -31,6 +31,7 @@ pub struct Happened {
     pub what: What,
     /// The number of the task.
     pub number: u32,
-    /// The CPU of the domain to which it belongs then, from 0.
+    /// The CPU of the domain to which it belongs then, from 0; where a tick begins, once that tick has
+    /// placed its tasks.
     pub cpu: u16,
 }

@@ -1,9 +1,10 @@
 //! A log of what happens to the tasks of a domain.
 
-ghost use Rattle.std.specs.Prelude.{◌≡◌, ◌<◌, ◌≤◌, ◌+◌, [], ◌∷◌, true, false, length, OnOk, vec_len, vec_capacity};
+ghost use Rattle.std.specs.Prelude.{◌≡◌, ◌<◌, ◌≤◌, ◌+◌, [], ◌∷◌, true, false, length, position, OnOk, IfSome, vec_len, vec_capacity};
+ghost use Rattle.edf_pick.specs.Places.{is_task};
 ghost use Rattle.domain_run.specs.Happened as happened_spec;
 ghost use Rattle.domain_run.specs.Log.{Tells, HasRoom};
-ghost use Rattle.domain_run.specs.private.Telling.{Puts, PutsIn, IsPlaceOf, one_of, all_of};
+ghost use Rattle.domain_run.specs.private.Telling.{Puts, PutsIn, IsPlaceOf, GoesHome, GoHome, one_of, all_of};
 
 use crate::happened::{Happened, What};
 use crate::telling::Told;
@@ -79,6 +80,55 @@ fn put_in(happened: &mut Vec<Happened>, from: usize, one: Happened)
 {
     let place = place_of(happened, from, &one);
     happened.insert(place, one).unwrap();
+}
+
+// The CPU on which a task stands, if it stands on one.
+fn cpu_of(number: u32, places: &[Option<u32>]) -> Option<usize>
+    ensures cpu { result ≡ position (is_task number) places.now }
+    ensures within { IfSome result (λ cpu. cpu < length places.now) }
+{
+    places.iter().position(|occupant| *occupant == Some(number))
+}
+
+// One on the CPU where its task stands, if it stands on one.
+fn at_home(one: &Happened, places: &[Option<u32>]) -> Happened
+    requires narrow { length places.now ≤ 64 }
+    ensures { result ≡ happened_spec.at_home places.now one.now }
+{
+    match cpu_of(one.number, places) {
+        Some(cpu) => Happened {
+            cpu: cpu as u16,
+            ..*one
+        },
+        None => *one,
+    }
+}
+
+// Puts the one at a place on the CPU of its task, and in its place among those behind it.
+fn go_home(happened: &mut Vec<Happened>, place: usize, places: &[Option<u32>])
+    requires there { place < vec_len happened.old }
+    requires narrow { length places.now ≤ 64 }
+    ensures home { GoesHome places.now place happened.old.items happened.new.items }
+    ensures len { vec_len happened.new ≡ vec_len happened.old }
+    ensures room { vec_capacity happened.new ≡ vec_capacity happened.old }
+{
+    let one = happened.remove(place);
+    put_in(happened, place, at_home(&one, places));
+}
+
+// Puts each from this place on on the CPU of its task, and in its place among them: the last first.
+fn go_all_home(happened: &mut Vec<Happened>, from: usize, places: &[Option<u32>])
+    requires from { from ≤ vec_len happened.old }
+    requires narrow { length places.now ≤ 64 }
+    ensures home { GoHome places.now from happened.old.items happened.new.items }
+    ensures len { vec_len happened.new ≡ vec_len happened.old }
+    ensures room { vec_capacity happened.new ≡ vec_capacity happened.old }
+{
+    let mut place = happened.len();
+    while from < place {
+        place -= 1;
+        go_home(happened, place, places);
+    }
 }
 
 impl Log {
@@ -193,5 +243,17 @@ impl Log {
         self.put_if(from, told.third);
         self.put_if(from, told.second);
         self.put_if(from, told.first);
+    }
+
+    /// What was told from this place on is told on the CPUs where its tasks stand now, those that
+    /// stand on one, and has its place by those.
+    pub(crate) fn go_home(&mut self, from: usize, places: &[Option<u32>])
+        requires from { from ≤ length self.old.happened }
+        requires narrow { length places.now ≤ 64 }
+        ensures wanted { self.new.wanted ≡ self.old.wanted }
+        ensures home { GoHome places.now from self.old.happened self.new.happened }
+        ensures room { self.new.room ≡ self.old.room }
+    {
+        go_all_home(&mut self.happened, from, places);
     }
 }

@@ -241,7 +241,7 @@ fn list_running(running: &mut Vec<u32>, places: &[Option<u32>])
 }
 
 /// Parts 1 to 5: replenishment, zero-lag times, wake-ups, placement and the switches. The log is
-/// told what happens to the tasks. `before` is room.
+/// told what happens to the tasks, on the CPUs to which they belong then. `before` is room.
 pub(crate) fn begin(
     time: u64,
     roster: &mut Roster,
@@ -260,6 +260,7 @@ pub(crate) fn begin(
     requires homed { AreHomed places.old roster.old.tasks }
     requires wide { vec_len before.old ≡ length places.old }
     requires apart { IsApart places.old }
+    requires numbered { AllPairs (λ a b. a.number ≢ b.number) roster.old.tasks }
     requires room { vec_len switches.old + length places.old ≤ vec_capacity switches.old }
     ensures cpus { roster.new.cpus ≡ roster.old.cpus }
     ensures tasks { roster.new.tasks
@@ -275,15 +276,17 @@ pub(crate) fn begin(
     ensures before_room { vec_capacity before.new ≡ vec_capacity before.old }
     ensures running { running.new.items ≡ jump.running_numbers places.new }
     ensures runners { vec_capacity running.new ≡ vec_capacity running.old }
-    ensures told { Tells log.old (telling_spec.told_in_parts time roster.old.tasks) log.new }
+    ensures told { Tells log.old (telling_spec.told_at_home places.new time roster.old.tasks) log.new }
     ensures log { log.old.room ≤ log.new.room + 9 * length roster.old.tasks }
 {
+    let from = log.len();
     wake_all(roster, time, log);
     copy_places(before, places.occupants());
     edf_pick::pick(places, roster.ready());
     list_running(running, places.occupants());
     add_switches(switches, time, roster, before, places.occupants());
     home_all(roster, before, places.occupants(), time);
+    log.go_home(from, places.occupants());
 }
 
 /// Part 6 of so many ticks at once, up to a time: every running task has its budget, and its work

@@ -60,3 +60,10 @@ order : told_on 2 (admit 4 (plain 2 9 9) (once (Run 1 ∷ [])) ∷ admit 1 (plai
     ∷ admit 2 (plain 2 7 9) (once (Run 3 ∷ [])) ∷ Advance 1 ∷ [])
     ≡ at 0 2 0 (Released 7) ∷ at 0 4 0 (Released 9) ∷ at 0 1 1 (Released 8) ∷ at 1 1 1 JobEnds ∷ []
 order = refl
+
+-- BEHIND THE PLACEMENT: CPU 1 is home to both, and task 1, which is due sooner, stands there; so
+-- task 3 is released on CPU 0, where it is placed in the same tick, and before task 1
+placed_elsewhere : told_on 2 (admit 1 (plain 2 5 9) (once (Run 1 ∷ []))
+    ∷ admit 3 (plain 3 9 9) (once (Run 2 ∷ [])) ∷ Advance 1 ∷ [])
+    ≡ at 0 3 0 (Released 9) ∷ at 0 1 1 (Released 5) ∷ at 1 1 1 JobEnds ∷ []
+placed_elsewhere = refl

@@ -1,6 +1,7 @@
 -- What changes of tasks tell a log, for the code's own contracts.
 use Rattle.std.specs.Prelude.{ℕ, ℤ, pos, ◌≡◌, ◌-◌, ◌<◌, ◌≤◌, ◌==◌, ◌&&◌, ◌||◌, not, true, false, Bool, if◌then◌else◌, List, [], ◌∷◌, ◌++◌, length, map, filter, slice_index_or, Option, Some, None}
 use Rattle.std.specs.List.{flat_map}
+use Rattle.edf_pick.specs.Places.{Places}
 use Rattle.domain_run.specs.declared.task.Task.{Task}
 use Rattle.domain_run.specs.declared.change.Change.{Change}
 use Rattle.domain_run.specs.declared.change.Change.TheVariants.{Replenish, Settle, Unblock, Home, Run, Regrade, Release, End, Depart}
@@ -10,7 +11,7 @@ use Rattle.domain_run.specs.declared.happened.Happened.{Happened}
 use Rattle.domain_run.specs.declared.telling.Before.{Before}
 use Rattle.domain_run.specs.declared.telling.Told.{Told}
 use Rattle.domain_run.specs.Conditions.{is_ready, is_throttled, is_contending, is_over}
-use Rattle.domain_run.specs.Happened.{told, due, job_due, passes_late_timer, told_by_work, told_by_budget, told_by_replenishment, told_by_unblocking, is_first, with_happened, in_order}
+use Rattle.domain_run.specs.Happened.{told, due, job_due, passes_late_timer, told_by_work, told_by_budget, told_by_replenishment, told_by_unblocking, is_first, with_happened, in_order, at_home}
 use Rattle.domain_run.specs.Parts.{replenish_due, settled, is_listed}
 use Rattle.domain_run.specs.Log.{LogView, kept}
 use Rattle.domain_run.specs.private.Paying.{ran_until, index_of}
@@ -47,11 +48,18 @@ told_paid time running ticks budgets t = told_paid_at time ticks budgets (index_
 abbrev pub IsQuietPart : ℕ → Change → Type 0
 IsQuietPart time change = (t : Task) → time < due_of t → told_by_change time change t ≡ []
 
--- parts 1 to 3 of a list
-abbrev pub told_in_parts : ℕ → List Task → List Happened
-told_in_parts time tasks = in_order (flat_map (told_by_replenishment time) tasks
+-- parts 1 to 3 of a list, task by task and in order
+abbrev pub told_of_parts : ℕ → List Task → List Happened
+told_of_parts time tasks = flat_map (told_by_replenishment time) tasks
     ++ flat_map (told_by_unblocking time)
-    (filter is_listed (map (settled time) (map (replenish_due time) tasks))))
+    (filter is_listed (map (settled time) (map (replenish_due time) tasks)))
+
+abbrev pub told_in_parts : ℕ → List Task → List Happened
+told_in_parts time tasks = in_order (told_of_parts time tasks)
+
+-- behind the placement of part 4
+abbrev pub told_at_home : Places → ℕ → List Task → List Happened
+told_at_home places time tasks = in_order (map (at_home places) (told_of_parts time tasks))
 
 -- part 6 of a list, so many ticks at once
 abbrev pub told_in_pay : ℕ → List ℕ → ℕ → List ℤ → List Task → List Happened
@@ -139,3 +147,14 @@ pub record Puts (from : ℕ) (told : List Happened) (before after : LogView) : T
   pub wanted : after.wanted ≡ before.wanted
   pub put : (base others : List Happened) → length base ≡ from → before.happened ≡ base ++ others
       → after.happened ≡ base ++ put_all (kept before told) others
+
+-- HOMES. The one at a place has the CPU of its task, and its place among those behind it
+abbrev pub GoesHome : Places → ℕ → List Happened → List Happened → Type 0
+GoesHome places place before after = (base : List Happened) (one : Happened) (others : List Happened)
+    → length base ≡ place → before ≡ base ++ one ∷ others
+    → after ≡ base ++ with_happened (at_home places one) others
+
+-- so has each from this place on
+abbrev pub GoHome : Places → ℕ → List Happened → List Happened → Type 0
+GoHome places from before after = (base others : List Happened) → length base ≡ from
+    → before ≡ base ++ others → after ≡ base ++ in_order (map (at_home places) others)

@@ -16,8 +16,9 @@ use no_memory::NoMemory;
 
 impl State {
     /// As [`State::begin`], and the log is told what that tells: replenishments, releases, and wakes
-    /// without budget, in the order of "Happened". Room for it, and for what the tick's end will
-    /// tell, is made first: on `Err` nothing has changed, and nothing is told.
+    /// without budget, each on the CPU to which its task belongs once all are placed, in the order of
+    /// "Happened". Room for it, and for what the tick's end will tell, is made first: on `Err`
+    /// nothing has changed, and nothing is told.
     pub fn begin_told(&mut self, log: &mut Log) -> Result<(), NoMemory>
         requires { self.old.time < 2 ^ 42 }
         ensures ok { OnOk result (self.new ≡ jump.under_way self.old) }

@@ -1,4 +1,4 @@
-use Rattle.std.proofs.Common.{List, ℕ, length, sym, ap, ◌∙◌, arith, map, subst}
+use Rattle.std.proofs.Common.{◌≡◌, ◌+◌, List, [], ℕ, length, sym, ap, ◌∙◌, arith, map, subst}
 use Rattle.edf_pick.specs.Places.{Places, placed}
 use Rattle.domain_run.specs.declared.task.Task.{Task}
 use Rattle.domain_run.specs.Tick.{candidates}
@@ -8,6 +8,13 @@ use Rattle.domain_run.specs.Parts.{with_last_cpu}
 use Rattle.domain_run.specs.Sound.{IsApart}
 use Rattle.domain_run.specs.private.RunQueue.{AreHomed}
 use Rattle.domain_run.proofs.AtHome.{homed_prepared, homed_placed}
+use Rattle.std.proofs.lemmas.List.{length-append}
+use Rattle.domain_run.specs.declared.happened.Happened.{Happened}
+use Rattle.domain_run.specs.Domain.{Domain}
+use Rattle.domain_run.specs.Log.{kept}
+use Rattle.domain_run.specs.private.Telling.{told_of_parts, told_in_parts, told_at_home, GoHome}
+use Rattle.domain_run.proofs.ToldHome.{home_in_order, tells_home}
+use Rattle.domain_run.proofs.ToldRising.{beginning_apart}
 use Rattle.domain_run.proofs.sweep.begin.Goals as goal
 
 pub add_switches-requires-clause-same : goal.add_switches-requires-clause-same
@@ -69,3 +76,36 @@ returns-clause-homed c =
     let places = c.pick.new.placement in
     let tasks = c.wake_all.new.roster.tasks in
     subst (AreHomed places) (sym (c.home_all.ensures.tasks ∙ ap (λ (ps : Places). map (with_last_cpu ps) tasks) c.occupants-4.ensures.occupants)) (homed_placed places tasks)
+
+pub go_home-requires-clause-from : goal.go_home-requires-clause-from
+go_home-requires-clause-from c =
+    let log = c.args.log.now in
+    let told = told_in_parts c.args.time c.args.roster.now.tasks in
+    let len : List Happened → ℕ = λ hs. length hs in
+    omega (arith, c.len-from.ensures, ap len c.wake_all.ensures.told.happened, length-append log.happened (kept log told))
+
+pub go_home-requires-clause-narrow : goal.go_home-requires-clause-narrow
+go_home-requires-clause-narrow c =
+    let before = c.args.places.now in
+    let seating = placed_seating c.ready.result.now c.wake_all.new.roster.tasks before c.pick.new.placement c.ready.ensures.ready c.ready.ensures.numbered c.requires.apart c.pick.ensures in
+    let len : Places → ℕ = λ ps. length ps in
+    omega (arith, ap len c.occupants-5.ensures.occupants, seating.wide, c.requires.cpus, c.requires.narrow)
+
+-- what the parts told, in the order of the CPUs before the placement, is put in that of those behind it
+pub returns-clause-told : goal.returns-clause-told
+returns-clause-told c =
+    let time = c.args.time in
+    let tasks = c.args.roster.now.tasks in
+    let log = c.args.log.now in
+    let woken = c.wake_all.new.log in
+    let after = c.go_home.new.self in
+    let places : Places = c.pick.new.placement in
+    let d : Domain = record { cpus = 0; limit = 0; time = time; tasks = tasks; used = []; curr = places; switches = [] } in
+    let homes : GoHome places (length log.happened) woken.happened after.happened =
+        subst (λ (n : ℕ). GoHome places n woken.happened after.happened) c.len-from.ensures
+        (subst (λ (ps : Places). GoHome ps c.len-from.result woken.happened after.happened) c.occupants-5.ensures.occupants c.go_home.ensures.home) in
+    tells_home places (told_in_parts time tasks) (told_at_home places time tasks) log woken after
+    (home_in_order places (told_of_parts time tasks) (beginning_apart d c.requires.numbered)) c.wake_all.ensures.told c.go_home.ensures.wanted homes
+
+pub returns-clause-log : goal.returns-clause-log
+returns-clause-log c = omega (arith, c.wake_all.ensures.room, c.go_home.ensures.room)

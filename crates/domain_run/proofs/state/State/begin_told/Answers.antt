@@ -1,4 +1,4 @@
-use Rattle.std.proofs.Common.{◌+◌, ◌<◌, ◌^◌, [], refl, sym, ap, ◌∙◌, subst, arith}
+use Rattle.std.proofs.Common.{◌≡◌, ◌+◌, ◌<◌, ◌^◌, [], refl, sym, ap, ◌∙◌, subst, arith}
 use Rattle.domain_run.specs.Domain.{Domain}
 use Rattle.domain_run.specs.Jump.{under_way}
 use Rattle.domain_run.specs.Sound.{IsDomain, IsPlacement}
@@ -6,6 +6,7 @@ use Rattle.domain_run.proofs.Ticking.{middle}
 use Rattle.domain_run.proofs.Paying.{under_way_is}
 use Rattle.domain_run.specs.Happened.{told_by_beginning}
 use Rattle.domain_run.specs.Log.{Tells}
+use Rattle.domain_run.specs.private.Telling.{told_at_home}
 use Rattle.domain_run.proofs.Logging.{tells_more}
 use Rattle.domain_run.proofs.state.State.begin_told.Goals as goal
 
@@ -60,9 +61,16 @@ pub returns-clause-told : goal.returns-clause-told
 returns-clause-told c =
     let s = c.self.inside in
     let d : Domain = record { cpus = s.cpus; limit = s.limit; time = s.time; tasks = s.roster.tasks; used = s.used; curr = s.curr; switches = s.switches.items } in
-    let all = tells_more [] (told_by_beginning d) c.args.log.now c.make_room.new.self c.begin.new.log c.make_room.ensures.told c.begin.ensures.told in
+    let b = c.begin.new in
+    let m = middle d b.roster.tasks b.places b.switches.items c.self.invariant.domain c.begin.ensures.prepared c.begin.ensures.tasks c.begin.ensures.places (c.begin.ensures.switches ∙ rw c.try_reserve.ensures.items refl) in
+    let home : told_at_home b.places d.time d.tasks ≡ told_by_beginning d = ap (λ (x : Domain). told_at_home x.curr d.time d.tasks) m.begun_is in
+    let told : Tells c.make_room.new.self (told_by_beginning d) c.begin.new.log = subst (λ hs. Tells c.make_room.new.self hs c.begin.new.log) home c.begin.ensures.told in
+    let all = tells_more [] (told_by_beginning d) c.args.log.now c.make_room.new.self c.begin.new.log c.make_room.ensures.told told in
     subst (λ (x : Domain). Tells c.args.log.now (told_by_beginning x) c.begin.new.log) c.self.view_is all
 
 pub returns-clause-room : goal.returns-clause-room
 returns-clause-room c wanted =
     omega (arith, c.in_ok-make_room.ensures.ok (sym c.begin.ensures.told.wanted ∙ wanted), c.begin.ensures.log, c.len.ensures.len)
+
+pub begin-requires-clause-numbered : goal.begin-requires-clause-numbered
+begin-requires-clause-numbered c = c.self.invariant.domain.steady.numbered
