@@ -45,6 +45,55 @@ ONE_MORE = [*MODEL[:3], (7000, IDLE, "b"), (8000, "b", IDLE), *MODEL[3:]]
 NAMES = [(0, IDLE, "a = b: c"), (2000, "a = b: c", IDLE)]
 BAD = "a-1 [000] d..2. 0.000000: sched_switch: prev_comm=a prev_pid=1 next_prio=x\n"
 
+# A task that is throttled inside its job, as dlsim writes it; the same on Linux 6.18, as tracefs told it, with lines before the start and two
+# runs of some us; and two hours later, by lines of trace-cmd, of perf and of Linux 5.x, with a run more and one too long.
+THROTTLED = """\
+          <idle>-0       [000] d..2.     0.000000: sched_switch: prev_comm=swapper/0 prev_pid=0 prev_prio=120 prev_state=R ==> next_comm=a next_pid=1 next_prio=-1
+               a-1       [000] d..2.     0.002000: sched_switch: prev_comm=a prev_pid=1 prev_prio=-1 prev_state=R+ ==> next_comm=swapper/0 next_pid=0 next_prio=120
+          <idle>-0       [000] d..2.     0.005000: sched_switch: prev_comm=swapper/0 prev_pid=0 prev_prio=120 prev_state=R ==> next_comm=a next_pid=1 next_prio=-1
+               a-1       [000] d..2.     0.007000: sched_switch: prev_comm=a prev_pid=1 prev_prio=-1 prev_state=X ==> next_comm=swapper/0 next_pid=0 next_prio=120
+"""
+LINUX_6 = """\
+# tracer: nop
+#           TASK-PID     CPU#  |||||  TIMESTAMP  FUNCTION
+               a-31968   [003] d..2.  1678.596032: sched_switch: prev_comm=a prev_pid=31968 prev_prio=-1 prev_state=S ==> next_comm=dlreal next_pid=31966 next_prio=120
+          filler-31967   [003] d..2.  1678.598029: sched_switch: prev_comm=filler prev_pid=31967 prev_prio=120 prev_state=R ==> next_comm=a next_pid=31968 next_prio=-1
+               a-31968   [003] d..2.  1678.598033: sched_switch: prev_comm=a prev_pid=31968 prev_prio=-1 prev_state=S ==> next_comm=filler next_pid=31967 next_prio=120
+          filler-31967   [003] d..2.  1678.696056: sched_switch: prev_comm=filler prev_pid=31967 prev_prio=120 prev_state=R ==> next_comm=a next_pid=31968 next_prio=-1
+               a-31968   [003] d..2.  1678.698054: sched_switch: prev_comm=a prev_pid=31968 prev_prio=-1 prev_state=R ==> next_comm=filler next_pid=31967 next_prio=120
+          filler-31967   [003] d..2.  1678.701058: sched_switch: prev_comm=filler prev_pid=31967 prev_prio=120 prev_state=R ==> next_comm=a next_pid=31968 next_prio=-1
+               a-31968   [003] d..2.  1678.703057: sched_switch: prev_comm=a prev_pid=31968 prev_prio=-1 prev_state=R ==> next_comm=filler next_pid=31967 next_prio=120
+          filler-31967   [003] d..2.  1678.706053: sched_switch: prev_comm=filler prev_pid=31967 prev_prio=120 prev_state=R ==> next_comm=a next_pid=31968 next_prio=-1
+               a-31968   [003] d..2.  1678.706109: sched_switch: prev_comm=a prev_pid=31968 prev_prio=-1 prev_state=X ==> next_comm=filler next_pid=31967 next_prio=120
+"""
+LATER_LINES = """\
+ <idle>-0 [003] 7200.000000: sched_switch:    swapper/3:0 [120] R ==> a:7 [-1]
+ a 7 [003] 7200.002000:    sched:sched_switch: prev_comm=a prev_pid=7 prev_prio=-1 prev_state=S ==> next_comm=b next_pid=8 next_prio=120
+               b-8       [003] d..2  7200.003000: sched_switch: prev_comm=b prev_pid=8 prev_prio=120 prev_state=R ==> next_comm=a next_pid=7 next_prio=-1
+               a-7       [003] d..2  7200.003500: sched_switch: prev_comm=a prev_pid=7 prev_prio=-1 prev_state=S ==> next_comm=b next_pid=8 next_prio=120
+ b-8 [000] 7200.005000: sched_switch: b:8 [120] R ==> a:7 [-1]
+ a-7 [000] 7200.008001: sched_switch: a:7 [-1] S ==> swapper/0:0 [120]"""
+AS_RECORDED = """\
+shift 1678.696056 s
+#          task   runs recorded matched  start_p50 start_p95 start_max   end_p50   end_p95   end_max    cpu_us rec_cpu_us
+              a      2        2       2          0         2         2         1         2         2      4000       3997
+first difference: none
+"""
+DIFFERENT = """\
+shift 7200.000000 s
+#          task   runs recorded matched  start_p50 start_p95 start_max   end_p50   end_p95   end_max    cpu_us rec_cpu_us
+              a      2        2       1          0         0         0         0         0         0      4000       2500
+same cpu 0 of 1
+first difference: model run 1 of a, 0.005000 to 0.007000 s, nearest recorded 7200.005000 to 7200.008001 s
+first difference: recorded run 1 of a, 7200.003000 to 7200.003500 s
+"""
+# Bytes that are no line, one that is, and a bad one in line 3; texts whose third line is bad.
+HOSTILE_MODEL = (
+    " x-1 [000] 0.000001: sched_switch: a:1 [0] S ==> \xff\0 =:b:2 [-1]\r\n\n x-1 [65535] 1099511627775.999999: sched_switch: ==> :0 [9]\xfe [-999999999999999999]"
+)
+HOSTILE = "\0\xff [000] 1.0: sched_switch\n: sched_switch: \n9.999999: sched_switch: next_prio=\n"
+BAD_AT_3 = "\n\n a [0] 1.000000: sched_switch: a:7 [-1] S ==> b:8\n"
+
 HEADER = "#          task   runs recorded matched  start_p50 start_p95 start_max   end_p50   end_p95   end_max    cpu_us rec_cpu_us\n"
 NOTHING = ("-", "-", "-")
 EXACT = (0, 0, 0)
@@ -135,6 +184,13 @@ ROWS = [
         model=NAMES,
     ),
     matches("bytes that are no text", "\0\xff : sched_switch: \n" + recording(*MODEL) + "x" * 100000, ALL),
+    Comparison("throttled inside a job, on Linux", "MODEL RECORDED", THROTTLED, LINUX_6, 0, AS_RECORDED, ""),
+    Comparison("a run too long and one more, in several spellings", "--cpus MODEL RECORDED", THROTTLED, LATER_LINES, 0, DIFFERENT, ""),
+    matches(
+        "1001 us too long",
+        recording(*MODEL[:4], (13001, "a", IDLE)),
+        AT_0 + HEADER + ONE_A + B + MISSING_A + "0.010000 to 0.013001 s\n",
+    ),
     matches("standard input for the recording", recording(*MODEL), ALL, words="MODEL -"),
     matches("standard input for the model", recording(*MODEL), ALL, words="- RECORDED"),
     fault("a bad line of the model", 1, "dlsim: trace line 2 in model.txt\n", model="# tracer: nop\n" + BAD, recorded=BAD),
@@ -142,6 +198,11 @@ ROWS = [
     fault("a bad line of standard input", 1, "dlsim: trace line 1 in standard input\n", words="MODEL -", recorded=BAD),
     fault("no switch in the model", 1, "dlsim: no switch in model.txt\n", model="# tracer: nop\n", recorded=""),
     fault("no switch in the recording", 1, "dlsim: no switch in recorded.txt\n", recorded="a-1 [000] 0.000000: sched_wakeup: comm=a\n"),
+    fault("a bad line of the model, before the recording is read", 1, "dlsim: trace line 3 in model.txt\n", model=BAD_AT_3, recorded="# nothing\n"),
+    fault("no switch in the model, before the recording is read", 1, "dlsim: no switch in model.txt\n", model="# nothing\n", recorded=BAD_AT_3),
+    fault("a bad third line", 1, "dlsim: trace line 3 in recorded.txt\n", recorded=BAD_AT_3),
+    fault("hostile bytes of the model", 1, "dlsim: trace line 3 in model.txt\n", model=HOSTILE_MODEL, recorded=HOSTILE),
+    fault("hostile bytes of the recording", 1, "dlsim: trace line 3 in recorded.txt\n", recorded=HOSTILE),
     fault("both are standard input", 2, "dlsim: both traces are standard input\n", words="- -"),
     fault("a file that is not there", 3, "dlsim: cannot open none.txt\n", words="MODEL none.txt"),
     fault("a name with a line break", 3, "dlsim: cannot open a\\u000ab\n", words="'a\nb' RECORDED"),

@@ -70,6 +70,12 @@ def replies(name, lines):
     return answered(name, "replay", calls(f"dlcalls {form}", *(line.partition(" = ")[0] for line in lines)), lines)
 
 
+def again(name, text, *replied):
+    """A text whose lines the program writes again, each call with its reply behind it."""
+    left = iter(replied)
+    return answered(name, "replay", text, [line if line.startswith("domain ") else f"{line} = {next(left)}" for line in text.splitlines()[1:]])
+
+
 def bad(name, text, line):
     return Row(name, "replay", text, 1, "", f"dlsim: calls 30 line {line}\n")
 
@@ -194,6 +200,7 @@ FEW = {
     ],
 }
 SECOND_FORM = ("limit ", "depart ", "arrive ")
+LONGEST_PHASE = f"1000000000{{{'r1000000000,' * 63}r1000000000}}"
 BUSY = "".join(f"dlsim: task {n} EBUSY 16 seen 1572864\n" for n in range(4, 9))
 
 TEXTS = [
@@ -234,6 +241,21 @@ TEXTS = [
         ((1, 0), IDLE, "R", T1),
         ((0, 4), T2, "S", IDLE),
         ((1, 4), T1, "S", T3),
+    ),
+    replayed(
+        "timer_cursor: at 20 the timer's 16 is past, and the script goes on, so that the next time is 28",
+        [DOMAIN, "admit 1 1 a 16 32 32 - 0 -1:1{r4,t8}", "admit 1 2 b 8 16 16 - 8 1:1{r8}", "advance 1 30"],
+        (0, IDLE, "R", A),
+        (4, A, "S", IDLE),
+        (8, IDLE, "R", B),
+        (16, B, "X", A),
+        (24, A, "S", IDLE),
+        (28, IDLE, "R", A),
+    ),
+    replayed(
+        "the longest script answers at once",
+        [DOMAIN, f"admit 1 1 a 2 5 5 - 0 1000000000:{LONGEST_PHASE * 64}", "advance 1 1"],
+        (0, IDLE, "R", A),
     ),
     replayed(
         "waiting: a task that is woken runs in the next tick",
@@ -553,6 +575,15 @@ MOVED = calls(
 MOVE_ENDS = calls(
     "dlcalls 2", "domain 1 10485", "arrive 64 65535 ~ 4294967296 4294967296 4294967296 R 1000000000:1{w}", "depart 64 65535"
 )
+AGAIN = [
+    again("every kind of call, again", ALL_KINDS, "Admitted", "Admitted", "Changed", "Changed", "EBUSY 16 seen 0", "NotWaiting 42", "Left", "Done 60000000"),
+    again("two sections, again", TWO_SECTIONS, "Done 1", "Done 1", "Done 2", "Done 3"),
+    again("a change of the limit, again", CHANGED_RATE, "Admitted", "Done 4", "Set", "Done 5"),
+    again("a limit that the word refused, again", REFUSED, "Done 1", "EBUSY 16 seen 262144"),
+    again("the least and the greatest limits, again", LIMIT_ENDS, "Set", "EBUSY 16 seen 0", "EBUSY 16 seen 67108864", "Set"),
+    again("a move, again", MOVED, "Admitted", "Done 1", "Departed", "Done 2", "Done 5", "Admitted", "Done 3"),
+    again("an arrival alone, again", MOVE_ENDS, "EBUSY 16 seen 0", "ESRCH 3"),
+]
 # It runs from 0 on; where it has gone, it stops at 1.
 RUNS = trace((0, IDLE, "R", A))
 GOES = trace((0, IDLE, "R", A), (1, A, "X", IDLE))
@@ -603,4 +634,4 @@ LONG = [
     Row("a minute", "run", ONE_MINUTE, 0, trace(*one_minute()), ""),
 ]
 
-ROWS = [*TEXTS, *BAD_LINES, *NO_JSON, *COUNTS, *fronts(), *LONG]
+ROWS = [*TEXTS, *AGAIN, *BAD_LINES, *NO_JSON, *COUNTS, *fronts(), *LONG]

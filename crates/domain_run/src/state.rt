@@ -1,6 +1,6 @@
 //! A root domain: the state between two ticks, and what changes it.
 
-ghost use Rattle.std.specs.Prelude.{◌≡◌, ◌<◌, ◌≤◌, ◌^◌, OnOk, IfOk, None, vec_len, vec_capacity, IsTrue, IfErr};
+ghost use Rattle.std.specs.Prelude.{◌≡◌, ◌<◌, ◌≤◌, ◌^◌, OnOk, IfOk, None, length, vec_len, vec_capacity, IsTrue, IfErr};
 ghost use Rattle.domain_run.specs.declared.call.Call.TheVariants as Call;
 ghost use Rattle.domain_run.specs.declared.call.Reply.TheVariants as Reply;
 ghost use Rattle.domain_run.specs.Domain.{IsCpus, IsLimit, opened};
@@ -16,8 +16,6 @@ mod cutting;
 mod jumps;
 mod lending;
 mod machine;
-#[cfg(test)]
-mod tests;
 mod ticking;
 
 use crate::call::{Refused, Reply};
@@ -134,6 +132,14 @@ impl State {
         ensures domain { IsDomain self.now }
     {
         &self.switches
+    }
+
+    /// How many switches there is room for, those so far among them. Only [`State::tick`] and
+    /// [`State::begin`] change it, since no other call takes memory.
+    pub fn room(&self) -> usize
+        ensures { length self.now.switches ≤ result }
+    {
+        self.switches.capacity()
     }
 
     /// The bandwidth of all listed tasks, in 1/2^20 of a CPU, also of those that have ended and

@@ -11,7 +11,7 @@ use std::sync::atomic::{AtomicBool, AtomicUsize, Ordering};
 use std::test::Fail;
 use std::thread::{Threads, sleep};
 use std::time::{Clock, Duration};
-use tick_split::{Plan, Slice, StartFault, Turn, charge, charge_all, plan, plan_all};
+use tick_split::{Plan, Slice, StartFault, Turn, charge_all, plan_all};
 
 // Has no interest in turns.
 struct Silent;
@@ -52,21 +52,6 @@ fn plans() -> Result<[Plan; 3], AttrRefusal>
     Ok([half(4194304)?, half(551883)?, half(551884)?])
 }
 
-fn eight_plans() -> Result<[Plan; 8], AttrRefusal>
-    ensures { IfOk result (All IsPlannable) }
-{
-    Ok([
-        half(1)?,
-        half(2)?,
-        half(3)?,
-        half(4)?,
-        half(5)?,
-        half(6)?,
-        half(7)?,
-        half(8)?,
-    ])
-}
-
 const PLANNED: [(u64, u64); 3] = [(551883, 8), (551883, 1), (551883, 2)];
 
 fn outcomes(plans: &[Plan; 3]) -> [(u64, u64); 3] {
@@ -100,52 +85,6 @@ const CHARGED: [i128; 3] = [-220760, 0, -59999999];
 
 fn lefts(slices: &[Slice; 3]) -> [i128; 3] {
     [slices[0].left, slices[1].left, slices[2].left]
-}
-
-fn planned_by<R: Threads + Wait>(
-    rt: &R,
-    alloc: Global,
-    workers: usize,
-) -> Result<[(u64, u64); 3], Fail>
-    requires { 0 < workers }
-{
-    let mut all = plans()?;
-    plan_all(rt, alloc, &mut all, workers, &Silent)?;
-    Ok(outcomes(&all))
-}
-
-fn charged_by<R: Threads + Wait>(
-    rt: &R,
-    alloc: Global,
-    workers: usize,
-) -> Result<[i128; 3], StartFault>
-    requires { 0 < workers }
-{
-    let mut all = slices();
-    charge_all(rt, alloc, &mut all, workers, &Silent)?;
-    Ok(lefts(&all))
-}
-
-// slices_and_plans: by one worker, by two and by eight.
-#[test]
-fn slices_and_plans(rt: HostRuntime) -> Result<(), Fail> {
-    assert_eq!(rt; charged_by(&rt, rt.alloc(), 1)?, CHARGED);
-    assert_eq!(rt; charged_by(&rt, rt.alloc(), 2)?, CHARGED);
-    assert_eq!(rt; charged_by(&rt, rt.alloc(), 8)?, CHARGED);
-    assert_eq!(rt; planned_by(&rt, rt.alloc(), 1)?, PLANNED);
-    assert_eq!(rt; planned_by(&rt, rt.alloc(), 2)?, PLANNED);
-    assert_eq!(rt; planned_by(&rt, rt.alloc(), 8)?, PLANNED);
-    Ok(())
-}
-
-#[test]
-fn one_element_alone(rt: HostRuntime) -> Result<(), Fail> {
-    let mut task = half(4194304)?;
-    plan(&mut task);
-    let [mut first, _, _] = slices();
-    charge(&mut first);
-    assert_eq!(rt; (task.rate, task.spent, first.left), (551883, 8, -220760));
-    Ok(())
 }
 
 // Two pieces in an order: the second begins when the first has ended, or is late after ten seconds.
@@ -222,116 +161,6 @@ fn two_workers_wait_for_each_other(rt: HostRuntime) -> Result<(), Fail> {
     Ok(())
 }
 
-// How often each piece was begun and ended: a hexadecimal digit for each, the lowest for piece 0.
-#[derive(Drop)]
-struct Tally {
-    begun: AtomicUsize,
-    ended: AtomicUsize,
-}
-
-fn digit(piece: usize) -> usize {
-    match piece {
-        0 => 0x1,
-        1 => 0x10,
-        2 => 0x100,
-        3 => 0x1000,
-        4 => 0x10000,
-        5 => 0x100000,
-        6 => 0x1000000,
-        7 => 0x10000000,
-        _ => 0x100000000,
-    }
-}
-
-impl Turn for Tally {
-    fn begin(&self, piece: usize) {
-        self.begun.fetch_add(digit(piece), Ordering::SeqCst);
-    }
-
-    fn end(&self, piece: usize) {
-        self.ended.fetch_add(digit(piece), Ordering::SeqCst);
-    }
-}
-
-impl Tally {
-    fn new() -> Tally {
-        Tally {
-            begun: AtomicUsize::new(0),
-            ended: AtomicUsize::new(0),
-        }
-    }
-
-    fn told(&self) -> (usize, usize) {
-        let begun = self.begun.load(Ordering::SeqCst);
-        (begun, self.ended.load(Ordering::SeqCst))
-    }
-}
-
-fn turns_of<R: Threads + Wait>(
-    rt: &R,
-    alloc: Global,
-    all: &mut [Slice],
-    workers: usize,
-) -> Result<(usize, usize), StartFault>
-    requires some { 0 < workers }
-    requires all { All IsChargeable all.old }
-{
-    let tally = Tally::new();
-    charge_all(rt, alloc, all, workers, &tally)?;
-    Ok(tally.told())
-}
-
-// With three slices, by so many workers.
-fn turns_of_three<R: Threads + Wait>(
-    rt: &R,
-    alloc: Global,
-    workers: usize,
-) -> Result<(usize, usize), StartFault>
-    requires { 0 < workers }
-{
-    turns_of(rt, alloc, &mut slices(), workers)
-}
-
-// With eight slices, by so many workers.
-fn turns_of_eight<R: Threads + Wait>(
-    rt: &R,
-    alloc: Global,
-    workers: usize,
-) -> Result<(usize, usize), StartFault>
-    requires { 0 < workers }
-{
-    let [a, b, c] = slices();
-    turns_of(rt, alloc, &mut [a, b, c, a, b, c, a, b], workers)
-}
-
-// With eight plans, by so many workers.
-fn turns_of_eight_plans<R: Threads + Wait>(
-    rt: &R,
-    alloc: Global,
-    workers: usize,
-) -> Result<(usize, usize), Fail>
-    requires { 0 < workers }
-{
-    let tally = Tally::new();
-    plan_all(rt, alloc, &mut eight_plans()?, workers, &tally)?;
-    Ok(tally.told())
-}
-
-// There are as many pieces as workers, but no more than elements.
-#[test]
-fn each_piece_has_one_turn(rt: HostRuntime) -> Result<(), Fail> {
-    let alloc = rt.alloc();
-    assert_eq!(rt; turns_of_three(&rt, alloc, 1)?, (0x1, 0x1));
-    assert_eq!(rt; turns_of_three(&rt, alloc, 2)?, (0x11, 0x11));
-    assert_eq!(rt; turns_of_three(&rt, alloc, 8)?, (0x111, 0x111));
-    assert_eq!(rt; turns_of(&rt, alloc, &mut [], 8)?, (0, 0));
-    for (workers, ones) in [(1, 0x1), (3, 0x111), (8, 0x11111111), (9, 0x11111111)] {
-        assert_eq!(rt; turns_of_eight(&rt, alloc, workers)?, (ones, ones));
-        assert_eq!(rt; turns_of_eight_plans(&rt, alloc, workers)?, (ones, ones));
-    }
-    Ok(())
-}
-
 // The number of the thread that calls, as Linux tells it, or else 0.
 fn thread_number(rt: &HostRuntime) -> usize {
     let mut bytes = [0; 32];
@@ -353,69 +182,137 @@ fn thread_number(rt: &HostRuntime) -> usize {
     number
 }
 
-// How many turns were taken in another thread than the caller's.
+// How often each piece was begun and ended, a hexadecimal digit for each, the lowest for piece 0;
+// and how many turns were taken in another thread than the caller's.
 #[derive(Drop)]
-struct Elsewhere {
+struct Tally {
     rt: HostRuntime,
     caller: usize,
-    turns: AtomicUsize,
+    begun: AtomicUsize,
+    ended: AtomicUsize,
+    elsewhere: AtomicUsize,
 }
 
-impl Turn for Elsewhere {
-    fn begin(&self, _piece: usize) {
+fn digit(piece: usize) -> usize {
+    match piece {
+        0 => 0x1,
+        1 => 0x10,
+        2 => 0x100,
+        3 => 0x1000,
+        4 => 0x10000,
+        5 => 0x100000,
+        6 => 0x1000000,
+        7 => 0x10000000,
+        _ => 0x100000000,
+    }
+}
+
+impl Turn for Tally {
+    fn begin(&self, piece: usize) {
+        self.begun.fetch_add(digit(piece), Ordering::SeqCst);
         if thread_number(&self.rt) != self.caller {
-            self.turns.fetch_add(1, Ordering::SeqCst);
+            self.elsewhere.fetch_add(1, Ordering::SeqCst);
         }
     }
 
     fn end(&self, piece: usize) {
-        self.begin(piece);
+        self.ended.fetch_add(digit(piece), Ordering::SeqCst);
+        if thread_number(&self.rt) != self.caller {
+            self.elsewhere.fetch_add(1, Ordering::SeqCst);
+        }
     }
 }
 
-// When three plans are made, and when three slices are charged.
-fn turns_elsewhere<R: Threads + Wait>(
+impl Tally {
+    fn new(rt: HostRuntime) -> Tally {
+        Tally {
+            rt,
+            caller: thread_number(&rt),
+            begun: AtomicUsize::new(0),
+            ended: AtomicUsize::new(0),
+            elsewhere: AtomicUsize::new(0),
+        }
+    }
+
+    fn told(&self) -> (usize, usize, usize) {
+        let begun = self.begun.load(Ordering::SeqCst);
+        let ended = self.ended.load(Ordering::SeqCst);
+        (begun, ended, self.elsewhere.load(Ordering::SeqCst))
+    }
+}
+
+// The turns when these slices are charged by so many workers.
+fn turns_of<R: Threads + Wait>(
     rt: &R,
     host: HostRuntime,
     alloc: Global,
+    all: &mut [Slice],
     workers: usize,
-) -> Result<(usize, usize), Fail>
-    requires { 0 < workers }
+) -> Result<(usize, usize, usize), StartFault>
+    requires some { 0 < workers }
+    requires all { All IsChargeable all.old }
 {
-    let turn = Elsewhere {
-        rt: host,
-        caller: thread_number(&host),
-        turns: AtomicUsize::new(0),
-    };
-    plan_all(rt, alloc, &mut plans()?, workers, &turn)?;
-    let of_plans = turn.turns.swap(0, Ordering::SeqCst);
-    charge_all(rt, alloc, &mut slices(), workers, &turn)?;
-    Ok((of_plans, turn.turns.load(Ordering::SeqCst)))
+    let tally = Tally::new(host);
+    charge_all(rt, alloc, all, workers, &tally)?;
+    Ok(tally.told())
 }
 
-// One piece is worked on by the caller itself, and each of several by somebody else.
+// The turns when these plans are made by so many workers.
+fn turns_of_plans<R: Threads + Wait>(
+    rt: &R,
+    host: HostRuntime,
+    alloc: Global,
+    all: &mut [Plan],
+    workers: usize,
+) -> Result<(usize, usize, usize), StartFault>
+    requires some { 0 < workers }
+    requires all { All IsPlannable all.old }
+{
+    let tally = Tally::new(host);
+    plan_all(rt, alloc, all, workers, &tally)?;
+    Ok(tally.told())
+}
+
+// There are as many pieces as workers, but no more than elements. One piece is worked on by the
+// caller itself, and each of several by somebody else.
 #[test]
-fn one_piece_in_the_callers_thread(rt: HostRuntime) -> Result<(), Fail> {
-    assert_eq!(rt; turns_elsewhere(&rt, rt, rt.alloc(), 1)?, (0, 0));
-    assert_eq!(rt; turns_elsewhere(&rt, rt, rt.alloc(), 2)?, (4, 4));
-    assert_eq!(rt; turns_elsewhere(&rt, rt, rt.alloc(), 8)?, (6, 6));
+fn each_piece_has_one_turn(rt: HostRuntime) -> Result<(), Fail> {
+    let alloc = rt.alloc();
+    let [a, b, c] = slices();
+    let [p, q, r] = plans()?;
+    assert_eq!(rt; turns_of(&rt, rt, alloc, &mut [], 8)?, (0, 0, 0));
+    for (workers, ones, elsewhere) in [(1, 0x1, 0), (2, 0x11, 4), (8, 0x111, 6)] {
+        let wanted = (ones, ones, elsewhere);
+        assert_eq!(rt; turns_of(&rt, rt, alloc, &mut [a, b, c], workers)?, wanted);
+        assert_eq!(rt;
+            turns_of_plans(&rt, rt, alloc, &mut [p, q, r], workers)?,
+            wanted
+        );
+    }
+    for (workers, ones, elsewhere) in [
+        (1, 0x1, 0),
+        (3, 0x111, 6),
+        (8, 0x11111111, 16),
+        (9, 0x11111111, 16),
+    ] {
+        let wanted = (ones, ones, elsewhere);
+        let mut all = [a, b, c, a, b, c, a, b];
+        assert_eq!(rt; turns_of(&rt, rt, alloc, &mut all, workers)?, wanted);
+        let mut all = [p, q, r, p, q, r, p, q];
+        assert_eq!(rt; turns_of_plans(&rt, rt, alloc, &mut all, workers)?, wanted);
+    }
     Ok(())
 }
 
-// Whether memory is there, behind plans and charges by one worker.
-fn has_memory_behind_one_piece<R: Threads + Wait>(rt: &R, alloc: Global) -> Result<bool, Fail> {
-    let mut all = plans()?;
-    plan_all(rt, alloc, &mut all, 1, &Silent)?;
-    charge_all(rt, alloc, &mut slices(), 1, &Silent)?;
-    let block: Result<Vec<u8>, AllocError> = Vec::with_capacity(alloc, 1);
-    Ok(block.is_ok())
-}
-
 // With the first growth refused (`rt try --test --fail-alloc 1`) this fails at its assertion, since
-// that growth is the one behind: one piece asked for none.
+// that growth is the one behind the plans and charges: one piece asked for none.
 #[test]
 fn one_piece_takes_no_memory(rt: HostRuntime) -> Result<(), Fail> {
-    let has_memory = has_memory_behind_one_piece(&rt, rt.alloc())?;
+    let mut all = plans()?;
+    plan_all(&rt, rt.alloc(), &mut all, 1, &Silent)?;
+    charge_all(&rt, rt.alloc(), &mut slices(), 1, &Silent)?;
+    let block: Result<Vec<u8>, AllocError> = Vec::with_capacity(rt.alloc(), 1);
+    let has_memory = block.is_ok();
     assert!(rt; has_memory);
     Ok(())
 }
@@ -443,14 +340,5 @@ fn refused_growth_of_charge_all(rt: HostRuntime) -> Result<(), Fail> {
         charge_all(&rt, rt.alloc(), &mut all, 1, &Silent)?;
     }
     assert_eq!(rt; lefts(&all), CHARGED);
-    Ok(())
-}
-
-#[test]
-fn start_fault_prints(rt: HostRuntime) -> Result<(), Fail> {
-    assert_eq!(rt;
-        format!(in rt.alloc(); "{StartFault}")?.as_str(),
-        "no worker"
-    );
     Ok(())
 }

@@ -1,27 +1,9 @@
 use crate::fakes::{Giver, Taker};
 use counted_io::{Counted, ReadFault};
-use std::alloc::Global;
 use std::io::ErrorKind;
 use std::test::Fail;
 
 const TEXT: &[u8] = b"# tracer: nop\n";
-
-/// What a reader of one byte a call gives whose call `bad` fails, and the faults counted.
-fn read_slowly(alloc: Global, bad: usize) -> (Result<Vec<u8>, ReadFault>, u64) {
-    let mut reader = Counted::new(Giver::new(TEXT, bad));
-    let read = reader.read_all(alloc);
-    (read, reader.faults())
-}
-
-#[test]
-fn all_is_read(rt: HostRuntime) -> Result<(), Fail> {
-    let mut reader = Counted::new(TEXT);
-    assert_eq!(rt; reader.read_all(rt.alloc())?.as_slice(), TEXT);
-    let (read, faults) = read_slowly(rt.alloc(), usize::MAX);
-    assert_eq!(rt; read?.as_slice(), TEXT);
-    assert_eq!(rt; faults, 0);
-    Ok(())
-}
 
 // A long input that comes byte by byte is read whole: far more reads than a small bound would let
 // through.
@@ -43,9 +25,10 @@ fn all_is_read_in_5000_reads(rt: HostRuntime) -> Result<(), Fail> {
 #[test]
 fn a_reader_fails_in_each_call(rt: HostRuntime) {
     for bad in 0..=TEXT.len() {
-        let (read, faults) = read_slowly(rt.alloc(), bad);
+        let mut reader = Counted::new(Giver::new(TEXT, bad));
+        let read = reader.read_all(rt.alloc());
         assert!(rt; matches!(read, Err(ReadFault::Failed)), "in call {bad}");
-        assert_eq!(rt; faults, 1, "in call {bad}");
+        assert_eq!(rt; reader.faults(), 1, "in call {bad}");
     }
 }
 
@@ -82,22 +65,4 @@ fn a_text_is_three_writes(rt: HostRuntime) {
     let writer = writer.into_inner();
     assert_eq!(rt; writer.calls, 3);
     assert_eq!(rt; writer.taken.as_slice(), b"abcdefghi".as_slice());
-}
-
-// Neither a writer that would fail at once nor one with room is called for an empty text.
-#[test]
-fn an_empty_text_makes_no_write(rt: HostRuntime) -> Result<(), Fail> {
-    for (room, kind) in [
-        (0, Some(ErrorKind::WriteZero)),
-        (0, None),
-        (usize::MAX, None),
-    ] {
-        let mut writer = Counted::new(Taker::new(rt.alloc(), 4, room, kind));
-        assert!(rt; writer.write_all(b"").is_ok());
-        assert_eq!(rt; writer.faults(), 0);
-        let writer = writer.into_inner();
-        assert_eq!(rt; writer.calls, 0);
-        assert!(rt; writer.taken.is_empty());
-    }
-    Ok(())
 }

@@ -1,6 +1,6 @@
 //! Trees of inputs. Inputs that are refused are rows of the table that the built program runs on.
 
-use json_order::{JsonFault, JsonKind, read};
+use json_order::read;
 use std::alloc::{AllocError, Global};
 use std::test::Fail;
 
@@ -46,15 +46,5 @@ false  => Bool(false)
 #[test]
 fn every_kind_of_value(rt: HostRuntime) -> Result<(), Fail> {
     assert_eq!(rt; first_wrong(rt.alloc(), VALUES)?, None);
-    Ok(())
-}
-
-/// A kind that no input has.
-#[test]
-fn no_memory_is_told(rt: HostRuntime) -> Result<(), Fail> {
-    let kind = JsonKind::Memory;
-    let memory = format!(in rt.alloc(); "{}", JsonFault { at: 0, kind })?;
-    assert_eq!(rt; memory.as_str(), "json 15 at 0");
-    assert_eq!(rt; kind.number(), 15);
     Ok(())
 }

@@ -1,2 +1,1 @@
 pub mod Quarters
-pub mod Fresh

@@ -1,10 +1,8 @@
-//! The tests of the bandwidth word, its gate and the passes, apart from them, so that the gate
-//! proves each of those crates once.
+//! The tests of the bandwidth word and its gate, apart from them, so that the gate proves each of
+//! those crates once.
 #![tactic(auto)]
 
 #[cfg(test)]
 mod of_gates;
-#[cfg(test)]
-mod of_seats;
 #[cfg(test)]
 mod of_worlds;

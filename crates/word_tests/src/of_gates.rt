@@ -68,36 +68,6 @@ fn refused(rt: &impl Abort, gate: &Gate, blank: Blank, bw: u64) -> (Blank, u64)
     }
 }
 
-// full_domain_and_no_bandwidth: 500 / 1000 fills the domain, 2 / 100 is refused, and 2 us of 4 s,
-// which is no bandwidth, has room still.
-#[test]
-fn full_domain_and_no_bandwidth(rt: HostRuntime) -> Result<(), Fail> {
-    let (gate, mut blanks) = opened(rt.alloc(), 524288, 3)?;
-    let mut tickets = Vec::with_capacity(rt.alloc(), 2)?;
-    tickets.push_reserved(ticket(&rt, &gate, next(&rt, &gate, &mut blanks), 524288));
-    let (blank, seen) = refused(&rt, &gate, next(&rt, &gate, &mut blanks), 20971);
-    tickets.push_reserved(ticket(&rt, &gate, blank, 0));
-    let words = gate.close(blanks, tickets);
-    assert_eq!(rt; (seen, words.word[0]), (524288, 524288));
-    Ok(())
-}
-
-// refused_then_given_back: two thirds of a CPU leave no room for as much again, until they are
-// given back.
-#[test]
-fn refused_then_given_back(rt: HostRuntime) -> Result<(), Fail> {
-    let (gate, mut blanks) = opened(rt.alloc(), 1048576, 2)?;
-    let mut home = Vec::with_capacity(rt.alloc(), 1)?;
-    let mut tickets = Vec::with_capacity(rt.alloc(), 1)?;
-    let mine = ticket(&rt, &gate, next(&rt, &gate, &mut blanks), 699050);
-    let (blank, seen) = refused(&rt, &gate, next(&rt, &gate, &mut blanks), 699050);
-    home.push_reserved(gate.give(mine));
-    tickets.push_reserved(ticket(&rt, &gate, blank, 699050));
-    let words = gate.close(home, tickets);
-    assert_eq!(rt; (seen, words.word[0]), (699050, 699050));
-    Ok(())
-}
-
 // A ticket after one try to regrade it, whatever that answers.
 fn tried(gate: &Gate, ticket: Ticket, bw: u64) -> Ticket
     requires { (ticket.gate ≡ gate.now) × (bw ≤ unit) }
@@ -145,20 +115,6 @@ fn regrade_changes_and_is_refused(rt: HostRuntime) -> Result<(), Fail> {
     let words = gate.close(blanks, tickets);
     assert_eq!(rt; (first, second), ((0, 524288, 262144), (524288, 524288)));
     assert_eq!(rt; (terms, words.word[0]), ((1, 1), 524288));
-    Ok(())
-}
-
-// Run with each allocation refused in turn: a gate that was refused leaves nothing, and can be
-// opened then.
-#[test]
-fn refused_growth_of_open(rt: HostRuntime) -> Result<(), Fail> {
-    let (gate, blanks) = match opened(rt.alloc(), 1048576, 4096) {
-        Ok(opened) => opened,
-        Err(NoMemory) => opened(rt.alloc(), 1048576, 4096)?,
-    };
-    let count = blanks.len();
-    let words = gate.close(blanks, Vec::new(rt.alloc()));
-    assert_eq!(rt; (count, words.word[0]), (4096, 0));
     Ok(())
 }
 

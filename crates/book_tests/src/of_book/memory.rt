@@ -2,7 +2,7 @@
 // before every call, and prints that it is gone; else it takes a gigabyte of addresses at most, and
 // the calls have memory.
 
-use super::{Desk, admit, end, entries_of, opened};
+use super::{Desk, admit, calls_of, end, opened};
 use call_book::{Prepared, prepare};
 use domain_run::{Call, Reply};
 use std::alloc::{AllocError, Global};
@@ -40,9 +40,9 @@ const ADMISSIONS: &[u8] =
     b"dlcalls 1\ndomain 1 1048576\nadmit 1 1 a 2 8 8 - 0 1:1{r1}\nadmit 1 2 a 2 8 8 - 0 1:1{r1}\nadmit 1 3 a 8 8 8 - 0 1:1{r1}\nadmit 1 1 a 2 8 8 - 0 1:1{r1}\nadmit 1 4 a 2 8 8 - 0 1:1{r1}\nadmit 1 5 a 2 8 8 - 0 1:1{r1}\n";
 
 // The admissions of a text, ready to be made, the last one first.
-fn all_ready(alloc: Global, text: &[u8]) -> Option<Vec<Prepared>> {
+fn all_ready(rt: &impl Abort, alloc: Global, text: &[u8]) -> Result<Vec<Prepared>, Fail> {
     let mut ready = Vec::new(alloc);
-    for entry in &entries_of(alloc, text)? {
+    for entry in &calls_of(rt, alloc, text)? {
         if let Call::Admit {
             number,
             name,
@@ -51,12 +51,11 @@ fn all_ready(alloc: Global, text: &[u8]) -> Option<Vec<Prepared>> {
             script,
         } = &entry.call
         {
-            let prepared = prepare(alloc, *number, name, *params, *delay, script).ok()?;
-            ready.push(prepared).ok()?;
+            ready.push(prepare(alloc, *number, name, *params, *delay, script)?)?;
         }
     }
     ready.reverse();
-    Some(ready)
+    Ok(ready)
 }
 
 // Makes admissions for which no memory is left: the replies, for which there is room, and whether
@@ -83,7 +82,7 @@ fn admit_all(
 // list of tasks, by a history that is full.
 #[test]
 fn no_memory_after_prepare(rt: HostRuntime) -> Result<(), Fail> {
-    let ready = all_ready(rt.alloc(), ADMISSIONS).unwrap_or(Vec::new(rt.alloc()));
+    let ready = all_ready(&rt, rt.alloc(), ADMISSIONS)?;
     let mut replies = Vec::with_capacity(rt.alloc(), 6)?;
     let mut blocks = Vec::with_capacity(rt.alloc(), 4416)?;
     let mut desk = opened(&rt, rt.alloc(), 1048576, 3)?;

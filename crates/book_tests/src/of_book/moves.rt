@@ -5,7 +5,7 @@ ghost use Rattle.call_book.specs.Book.{IsPassOf};
 
 use super::{Desk, end, next_blank, replies, room_of};
 use bw_gate::{Blank, Gate, Take, Ticket, used_of};
-use call_book::{Closed, Domain, Move, MoveFault, Pass, Prepared, move_task};
+use call_book::{Closed, Domain, Move, Pass, Prepared, move_task};
 use domain_run::{NoMemory, Reply};
 use std::alloc::Global;
 use std::process::Abort;
@@ -191,50 +191,24 @@ fn ends(rt: &impl Abort, alloc: Global, mut pair: Pair) -> [(u64, u64, usize); 2
 
 const TASK: &[u8] = b"dlcalls 1\ndomain 1 1048576\nadmit 1 1 a 4 8 8 - 0 -1:1{r2,s6}\n";
 
-// How a move of the task goes before which these calls were made, but behind what was prepared.
+// How a move of the task goes before which these calls were made, but behind what was prepared; and
+// what is used of both words with the new ticket, and behind the move.
+type Step = (&'static str, (u64, u64), (u64, u64));
+
 fn after<R: Abort + Threads + Wait>(
     rt: &R,
     alloc: Global,
     pair: &mut Pair,
     calls: &[u8],
-) -> Result<&'static str, Fail> {
+) -> Result<Step, Fail> {
     let prepared = pair.desk.domain.prepare_move(alloc, 1)?;
     replies(rt, alloc, &mut pair.desk, calls)?;
     let ticket = taken(rt, &mut pair.desk, &prepared);
-    let (answer, ticket) = moved(pair, prepared, ticket);
-    give_back(&mut pair.desk, ticket);
-    Ok(answer)
-}
-
-// The used parts before the move, with the new ticket, behind the move, and when the old ticket is
-// back.
-fn step_by_step<R: Abort + Threads + Wait>(
-    rt: &R,
-    alloc: Global,
-    pair: &mut Pair,
-) -> Result<[(u64, u64); 4], Fail> {
-    replies(rt, alloc, &mut pair.desk, TASK)?;
-    let prepared = pair.desk.domain.prepare_move(alloc, 1)?;
-    let before = used(rt, pair);
-    let ticket = taken(rt, &mut pair.desk, &prepared);
     let both = used(rt, pair);
-    let (_, ticket) = moved(pair, prepared, ticket);
+    let (answer, ticket) = moved(pair, prepared, ticket);
     let still = used(rt, pair);
     give_back(&mut pair.desk, ticket);
-    Ok([before, both, still, used(rt, pair)])
-}
-
-// move_by_a_client, step by step: the task's bandwidth stands in one word or in both, never in
-// none.
-#[test]
-fn move_step_by_step(rt: HostRuntime) -> Result<(), Fail> {
-    let mut pair = opened_two(&rt, rt.alloc())?;
-    let made = step_by_step(&rt, rt.alloc(), &mut pair);
-    let ends = ends(&rt, rt.alloc(), pair);
-    let both = (524288, 524288);
-    assert_eq!(rt; made?, [(524288, 0), both, both, (0, 524288)]);
-    assert_eq!(rt; ends, [(0, 0, 2), (524288, 524288, 1)]);
-    Ok(())
+    Ok((answer, both, still))
 }
 
 const CHANGE: &[u8] = b"dlcalls 1\ndomain 1 1048576\nregrade 1 1 2 8 8 -\n";
@@ -249,7 +223,7 @@ fn answers<R: Abort + Threads + Wait>(
     alloc: Global,
     pair: &mut Pair,
     calls: &[&[u8]],
-) -> Result<Vec<&'static str>, Fail> {
+) -> Result<Vec<Step>, Fail> {
     replies(rt, alloc, &mut pair.desk, TASK)?;
     let mut answers = Vec::new(alloc);
     for calls in calls {
@@ -258,28 +232,30 @@ fn answers<R: Abort + Threads + Wait>(
     Ok(answers)
 }
 
-// A task that was changed since it was prepared stays, and so does its bandwidth; prepared again, it
-// goes.
+// move_by_a_client, step by step: the task's bandwidth stands in one word or in both, never in
+// none. Prepared and then changed it stays, and so does its bandwidth; prepared again, it goes.
 #[test]
 fn move_of_a_changed_task(rt: HostRuntime) -> Result<(), Fail> {
     let mut pair = opened_two(&rt, rt.alloc())?;
     let made = answers(&rt, rt.alloc(), &mut pair, &[CHANGE, NOTHING]);
     let ends = ends(&rt, rt.alloc(), pair);
-    assert_eq!(rt; made?.as_slice(), ["stale", "moved"].as_slice());
+    let (stale, gone) = ((262144, 524288), (262144, 262144));
+    assert_eq!(rt;
+        made?.as_slice(),
+        [("stale", stale, stale), ("moved", gone, gone)].as_slice()
+    );
     assert_eq!(rt; ends, [(0, 0, 4), (262144, 262144, 1)]);
     Ok(())
 }
 
-// One that has ended since stays, and is then not prepared.
+// One that has ended since stays.
 #[test]
 fn move_of_an_ended_task(rt: HostRuntime) -> Result<(), Fail> {
     let mut pair = opened_two(&rt, rt.alloc())?;
     let made = answers(&rt, rt.alloc(), &mut pair, &[END]);
-    let again = pair.desk.domain.prepare_move(rt.alloc(), 1);
-    let is_gone = matches!(again, Err(MoveFault::NotListed));
     let ends = ends(&rt, rt.alloc(), pair);
-    assert_eq!(rt; made?.as_slice(), ["not listed"].as_slice());
-    assert!(rt; is_gone);
+    let both = (524288, 524288);
+    assert_eq!(rt; made?.as_slice(), [("not listed", both, both)].as_slice());
     assert_eq!(rt; ends, [(524288, 524288, 2), (0, 0, 0)]);
     Ok(())
 }

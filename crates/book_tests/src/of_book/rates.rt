@@ -1,18 +1,17 @@
 // How many admissions a second clients make through word and locked book.
 ghost use Rattle.std.specs.Prelude.{◌<◌};
-ghost use Rattle.call_book.specs.Limits.{IsCall};
+ghost use Rattle.call_book.specs.Limits.{IsCall, IsNumber};
 
-use super::shared::{arrive, renumbered};
 use super::{Desk, admit, calls_of, end, opened_with};
-use call_book::Prepared;
+use call_book::{Prepared, prepare};
 use domain_run::{Call, NoMemory, Reply};
 use std::alloc::Global;
 use std::process::Abort;
 use std::rt::Clock;
-use std::sync::atomic::AtomicUsize;
+use std::sync::atomic::{AtomicUsize, Ordering};
 use std::sync::{Mutex, Wait};
 use std::test::Fail;
-use std::thread::{Threads, map_indices};
+use std::thread::{Threads, map_indices, yield_now};
 use std::time::{Duration, Instant};
 
 // How many books there are, and how many tasks the clients try to admit in each, of which half fit.
@@ -31,6 +30,35 @@ struct Share {
 
 fn since(rt: &impl Clock, start: Instant) -> Duration {
     start.elapsed(rt).unwrap_or(Duration::ZERO)
+}
+
+// The admission of a call, under another number.
+fn renumbered(alloc: Global, call: &Call, number: u32) -> Option<Prepared>
+    requires call { IsCall call.now }
+    requires number { IsNumber number }
+{
+    match call {
+        Call::Admit {
+            number: _,
+            name,
+            params,
+            delay,
+            script,
+        } => prepare(alloc, number, name, *params, *delay, script).ok(),
+        _ => None,
+    }
+}
+
+// Waits until all of so many clients are here, so that they run at once. It gives up after many
+// turns: where a thread could not be started, the clients come one after another.
+fn arrive(here: &AtomicUsize, all: usize) {
+    here.fetch_add(1, Ordering::SeqCst);
+    for _ in 0..1000000 {
+        if here.load(Ordering::SeqCst) >= all {
+            return;
+        }
+        yield_now();
+    }
 }
 
 // Makes a client's tasks of one book ready.

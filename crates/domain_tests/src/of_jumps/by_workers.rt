@@ -1,13 +1,12 @@
-//! Worked rows by one worker and by several, and that several do not work on one thread.
+//! Advances by one worker and by several, and that several do not work on one thread.
 
 ghost use Rattle.std.specs.Prelude.{◌<◌};
 
-use super::{CARRYING, admitted, carried, on_two_cpus, three};
-use crate::workers::{UNIT, Worker, admit, forever, once, reclaiming};
-use domain_run::{Event, State, Switch};
+use super::three;
+use crate::workers::{admit, admitted, forever};
+use domain_run::{Event, State};
 use jump_run::{Done, Silent, Turn, advance_with};
 use std::alloc::Global;
-use std::process::Abort;
 use std::sync::Wait;
 use std::sync::atomic::{AtomicBool, AtomicUsize, Ordering};
 use std::test::Fail;
@@ -27,38 +26,6 @@ pub(super) fn advanced<R: Threads + Wait, G: Turn>(
     advance_with(rt, alloc, state, ticks.min(left), workers.max(1), turn)
 }
 
-/// The tasks bring these switches in so many ticks, by 1, 2, 3 and 8 workers.
-fn shows_by<R: Abort + Threads + Wait>(
-    rt: &R,
-    alloc: Global,
-    machine: (u32, u64),
-    tasks: &[Worker<'_>],
-    ticks: u64,
-    switches: &[Switch],
-) -> Result<(), Fail> {
-    let (cpus, limit) = machine;
-    for workers in [1, 2, 3, 8] {
-        let mut state = admitted(alloc, cpus, limit, tasks)?;
-        let done = advanced(rt, alloc, &mut state, ticks, workers, &Silent);
-        assert_eq!(rt; done.ticks, ticks);
-        assert_eq!(rt; state.switches(), switches, "{workers} workers");
-    }
-    Ok(())
-}
-
-#[test]
-fn fraction_and_carry(rt: HostRuntime) -> Result<(), Fail> {
-    let tasks = [reclaiming(once((4, 8, 8), &CARRYING))];
-    shows_by(&rt, rt.alloc(), (1, 996147), &tasks, 25, &carried())
-}
-
-/// Run with each growth of the advance refused in turn too, those of a worker's start among them:
-/// the switches are the same.
-#[test]
-fn two_cpus(rt: HostRuntime) -> Result<(), Fail> {
-    shows_by(&rt, rt.alloc(), (2, UNIT), &three(), 5, &on_two_cpus())
-}
-
 const FOUR_OF_32_US: [Event; 2] = [Event::Run(4), Event::Timer(32)];
 
 /// An advance of 2100 ticks of two tasks, each admitted at this time: how many were made, whether
@@ -69,11 +36,11 @@ fn made_from<R: Threads + Wait>(
     start: u64,
     workers: usize,
 ) -> Result<(u64, bool, bool), Fail> {
-    let mut state = admitted(alloc, 2, UNIT, &[])?;
+    let mut state = admitted(alloc, 2, &[])?;
     advanced(rt, alloc, &mut state, start, 1, &Silent);
     for number in 1..3 {
         let worker = forever((4, 32, 32), &FOUR_OF_32_US);
-        admit(alloc, &mut state, number, "T", worker)?;
+        admit(alloc, &mut state, number, worker)?;
     }
     let done = advanced(rt, alloc, &mut state, 2100, workers, &Silent);
     let told = state.now() == start.wrapping_add(done.ticks);
@@ -132,7 +99,7 @@ fn in_order<R: Threads + Wait + Clock + Sync>(
     alloc: Global,
     first: usize,
 ) -> Result<(usize, usize, bool), Fail> {
-    let mut state = admitted(alloc, 2, UNIT, &three())?;
+    let mut state = admitted(alloc, 2, &three())?;
     let order = InOrder {
         clock: rt,
         first,

@@ -170,12 +170,19 @@ type Row = (usize, &'static [u8], &'static str, (usize, u64, u64));
 const TWICE: &[u8] =
     b"dlcalls 1\ndomain 1 1048576\nadmit 1 1 a 2 8 8 - 0 1:1{r2}\nadmit 1 1 b 2 8 8 - 0 1:1{r2}\nadmit 1 2 b 2 8 8 - 0 1:1{r2}\nadmit 1 1 c 2 8 8 - 0 1:1{r2}\n";
 
+// Eight tasks of half a CPU on two CPUs, of which three find room.
+const RACE: &[u8] =
+    b"dlcalls 1\ndomain 2 996147\nadmit 1 1 t 500 1000 1000 - 0 -1:1{r100,s900}\nadmit 1 2 t 500 1000 1000 - 0 -1:1{r100,s900}\nadmit 1 3 t 500 1000 1000 - 0 -1:1{r100,s900}\nadmit 1 4 t 500 1000 1000 - 0 -1:1{r100,s900}\nadmit 1 5 t 500 1000 1000 - 0 -1:1{r100,s900}\nadmit 1 6 t 500 1000 1000 - 0 -1:1{r100,s900}\nadmit 1 7 t 500 1000 1000 - 0 -1:1{r100,s900}\nadmit 1 8 t 500 1000 1000 - 0 -1:1{r100,s900}\n";
+
 // waiting: a refused wake is entered too. most_ticks_of_a_call: all ticks of a call are made, up to
 // the most that one may ask for. regrade: the word goes with the book. limit_calls: the limit is not
 // set below what the task has; then it holds for admissions, down and up. limit_in_a_full_book: a
 // book that is full changes no limit. full_book. number_twice: a number is admitted once, and that
-// the book is full is found first.
-const ROWS: [Row; 8] = [
+// the book is full is found first. admission_race: the others are refused by the word alone.
+// full_domain_and_no_bandwidth: 2 of 100 is refused at the word and stands nowhere, and 2 us of 4 s,
+// which is no bandwidth, is admitted still. refused_then_given_back: two thirds of a CPU leave no
+// room for as much again, until the task has left and its bandwidth is back.
+const ROWS: [Row; 11] = [
     (
         1024,
         b"dlcalls 1\ndomain 1 1048576\nadmit 1 1 w 2 10 10 - 0 -1:1{w,r1}\nadvance 1 3\nwake 1 1\nwake 1 1\nadvance 1 3\n",
@@ -224,6 +231,24 @@ const ROWS: [Row; 8] = [
         "Admitted; Twice 41; Admitted; Full 40; ",
         (2, 524288, 1048576),
     ),
+    (
+        1024,
+        RACE,
+        "Admitted; Admitted; Admitted; EBUSY 16 seen 1572864; EBUSY 16 seen 1572864; EBUSY 16 seen 1572864; EBUSY 16 seen 1572864; EBUSY 16 seen 1572864; ",
+        (3, 1572864, 1992294),
+    ),
+    (
+        9,
+        b"dlcalls 1\ndomain 1 524288\nadmit 1 1 a 500 1000 1000 - 0 1:1{r1}\nadmit 1 2 b 2 100 100 - 0 1:1{r1}\nadmit 1 3 c 2 4000000 4000000 - 0 1:1{r1}\n",
+        "Admitted; EBUSY 16 seen 524288; Admitted; ",
+        (2, 524288, 524288),
+    ),
+    (
+        9,
+        b"dlcalls 1\ndomain 1 1048576\nadmit 1 1 a 10000 15000 15000 - 0 1:1{r1}\nadmit 1 2 b 10000 15000 15000 - 0 1:1{r1}\nleave 1 1\nadvance 1 1\nadmit 1 2 b 10000 15000 15000 - 0 1:1{r1}\n",
+        "Admitted; EBUSY 16 seen 699050; Left; Done { ticks: 1 }; Admitted; ",
+        (4, 699050, 1048576),
+    ),
 ];
 
 // Each row's calls in a session of its own, with all pieces home in the end.
@@ -239,42 +264,22 @@ fn rows_of_one_client(rt: HostRuntime) -> Result<(), Fail> {
     Ok(())
 }
 
-// Three of eight tasks of half a CPU find room on two CPUs, and the others are refused by the word
-// alone.
-#[test]
-fn admission_race(rt: HostRuntime) -> Result<(), Fail> {
-    let mut text = String::from_str(rt.alloc(), "dlcalls 1\ndomain 2 996147\n")?;
-    for k in 1..9 {
-        write!(text, "admit 1 {k} t 500 1000 1000 - 0 -1:1{{r100,s900}}\n")?;
-    }
-    let (said, report) = ran(&rt, rt.alloc(), text.as_bytes(), 1024)?;
-    assert!(rt;
-        said.as_str()
-            .starts_with("Admitted; Admitted; Admitted; EBUSY 16 seen 1572864; ")
-    );
-    assert!(rt;
-        said.as_str()
-            .ends_with("EBUSY 16 seen 1572864; EBUSY 16 seen 1572864; ")
-    );
-    assert_eq!(rt; entered(&report), 3);
-    assert_eq!(rt; report.words.as_slice(), [1572864].as_slice());
-    assert_eq!(rt; report.home, 257);
-    Ok(())
-}
-
-// The calls by which these tasks come and go: in the end none is listed.
+// The calls by which these tasks come and go, with one behind them for which the list has no place:
+// in the end none is listed.
 fn come_and_go(text: &mut String, first: u32, end: u32) -> Result<(), AllocError> {
     for k in first..end {
         write!(text, "admit 1 {k} t 2 1000000 1000000 - 0 -1:1{{r1,s9}}\n")?;
     }
+    write!(text, "admit 1 1000 t 2 1000000 1000000 - 0 -1:1{{r1,s9}}\n")?;
     for k in first..end {
         write!(text, "leave 1 {k}\n")?;
     }
     write!(text, "advance 1 4\n")
 }
 
-// 256 tasks come and go three times, with 257 pieces: the pieces of those that went are those of
-// who comes.
+// 256 tasks that want two millionths of a CPU each come and go three times, with 257 pieces: the
+// pieces of those that went are those of who comes. Each time there is a piece for one more, and
+// room at the word, but no place in the list: its ticket goes back.
 #[test]
 fn pieces_come_round(rt: HostRuntime) -> Result<(), Fail> {
     let mut text = String::from_str(rt.alloc(), "dlcalls 1\ndomain 1 996147\n")?;
@@ -282,31 +287,13 @@ fn pieces_come_round(rt: HostRuntime) -> Result<(), Fail> {
         come_and_go(&mut text, first, end)?;
     }
     let (said, report) = ran(&rt, rt.alloc(), text.as_bytes(), 2048)?;
-    let answers = said.as_str().split("; ");
-    assert_eq!(rt; answers.filter(|answer| *answer == "Admitted").count(), 768);
+    let admitted = said.as_str().split("Admitted; ").count();
+    assert_eq!(rt;
+        (admitted, said.as_str().split("Full 40; ").count()),
+        (769, 4)
+    );
+    assert_eq!(rt; entered(&report), 3 * 513);
     assert_eq!(rt; report.words.as_slice(), [0].as_slice());
-    assert_eq!(rt; report.home, 257);
-    Ok(())
-}
-
-// 256 tasks that want two millionths of a CPU each are listed. There is a piece for one more, and
-// room at the word, but no place in the list: its ticket goes back.
-#[test]
-fn number_257_is_full(rt: HostRuntime) -> Result<(), Fail> {
-    let mut text = String::from_str(rt.alloc(), "dlcalls 1\ndomain 1 996147\n")?;
-    for k in 1..258 {
-        write!(text, "admit 1 {k} t 2 1000000 1000000 - 0 -1:1{{r1,s9}}\n")?;
-    }
-    let (said, report) = ran(&rt, rt.alloc(), text.as_bytes(), 1024)?;
-    let listed = said
-        .as_str()
-        .split("; ")
-        .filter(|answer| *answer == "Admitted")
-        .count();
-    assert_eq!(rt; listed, 256);
-    assert!(rt; said.as_str().ends_with("Admitted; Full 40; "));
-    assert_eq!(rt; entered(&report), 256);
-    assert_eq!(rt; report.words.as_slice(), [512].as_slice());
     assert_eq!(rt; report.home, 257);
     Ok(())
 }

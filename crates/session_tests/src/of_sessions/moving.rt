@@ -127,40 +127,39 @@ fn moves_in(entries: &Vec<Entry>) -> (usize, usize) {
     (departed.count(), arrived.count())
 }
 
+// The limit of domain 1, the moves, and their answers.
+type Row = (u64, &'static [(u32, usize, usize)], &'static str);
+
 // A move takes the bandwidth along. Nothing stands where there is no such task, where it was
-// admitted before, or where it goes to the domain itself.
+// admitted before, or where it goes to the domain itself. And where the word of the domain where it
+// comes to leaves no room, nothing moves; then a smaller one does.
+const ROWS: [Row; 2] = [
+    (
+        1048576,
+        &[(1, 0, 1), (7, 0, 1), (2, 0, 0), (1, 0, 1), (1, 1, 0)],
+        "moved; ESRCH 3; SameDomain 44; ESRCH 3; Twice 41; ",
+    ),
+    (
+        262144,
+        &[(2, 0, 1), (1, 0, 1), (2, 0, 1)],
+        "EBUSY 16 seen 0; moved; EBUSY 16 seen 262144; ",
+    ),
+];
+
 #[test]
 fn a_task_moves(rt: HostRuntime) -> Result<(), Fail> {
-    let moves = [(1, 0, 1), (7, 0, 1), (2, 0, 0), (1, 0, 1), (1, 1, 0)];
-    let mut said = String::new(rt.alloc());
-    let parts = opened(rt.alloc(), 1)?;
-    let report = moved_in(&rt, rt.alloc(), parts, 1048576, &moves, &mut said)?;
-    assert_eq!(rt;
-        said.as_str(),
-        "moved; ESRCH 3; SameDomain 44; ESRCH 3; Twice 41; "
-    );
-    assert_eq!(rt; report.words.as_slice(), [524288, 262144].as_slice());
-    assert_eq!(rt; report.home, 512 + 1);
-    for (history, wanted) in report.histories.iter().zip([(1, 0), (0, 1)]) {
-        assert_eq!(rt; moves_in(&history.entries), wanted);
+    for (limit, moves, wanted) in ROWS {
+        let mut said = String::new(rt.alloc());
+        let parts = opened(rt.alloc(), 1)?;
+        let report = moved_in(&rt, rt.alloc(), parts, limit, moves, &mut said)?;
+        assert_eq!(rt; said.as_str(), wanted);
+        assert_eq!(rt; report.words.as_slice(), [524288, 262144].as_slice());
+        assert_eq!(rt; report.caps.as_slice(), [1048576, limit].as_slice());
+        assert_eq!(rt; report.home, 512 + 1);
+        for (history, wanted) in report.histories.iter().zip([(1, 0), (0, 1)]) {
+            assert_eq!(rt; moves_in(&history.entries), wanted);
+        }
     }
-    Ok(())
-}
-
-// The word of the domain where it comes to leaves no room: nothing moves. Then a smaller one does.
-#[test]
-fn no_room_where_it_comes_to(rt: HostRuntime) -> Result<(), Fail> {
-    let moves = [(2, 0, 1), (1, 0, 1), (2, 0, 1)];
-    let mut said = String::new(rt.alloc());
-    let parts = opened(rt.alloc(), 1)?;
-    let report = moved_in(&rt, rt.alloc(), parts, 262144, &moves, &mut said)?;
-    assert_eq!(rt;
-        said.as_str(),
-        "EBUSY 16 seen 0; moved; EBUSY 16 seen 262144; "
-    );
-    assert_eq!(rt; report.words.as_slice(), [524288, 262144].as_slice());
-    assert_eq!(rt; report.caps.as_slice(), [1048576, 262144].as_slice());
-    assert_eq!(rt; report.home, 512 + 1);
     Ok(())
 }
 

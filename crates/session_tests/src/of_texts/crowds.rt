@@ -1,9 +1,9 @@
 // Many clients at once.
 ghost use Rattle.std.specs.Prelude.{◌≡◌, ◌<◌, ◌≤◌};
 
-use super::runs::{RACE, TWO_DOMAINS, options_on, ran};
+use super::runs::{RACE, options_on};
 use call_book::NoMemory;
-use dl_session::{Names, Parts, Print, Report, Session, Turnstile, admit_all, replay, run};
+use dl_session::{Names, Parts, Report, Session, Turnstile, admit_all, run};
 use json_order::read;
 use rtapp_scenario::{TaskSpec, parse};
 use std::alloc::Global;
@@ -57,8 +57,8 @@ fn in_turn<C: Clock>(clock: C, falling: bool) -> InTurn<C> {
     }
 }
 
-/// Who entered an admission of which task, in the order of the first domain's history, and then who
-/// was refused what.
+/// Who entered an admission of which task, in the order of the first domain's history, then who was
+/// refused what, and then what is used of the word and how many pieces came home.
 fn admitted(alloc: Global, report: &Report) -> Result<String, Fail> {
     let mut said = String::new(alloc);
     for history in &report.histories {
@@ -69,14 +69,17 @@ fn admitted(alloc: Global, report: &Report) -> Result<String, Fail> {
     for (number, refusal) in &report.refused {
         write!(said, "{number} {refusal}; ")?;
     }
+    for word in &report.words {
+        write!(said, "{word} used, {} home", report.home)?;
+    }
     Ok(said)
 }
 
 const RISING: &str =
-    "1 2 3 4 EBUSY 16 seen 1572864; 5 EBUSY 16 seen 1572864; 6 EBUSY 16 seen 1572864; 7 EBUSY 16 seen 1572864; 8 EBUSY 16 seen 1572864; ";
+    "1 2 3 4 EBUSY 16 seen 1572864; 5 EBUSY 16 seen 1572864; 6 EBUSY 16 seen 1572864; 7 EBUSY 16 seen 1572864; 8 EBUSY 16 seen 1572864; 1572864 used, 264 home";
 
 const FALLING: &str =
-    "8 7 6 1 EBUSY 16 seen 1572864; 2 EBUSY 16 seen 1572864; 3 EBUSY 16 seen 1572864; 4 EBUSY 16 seen 1572864; 5 EBUSY 16 seen 1572864; ";
+    "8 7 6 1 EBUSY 16 seen 1572864; 2 EBUSY 16 seen 1572864; 3 EBUSY 16 seen 1572864; 4 EBUSY 16 seen 1572864; 5 EBUSY 16 seen 1572864; 1572864 used, 264 home";
 
 // Eight tasks of half a CPU on two CPUs: what a run admits in this order, and whether somebody was
 // late.
@@ -87,7 +90,7 @@ fn admitted_by_run<R: Threads + Wait + Clock + Sync>(
 ) -> Result<(String, bool), Fail> {
     let order = in_turn(rt, falling);
     let (mut reader, mut writer) = (Counted::new(RACE), Counted::new(Vec::new(alloc)));
-    let options = options_on(vec![in alloc; 2]?, 8, Print::Trace);
+    let options = options_on(vec![in alloc; 2]?, 8, 1024);
     let report = run(rt, alloc, &mut reader, &mut writer, &options, &order)?;
     Ok((admitted(alloc, &report)?, order.late.load(Ordering::SeqCst)))
 }
@@ -139,7 +142,7 @@ fn admitted_by_all<R: Threads + Wait + Abort + Clock + Sync>(
 ) -> Result<(String, bool), Fail> {
     let order = in_turn(rt, falling);
     let scenario = parse(alloc, &read(alloc, RACE)?)?;
-    let parts = Parts::open(alloc, &options_on(vec![in alloc; 2]?, 8, Print::Trace))?;
+    let parts = Parts::open(alloc, &options_on(vec![in alloc; 2]?, 8, 1024))?;
     let report = admit_eight_in(rt, alloc, parts, &scenario.tasks, &order)?;
     Ok((admitted(alloc, &report)?, order.late.load(Ordering::SeqCst)))
 }
@@ -154,59 +157,5 @@ fn clients_let_in_one_by_one(rt: HostRuntime) -> Result<(), Fail> {
         let (said, late) = admitted_by_all(&rt, rt.alloc(), falling)?;
         assert_eq!(rt; (said.as_str(), late), (wanted, false));
     }
-    Ok(())
-}
-
-// Whoever comes first, three of the eight are admitted, and the others refused by the word.
-#[test]
-fn admission_race(rt: HostRuntime) -> Result<(), Fail> {
-    for _ in 0..20 {
-        let options = options_on(vec![in rt.alloc(); 2]?, 8, Print::Trace);
-        let (said, written, report) = ran(&rt, rt.alloc(), RACE, &options)?;
-        assert_eq!(rt; written.as_str(), "# tracer: nop\n");
-        assert_eq!(rt; said.as_str().lines().count(), 5);
-        assert!(rt;
-            said.as_str()
-                .lines()
-                .all(|l| l.ends_with(" EBUSY 16 seen 1572864"))
-        );
-        assert!(rt;
-            report.is_some_and(|r| r.words.as_slice() == [1572864].as_slice()
-                && r.home == 256 + 8
-                && r.histories.first().is_some_and(|h| h.entries.len() == 3))
-        );
-    }
-    Ok(())
-}
-
-// What eight clients write of the scenario of two domains, where nobody is refused.
-fn two_by_eight<R: Threads + Wait + Abort + Sync>(
-    rt: &R,
-    alloc: Global,
-    workers: usize,
-    print: Print,
-) -> Result<String, Fail>
-    requires { (0 < workers) × (workers ≤ 8) }
-{
-    let mut options = options_on(vec![in alloc; 1, 1]?, 8, print);
-    options.workers = workers;
-    let (said, written, _) = ran(rt, alloc, TWO_DOMAINS, &options)?;
-    assert!(rt; said.is_empty());
-    Ok(written)
-}
-
-// The trace is that of one client, for any number of workers; and so is that of the calls,
-// replayed.
-#[test]
-fn two_domains_eight_clients(rt: HostRuntime) -> Result<(), Fail> {
-    let alone = options_on(vec![in rt.alloc(); 1, 1]?, 1, Print::Trace);
-    let (_, wanted, _) = ran(&rt, rt.alloc(), TWO_DOMAINS, &alone)?;
-    assert!(rt; two_by_eight(&rt, rt.alloc(), 1, Print::Trace)? == wanted);
-    assert!(rt; two_by_eight(&rt, rt.alloc(), 2, Print::Trace)? == wanted);
-    assert!(rt; two_by_eight(&rt, rt.alloc(), 8, Print::Trace)? == wanted);
-    let calls = two_by_eight(&rt, rt.alloc(), 1, Print::Calls)?;
-    let mut writer = Counted::new(Vec::new(rt.alloc()));
-    assert!(rt; replay(rt.alloc(), &mut Counted::new(calls.as_bytes()), &mut writer).is_ok());
-    assert!(rt; writer.into_inner().as_slice() == wanted.as_bytes());
     Ok(())
 }
