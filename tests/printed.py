@@ -1,5 +1,25 @@
-"""The texts of --print beside trace, calls and replies: the jobs and the summary."""
-from texts import A, B, BUSY, DOMAIN, ONE_MINUTE, RACE, T1, THROTTLED, TWO_DOMAINS, Row, calls, scenario
+"""The texts of --print beside trace, calls and replies: what happens, the jobs, the summary."""
+from texts import A, B, BUSY, DOMAIN, HEADER, IDLE, ONE_MINUTE, RACE, T1, THROTTLED, TWO_DOMAINS, Row, calls, scenario, switch
+
+# What may happen to a task: the event, its last field, and whether the task itself stands in front of the line, where a tick ends.
+ENDS, NEXT, SPENT = ("dl_job_end", None, True), ("sched_wakeup", "cpu", True), ("dl_throttle", "deadline", True)
+REPLENISHED, RELEASED, WOKEN_SPENT = ("dl_replenish", "deadline", False), ("sched_wakeup", "cpu", False), ("dl_throttle", "deadline", False)
+
+
+def happening(place, task, what, deadline=0):
+    """A line between those of a trace: at a time in microseconds, or at a CPU and a time, this happens to the task."""
+    cpu, time = place if isinstance(place, tuple) else (0, place)
+    (name, number), (event, field, in_front) = task, what
+    pid = 1000 + number
+    front = f"{name:>16}-{pid:<7}" if in_front else f"{'<idle>':>16}-{0:<7}"
+    last = {None: "", "cpu": f" prio=-1 target_cpu={cpu:03}", "deadline": f" deadline={deadline // 1000000}.{deadline % 1000000:06}"}[field]
+    return f"{front} [{cpu:03}] d..2. {time // 1000000:5}.{time % 1000000:06}: {event}: comm={name} pid={pid}{last}"
+
+
+def events(*lines):
+    """The lines behind one another: a switch has four parts, of which the second is a task or idle and the third a state."""
+    return HEADER + calls(*(switch(*line) if isinstance(line[2], str) else happening(*line) for line in lines))
+
 
 JOB_HEADER = "#          task    pid    job     release         end    response       slack throttled\n"
 TASK_HEADER = (
@@ -57,6 +77,16 @@ REPLAYS = [
     *replayed(
         "throttled inside a job, which ends behind its deadline",
         THROTTLED.splitlines()[1:],
+        events=events(
+            (0, A, RELEASED),
+            (0, IDLE, "R", A),
+            (2, A, SPENT, 5),
+            (2, A, "R+", IDLE),
+            (5, A, REPLENISHED, 10),
+            (5, IDLE, "R", A),
+            (7, A, ENDS),
+            (7, A, "X", IDLE),
+        ),
         jobs=jobs((A, 0, 0, 7, -2, 1)),
         summary=summary(
             [(A, 0, 1, 1, (7, 7, 7, -2), (1, 3), (0, 0, 4), ("36.36", "40.00"))],
@@ -67,6 +97,18 @@ REPLAYS = [
     *replayed(
         "released and throttled at once",
         [DOMAIN, "admit 1 1 T1 4 8 8 - 0 -1:1{r4,s2}", "advance 1 13"],
+        events=events(
+            (0, T1, RELEASED),
+            (0, IDLE, "R", T1),
+            (4, T1, ENDS),
+            (4, T1, "S", IDLE),
+            (6, T1, RELEASED),
+            (6, T1, WOKEN_SPENT, 8),
+            (8, T1, REPLENISHED, 16),
+            (8, IDLE, "R", T1),
+            (12, T1, ENDS),
+            (12, T1, "S", IDLE),
+        ),
         jobs=jobs((T1, 0, 0, 4, 4), (T1, 1, 6, 12, 2, 1)),
         summary=summary(
             [(T1, 0, 2, 0, (4, 5, 6, 2), (1, 2), (0, 0, 8), ("61.53", "50.00"))],
@@ -77,6 +119,16 @@ REPLAYS = [
     *replayed(
         "a late timer: the next job is released where one ends, and is the one that is throttled",
         [DOMAIN, "admit 1 1 a 6 8 8 - 0 -1:1{r6,t4}", "advance 1 9"],
+        events=events(
+            (0, A, RELEASED),
+            (0, IDLE, "R", A),
+            (6, A, ENDS),
+            (6, A, NEXT),
+            (6, A, SPENT, 8),
+            (6, A, "R+", IDLE),
+            (8, A, REPLENISHED, 16),
+            (8, IDLE, "R", A),
+        ),
         jobs=jobs((A, 0, 0, 6, 2), (A, 1, 6, "-", "-", 1)),
         summary=summary(
             [(A, 0, 1, 0, (6, 6, 6, 2), (1, 2), (0, 0, 7), ("77.77", "75.00"))],
@@ -87,11 +139,13 @@ REPLAYS = [
     *replayed(
         "more work at once ends no job",
         [DOMAIN, "admit 1 1 a 4 9 9 - 0 1:1{r1,r1,s1,r1}", "advance 1 4"],
+        events=events((0, A, RELEASED), (0, IDLE, "R", A), (2, A, ENDS), (2, A, "S", IDLE), (3, A, RELEASED), (3, IDLE, "R", A), (4, A, ENDS)),
         jobs=jobs((A, 0, 0, 2, 7), (A, 1, 3, 4, 8)),
     ),
     *replayed(
         "a leave cuts a job, which has neither an end nor a line, and is not late",
         [DOMAIN, "admit 1 1 a 2 5 5 - 0 1:1{r100}", "advance 1 3", "leave 1 1", "leave 1 1", "advance 1 17"],
+        events=events((0, A, RELEASED), (0, IDLE, "R", A), (2, A, SPENT, 5), (2, A, "R+", IDLE)),
         jobs=jobs((A, 0, 0, "-", "-", 1)),
         summary=summary(
             [(A, 0, 0, 0, NOBODY, (1, 1), (0, 0, 2), ("10.00", "40.00"))],
@@ -117,6 +171,16 @@ REPLAYS = [
     *replayed(
         "preempted by an earlier deadline",
         [DOMAIN, "admit 1 1 a 8 20 20 - 0 1:1{r6}", "admit 1 2 b 2 5 10 - 2 1:1{r2}", "advance 1 10"],
+        events=events(
+            (0, A, RELEASED),
+            (0, IDLE, "R", A),
+            (2, B, RELEASED),
+            (2, A, "R+", B),
+            (4, B, ENDS),
+            (4, B, "X", A),
+            (8, A, ENDS),
+            (8, A, "X", IDLE),
+        ),
         jobs=jobs((A, 0, 0, 8, 12), (B, 0, 2, 4, 3)),
         summary=summary(
             [
@@ -130,6 +194,18 @@ REPLAYS = [
     *replayed(
         "a task that wakes on another CPU, to which it then belongs",
         ["domain 2 1048576", "admit 1 1 a 4 8 8 - 0 -1:1{r2,s2}", "admit 1 3 b 6 8 8 - 2 1:1{r5}", "advance 1 7"],
+        events=events(
+            ((1, 0), A, RELEASED),
+            ((1, 0), IDLE, "R", A),
+            ((1, 2), A, ENDS),
+            ((1, 2), ("b", 3), RELEASED),
+            ((1, 2), A, "S", ("b", 3)),
+            ((0, 4), A, RELEASED),
+            ((0, 4), IDLE, "R", A),
+            ((0, 6), A, ENDS),
+            ((0, 6), A, "S", IDLE),
+            ((1, 7), ("b", 3), ENDS),
+        ),
         summary=summary(
             [
                 (A, 0, 2, 0, (2, 2, 2, 6), (0, 0), (0, 1, 4), ("57.14", "50.00")),
@@ -150,6 +226,19 @@ REPLAYS = [
             "admit 1 2 b 2 8 8 - 2 1:1{r1}",
             "advance 1 4",
         ],
+        events=events(
+            (0, A, RELEASED),
+            (0, IDLE, "R", A),
+            (2, A, ENDS),
+            ((1, 2), B, RELEASED),
+            ((2, 2), A, RELEASED),
+            (2, A, "X", IDLE),
+            ((1, 2), IDLE, "R", B),
+            ((2, 2), IDLE, "R", A),
+            ((1, 3), B, ENDS),
+            ((1, 3), B, "X", IDLE),
+            ((2, 4), A, ENDS),
+        ),
         jobs=jobs((A, 0, 0, 2, 6), (A, 0, 2, 4, 6), (B, 0, 2, 3, 7)),
         summary=summary(
             [
@@ -175,6 +264,15 @@ REPLAYS = [
             "advance 1 3",
         ],
         header="dlcalls 2",
+        events=events(
+            (0, A, RELEASED),
+            (0, IDLE, "R", A),
+            (1, A, "X", IDLE),
+            ((1, 5), A, RELEASED),
+            ((1, 5), IDLE, "R", A),
+            ((1, 7), A, ENDS),
+            ((1, 7), A, "S", IDLE),
+        ),
         jobs=jobs((A, 0, 0, "-", "-"), (A, 0, 5, 7, 6)),
         summary=summary(
             [
@@ -196,6 +294,7 @@ REPLAYS = [
             "limit 1 786432",
         ],
         header="dlcalls 2",
+        events=HEADER,
         jobs=JOB_HEADER,
         summary=summary(
             [(("~2345678901234!", 65535), 0, 0, 0, NOBODY, (0, 0), (0, 0, 0), ("0.00", "50.00"))],
@@ -206,10 +305,20 @@ REPLAYS = [
     *replayed(
         "no calls",
         ["domain 64 10485", DOMAIN],
+        events=HEADER,
         jobs=JOB_HEADER,
         summary=summary([], [(cpu, cpu // 64, 0, "0.00", 0) for cpu in range(65)], [(0, 64, 0, 671040, "0.00", 0), (1, 1, 0, 1048576, "0.00", 0)]),
     ),
 ]
+
+
+def one_minute():
+    """What happens in ONE_MINUTE: in each second a job is released and ends."""
+    for start in range(0, 60000000, 1000000):
+        yield start, ("t", 1), RELEASED
+        yield start, IDLE, "R", ("t", 1)
+        yield start + 500, ("t", 1), ENDS
+        yield start + 500, ("t", 1), "S", IDLE
 
 
 # Three halves of a CPU, admitted at 0, where no time passes.
@@ -225,6 +334,7 @@ OF_TWO = summary(
     [(cpu, 1, 314571, 996147, "31.57", 1000000) for cpu in (0, 1)],
 )
 RUNS = [
+    Row("a run of no time: events", "run --domains 2 --print events", RACE, 0, HEADER, BUSY),
     Row("a run of no time: jobs", "run --domains 2 --print jobs", RACE, 0, JOB_HEADER, BUSY),
     Row(
         "a run of no time: summary",
@@ -234,6 +344,7 @@ RUNS = [
         summary(THREE, [(0, 0, 0, "0.00", 0), (1, 0, 0, "0.00", 0)], [(0, 2, 1572864, 1992294, "78.94", 0)]),
         BUSY,
     ),
+    Row("a minute: events", "run --print events", ONE_MINUTE, 0, events(*one_minute()), ""),
     Row("a minute: jobs", "run --print jobs", ONE_MINUTE, 0, jobs(*((("t", 1), n, n * 1000000, n * 1000000 + 500, 999500) for n in range(60))), ""),
     Row(
         "a minute: summary",
@@ -254,7 +365,7 @@ RUNS = [
 # Of an input that is none nothing is written, whatever is asked for.
 REFUSALS = [
     row
-    for text in ("jobs", "summary")
+    for text in ("events", "jobs", "summary")
     for row in (
         Row(f"no calls text: {text}", f"replay --print {text}", "dlcalls 1\n", 1, "", "dlsim: calls 30 line 2\n"),
         Row(f"no JSON: {text}", f"run --print {text}", '{"a":01}', 1, "", "dlsim: json 10 at 6\n"),

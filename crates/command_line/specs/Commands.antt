@@ -22,12 +22,12 @@ AreTexts texts names = map (λ name. name.now) names.now ≡ texts
 abbrev pub run_texts : List Text
 run_texts =
     codes "trace" ∷ codes "calls" ∷ codes "replies"
-    ∷ codes "jobs" ∷ codes "summary" ∷ []
+    ∷ codes "events" ∷ codes "jobs" ∷ codes "summary" ∷ []
 
 -- what `--print` of `replay` takes
 abbrev pub replay_texts : List Text
 replay_texts =
-    codes "trace" ∷ codes "replies" ∷ codes "jobs" ∷ codes "summary" ∷ []
+    codes "trace" ∷ codes "replies" ∷ codes "events" ∷ codes "jobs" ∷ codes "summary" ∷ []
 
 -- the names that clap holds for the two
 pub record AreHeld (run replay : HeldNames) : Type 0 where

@@ -29,9 +29,9 @@ pub const MOST_CLIENTS: u64 = 64;
 /// How many workers may compute a domain.
 pub const MOST_WORKERS: u64 = 8;
 
-const RUN_TEXTS: [&str; 5] = ["trace", "calls", "replies", "jobs", "summary"];
+const RUN_TEXTS: [&str; 6] = ["trace", "calls", "replies", "events", "jobs", "summary"];
 
-const REPLAY_TEXTS: [&str; 4] = ["trace", "replies", "jobs", "summary"];
+const REPLAY_TEXTS: [&str; 5] = ["trace", "replies", "events", "jobs", "summary"];
 
 /// An option with one value, which has a default.
 fn option<'a>(

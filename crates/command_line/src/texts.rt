@@ -30,6 +30,8 @@ Out: the text that --print names, of all domains:
               prints its event sched_switch, by time and CPU
      replies  the calls of each domain, each with its reply, as
               `leave 1 2 = Left`
+     events   the trace, and between its lines those of what happens to tasks:
+              jobs that are released and end, throttles, replenishments
      jobs     a line for each job: its release, end, response time and slack
      summary  a table each of the tasks, the CPUs and the domains: late jobs,
               response times, throttles, CPU time, bandwidth
@@ -55,6 +57,8 @@ Out: the text that --print names, of all domains:
      calls    the calls that were made, of which `dlsim replay` writes that
               same trace
      replies  these calls, each with its reply
+     events   the trace, and between its lines those of what happens to tasks:
+              jobs that are released and end, throttles, replenishments
      jobs     a line for each job: its release, end, response time and slack
      summary  a table each of the tasks, the CPUs and the domains: late jobs,
               response times, throttles, CPU time, bandwidth
