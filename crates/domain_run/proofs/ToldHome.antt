@@ -1,5 +1,5 @@
 -- What a tick's beginning told, on the CPUs behind the placement.
-use Rattle.std.proofs.Common.{◌≡◌, ℕ, zero, suc, ◌+◌, ◌-◌, ◌≤◌, Bool, true, false, cond, List, [], ◌∷◌, ◌++◌, length, get_or, map, refl, sym, ap, ◌∙◌, inl, inr, arith, subst}
+use Rattle.std.proofs.Common.{◌≡◌, ℕ, zero, suc, ◌+◌, ◌-◌, ◌≤◌, Bool, true, false, cond, List, [], ◌∷◌, ◌++◌, length, get_or, map, refl, sym, ap, ◌∙◌, inl, inr, arith}
 use Rattle.std.specs.Prelude.{All, AllPairs}
 use Rattle.std.proofs.lemmas.List.{append-nil, append_assoc, length-append, get_or-append-add}
 use Rattle.std.proofs.lemmas.List.Edits.{remove-append_right}
@@ -25,18 +25,16 @@ swapped a b (inr other) = inr (λ e. other (sym e))
 home_with : (places : Places) (h : Happened) (xs : List Happened) → All (IsApart h) xs → in_order (map (at_home places) (with_happened h xs)) ≡ with_happened (at_home places h) (in_order (map (at_home places) xs))
 home_with places h [] apart = refl
 home_with places h (x ∷ xs) apart = by_first (is_first h x)
+    (ap (with_happened (f x)) (home_with places h xs (All-tail (IsApart h) x xs apart))
+    ∙ with_swap (f x) (f h) (in_order (map f xs)) (home_apart places x h (swapped h x (All-head (IsApart h) x xs apart))))
   where
     f : Happened → Happened
     f = at_home places
 
-    behind : with_happened (f x) (in_order (map f (with_happened h xs))) ≡ with_happened (f h) (in_order (map f (x ∷ xs)))
-    behind =
-        ap (with_happened (f x)) (home_with places h xs (All-tail (IsApart h) x xs apart))
-        ∙ with_swap (f x) (f h) (in_order (map f xs)) (home_apart places x h (swapped h x (All-head (IsApart h) x xs apart)))
-
-    by_first : (b : Bool) → in_order (map f (cond b (h ∷ x ∷ xs) (x ∷ with_happened h xs))) ≡ with_happened (f h) (in_order (map f (x ∷ xs)))
-    by_first true = refl
-    by_first false = behind
+    by_first : (b : Bool) → with_happened (f x) (in_order (map f (with_happened h xs))) ≡ with_happened (f h) (in_order (map f (x ∷ xs)))
+        → in_order (map f (cond b (h ∷ x ∷ xs) (x ∷ with_happened h xs))) ≡ with_happened (f h) (in_order (map f (x ∷ xs)))
+    by_first true behind = refl
+    by_first false behind = behind
 
 pairs_first : (h : Happened) (hs : List Happened) → AllPairs IsApart (h ∷ hs) → All (IsApart h) hs
 pairs_first h hs all k d less = all zero (suc k) d (omega arith) (omega (arith, less))
@@ -59,9 +57,9 @@ went_home places place one d items left after value gone put base o others len i
     let read : one ≡ o = value ∙ (λ i. get_or (is i) (sym whole i) d) ∙ get_or-append-add base (o ∷ others) zero d in
     let none : length base - length base ≡ zero = omega arith in
     let rest : left ≡ base ++ others =
-        gone ∙ (λ i. remove (is i) (sym len i))
-        ∙ remove-append_right base (o ∷ others) (length base) (length base) refl (omega arith)
-        ∙ ap (λ n. base ++ remove (o ∷ others) n) none in
+    gone ∙ (λ i. remove (is i) (sym len i))
+    ∙ remove-append_right base (o ∷ others) (length base) (length base) refl (omega arith)
+    ∙ ap (λ n. base ++ remove (o ∷ others) n) none in
     put base others len rest ∙ ap (λ h. base ++ with_happened (at_home places h) others) read
 
 -- none behind all

@@ -1,5 +1,4 @@
-use Rattle.std.proofs.Common.{◌≡◌, ◌+◌, ◌-◌, ◌≤◌, ℕ, List, refl, sym, subst, ◌∙◌, arith}
-use Rattle.domain_run.specs.declared.happened.Happened.{Happened}
+use Rattle.std.proofs.Common.{◌≡◌, ◌+◌, ◌-◌, ℕ, length, refl, sym, subst, ◌∙◌, arith, rules}
 use Rattle.domain_run.specs.private.Telling.{GoHome}
 use Rattle.domain_run.proofs.ToldHome.{home_none, home_more}
 use Rattle.domain_run.proofs.log.go_all_home.Goals as goal
@@ -7,10 +6,11 @@ use Rattle.domain_run.proofs.log.go_all_home.Goals as goal
 pub loop-place-init : goal.loop-place-init
 loop-place-init c =
     let items = c.args.happened.now.items in
+    let all : length items ≡ c.len-place.result = search (rules, sym c.len-place.ensures) in
     record {
-      from = omega (arith, c.len-place.ensures.len, c.requires.from);
-      most = omega (arith, c.len-place.ensures.len);
-      home = subst (λ (n : ℕ). GoHome c.args.places.now n items items) (sym c.len-place.ensures.len) (home_none c.args.places.now items);
+      from = omega (arith, c.len-place.ensures, c.requires.from);
+      most = omega (arith, c.len-place.ensures);
+      home = subst (λ (n : ℕ). GoHome c.args.places.now n items items) all (home_none c.args.places.now items);
       len = refl;
       room = refl;
     }
@@ -25,7 +25,7 @@ loop-place-preserved c =
     record {
       from = omega arith;
       most = omega (arith, l.invariant.most);
-      home = home_more c.args.places.now place first l.happened.items c.go_home.new.happened.items before c.go_home.ensures.home l.invariant.len (omega (arith, l.invariant.most));
+      home = home_more c.args.places.now place first l.happened.items c.go_home.new.happened.items before c.go_home.ensures.home (search (rules, l.invariant.len)) (omega (arith, l.invariant.most));
       len = c.go_home.ensures.len ∙ l.invariant.len;
       room = c.go_home.ensures.room ∙ l.invariant.room;
     }

@@ -1,4 +1,4 @@
-use Rattle.std.proofs.Common.{◌≡◌, ◌≤◌, ℕ, length, vec_len}
+use Rattle.std.proofs.Common.{◌≡◌, ◌≤◌, vec_len}
 use Rattle.std.specs.Prelude.{vec_capacity}
 use Rattle.domain_run.specs.private.Telling.{GoHome}
 use Rattle.domain_run.proofs.log.go_all_home.Given as goal

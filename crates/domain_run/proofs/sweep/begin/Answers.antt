@@ -1,4 +1,4 @@
-use Rattle.std.proofs.Common.{◌≡◌, ◌+◌, List, [], ℕ, length, sym, ap, ◌∙◌, arith, map, subst}
+use Rattle.std.proofs.Common.{List, [], ℕ, length, sym, ap, ◌∙◌, arith, map, subst}
 use Rattle.edf_pick.specs.Places.{Places, placed}
 use Rattle.domain_run.specs.declared.task.Task.{Task}
 use Rattle.domain_run.specs.Tick.{candidates}
@@ -102,8 +102,8 @@ returns-clause-told c =
     let places : Places = c.pick.new.placement in
     let d : Domain = record { cpus = 0; limit = 0; time = time; tasks = tasks; used = []; curr = places; switches = [] } in
     let homes : GoHome places (length log.happened) woken.happened after.happened =
-        subst (λ (n : ℕ). GoHome places n woken.happened after.happened) c.len-from.ensures
-        (subst (λ (ps : Places). GoHome ps c.len-from.result woken.happened after.happened) c.occupants-5.ensures.occupants c.go_home.ensures.home) in
+    subst (λ (n : ℕ). GoHome places n woken.happened after.happened) c.len-from.ensures
+    (subst (λ (ps : Places). GoHome ps c.len-from.result woken.happened after.happened) c.occupants-5.ensures.occupants c.go_home.ensures.home) in
     tells_home places (told_in_parts time tasks) (told_at_home places time tasks) log woken after
     (home_in_order places (told_of_parts time tasks) (beginning_apart d c.requires.numbered)) c.wake_all.ensures.told c.go_home.ensures.wanted homes
 
