@@ -11,7 +11,7 @@ use Rattle.domain_run.specs.declared.happened.Happened.{Happened}
 use Rattle.domain_run.specs.declared.call.Call.{Call}
 use Rattle.domain_run.specs.declared.call.Call.TheVariants.{Admit, Regrade, Wake, Leave, Advance, Limit, Depart, Arrive}
 use Rattle.domain_run.specs.declared.call.Reply.{Reply}
-use Rattle.domain_run.specs.declared.call.Reply.TheVariants.{Admitted, Changed, Full, Twice, Busy}
+use Rattle.domain_run.specs.declared.call.Reply.TheVariants.{Admitted, Full, Twice, Busy}
 use Rattle.domain_run.specs.Domain.{Domain, opened}
 use Rattle.domain_run.specs.Tick.{sum_of}
 use Rattle.domain_run.specs.Calls.{admit_reply, reply_to, is_refusal, granted, after_call, task_of, word_reply, regrade_reply, wake_reply, leave_reply, limit_reply, depart_reply}

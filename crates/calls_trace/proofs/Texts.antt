@@ -32,7 +32,7 @@ use Rattle.calls_trace.specs.declared.run_text.RunText.TheVariants.{Trace, Event
 use Rattle.calls_trace.specs.Replay.{run_view, runs_from, trace_of_sections}
 use Rattle.calls_trace.specs.Told.{admitted, told_from, jobs_view, summary_view, events_of_sections, jobs_of_sections, summary_of_sections}
 use Rattle.calls_trace.specs.Answer.{replayed, print_tells}
-use Rattle.calls_trace.specs.private.Replaying.{PlacedView, view_of, view_at, views_from, run_in, told_in, jobs_in, summary_in, text_in, text_of_runs}
+use Rattle.calls_trace.specs.private.Replaying.{view_of, view_at, views_from, run_in, told_in, jobs_in, summary_in, text_in, text_of_runs}
 use Rattle.calls_trace.specs.private.RunTexts.{run_text, tells, text_of_all}
 
 -- ---- lists, one element more

@@ -1,8 +1,8 @@
 -- What happens in the run of a section can be written: each of it has a line, and it rises.
-use Rattle.std.proofs.Common.{◌≡◌, ◌≢◌, ℕ, ◌+◌, ◌*◌, ◌^◌, ◌<◌, ◌≤◌, Bool, true, false, cond, eqb, ltb, ◌&&◌, ◌||◌, List, [], ◌∷◌, length, map, get_or, refl, sym, ap, subst, ◌∙◌, inl, inr, arith, eq-eqb}
+use Rattle.std.proofs.Common.{◌≡◌, ◌≢◌, ℕ, ◌+◌, ◌*◌, ◌^◌, ◌<◌, ◌≤◌, Bool, true, false, eqb, ltb, ◌&&◌, ◌||◌, List, [], ◌∷◌, length, map, get_or, refl, inl, inr, arith, eq-eqb}
 use Rattle.std.specs.Prelude.{All, AllPairs, IsTrue, not}
 use Rattle.std.proofs.lemmas.Bool.{or_left, or_right, and_from, lt-ltb}
-use Rattle.std.proofs.lemmas.List.Elements.{All-nil, All-head, All-tail, All-weaker}
+use Rattle.std.proofs.lemmas.List.Elements.{All-head, All-tail, All-weaker}
 use Rattle.domain_run.specs.declared.happened.What.{What}
 use Rattle.domain_run.specs.declared.happened.What.TheVariants.{JobEnds, NextReleased, Spent, Cut, Replenished, Released, WokenSpent}
 use Rattle.domain_run.specs.declared.happened.Happened.{Happened}
@@ -10,16 +10,15 @@ use Rattle.domain_run.specs.declared.call.Call.{Call}
 use Rattle.domain_run.specs.declared.call.Call.TheVariants.{Admit, Regrade, Wake, Leave, Advance, Limit, Depart, Arrive}
 use Rattle.domain_run.specs.Domain.{Domain, opened}
 use Rattle.domain_run.specs.Calls.{after_call}
-use Rattle.domain_run.specs.Run.{after_calls, run_of}
+use Rattle.domain_run.specs.Run.{after_calls}
 use Rattle.domain_run.specs.Happened.{rank, is_first}
 use Rattle.domain_run.proofs.CallerLemmas.{ticks_of, call_time, IsSooner, IsSoonerUnlessCut, IsToldIn, run_tells, run_rises, run_cpus}
 use Rattle.call_book.specs.declared.section.Entry.{Entry}
 use Rattle.call_book.specs.SectionView.{SectionView}
 use Rattle.call_book.specs.Limits.{IsCall, IsEntry, IsSection}
-use Rattle.switch_text.specs.Names.{Names, HasName}
+use Rattle.switch_text.specs.Names.{Names}
 use Rattle.switch_text.specs.ToldLine.{has_line}
-use Rattle.switch_text.specs.Telling.{HasToldLine, is_sooner, is_sooner_unless_cut, IsTold}
-use Rattle.switch_text.specs.declared.told.Told.{Told}
+use Rattle.switch_text.specs.Telling.{HasToldLine, is_sooner, is_sooner_unless_cut}
 use Rattle.calls_trace.specs.Replay.{calls_of}
 use Rattle.calls_trace.specs.Told.{domain_of, told_of}
 use Rattle.calls_trace.specs.private.Replaying.{AreNamed}
@@ -87,27 +86,3 @@ told_lines s base names is named inside =
     let cpus : d.cpus ≡ s.cpus = run_cpus s.cpus s.limit (calls_of s) in
     All-weaker (IsToldIn d) (HasToldLine names base) (λ h in_it. record { time = omega (arith, in_it.past, early); cpu = omega (arith, in_it.inside, cpus, inside); name = named h.number in_it.admitted })
     (told_of s) (run_tells s.cpus s.limit (calls_of s) is.some_cpus)
-
--- what is kept of it, where it is wanted
-pub kept_lines : (wanted : Bool) (s : SectionView) (base : ℕ) (names : Names) (kept : List Happened) → kept ≡ cond wanted (told_of s) [] → IsSection s → AreNamed (domain_of s) names → base + s.cpus ≤ 512 → All (HasToldLine names base) kept
-kept_lines wanted s base names kept same is named inside = subst (All (HasToldLine names base)) (sym same) (by_wanted wanted)
-  where
-    by_wanted : (b : Bool) → All (HasToldLine names base) (cond b (told_of s) [])
-    by_wanted true = told_lines s base names is named inside
-    by_wanted false = All-nil (HasToldLine names base)
-
-pub kept_rises : (wanted : Bool) (s : SectionView) (kept : List Happened) → kept ≡ cond wanted (told_of s) [] → IsSection s → AllPairs (λ a b. IsTrue (is_sooner_unless_cut a b)) kept
-kept_rises wanted s kept same is = subst (AllPairs (λ a b. IsTrue (is_sooner_unless_cut a b))) (sym same) (by_wanted wanted)
-  where
-    by_wanted : (b : Bool) → AllPairs (λ x y. IsTrue (is_sooner_unless_cut x y)) (cond b (told_of s) [])
-    by_wanted true = told_rises s is
-    by_wanted false = λ i j d less within. absurd (omega (arith, within))
-
--- what happens in a section's run, where it is few enough: the domain's CPU 0 is this CPU of the machine, and whoever
--- was admitted has a name
-pub told_is : (t : Told) (s : SectionView) → IsSection s → AreNamed (domain_of s) t.names.now → t.base + s.cpus ≤ 512 → t.happened.now ≡ told_of s → length t.happened.now ≤ 2 ^ 50 → IsTold t
-told_is t s is named inside same few = record {
-  lines = subst (All (HasToldLine t.names.now t.base)) (sym same) (told_lines s t.base t.names.now is named inside);
-  rising = subst (AllPairs (λ a b. IsTrue (is_sooner_unless_cut a b))) (sym same) (told_rises s is);
-  few = few;
-}

@@ -1,4 +1,4 @@
-use Rattle.std.proofs.Common.{◌≡◌, ap}
+use Rattle.std.proofs.Common.{ap}
 use Rattle.run_figures.specs.Runs.{RunView}
 use Rattle.calls_trace.specs.private.Replaying.{given_in, heard}
 use Rattle.calls_trace.proofs.Texts.{jobs_is}

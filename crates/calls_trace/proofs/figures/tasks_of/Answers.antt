@@ -1,4 +1,4 @@
-use Rattle.std.proofs.Common.{◌≡◌, List, map, take, sym, ap, subst, ◌∙◌}
+use Rattle.std.proofs.Common.{◌≡◌, map, sym, ap, subst, ◌∙◌}
 use Rattle.std.proofs.lemmas.List.{take_all}
 use Rattle.run_figures.specs.Runs.{AreTasks}
 use Rattle.calls_trace.specs.Told.{admitted}

@@ -1,6 +1,5 @@
-use Rattle.std.proofs.Common.{◌≡◌, List, ◌∙◌, ap}
+use Rattle.std.proofs.Common.{◌≡◌, ◌∙◌, ap}
 use Rattle.call_book.specs.SectionView.{SectionView}
-use Rattle.call_book.specs.declared.section.Entry.{Entry}
 use Rattle.calls_trace.proofs.Recorded.{run_is, told_is}
 use Rattle.calls_trace.proofs.named_run.recorded.Goals as goal
 

@@ -1,12 +1,10 @@
-use Rattle.std.proofs.Common.{◌≡◌, ℕ, Bool, ◌<◌, ◌≤◌, ◌+◌, length, slice_index_or, refl, sym, ap, subst, ◌∙◌, arith}
+use Rattle.std.proofs.Common.{◌≡◌, ℕ, Bool, ◌<◌, ◌+◌, length, slice_index_or, refl, sym, ap, subst, ◌∙◌, arith}
 use Rattle.std.specs.Vec.Iter.{into_iter_items, into_iter_len}
 use Rattle.std.proofs.lemmas.List.{length_push}
 use Rattle.std.proofs.lemmas.List.Elements.{All-push}
 use Rattle.call_book.specs.SectionView.{SectionView}
 use Rattle.call_book.specs.Limits.{IsSection}
 use Rattle.calls_trace.specs.declared.placed_run.PlacedRun.{PlacedRun}
-use Rattle.domain_run.specs.Log.{LogView}
-use Rattle.calls_trace.specs.Told.{told_of}
 use Rattle.calls_trace.specs.private.Replaying.{IsPlaced, IsToldOf, views_from}
 use Rattle.calls_trace.proofs.Written.{placed_is}
 use Rattle.calls_trace.proofs.Recorded.{next_state, states_left, placed_more, log_there, log_wanted, log_told}

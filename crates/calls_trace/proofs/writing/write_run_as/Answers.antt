@@ -1,8 +1,8 @@
-use Rattle.std.proofs.Common.{◌≡◌, Bool, List, ℕ, map, sym, ap, subst, ◌∙◌}
+use Rattle.std.proofs.Common.{List, ℕ, sym, subst, ◌∙◌}
 use Rattle.std.specs.Prelude.{IfErr, OnOk}
 use Rattle.counted_io.specs.Sides.{Side, side}
 use Rattle.calls_trace.specs.Written.{IsUnwritten, IsWritten}
-use Rattle.calls_trace.proofs.Texts.{text_is, replies_are}
+use Rattle.calls_trace.proofs.Texts.{text_is}
 use Rattle.calls_trace.proofs.writing.write_run_as.Goals as goal
 
 pub returns-in-Some-clause-ok : goal.returns-in-Some-clause-ok
