@@ -10,3 +10,4 @@ pub mod Shared
 pub mod Put
 pub mod Listed
 pub mod Once
+pub mod Balance

@@ -1,5 +1,6 @@
 use Rattle.std.proofs.Common.{◌∙◌, arith}
 use Rattle.run_figures.specs.Runs.{view_of}
+use Rattle.run_figures.proofs.Balance.{ticks_balanced}
 use Rattle.run_figures.proofs.Put.{all_tasks, all_cpus, all_short, shared}
 use Rattle.run_figures.proofs.summary.summary_of.Goals as goal
 
