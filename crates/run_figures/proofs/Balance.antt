@@ -32,17 +32,17 @@ use Rattle.run_figures.specs.Balance.{replenishes, replenished_of, open_of, AreB
 
 -- ---- counts
 
-abbrev throttled_by : ℕ → Happened → ℕ
+abbrev pub throttled_by : ℕ → Happened → ℕ
 throttled_by n h = cond (eqb h.number n && throttles h.what) 1 0
 
-abbrev replenished_by : ℕ → Happened → ℕ
+abbrev pub replenished_by : ℕ → Happened → ℕ
 replenished_by n h = cond (eqb h.number n && replenishes h.what) 1 0
 
-abbrev opened_by : ℕ → Task → ℕ
+abbrev pub opened_by : ℕ → Task → ℕ
 opened_by n t = cond (eqb t.number n && is_throttled t.condition) 1 0
 
 -- of one task alone
-own_sum : (n : ℕ) (p : Happened → Bool) (hs : List Happened) → count_by p (of_task n hs) ≡ sum_by (λ h. cond (eqb h.number n && p h) 1 0) hs
+pub own_sum : (n : ℕ) (p : Happened → Bool) (hs : List Happened) → count_by p (of_task n hs) ≡ sum_by (λ h. cond (eqb h.number n && p h) 1 0) hs
 own_sum n p [] = refl
 own_sum n p (h ∷ hs) =
     elim (eqb h.number n) as (λ b. count_by p (cond b (h ∷ of_task n hs) (of_task n hs)) ≡ cond (b && p h) 1 0 + sum_by (λ (g : Happened). cond (eqb g.number n && p g) 1 0) hs) [
@@ -58,12 +58,12 @@ sum_with f h (x ∷ xs) =
       | false ↦ omega (arith, sum_by-cons f x (with_happened h xs), sum_with f h xs, sum_by-cons f x xs)
     ]
 
-sum_order : (f : Happened → ℕ) (hs : List Happened) → sum_by f (in_order hs) ≡ sum_by f hs
+pub sum_order : (f : Happened → ℕ) (hs : List Happened) → sum_by f (in_order hs) ≡ sum_by f hs
 sum_order f [] = refl
 sum_order f (h ∷ hs) = sum_with f h (in_order hs) ∙ ap (λ n. f h + n) (sum_order f hs) ∙ sym (sum_by-cons f h hs)
 
 -- on the CPU of its task
-sum_home : (f : Happened → ℕ) (g : Happened → Happened) (hs : List Happened) → ((h : Happened) → f (g h) ≡ f h) → sum_by f (map g hs) ≡ sum_by f hs
+pub sum_home : (f : Happened → ℕ) (g : Happened → Happened) (hs : List Happened) → ((h : Happened) → f (g h) ≡ f h) → sum_by f (map g hs) ≡ sum_by f hs
 sum_home f g [] same = refl
 sum_home f g (h ∷ hs) same = sum_by-cons f (g h) (map g hs) ∙ (λ i. same h i + sum_home f g hs same i) ∙ sym (sum_by-cons f h hs)
 
@@ -89,7 +89,7 @@ same_open : (n : ℕ) (g : Task → Task) (tasks : List Task) → ((t : Task) �
 same_open n g [] same = refl
 same_open n g (t ∷ tasks) same = sum_by-cons (opened_by n) (g t) (map g tasks) ∙ (λ i. same t i + same_open n g tasks same i) ∙ sym (sum_by-cons (opened_by n) t tasks)
 
-closed : (n k : ℕ) → cond {A = ℕ} (eqb k n && false) 1 0 ≡ 0
+pub closed : (n k : ℕ) → cond {A = ℕ} (eqb k n && false) 1 0 ≡ 0
 closed n k = elim (eqb k n) as (λ b. cond {A = ℕ} (b && false) 1 0 ≡ 0) [ true ↦ refl | false ↦ refl ]
 
 -- ---- PARTS 1 to 3
@@ -140,7 +140,7 @@ wake_balances n time k t u same = subst (λ m. sum_by (throttled_by n) (told_by_
       | false ↦ elim (eqb t.number n) as (λ e. sum_by (λ (h : Happened). cond (e && throttles h.what) 1 0) (told time t (Released (job_due time t)) ∷ []) ≡ sum_by (λ (h : Happened). cond (e && replenishes h.what) 1 0) (told time t (Released (job_due time t)) ∷ []) + cond (e && false) 1 0) [ true ↦ refl | false ↦ refl ]
     ])
 
-number_enqueued : (time : ℕ) (s : Server) (x : Task) → (enqueued time s x).number ≡ x.number
+pub number_enqueued : (time : ℕ) (s : Server) (x : Task) → (enqueued time s x).number ≡ x.number
 number_enqueued time s x = elim (is_spent s) as (λ a. (cond a (cond (has_come time s.deadline) (record x { server = replenished x.params s; condition = Ready }) (record x { server = s; condition = Throttled })) (record x { server = s; condition = Ready })).number ≡ x.number) [
   | true ↦ elim (has_come time s.deadline) as (λ b. (cond b (record x { server = replenished x.params s; condition = Ready }) (record x { server = s; condition = Throttled })).number ≡ x.number) [ true ↦ refl | false ↦ refl ]
   | false ↦ refl
@@ -188,7 +188,7 @@ homed_open n places t = by_place (position (is_task t.number) places)
 -- ---- A BEGINNING
 
 -- with sums for counts
-abbrev AreEven : List Task → List Happened → List Task → Type 0
+abbrev pub AreEven : List Task → List Happened → List Task → Type 0
 AreEven before told after = (n : ℕ) → sum_by (opened_by n) before + sum_by (throttled_by n) told ≡ sum_by (replenished_by n) told + sum_by (opened_by n) after
 
 pub beginning_even : (d : Domain) → AreEven d.tasks (told_by_beginning d) (begun d).tasks
@@ -224,7 +224,7 @@ segment_none f time t late (Until u) one two = none_of f (told time t JobEnds) o
 segment_none f time t late WaitFor one two = none_of f (told time t JobEnds) one
 segment_none f time t late EndNow one two = none_of f (told time t JobEnds) one
 
-work_none : (f : Happened → ℕ) (time : ℕ) (t : Task) → f (told time t JobEnds) ≡ 0 → f (told time t (NextReleased (job_due time t))) ≡ 0 → sum_by f (told_by_work time t) ≡ 0
+pub work_none : (f : Happened → ℕ) (time : ℕ) (t : Task) → f (told time t JobEnds) ≡ 0 → f (told time t (NextReleased (job_due time t))) ≡ 0 → sum_by f (told_by_work time t) ≡ 0
 work_none f time t one two =
     let late = passes_late_timer t.cursor time in
     let s = (asked t.cursor time).segment in
@@ -248,14 +248,21 @@ run_balances n time rate t quiet =
     let e = work_none (replenished_by n) (time + 1) x (closed n t.number) (closed n t.number) in
     omega (arith, nothing, a, b, c, e, budget_balances n (time + 1) u)
 
--- who stands on a CPU is not throttled
-abbrev MayRun : Domain → Task → Type 0
-MayRun d t = stands t.number d.curr ≡ true → is_throttled t.condition ≡ false
+-- who stands on a CPU is ready
+abbrev pub MayRun : Domain → Task → Type 0
+MayRun d t = stands t.number d.curr ≡ true → is_ready t.condition ≡ true
+
+ready_not_throttled : (c : Condition) → is_ready c ≡ true → is_throttled c ≡ false
+ready_not_throttled Ready e = refl
+ready_not_throttled Throttled e = absurd cc
+ready_not_throttled (Blocked u) e = absurd cc
+ready_not_throttled Waiting e = absurd cc
+ready_not_throttled Leaving e = absurd cc
 
 ran_balances : (n : ℕ) (d : Domain) (t : Task) → MayRun d t → Balances n t (told_if_ran d t) (ran_if d t)
 ran_balances n d t may =
     elim (stands t.number d.curr) as (λ b. stands t.number d.curr ≡ b → Balances n t (cond b (told_by_run d.time (rate_of d t) t) []) (cond b (ran d.time (rate_of d t) t) t)) [
-      | true ↦ λ is. run_balances n d.time (rate_of d t) t (may is)
+      | true ↦ λ is. run_balances n d.time (rate_of d t) t (ready_not_throttled t.condition (may is))
       | false ↦ λ is. omega arith
     ] refl
 
@@ -353,19 +360,12 @@ no_candidate n (t ∷ tasks) none =
     whole true e = e
     whole false e = refl
 
-throttled_not_ready : (c : Condition) → is_throttled c ≡ true → is_ready c ≡ false
-throttled_not_ready Throttled e = refl
-throttled_not_ready Ready e = absurd cc
-throttled_not_ready (Blocked u) e = absurd cc
-throttled_not_ready Waiting e = absurd cc
-throttled_not_ready Leaving e = absurd cc
-
 and_right : (a b : Bool) → b ≡ false → (a && b) ≡ false
 and_right true b e = e
 and_right false b e = refl
 
--- where one is throttled, none of its number is ready
-alone : (tasks : List Task) (i : ℕ) (d : Task) → AreNumbered tasks → i < length tasks → is_throttled (get_or tasks i d).condition ≡ true → All (λ u. is_ready_of (get_or tasks i d).number u ≡ false) tasks
+-- where one is not ready, none of its number is
+alone : (tasks : List Task) (i : ℕ) (d : Task) → AreNumbered tasks → i < length tasks → is_ready (get_or tasks i d).condition ≡ false → All (λ u. is_ready_of (get_or tasks i d).number u ≡ false) tasks
 alone tasks i d numbered within is j e there =
     let n = (get_or tasks i d).number in
     let same : get_or tasks j e ≡ get_or tasks j d = get_or_default tasks j e d there in
@@ -375,27 +375,27 @@ alone tasks i d numbered within is j e there =
         | inl more ↦ and_none (eqb (get_or tasks j d).number n) (is_ready (get_or tasks j d).condition) (ne_eqb (get_or tasks j d).number n (λ s. numbered j i d more within s))
         | inr at_most ↦
             let here : j ≡ i = omega (arith, at_least, at_most) in
-            and_right (eqb (get_or tasks j d).number n) (is_ready (get_or tasks j d).condition) (ap (λ k. is_ready (get_or tasks k d).condition) here ∙ throttled_not_ready (get_or tasks i d).condition is)
+            and_right (eqb (get_or tasks j d).number n) (is_ready (get_or tasks j d).condition) (ap (λ k. is_ready (get_or tasks k d).condition) here ∙ is)
       ]
     ] in
     ap (is_ready_of n) same ∙ by
 
 -- a true one where a false one follows
-opposite : (a b : Bool) → (b ≡ true → a ≡ false) → a ≡ true → b ≡ false
-opposite a true h e = let no : true ≡ false = sym e ∙ h refl in absurd cc
-opposite a false h e = refl
+opposite : (a b : Bool) → (b ≡ false → a ≡ false) → a ≡ true → b ≡ true
+opposite a true h e = refl
+opposite a false h e = let no : true ≡ false = sym e ∙ h refl in absurd cc
 
-prepared_may_run : (cpus : ℕ) (tasks : List Task) (before : Places) → AreNumbered tasks → All (λ t. stands t.number (placed cpus (candidates tasks) before) ≡ true → is_throttled t.condition ≡ false) tasks
+prepared_may_run : (cpus : ℕ) (tasks : List Task) (before : Places) → AreNumbered tasks → All (λ t. stands t.number (placed cpus (candidates tasks) before) ≡ true → is_ready t.condition ≡ true) tasks
 prepared_may_run cpus tasks before numbered i d within standing =
     let t = get_or tasks i d in
-    opposite (stands t.number (placed cpus (candidates tasks) before)) (is_throttled t.condition)
+    opposite (stands t.number (placed cpus (candidates tasks) before)) (is_ready t.condition)
     (λ is. none_placed t.number cpus (candidates tasks) before (no_candidate t.number tasks (alone tasks i d numbered within is))) standing
 
-homed_number : (o : Option ℕ) (t : Task) → (with_cpu o t).number ≡ t.number
+pub homed_number : (o : Option ℕ) (t : Task) → (with_cpu o t).number ≡ t.number
 homed_number None t = refl
 homed_number (Some cpu) t = refl
 
-homed_condition : (o : Option ℕ) (t : Task) → (with_cpu o t).condition ≡ t.condition
+pub homed_condition : (o : Option ℕ) (t : Task) → (with_cpu o t).condition ≡ t.condition
 homed_condition None t = refl
 homed_condition (Some cpu) t = refl
 
@@ -407,14 +407,14 @@ begun_may_run d numbered =
     (λ k e h standing.
       let t = get_or tasks k e in
       let o = position (is_task t.number) places in
-      ap is_throttled (homed_condition o t) ∙ prepared_may_run d.cpus tasks d.curr numbered k e h (ap (λ n. stands n places) (sym (homed_number o t)) ∙ standing))
+      ap is_ready (homed_condition o t) ∙ prepared_may_run d.cpus tasks d.curr numbered k e h (ap (λ n. stands n places) (sym (homed_number o t)) ∙ standing))
 
 -- ---- NUMBERS
 
-number_due : (time : ℕ) (t : Task) → (replenish_due time t).number ≡ t.number
+pub number_due : (time : ℕ) (t : Task) → (replenish_due time t).number ≡ t.number
 number_due time t = elim (is_throttled t.condition && has_come time t.server.deadline) as (λ b. (cond b (record t { server = replenished t.params t.server; condition = Ready }) t).number ≡ t.number) [ true ↦ refl | false ↦ refl ]
 
-number_settled : (time : ℕ) (t : Task) → (settled time t).number ≡ t.number
+pub number_settled : (time : ℕ) (t : Task) → (settled time t).number ≡ t.number
 number_settled time t = elim (has_come time t.zero_lag) as (λ b. (cond b (record t { zero_lag = None }) t).number ≡ t.number) [ true ↦ refl | false ↦ refl ]
 
 number_started : (time : ℕ) (s : Segment) (t : Task) → (started time s t).number ≡ t.number
@@ -423,19 +423,19 @@ number_started time (Until u) t = refl
 number_started time WaitFor t = refl
 number_started time EndNow t = refl
 
-number_unblocked : (time : ℕ) (t : Task) → (unblocked time t).number ≡ t.number
+pub number_unblocked : (time : ℕ) (t : Task) → (unblocked time t).number ≡ t.number
 number_unblocked time t =
     let a = asked t.cursor time in
     elim (is_over time t.condition) as (λ b. (cond b (starts time t a) t).number ≡ t.number) [ true ↦ number_started time a.segment (record t { cursor = a.cursor }) | false ↦ refl ]
 
-numbered_map : (f : Task → Task) → ((t : Task) → (f t).number ≡ t.number) → (tasks : List Task) → AreNumbered tasks → AreNumbered (map f tasks)
+pub numbered_map : (f : Task → Task) → ((t : Task) → (f t).number ≡ t.number) → (tasks : List Task) → AreNumbered tasks → AreNumbered (map f tasks)
 numbered_map f keeps tasks numbered i j d less within =
     let e : length (map f tasks) ≡ length tasks = simp length-map in
     let there : j < length tasks = omega arith in
     let here : i < length tasks = omega arith in
     rw (get_or-map f tasks i d d here, get_or-map f tasks j d d there) (λ same. numbered i j d less there (sym (keeps (get_or tasks i d)) ∙ same ∙ keeps (get_or tasks j d)))
 
-prepared_numbered : (time : ℕ) (tasks : List Task) → AreNumbered tasks → AreNumbered (prepared time tasks)
+pub prepared_numbered : (time : ℕ) (tasks : List Task) → AreNumbered tasks → AreNumbered (prepared time tasks)
 prepared_numbered time tasks numbered =
     let first = map (replenish_due time) tasks in
     let second = map (settled time) first in
@@ -448,7 +448,7 @@ prepared_numbered time tasks numbered =
 even_more : (a b c : List Task) (hs gs : List Happened) → AreEven a hs b → AreEven b gs c → AreEven a (hs ++ gs) c
 even_more a b c hs gs one two n = omega (arith, one n, two n, sum_by-append (throttled_by n) hs gs, sum_by-append (replenished_by n) hs gs)
 
-tick_even : (d : Domain) → AreNumbered d.tasks → AreEven d.tasks (told_by_tick d) (ticked d).tasks
+pub tick_even : (d : Domain) → AreNumbered d.tasks → AreEven d.tasks (told_by_tick d) (ticked d).tasks
 tick_even d numbered =
     even_more d.tasks (begun d).tasks (ticked d).tasks (told_by_beginning d) (told_by_end (begun d))
     (beginning_even d) (end_even (begun d) (begun_may_run d (prepared_numbered d.time d.tasks numbered)))

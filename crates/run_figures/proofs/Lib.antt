@@ -11,3 +11,4 @@ pub mod Put
 pub mod Listed
 pub mod Once
 pub mod Balance
+pub mod Alternating
