@@ -12,3 +12,4 @@ pub mod Listed
 pub mod Once
 pub mod Balance
 pub mod Alternating
+pub mod RunsInTurn

@@ -2,6 +2,7 @@ use Rattle.std.proofs.Common.{◌∙◌, arith}
 use Rattle.run_figures.specs.Runs.{view_of}
 use Rattle.run_figures.proofs.Balance.{ticks_balanced}
 use Rattle.run_figures.proofs.Alternating.{end_few}
+use Rattle.run_figures.proofs.RunsInTurn.{run_counted}
 use Rattle.run_figures.proofs.Put.{all_tasks, all_cpus, all_short, shared}
 use Rattle.run_figures.proofs.summary.summary_of.Goals as goal
 
