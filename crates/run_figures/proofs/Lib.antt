@@ -13,3 +13,4 @@ pub mod Once
 pub mod Balance
 pub mod Alternating
 pub mod RunsInTurn
+pub mod Evened
