@@ -1,12 +1,11 @@
 -- Throttles and replenishments of a task come in turn: at most one of them where a tick begins, and one where it ends.
-use Rattle.std.proofs.Common.{◌≡◌, ◌≢◌, ℕ, zero, suc, ◌+◌, ◌-◌, ◌<◌, ◌≤◌, Bool, true, false, cond, eqb, leb, ◌&&◌, ◌||◌, not, Option, Some, None, List, [], ◌∷◌, ◌++◌, length, map, get_or, refl, sym, ap, ◌∙◌, subst, arith, eq-eqb}
-use Rattle.std.specs.Prelude.{All, AllPairs, filter, fold, sum_by, count_by, position, is_none}
+use Rattle.std.proofs.Common.{◌≡◌, ◌≢◌, ℕ, zero, suc, ◌+◌, ◌-◌, ◌≤◌, Bool, true, false, cond, eqb, leb, ◌&&◌, ◌||◌, not, None, List, [], ◌∷◌, ◌++◌, map, refl, sym, ap, ◌∙◌, subst, arith}
+use Rattle.std.specs.Prelude.{All, filter, fold, sum_by}
 use Rattle.std.specs.List.{flat_map}
 use Rattle.std.proofs.lemmas.Bool.{eqb-true, ne_eqb}
 use Rattle.std.proofs.lemmas.List.Sums.{sum_by-cons, sum_by-append, fold-append}
 use Rattle.std.proofs.lemmas.List.Elements.{All-head, All-tail, filter-append}
-use Rattle.cbs_rules.specs.Serving.{replenished, woken, charged, is_spent}
-use Rattle.cbs_rules.specs.declared.server.Server.{Server}
+use Rattle.cbs_rules.specs.Serving.{replenished, charged}
 use Rattle.domain_run.specs.declared.task.Task.{Task}
 use Rattle.domain_run.specs.declared.task.Condition.{Condition}
 use Rattle.domain_run.specs.declared.task.Condition.TheVariants.{Ready, Throttled, Blocked, Waiting, Leaving}
@@ -17,16 +16,16 @@ use Rattle.domain_run.specs.declared.happened.Happened.{Happened}
 use Rattle.domain_run.specs.declared.happened.What.TheVariants.{JobEnds, NextReleased, Spent, Cut, Replenished, Released, WokenSpent}
 use Rattle.domain_run.specs.script.Segments.{asked}
 use Rattle.edf_pick.specs.Places.{stands}
-use Rattle.domain_run.specs.Conditions.{is_throttled, is_over, has_come}
-use Rattle.domain_run.specs.Parts.{replenish_due, settled, is_listed, unblocked, enqueued, started, starts, running_on, went_on, goes_on, after_charge, ran}
+use Rattle.domain_run.specs.Conditions.{is_throttled, has_come}
+use Rattle.domain_run.specs.Parts.{replenish_due, settled, is_listed, starts, running_on, went_on, goes_on, ran}
 use Rattle.domain_run.specs.Domain.{Domain}
-use Rattle.domain_run.specs.Tick.{begun, prepared, rate_of, ran_if, finished, ticked}
-use Rattle.domain_run.specs.Happened.{told, due, job_due, told_by_work, told_by_budget, told_by_run, told_if_ran, told_by_replenishment, told_by_wake, told_by_unblocking, at_home, told_to_begin, told_by_beginning, told_by_end, told_by_tick}
+use Rattle.domain_run.specs.Tick.{begun, rate_of}
+use Rattle.domain_run.specs.Happened.{told, due, job_due, told_by_work, told_by_budget, told_by_run, told_if_ran, told_by_replenishment, told_by_wake, told_by_unblocking, at_home, told_by_beginning, told_by_end}
 use Rattle.domain_run.proofs.CallerLemmas.{AreNumbered}
 use Rattle.run_figures.specs.Jobs.{of_task}
 use Rattle.run_figures.specs.Throttling.{throttles, throttled_of}
 use Rattle.run_figures.specs.Balance.{replenishes, replenished_of, come_in_turn, is_left_throttled}
-use Rattle.run_figures.proofs.Balance.{throttled_by, replenished_by, opened_by, own_sum, sum_order, sum_home, closed, number_enqueued, number_due, work_none}
+use Rattle.run_figures.proofs.Balance.{throttled_by, replenished_by, own_sum, sum_order, sum_home, closed, work_none}
 
 -- ---- LISTS
 

@@ -1,9 +1,8 @@
 -- The figures of throttles, of what a domain tells.
-use Rattle.std.proofs.Common.{◌≡◌, ℕ, ◌+◌, false, cond, List, map, get_or, sym, ap, ◌∙◌, subst}
+use Rattle.std.proofs.Common.{◌≡◌, ℕ, ◌+◌, false, cond, List, get_or, sym, subst}
 use Rattle.std.specs.Prelude.{All}
 use Rattle.std.proofs.lemmas.List.Elements.{All-map}
 use Rattle.domain_run.specs.declared.happened.Happened.{Happened}
-use Rattle.run_figures.specs.declared.run.Admitted.{Admitted}
 use Rattle.run_figures.specs.declared.figures.TaskFigures.{TaskFigures}
 use Rattle.run_figures.specs.Jobs.{of_task}
 use Rattle.run_figures.specs.Runs.{RunView}

@@ -1,6 +1,6 @@
 -- Throttles and replenishments of a task come in turn: through a whole run of calls.
-use Rattle.std.proofs.Common.{◌≡◌, ◌≢◌, ◌⊎◌, ℕ, zero, suc, ◌+◌, ◌-◌, ◌<◌, ◌≤◌, Bool, true, false, cond, eqb, ltb, leb, ◌&&◌, ◌||◌, not, Option, Some, None, List, [], ◌∷◌, ◌++◌, length, map, get_or, refl, sym, ap, ◌∙◌, subst, inl, inr, arith, eq-eqb}
-use Rattle.std.specs.Prelude.{All, AllPairs, filter, find, sum_by, position, unwrap_or}
+use Rattle.std.proofs.Common.{◌≡◌, ◌≢◌, ◌⊎◌, ℕ, zero, suc, ◌+◌, ◌<◌, ◌≤◌, Bool, true, false, cond, eqb, ltb, leb, ◌&&◌, ◌||◌, not, Option, Some, None, List, [], ◌∷◌, ◌++◌, length, map, get_or, refl, sym, ap, ◌∙◌, subst, inl, inr, arith, eq-eqb}
+use Rattle.std.specs.Prelude.{All, filter, find, sum_by, position}
 use Rattle.std.specs.List.{list_any}
 use Rattle.std.proofs.lemmas.Bool.{cases_lt, eqb-true, ne_eqb}
 use Rattle.std.proofs.lemmas.List.{get_or_default}
@@ -12,7 +12,6 @@ use Rattle.attr_check.specs.ParamsView.{ParamsView}
 use Rattle.attr_check.specs.Ratio.{cap}
 use Rattle.cbs_rules.specs.Serving.{replenished}
 use Rattle.edf_pick.specs.Places.{Places, is_task, stands}
-use Rattle.domain_run.specs.script.ScriptView.{ScriptView}
 use Rattle.domain_run.specs.script.Segments.{asked}
 use Rattle.domain_run.specs.declared.task.Task.{Task}
 use Rattle.domain_run.specs.declared.task.Condition.{Condition}
@@ -23,14 +22,14 @@ use Rattle.domain_run.specs.declared.call.Call.{Call}
 use Rattle.domain_run.specs.declared.call.Call.TheVariants.{Admit, Regrade, Wake, Leave, Advance, Limit, Depart, Arrive}
 use Rattle.domain_run.specs.declared.call.Reply.TheVariants.{Admitted, Woken, Full, Twice, Busy, NotWaiting}
 use Rattle.domain_run.specs.Conditions.{is_ready, is_throttled, is_contending, is_waiting, is_leaving, is_over, has_come}
-use Rattle.domain_run.specs.Parts.{replenish_due, settled, is_listed, unblocked, starts, with_cpu, with_last_cpu, stopped, ran}
+use Rattle.domain_run.specs.Parts.{replenish_due, settled, is_listed, unblocked, starts, with_last_cpu, stopped, ran}
 use Rattle.domain_run.specs.Domain.{Domain, opened}
 use Rattle.domain_run.specs.Tick.{sum_of, prepared, begun, rate_of, ran_if, finished, ticked, ticks}
 use Rattle.domain_run.specs.Calls.{admit_reply, new_task, with_number, listed, task_of, of_number, changed, regraded, wake_reply, released, leave_reply, ended, with_limit, depart_reply, is_other, departed, reply_to, is_refusal, granted, after_call}
-use Rattle.domain_run.specs.Run.{after_calls, run_of}
+use Rattle.domain_run.specs.Run.{after_calls}
 use Rattle.domain_run.specs.Sound.{IsAdmitted}
 use Rattle.domain_run.specs.Happened.{told, told_by_beginning, told_by_end, told_by_tick, told_by_ticks, told_by_cut, told_by_granted, told_by_call, told_by_calls}
-use Rattle.domain_run.proofs.CallerLemmas.{AreNumbered, ticks_numbered, with_number_contains}
+use Rattle.domain_run.proofs.CallerLemmas.{AreNumbered, with_number_contains}
 use Rattle.run_figures.specs.Jobs.{of_task}
 use Rattle.run_figures.specs.Throttling.{throttled_of}
 use Rattle.run_figures.specs.Balance.{replenished_of, come_in_turn, is_left_throttled}

@@ -1,4 +1,5 @@
--- THROTTLES AND REPLENISHMENTS: laws of what happens (own; sched-deadline.rst, "2. Task scheduling").
+-- THROTTLES AND REPLENISHMENTS: laws of what happens (own; sched-deadline.rst, "2. Task
+-- scheduling").
 use Rattle.std.specs.Prelude.{ℕ, ◌≡◌, ◌+◌, ◌==◌, ◌&&◌, ◌||◌, not, if◌then◌else◌, Bool, true, false, List, [], ◌∷◌, count_by, fold}
 use Rattle.domain_run.specs.declared.happened.What.{What}
 use Rattle.domain_run.specs.declared.happened.What.TheVariants.{JobEnds, NextReleased, Spent, Cut, Replenished, Released, WokenSpent}
@@ -28,7 +29,8 @@ open_of number tasks = count_by (λ t. t.number == number && is_throttled t.cond
 -- FROM TASKS TO WHAT TIME MAKES OF THEM: each is throttled as often as it is replenished, but for
 -- a throttle that is open before, or after
 abbrev pub AreBalanced : List Task → List Happened → List Task → Type 0
-AreBalanced before told after = (number : ℕ) → open_of number before + throttled_of (of_task number told)
+AreBalanced before told after = (number : ℕ)
+    → open_of number before + throttled_of (of_task number told)
     ≡ replenished_of (of_task number told) + open_of number after
 
 -- IN TURN: behind each throttle of a task comes a replenishment before the next throttle, and
