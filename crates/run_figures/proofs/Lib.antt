@@ -10,3 +10,7 @@ pub mod Shared
 pub mod Put
 pub mod Listed
 pub mod Once
+pub mod Balance
+pub mod Alternating
+pub mod RunsInTurn
+pub mod Evened

@@ -1,14 +1,18 @@
 -- Laws of the figures.
-use Rattle.std.specs.Prelude.{◌≡◌, ◌<◌, ◌≤◌, ◌^◌, Bool, true, false, List, length, All, Any, IfSome, is_some, sum_by, count_by}
+use Rattle.std.specs.Prelude.{ℕ, ◌≡◌, ◌<◌, ◌≤◌, ◌^◌, ◌+◌, Bool, true, false, if◌then◌else◌, List, length, All, Any, IfSome, is_some, sum_by, count_by}
 use Rattle.domain_run.specs.declared.happened.What.{What}
 use Rattle.domain_run.specs.declared.happened.What.TheVariants.{JobEnds, NextReleased, Spent, Cut, Replenished, Released, WokenSpent}
 use Rattle.domain_run.specs.declared.happened.Happened.{Happened}
 use Rattle.domain_run.specs.declared.switch.Switch.{Switch}
+use Rattle.domain_run.specs.declared.call.Call.{Call}
+use Rattle.domain_run.specs.Domain.{opened}
+use Rattle.domain_run.specs.Happened.{told_by_calls}
 use Rattle.run_figures.specs.declared.run.Admitted.{Admitted}
 use Rattle.run_figures.specs.declared.figures.TaskFigures.{TaskFigures}
 use Rattle.run_figures.specs.declared.figures.CpuFigures.{CpuFigures}
 use Rattle.run_figures.specs.TaskJobsView.{TaskJobsView}
 use Rattle.run_figures.specs.Jobs.{of_task}
+use Rattle.run_figures.specs.Balance.{replenished_of, is_left_throttled}
 
 -- who comes by a switch is among the tasks
 abbrev pub AreKnown : List Admitted → List Switch → Type 0
@@ -45,3 +49,14 @@ ends (WokenSpent deadline) = false
 pub record AreReleased (happened : List Happened) (t : TaskJobsView) : Type 0 where
   pub released : length t.jobs ≡ count_by (λ h. releases h.what) (of_task t.number happened)
   pub ended : count_by (λ j. is_some j.ended) t.jobs ≤ count_by (λ h. ends h.what) (of_task t.number happened)
+
+-- what a domain tells of some calls, from its opening on
+abbrev pub IsToldOfCalls : List Happened → Type 0
+IsToldOfCalls happened = (cpus : ℕ) × (limit : ℕ) × (calls : List Call)
+    × (happened ≡ told_by_calls (opened cpus limit) calls)
+
+-- a task is throttled as often as it is replenished, or once more: it is throttled at the end, or
+-- was cut while it was
+abbrev pub IsBalanced : List Happened → TaskFigures → Type 0
+IsBalanced happened t = t.throttled ≡ replenished_of (of_task t.number happened)
+    + (if is_left_throttled false (of_task t.number happened) then 1 else 0)

@@ -2,6 +2,7 @@ pub mod TaskJobsView
 pub mod Jobs
 pub mod Stays
 pub mod Throttling
+pub mod Balance
 pub mod Runs
 pub mod Figures
 pub mod Laws

@@ -103,6 +103,8 @@ pub fn summary_of(alloc: Global, run: &Run<'_>) -> Result<Summary, NoMemory>
     ensures short { IfOk result (λ s. laws.AreShort s.tasks.items s.cpus.items) }
     ensures shared { IfOk result (λ s. laws.AreKnown run.now.tasks.now run.now.switches.now
         → laws.IsShared s.tasks.items s.cpus.items) }
+    ensures balanced { IfOk result (λ s. laws.IsToldOfCalls run.now.happened.now
+        → All (laws.IsBalanced run.now.happened.now) s.tasks.items) }
 {
     let places = Places::of(alloc, run.tasks)?;
     let told = told_of(

@@ -1,5 +1,6 @@
 use Rattle.std.proofs.Common.{◌∙◌, arith}
 use Rattle.run_figures.specs.Runs.{view_of}
+use Rattle.run_figures.proofs.Evened.{all_balanced}
 use Rattle.run_figures.proofs.Put.{all_tasks, all_cpus, all_short, shared}
 use Rattle.run_figures.proofs.summary.summary_of.Goals as goal
 
@@ -19,3 +20,6 @@ returns-clause-short c =
 pub returns-clause-shared : goal.returns-clause-shared
 returns-clause-shared c =
     shared (view_of c.args.run.now) c.in_ok-all_figures.field-0.items c.in_ok-cpu_figures.field-0.items c.requires.run (returns-clause-tasks c) (returns-clause-cpus c)
+
+pub returns-clause-balanced : goal.returns-clause-balanced
+returns-clause-balanced c = all_balanced (view_of c.args.run.now) c.in_ok-all_figures.field-0.items (returns-clause-tasks c)
