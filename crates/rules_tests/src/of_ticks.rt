@@ -52,6 +52,21 @@ fn plans() -> Result<[Plan; 3], AttrRefusal>
     Ok([half(4194304)?, half(551883)?, half(551884)?])
 }
 
+fn eight_plans() -> Result<[Plan; 8], AttrRefusal>
+    ensures { IfOk result (All IsPlannable) }
+{
+    Ok([
+        half(1)?,
+        half(2)?,
+        half(3)?,
+        half(4)?,
+        half(5)?,
+        half(6)?,
+        half(7)?,
+        half(8)?,
+    ])
+}
+
 const PLANNED: [(u64, u64); 3] = [(551883, 8), (551883, 1), (551883, 2)];
 
 fn outcomes(plans: &[Plan; 3]) -> [(u64, u64); 3] {
@@ -298,8 +313,10 @@ fn each_piece_has_one_turn(rt: HostRuntime) -> Result<(), Fail> {
         let wanted = (ones, ones, elsewhere);
         let mut all = [a, b, c, a, b, c, a, b];
         assert_eq!(rt; turns_of(&rt, rt, alloc, &mut all, workers)?, wanted);
-        let mut all = [p, q, r, p, q, r, p, q];
-        assert_eq!(rt; turns_of_plans(&rt, rt, alloc, &mut all, workers)?, wanted);
+        assert_eq!(rt;
+            turns_of_plans(&rt, rt, alloc, &mut eight_plans()?, workers)?,
+            wanted
+        );
     }
     Ok(())
 }
