@@ -405,9 +405,9 @@ begun_may_run d numbered =
     let places = placed d.cpus (candidates tasks) d.curr in
     All-map (MayRun (begun d)) (with_last_cpu places) tasks
     (λ k e h standing.
-      let t = get_or tasks k e in
-      let o = position (is_task t.number) places in
-      ap is_ready (homed_condition o t) ∙ prepared_may_run d.cpus tasks d.curr numbered k e h (ap (λ n. stands n places) (sym (homed_number o t)) ∙ standing))
+    let t = get_or tasks k e in
+    let o = position (is_task t.number) places in
+    ap is_ready (homed_condition o t) ∙ prepared_may_run d.cpus tasks d.curr numbered k e h (ap (λ n. stands n places) (sym (homed_number o t)) ∙ standing))
 
 -- ---- NUMBERS
 
