@@ -1,2 +1,2 @@
-pub mod Gone
+pub mod Past
 pub mod View

@@ -1,9 +1,9 @@
 //! A list whose front can be let go of memory.
 
-ghost use Rattle.std.specs.Prelude.{◌≡◌, ◌+◌, ◌-◌, ◌<◌, ◌≤◌, [], length, OnOk};
+ghost use Rattle.std.specs.Prelude.{◌≡◌, ◌+◌, ◌<◌, ◌≤◌, [], length, OnOk};
 ghost use Rattle.let_go.specs.View.{kept, pushed};
 
-use crate::gone::Gone;
+use crate::past::Past;
 use no_memory::NoMemory;
 use std::alloc::Global;
 use std::marker::Model;
@@ -12,7 +12,7 @@ use std::marker::Model;
 /// how many of the first were let go, and how many more it takes without memory.
 #[derive(Drop)]
 pub struct Passed<T> {
-    gone: Gone<T>,
+    gone: Past<T>,
     // All that are not gone.
     kept: Vec<T>,
 }
@@ -20,15 +20,14 @@ pub struct Passed<T> {
 impl<T> Model for Passed<T> {
     ghost use Rattle.std.specs.Prelude.{◌-◌, ◌++◌, length, vec_len, vec_capacity};
     ghost use Rattle.let_go.specs.View.{View, view_code};
-    ghost use Rattle.let_go.specs.Gone.{items_of};
 
     ghost Value = { View T };
 
     ghost coded = { view_code T.code };
 
     ghost view = { λ p. record {
-      all = items_of p.gone ++ p.kept.items;
-      gone = length (items_of p.gone);
+      all = p.gone ++ p.kept.items;
+      gone = length p.gone;
       room = vec_capacity p.kept - vec_len p.kept;
     } };
 }
@@ -40,12 +39,12 @@ impl<T: Drop> Passed<T> {
         ensures gone { result.gone ≡ 0 }
     {
         Passed {
-            gone: Gone::nothing(),
+            gone: Past::new(),
             kept: Vec::new(alloc),
         }
     }
 
-    /// Room for so many more. `Err` where a growth was refused: it has what it had then.
+    /// Room for so many more. `Err` where a growth was refused: it has the room that it had then.
     pub fn make_room(&mut self, more: usize) -> Result<(), NoMemory>
         ensures all { self.new.all ≡ self.old.all }
         ensures gone { self.new.gone ≡ self.old.gone }
@@ -64,21 +63,21 @@ impl<T: Drop> Passed<T> {
         self.kept.push_reserved(one);
     }
 
-    /// Those that were not let go.
+    /// Those that were not let go, in their order.
     pub fn kept(&self) -> &[T]
         ensures kept { result.now ≡ kept self.now }
         ensures gone { self.now.gone ≤ length self.now.all }
     {
-        &self.kept
+        self.kept.as_slice()
     }
 
-    /// Lets all go that are in memory now. Their room is for those to come.
+    /// Lets all go that are in memory now. Their room is for those to come. Takes no memory.
     pub fn let_go(&mut self)
         ensures all { self.new.all ≡ self.old.all }
         ensures gone { self.new.gone ≡ length self.old.all }
         ensures room { self.new.room ≡ self.old.room + length (kept self.old) }
     {
-        self.gone.add(&self.kept);
+        self.gone.append(&self.kept);
         self.kept.clear();
     }
 }
