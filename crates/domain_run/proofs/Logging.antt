@@ -1,8 +1,11 @@
 -- A log that is told one thing after another.
-use Rattle.std.proofs.Common.{◌≡◌, Bool, true, false, cond, List, [], ◌++◌, length, refl, sym, ap, ◌∙◌}
-use Rattle.std.specs.Prelude.{AllPairs, map}
+use Rattle.std.proofs.Common.{◌≡◌, ℕ, ◌+◌, ◌-◌, ◌<◌, ◌≤◌, Bool, true, false, cond, List, [], ◌++◌, length, map, take, drop, set, get_or, refl, sym, subst, ap, ◌∙◌, arith}
+use borrow.Rule.Slice.PartMut.{mid_of, put_mid, post_of}
+use Rattle.std.specs.Prelude.{AllPairs}
 use Rattle.std.specs.List.Sorted.{IsPermutation}
-use Rattle.std.proofs.lemmas.List.{append-nil, append_assoc}
+use Rattle.std.proofs.lemmas.List.{append-nil, append_assoc, length-append, take_at, take_all, take-append-le, drop_at, get_or_default}
+use Rattle.std.proofs.lemmas.List.Edits.{map_over_more}
+use Rattle.std.proofs.lemmas.Slice.{take-put_mid}
 use Rattle.edf_pick.specs.Places.{Places}
 use Rattle.domain_run.specs.declared.happened.Happened.{Happened}
 use Rattle.domain_run.specs.Happened.{in_order, at_home}
@@ -71,3 +74,37 @@ pub record TellsMixed (told : List Happened) (before after : LogView) : Type 0 w
   pub tail : List Happened
   pub is : Tells before tail after
   pub mixed : IsPermutation told tail
+
+-- ---- THE REST OF A LIST, from a place on, is written anew
+
+rest_is : (base others d : List Happened) (from : ℕ) → length base ≡ from → d ≡ base ++ others → mid_of from (length d - from) d ≡ others
+rest_is base others d from len is =
+    ap (λ (xs : List Happened). take (length xs - from) (drop from xs)) is
+    ∙ ap (take (length (base ++ others) - from)) (drop_at base others from len)
+    ∙ take_all (length (base ++ others) - from) others (omega (arith, len, length-append base others))
+
+rest_written : (base others new items d : List Happened) (from n : ℕ) → length base ≡ from → items ≡ base ++ others → d ≡ items → length new ≡ length others → length d ≡ n
+    → take n (put_mid from (length d - from) d new ++ drop (length (put_mid from (length d - from) d new)) items) ≡ base ++ new
+rest_written base others new items d from n len is same long whole =
+    let k : ℕ = length d - from in
+    let all = put_mid from k d new in
+    let post = post_of from k d in
+    let size_of : List Happened → ℕ = λ xs. length xs in
+    let front : take from d ≡ base = ap (take from) (same ∙ is) ∙ take_at base others from len in
+    let size : length d ≡ from + length new = omega (arith, ap size_of (same ∙ is), length-append base others, len, long) in
+    let most : n ≤ length all = omega (arith, size, whole, ap size_of front, len, length-append (take from d) (new ++ post), length-append new post) in
+    take-append-le n all (drop (length all) items) most ∙ take-put_mid from k d new n (omega (arith, whole, size)) (omega (arith, size)) ∙ ap (λ xs. xs ++ new) front
+
+pub written_from : (f : List Happened → List Happened) → ((hs : List Happened) → length (f hs) ≡ length hs) → (from n : ℕ) (items d new : List Happened) → d ≡ items → length d ≡ n
+    → (AllPairs IsApart (mid_of from (length d - from) d) → new ≡ f (mid_of from (length d - from) d))
+    → (base others : List Happened) → length base ≡ from → items ≡ base ++ others → AllPairs IsApart others
+    → take n (put_mid from (length d - from) d new ++ drop (length (put_mid from (length d - from) d new)) items) ≡ base ++ f others
+written_from f keeps from n items d new same whole puts base others len is apart =
+    let rest : mid_of from (length d - from) d ≡ others = rest_is base others d from len (same ∙ is) in
+    let put : new ≡ f others = puts (subst (AllPairs IsApart) (sym rest) apart) ∙ ap f rest in
+    rest_written base others new items d from n len is same (ap (λ (xs : List Happened). length xs) put ∙ keeps others) whole ∙ ap (λ hs. base ++ hs) put
+
+-- one after another
+pub map_written : (f : Happened → Happened) (xs ys : List Happened) (i : ℕ) (d y : Happened) → i < length xs → length ys ≡ length xs → ys ≡ map f (take i xs) ++ drop i xs → y ≡ f (get_or ys i d) → set ys i y ≡ map f (take (i + 1) xs) ++ drop (i + 1) xs
+map_written f xs ys i d y within long so_far is =
+    ap (set ys i) is ∙ map_over_more f xs ys i (get_or ys i d) within so_far (get_or_default ys i d (get_or ys i d) (omega (arith, within, long)))

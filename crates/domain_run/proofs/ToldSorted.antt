@@ -7,7 +7,7 @@ use Rattle.std.proofs.lemmas.Bool.{both_ways, cases_eq, cases_order}
 use Rattle.std.proofs.lemmas.List.Edits.{Swapped, swapped_from_swap, length-swap}
 use Rattle.std.proofs.lemmas.List.Elements.{All-nil, All-cons, All-head, All-tail, All-weaker, All-contains, All-contains_itself}
 use Rattle.std.proofs.lemmas.List.Kept.{AllPairs-cons}
-use Rattle.std.proofs.lemmas.List.Sorted.{IsPermutation-refl, IsPermutation-cons, IsPermutation-middle, IsPermutation-sym, IsPermutation-trans, IsPermutation-keeps, Contains-permutation, sorted_far}
+use Rattle.std.proofs.lemmas.List.Sorted.{IsPermutation-refl, IsPermutation-cons, IsPermutation-middle, IsPermutation-sym, IsPermutation-trans, IsPermutation-keeps, Contains-permutation, length_permutation, sorted_far}
 use Rattle.domain_run.specs.declared.happened.Happened.{Happened}
 use Rattle.domain_run.specs.Happened.{is_first, with_happened, in_order}
 use Rattle.domain_run.specs.private.Telling.{IsApart}
@@ -48,18 +48,21 @@ in_order_first (h ∷ hs) apart = with_first h (in_order hs) (each_in_order (IsA
 -- it is the same, in another order
 with_mixed : (h : Happened) (xs : List Happened) → IsPermutation (h ∷ xs) (with_happened h xs)
 with_mixed h [] = IsPermutation-refl (h ∷ [])
-with_mixed h (x ∷ xs) = by_first (is_first h x)
+with_mixed h (x ∷ xs) = by_first (is_first h x) (with_mixed h xs)
   where
-    by_first : (b : Bool) → IsPermutation (h ∷ x ∷ xs) (cond b (h ∷ x ∷ xs) (x ∷ with_happened h xs))
-    by_first true = IsPermutation-refl (h ∷ x ∷ xs)
-    by_first false =
+    by_first : (b : Bool) → IsPermutation (h ∷ xs) (with_happened h xs) → IsPermutation (h ∷ x ∷ xs) (cond b (h ∷ x ∷ xs) (x ∷ with_happened h xs))
+    by_first true more = IsPermutation-refl (h ∷ x ∷ xs)
+    by_first false more =
         IsPermutation-trans (h ∷ x ∷ xs) (x ∷ h ∷ xs) (x ∷ with_happened h xs) (IsPermutation-middle (h ∷ []) x xs)
-        (IsPermutation-cons x (h ∷ xs) (with_happened h xs) (with_mixed h xs))
+        (IsPermutation-cons x (h ∷ xs) (with_happened h xs) more)
 
 order_mixed : (hs : List Happened) → IsPermutation hs (in_order hs)
 order_mixed [] = IsPermutation-refl []
 order_mixed (h ∷ hs) =
     IsPermutation-trans (h ∷ hs) (h ∷ in_order hs) (with_happened h (in_order hs)) (IsPermutation-cons h hs (in_order hs) (order_mixed hs)) (with_mixed h (in_order hs))
+
+pub length-in_order : (hs : List Happened) → length (in_order hs) ≡ length hs
+length-in_order hs = length_permutation hs (in_order hs) (order_mixed hs)
 
 -- ---- in another order each two are still apart
 

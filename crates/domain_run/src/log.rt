@@ -110,6 +110,16 @@ fn all_home(told: &mut [Happened], places: &[Option<u32>])
     }
 }
 
+// Each on the CPU where its task stands, if it stands on one, and in its order by those.
+fn all_home_in_order(told: &mut [Happened], places: &[Option<u32>])
+    requires narrow { length places.now ≤ 64 }
+    ensures { AllPairs IsApart told.old
+        → told.new ≡ happened_spec.in_order (map (happened_spec.at_home places.now) told.old) }
+{
+    all_home(told, places);
+    put_in_order(told);
+}
+
 impl Log {
     /// A log that keeps what it is told, and has nothing yet. It takes no memory before the first
     /// room is made.
@@ -220,8 +230,7 @@ impl Log {
         ensures room { self.new.room ≡ self.old.room }
     {
         if from < self.happened.len() {
-            all_home(&mut self.happened[from..], places);
-            put_in_order(&mut self.happened[from..]);
+            all_home_in_order(&mut self.happened[from..], places);
         }
     }
 }

@@ -48,12 +48,8 @@ fn turn(roster: &mut Roster, place: usize, time: u64, change: &Change, log: &mut
     }
     let before = telling::look(roster.at(place), time, change);
     roster.turn(place, time, change);
-    log.push_all(telling::seen_behind(
-        time,
-        change,
-        before,
-        roster.at(place),
-    ));
+    let told = telling::seen_behind(time, change, before, roster.at(place));
+    log.push_all(told);
 }
 
 /// Changes the task of a number, where it is listed, and tells the log.

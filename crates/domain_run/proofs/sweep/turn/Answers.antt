@@ -28,6 +28,6 @@ returns-clause-told c d =
     let before : c.at.result.now ≡ t = c.at.ensures.task d in
     let behind : c.at-2.result.now ≡ f t = c.at-2.ensures.task d ∙ ap (λ (ts : List Task). get_or ts c.args.place d) (c.turn-2.ensures.step.is d) ∙ get_or-set_same old c.args.place (f t) d c.requires.there in
     let looked = c.look-before.ensures ∙ ap (look_of time change) before in
-    let told : all_of c.seen_behind.result ≡ told_by_change time change t =
-    ap all_of (c.seen_behind.ensures ∙ (λ i. told_behind time change (looked i) (behind i))) ∙ change_seen time change t in
+    let told : all_of c.seen_behind-told.result ≡ told_by_change time change t =
+    ap all_of (c.seen_behind-told.ensures ∙ (λ i. told_behind time change (looked i) (behind i))) ∙ change_seen time change t in
     subst (λ hs. Tells c.args.log.now hs c.push_all.new.self) told c.push_all.ensures.told
