@@ -1,5 +1,5 @@
 -- What a change of a task tells, by a look before it and behind it, and what the changes of a list tell.
-use Rattle.std.proofs.Common.{◌≡◌, ◌≢◌, ℕ, zero, suc, ◌+◌, ◌-◌, ◌<◌, Bool, true, false, cond, eqb, ◌&&◌, ◌||◌, not, None, List, [], ◌∷◌, ◌++◌, length, take, get_or, refl, sym, ap, ◌∙◌, inl, inr, subst, arith, eq-eqb}
+use Rattle.std.proofs.Common.{◌≡◌, ◌≢◌, ℕ, zero, suc, ◌+◌, ◌-◌, ◌<◌, Bool, true, false, cond, eqb, ◌&&◌, ◌||◌, not, None, List, [], ◌∷◌, ◌++◌, length, take, get_or, refl, sym, ap, ◌∙◌, inr, subst, arith, eq-eqb}
 use Rattle.std.specs.Prelude.{ℤ, All, AllPairs}
 use Rattle.std.specs.List.{flat_map}
 use Rattle.std.specs.List.Sorted.{IsPermutation}
@@ -23,7 +23,7 @@ use Rattle.domain_run.specs.declared.happened.Happened.{Happened}
 use Rattle.domain_run.specs.script.Segments.{asked}
 use Rattle.domain_run.specs.Conditions.{is_ready, is_throttled, is_contending, is_over, has_come}
 use Rattle.domain_run.specs.Parts.{replenish_due, unblocked, enqueued, started, starts, running_on, went_on, goes_on}
-use Rattle.domain_run.specs.Happened.{told, due, job_due, passes_late_timer, told_by_segment, told_by_work, told_by_budget, told_by_replenishment, told_by_wake, told_by_unblocking, rank}
+use Rattle.domain_run.specs.Happened.{told, due, job_due, passes_late_timer, told_by_segment, told_by_work, told_by_budget, told_by_replenishment, told_by_wake, told_by_unblocking}
 use Rattle.domain_run.specs.private.Index.{IsAt, IsAbsent}
 use Rattle.domain_run.specs.private.Roster.{after_change}
 use Rattle.domain_run.specs.private.Paying.{ran_until}
@@ -188,25 +188,6 @@ of_until time ticks left t =
     let x : Task = record t { server = record t.server { left = left }; work = t.work - ticks } in
     of_both t.number (told_by_work time x) (told_by_budget time (ran_until time ticks left t)) (of_work time x)
     (subst (λ n. AreOf n (told_by_budget time (ran_until time ticks left t))) (ran_number time ticks left t) (of_budget time (ran_until time ticks left t)))
-
-of_wake : (time : ℕ) (t u : Task) (s : Segment) → AreOf t.number (told_by_wake time t u s)
-of_wake time t u (RunFor n) =
-    of_both t.number (told time t (Released (job_due time t)) ∷ []) (cond (is_throttled u.condition) (told time t (WokenSpent (due u)) ∷ []) []) (one_told time t (Released (job_due time t)))
-    (of_if t.number (is_throttled u.condition) (told time t (WokenSpent (due u)) ∷ []) (one_told time t (WokenSpent (due u))))
-of_wake time t u (Until n) = All-nil (λ h. h.number ≡ t.number)
-of_wake time t u WaitFor = All-nil (λ h. h.number ≡ t.number)
-of_wake time t u EndNow = All-nil (λ h. h.number ≡ t.number)
-
-pub of_change : (time : ℕ) (change : Change) (t : Task) → AreOf t.number (told_by_change time change t)
-of_change time Replenish t = of_if t.number (is_throttled t.condition && has_come time t.server.deadline) (told time t (Replenished (due (replenish_due time t))) ∷ []) (one_told time t (Replenished (due (replenish_due time t))))
-of_change time Settle t = All-nil (λ h. h.number ≡ t.number)
-of_change time Unblock t = of_if t.number (is_over time t.condition) (told_by_wake time t (unblocked time t) (asked t.cursor time).segment) (of_wake time t (unblocked time t) (asked t.cursor time).segment)
-of_change time (Home cpu) t = All-nil (λ h. h.number ≡ t.number)
-of_change time (Run ticks left) t = of_until time ticks left t
-of_change time (Regrade params) t = All-nil (λ h. h.number ≡ t.number)
-of_change time Release t = All-nil (λ h. h.number ≡ t.number)
-of_change time End t = All-nil (λ h. h.number ≡ t.number)
-of_change time Depart t = All-nil (λ h. h.number ≡ t.number)
 
 -- ---- A LIST, each of whose tasks tells of itself
 

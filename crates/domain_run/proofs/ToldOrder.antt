@@ -121,7 +121,7 @@ pub first_order : IsStrictWeakOrder is_first
 first_order = record {
   one_way = reverse;
   chain = λ a b c p q. false_from_ne_true (is_first a c) (λ k. elim (between a b c (tells a c k)) [
-      | inl x ↦ both_ways (is_first a b) p (passes a b x)
-      | inr y ↦ both_ways (is_first b c) q (passes b c y)
-    ]);
+    | inl x ↦ both_ways (is_first a b) p (passes a b x)
+    | inr y ↦ both_ways (is_first b c) q (passes b c y)
+  ]);
 }

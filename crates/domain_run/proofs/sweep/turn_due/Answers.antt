@@ -1,4 +1,4 @@
-use Rattle.std.proofs.Common.{◌≡◌, ◌<◌, ◌≤◌, ◌+◌, [], ◌++◌, take, get_or, length, refl, sym, subst, arith, ◌∙◌}
+use Rattle.std.proofs.Common.{◌≡◌, ◌<◌, ◌≤◌, ◌+◌, [], take, get_or, length, refl, sym, subst, arith, ◌∙◌}
 use Rattle.std.specs.List.{flat_map}
 use Rattle.domain_run.specs.private.Roster.{after_change}
 use Rattle.domain_run.specs.Log.{Tells}
