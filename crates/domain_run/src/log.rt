@@ -5,9 +5,12 @@ ghost use Rattle.std.specs.Ordering.{is_lt};
 ghost use Rattle.edf_pick.specs.Places.{is_task};
 ghost use Rattle.domain_run.specs.Happened as happened_spec;
 ghost use Rattle.domain_run.specs.Log.{Tells, HasRoom};
+ghost use Rattle.domain_run.specs.Sound.{occupant, IsApart as IsPlacedOnce};
+ghost use Rattle.domain_run.specs.private.RunQueue.{AreHomed};
 ghost use Rattle.domain_run.specs.private.Telling.{IsApart, InOrderFrom, GoHome, one_of, all_of};
 
 use crate::happened::{Happened, What};
+use crate::roster::Roster;
 use crate::telling::Told;
 use no_memory::NoMemory;
 use std::alloc::Global;
@@ -78,20 +81,49 @@ fn put_in_order(told: &mut [Happened])
     told.sort_unstable_by(|a, b| order_of(a, b));
 }
 
-// The CPU on which a task stands, if it stands on one.
-fn cpu_of(number: u32, places: &[Option<u32>]) -> Option<usize>
+// The CPU on which a task stands, if it stands on one, looked for on each.
+fn cpu_among(number: u32, places: &[Option<u32>]) -> Option<usize>
     ensures cpu { result ≡ position (is_task number) places.now }
     ensures within { IfSome result (λ cpu. cpu < length places.now) }
 {
     places.iter().position(|occupant| *occupant == Some(number))
 }
 
+fn stands_on(number: u32, places: &[Option<u32>], cpu: usize) -> bool
+    requires { cpu < length places.now }
+    ensures { result ≡ is_task number (occupant places.now cpu) }
+{
+    places[cpu] == Some(number)
+}
+
+// The CPU on which a task stands, if it stands on one. One that is listed belongs to it.
+fn cpu_of(number: u32, places: &[Option<u32>], roster: &Roster) -> Option<usize>
+    requires wide { length places.now ≡ roster.now.cpus }
+    requires apart { IsPlacedOnce places.now }
+    requires homed { AreHomed places.now roster.now.tasks }
+    ensures cpu { result ≡ position (is_task number) places.now }
+    ensures within { IfSome result (λ cpu. cpu < length places.now) }
+{
+    let Some(place) = roster.place(number) else {
+        return cpu_among(number, places);
+    };
+    let cpu = roster.at(place).cpu;
+    if stands_on(number, places, cpu) {
+        Some(cpu)
+    } else {
+        None
+    }
+}
+
 // One on the CPU where its task stands, if it stands on one.
-fn at_home(one: &Happened, places: &[Option<u32>]) -> Happened
+fn at_home(one: &Happened, places: &[Option<u32>], roster: &Roster) -> Happened
     requires narrow { length places.now ≤ 64 }
+    requires wide { length places.now ≡ roster.now.cpus }
+    requires apart { IsPlacedOnce places.now }
+    requires homed { AreHomed places.now roster.now.tasks }
     ensures { result ≡ happened_spec.at_home places.now one.now }
 {
-    match cpu_of(one.number, places) {
+    match cpu_of(one.number, places, roster) {
         Some(cpu) => Happened {
             cpu: cpu as u16,
             ..*one
@@ -101,22 +133,28 @@ fn at_home(one: &Happened, places: &[Option<u32>]) -> Happened
 }
 
 // Each on the CPU where its task stands, if it stands on one.
-fn all_home(told: &mut [Happened], places: &[Option<u32>])
+fn all_home(told: &mut [Happened], places: &[Option<u32>], roster: &Roster)
     requires narrow { length places.now ≤ 64 }
+    requires wide { length places.now ≡ roster.now.cpus }
+    requires apart { IsPlacedOnce places.now }
+    requires homed { AreHomed places.now roster.now.tasks }
     ensures { told.new ≡ map (happened_spec.at_home places.now) told.old }
 {
     for one in told.iter_mut() {
-        *one = at_home(one, places);
+        *one = at_home(one, places, roster);
     }
 }
 
 // Each on the CPU where its task stands, if it stands on one, and in its order by those.
-fn all_home_in_order(told: &mut [Happened], places: &[Option<u32>])
+fn all_home_in_order(told: &mut [Happened], places: &[Option<u32>], roster: &Roster)
     requires narrow { length places.now ≤ 64 }
+    requires wide { length places.now ≡ roster.now.cpus }
+    requires apart { IsPlacedOnce places.now }
+    requires homed { AreHomed places.now roster.now.tasks }
     ensures { AllPairs IsApart told.old
         → told.new ≡ happened_spec.in_order (map (happened_spec.at_home places.now) told.old) }
 {
-    all_home(told, places);
+    all_home(told, places, roster);
     put_in_order(told);
 }
 
@@ -222,15 +260,18 @@ impl Log {
 
     /// What was told from this place on is told on the CPUs where its tasks stand now, those that
     /// stand on one, and is put in its order by those.
-    pub(crate) fn go_home(&mut self, from: usize, places: &[Option<u32>])
+    pub(crate) fn go_home(&mut self, from: usize, places: &[Option<u32>], roster: &Roster)
         requires from { from ≤ length self.old.happened }
         requires narrow { length places.now ≤ 64 }
+        requires wide { length places.now ≡ roster.now.cpus }
+        requires apart { IsPlacedOnce places.now }
+        requires homed { AreHomed places.now roster.now.tasks }
         ensures wanted { self.new.wanted ≡ self.old.wanted }
         ensures home { GoHome places.now from self.old.happened self.new.happened }
         ensures room { self.new.room ≡ self.old.room }
     {
         if from < self.happened.len() {
-            all_home_in_order(&mut self.happened[from..], places);
+            all_home_in_order(&mut self.happened[from..], places, roster);
         }
     }
 }

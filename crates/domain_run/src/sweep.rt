@@ -269,7 +269,7 @@ pub(crate) fn begin(
     list_running(running, places.occupants());
     add_switches(switches, time, roster, before, places.occupants());
     home_all(roster, before, places.occupants(), time);
-    log.go_home(from, places.occupants());
+    log.go_home(from, places.occupants(), roster);
 }
 
 /// Part 6 of so many ticks at once, up to a time: every running task has its budget, and its work

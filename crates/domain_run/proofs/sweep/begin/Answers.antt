@@ -91,6 +91,27 @@ go_home-requires-clause-narrow c =
     let len : Places → ℕ = λ ps. length ps in
     omega (arith, ap len c.occupants-5.ensures.occupants, seating.wide, c.requires.cpus, c.requires.narrow)
 
+pub go_home-requires-clause-wide : goal.go_home-requires-clause-wide
+go_home-requires-clause-wide c =
+    let before = c.args.places.now in
+    let wide = (placed_seating c.ready.result.now c.wake_all.new.roster.tasks before c.pick.new.placement c.ready.ensures.ready c.ready.ensures.numbered c.requires.apart c.pick.ensures).wide in
+    let len : Places → ℕ = λ ps. length ps in
+    ap len c.occupants-5.ensures.occupants ∙ wide ∙ c.requires.cpus ∙ sym (c.home_all.ensures.cpus ∙ c.wake_all.ensures.cpus)
+
+pub go_home-requires-clause-apart : goal.go_home-requires-clause-apart
+go_home-requires-clause-apart c =
+    let before = c.args.places.now in
+    let seating = placed_seating c.ready.result.now c.wake_all.new.roster.tasks before c.pick.new.placement c.ready.ensures.ready c.ready.ensures.numbered c.requires.apart c.pick.ensures in
+    rw c.occupants-5.ensures.occupants seating.apart
+
+pub go_home-requires-clause-homed : goal.go_home-requires-clause-homed
+go_home-requires-clause-homed c =
+    let places = c.pick.new.placement in
+    let tasks = c.wake_all.new.roster.tasks in
+    let after = c.home_all.new.roster.tasks in
+    let all : AreHomed places after = subst (AreHomed places) (sym (c.home_all.ensures.tasks ∙ ap (λ (ps : Places). map (with_last_cpu ps) tasks) c.occupants-4.ensures.occupants)) (homed_placed places tasks) in
+    subst (λ (ps : Places). AreHomed ps after) (sym c.occupants-5.ensures.occupants) all
+
 -- what the parts told, on the CPUs before the placement, is put in the order of those behind it
 pub returns-clause-told : goal.returns-clause-told
 returns-clause-told c =
