@@ -1,4 +1,4 @@
-use Rattle.std.proofs.Common.{◌≡◌, cond, Some, None, sym, ap, ◌∙◌}
+use Rattle.std.proofs.Common.{cond, Some, None, sym, ap, ◌∙◌}
 use Rattle.domain_run.proofs.AtHome.{listed_at}
 use Rattle.domain_run.proofs.log.cpu_of.Goals as goal
 
