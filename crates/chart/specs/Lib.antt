@@ -8,3 +8,4 @@ pub mod Pieces
 pub mod Legend
 pub mod Chart
 pub mod Examples
+pub mod private
