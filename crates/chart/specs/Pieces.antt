@@ -17,10 +17,10 @@ use Rattle.chart.specs.Rows.{ChartRowView}
 abbrev pub with_number : List ℕ → ℕ → List ℕ
 with_number text n = text ++ decimal n
 
--- ---- WHAT A POINTER SHOWS: a name and what is said of it
+-- ---- WHAT A POINTER SHOWS: the end of a tag, and in it a title that begins with a name
 
-abbrev pub titled : List ℕ → List ℕ → List ℕ
-titled name said = codes "\"><title>" ++ (escaped name ++ (said ++ codes "</title>"))
+abbrev pub title_begins : List ℕ → List ℕ
+title_begins name = codes "\"><title>" ++ escaped name
 
 abbrev pub times : ℕ → ℕ → List ℕ
 times start stop = seconds start ++ (codes " to " ++ (seconds stop ++ codes " s"))
@@ -38,11 +38,16 @@ band s place =
 abbrev pub name_size : Sheet → List ℕ
 name_size s = if is_tall s then [] else codes " font-size=\"10\""
 
-abbrev pub name_text : Sheet → ℕ → List ℕ → List ℕ
-name_text s place name =
+abbrev pub name_begins : Sheet → ℕ → List ℕ
+name_begins s place =
     with_number (codes "<text x=\"142\" y=\"") (40 + (row_top s place + s.size.foot))
-    ++ (codes "\" text-anchor=\"end\"" ++ (name_size s
-    ++ (codes ">" ++ (escaped name ++ codes "</text>\n"))))
+    ++ (codes "\" text-anchor=\"end\"" ++ name_size s)
+
+abbrev pub named : List ℕ → List ℕ
+named name = codes ">" ++ (escaped name ++ codes "</text>\n")
+
+abbrev pub name_text : Sheet → ℕ → List ℕ → List ℕ
+name_text s place name = name_begins s place ++ named name
 
 -- in the lowest rows every fourth
 abbrev pub is_named : Sheet → ℕ → Bool
@@ -66,10 +71,17 @@ gap_path s place g =
     ++ (with_number (codes " ") (row_top s place + s.size.middle)
     ++ with_number (codes "H") g.stop)
 
+abbrev pub gap_said : Gap → List ℕ
+gap_said g = gap_word g ++ times g.start g.stop
+
+abbrev pub gap_shape : Sheet → ℕ → Gap → List ℕ
+gap_shape s place g = codes "<path class=\"" ++ (gap_class g ++ gap_path s place g)
+
+abbrev pub gap_title : List ℕ → Gap → List ℕ
+gap_title name g = title_begins name ++ (gap_said g ++ codes "</title></path>\n")
+
 abbrev pub gap_line : Sheet → ℕ → List ℕ → Gap → List ℕ
-gap_line s place name g =
-    codes "<path class=\"" ++ (gap_class g ++ (gap_path s place g
-    ++ (titled name (gap_word g ++ times g.start g.stop) ++ codes "</path>\n")))
+gap_line s place name g = gap_shape s place g ++ gap_title name g
 
 -- ---- BARS
 
@@ -80,17 +92,23 @@ bar_box s place b =
     ++ (with_number (codes "\" width=\"") (us b)
     ++ with_number (codes "\" height=\"") s.size.bar_height))
 
-abbrev pub bar_word : ℕ → Bar → List ℕ
-bar_word base b =
+abbrev pub bar_fill : Sheet → ℕ → Bar → List ℕ
+bar_fill s base b = codes "\" fill=\"" ++ fill_of s.cpus (base + b.cpu)
+
+abbrev pub bar_said : ℕ → Bar → List ℕ
+bar_said base b =
     with_number (codes " on CPU ") (base + b.cpu)
     ++ (codes ": " ++ (times b.start b.stop
     ++ (with_number (codes ", ") (us b) ++ codes " us")))
 
+abbrev pub bar_shape : Sheet → ℕ → ℕ → Bar → List ℕ
+bar_shape s place base b = bar_box s place b ++ bar_fill s base b
+
+abbrev pub bar_title : ChartRowView → Bar → List ℕ
+bar_title r b = title_begins r.name ++ (bar_said r.base b ++ codes "</title></rect>\n")
+
 abbrev pub bar_line : Sheet → ℕ → ChartRowView → Bar → List ℕ
-bar_line s place r b =
-    bar_box s place b
-    ++ (codes "\" fill=\"" ++ (fill_of s.cpus (r.base + b.cpu)
-    ++ (titled r.name (bar_word r.base b) ++ codes "</rect>\n")))
+bar_line s place r b = bar_shape s place r.base b ++ bar_title r b
 
 -- what stands inside the plot: the lines, and over them the bars
 abbrev pub row_lines : Sheet → ℕ → ChartRowView → List ℕ
@@ -106,17 +124,30 @@ seen_from s b = max b.start s.window.from
 abbrev pub seen_to : Sheet → Bar → ℕ
 seen_to s b = min b.stop s.window.to
 
+-- the more digits, the wider
+abbrev pub number_width : ℕ → ℕ
+number_width cpu = if nat_lt cpu 10 then 16 else (if nat_lt cpu 100 then 22 else 28)
+
 abbrev pub has_number : Sheet → ℕ → Bar → Bool
 has_number s base b =
     is_tall s && (nat_lt 1 s.cpus
-    && nat_le (10 + length (decimal (base + b.cpu)) * 6) (pixels s (seen_to s b - seen_from s b)))
+    && nat_le (number_width (base + b.cpu)) (pixels s (seen_to s b - seen_from s b)))
+
+abbrev pub number_place : Sheet → ℕ → Bar → List ℕ
+number_place s place b =
+    with_number (codes "<text x=\"") (pixel_of s ((seen_from s b + seen_to s b) / 2))
+    ++ with_number (codes "\" y=\"") (40 + (row_top s place + s.size.foot))
+
+abbrev pub number_ink : Sheet → ℕ → List ℕ
+number_ink s cpu =
+    codes "\" text-anchor=\"middle\" font-size=\"11\" fill=\"" ++ ink_of s.cpus cpu
+
+abbrev pub number_end : ℕ → List ℕ
+number_end cpu = with_number (codes "\" pointer-events=\"none\">") cpu ++ codes "</text>\n"
 
 abbrev pub number_text : Sheet → ℕ → ℕ → Bar → List ℕ
 number_text s place base b =
-    with_number (codes "<text x=\"") (pixel_of s ((seen_from s b + seen_to s b) / 2))
-    ++ (with_number (codes "\" y=\"") (40 + (row_top s place + s.size.foot))
-    ++ (codes "\" text-anchor=\"middle\" font-size=\"11\" fill=\"" ++ (ink_of s.cpus (base + b.cpu)
-    ++ (with_number (codes "\" pointer-events=\"none\">") (base + b.cpu) ++ codes "</text>\n"))))
+    number_place s place b ++ (number_ink s (base + b.cpu) ++ number_end (base + b.cpu))
 
 abbrev pub number_line : Sheet → ℕ → ℕ → Bar → List ℕ
 number_line s place base b = if has_number s base b then number_text s place base b else []
@@ -150,10 +181,17 @@ mark_place s place m =
     ++ (with_number (codes " ") (40 + (row_top s place + mark_top m.sign))
     ++ mark_path m.sign)
 
+abbrev pub mark_said : Mark → List ℕ
+mark_said m = mark_word m.sign ++ (seconds m.time ++ codes " s")
+
+abbrev pub mark_shape : Sheet → ℕ → Mark → List ℕ
+mark_shape s place m = codes "<path class=\"" ++ (mark_class m.sign ++ mark_place s place m)
+
+abbrev pub mark_title : List ℕ → Mark → List ℕ
+mark_title name m = title_begins name ++ (mark_said m ++ codes "</title></path>\n")
+
 abbrev pub mark_line : Sheet → ℕ → List ℕ → Mark → List ℕ
-mark_line s place name m =
-    codes "<path class=\"" ++ (mark_class m.sign ++ (mark_place s place m
-    ++ (titled name (mark_word m.sign ++ (seconds m.time ++ codes " s")) ++ codes "</path>\n")))
+mark_line s place name m = mark_shape s place m ++ mark_title name m
 
 -- tall rows have marks, where there are not too many: two for each of 85 jobs
 abbrev pub has_marks : Sheet → ChartRowView → Bool

@@ -53,7 +53,7 @@ fn ramp(k: u64) -> &'static [u8]
 
 /// The colour of a CPU, where the machine has so many.
 pub(crate) fn fill_of(cpus: u64, cpu: u64) -> &'static [u8]
-    requires cpu { cpu < 2 ^ 32 }
+    requires cpu { cpu < 2 ^ 40 }
     ensures { result.now ≡ colours.fill_of cpus cpu }
 {
     if cpus <= 8 {
@@ -63,7 +63,7 @@ pub(crate) fn fill_of(cpus: u64, cpu: u64) -> &'static [u8]
 }
 
 fn is_dark(cpus: u64, cpu: u64) -> bool
-    requires cpu { cpu < 2 ^ 32 }
+    requires cpu { cpu < 2 ^ 40 }
     ensures { result ≡ colours.is_dark cpus cpu }
 {
     if cpus <= 8 {
@@ -74,7 +74,7 @@ fn is_dark(cpus: u64, cpu: u64) -> bool
 
 /// The colour of a number on that of a CPU.
 pub(crate) fn ink_of(cpus: u64, cpu: u64) -> &'static [u8]
-    requires cpu { cpu < 2 ^ 32 }
+    requires cpu { cpu < 2 ^ 40 }
     ensures { result.now ≡ colours.ink_of cpus cpu }
 {
     if is_dark(cpus, cpu) {
@@ -87,7 +87,7 @@ pub(crate) fn ink_of(cpus: u64, cpu: u64) -> &'static [u8]
 pub(crate) fn legend_cpus(alloc: Global, cpus: u64) -> Result<Vec<u64>, NoMemory>
     requires few { cpus ≤ 512 }
     ensures cpus { IfOk result (λ v. v.items ≡ colours.legend_cpus cpus) }
-    ensures small { IfOk result (λ v. All (λ c. c < 2 ^ 32) v.items) }
+    ensures small { IfOk result (λ v. All (λ c. c < 2 ^ 40) v.items) }
     ensures few { IfOk result (λ v. length v.items ≤ 8) }
 {
     let mut all = Vec::with_capacity(alloc, 8)?;

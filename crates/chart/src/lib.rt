@@ -7,6 +7,7 @@
 #![tactic(auto)]
 
 mod colours;
+mod pieces;
 mod row;
 mod sheet;
 mod texts;
