@@ -1,2 +1,3 @@
 pub mod Escaping
 pub mod Lines
+pub mod Drawn

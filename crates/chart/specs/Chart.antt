@@ -8,7 +8,7 @@ use Rattle.chart.specs.Seconds.{seconds}
 use Rattle.chart.specs.Sizes.{sheet_of, plot_height, plot_end, pixel_of}
 use Rattle.chart.specs.Axis.{ticks_of}
 use Rattle.chart.specs.Rows.{ChartRowView}
-use Rattle.chart.specs.Pieces.{with_number, times, name_lines, row_lines, over_lines}
+use Rattle.chart.specs.Pieces.{with_number, text_at, times, name_lines, row_lines, over_lines}
 use Rattle.chart.specs.Legend.{legend}
 
 -- ---- THE HEAD
@@ -24,11 +24,16 @@ opening s =
     ++ codes
     "\" role=\"img\" font-family=\"DejaVu Sans, Verdana, sans-serif\" font-size=\"12\">\n")
 
-abbrev pub chart_title : Sheet → List ℕ
-chart_title s =
+abbrev pub counts : Sheet → List ℕ
+counts s =
     with_number (codes "<title>Which task ran where: ") s.rows
-    ++ (with_number (codes " tasks on ") s.cpus
-    ++ (codes " CPUs, " ++ (times s.window.from s.window.to ++ codes "</title>\n")))
+    ++ with_number (codes " tasks on ") s.cpus
+
+abbrev pub span : Sheet → List ℕ
+span s = codes " CPUs, " ++ (times s.window.from s.window.to ++ codes "</title>\n")
+
+abbrev pub chart_title : Sheet → List ℕ
+chart_title s = counts s ++ span s
 
 abbrev pub style : List ℕ
 style = codes
@@ -47,14 +52,15 @@ head s = opening s ++ (chart_title s ++ (style ++ background s))
 abbrev pub plot_size : Sheet → List ℕ
 plot_size s =
     with_number (codes "<svg x=\"150\" y=\"40\" width=\"1020\" height=\"") (plot_height s)
-    ++ with_number (codes "\" viewBox=\"") s.window.from
+
+abbrev pub plot_view : Sheet → List ℕ
+plot_view s =
+    with_number (codes "\" viewBox=\"") s.window.from
+    ++ (with_number (codes " 0 ") (s.window.to - s.window.from)
+    ++ (with_number (codes " ") (plot_height s) ++ codes "\" preserveAspectRatio=\"none\">\n"))
 
 abbrev pub plot_opening : Sheet → List ℕ
-plot_opening s =
-    plot_size s
-    ++ (with_number (codes " 0 ") (s.window.to - s.window.from)
-    ++ (with_number (codes " ") (plot_height s)
-    ++ codes "\" preserveAspectRatio=\"none\">\n"))
+plot_opening s = plot_size s ++ plot_view s
 
 abbrev pub grid_line : Sheet → ℕ → List ℕ
 grid_line s time =
@@ -70,10 +76,9 @@ plot s ticks rows =
 
 abbrev pub label : Sheet → ℕ → ℕ → List ℕ
 label s top time =
-    with_number (codes "<text x=\"") (pixel_of s time)
-    ++ (with_number (codes "\" y=\"") top
+    text_at (pixel_of s time) top
     ++ (codes "\" text-anchor=\"middle\" font-size=\"11\" fill=\"#333\">"
-    ++ (seconds time ++ codes "</text>\n")))
+    ++ (seconds time ++ codes "</text>\n"))
 
 -- above the plot and below it
 abbrev pub labels : Sheet → ℕ → List ℕ
@@ -87,10 +92,15 @@ axis s ticks =
 
 -- ---- ALL
 
+abbrev pub upper : Sheet → List ℕ → List ChartRowView → List ℕ
+upper s ticks rows = head s ++ (numbered (name_lines s) 0 rows ++ plot s ticks rows)
+
+abbrev pub lower : Sheet → List ℕ → List ChartRowView → List ℕ
+lower s ticks rows =
+    numbered (over_lines s) 0 rows ++ (axis s ticks ++ (legend s ++ codes "</svg>\n"))
+
 abbrev pub chart_of : Sheet → List ℕ → List ChartRowView → List ℕ
-chart_of s ticks rows =
-    head s ++ (numbered (name_lines s) 0 rows ++ (plot s ticks rows
-    ++ (numbered (over_lines s) 0 rows ++ (axis s ticks ++ (legend s ++ codes "</svg>\n")))))
+chart_of s ticks rows = upper s ticks rows ++ lower s ticks rows
 
 -- of a window, on a machine of so many CPUs
 abbrev pub chart_text : Window → ℕ → List ChartRowView → List ℕ

@@ -17,6 +17,10 @@ use Rattle.chart.specs.Rows.{ChartRowView}
 abbrev pub with_number : List ℕ → ℕ → List ℕ
 with_number text n = text ++ decimal n
 
+-- the beginning of a text at a place
+abbrev pub text_at : ℕ → ℕ → List ℕ
+text_at x y = with_number (codes "<text x=\"") x ++ with_number (codes "\" y=\"") y
+
 -- ---- WHAT A POINTER SHOWS: the end of a tag, and in it a title that begins with a name
 
 abbrev pub title_begins : List ℕ → List ℕ
@@ -128,15 +132,16 @@ seen_to s b = min b.stop s.window.to
 abbrev pub number_width : ℕ → ℕ
 number_width cpu = if nat_lt cpu 10 then 16 else (if nat_lt cpu 100 then 22 else 28)
 
+abbrev pub seen_width : Sheet → Bar → ℕ
+seen_width s b = pixels s (seen_to s b - seen_from s b)
+
 abbrev pub has_number : Sheet → ℕ → Bar → Bool
 has_number s base b =
-    is_tall s && (nat_lt 1 s.cpus
-    && nat_le (number_width (base + b.cpu)) (pixels s (seen_to s b - seen_from s b)))
+    is_tall s && (nat_lt 1 s.cpus && nat_le (number_width (base + b.cpu)) (seen_width s b))
 
 abbrev pub number_place : Sheet → ℕ → Bar → List ℕ
 number_place s place b =
-    with_number (codes "<text x=\"") (pixel_of s ((seen_from s b + seen_to s b) / 2))
-    ++ with_number (codes "\" y=\"") (40 + (row_top s place + s.size.foot))
+    text_at (pixel_of s ((seen_from s b + seen_to s b) / 2)) (40 + (row_top s place + s.size.foot))
 
 abbrev pub number_ink : Sheet → ℕ → List ℕ
 number_ink s cpu =

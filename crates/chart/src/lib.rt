@@ -6,11 +6,16 @@
 //! tells that memory was refused, and that each name in it is escaped.
 #![tactic(auto)]
 
+mod axis;
+mod chart;
 mod colours;
+mod legend;
+mod over;
 mod pieces;
 mod row;
 mod sheet;
 mod texts;
 
+pub use chart::put_chart;
 pub use domain_run::NoMemory;
 pub use row::ChartRow;

@@ -13,6 +13,14 @@ use crate::texts::{put, put_escaped, put_times, put_with};
 use chart_pieces::{Bar, Gap};
 use domain_run::NoMemory;
 
+/// The beginning of a text at a place.
+pub(crate) fn put_text_at(out: &mut Vec<u8>, x: u64, y: u64) -> Result<(), NoMemory>
+    ensures { OnOk result (out.new.items ≡ out.old.items ++ pieces.text_at x y) }
+{
+    put_with(out, b"<text x=\"", x)?;
+    put_with(out, b"\" y=\"", y)
+}
+
 // ---- what a pointer shows
 
 /// Ends a tag, and begins a title with a name.
@@ -233,7 +241,9 @@ pub(crate) fn cpu_of(base: u32, bar: &Bar) -> u64
     ensures cpu { result ≡ base + bar.now.cpu }
     ensures small { result < 2 ^ 33 }
 {
-    u64::from(base) + u64::from(bar.cpu)
+    // Read, so that its range is known.
+    let cpu = bar.cpu;
+    u64::from(base) + u64::from(cpu)
 }
 
 fn put_bar_said(out: &mut Vec<u8>, base: u32, bar: &Bar) -> Result<(), NoMemory>
