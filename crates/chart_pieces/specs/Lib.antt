@@ -6,3 +6,4 @@ pub mod Standing
 pub mod Rows
 pub mod Laws
 pub mod Examples
+pub mod private

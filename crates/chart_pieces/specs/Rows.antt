@@ -37,13 +37,16 @@ abbrev pub mark_in : Window → Sign → ℕ → List Mark
 mark_in w sign time = if holds w time then record { sign = sign; time = time } ∷ [] else []
 
 -- a job is marked at its release and at its deadline
+abbrev pub job_marks : Window → ℕ → ℕ → List Mark
+job_marks w release deadline = mark_in w ReleasedAt release ++ mark_in w DueAt deadline
+
 abbrev pub marks_by_told : Window → ℕ → What → List Mark
 marks_by_told w time JobEnds = []
-marks_by_told w time (NextReleased deadline) = mark_in w ReleasedAt time ++ mark_in w DueAt deadline
+marks_by_told w time (NextReleased deadline) = job_marks w time deadline
 marks_by_told w time (Spent deadline) = []
 marks_by_told w time Cut = mark_in w EndedAt time
 marks_by_told w time (Replenished deadline) = []
-marks_by_told w time (Released deadline) = mark_in w ReleasedAt time ++ mark_in w DueAt deadline
+marks_by_told w time (Released deadline) = job_marks w time deadline
 marks_by_told w time (WokenSpent deadline) = []
 
 -- the CPU is taken from a task that has ended
@@ -54,10 +57,12 @@ is_dead Sleeping = false
 is_dead Dead = true
 
 -- the end of a task that was cut is marked where it was cut
+abbrev pub end_marks : Window → Standing → ℕ → PrevState → List Mark
+end_marks w s time state = if is_dead state && not s.cut then mark_in w EndedAt time else []
+
 abbrev pub marks_by : Window → Standing → ℕ → Turn → List Mark
 marks_by w s time (Told what) = marks_by_told w time what
-marks_by w s time (Leaves cpu state) =
-    if is_dead state && not s.cut then mark_in w EndedAt time else []
+marks_by w s time (Leaves cpu state) = end_marks w s time state
 marks_by w s time (Comes cpu) = []
 
 abbrev pub marks_from : Window → Standing → List Moment → List Mark
