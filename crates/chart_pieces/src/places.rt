@@ -4,8 +4,8 @@ ghost use Rattle.std.specs.Prelude.{◌≡◌, ◌≢◌, ◌<◌, IfOk, IfSome,
 ghost use Rattle.chart_pieces.specs.private.Places as places;
 ghost use Rattle.run_figures.specs.Runs.{AreTasks};
 
-use run_figures::Admitted;
 use domain_run::NoMemory;
+use run_figures::Admitted;
 use std::alloc::Global;
 use std::marker::Model;
 
