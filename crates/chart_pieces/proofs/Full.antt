@@ -21,12 +21,12 @@ until_early time cpu (s ∷ ss) all =
 
 -- what has no part in the window has no length
 unseen : (w : Window) (time a b : ℕ) → IsWhole w time → b ≤ time → touches w a b ≡ false → b - a ≡ 0
-unseen w time a b whole early no = ⊎_elim
+unseen w time a b whole early out = ⊎_elim
     (λ (l : a < b).
     let in_time : a < w.to = omega (arith, l, early, whole.last) in
     let begun : w.from < b = omega (arith, l, whole.first) in
     let seen : touches w a b ≡ true = λ i. lt-ltb a b l i && (lt-ltb a w.to in_time i && lt-ltb w.from b begun i) in
-    absurd (true≢false (sym seen ∙ no)))
+    absurd (true≢false (sym seen ∙ out)))
     (λ (le : b ≤ a). omega (arith, le))
     (cases_lt a b)
 

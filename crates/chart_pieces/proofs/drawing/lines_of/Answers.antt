@@ -19,7 +19,9 @@ tell_moments-requires c =
     record {
       keyed = ap (λ (ls : List LineView). map (λ l. l.number) ls) c.in_ok-put_bars.ensures
           ∙ map-map (λ (l : LineView). l.number) (with_bars c.args.window.now run.time run.switches) c.in_ok-table.table.items
-          ∙ put_bars-requires-clause-keyed c;
+          ∙ ap (λ (ls : List LineView). map (λ l. l.number) ls) c.in_ok-table.ensures
+          ∙ map-map (λ (l : LineView). l.number) (λ (t : Admitted). no_line t.number) c.args.run.now.tasks.now
+          ∙ sym c.in_ok-places.ensures;
     }
 
 pub returns : goal.returns
