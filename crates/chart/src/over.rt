@@ -292,7 +292,8 @@ fn put_marks(
 fn has_marks(sheet: &Sheet, row: &ChartRow<'_>) -> bool
     ensures { result ≡ pieces.has_marks sheet.now (view_of row.now) }
 {
-    sheet.is_tall() && row.row.marks.len() <= 170
+    let drawn = row.row;
+    sheet.is_tall() && drawn.marks.len() <= 170
 }
 
 fn put_mark_lines(
@@ -308,7 +309,8 @@ fn put_mark_lines(
         ≡ out.old.items ++ pieces.mark_lines sheet.now place (view_of row.now)) }
 {
     if has_marks(sheet, row) {
-        return put_marks(out, sheet, place, row.name, &row.row.marks);
+        let drawn = row.row;
+        return put_marks(out, sheet, place, row.name, &drawn.marks);
     }
     Ok(())
 }
@@ -327,6 +329,7 @@ pub(crate) fn put_over_lines(
     ensures { OnOk result (out.new.items
         ≡ out.old.items ++ pieces.over_lines sheet.now place (view_of row.now)) }
 {
-    put_numbers(out, sheet, place, row.base, &row.row.bars)?;
+    let drawn = row.row;
+    put_numbers(out, sheet, place, row.base, &drawn.bars)?;
     put_mark_lines(out, sheet, place, row)
 }

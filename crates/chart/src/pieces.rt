@@ -354,6 +354,7 @@ pub(crate) fn put_row_lines(
     ensures { OnOk result (out.new.items
         ≡ out.old.items ++ pieces.row_lines sheet.now place (view_of row.now)) }
 {
-    put_gaps(out, sheet, place, row.name, &row.row.gaps)?;
-    put_bars(out, sheet, place, row, &row.row.bars)
+    let drawn = row.row;
+    put_gaps(out, sheet, place, row.name, &drawn.gaps)?;
+    put_bars(out, sheet, place, row, &drawn.bars)
 }
