@@ -70,7 +70,12 @@ fn put_chart_title(out: &mut Vec<u8>, sheet: &Sheet) -> Result<(), NoMemory>
 fn style() -> &'static [u8]
     ensures { result.now ≡ charts.style }
 {
-    b"<style>.b{stroke:#333;stroke-width:.75}.b,.g,.w,.t,.x,.r,.d{vector-effect:non-scaling-stroke}.g{stroke:#ddd}.w{stroke:#555;stroke-width:1.5}.t{stroke:#b00000;stroke-width:2.5;stroke-dasharray:3 3}.x{stroke:#000;stroke-width:2}.r{stroke:#000;fill:none}.d{stroke:#b00000;fill:none}rect.b:hover{stroke:#000;stroke-width:2.5}</style>\n"
+    b"<style>.b{stroke:#333;stroke-width:.75}\
+      .b,.g,.w,.t,.x,.r,.d{vector-effect:non-scaling-stroke}\
+      .g{stroke:#ddd}.w{stroke:#555;stroke-width:1.5}\
+      .t{stroke:#b00000;stroke-width:2.5;stroke-dasharray:3 3}.x{stroke:#000;stroke-width:2}\
+      .r{stroke:#000;fill:none}.d{stroke:#b00000;fill:none}\
+      rect.b:hover{stroke:#000;stroke-width:2.5}</style>\n"
 }
 
 fn put_background(out: &mut Vec<u8>, sheet: &Sheet) -> Result<(), NoMemory>
@@ -251,7 +256,8 @@ fn put_axis(out: &mut Vec<u8>, sheet: &Sheet, ticks: &[u64]) -> Result<(), NoMem
     put_all_labels(out, sheet, ticks)?;
     put(
         out,
-        b"<text x=\"142\" y=\"32\" text-anchor=\"end\" font-size=\"11\" fill=\"#333\">time in s</text>\n",
+        b"<text x=\"142\" y=\"32\" text-anchor=\"end\" font-size=\"11\" fill=\"#333\">\
+          time in s</text>\n",
     )
 }
 

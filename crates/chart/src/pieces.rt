@@ -1,6 +1,6 @@
 //! The elements of a row: its band and name, the lines between its bars, and its bars.
 
-ghost use Rattle.std.specs.Prelude.{◌≡◌, ◌<◌, ◌≤◌, ◌^◌, ◌++◌, flat_map, codes, OnOk};
+ghost use Rattle.std.specs.Prelude.{◌≡◌, ◌+◌, ◌<◌, ◌≤◌, ◌^◌, ◌++◌, flat_map, codes, OnOk};
 ghost use Rattle.chart_pieces.specs.Bars as chart_bars;
 ghost use Rattle.chart.specs.Pieces as pieces;
 ghost use Rattle.chart.specs.Rows.{view_of};
