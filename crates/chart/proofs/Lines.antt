@@ -1,6 +1,6 @@
 -- Lines put behind one another.
 use Rattle.std.proofs.Common.{◌≡◌, ℕ, suc, ◌+◌, ◌<◌, List, [], ◌∷◌, ◌++◌, length, get_or, take, map, refl, sym, ap, ◌∙◌, arith, append_assoc, append-nil}
-use Rattle.std.specs.Prelude.{flat_map}
+use Rattle.std.specs.Prelude.{flat_map, OnOk, Result, Ok, Err}
 use Rattle.std.proofs.lemmas.List.{take_more, flat_map_more, length-take-le}
 use Rattle.figure_text.specs.Columns.{numbered}
 
@@ -32,3 +32,11 @@ numbered_at line xs i d old before after l b a =
 pub numbered-map : {X Y : Type 0} (line : ℕ → Y → List ℕ) (v : X → Y) (n : ℕ) (xs : List X) → numbered line n (map v xs) ≡ numbered (λ k x. line k (v x)) n xs
 numbered-map line v n [] = refl
 numbered-map line v n (x ∷ xs) = ap (λ t. line n (v x) ++ t) (numbered-map line v (n + 1) xs)
+
+-- two texts behind what stood before: for the functions that put several
+pub behind : (old one two a b : List ℕ) → one ≡ old ++ a → two ≡ one ++ b → two ≡ old ++ (a ++ b)
+behind old one two a b p q = q ∙ ap (λ t. t ++ b) p ∙ append_assoc old a b
+
+pub on_ok : {T E : Type 0} (r : Result T E) (P Q : Type 0) → (P → Q) → OnOk r P → OnOk r Q
+on_ok (Ok x) P Q f h = f h
+on_ok (Err e) P Q f h = tt

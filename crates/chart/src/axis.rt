@@ -31,7 +31,7 @@ fn widened(length: u64) -> u64
     ensures small { result ≤ 2 ^ 42 }
 {
     let mut unit = 1;
-    let mut times = 0;
+    let mut times: u32 = 0;
     while times < 12 {
         unit = wider(length, unit);
         times += 1;

@@ -9,7 +9,7 @@ use Rattle.chart.proofs.chart.put_rows.Goals as goal
 
 pub loop-place-preserved : goal.loop-place-preserved
 loop-place-preserved c =
-    numbered_at (λ k r. row_lines c.args.sheet.now k (view_of r)) c.args.rows.now c.loop-place.place _ c.args.out.now.items c.loop-place.out.items c.put_row_lines.new.out.items c.loop-place-test.true c.loop-place.invariant c.in_ok-put_row_lines.ensures
+    numbered_at (λ k r. row_lines c.args.sheet.now k (view_of r)) c.args.rows.now c.loop-place.place c.index-rows-place.result c.args.out.now.items c.loop-place.out.items c.put_row_lines.new.out.items c.loop-place-test.true c.loop-place.invariant (c.in_ok-put_row_lines.ensures ∙ ap (λ (r : ChartRow). c.loop-place.out.items ++ row_lines c.args.sheet.now c.loop-place.place (view_of r)) c.index-rows-place.is)
 
 pub returns : goal.returns
 returns c =
