@@ -1,8 +1,8 @@
 -- Who stands on a CPU belongs to it, whatever else happens to it.
-use Rattle.std.proofs.Common.{◌≡◌, ℕ, ◌+◌, ◌<◌, ◌≤◌, Bool, true, false, cond, eqb, Option, Some, None, List, length, take, get_or, map, refl, sym, ap, ◌∙◌, arith, inl, inr, eq-eqb}
+use Rattle.std.proofs.Common.{◌≡◌, ℕ, ◌+◌, ◌<◌, ◌≤◌, Bool, true, false, cond, eqb, Option, Some, None, List, length, take, get_or, map, refl, sym, ap, subst, ◌∙◌, arith, inl, inr, eq-eqb}
 use Rattle.std.specs.Prelude.{filter, position}
 use Rattle.std.specs.List.{list_any}
-use Rattle.std.proofs.lemmas.Bool.{cases_eq, ne_eqb}
+use Rattle.std.proofs.lemmas.Bool.{both_ways, cases_eq, ne_eqb}
 use Rattle.std.proofs.lemmas.List.{get_or-take, length-take-le}
 use Rattle.std.proofs.lemmas.List.Elements.{All-map, All-weaker, All-filter}
 use Rattle.std.proofs.lemmas.List.Folds.{Any-from_list_any}
@@ -11,10 +11,11 @@ use Rattle.domain_run.specs.declared.task.Task.{Task}
 use Rattle.domain_run.specs.Parts.{replenish_due, settled, is_listed, unblocked, with_cpu, with_last_cpu}
 use Rattle.domain_run.specs.Tick.{prepared}
 use Rattle.domain_run.specs.Sound.{occupant, IsApart}
+use Rattle.domain_run.specs.private.Index.{IsAt}
 use Rattle.domain_run.specs.private.Roster.{homed_here}
 use Rattle.domain_run.specs.private.RunQueue.{AreHomed}
 use Rattle.domain_run.proofs.Keeping.{Same, same_replenished, same_settled, same_unblocked}
-use Rattle.domain_run.proofs.Placing.{homed_nowhere, homed_number, position_at, stands_at, there}
+use Rattle.domain_run.proofs.Placing.{homed_nowhere, homed_number, position_at, found_at, stands_at, task_there, there}
 use Rattle.domain_run.proofs.Homing.{homed_next, homed_idle}
 use Rattle.domain_run.proofs.Tracing.{AreStanding}
 
@@ -105,3 +106,22 @@ homed_kept before places cpu t h stood apart same home = by_occupant (occupant p
               let named : eqb (with_last_cpu (take cpu places) t).number n ≡ false = ne_eqb (with_last_cpu (take cpu places) t).number n (λ x. other (sym (homed_number (position (is_task t.number) (take cpu places)) t) ∙ x)) in
               sym (ap (λ b. cond b (with_cpu (Some cpu) (with_last_cpu (take cpu places) t)) (with_last_cpu (take cpu places) t)) named) ∙ homed_next places cpu n t h apart e
         ]
+
+-- a listed task stands on the CPU to which it belongs, or on none
+pub position_of : (places : Places) (t : Task) (n : ℕ) → IsApart places → t.number ≡ n → with_last_cpu places t ≡ t → position (is_task n) places ≡ cond (is_task n (occupant places t.cpu)) (Some t.cpu) None
+position_of places t n apart number homed = by_stand (is_task n (occupant places t.cpu)) refl
+  where
+    by_position : (o : Option ℕ) → position (is_task n) places ≡ o → is_task n (occupant places t.cpu) ≡ false → position (is_task n) places ≡ None
+    by_position None e none = e
+    by_position (Some cpu) e none =
+        let there : with_cpu (Some cpu) t ≡ t = ap (λ o. with_cpu o t) (sym (ap (λ (m : ℕ). position (is_task m) places) number ∙ e)) ∙ homed in
+        let same : cpu ≡ t.cpu = ap (λ (x : Task). x.cpu) there in
+        absurd (both_ways (is_task n (occupant places t.cpu)) none (subst (λ (k : ℕ). is_task n (occupant places k) ≡ true) same (found_at n places cpu e)))
+
+    by_stand : (b : Bool) → is_task n (occupant places t.cpu) ≡ b → position (is_task n) places ≡ cond b (Some t.cpu) None
+    by_stand true is = position_at places t.cpu n apart (task_there n (occupant places t.cpu) is)
+    by_stand false is = by_position (position (is_task n) places) refl is
+
+pub listed_at : (places : Places) (tasks : List Task) (n p : ℕ) (t : Task) → IsApart places → AreHomed places tasks → IsAt tasks n p → ((d : Task) → t ≡ get_or tasks p d) → position (is_task n) places ≡ cond (is_task n (occupant places t.cpu)) (Some t.cpu) None
+listed_at places tasks n p t apart homed at is =
+    position_of places t n apart (ap (λ (u : Task). u.number) (is t) ∙ at.is t) (subst (λ (u : Task). with_last_cpu places u ≡ u) (sym (is t)) (homed p t at.within))

@@ -33,7 +33,7 @@ pub mod Climbing
 pub mod Leaves
 pub mod ToldOrder
 pub mod ToldOf
-pub mod ToldHome
+pub mod ToldSorted
 pub mod ToldChanges
 pub mod ToldRising
 pub mod ToldIn

@@ -1,95 +1,29 @@
 -- A log that is told one thing after another.
-use Rattle.std.proofs.Common.{◌≡◌, ℕ, zero, suc, ◌+◌, ◌-◌, ◌<◌, ◌≤◌, Bool, true, false, cond, List, [], ◌∷◌, ◌++◌, length, get_or, refl, sym, ap, ◌∙◌, subst, arith}
-use Rattle.std.specs.List.{insert}
-use Rattle.std.proofs.lemmas.List.{append-nil, append_assoc, length-append, get_or-append-add}
-use Rattle.std.proofs.lemmas.List.Edits.{insert-append_right}
+use Rattle.std.proofs.Common.{◌≡◌, ℕ, ◌+◌, ◌-◌, ◌<◌, ◌≤◌, Bool, true, false, cond, List, [], ◌++◌, length, map, take, drop, set, get_or, refl, sym, subst, ap, ◌∙◌, arith}
+use borrow.Rule.Slice.PartMut.{mid_of, put_mid, post_of}
+use Rattle.std.specs.Prelude.{AllPairs}
+use Rattle.std.specs.List.Sorted.{IsPermutation}
+use Rattle.std.proofs.lemmas.List.{append-nil, append_assoc, length-append, take_at, take_all, take-append-le, drop_at, get_or_default}
+use Rattle.std.proofs.lemmas.List.Edits.{map_over_more}
+use Rattle.std.proofs.lemmas.Slice.{take-put_mid}
+use Rattle.edf_pick.specs.Places.{Places}
 use Rattle.domain_run.specs.declared.happened.Happened.{Happened}
-use Rattle.domain_run.specs.Happened.{is_first, with_happened}
+use Rattle.domain_run.specs.Happened.{in_order, at_home}
 use Rattle.domain_run.specs.Log.{LogView, kept, Tells}
-use Rattle.domain_run.specs.private.Telling.{put_all, Puts, PutsIn, IsPlaceOf}
-use Rattle.domain_run.proofs.ToldOrder.{put_append}
+use Rattle.domain_run.specs.private.Telling.{IsApart, InOrderFrom, GoHome}
+use Rattle.domain_run.proofs.ToldSorted.{pairs_none, pairs_mixed, order_alike}
 
--- ---- ONE in its place
-
--- it comes behind those before which it is not, and before the first before which it is
-placed_at : (one : Happened) (xs : List Happened) (p : ℕ) → p ≤ length xs → ((i : ℕ) (d : Happened) → i < p → is_first one (get_or xs i d) ≡ false) → ((d : Happened) → p < length xs → is_first one (get_or xs p d) ≡ true) → insert xs p one ≡ with_happened one xs
-placed_at one [] zero h behind before = refl
-placed_at one [] (suc p) h behind before = absurd (omega (arith, h))
-placed_at one (x ∷ xs) zero h behind before = sym (ap (λ b. cond b (one ∷ x ∷ xs) (x ∷ with_happened one xs)) (before one (omega arith)))
-placed_at one (x ∷ xs) (suc p) h behind before =
-    ap (λ ys. x ∷ ys) (placed_at one xs p (omega (arith, h)) (λ i d less. behind (suc i) d (omega arith)) (λ d within. before d (omega arith)))
-    ∙ sym (ap (λ b. cond b (one ∷ x ∷ xs) (x ∷ with_happened one xs)) (behind zero one (omega arith)))
-
-pub puts_in : (one : Happened) (happened : List Happened) (from place : ℕ) → IsPlaceOf one happened from place → PutsIn from one happened (insert happened place one)
-puts_in one happened from place at base others len is =
-    let more : length (base ++ others) ≡ length base + length others = length-append base others in
-    let most : place ≤ length base + length others = omega (arith, at.most, ap (λ (hs : List Happened). length hs) is, more) in
-    let read : (i : ℕ) (d : Happened) → get_or happened (length base + i) d ≡ get_or others i d = λ i d. ap (λ (hs : List Happened). get_or hs (length base + i) d) is ∙ get_or-append-add base others i d in
-    let n : ℕ = place - length base in
-    let whole : length base + n ≡ place = omega (arith, at.behind_from, len) in
-    ap (λ (hs : List Happened). insert hs place one) is
-    ∙ insert-append_right base others (length base) place one refl (omega (arith, at.behind_from, len))
-    ∙ ap (λ hs. base ++ hs) (placed_at one others n (omega (arith, most, whole))
-    (λ i d less. ap (is_first one) (sym (read i d)) ∙ at.behind (length base + i) d (omega (arith, len)) (omega (arith, less, whole)))
-    (λ d within. ap (is_first one) (sym (read n d)) ∙ subst (λ k. is_first one (get_or happened k d) ≡ true) (sym whole) (at.before d (omega (arith, within, whole, more, ap (λ (hs : List Happened). length hs) is)))))
-
--- ---- SEVERAL, one after another
+-- ---- TOLD, one list behind another
 
 kept_alike : (a b : LogView) (hs : List Happened) → b.wanted ≡ a.wanted → kept b hs ≡ kept a hs
 kept_alike a b hs same = ap (λ w. cond w hs []) same
 
-pub puts_none : (from : ℕ) (log : LogView) → Puts from [] log log
-puts_none from log = record {
+-- one that keeps nothing is as it was
+pub tells_silent : (told : List Happened) (log : LogView) → log.wanted ≡ false → Tells log told log
+tells_silent told log silent = record {
   wanted = refl;
-  put = λ base others len is. is ∙ ap (λ hs. base ++ hs) (sym (none log.wanted others));
+  happened = sym (append-nil log.happened) ∙ ap (λ w. log.happened ++ cond w told []) (sym silent);
 }
-  where
-    none : (w : Bool) (others : List Happened) → put_all (cond w [] []) others ≡ others
-    none true others = refl
-    none false others = refl
-
--- a log that keeps nothing is as it was
-pub puts_silent : (from : ℕ) (told : List Happened) (log : LogView) → log.wanted ≡ false → Puts from told log log
-puts_silent from told log silent = record {
-  wanted = refl;
-  put = λ base others len is. is ∙ ap (λ w. base ++ put_all (cond w told []) others) (sym silent);
-}
-
-kept_both : (w : Bool) (hs gs xs : List Happened) → put_all (cond w gs []) (put_all (cond w hs []) xs) ≡ put_all (cond w (gs ++ hs) []) xs
-kept_both true hs gs xs = sym (put_append gs hs xs)
-kept_both false hs gs xs = refl
-
-pub puts_more : (from : ℕ) (hs gs : List Happened) (a b c : LogView) → Puts from hs a b → Puts from gs b c → Puts from (gs ++ hs) a c
-puts_more from hs gs a b c one two = record {
-  wanted = two.wanted ∙ one.wanted;
-  put = λ base others len is.
-      two.put base (put_all (kept a hs) others) len (one.put base others len is)
-      ∙ ap (λ ks. base ++ put_all ks (put_all (kept a hs) others)) (kept_alike a b gs one.wanted)
-      ∙ ap (λ ks. base ++ ks) (kept_both a.wanted hs gs others);
-}
-
-kept_as : (w : Bool) (hs gs xs : List Happened) → put_all hs xs ≡ put_all gs xs → put_all (cond w hs []) xs ≡ put_all (cond w gs []) xs
-kept_as true hs gs xs same = same
-kept_as false hs gs xs same = refl
-
-pub puts_alike : (from : ℕ) (hs gs : List Happened) (a b : LogView) → ((xs : List Happened) → put_all hs xs ≡ put_all gs xs) → Puts from hs a b → Puts from gs a b
-puts_alike from hs gs a b same is = record {
-  wanted = is.wanted;
-  put = λ base others len e. is.put base others len e ∙ ap (λ ks. base ++ ks) (kept_as a.wanted hs gs others (same others));
-}
-
--- what was put behind all that a log had, in order, is what it was told
-kept_order : (w : Bool) (hs gs : List Happened) → put_all hs [] ≡ gs → put_all (cond w hs []) [] ≡ cond w gs []
-kept_order true hs gs same = same
-kept_order false hs gs same = refl
-
-pub tells_put : (hs gs : List Happened) (a b : LogView) → put_all hs [] ≡ gs → Puts (length a.happened) hs a b → Tells a gs b
-tells_put hs gs a b same is = record {
-  wanted = is.wanted;
-  happened = is.put a.happened [] refl (sym (append-nil a.happened)) ∙ ap (λ ks. a.happened ++ ks) (kept_order a.wanted hs gs same);
-}
-
--- ---- TOLD, one list behind another
 
 kept_none : (w : Bool) (xs : List Happened) → xs ≡ xs ++ cond w [] []
 kept_none true xs = sym (append-nil xs)
@@ -107,3 +41,70 @@ tells_more hs gs a b c one two = record {
   wanted = two.wanted ∙ one.wanted;
   happened = two.happened ∙ (λ i. one.happened i ++ kept_alike a b gs one.wanted i) ∙ append_assoc a.happened (kept a hs) (kept a gs) ∙ ap (λ ks. a.happened ++ ks) (kept_append a.wanted hs gs);
 }
+
+-- ---- IN ORDER, what it was told last
+
+apart_kept : (w : Bool) (hs : List Happened) → AllPairs IsApart hs → AllPairs IsApart (cond w hs [])
+apart_kept true hs apart = apart
+apart_kept false hs apart = pairs_none IsApart
+
+order_kept : (w : Bool) (hs gs : List Happened) → in_order hs ≡ gs → in_order (cond w hs []) ≡ cond w gs []
+order_kept true hs gs same = same
+order_kept false hs gs same = refl
+
+-- told in whatever order, it is told in its own
+pub tells_order : (hs gs : List Happened) (a b c : LogView) → IsPermutation hs gs → AllPairs IsApart hs → Tells a gs b → c.wanted ≡ b.wanted → InOrderFrom (length a.happened) b.happened c.happened → Tells a (in_order hs) c
+tells_order hs gs a b c mixed apart told wanted order = record {
+  wanted = wanted ∙ told.wanted;
+  happened = order a.happened (kept a gs) refl told.happened (apart_kept a.wanted gs (pairs_mixed hs gs mixed apart)) ∙ ap (λ ks. a.happened ++ ks) (order_kept a.wanted gs (in_order hs) (order_alike hs gs mixed apart));
+}
+
+home_kept : (places : Places) (w : Bool) (hs : List Happened) → in_order (map (at_home places) (cond w hs [])) ≡ cond w (in_order (map (at_home places) hs)) []
+home_kept places true hs = refl
+home_kept places false hs = refl
+
+pub tells_home : (places : Places) (hs : List Happened) (a b c : LogView) → AllPairs IsApart hs → Tells a hs b → c.wanted ≡ b.wanted → GoHome places (length a.happened) b.happened c.happened → Tells a (in_order (map (at_home places) hs)) c
+tells_home places hs a b c apart told wanted homes = record {
+  wanted = wanted ∙ told.wanted;
+  happened = homes a.happened (kept a hs) refl told.happened (apart_kept a.wanted hs apart) ∙ ap (λ ks. a.happened ++ ks) (home_kept places a.wanted hs);
+}
+
+-- a log that was told this, in whatever order
+pub record TellsMixed (told : List Happened) (before after : LogView) : Type 0 where
+  pub tail : List Happened
+  pub is : Tells before tail after
+  pub mixed : IsPermutation told tail
+
+-- ---- THE REST OF A LIST, from a place on, is written anew
+
+rest_is : (base others d : List Happened) (from : ℕ) → length base ≡ from → d ≡ base ++ others → mid_of from (length d - from) d ≡ others
+rest_is base others d from len is =
+    ap (λ (xs : List Happened). take (length xs - from) (drop from xs)) is
+    ∙ ap (take (length (base ++ others) - from)) (drop_at base others from len)
+    ∙ take_all (length (base ++ others) - from) others (omega (arith, len, length-append base others))
+
+rest_written : (base others new items d : List Happened) (from n : ℕ) → length base ≡ from → items ≡ base ++ others → d ≡ items → length new ≡ length others → length d ≡ n
+    → take n (put_mid from (length d - from) d new ++ drop (length (put_mid from (length d - from) d new)) items) ≡ base ++ new
+rest_written base others new items d from n len is same long whole =
+    let k : ℕ = length d - from in
+    let all = put_mid from k d new in
+    let post = post_of from k d in
+    let size_of : List Happened → ℕ = λ xs. length xs in
+    let front : take from d ≡ base = ap (take from) (same ∙ is) ∙ take_at base others from len in
+    let size : length d ≡ from + length new = omega (arith, ap size_of (same ∙ is), length-append base others, len, long) in
+    let most : n ≤ length all = omega (arith, size, whole, ap size_of front, len, length-append (take from d) (new ++ post), length-append new post) in
+    take-append-le n all (drop (length all) items) most ∙ take-put_mid from k d new n (omega (arith, whole, size)) (omega (arith, size)) ∙ ap (λ xs. xs ++ new) front
+
+pub written_from : (f : List Happened → List Happened) → ((hs : List Happened) → length (f hs) ≡ length hs) → (from n : ℕ) (items d new : List Happened) → d ≡ items → length d ≡ n
+    → (AllPairs IsApart (mid_of from (length d - from) d) → new ≡ f (mid_of from (length d - from) d))
+    → (base others : List Happened) → length base ≡ from → items ≡ base ++ others → AllPairs IsApart others
+    → take n (put_mid from (length d - from) d new ++ drop (length (put_mid from (length d - from) d new)) items) ≡ base ++ f others
+written_from f keeps from n items d new same whole puts base others len is apart =
+    let rest : mid_of from (length d - from) d ≡ others = rest_is base others d from len (same ∙ is) in
+    let put : new ≡ f others = puts (subst (AllPairs IsApart) (sym rest) apart) ∙ ap f rest in
+    rest_written base others new items d from n len is same (ap (λ (xs : List Happened). length xs) put ∙ keeps others) whole ∙ ap (λ hs. base ++ hs) put
+
+-- one after another
+pub map_written : (f : Happened → Happened) (xs ys : List Happened) (i : ℕ) (d y : Happened) → i < length xs → length ys ≡ length xs → ys ≡ map f (take i xs) ++ drop i xs → y ≡ f (get_or ys i d) → set ys i y ≡ map f (take (i + 1) xs) ++ drop (i + 1) xs
+map_written f xs ys i d y within long so_far is =
+    ap (set ys i) is ∙ map_over_more f xs ys i (get_or ys i d) within so_far (get_or_default ys i d (get_or ys i d) (omega (arith, within, long)))

@@ -5,7 +5,7 @@ use Rattle.std.specs.List.{list_any, position_or_len}
 use Rattle.std.proofs.lemmas.Bool.{or_parts, cases_lt, eqb-true, lt-ltb, ltb-true}
 use Rattle.std.proofs.lemmas.List.{get_or-map, get_or_past, get_or_default, length-map}
 use Rattle.std.proofs.lemmas.List.Folds.{Any-from_list_any}
-use Rattle.std.proofs.lemmas.List.Sums.{position_or_len_is}
+use Rattle.std.proofs.lemmas.List.Sums.{position_or_len_is, passes_at_first}
 use Rattle.domain_run.specs.declared.task.Task.{Task}
 use Rattle.edf_pick.specs.Places.{Places, is_task, stands}
 use Rattle.domain_run.specs.Conditions.{is_ready}
@@ -35,7 +35,7 @@ ready_in n (t ∷ tasks) h =
       | false ↦ λ a. or_right (eqb t.number n && false) (list_any (is_ready_number n) tasks) (ready_in n tasks a)
     ] h
 
-task_there : (n : ℕ) (o : Option ℕ) → is_task n o ≡ true → o ≡ Some n
+pub task_there : (n : ℕ) (o : Option ℕ) → is_task n o ≡ true → o ≡ Some n
 task_there n None e = absurd cc
 task_there n (Some m) e = ap (λ x. Some x) (eqb-true m n e)
 
@@ -89,6 +89,12 @@ position_within n places cpu e =
     let k = position_or_len (is_task n) places in
     let s = some_below (ltb k (length places)) k cpu e in
     subst (λ x. x < length places) s.1 (ltb-true k (length places) s.0)
+
+pub found_at : (n : ℕ) (places : Places) (cpu : ℕ) → position (is_task n) places ≡ Some cpu → is_task n (occupant places cpu) ≡ true
+found_at n places cpu e =
+    let k = position_or_len (is_task n) places in
+    let s = some_below (ltb k (length places)) k cpu e in
+    subst (λ x. is_task n (occupant places x) ≡ true) s.1 (passes_at_first (is_task n) places None (ltb-true k (length places) s.0))
 
 -- what comes with nothing true is not true
 pub not_true : (a b : Bool) → (a ≡ true → b ≡ true) → b ≡ false → a ≡ false

@@ -1,10 +1,12 @@
 -- What a change of a task tells, by a look before it and behind it, and what the changes of a list tell.
-use Rattle.std.proofs.Common.{◌≡◌, ◌≢◌, ℕ, zero, suc, ◌+◌, ◌-◌, ◌<◌, Bool, true, false, cond, eqb, ◌&&◌, ◌||◌, not, None, List, [], ◌∷◌, ◌++◌, length, take, get_or, refl, sym, ap, ◌∙◌, inl, inr, subst, arith, eq-eqb}
+use Rattle.std.proofs.Common.{◌≡◌, ◌≢◌, ℕ, zero, suc, ◌+◌, ◌-◌, ◌<◌, Bool, true, false, cond, eqb, ◌&&◌, ◌||◌, not, None, List, [], ◌∷◌, ◌++◌, length, take, get_or, refl, sym, ap, ◌∙◌, inr, subst, arith, eq-eqb}
 use Rattle.std.specs.Prelude.{ℤ, All, AllPairs}
 use Rattle.std.specs.List.{flat_map}
+use Rattle.std.specs.List.Sorted.{IsPermutation}
 use Rattle.std.proofs.lemmas.Bool.{ne_eqb}
-use Rattle.std.proofs.lemmas.List.{append-nil, take_more, length-take-le, get_or-take, get_or_default}
+use Rattle.std.proofs.lemmas.List.{append-nil, append_assoc, take_more}
 use Rattle.std.proofs.lemmas.Grind.{flat_map-append}
+use Rattle.std.proofs.lemmas.List.Sorted.{IsPermutation-refl, IsPermutation-trans, IsPermutation-append_left, IsPermutation-append_right, IsPermutation-append_comm}
 use Rattle.std.proofs.lemmas.List.Elements.{All-nil, All-cons, All-head, All-tail, All-append, All-weaker}
 use Rattle.cbs_rules.specs.Serving.{replenished, woken, is_spent}
 use Rattle.cbs_rules.specs.declared.server.Server.{Server}
@@ -21,13 +23,13 @@ use Rattle.domain_run.specs.declared.happened.Happened.{Happened}
 use Rattle.domain_run.specs.script.Segments.{asked}
 use Rattle.domain_run.specs.Conditions.{is_ready, is_throttled, is_contending, is_over, has_come}
 use Rattle.domain_run.specs.Parts.{replenish_due, unblocked, enqueued, started, starts, running_on, went_on, goes_on}
-use Rattle.domain_run.specs.Happened.{told, due, job_due, passes_late_timer, told_by_segment, told_by_work, told_by_budget, told_by_replenishment, told_by_wake, told_by_unblocking, rank}
+use Rattle.domain_run.specs.Happened.{told, due, job_due, passes_late_timer, told_by_segment, told_by_work, told_by_budget, told_by_replenishment, told_by_wake, told_by_unblocking}
 use Rattle.domain_run.specs.private.Index.{IsAt, IsAbsent}
 use Rattle.domain_run.specs.private.Roster.{after_change}
 use Rattle.domain_run.specs.private.Paying.{ran_until}
-use Rattle.domain_run.specs.private.Telling.{told_until, told_by_change, IsQuietPart, told_of_number, look_of, told_if, told_behind, one_of, all_of, put_all}
+use Rattle.domain_run.specs.private.Telling.{told_until, told_by_change, IsQuietPart, told_of_number, look_of, told_if, told_behind, one_of, all_of, IsApart}
 use Rattle.domain_run.proofs.Due.{still_at}
-use Rattle.domain_run.proofs.ToldOrder.{IsApart, AreApart, put_append, put_swap, put_swapped}
+use Rattle.domain_run.proofs.ToldOrder.{AreApart}
 
 -- ---- ONE CHANGE, seen before it and behind it
 
@@ -187,25 +189,6 @@ of_until time ticks left t =
     of_both t.number (told_by_work time x) (told_by_budget time (ran_until time ticks left t)) (of_work time x)
     (subst (λ n. AreOf n (told_by_budget time (ran_until time ticks left t))) (ran_number time ticks left t) (of_budget time (ran_until time ticks left t)))
 
-of_wake : (time : ℕ) (t u : Task) (s : Segment) → AreOf t.number (told_by_wake time t u s)
-of_wake time t u (RunFor n) =
-    of_both t.number (told time t (Released (job_due time t)) ∷ []) (cond (is_throttled u.condition) (told time t (WokenSpent (due u)) ∷ []) []) (one_told time t (Released (job_due time t)))
-    (of_if t.number (is_throttled u.condition) (told time t (WokenSpent (due u)) ∷ []) (one_told time t (WokenSpent (due u))))
-of_wake time t u (Until n) = All-nil (λ h. h.number ≡ t.number)
-of_wake time t u WaitFor = All-nil (λ h. h.number ≡ t.number)
-of_wake time t u EndNow = All-nil (λ h. h.number ≡ t.number)
-
-pub of_change : (time : ℕ) (change : Change) (t : Task) → AreOf t.number (told_by_change time change t)
-of_change time Replenish t = of_if t.number (is_throttled t.condition && has_come time t.server.deadline) (told time t (Replenished (due (replenish_due time t))) ∷ []) (one_told time t (Replenished (due (replenish_due time t))))
-of_change time Settle t = All-nil (λ h. h.number ≡ t.number)
-of_change time Unblock t = of_if t.number (is_over time t.condition) (told_by_wake time t (unblocked time t) (asked t.cursor time).segment) (of_wake time t (unblocked time t) (asked t.cursor time).segment)
-of_change time (Home cpu) t = All-nil (λ h. h.number ≡ t.number)
-of_change time (Run ticks left) t = of_until time ticks left t
-of_change time (Regrade params) t = All-nil (λ h. h.number ≡ t.number)
-of_change time Release t = All-nil (λ h. h.number ≡ t.number)
-of_change time End t = All-nil (λ h. h.number ≡ t.number)
-of_change time Depart t = All-nil (λ h. h.number ≡ t.number)
-
 -- ---- A LIST, each of whose tasks tells of itself
 
 abbrev pub TellsOwn : (Task → List Happened) → Type 0
@@ -227,16 +210,10 @@ all_others f n (t ∷ tasks) own others =
     (all_others f n tasks own (All-tail (λ t. t.number ≢ n) t tasks others))
 
 -- one task after another
-pub told_next : (f : Task → List Happened) (tasks : List Task) (p : ℕ) (d : Task) (xs : List Happened) → TellsOwn f → AreNumbered tasks → p < length tasks → put_all (f (get_or tasks p d) ++ flat_map f (take p tasks)) xs ≡ put_all (flat_map f (take (p + 1) tasks)) xs
-told_next f tasks p d xs own numbered h =
+pub told_next : (f : Task → List Happened) (tasks : List Task) (p : ℕ) (d : Task) → p < length tasks → flat_map f (take p tasks) ++ f (get_or tasks p d) ≡ flat_map f (take (p + 1) tasks)
+told_next f tasks p d h =
     let t = get_or tasks p d in
-    let before : All (λ u. u.number ≢ t.number) (take p tasks) = λ k e within.
-    let len : length (take p tasks) ≡ p = length-take-le p tasks (omega (arith, h)) in
-    let less : k < p = omega (arith, within, len) in
-    λ same. numbered k p d less h (sym (ap (λ (u : Task). u.number) (get_or_default (take p tasks) k e d within ∙ get_or-take p tasks k d less)) ∙ same) in
-    put_swapped (f t) (flat_map f (take p tasks)) xs (apart_of t.number (f t) (flat_map f (take p tasks)) (own t) (all_others f t.number (take p tasks) own before))
-    ∙ ap (λ hs. put_all (flat_map f (take p tasks) ++ hs) xs) (sym (append-nil (f t)))
-    ∙ ap (λ hs. put_all hs xs) (sym (ap (flat_map f) (take_more tasks p d h) ∙ flat_map-append f (take p tasks) (t ∷ [])))
+    ap (λ hs. flat_map f (take p tasks) ++ hs) (sym (append-nil (f t))) ∙ sym (ap (flat_map f) (take_more tasks p d h) ∙ flat_map-append f (take p tasks) (t ∷ []))
 
 -- those that tell nothing may be passed by
 pub told_nothing : (f : Task → List Happened) (tasks : List Task) → All (λ t. f t ≡ []) tasks → flat_map f tasks ≡ []
@@ -271,56 +248,17 @@ told_at f n (t ∷ tasks) (suc p) d numbered is =
     ap (λ b. cond b (f t) [] ++ flat_map (told_of_number n f) tasks) (ne_eqb t.number n other) ∙ told_at f n tasks p d apart rest
 
 -- two passes over a list, each task's own together
-pub told_both : (f g : Task → List Happened) (tasks : List Task) (xs : List Happened) → TellsOwn f → TellsOwn g → AreNumbered tasks → put_all (flat_map f tasks ++ flat_map g tasks) xs ≡ put_all (flat_map (λ t. f t ++ g t) tasks) xs
-told_both f g [] xs own also numbered = refl
-told_both f g (t ∷ tasks) xs own also numbered =
+pub told_both : (f g : Task → List Happened) (tasks : List Task) → IsPermutation (flat_map (λ t. f t ++ g t) tasks) (flat_map f tasks ++ flat_map g tasks)
+told_both f g [] = IsPermutation-refl []
+told_both f g (t ∷ tasks) =
     let F = flat_map f tasks in
     let G = flat_map g tasks in
-    let others : All (λ u. u.number ≢ t.number) tasks = λ k d h same. numbered zero (suc k) d (omega arith) (omega arith) (sym same) in
-    let apart : AreNumbered tasks = λ i j e less within. numbered (suc i) (suc j) e (omega arith) (omega arith) in
-    put_append (f t ++ F) (g t ++ G) xs
-    ∙ put_append (f t) F (put_all (g t ++ G) xs)
-    ∙ ap (λ ys. put_all (f t) (put_all F ys)) (put_append (g t) G xs)
-    ∙ ap (put_all (f t)) (sym (put_swap (g t) F (put_all G xs) (apart_of t.number (g t) F (also t) (all_others f t.number tasks own others))))
-    ∙ ap (λ ys. put_all (f t) (put_all (g t) ys)) (sym (put_append F G xs) ∙ told_both f g tasks xs own also apart)
-    ∙ sym (put_append (f t) (g t) (put_all (flat_map (λ t. f t ++ g t) tasks) xs))
-    ∙ sym (put_append (f t ++ g t) (flat_map (λ t. f t ++ g t) tasks) xs)
-
--- what parts 1 and 3 tell is apart by its kind
-abbrev IsReplenished : Happened → Type 0
-IsReplenished h = rank h.what ≡ 4
-
-abbrev IsRelease : Happened → Type 0
-IsRelease h = 4 < rank h.what
-
-replenished_kind : (time : ℕ) (t : Task) → All IsReplenished (told_by_replenishment time t)
-replenished_kind time t = elim (is_throttled t.condition && has_come time t.server.deadline) as (λ b. All IsReplenished (cond b (told time t (Replenished (due (replenish_due time t))) ∷ []) [])) [
-  | true ↦ All-cons IsReplenished (told time t (Replenished (due (replenish_due time t)))) [] refl (All-nil IsReplenished)
-  | false ↦ All-nil IsReplenished
-]
-
-wake_kind : (time : ℕ) (t u : Task) (s : Segment) → All IsRelease (told_by_wake time t u s)
-wake_kind time t u (RunFor n) = All-cons IsRelease (told time t (Released (job_due time t))) (cond (is_throttled u.condition) (told time t (WokenSpent (due u)) ∷ []) []) (omega arith)
-    (elim (is_throttled u.condition) as (λ b. All IsRelease (cond b (told time t (WokenSpent (due u)) ∷ []) [])) [
-      | true ↦ All-cons IsRelease (told time t (WokenSpent (due u))) [] (omega arith) (All-nil IsRelease)
-      | false ↦ All-nil IsRelease
-    ])
-wake_kind time t u (Until n) = All-nil IsRelease
-wake_kind time t u WaitFor = All-nil IsRelease
-wake_kind time t u EndNow = All-nil IsRelease
-
-release_kind : (time : ℕ) (t : Task) → All IsRelease (told_by_unblocking time t)
-release_kind time t = elim (is_over time t.condition) as (λ b. All IsRelease (cond b (told_by_wake time t (unblocked time t) (asked t.cursor time).segment) [])) [
-  | true ↦ wake_kind time t (unblocked time t) (asked t.cursor time).segment
-  | false ↦ All-nil IsRelease
-]
-
-all_kind : (P : Happened → Type 0) (f : Task → List Happened) (tasks : List Task) → ((t : Task) → All P (f t)) → All P (flat_map f tasks)
-all_kind P f [] each = All-nil P
-all_kind P f (t ∷ tasks) each = All-append P (f t) (flat_map f tasks) (each t) (all_kind P f tasks each)
-
-pub parts_apart : (time : ℕ) (tasks more : List Task) → AreApart (flat_map (told_by_unblocking time) more) (flat_map (told_by_replenishment time) tasks)
-parts_apart time tasks more =
-    let gs = flat_map (told_by_replenishment time) tasks in
-    All-weaker IsRelease (λ a. All (IsApart a) gs) (λ a late. All-weaker IsReplenished (IsApart a) (λ g is. inl (λ e. omega (arith, e, late, is))) gs (all_kind IsReplenished (told_by_replenishment time) tasks (replenished_kind time)))
-    (flat_map (told_by_unblocking time) more) (all_kind IsRelease (told_by_unblocking time) more (release_kind time))
+    let both = flat_map (λ t. f t ++ g t) tasks in
+    let all : List Happened = (f t ++ F) ++ (g t ++ G) in
+    let swaps : IsPermutation (f t ++ ((g t ++ F) ++ G)) (f t ++ ((F ++ g t) ++ G)) =
+    IsPermutation-append_right (f t) ((g t ++ F) ++ G) ((F ++ g t) ++ G) (IsPermutation-append_left G (g t ++ F) (F ++ g t) (IsPermutation-append_comm (g t) F)) in
+    let before : f t ++ ((g t ++ F) ++ G) ≡ (f t ++ g t) ++ (F ++ G) = ap (λ hs. f t ++ hs) (append_assoc (g t) F G) ∙ sym (append_assoc (f t) (g t) (F ++ G)) in
+    let after : f t ++ ((F ++ g t) ++ G) ≡ all = ap (λ hs. f t ++ hs) (append_assoc F (g t) G) ∙ sym (append_assoc (f t) F (g t ++ G)) in
+    IsPermutation-trans ((f t ++ g t) ++ both) ((f t ++ g t) ++ (F ++ G)) all
+    (IsPermutation-append_right (f t ++ g t) both (F ++ G) (told_both f g tasks))
+    (subst (λ hs. IsPermutation hs all) before (subst (λ hs. IsPermutation (f t ++ ((g t ++ F) ++ G)) hs) after swaps))

@@ -1,11 +1,11 @@
--- What happens at one time, each in its place: whoever is put there first.
-use Rattle.std.proofs.Common.{◌≡◌, ◌≢◌, ◌<◌, true, false, cond, eqb, ltb, ◌&&◌, ◌||◌, List, [], ◌∷◌, ◌++◌, refl, sym, ap, ◌∙◌, inl, inr, arith, eq-eqb}
+-- The order of what happens at one time.
+use Rattle.std.proofs.Common.{◌≡◌, ◌<◌, ◌≤◌, true, false, eqb, ltb, ◌&&◌, ◌||◌, List, sym, ◌∙◌, inl, inr, arith, eq-eqb}
 use Rattle.std.specs.Prelude.{All, ◌⊎◌}
-use Rattle.std.proofs.lemmas.Bool.{or_cases, or_left, or_right, and_parts, and_from, ltb-true, eqb-true, lt-ltb, both_ways, false_from_ne_true, cases_order, cases_Bool}
-use Rattle.std.proofs.lemmas.List.Elements.{All-head, All-tail}
+use Rattle.std.specs.Cmp.{IsStrictWeakOrder}
+use Rattle.std.proofs.lemmas.Bool.{or_cases, or_left, or_right, and_parts, and_from, ltb-true, eqb-true, lt-ltb, both_ways, false_from_ne_true, cases_order}
 use Rattle.domain_run.specs.declared.happened.Happened.{Happened}
-use Rattle.domain_run.specs.Happened.{rank, is_first, with_happened, in_order}
-use Rattle.domain_run.specs.private.Telling.{put_all}
+use Rattle.domain_run.specs.Happened.{rank, is_first}
+use Rattle.domain_run.specs.private.Telling.{IsApart}
 
 -- ---- the test, of three numbers each
 
@@ -56,12 +56,10 @@ never a (inl x) = absurd (omega (arith, x))
 never a (inr (s, inl x)) = absurd (omega (arith, x))
 never a (inr (s, inr (u, x))) = absurd (omega (arith, x))
 
-reverse : (a b : Happened) → is_first a b ≡ true → is_first b a ≡ false
+pub reverse : (a b : Happened) → is_first a b ≡ true → is_first b a ≡ false
 reverse a b h = false_from_ne_true (is_first b a) (λ k. never a (through a b a (tells a b h) (tells b a k)))
 
 -- of two that are apart one comes first
-abbrev pub IsApart : Happened → Happened → Type 0
-IsApart a b = (rank a.what ≢ rank b.what) ⊎ (a.number ≢ b.number)
 
 either : (a b : Happened) → IsApart a b → Precedes a b ⊎ Precedes b a
 either a b apart =
@@ -83,76 +81,47 @@ other a b apart h =
       | inr y ↦ passes b a y
     ]
 
--- ---- two, in either order
-
--- one that is put before or behind a list of which the test is known
-with_before : (a x : Happened) (xs : List Happened) → is_first a x ≡ true → with_happened a (x ∷ xs) ≡ a ∷ x ∷ xs
-with_before a x xs h = ap (λ b. cond b (a ∷ x ∷ xs) (x ∷ with_happened a xs)) h
-
-with_behind : (a x : Happened) (xs : List Happened) → is_first a x ≡ false → with_happened a (x ∷ xs) ≡ x ∷ with_happened a xs
-with_behind a x xs h = ap (λ b. cond b (a ∷ x ∷ xs) (x ∷ with_happened a xs)) h
-
--- the first of the two is before the other, and both are before the list, or one is behind
-two_first : (a b x : Happened) (xs : List Happened) → is_first a b ≡ true → is_first b a ≡ false → is_first a x ≡ true → is_first b x ≡ true → with_happened a (with_happened b (x ∷ xs)) ≡ with_happened b (with_happened a (x ∷ xs))
-two_first a b x xs ab ba ax bx =
-    ap (with_happened a) (with_before b x xs bx) ∙ with_before a b (x ∷ xs) ab
-    ∙ sym (ap (with_happened b) (with_before a x xs ax) ∙ with_behind b a (x ∷ xs) ba ∙ ap (λ ys. a ∷ ys) (with_before b x xs bx))
-
-one_first : (a b x : Happened) (xs : List Happened) → is_first b a ≡ false → is_first a x ≡ true → is_first b x ≡ false → with_happened a (with_happened b (x ∷ xs)) ≡ with_happened b (with_happened a (x ∷ xs))
-one_first a b x xs ba ax bx =
-    ap (with_happened a) (with_behind b x xs bx) ∙ with_before a x (with_happened b xs) ax
-    ∙ sym (ap (with_happened b) (with_before a x xs ax) ∙ with_behind b a (x ∷ xs) ba ∙ ap (λ ys. a ∷ ys) (with_behind b x xs bx))
-
--- one that is not before what another is before, is not before this one
-not_past : (a b x : Happened) → is_first a x ≡ true → is_first b x ≡ false → is_first b a ≡ false
-not_past a b x ax bx = false_from_ne_true (is_first b a) (λ ba. both_ways (is_first b x) bx (first_both b a x ba ax))
-
-pub with_swap : (a b : Happened) (xs : List Happened) → IsApart a b → with_happened a (with_happened b xs) ≡ with_happened b (with_happened a xs)
-with_swap a b [] apart =
-    elim (cases_Bool (is_first a b)) [
-      | inl ab ↦ with_before a b [] ab ∙ sym (with_behind b a [] (reverse a b ab))
-      | inr past ↦ let ba = other a b apart past in with_behind a b [] past ∙ sym (with_before b a [] ba)
-    ]
-with_swap a b (x ∷ xs) apart =
-    elim (cases_Bool (is_first a x)) [
-      | inl ax ↦ elim (cases_Bool (is_first b x)) [
-        | inl bx ↦ elim (cases_Bool (is_first a b)) [
-          | inl ab ↦ two_first a b x xs ab (reverse a b ab) ax bx
-          | inr past ↦ sym (two_first b a x xs (other a b apart past) past bx ax)
-        ]
-        | inr bx ↦ one_first a b x xs (not_past a b x ax bx) ax bx
-      ]
-      | inr ax ↦ elim (cases_Bool (is_first b x)) [
-        | inl bx ↦ sym (one_first b a x xs (not_past b a x bx ax) bx ax)
-        | inr bx ↦
-            ap (with_happened a) (with_behind b x xs bx) ∙ with_behind a x (with_happened b xs) ax ∙ ap (λ ys. x ∷ ys) (with_swap a b xs apart)
-            ∙ sym (ap (with_happened b) (with_behind a x xs ax) ∙ with_behind b x (with_happened a xs) bx)
-      ]
-    ]
-
--- ---- several
-
-pub put_append : (hs gs xs : List Happened) → put_all (hs ++ gs) xs ≡ put_all hs (put_all gs xs)
-put_append [] gs xs = refl
-put_append (h ∷ hs) gs xs = ap (with_happened h) (put_append hs gs xs)
-
-pub in_order_is : (hs : List Happened) → in_order hs ≡ put_all hs []
-in_order_is [] = refl
-in_order_is (h ∷ hs) = ap (with_happened h) (in_order_is hs)
+pub swapped : (a b : Happened) → IsApart a b → IsApart b a
+swapped a b (inl other) = inl (λ e. other (sym e))
+swapped a b (inr other) = inr (λ e. other (sym e))
 
 abbrev pub AreApart : List Happened → List Happened → Type 0
 AreApart hs gs = All (λ a. All (IsApart a) gs) hs
 
-swap_one : (h : Happened) (gs xs : List Happened) → All (IsApart h) gs → with_happened h (put_all gs xs) ≡ put_all gs (with_happened h xs)
-swap_one h [] xs apart = refl
-swap_one h (g ∷ gs) xs apart =
-    with_swap h g (put_all gs xs) (All-head (IsApart h) g gs apart) ∙ ap (with_happened g) (swap_one h gs xs (All-tail (IsApart h) g gs apart))
+-- ---- where one precedes another, it precedes whatever does not precede that one
 
-pub put_swap : (hs gs xs : List Happened) → AreApart hs gs → put_all hs (put_all gs xs) ≡ put_all gs (put_all hs xs)
-put_swap [] gs xs apart = refl
-put_swap (h ∷ hs) gs xs apart =
-    ap (with_happened h) (put_swap hs gs xs (All-tail (λ a. All (IsApart a) gs) h hs apart))
-    ∙ swap_one h gs (put_all hs xs) (All-head (λ a. All (IsApart a) gs) h hs apart)
+rank_past : (a b c : Happened) → rank b.what < rank a.what → Precedes a c → Precedes b c
+rank_past a b c x (inl y) = inl (omega (arith, x, y))
+rank_past a b c x (inr (s, r)) = inl (omega (arith, x, s))
 
-pub put_swapped : (hs gs xs : List Happened) → AreApart hs gs → put_all (hs ++ gs) xs ≡ put_all (gs ++ hs) xs
-put_swapped hs gs xs apart = put_append hs gs xs ∙ put_swap hs gs xs apart ∙ sym (put_append gs hs xs)
+cpu_past : (a b c : Happened) → rank a.what ≡ rank b.what → b.cpu < a.cpu → Precedes a c → Precedes b c
+cpu_past a b c e x (inl y) = inl (omega (arith, e, y))
+cpu_past a b c e x (inr (s, inl y)) = inr (sym e ∙ s, inl (omega (arith, x, y)))
+cpu_past a b c e x (inr (s, inr (u, y))) = inr (sym e ∙ s, inl (omega (arith, x, u)))
+
+number_past : (a b c : Happened) → rank a.what ≡ rank b.what → a.cpu ≡ b.cpu → b.number ≤ a.number → Precedes a c → Precedes b c
+number_past a b c e f x (inl y) = inl (omega (arith, e, y))
+number_past a b c e f x (inr (s, inl y)) = inr (sym e ∙ s, inl (omega (arith, f, y)))
+number_past a b c e f x (inr (s, inr (u, y))) = inr (sym e ∙ s, inr (sym f ∙ u, omega (arith, x, y)))
+
+between : (a b c : Happened) → Precedes a c → Precedes a b ⊎ Precedes b c
+between a b c less =
+    elim (cases_order (rank a.what) (rank b.what)) [
+      | inl e ↦ elim (cases_order a.cpu b.cpu) [
+        | inl f ↦ elim (cases_order a.number b.number) [
+          | inl g ↦ inr (number_past a b c e f (omega (arith, g)) less)
+          | inr o ↦ elim o [ inl x ↦ inl (inr (e, inr (f, x))) | inr x ↦ inr (number_past a b c e f (omega (arith, x)) less) ]
+        ]
+        | inr o ↦ elim o [ inl x ↦ inl (inr (e, inl x)) | inr x ↦ inr (cpu_past a b c e x less) ]
+      ]
+      | inr o ↦ elim o [ inl x ↦ inl (inl x) | inr x ↦ inr (rank_past a b c x less) ]
+    ]
+
+pub first_order : IsStrictWeakOrder is_first
+first_order = record {
+  one_way = reverse;
+  chain = λ a b c p q. false_from_ne_true (is_first a c) (λ k. elim (between a b c (tells a c k)) [
+    | inl x ↦ both_ways (is_first a b) p (passes a b x)
+    | inr y ↦ both_ways (is_first b c) q (passes b c y)
+  ]);
+}

@@ -1,7 +1,8 @@
 -- What is told of the tasks that are due, one after another, and of the running ones.
-use Rattle.std.proofs.Common.{◌≡◌, ℕ, zero, suc, ◌+◌, ◌-◌, ◌<◌, ◌≤◌, true, false, cond, eqb, Option, Some, None, List, [], ◌∷◌, ◌++◌, length, map, take, drop, get_or, refl, sym, ap, ◌∙◌, inl, inr, subst, arith, eq-eqb}
+use Rattle.std.proofs.Common.{◌≡◌, ℕ, zero, suc, ◌+◌, ◌-◌, ◌<◌, ◌≤◌, cond, eqb, Option, Some, None, List, [], ◌∷◌, ◌++◌, length, map, take, drop, get_or, refl, sym, ap, ◌∙◌, inl, inr, subst, arith, eq-eqb}
 use Rattle.std.specs.Prelude.{ℤ, pos, slice_index_or}
 use Rattle.std.specs.List.{flat_map}
+use Rattle.std.specs.List.Sorted.{IsPermutation}
 use Rattle.std.proofs.lemmas.Bool.{cases_eq, ne_eqb}
 use Rattle.std.proofs.lemmas.List.{append-nil, take_more, length-map, length-take-le, get_or-append_right, get_or-drop}
 use Rattle.std.proofs.lemmas.List.Folds.{flat_map-map}
@@ -11,11 +12,11 @@ use Rattle.domain_run.specs.declared.task.Task.{Task}
 use Rattle.domain_run.specs.declared.happened.Happened.{Happened}
 use Rattle.domain_run.specs.private.Paying.{index_of, paid_at, paid}
 use Rattle.domain_run.specs.private.Timers.{due_of, AreNotDue}
-use Rattle.domain_run.specs.private.Telling.{told_until, told_of_number, told_paid, told_paid_at, put_all}
+use Rattle.domain_run.specs.private.Telling.{told_until, told_of_number, told_paid, told_paid_at}
 use Rattle.domain_run.proofs.Due.{some_task}
 use Rattle.domain_run.proofs.Paying.{same_paid}
 use Rattle.domain_run.proofs.Homing.{AreDistinct, ith, position_push_no}
-use Rattle.domain_run.proofs.ToldChanges.{AreOf, AreNumbered, TellsOwn, of_until, told_both, told_alike}
+use Rattle.domain_run.proofs.ToldChanges.{AreOf, TellsOwn, of_until, told_both, told_alike}
 
 -- ---- TASKS THAT ARE NOT DUE are passed by
 
@@ -46,7 +47,7 @@ told_by time f g first now p r quiet from most same written later =
 
 -- ---- RUNNING TASKS, one after another
 
-paid_own : (time : ℕ) (running : List ℕ) (ticks : ℕ) (budgets : List ℤ) → TellsOwn (told_paid time running ticks budgets)
+pub paid_own : (time : ℕ) (running : List ℕ) (ticks : ℕ) (budgets : List ℤ) → TellsOwn (told_paid time running ticks budgets)
 paid_own time running ticks budgets t = by_index (index_of running t)
   where
     by_index : (o : Option ℕ) → AreOf t.number (told_paid_at time ticks budgets o t)
@@ -57,13 +58,14 @@ pub told_paid_none : (time ticks : ℕ) (budgets : List ℤ) (tasks : List Task)
 told_paid_none time ticks budgets [] = refl
 told_paid_none time ticks budgets (t ∷ tasks) = told_paid_none time ticks budgets tasks
 
-pub told_paid_next : (time : ℕ) (running : List ℕ) (i ticks : ℕ) (budgets : List ℤ) (first now : List Task) (xs : List Happened) → AreDistinct running → i < length running → AreNumbered first → now ≡ map (paid time (take i running) ticks budgets) first
-    → put_all (flat_map (told_of_number (get_or running i 0) (told_until time ticks (slice_index_or budgets i (pos 0)))) now ++ flat_map (told_paid time (take i running) ticks budgets) first) xs ≡ put_all (flat_map (told_paid time (take (i + 1) running) ticks budgets) first) xs
-told_paid_next time running i ticks budgets first now xs distinct h numbered is =
-    ap (λ (ts : List Task). put_all (flat_map G ts ++ flat_map H first) xs) is
-    ∙ ap (λ hs. put_all (hs ++ flat_map H first) xs) (flat_map-map G f first)
-    ∙ told_both (λ t. G (f t)) H first xs own (paid_own time (take i running) ticks budgets) numbered
-    ∙ ap (λ hs. put_all hs xs) (told_alike (λ t. G (f t) ++ H t) (told_paid time (take (i + 1) running) ticks budgets) first (λ k d inside. each (get_or first k d)))
+pub told_paid_next : (time : ℕ) (running : List ℕ) (i ticks : ℕ) (budgets : List ℤ) (first now : List Task) → AreDistinct running → i < length running → now ≡ map (paid time (take i running) ticks budgets) first
+    → IsPermutation (flat_map (told_paid time (take (i + 1) running) ticks budgets) first) (flat_map (told_paid time (take i running) ticks budgets) first ++ flat_map (told_of_number (get_or running i 0) (told_until time ticks (slice_index_or budgets i (pos 0)))) now)
+told_paid_next time running i ticks budgets first now distinct h is =
+    let next : flat_map G now ≡ flat_map (λ t. G (f t)) first = ap (flat_map G) is ∙ flat_map-map G f first in
+    let both : flat_map (λ t. H t ++ G (f t)) first ≡ flat_map (told_paid time (take (i + 1) running) ticks budgets) first =
+    told_alike (λ t. H t ++ G (f t)) (told_paid time (take (i + 1) running) ticks budgets) first (λ k d inside. each (get_or first k d)) in
+    subst (λ hs. IsPermutation hs (flat_map H first ++ flat_map G now)) both
+    (subst (λ hs. IsPermutation (flat_map (λ t. H t ++ G (f t)) first) (flat_map H first ++ hs)) (sym next) (told_both H (λ t. G (f t)) first))
   where
     n : ℕ
     n = get_or running i 0
@@ -83,13 +85,7 @@ told_paid_next time running i ticks budgets first now xs distinct h numbered is 
     same : (t : Task) → (f t).number ≡ t.number
     same t = (same_paid time (take i running) ticks budgets t).number
 
-    own : TellsOwn (λ t. G (f t))
-    own t = subst (λ m. AreOf m (G (f t))) (same t) (elim (eqb (f t).number n) as (λ b. AreOf (f t).number (cond b (told_until time ticks left (f t)) [])) [
-      | true ↦ of_until time ticks left (f t)
-      | false ↦ All-nil (λ h. h.number ≡ (f t).number)
-    ])
-
-    each : (t : Task) → G (f t) ++ H t ≡ told_paid time (take (i + 1) running) ticks budgets t
+    each : (t : Task) → H t ++ G (f t) ≡ told_paid time (take (i + 1) running) ticks budgets t
     each t =
         elim (cases_eq t.number n) [
           | inl e ↦
@@ -98,9 +94,10 @@ told_paid_next time running i ticks budgets first now xs distinct h numbered is 
               ap (λ b. cond b (told_until time ticks left (f t)) []) (eq-eqb (f t).number n (same t ∙ e))
               ∙ ap (λ o. told_until time ticks left (paid_at time ticks budgets o t)) at.before in
               let none : H t ≡ [] = ap (λ o. told_paid_at time ticks budgets o t) at.before in
-              (λ k. here k ++ none k) ∙ append-nil (told_until time ticks left t) ∙ sym (ap (λ o. told_paid_at time ticks budgets o t) at.now)
+              (λ k. none k ++ here k) ∙ sym (ap (λ o. told_paid_at time ticks budgets o t) at.now)
           | inr other ↦
-              ap (λ b. cond b (told_until time ticks left (f t)) [] ++ H t) (ne_eqb (f t).number n (λ e. other (sym (same t) ∙ e)))
+              ap (λ b. H t ++ cond b (told_until time ticks left (f t)) []) (ne_eqb (f t).number n (λ e. other (sym (same t) ∙ e)))
+              ∙ append-nil (H t)
               ∙ sym (ap (λ (ns : List ℕ). told_paid time ns ticks budgets t) (take_more running i 0 h)
               ∙ ap (λ o. told_paid_at time ticks budgets o t) (position_push_no (λ m. eqb m t.number) (take i running) n (ne_eqb n t.number (λ e. other (sym e)))))
         ]

@@ -1,7 +1,7 @@
 -- What happens in a domain rises: strictly by time, and at one time strictly by its order. Cuts alone, which calls
 -- tell between two ticks, stand where they come.
-use Rattle.std.proofs.Common.{◌≡◌, ◌≢◌, ℕ, zero, suc, ◌+◌, ◌-◌, ◌<◌, Bool, true, false, cond, eqb, ◌&&◌, List, [], ◌∷◌, ◌++◌, map, refl, sym, subst, ◌∙◌, inl, inr, arith}
-use Rattle.std.specs.Prelude.{All, AllPairs, ◌⊎◌, filter}
+use Rattle.std.proofs.Common.{◌≡◌, ◌≢◌, ℕ, zero, suc, ◌+◌, ◌-◌, ◌<◌, Bool, true, false, cond, eqb, ◌&&◌, Option, Some, None, List, [], ◌∷◌, ◌++◌, map, refl, sym, subst, ◌∙◌, inl, inr, arith}
+use Rattle.std.specs.Prelude.{ℤ, pos, All, AllPairs, ◌⊎◌, filter, slice_index_or}
 use Rattle.std.specs.List.{flat_map}
 use Rattle.std.proofs.lemmas.List.{append-nil, append_assoc}
 use Rattle.std.proofs.lemmas.List.Elements.{All-nil, All-cons, All-head, All-tail, All-append, All-weaker, All-map}
@@ -21,14 +21,18 @@ use Rattle.domain_run.specs.Parts.{replenish_due, settled, is_listed, unblocked,
 use Rattle.domain_run.specs.Domain.{Domain}
 use Rattle.domain_run.specs.Tick.{begun, prepared, rate_of, ticks}
 use Rattle.domain_run.specs.Calls.{reply_to, is_refusal, granted, after_call}
-use Rattle.domain_run.specs.Happened.{told, due, job_due, passes_late_timer, told_by_segment, told_by_work, told_by_budget, told_by_run, told_if_ran, told_by_replenishment, told_by_wake, told_by_unblocking, rank, is_first, with_happened, in_order, at_home, told_to_begin, told_by_beginning, told_by_end, told_by_tick, told_by_ticks, told_by_cut, told_by_granted, told_by_call}
+use Rattle.domain_run.specs.Happened.{told, due, job_due, passes_late_timer, told_by_segment, told_by_work, told_by_budget, told_by_run, told_if_ran, told_by_replenishment, told_by_wake, told_by_unblocking, rank, is_first, at_home, told_to_begin, told_by_beginning, told_by_end, told_by_tick, told_by_ticks, told_by_cut, told_by_granted, told_by_call}
 use Rattle.domain_run.proofs.Keeping.{same_replenished, same_settled, AllPairs-map}
 use Rattle.domain_run.proofs.KeptKeys.{AreNumbered, ticks_numbered, others_first, others_rest}
 use Rattle.domain_run.proofs.OrderTicks.{prepared_apart}
 use Rattle.domain_run.proofs.Homing.{homed_keeps}
-use Rattle.domain_run.proofs.ToldOrder.{passes, first_both, IsApart, other}
+use Rattle.domain_run.specs.private.Paying.{ran_until, index_of}
+use Rattle.domain_run.specs.private.Telling.{IsApart, told_until, told_paid, told_paid_at}
+use Rattle.domain_run.proofs.ToldOrder.{passes}
+use Rattle.domain_run.proofs.ToldSorted.{pairs_first, pairs_rest, pairs_none, IsBefore, in_order_first}
+use Rattle.domain_run.proofs.ToldPay.{paid_own}
 use Rattle.domain_run.proofs.ToldChanges.{AreOf, all_others, apart_of}
-use Rattle.domain_run.proofs.ToldOf.{each_placed, each_in_order, each_task, each_replenishment, each_unblocking, each_work, each_budget, each_end}
+use Rattle.domain_run.proofs.ToldOf.{each_in_order, each_task, each_replenishment, each_unblocking, each_work, each_budget, each_end}
 
 -- ---- what rises
 
@@ -48,15 +52,6 @@ IsRising hs = AllPairs IsSoonerUnlessCut hs
 
 -- ---- pairs of a list
 
-pairs_first : {X : Type 0} (R : X → X → Type 0) (x : X) (xs : List X) → AllPairs R (x ∷ xs) → All (R x) xs
-pairs_first R x xs all k d h = all zero (suc k) d (omega arith) (omega arith)
-
-pairs_rest : {X : Type 0} (R : X → X → Type 0) (x : X) (xs : List X) → AllPairs R (x ∷ xs) → AllPairs R xs
-pairs_rest R x xs all i j d less within = all (suc i) (suc j) d (omega arith) (omega arith)
-
-pairs_none : {X : Type 0} (R : X → X → Type 0) → AllPairs R []
-pairs_none R i j d less within = absurd (omega (arith, within))
-
 pairs_append : {X : Type 0} (R : X → X → Type 0) (xs ys : List X) → AllPairs R xs → AllPairs R ys → All (λ x. All (R x) ys) xs → AllPairs R (xs ++ ys)
 pairs_append R [] ys one two across = two
 pairs_append R (x ∷ xs) ys one two across =
@@ -65,26 +60,6 @@ pairs_append R (x ∷ xs) ys one two across =
 
 across_by : {X : Type 0} (P Q : X → Type 0) (R : X → X → Type 0) (xs ys : List X) → ((x y : X) → P x → Q y → R x y) → All P xs → All Q ys → All (λ x. All (R x) ys) xs
 across_by P Q R xs ys f one two = All-weaker P (λ x. All (R x) ys) (λ x p. All-weaker Q (R x) (λ y q. f x y p q) ys two) xs one
-
--- ---- in its order, where each two are apart
-
-abbrev IsBefore : Happened → Happened → Type 0
-IsBefore a b = is_first a b ≡ true
-
-with_first : (h : Happened) (hs : List Happened) → All (IsApart h) hs → AllPairs IsBefore hs → AllPairs IsBefore (with_happened h hs)
-with_first h [] apart rising = AllPairs-cons IsBefore h [] (All-nil (IsBefore h)) rising
-with_first h (o ∷ os) apart rising = by_first (is_first h o) refl (with_first h os (All-tail (IsApart h) o os apart) (pairs_rest IsBefore o os rising))
-  where
-    behind : All (IsBefore o) os
-    behind = pairs_first IsBefore o os rising
-
-    by_first : (b : Bool) → is_first h o ≡ b → AllPairs IsBefore (with_happened h os) → AllPairs IsBefore (cond b (h ∷ o ∷ os) (o ∷ with_happened h os))
-    by_first true is more = AllPairs-cons IsBefore h (o ∷ os) (All-cons (IsBefore h) o os is (All-weaker (IsBefore o) (IsBefore h) (λ x next. first_both h o x is next) os behind)) rising
-    by_first false is more = AllPairs-cons IsBefore o (with_happened h os) (each_placed (IsBefore o) h os (other h o (All-head (IsApart h) o os apart) is) behind) more
-
-in_order_first : (hs : List Happened) → AllPairs IsApart hs → AllPairs IsBefore (in_order hs)
-in_order_first [] apart = pairs_none IsBefore
-in_order_first (h ∷ hs) apart = with_first h (in_order hs) (each_in_order (IsApart h) hs (pairs_first IsApart h hs apart)) (in_order_first hs (pairs_rest IsApart h hs apart))
 
 -- at one time
 rising_at : (time : ℕ) (hs : List Happened) → All (λ h. h.time ≡ time) hs → AllPairs IsBefore hs → IsRising hs
@@ -140,11 +115,9 @@ apart_segment time t late (Until n) = apart_one (told time t JobEnds)
 apart_segment time t late WaitFor = apart_one (told time t JobEnds)
 apart_segment time t late EndNow = apart_one (told time t JobEnds)
 
-apart_run : (time rate : ℕ) (t : Task) → AllPairs IsApart (told_by_run time rate t)
-apart_run time rate t =
-    let later : ℕ = time + 1 in
-    let x : Task = record t { server = charged rate 1 t.server; work = t.work - 1 } in
-    let y : Task = ran time rate t in
+-- work that ends, and a budget that does
+apart_both : (later : ℕ) (x y : Task) → AllPairs IsApart (told_by_work later x ++ told_by_budget later y)
+apart_both later x y =
     let late = passes_late_timer x.cursor later in
     let s = (asked x.cursor later).segment in
     let h : Happened = told later y (Spent (due y)) in
@@ -154,6 +127,12 @@ apart_run time rate t =
     (apart_if (eqb x.work 0) (told_by_segment later x late s) (apart_segment later x late s))
     (apart_if (is_throttled y.condition) (h ∷ []) (apart_one h))
     (across_by low high IsApart (told_by_work later x) (told_by_budget later y) (λ a b p q. by_rank a b (omega (arith, p, q))) (each_work low later x (λ w p. p)) (each_budget high later y (λ w p. p)))
+
+apart_run : (time rate : ℕ) (t : Task) → AllPairs IsApart (told_by_run time rate t)
+apart_run time rate t = apart_both (time + 1) (record t { server = charged rate 1 t.server; work = t.work - 1 }) (ran time rate t)
+
+apart_until : (time ticks : ℕ) (left : ℤ) (t : Task) → AllPairs IsApart (told_until time ticks left t)
+apart_until time ticks left t = apart_both time (record t { server = record t.server { left = left }; work = t.work - ticks }) (ran_until time ticks left t)
 
 -- ---- of all tasks
 
@@ -175,6 +154,17 @@ own_end d t = each_end (λ h. h.number ≡ t.number) d t (λ u same w low. same.
 
 apart_end : (d : Domain) → OwnApart (told_if_ran d)
 apart_end d t = apart_if (stands t.number d.curr) (told_by_run d.time (rate_of d t) t) (apart_run d.time (rate_of d t) t)
+
+-- so many ticks at once, by those who run
+apart_paid : (time : ℕ) (running : List ℕ) (ticks : ℕ) (budgets : List ℤ) → OwnApart (told_paid time running ticks budgets)
+apart_paid time running ticks budgets t = by_index (index_of running t)
+  where
+    by_index : (o : Option ℕ) → AllPairs IsApart (told_paid_at time ticks budgets o t)
+    by_index None = pairs_none IsApart
+    by_index (Some i) = apart_until time ticks (slice_index_or budgets i (pos 0)) t
+
+pub paying_apart : (time : ℕ) (running : List ℕ) (ticks : ℕ) (budgets : List ℤ) (tasks : List Task) → AreNumbered tasks → AllPairs IsApart (flat_map (told_paid time running ticks budgets) tasks)
+paying_apart time running ticks budgets tasks numbered = apart_tasks (told_paid time running ticks budgets) tasks (paid_own time running ticks budgets) (apart_paid time running ticks budgets) numbered
 
 -- ---- WHERE A TICK BEGINS, and where it ends
 

@@ -20,7 +20,7 @@ use Rattle.domain_run.specs.Jump.{under_way, ticks_to_due, ticks_to_due_of, tick
 use Rattle.domain_run.specs.Sound.{IsSteady, IsPlacement}
 use Rattle.domain_run.specs.Happened.{told, due, told_by_segment, told_by_work, told_by_budget, told_by_run, told_if_ran, told_by_replenishment, told_by_wake, told_by_unblocking, in_order, at_home, told_by_beginning, told_by_end, told_by_tick, told_by_ticks, told_by_last_end, passes_late_timer}
 use Rattle.domain_run.specs.private.Paying.{ran_until, index_of}
-use Rattle.domain_run.specs.private.Telling.{told_until, told_paid, told_paid_at, told_of_parts, told_in_parts, told_in_pay}
+use Rattle.domain_run.specs.private.Telling.{told_until, told_paid, told_paid_at, told_of_parts, told_in_pay}
 use Rattle.domain_run.proofs.Staying.{map_itself}
 use Rattle.domain_run.proofs.Jumping.{IsStill, still_before, rest_each, rest_alike, alike_slid, filter_whole, slid, slid_all, slid_none, Runs, RunsIf, rate_slid, less_twice, run_by, run_on, finished_slid, begun_still, ticks_slid}
 use Rattle.domain_run.proofs.Paying.{there, nowhere, charged_there, runs_each}
@@ -28,7 +28,7 @@ use Rattle.domain_run.proofs.ToldChanges.{told_nothing, told_alike}
 
 -- ---- parts 1 to 3 have nothing to do, and tell nothing
 
-parts_still : (time : ℕ) (tasks : List Task) → All (IsStill time) tasks → told_of_parts time tasks ≡ []
+pub parts_still : (time : ℕ) (tasks : List Task) → All (IsStill time) tasks → told_of_parts time tasks ≡ []
 parts_still time tasks still =
     let due_none : flat_map (told_by_replenishment time) tasks ≡ [] = told_nothing (told_by_replenishment time) tasks
     (All-weaker (IsStill time) (λ t. told_by_replenishment time t ≡ []) (λ t is. ap (λ b. cond b (told time t (Replenished (due (replenish_due time t))) ∷ []) []) is.due) tasks still) in
@@ -39,9 +39,6 @@ parts_still time tasks still =
     let listed : filter is_listed tasks ≡ tasks = filter_whole is_listed tasks (λ k d h. (still k d h).listed) in
     let same : filter is_listed (map (settled time) (map (replenish_due time) tasks)) ≡ tasks = ap (λ ts. filter is_listed (map (settled time) ts)) due ∙ ap (λ ts. filter is_listed ts) lag ∙ listed in
     (λ i. due_none i ++ flat_map (told_by_unblocking time) (same i)) ∙ over_none
-
-pub parts_none : (time : ℕ) (tasks : List Task) → All (IsStill time) tasks → told_in_parts time tasks ≡ []
-parts_none time tasks still = ap in_order (parts_still time tasks still)
 
 beginning_still : (d : Domain) (j : ℕ) → 0 < j → j ≤ ticks_to_due (d.time + 1) (begun d).tasks → told_by_beginning (slid_all (begun d) j) ≡ []
 beginning_still d j some h =

@@ -1,15 +1,20 @@
 //! A log of what happens to the tasks of a domain.
 
-ghost use Rattle.std.specs.Prelude.{◌≡◌, ◌<◌, ◌≤◌, ◌+◌, [], ◌∷◌, true, false, length, position, OnOk, IfSome, vec_len, vec_capacity};
+ghost use Rattle.std.specs.Prelude.{◌≡◌, ◌<◌, ◌≤◌, ◌+◌, [], true, false, length, position, map, AllPairs, OnOk, IfSome};
+ghost use Rattle.std.specs.Ordering.{is_lt};
 ghost use Rattle.edf_pick.specs.Places.{is_task};
 ghost use Rattle.domain_run.specs.Happened as happened_spec;
 ghost use Rattle.domain_run.specs.Log.{Tells, HasRoom};
-ghost use Rattle.domain_run.specs.private.Telling.{Puts, PutsIn, IsPlaceOf, GoesHome, GoHome, one_of, all_of};
+ghost use Rattle.domain_run.specs.Sound.{occupant, IsApart as IsPlacedOnce};
+ghost use Rattle.domain_run.specs.private.RunQueue.{AreHomed};
+ghost use Rattle.domain_run.specs.private.Telling.{IsApart, InOrderFrom, GoHome, one_of, all_of};
 
 use crate::happened::{Happened, What};
+use crate::roster::Roster;
 use crate::telling::Told;
 use no_memory::NoMemory;
 use std::alloc::Global;
+use std::cmp::Ordering;
 use std::marker::Model;
 
 /// A log of what happens to the tasks of a domain, for the calls of [`State`](crate::State) that
@@ -58,44 +63,67 @@ fn is_first(a: &Happened, b: &Happened) -> bool
     left < right || (left == right && (a.cpu < b.cpu || (a.cpu == b.cpu && a.number < b.number)))
 }
 
-// The place of one among those from this place on.
-fn place_of(happened: &[Happened], from: usize, one: &Happened) -> usize
-    requires { from ≤ length happened.now }
-    ensures { IsPlaceOf one.now happened.now from result }
+// How two of one time stand in their order. No two are equal in it.
+fn order_of(a: &Happened, b: &Happened) -> Ordering
+    ensures { is_lt result ≡ happened_spec.is_first a.now b.now }
 {
-    let mut place = from;
-    while place < happened.len() && !is_first(one, &happened[place]) {
-        place += 1;
+    if is_first(a, b) {
+        Ordering::Less
+    } else {
+        Ordering::Greater
     }
-    place
 }
 
-// Puts one in its place among those from this place on.
-fn put_in(happened: &mut Vec<Happened>, from: usize, one: Happened)
-    requires from { from ≤ length happened.old.items }
-    requires room { vec_len happened.old < vec_capacity happened.old }
-    ensures put { PutsIn from one happened.old.items happened.new.items }
-    ensures len { vec_len happened.new ≡ vec_len happened.old + 1 }
-    ensures room { vec_capacity happened.new ≡ vec_capacity happened.old }
+// Puts what is told of one time in its order.
+fn put_in_order(told: &mut [Happened])
+    ensures { AllPairs IsApart told.old → told.new ≡ happened_spec.in_order told.old }
 {
-    let place = place_of(happened, from, &one);
-    happened.insert(place, one).unwrap();
+    told.sort_unstable_by(|a, b| order_of(a, b));
 }
 
-// The CPU on which a task stands, if it stands on one.
-fn cpu_of(number: u32, places: &[Option<u32>]) -> Option<usize>
+// The CPU on which a task stands, if it stands on one, looked for on each.
+fn cpu_among(number: u32, places: &[Option<u32>]) -> Option<usize>
     ensures cpu { result ≡ position (is_task number) places.now }
     ensures within { IfSome result (λ cpu. cpu < length places.now) }
 {
     places.iter().position(|occupant| *occupant == Some(number))
 }
 
+fn stands_on(number: u32, places: &[Option<u32>], cpu: usize) -> bool
+    requires { cpu < length places.now }
+    ensures { result ≡ is_task number (occupant places.now cpu) }
+{
+    places[cpu] == Some(number)
+}
+
+// The CPU on which a task stands, if it stands on one. One that is listed belongs to it.
+fn cpu_of(number: u32, places: &[Option<u32>], roster: &Roster) -> Option<usize>
+    requires wide { length places.now ≡ roster.now.cpus }
+    requires apart { IsPlacedOnce places.now }
+    requires homed { AreHomed places.now roster.now.tasks }
+    ensures cpu { result ≡ position (is_task number) places.now }
+    ensures within { IfSome result (λ cpu. cpu < length places.now) }
+{
+    let Some(place) = roster.place(number) else {
+        return cpu_among(number, places);
+    };
+    let cpu = roster.at(place).cpu;
+    if stands_on(number, places, cpu) {
+        Some(cpu)
+    } else {
+        None
+    }
+}
+
 // One on the CPU where its task stands, if it stands on one.
-fn at_home(one: &Happened, places: &[Option<u32>]) -> Happened
+fn at_home(one: &Happened, places: &[Option<u32>], roster: &Roster) -> Happened
     requires narrow { length places.now ≤ 64 }
+    requires wide { length places.now ≡ roster.now.cpus }
+    requires apart { IsPlacedOnce places.now }
+    requires homed { AreHomed places.now roster.now.tasks }
     ensures { result ≡ happened_spec.at_home places.now one.now }
 {
-    match cpu_of(one.number, places) {
+    match cpu_of(one.number, places, roster) {
         Some(cpu) => Happened {
             cpu: cpu as u16,
             ..*one
@@ -104,31 +132,30 @@ fn at_home(one: &Happened, places: &[Option<u32>]) -> Happened
     }
 }
 
-// Puts the one at a place on the CPU of its task, and in its place among those behind it.
-fn go_home(happened: &mut Vec<Happened>, place: usize, places: &[Option<u32>])
-    requires there { place < vec_len happened.old }
+// Each on the CPU where its task stands, if it stands on one.
+fn all_home(told: &mut [Happened], places: &[Option<u32>], roster: &Roster)
     requires narrow { length places.now ≤ 64 }
-    ensures home { GoesHome places.now place happened.old.items happened.new.items }
-    ensures len { vec_len happened.new ≡ vec_len happened.old }
-    ensures room { vec_capacity happened.new ≡ vec_capacity happened.old }
+    requires wide { length places.now ≡ roster.now.cpus }
+    requires apart { IsPlacedOnce places.now }
+    requires homed { AreHomed places.now roster.now.tasks }
+    ensures { told.new ≡ map (happened_spec.at_home places.now) told.old }
 {
-    let one = happened.remove(place);
-    put_in(happened, place, at_home(&one, places));
+    for one in told.iter_mut() {
+        *one = at_home(one, places, roster);
+    }
 }
 
-// Puts each from this place on on the CPU of its task, and in its place among them: the last first.
-fn go_all_home(happened: &mut Vec<Happened>, from: usize, places: &[Option<u32>])
-    requires from { from ≤ vec_len happened.old }
+// Each on the CPU where its task stands, if it stands on one, and in its order by those.
+fn all_home_in_order(told: &mut [Happened], places: &[Option<u32>], roster: &Roster)
     requires narrow { length places.now ≤ 64 }
-    ensures home { GoHome places.now from happened.old.items happened.new.items }
-    ensures len { vec_len happened.new ≡ vec_len happened.old }
-    ensures room { vec_capacity happened.new ≡ vec_capacity happened.old }
+    requires wide { length places.now ≡ roster.now.cpus }
+    requires apart { IsPlacedOnce places.now }
+    requires homed { AreHomed places.now roster.now.tasks }
+    ensures { AllPairs IsApart told.old
+        → told.new ≡ happened_spec.in_order (map (happened_spec.at_home places.now) told.old) }
 {
-    let mut place = happened.len();
-    while from < place {
-        place -= 1;
-        go_home(happened, place, places);
-    }
+    all_home(told, places, roster);
+    put_in_order(told);
 }
 
 impl Log {
@@ -198,7 +225,8 @@ impl Log {
     /// Has one more behind all that it was told.
     pub(crate) fn push(&mut self, one: Option<Happened>)
         requires room { HasRoom 1 self.old }
-        ensures { Tells self.old (one_of one) self.new }
+        ensures told { Tells self.old (one_of one) self.new }
+        ensures room { self.old.room ≤ self.new.room + 1 }
     {
         if let Some(one) = one
             && self.wanted
@@ -207,53 +235,43 @@ impl Log {
         }
     }
 
-    // Puts one in its place among those from this place on.
-    fn put(&mut self, from: usize, one: Happened)
-        requires from { from ≤ length self.old.happened }
-        requires room { HasRoom 1 self.old }
-        ensures puts { Puts from (one ∷ []) self.old self.new }
-        ensures more { length self.old.happened ≤ length self.new.happened }
-        ensures room { self.old.room ≤ self.new.room + 1 }
-    {
-        if self.wanted {
-            put_in(&mut self.happened, from, one);
-        }
-    }
-
-    fn put_if(&mut self, from: usize, one: Option<Happened>)
-        requires from { from ≤ length self.old.happened }
-        requires room { HasRoom 1 self.old }
-        ensures puts { Puts from (one_of one) self.old self.new }
-        ensures more { length self.old.happened ≤ length self.new.happened }
-        ensures room { self.old.room ≤ self.new.room + 1 }
-    {
-        if let Some(one) = one {
-            self.put(from, one);
-        }
-    }
-
-    /// Puts what a change of a task told in its place among what was told from this place on.
-    pub(crate) fn put_all(&mut self, from: usize, told: Told)
-        requires from { from ≤ length self.old.happened }
+    /// Has what a change of a task told behind all that it was told.
+    pub(crate) fn push_all(&mut self, told: Told)
         requires room { HasRoom 3 self.old }
-        ensures puts { Puts from (all_of told) self.old self.new }
-        ensures more { length self.old.happened ≤ length self.new.happened }
+        ensures told { Tells self.old (all_of told) self.new }
         ensures room { self.old.room ≤ self.new.room + 3 }
     {
-        self.put_if(from, told.third);
-        self.put_if(from, told.second);
-        self.put_if(from, told.first);
+        self.push(told.first);
+        self.push(told.second);
+        self.push(told.third);
+    }
+
+    /// What was told from this place on is put in its order.
+    pub(crate) fn put_in_order(&mut self, from: usize)
+        requires from { from ≤ length self.old.happened }
+        ensures wanted { self.new.wanted ≡ self.old.wanted }
+        ensures order { InOrderFrom from self.old.happened self.new.happened }
+        ensures room { self.new.room ≡ self.old.room }
+    {
+        if from < self.happened.len() {
+            put_in_order(&mut self.happened[from..]);
+        }
     }
 
     /// What was told from this place on is told on the CPUs where its tasks stand now, those that
-    /// stand on one, and has its place by those.
-    pub(crate) fn go_home(&mut self, from: usize, places: &[Option<u32>])
+    /// stand on one, and is put in its order by those.
+    pub(crate) fn go_home(&mut self, from: usize, places: &[Option<u32>], roster: &Roster)
         requires from { from ≤ length self.old.happened }
         requires narrow { length places.now ≤ 64 }
+        requires wide { length places.now ≡ roster.now.cpus }
+        requires apart { IsPlacedOnce places.now }
+        requires homed { AreHomed places.now roster.now.tasks }
         ensures wanted { self.new.wanted ≡ self.old.wanted }
         ensures home { GoHome places.now from self.old.happened self.new.happened }
         ensures room { self.new.room ≡ self.old.room }
     {
-        go_all_home(&mut self.happened, from, places);
+        if from < self.happened.len() {
+            all_home_in_order(&mut self.happened[from..], places, roster);
+        }
     }
 }

@@ -24,25 +24,22 @@ use crate::switch::{PrevState, Switch};
 use crate::{parts, telling};
 use edf_pick::Placement;
 
-/// Changes the task at a place, and tells the log what that tells: in its place among what it was
-/// told from this one on.
+/// Changes the task at a place, and tells the log what that tells.
 #[inline(always)]
-fn turn(roster: &mut Roster, place: usize, time: u64, change: &Change, log: &mut Log, from: usize)
+fn turn(roster: &mut Roster, place: usize, time: u64, change: &Change, log: &mut Log)
     requires there { place < length roster.old.tasks }
     requires early { time < 2 ^ 43 }
     requires narrow { roster.old.cpus ≤ 64 }
     requires fits { Fits roster.old.cpus change.now }
     requires sound { All (IsSound time) roster.old.tasks }
     requires may { (d : Task) → MayMake time change.now (slice_index_or roster.old.tasks place d) }
-    requires from { from ≤ length log.old.happened }
     requires room { HasRoom 3 log.old }
     ensures cpus { roster.new.cpus ≡ roster.old.cpus }
     ensures step { IsStep (after_change time change.now) place roster.old.tasks roster.new.tasks }
     ensures sound { All (IsSound time) roster.new.tasks }
-    ensures told { (d : Task) → telling_spec.Puts from
+    ensures told { (d : Task) → Tells log.old
         (telling_spec.told_by_change time change.now (slice_index_or roster.old.tasks place d))
-        log.old log.new }
-    ensures more { length log.old.happened ≤ length log.new.happened }
+        log.new }
     ensures room { log.old.room ≤ log.new.room + 3 }
 {
     if !log.is_wanted() {
@@ -51,65 +48,52 @@ fn turn(roster: &mut Roster, place: usize, time: u64, change: &Change, log: &mut
     }
     let before = telling::look(roster.at(place), time, change);
     roster.turn(place, time, change);
-    log.put_all(
-        from,
-        telling::seen_behind(time, change, before, roster.at(place)),
-    );
+    let told = telling::seen_behind(time, change, before, roster.at(place));
+    log.push_all(told);
 }
 
 /// Changes the task of a number, where it is listed, and tells the log.
 #[inline(always)]
-fn turn_number(
-    roster: &mut Roster,
-    number: u32,
-    time: u64,
-    change: &Change,
-    log: &mut Log,
-    from: usize,
-)
+fn turn_number(roster: &mut Roster, number: u32, time: u64, change: &Change, log: &mut Log)
     requires early { time < 2 ^ 43 }
     requires narrow { roster.old.cpus ≤ 64 }
     requires fits { Fits roster.old.cpus change.now }
     requires sound { All (IsSound time) roster.old.tasks }
     requires may { All (λ t. t.number ≡ number → MayMake time change.now t) roster.old.tasks }
-    requires from { from ≤ length log.old.happened }
     requires room { HasRoom 3 log.old }
     ensures cpus { roster.new.cpus ≡ roster.old.cpus }
     ensures tasks { roster.new.tasks
         ≡ map (of_number number (after_change time change.now)) roster.old.tasks }
     ensures sound { All (IsSound time) roster.new.tasks }
-    ensures told { telling_spec.Puts from
+    ensures told { Tells log.old
         (flat_map (telling_spec.told_of_number number (telling_spec.told_by_change time change.now))
-        roster.old.tasks) log.old log.new }
-    ensures more { length log.old.happened ≤ length log.new.happened }
+        roster.old.tasks) log.new }
     ensures room { log.old.room ≤ log.new.room + 3 }
 {
     if let Some(place) = roster.place(number) {
-        turn(roster, place, time, change, log, from);
+        turn(roster, place, time, change, log);
     }
 }
 
 /// One of parts 1 to 3. It goes from one task that is due to the next.
 #[inline(always)]
-fn turn_due(roster: &mut Roster, time: u64, change: &Change, log: &mut Log, from: usize)
+fn turn_due(roster: &mut Roster, time: u64, change: &Change, log: &mut Log)
     requires early { time < 2 ^ 42 }
     requires narrow { roster.old.cpus ≤ 64 }
     requires part { IsPart time change.now }
     requires quiet { telling_spec.IsQuietPart time change.now }
     requires sound { All (IsSound time) roster.old.tasks }
-    requires from { from ≤ length log.old.happened }
     requires room { HasRoom (3 * length roster.old.tasks) log.old }
     ensures cpus { roster.new.cpus ≡ roster.old.cpus }
     ensures tasks { roster.new.tasks ≡ map (after_change time change.now) roster.old.tasks }
     ensures sound { All (IsSound time) roster.new.tasks }
-    ensures told { telling_spec.Puts from
-        (flat_map (telling_spec.told_by_change time change.now) roster.old.tasks) log.old log.new }
-    ensures more { length log.old.happened ≤ length log.new.happened }
+    ensures told { Tells log.old
+        (flat_map (telling_spec.told_by_change time change.now) roster.old.tasks) log.new }
     ensures room { log.old.room ≤ log.new.room + 3 * length roster.old.tasks }
 {
     let mut place = roster.next_due(0, time);
     while place < roster.len() {
-        turn(roster, place, time, change, log, from);
+        turn(roster, place, time, change, log);
         place = roster.next_due(place + 1, time);
     }
 }
@@ -123,17 +107,16 @@ fn wake_all(roster: &mut Roster, time: u64, log: &mut Log)
     ensures cpus { roster.new.cpus ≡ roster.old.cpus }
     ensures tasks { roster.new.tasks ≡ tick_spec.prepared time roster.old.tasks }
     ensures sound { All (IsSound time) roster.new.tasks }
-    ensures told { Tells log.old (telling_spec.told_in_parts time roster.old.tasks) log.new }
+    ensures told { Tells log.old (telling_spec.told_of_parts time roster.old.tasks) log.new }
     ensures room { log.old.room ≤ log.new.room + 9 * length roster.old.tasks }
 {
     if !roster.may_be_due(time) {
         return;
     }
-    let from = log.len();
-    turn_due(roster, time, &Change::Replenish, log, from);
-    turn_due(roster, time, &Change::Settle, log, from);
+    turn_due(roster, time, &Change::Replenish, log);
+    turn_due(roster, time, &Change::Settle, log);
     roster.drop_left();
-    turn_due(roster, time, &Change::Unblock, log, from);
+    turn_due(roster, time, &Change::Unblock, log);
 }
 
 /// Part 4: the task that stands on a CPU, if one does, belongs to it.
@@ -286,7 +269,7 @@ pub(crate) fn begin(
     list_running(running, places.occupants());
     add_switches(switches, time, roster, before, places.occupants());
     home_all(roster, before, places.occupants(), time);
-    log.go_home(from, places.occupants());
+    log.go_home(from, places.occupants(), roster);
 }
 
 /// Part 6 of so many ticks at once, up to a time: every running task has its budget, and its work
@@ -316,13 +299,7 @@ pub(crate) fn pay_all(
     let from = log.len();
     for i in 0..running.len() {
         let left = budgets[i];
-        turn_number(
-            roster,
-            running[i],
-            time,
-            &Change::Run { ticks, left },
-            log,
-            from,
-        );
+        turn_number(roster, running[i], time, &Change::Run { ticks, left }, log);
     }
+    log.put_in_order(from);
 }

@@ -1,5 +1,5 @@
 -- What changes of tasks tell a log, for the code's own contracts.
-use Rattle.std.specs.Prelude.{ℕ, ℤ, pos, ◌≡◌, ◌-◌, ◌<◌, ◌≤◌, ◌==◌, ◌&&◌, ◌||◌, not, true, false, Bool, if◌then◌else◌, List, [], ◌∷◌, ◌++◌, length, map, filter, slice_index_or, Option, Some, None}
+use Rattle.std.specs.Prelude.{ℕ, ℤ, pos, ◌≡◌, ◌≢◌, ◌-◌, ◌<◌, ◌==◌, ◌&&◌, ◌||◌, ◌⊎◌, not, false, Bool, if◌then◌else◌, List, [], ◌∷◌, ◌++◌, length, map, filter, AllPairs, slice_index_or, Option, Some, None}
 use Rattle.std.specs.List.{flat_map}
 use Rattle.edf_pick.specs.Places.{Places}
 use Rattle.domain_run.specs.declared.task.Task.{Task}
@@ -11,9 +11,8 @@ use Rattle.domain_run.specs.declared.happened.Happened.{Happened}
 use Rattle.domain_run.specs.declared.telling.Before.{Before}
 use Rattle.domain_run.specs.declared.telling.Told.{Told}
 use Rattle.domain_run.specs.Conditions.{is_ready, is_throttled, is_contending, is_over}
-use Rattle.domain_run.specs.Happened.{told, due, job_due, passes_late_timer, told_by_work, told_by_budget, told_by_replenishment, told_by_unblocking, is_first, with_happened, in_order, at_home}
+use Rattle.domain_run.specs.Happened.{told, due, job_due, passes_late_timer, told_by_work, told_by_budget, told_by_replenishment, told_by_unblocking, rank, in_order, at_home}
 use Rattle.domain_run.specs.Parts.{replenish_due, settled, is_listed}
-use Rattle.domain_run.specs.Log.{LogView, kept}
 use Rattle.domain_run.specs.private.Paying.{ran_until, index_of}
 use Rattle.domain_run.specs.private.Timers.{due_of}
 
@@ -48,14 +47,11 @@ told_paid time running ticks budgets t = told_paid_at time ticks budgets (index_
 abbrev pub IsQuietPart : ℕ → Change → Type 0
 IsQuietPart time change = (t : Task) → time < due_of t → told_by_change time change t ≡ []
 
--- parts 1 to 3 of a list, task by task and in order
+-- parts 1 to 3 of a list, task by task
 abbrev pub told_of_parts : ℕ → List Task → List Happened
 told_of_parts time tasks = flat_map (told_by_replenishment time) tasks
     ++ flat_map (told_by_unblocking time)
     (filter is_listed (map (settled time) (map (replenish_due time) tasks)))
-
-abbrev pub told_in_parts : ℕ → List Task → List Happened
-told_in_parts time tasks = in_order (told_of_parts time tasks)
 
 -- behind the placement of part 4
 abbrev pub told_at_home : Places → ℕ → List Task → List Happened
@@ -123,38 +119,17 @@ one_of (Some h) = h ∷ []
 abbrev pub all_of : Told → List Happened
 all_of t = one_of t.first ++ (one_of t.second ++ one_of t.third)
 
--- PLACES. The first, from this one on, before whose entry it comes
-pub record IsPlaceOf (one : Happened) (happened : List Happened) (from place : ℕ) : Type 0 where
-  pub behind_from : from ≤ place
-  pub most : place ≤ length happened
-  pub behind : (i : ℕ) (d : Happened) → from ≤ i → i < place
-      → is_first one (slice_index_or happened i d) ≡ false
-  pub before : (d : Happened) → place < length happened
-      → is_first one (slice_index_or happened place d) ≡ true
+-- THE ORDER. Two of one time are apart by what happens, or by their task
+abbrev pub IsApart : Happened → Happened → Type 0
+IsApart a b = (rank a.what ≢ rank b.what) ⊎ (a.number ≢ b.number)
 
--- it is put there
-abbrev pub PutsIn : ℕ → Happened → List Happened → List Happened → Type 0
-PutsIn from one before after = (base others : List Happened) → length base ≡ from
-    → before ≡ base ++ others → after ≡ base ++ with_happened one others
+-- what is there from this place on is put in its order, where each two of it are apart
+abbrev pub InOrderFrom : ℕ → List Happened → List Happened → Type 0
+InOrderFrom from before after = (base others : List Happened) → length base ≡ from
+    → before ≡ base ++ others → AllPairs IsApart others → after ≡ base ++ in_order others
 
--- each in its place among others, the last of them first
-abbrev pub put_all : List Happened → List Happened → List Happened
-put_all [] others = others
-put_all (h ∷ hs) others = with_happened h (put_all hs others)
-
--- a log that was told this, each in its place among those from this one on
-pub record Puts (from : ℕ) (told : List Happened) (before after : LogView) : Type 0 where
-  pub wanted : after.wanted ≡ before.wanted
-  pub put : (base others : List Happened) → length base ≡ from → before.happened ≡ base ++ others
-      → after.happened ≡ base ++ put_all (kept before told) others
-
--- HOMES. The one at a place has the CPU of its task, and its place among those behind it
-abbrev pub GoesHome : Places → ℕ → List Happened → List Happened → Type 0
-GoesHome places place before after = (base : List Happened) (one : Happened) (others : List Happened)
-    → length base ≡ place → before ≡ base ++ one ∷ others
-    → after ≡ base ++ with_happened (at_home places one) others
-
--- so has each from this place on
+-- so it is, each of it on the CPU of its task
 abbrev pub GoHome : Places → ℕ → List Happened → List Happened → Type 0
 GoHome places from before after = (base others : List Happened) → length base ≡ from
-    → before ≡ base ++ others → after ≡ base ++ in_order (map (at_home places) others)
+    → before ≡ base ++ others → AllPairs IsApart others
+    → after ≡ base ++ in_order (map (at_home places) others)

@@ -12,8 +12,8 @@ use Rattle.std.proofs.lemmas.List.{length-append}
 use Rattle.domain_run.specs.declared.happened.Happened.{Happened}
 use Rattle.domain_run.specs.Domain.{Domain}
 use Rattle.domain_run.specs.Log.{kept}
-use Rattle.domain_run.specs.private.Telling.{told_of_parts, told_in_parts, told_at_home, GoHome}
-use Rattle.domain_run.proofs.ToldHome.{home_in_order, tells_home}
+use Rattle.domain_run.specs.private.Telling.{told_of_parts, GoHome}
+use Rattle.domain_run.proofs.Logging.{tells_home}
 use Rattle.domain_run.proofs.ToldRising.{beginning_apart}
 use Rattle.domain_run.proofs.sweep.begin.Goals as goal
 
@@ -80,7 +80,7 @@ returns-clause-homed c =
 pub go_home-requires-clause-from : goal.go_home-requires-clause-from
 go_home-requires-clause-from c =
     let log = c.args.log.now in
-    let told = told_in_parts c.args.time c.args.roster.now.tasks in
+    let told = told_of_parts c.args.time c.args.roster.now.tasks in
     let len : List Happened → ℕ = λ hs. length hs in
     omega (arith, c.len-from.ensures, ap len c.wake_all.ensures.told.happened, length-append log.happened (kept log told))
 
@@ -91,7 +91,28 @@ go_home-requires-clause-narrow c =
     let len : Places → ℕ = λ ps. length ps in
     omega (arith, ap len c.occupants-5.ensures.occupants, seating.wide, c.requires.cpus, c.requires.narrow)
 
--- what the parts told, in the order of the CPUs before the placement, is put in that of those behind it
+pub go_home-requires-clause-wide : goal.go_home-requires-clause-wide
+go_home-requires-clause-wide c =
+    let before = c.args.places.now in
+    let wide = (placed_seating c.ready.result.now c.wake_all.new.roster.tasks before c.pick.new.placement c.ready.ensures.ready c.ready.ensures.numbered c.requires.apart c.pick.ensures).wide in
+    let len : Places → ℕ = λ ps. length ps in
+    ap len c.occupants-5.ensures.occupants ∙ wide ∙ c.requires.cpus ∙ sym (c.home_all.ensures.cpus ∙ c.wake_all.ensures.cpus)
+
+pub go_home-requires-clause-apart : goal.go_home-requires-clause-apart
+go_home-requires-clause-apart c =
+    let before = c.args.places.now in
+    let seating = placed_seating c.ready.result.now c.wake_all.new.roster.tasks before c.pick.new.placement c.ready.ensures.ready c.ready.ensures.numbered c.requires.apart c.pick.ensures in
+    rw c.occupants-5.ensures.occupants seating.apart
+
+pub go_home-requires-clause-homed : goal.go_home-requires-clause-homed
+go_home-requires-clause-homed c =
+    let places = c.pick.new.placement in
+    let tasks = c.wake_all.new.roster.tasks in
+    let after = c.home_all.new.roster.tasks in
+    let all : AreHomed places after = subst (AreHomed places) (sym (c.home_all.ensures.tasks ∙ ap (λ (ps : Places). map (with_last_cpu ps) tasks) c.occupants-4.ensures.occupants)) (homed_placed places tasks) in
+    subst (λ (ps : Places). AreHomed ps after) (sym c.occupants-5.ensures.occupants) all
+
+-- what the parts told, on the CPUs before the placement, is put in the order of those behind it
 pub returns-clause-told : goal.returns-clause-told
 returns-clause-told c =
     let time = c.args.time in
@@ -104,8 +125,7 @@ returns-clause-told c =
     let homes : GoHome places (length log.happened) woken.happened after.happened =
     subst (λ (n : ℕ). GoHome places n woken.happened after.happened) c.len-from.ensures
     (subst (λ (ps : Places). GoHome ps c.len-from.result woken.happened after.happened) c.occupants-5.ensures.occupants c.go_home.ensures.home) in
-    tells_home places (told_in_parts time tasks) (told_at_home places time tasks) log woken after
-    (home_in_order places (told_of_parts time tasks) (beginning_apart d c.requires.numbered)) c.wake_all.ensures.told c.go_home.ensures.wanted homes
+    tells_home places (told_of_parts time tasks) log woken after (beginning_apart d c.requires.numbered) c.wake_all.ensures.told c.go_home.ensures.wanted homes
 
 pub returns-clause-log : goal.returns-clause-log
 returns-clause-log c = omega (arith, c.wake_all.ensures.room, c.go_home.ensures.room)

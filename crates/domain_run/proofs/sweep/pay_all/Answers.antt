@@ -3,7 +3,7 @@ use Rattle.std.specs.Prelude.{ℤ, pos, slice_index_or}
 use Rattle.std.proofs.Math.Facts.{to_z-of_z}
 use mir.Syntax.{w128}
 use mir.Val.{SFits, of_z, to_z}
-use Rattle.std.proofs.lemmas.List.{length-map, take_all}
+use Rattle.std.proofs.lemmas.List.{length-append, length-map, take_all}
 use Rattle.domain_run.specs.declared.task.Task.{Task}
 use Rattle.domain_run.specs.Calls.{of_number}
 use Rattle.domain_run.specs.private.Paying.{ran_until, paid, MayPay}
@@ -13,13 +13,15 @@ use Rattle.domain_run.proofs.Paying.{same_paid}
 use Rattle.domain_run.proofs.Finding.{read_before}
 use Rattle.domain_run.proofs.Homing.{paid_next, may_next, map_steps}
 use Rattle.std.specs.List.{flat_map}
+use Rattle.std.specs.List.Sorted.{IsPermutation}
+use Rattle.std.proofs.lemmas.List.Sorted.{IsPermutation-refl, IsPermutation-trans, IsPermutation-append_left}
 use Rattle.domain_run.specs.declared.change.Change.TheVariants.{Run}
 use Rattle.domain_run.specs.declared.happened.Happened.{Happened}
-use Rattle.domain_run.specs.Happened.{in_order}
-use Rattle.domain_run.specs.private.Telling.{told_by_change, told_of_number, told_paid, Puts}
-use Rattle.domain_run.proofs.ToldOrder.{in_order_is}
+use Rattle.domain_run.specs.Log.{Tells, kept}
+use Rattle.domain_run.specs.private.Telling.{told_by_change, told_of_number, told_paid, InOrderFrom}
 use Rattle.domain_run.proofs.ToldPay.{told_paid_none, told_paid_next}
-use Rattle.domain_run.proofs.Logging.{puts_none, puts_more, puts_alike, tells_put}
+use Rattle.domain_run.proofs.ToldRising.{paying_apart}
+use Rattle.domain_run.proofs.Logging.{tells_none, tells_more, tells_order, TellsMixed}
 use Rattle.domain_run.proofs.sweep.pay_all.Goals as goal
 
 pub loop-i-init : goal.loop-i-init
@@ -29,15 +31,18 @@ loop-i-init c =
       cpus = refl;
       written = sym (map_itself (paid c.args.time [] c.args.ticks c.args.budgets.now) c.args.roster.now.tasks (λ k d h. refl));
       sound = c.requires.sound;
-      told = subst (λ hs. Puts c.len-from.result hs log log) (sym (told_paid_none c.args.time c.args.ticks c.args.budgets.now c.args.roster.now.tasks)) (puts_none c.len-from.result log);
-      more = omega arith;
+      told = record {
+        tail = [];
+        is = tells_none log;
+        mixed = subst (λ hs. IsPermutation hs []) (sym (told_paid_none c.args.time c.args.ticks c.args.budgets.now c.args.roster.now.tasks)) (IsPermutation-refl []);
+      };
       spare = omega arith;
     }
 
 pub turn_number-requires-clause-room : goal.turn_number-requires-clause-room
 turn_number-requires-clause-room c wanted =
     let l = c.loop-i in
-    omega (arith, c.requires.room (sym l.invariant.told.wanted ∙ wanted), l.invariant.spare, c.loop-i-test.true)
+    omega (arith, c.requires.room (sym l.invariant.told.is.wanted ∙ wanted), l.invariant.spare, c.loop-i-test.true)
 
 pub turn_number-requires-clause-may : goal.turn_number-requires-clause-may
 turn_number-requires-clause-may c k d h same =
@@ -67,19 +72,23 @@ loop-i-preserved c =
     let one = of_number (get_or ns l.i 0) (ran_until c.args.time c.args.ticks (slice_index_or c.args.budgets.now l.i (pos 0))) in
     let fits : SFits w128 left = search rules in
     let value : to_z w128 (of_z w128 left) ≡ left = to_z-of_z {w = w128} {z = left} fits in
-    let from = c.len-from.result in
     let value_of : ℤ = slice_index_or c.args.budgets.now l.i (pos 0) in
     let G : ℤ → List Happened = λ z. flat_map (told_of_number (get_or ns l.i 0) (told_by_change c.args.time (Run c.args.ticks z))) l.roster.tasks in
     let H : List Happened = flat_map (told_paid c.args.time (take l.i ns) c.args.ticks c.args.budgets.now) first in
+    let more : List Happened = flat_map (told_paid c.args.time (take (l.i + 1) ns) c.args.ticks c.args.budgets.now) first in
+    let tail : List Happened = l.invariant.told.tail in
     record {
       written = c.turn_number.ensures.tasks ∙ ap (λ (z : ℤ). map (of_number (get_or ns l.i 0) (ran_until c.args.time c.args.ticks z)) l.roster.tasks) value ∙ map_steps one f g first l.roster.tasks l.invariant.written
           (λ k d h. paid_next c.args.time ns l.i c.args.ticks c.args.budgets.now (get_or first k d) c.requires.apart c.loop-i-test.true (same_paid c.args.time (take l.i ns) c.args.ticks c.args.budgets.now (get_or first k d)).number);
       sound = c.turn_number.ensures.sound;
       cpus = c.turn_number.ensures.cpus ∙ l.invariant.cpus;
-      told = puts_alike from (G value_of ++ H) (flat_map (told_paid c.args.time (take (l.i + 1) ns) c.args.ticks c.args.budgets.now) first) c.args.log.now c.turn_number.new.log
-          (λ xs. told_paid_next c.args.time ns l.i c.args.ticks c.args.budgets.now first l.roster.tasks xs c.requires.apart c.loop-i-test.true c.requires.numbered l.invariant.written)
-          (puts_more from H (G value_of) c.args.log.now l.log c.turn_number.new.log l.invariant.told (subst (λ (z : ℤ). Puts from (G z) l.log c.turn_number.new.log) value c.turn_number.ensures.told));
-      more = omega (arith, l.invariant.more, c.turn_number.ensures.more);
+      told = record {
+        tail = tail ++ G value_of;
+        is = tells_more tail (G value_of) c.args.log.now l.log c.turn_number.new.log l.invariant.told.is (subst (λ (z : ℤ). Tells l.log (G z) c.turn_number.new.log) value c.turn_number.ensures.told);
+        mixed = IsPermutation-trans more (H ++ G value_of) (tail ++ G value_of)
+            (told_paid_next c.args.time ns l.i c.args.ticks c.args.budgets.now first l.roster.tasks c.requires.apart c.loop-i-test.true l.invariant.written)
+            (IsPermutation-append_left (G value_of) H tail l.invariant.told.mixed);
+      };
       spare = omega (arith, l.invariant.spare, c.turn_number.ensures.room);
     }
 
@@ -90,5 +99,13 @@ returns-clause-told c =
     let ns = c.args.running.now in
     let hs = flat_map (told_paid c.args.time ns c.args.ticks c.args.budgets.now) first in
     let all : take c.loop-i.i ns ≡ ns = take_all c.loop-i.i ns (omega arith) in
-    let told = subst (λ (ms : List ℕ). Puts c.len-from.result (flat_map (told_paid c.args.time ms c.args.ticks c.args.budgets.now) first) log c.loop-i.log) all c.loop-i.invariant.told in
-    tells_put hs (in_order hs) log c.loop-i.log (sym (in_order_is hs)) (subst (λ n. Puts n hs log c.loop-i.log) c.len-from.ensures told)
+    let told = subst (λ (ms : List ℕ). TellsMixed (flat_map (told_paid c.args.time ms c.args.ticks c.args.budgets.now) first) log c.loop-i.log) all c.loop-i.invariant.told in
+    tells_order hs told.tail log c.loop-i.log c.put_in_order.new.self told.mixed (paying_apart c.args.time ns c.args.ticks c.args.budgets.now first c.requires.numbered) told.is c.put_in_order.ensures.wanted
+    (subst (λ n. InOrderFrom n c.loop-i.log.happened c.put_in_order.new.self.happened) c.len-from.ensures c.put_in_order.ensures.order)
+
+pub put_in_order-requires : goal.put_in_order-requires
+put_in_order-requires c =
+    let log = c.args.log.now in
+    let told = c.loop-i.invariant.told in
+    let len : List Happened → ℕ = λ hs. length hs in
+    omega (arith, c.len-from.ensures, ap len told.is.happened, length-append log.happened (kept log told.tail))

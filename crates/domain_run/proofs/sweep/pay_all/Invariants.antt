@@ -1,8 +1,9 @@
-use Rattle.std.proofs.Common.{◌≡◌, ◌≤◌, ◌+◌, ◌*◌, map, take, length, All}
+use Rattle.std.proofs.Common.{◌≡◌, ◌≤◌, ◌+◌, ◌*◌, map, take, All}
 use Rattle.std.specs.List.{flat_map}
 use Rattle.domain_run.specs.private.Paying.{paid}
-use Rattle.domain_run.specs.private.Telling.{told_paid, Puts}
+use Rattle.domain_run.specs.private.Telling.{told_paid}
 use Rattle.domain_run.specs.Sound.{IsSound}
+use Rattle.domain_run.proofs.Logging.{TellsMixed}
 use Rattle.domain_run.proofs.sweep.pay_all.Given as goal
 
 abbrev pub invariant-loop-i : goal.invariant-loop-i
@@ -10,7 +11,6 @@ invariant-loop-i l = record {
   cpus : l.roster.cpus ≡ l.fn.roster.cpus;
   written : l.roster.tasks ≡ map (paid l.time (take l.i l.running) l.ticks l.budgets) l.fn.roster.tasks;
   sound : All (IsSound l.time) l.roster.tasks;
-  told : Puts l.from (flat_map (told_paid l.time (take l.i l.running) l.ticks l.budgets) l.fn.roster.tasks) l.fn.log l.log;
-  more : length l.fn.log.happened ≤ length l.log.happened;
+  told : TellsMixed (flat_map (told_paid l.time (take l.i l.running) l.ticks l.budgets) l.fn.roster.tasks) l.fn.log l.log;
   spare : l.fn.log.room ≤ l.log.room + 3 * l.i;
 }

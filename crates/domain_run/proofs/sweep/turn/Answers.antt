@@ -3,13 +3,14 @@ use Rattle.std.proofs.lemmas.List.{get_or-set_same}
 use Rattle.domain_run.specs.declared.task.Task.{Task}
 use Rattle.domain_run.specs.Sound.{IsSound}
 use Rattle.domain_run.specs.private.Roster.{after_change}
-use Rattle.domain_run.specs.private.Telling.{told_by_change, look_of, told_behind, all_of, Puts}
-use Rattle.domain_run.proofs.Logging.{puts_silent}
+use Rattle.domain_run.specs.private.Telling.{told_by_change, look_of, told_behind, all_of}
+use Rattle.domain_run.specs.Log.{Tells}
+use Rattle.domain_run.proofs.Logging.{tells_silent}
 use Rattle.domain_run.proofs.ToldChanges.{change_seen}
 use Rattle.domain_run.proofs.sweep.turn.Goals as goal
 
 pub returns-then-not-is_wanted-clause-told : goal.returns-then-not-is_wanted-clause-told
-returns-then-not-is_wanted-clause-told c d = puts_silent c.args.from (told_by_change c.args.time c.args.change.now (get_or c.args.roster.now.tasks c.args.place d)) c.args.log.now (sym c.is_wanted.ensures ∙ c.if-not-is_wanted.true)
+returns-then-not-is_wanted-clause-told c d = tells_silent (told_by_change c.args.time c.args.change.now (get_or c.args.roster.now.tasks c.args.place d)) c.args.log.now (sym c.is_wanted.ensures ∙ c.if-not-is_wanted.true)
 
 pub look-before-requires-clause-sound : goal.look-before-requires-clause-sound
 look-before-requires-clause-sound c =
@@ -27,6 +28,6 @@ returns-clause-told c d =
     let before : c.at.result.now ≡ t = c.at.ensures.task d in
     let behind : c.at-2.result.now ≡ f t = c.at-2.ensures.task d ∙ ap (λ (ts : List Task). get_or ts c.args.place d) (c.turn-2.ensures.step.is d) ∙ get_or-set_same old c.args.place (f t) d c.requires.there in
     let looked = c.look-before.ensures ∙ ap (look_of time change) before in
-    let told : all_of c.seen_behind.result ≡ told_by_change time change t =
-    ap all_of (c.seen_behind.ensures ∙ (λ i. told_behind time change (looked i) (behind i))) ∙ change_seen time change t in
-    subst (λ hs. Puts c.args.from hs c.args.log.now c.put_all.new.self) told c.put_all.ensures.puts
+    let told : all_of c.seen_behind-told.result ≡ told_by_change time change t =
+    ap all_of (c.seen_behind-told.ensures ∙ (λ i. told_behind time change (looked i) (behind i))) ∙ change_seen time change t in
+    subst (λ hs. Tells c.args.log.now hs c.push_all.new.self) told c.push_all.ensures.told

@@ -1,11 +1,12 @@
-use Rattle.std.proofs.Common.{◌≡◌, ◌<◌, ◌≤◌, ◌+◌, [], ◌++◌, take, get_or, length, refl, sym, subst, arith, ◌∙◌}
+use Rattle.std.proofs.Common.{◌≡◌, ◌<◌, ◌≤◌, ◌+◌, [], take, get_or, length, refl, sym, subst, arith, ◌∙◌}
 use Rattle.std.specs.List.{flat_map}
 use Rattle.domain_run.specs.private.Roster.{after_change}
-use Rattle.domain_run.specs.private.Telling.{told_by_change, Puts}
+use Rattle.domain_run.specs.Log.{Tells}
+use Rattle.domain_run.specs.private.Telling.{told_by_change}
 use Rattle.domain_run.proofs.Due.{some_task, step_more, step_len, step_by}
-use Rattle.domain_run.proofs.ToldChanges.{of_change, told_next}
+use Rattle.domain_run.proofs.ToldChanges.{told_next}
 use Rattle.domain_run.proofs.ToldPay.{as_before, told_by}
-use Rattle.domain_run.proofs.Logging.{puts_none, puts_more, puts_alike}
+use Rattle.domain_run.proofs.Logging.{tells_none, tells_more}
 use Rattle.domain_run.proofs.sweep.turn_due.Goals as goal
 
 pub loop-place-init : goal.loop-place-init
@@ -21,10 +22,8 @@ loop-place-init c =
       len = refl;
       within = next.ensures.most;
       sound = c.requires.sound;
-      told = subst (λ hs. Puts c.args.from hs c.args.log.now c.args.log.now) none (puts_none c.args.from c.args.log.now);
-      more = omega arith;
+      told = subst (λ hs. Tells c.args.log.now hs c.args.log.now) none (tells_none c.args.log.now);
       spare = omega arith;
-      numbered = next.ensures.numbered;
     }
 
 pub loop-place-preserved : goal.loop-place-preserved
@@ -42,9 +41,8 @@ loop-place-preserved c =
     let same : length now ≡ length first = step_len f l.roster.tasks now l.place there s.ensures.step ∙ l.invariant.len in
     let within : next.result ≤ length first = omega (arith, next.ensures.most, same) in
     let written = step_more f first l.roster.tasks now l.place inside l.invariant.written s.ensures.step in
-    let one : Puts c.args.from (tell (get_or first l.place d)) l.log s.new.log = subst (λ t. Puts c.args.from (tell t) l.log s.new.log) (as_before f first l.roster.tasks l.place l.place d (omega (arith, inside)) (omega arith) l.invariant.written) (s.ensures.told d) in
-    let both = puts_more c.args.from (flat_map tell (take l.place first)) (tell (get_or first l.place d)) c.args.log.now l.log s.new.log l.invariant.told one in
-    let more = puts_alike c.args.from (tell (get_or first l.place d) ++ flat_map tell (take l.place first)) (flat_map tell (take (l.place + 1) first)) c.args.log.now s.new.log (λ xs. told_next tell first l.place d xs (of_change c.args.time c.args.change.now) l.invariant.numbered inside) both in
+    let one : Tells l.log (tell (get_or first l.place d)) s.new.log = subst (λ t. Tells l.log (tell t) s.new.log) (as_before f first l.roster.tasks l.place l.place d (omega (arith, inside)) (omega arith) l.invariant.written) (s.ensures.told d) in
+    let both = tells_more (flat_map tell (take l.place first)) (tell (get_or first l.place d)) c.args.log.now l.log s.new.log l.invariant.told one in
     let by : flat_map tell (take (l.place + 1) first) ≡ flat_map tell (take next.result first) = told_by c.args.time tell f first now (l.place + 1) next.result c.requires.quiet next.ensures.from within same written next.ensures.others in
     record {
       cpus = s.ensures.cpus ∙ l.invariant.cpus;
@@ -52,10 +50,8 @@ loop-place-preserved c =
       len = same;
       within = within;
       sound = s.ensures.sound;
-      told = subst (λ hs. Puts c.args.from hs c.args.log.now s.new.log) by more;
-      more = omega (arith, l.invariant.more, s.ensures.more);
+      told = subst (λ hs. Tells c.args.log.now hs s.new.log) (told_next tell first l.place d inside ∙ by) both;
       spare = omega (arith, l.invariant.spare, s.ensures.room, next.ensures.from);
-      numbered = l.invariant.numbered;
     }
 
 pub turn-requires-clause-fits : goal.turn-requires-clause-fits

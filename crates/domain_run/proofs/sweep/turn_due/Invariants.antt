@@ -2,8 +2,8 @@ use Rattle.std.proofs.Common.{◌≡◌, ◌≤◌, ◌+◌, ◌-◌, ◌*◌, m
 use Rattle.std.specs.List.{flat_map}
 use Rattle.domain_run.specs.Sound.{IsSound}
 use Rattle.domain_run.specs.private.Roster.{after_change}
-use Rattle.domain_run.specs.private.Telling.{told_by_change, Puts}
-use Rattle.domain_run.proofs.ToldChanges.{AreNumbered}
+use Rattle.domain_run.specs.Log.{Tells}
+use Rattle.domain_run.specs.private.Telling.{told_by_change}
 use Rattle.domain_run.proofs.sweep.turn_due.Given as goal
 
 abbrev pub invariant-loop-place : goal.invariant-loop-place
@@ -13,10 +13,8 @@ invariant-loop-place l = record {
   len : length l.roster.tasks ≡ length l.fn.roster.tasks;
   within : l.place ≤ length l.fn.roster.tasks;
   sound : All (IsSound l.time) l.roster.tasks;
-  told : Puts l.from (flat_map (told_by_change l.time l.change) (take l.place l.fn.roster.tasks)) l.fn.log l.log;
-  more : length l.fn.log.happened ≤ length l.log.happened;
+  told : Tells l.fn.log (flat_map (told_by_change l.time l.change) (take l.place l.fn.roster.tasks)) l.log;
   spare : l.fn.log.room ≤ l.log.room + 3 * l.place;
-  numbered : AreNumbered l.fn.roster.tasks;
 }
 
 abbrev pub decreases-loop-place : goal.decreases-loop-place

@@ -1,20 +1,19 @@
 use Rattle.std.proofs.Common.{◌≡◌, List, [], ◌≤◌, ◌++◌, length, map, refl, sym, ap, subst, ◌∙◌, arith}
 use Rattle.std.specs.Prelude.{filter}
 use Rattle.std.specs.List.{flat_map}
-use Rattle.std.proofs.lemmas.List.{length-map}
+use Rattle.std.proofs.lemmas.List.{append-nil, length-map}
 use Rattle.domain_run.proofs.Keeping.{length-filter_least}
 use Rattle.domain_run.specs.declared.change.Change.TheVariants.{Settle}
 use Rattle.domain_run.specs.declared.task.Task.{Task}
-use Rattle.domain_run.specs.Happened.{told_by_replenishment, told_by_unblocking, in_order}
+use Rattle.domain_run.specs.Happened.{told_by_replenishment, told_by_unblocking}
 use Rattle.domain_run.specs.Log.{Tells}
 use Rattle.domain_run.specs.Parts.{replenish_due, settled}
-use Rattle.domain_run.specs.private.Telling.{told_by_change, told_in_parts, Puts}
-use Rattle.domain_run.proofs.ToldOrder.{put_swapped, in_order_is}
-use Rattle.domain_run.proofs.ToldChanges.{replenish_quiet, settle_quiet, unblock_quiet, told_nothing, parts_apart}
-use Rattle.domain_run.proofs.Logging.{puts_more, tells_put, tells_none}
+use Rattle.domain_run.specs.private.Telling.{told_by_change, told_of_parts}
+use Rattle.domain_run.proofs.ToldChanges.{replenish_quiet, settle_quiet, unblock_quiet, told_nothing}
+use Rattle.domain_run.proofs.Logging.{tells_none, tells_more}
 use Rattle.std.proofs.lemmas.List.Elements.{All-filter}
 use Rattle.domain_run.proofs.Due.{none_due, still_each}
-use Rattle.domain_run.proofs.ToldTicks.{parts_none}
+use Rattle.domain_run.proofs.ToldTicks.{parts_still}
 use Rattle.domain_run.proofs.Making.{replenish_part, settle_part, unblock_part}
 use Rattle.domain_run.specs.Parts.{is_listed}
 use Rattle.domain_run.specs.Sound.{IsSound}
@@ -48,14 +47,13 @@ pub returns-then-not-may_be_due-clause-told : goal.returns-then-not-may_be_due-c
 returns-then-not-may_be_due-clause-told c =
     let tasks = c.args.roster.now.tasks in
     let log = c.args.log.now in
-    subst (λ hs. Tells log hs log) (sym (parts_none c.args.time tasks (still_each c.args.time tasks (c.may_be_due.ensures c.if-not-may_be_due.true)))) (tells_none log)
+    subst (λ hs. Tells log hs log) (sym (parts_still c.args.time tasks (still_each c.args.time tasks (c.may_be_due.ensures c.if-not-may_be_due.true)))) (tells_none log)
 
 pub returns-clause-told : goal.returns-clause-told
 returns-clause-told c =
     let time = c.args.time in
     let log = c.args.log.now in
     let tasks = c.args.roster.now.tasks in
-    let from = length log.happened in
     let one = c.turn_due in
     let two = c.turn_due-2 in
     let three = c.turn_due-3 in
@@ -64,14 +62,11 @@ returns-clause-told c =
     let more : List Task = c.drop_left.new.self.tasks in
     let U = flat_map (told_by_unblocking time) more in
     let none : S ≡ [] = told_nothing (told_by_change time Settle) one.new.roster.tasks (λ k d h. refl) in
-    let at : c.len-from.result ≡ from = c.len-from.ensures in
-    let put_one : Puts from R log one.new.log = subst (λ n. Puts n R log one.new.log) at one.ensures.told in
-    let put_two : Puts from [] one.new.log two.new.log = subst (λ hs. Puts from hs one.new.log two.new.log) none (subst (λ n. Puts n S one.new.log two.new.log) at two.ensures.told) in
-    let put_three : Puts from U two.new.log three.new.log = subst (λ n. Puts n U two.new.log three.new.log) at three.ensures.told in
-    let all : Puts from (U ++ R) log three.new.log = puts_more from R U log two.new.log three.new.log (puts_more from R [] log one.new.log two.new.log put_one put_two) put_three in
+    let two_told : Tells one.new.log [] two.new.log = subst (λ hs. Tells one.new.log hs two.new.log) none two.ensures.told in
+    let all : Tells log ((R ++ []) ++ U) three.new.log = tells_more (R ++ []) U log two.new.log three.new.log (tells_more R [] log one.new.log two.new.log one.ensures.told two_told) three.ensures.told in
     let listed : more ≡ filter is_listed (map (settled time) (map (replenish_due time) tasks)) = c.drop_left.ensures.tasks ∙ ap (λ (ts : List Task). filter is_listed ts) (two.ensures.tasks ∙ ap (map (settled time)) one.ensures.tasks) in
-    let same : in_order (R ++ U) ≡ told_in_parts time tasks = ap (λ (ts : List Task). in_order (R ++ flat_map (told_by_unblocking time) ts)) listed in
-    tells_put (U ++ R) (told_in_parts time tasks) log three.new.log (put_swapped U R [] (parts_apart time tasks more) ∙ sym (in_order_is (R ++ U)) ∙ same) all
+    let same : (R ++ []) ++ U ≡ told_of_parts time tasks = ap (λ hs. hs ++ U) (append-nil R) ∙ ap (λ (ts : List Task). R ++ flat_map (told_by_unblocking time) ts) listed in
+    subst (λ hs. Tells log hs three.new.log) same all
 
 pub turn_due-requires-2-clause-room : goal.turn_due-requires-2-clause-room
 turn_due-requires-2-clause-room c wanted =
