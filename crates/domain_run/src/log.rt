@@ -1,6 +1,6 @@
 //! A log of what happens to the tasks of a domain.
 
-ghost use Rattle.std.specs.Prelude.{◌≡◌, ◌<◌, ◌≤◌, ◌+◌, [], ◌∷◌, true, false, length, position, OnOk, IfSome, vec_len, vec_capacity};
+ghost use Rattle.std.specs.Prelude.{◌≡◌, ◌<◌, ◌≤◌, ◌+◌, [], ◌∷◌, ◌++◌, true, false, length, position, OnOk, IfSome, vec_len, vec_capacity};
 ghost use Rattle.edf_pick.specs.Places.{is_task};
 ghost use Rattle.domain_run.specs.Happened as happened_spec;
 ghost use Rattle.domain_run.specs.Log.{Tells, HasRoom};
@@ -8,6 +8,7 @@ ghost use Rattle.domain_run.specs.private.Telling.{Puts, PutsIn, IsPlaceOf, Goes
 
 use crate::happened::{Happened, What};
 use crate::telling::Told;
+use let_go::Past;
 use no_memory::NoMemory;
 use std::alloc::Global;
 use std::marker::Model;
@@ -181,6 +182,16 @@ impl Log {
         ensures empty { self.new.happened ≡ [] }
     {
         self.happened.clear();
+    }
+
+    /// Forgets what it was told, of which `past` is told, and keeps its room. Takes no memory.
+    pub fn pass(&mut self, past: &mut Past<Happened>)
+        ensures past { past.new ≡ past.old ++ self.old.happened }
+        ensures wanted { self.new.wanted ≡ self.old.wanted }
+        ensures empty { self.new.happened ≡ [] }
+    {
+        past.append(&self.happened);
+        self.clear();
     }
 
     /// Room for so much more, where it keeps it. `Err` where a growth was refused; it has what it
