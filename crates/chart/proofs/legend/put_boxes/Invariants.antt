@@ -1,0 +1,7 @@
+use Rattle.std.proofs.Common.{◌≡◌, ◌++◌, take}
+use Rattle.figure_text.specs.Columns.{numbered}
+use Rattle.chart.specs.Legend.{colour_line}
+use Rattle.chart.proofs.legend.put_boxes.Given as goal
+
+abbrev pub invariant-loop-place : goal.invariant-loop-place
+invariant-loop-place l = l.out.items ≡ l.initial.out.items ++ numbered (colour_line l.sheet) 0 (take l.place l.cpus)

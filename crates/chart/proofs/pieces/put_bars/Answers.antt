@@ -1,0 +1,8 @@
+use Rattle.chart.specs.Pieces.{bar_line}
+use Rattle.chart.specs.Rows.{view_of}
+use Rattle.chart.proofs.Lines.{flat_at}
+use Rattle.chart.proofs.pieces.put_bars.Goals as goal
+
+pub loop-bar-preserved : goal.loop-bar-preserved
+loop-bar-preserved c =
+    flat_at (bar_line c.args.sheet.now c.args.place (view_of c.args.row.now)) c.args.bars.now c.loop-bar.bar-index _ c.args.out.now.items c.loop-bar.out.items c.put_bar.new.out.items c.loop-bar-test.true c.loop-bar.invariant c.in_ok-put_bar.ensures

@@ -1,0 +1,11 @@
+pub mod Escape
+pub mod Seconds
+pub mod Sizes
+pub mod Axis
+pub mod Colours
+pub mod Rows
+pub mod Pieces
+pub mod Legend
+pub mod Chart
+pub mod Examples
+pub mod private

@@ -1,0 +1,7 @@
+pub mod Turning
+pub mod Indexing
+pub mod Moments
+pub mod Staying
+pub mod Closing
+pub mod Seen
+pub mod Full
