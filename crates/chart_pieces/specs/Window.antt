@@ -1,6 +1,7 @@
 -- The part of a run that is drawn (own).
-use Rattle.std.specs.Prelude.{ℕ, ◌≡◌, ◌<◌, ◌≤◌, ◌^◌, Bool, ◌&&◌, nat_lt, nat_le}
+use Rattle.std.specs.Prelude.{ℕ, ◌≡◌, ◌<◌, ◌≤◌, ◌^◌, ◌+◌, ◌-◌, Bool, ◌&&◌, nat_lt, nat_le, min, max, Option, Some, None}
 use Rattle.chart_pieces.specs.declared.window.Window.{Window}
+use Rattle.chart_pieces.specs.declared.window.Span.{Span}
 
 -- what lasts from one time to another has a part in the window
 abbrev pub touches : Window → ℕ → ℕ → Bool
@@ -19,3 +20,18 @@ pub record IsWindow (w : Window) : Type 0 where
 pub record IsWhole (w : Window) (time : ℕ) : Type 0 where
   pub first : w.from ≡ 0
   pub last : time ≤ w.to
+
+-- WHAT IS ASKED FOR: a part of a run, to its end where no end is given; at least a microsecond of it is
+-- shown, and nothing behind 2^42 us
+abbrev pub last_of : Option ℕ → ℕ → ℕ
+last_of None end = end
+last_of (Some to) end = to
+
+abbrev pub first_of : Span → ℕ
+first_of span = min span.from (2 ^ 42 - 1)
+
+abbrev pub window_of : Span → ℕ → Window
+window_of span end = record {
+  from = first_of span;
+  to = max (first_of span + 1) (min (last_of span.to end) (2 ^ 42));
+}

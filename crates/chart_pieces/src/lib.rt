@@ -22,4 +22,4 @@ pub use domain_run::NoMemory;
 pub use drawing::rows_of;
 pub use row::{Bar, Gap, Mark, Row, Sign};
 pub use standing::{Moment, Standing, Turn};
-pub use window::Window;
+pub use window::{Span, Window};

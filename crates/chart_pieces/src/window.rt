@@ -2,6 +2,7 @@
 
 ghost use Rattle.std.specs.Prelude.{◌≡◌};
 ghost use Rattle.chart_pieces.specs.Window as windows;
+ghost use Rattle.chart_pieces.specs.Window.{IsWindow};
 
 /// The part of a run that is drawn. Times are in microseconds.
 #[derive(Clone, Copy, Debug, PartialEq, Eq)]
@@ -25,5 +26,36 @@ impl Window {
         ensures { result ≡ windows.holds self.now time }
     {
         self.from <= time && time <= self.to
+    }
+}
+
+/// Which part of a run is asked for. Times are in microseconds.
+#[derive(Clone, Copy, Debug, PartialEq, Eq)]
+pub struct Span {
+    /// Where it begins.
+    pub from: u64,
+    /// Where it ends; the end of the run, where none is given.
+    pub to: Option<u64>,
+}
+
+/// The last time that can be drawn.
+const MOST_TIME: u64 = 1 << 42;
+
+impl Span {
+    /// The window that shows it of a run that ends at this time: at least one microsecond, and
+    /// nothing behind 2^42 us.
+    pub fn window(&self, end: u64) -> Window
+        ensures window { result ≡ windows.window_of self.now end }
+        ensures sound { IsWindow result }
+    {
+        let from = self.from.min(MOST_TIME - 1);
+        let to = match self.to {
+            Some(to) => to,
+            None => end,
+        };
+        Window {
+            from,
+            to: to.min(MOST_TIME).max(from + 1),
+        }
     }
 }
