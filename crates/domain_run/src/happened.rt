@@ -1,5 +1,8 @@
 //! What happens to a task in a run, beside the switches (own).
 
+ghost use Rattle.std.specs.Prelude.{◌≡◌};
+ghost use Rattle.domain_run.specs.Happened as happened_spec;
+
 /// What happens to a task. Of what happens at one time, this is the order. A deadline is a time in
 /// microseconds.
 #[derive(Clone, Copy, Debug, PartialEq, Eq)]
@@ -20,6 +23,24 @@ pub enum What {
     Released { deadline: u64 },
     /// It wakes so without budget, and is throttled at once, with this deadline of its server.
     WokenSpent { deadline: u64 },
+}
+
+impl What {
+    /// Its place, 0 to 6, in the order of what happens at one time: what ends a tick comes first, then
+    /// the calls between two ticks, then what begins a tick.
+    pub fn rank(self) -> u8
+        ensures { result ≡ happened_spec.rank self }
+    {
+        match self {
+            What::JobEnds => 0,
+            What::NextReleased { .. } => 1,
+            What::Spent { .. } => 2,
+            What::Cut => 3,
+            What::Replenished { .. } => 4,
+            What::Released { .. } => 5,
+            What::WokenSpent { .. } => 6,
+        }
+    }
 }
 
 /// Something that happens to a task.

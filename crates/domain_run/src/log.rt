@@ -9,7 +9,7 @@ ghost use Rattle.domain_run.specs.Sound.{occupant, IsApart as IsPlacedOnce};
 ghost use Rattle.domain_run.specs.private.RunQueue.{AreHomed};
 ghost use Rattle.domain_run.specs.private.Telling.{IsApart, InOrderFrom, GoHome, one_of, all_of};
 
-use crate::happened::{Happened, What};
+use crate::happened::Happened;
 use crate::roster::Roster;
 use crate::telling::Told;
 use let_go::Past;
@@ -41,26 +41,11 @@ impl Model for Log {
     } };
 }
 
-// The order of what happens at one time, by kind.
-fn rank(what: What) -> u8
-    ensures { result ≡ happened_spec.rank what }
-{
-    match what {
-        What::JobEnds => 0,
-        What::NextReleased { .. } => 1,
-        What::Spent { .. } => 2,
-        What::Cut => 3,
-        What::Replenished { .. } => 4,
-        What::Released { .. } => 5,
-        What::WokenSpent { .. } => 6,
-    }
-}
-
 // Whether one comes before another of the same time.
 fn is_first(a: &Happened, b: &Happened) -> bool
     ensures { result ≡ happened_spec.is_first a.now b.now }
 {
-    let (left, right) = (rank(a.what), rank(b.what));
+    let (left, right) = (a.what.rank(), b.what.rank());
     left < right || (left == right && (a.cpu < b.cpu || (a.cpu == b.cpu && a.number < b.number)))
 }
 

@@ -1,14 +1,13 @@
 //! What of all that happens in several domains comes next.
 
 ghost use Rattle.std.specs.Prelude.{ℕ, ◌≡◌, ◌+◌, ◌<◌, ◌≤◌, ◌^◌, length, slice_index_or, All, IfSome, IsTrue, ◌↔◌};
-ghost use Rattle.domain_run.specs.Happened.{rank};
 ghost use Rattle.switch_text.specs.Events.{comes_before};
 ghost use Rattle.switch_text.specs.Telling.{IsTold};
 ghost use Rattle.switch_text.specs.private.ToldMerging.{IsToldFound, IsShown, is_better_told, next_told_event};
 
 use crate::told::Told;
 use crate::told_lines::has_a_line;
-use domain_run::{Happened, What};
+use domain_run::Happened;
 
 /// What happens next in a domain, and which of the domains it is.
 #[derive(Clone, Copy)]
@@ -19,21 +18,6 @@ pub(crate) struct NextTold<'a, 'b> {
     pub(crate) happened: &'b Happened,
 }
 
-/// Its place in the order of what happens at one time.
-fn place_at_time(what: What) -> u32
-    ensures { result ≡ rank what }
-{
-    match what {
-        What::JobEnds => 0,
-        What::NextReleased { .. } => 1,
-        What::Spent { .. } => 2,
-        What::Cut => 3,
-        What::Replenished { .. } => 4,
-        What::Released { .. } => 5,
-        What::WokenSpent { .. } => 6,
-    }
-}
-
 /// Of two of one time, whether the first comes before the second.
 fn is_first_at_time(a: &NextTold<'_, '_>, b: &NextTold<'_, '_>) -> bool
     requires first { IsShown a.now }
@@ -41,8 +25,8 @@ fn is_first_at_time(a: &NextTold<'_, '_>, b: &NextTold<'_, '_>) -> bool
     requires time { a.now.happened.now.time ≡ b.now.happened.now.time }
     ensures { result ≡ comes_before (next_told_event a.now) (next_told_event b.now) }
 {
-    let place = place_at_time(a.happened.what);
-    let other = place_at_time(b.happened.what);
+    let place = a.happened.what.rank();
+    let other = b.happened.what.rank();
     let cpu = a.told.base + u32::from(a.happened.cpu);
     let other_cpu = b.told.base + u32::from(b.happened.cpu);
     place < other
