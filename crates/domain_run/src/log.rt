@@ -1,6 +1,6 @@
 //! A log of what happens to the tasks of a domain.
 
-ghost use Rattle.std.specs.Prelude.{◌≡◌, ◌<◌, ◌≤◌, ◌+◌, [], ◌∷◌, ◌++◌, true, false, length, position, map, AllPairs, OnOk, IfSome, vec_len, vec_capacity};
+ghost use Rattle.std.specs.Prelude.{◌≡◌, ◌<◌, ◌≤◌, ◌+◌, [], true, false, length, position, map, AllPairs, OnOk, IfSome};
 ghost use Rattle.std.specs.Ordering.{is_lt};
 ghost use Rattle.edf_pick.specs.Places.{is_task};
 ghost use Rattle.domain_run.specs.Happened as happened_spec;
@@ -12,7 +12,6 @@ ghost use Rattle.domain_run.specs.private.Telling.{IsApart, InOrderFrom, GoHome,
 use crate::happened::Happened;
 use crate::roster::Roster;
 use crate::telling::Told;
-use let_go::Past;
 use no_memory::NoMemory;
 use std::alloc::Global;
 use std::cmp::Ordering;
@@ -194,16 +193,6 @@ impl Log {
         ensures empty { self.new.happened ≡ [] }
     {
         self.happened.clear();
-    }
-
-    /// Forgets what it was told, of which `past` is told, and keeps its room. Takes no memory.
-    pub fn pass(&mut self, past: &mut Past<Happened>)
-        ensures past { past.new ≡ past.old ++ self.old.happened }
-        ensures wanted { self.new.wanted ≡ self.old.wanted }
-        ensures empty { self.new.happened ≡ [] }
-    {
-        past.append(&self.happened);
-        self.clear();
     }
 
     /// Room for so much more, where it keeps it. `Err` where a growth was refused; it has what it

@@ -16,7 +16,6 @@ mod cutting;
 mod jumps;
 mod lending;
 mod machine;
-mod passing;
 mod ticking;
 
 use crate::call::{Refused, Reply};
