@@ -49,7 +49,8 @@ class Sheet:
     def __init__(self, start, stop, cpus, rows):
         self.start, self.stop, self.cpus, self.rows = start, stop, cpus, rows
         self.tall = rows <= 24
-        self.height, self.bar_top, self.bar_height, self.middle, self.foot = (34, 10, 14, 17, 21) if self.tall else (12, 2, 8, 6, 9) if rows <= 96 else (8, 1, 6, 4, 8)
+        sizes = (34, 10, 14, 17, 21) if self.tall else (12, 2, 8, 6, 9) if rows <= 96 else (8, 1, 6, 4, 8)
+        self.height, self.bar_top, self.bar_height, self.middle, self.foot = sizes
         self.end = 40 + rows * self.height
 
     def pixels(self, us):
@@ -80,7 +81,8 @@ def row_text(sheet, place, row):
     top, name = place * sheet.height, escaped(row.name)
     lines = [(span, "t", "is throttled") for span in row.throttled] + [(span, "w", "wants a CPU") for span in row.waits]
     for (start, stop), kind, said in sorted(lines):
-        yield f'<path class="{kind}" d="M{start} {top + sheet.middle}H{stop}"><title>{name} {said}: {seconds(start)} to {seconds(stop)} s</title></path>\n'
+        title = f"<title>{name} {said}: {seconds(start)} to {seconds(stop)} s</title>"
+        yield f'<path class="{kind}" d="M{start} {top + sheet.middle}H{stop}">{title}</path>\n'
     for cpu, start, stop in row.bars:
         box = f'x="{start}" y="{top + sheet.bar_top}" width="{stop - start}" height="{sheet.bar_height}" fill="{sheet.fill(cpu)}"'
         yield f'<rect class="b" {box}><title>{name} on CPU {cpu}: {seconds(start)} to {seconds(stop)} s, {stop - start} us</title></rect>\n'
@@ -116,7 +118,8 @@ def legend(sheet):
     lines = ("w", 0, 39, "h30", 36, "wants a CPU"), ("t", 130, 39, "h30", 36, "throttled")
     marks = ("r", 246, 44, RELEASED[2], 10, "released"), ("d", 326, 36, DUE[2], 10, "due"), ("x", 376, 32, ENDED[2], 8, "ended")
     for kind, right, below, path, behind, said in lines + marks:
-        yield f'<path class="{kind}" d="M{left + right} {sheet.end + below}{path}"/><text x="{left + right + behind}" y="{low}" font-size="11">{said}</text>\n'
+        yield f'<path class="{kind}" d="M{left + right} {sheet.end + below}{path}"/>'
+        yield f'<text x="{left + right + behind}" y="{low}" font-size="11">{said}</text>\n'
 
 
 def chart(start, stop, cpus, rows):
@@ -264,3 +267,148 @@ def drawn(replies, events, start=0, stop=None):
                 [mark for mark in marks if start <= mark[1] <= stop],
             ))
     return chart(start, stop, cpus, rows)
+
+
+# ---- rows, worked out by hand
+
+def replayed(name, lines, words, *picture, header="dlcalls 1"):
+    return Row(f"a chart: {name}", f"replay --print chart{words}", calls(header, *lines), 0, chart(*picture), "")
+
+
+PART = f"""\
+<svg xmlns="http://www.w3.org/2000/svg" viewBox="0 0 1200 136" width="1200" height="136" role="img" font-family="DejaVu Sans, Verdana, \
+sans-serif" font-size="12">
+<title>Which task ran where: 1 tasks on 1 CPUs, 0.000002 to 0.000006 s</title>
+{STYLE}<rect width="1200" height="136" fill="#fff"/>
+<rect x="0" y="40" width="1170" height="34" fill="#f4f4f4"/>
+<text x="142" y="61" text-anchor="end">a</text>
+<svg x="150" y="40" width="1020" height="34" viewBox="2 0 4 34" preserveAspectRatio="none">
+<path class="g" d="M2 0V34"/>
+<path class="g" d="M3 0V34"/>
+<path class="g" d="M4 0V34"/>
+<path class="g" d="M5 0V34"/>
+<path class="g" d="M6 0V34"/>
+<path class="t" d="M2 17H5"><title>a is throttled: 0.000002 to 0.000005 s</title></path>
+<rect class="b" x="5" y="10" width="2" height="14" fill="#0072B2"><title>a on CPU 0: 0.000005 to 0.000007 s, 2 us</title></rect>
+</svg>
+<path class="d" d="M915 64v8m-3 -4l3 4l3 -4"><title>a is due at 0.000005 s</title></path>
+<text x="150" y="32" text-anchor="middle" font-size="11" fill="#333">0.000002</text>
+<text x="150" y="90" text-anchor="middle" font-size="11" fill="#333">0.000002</text>
+<text x="405" y="32" text-anchor="middle" font-size="11" fill="#333">0.000003</text>
+<text x="405" y="90" text-anchor="middle" font-size="11" fill="#333">0.000003</text>
+<text x="660" y="32" text-anchor="middle" font-size="11" fill="#333">0.000004</text>
+<text x="660" y="90" text-anchor="middle" font-size="11" fill="#333">0.000004</text>
+<text x="915" y="32" text-anchor="middle" font-size="11" fill="#333">0.000005</text>
+<text x="915" y="90" text-anchor="middle" font-size="11" fill="#333">0.000005</text>
+<text x="1170" y="32" text-anchor="middle" font-size="11" fill="#333">0.000006</text>
+<text x="1170" y="90" text-anchor="middle" font-size="11" fill="#333">0.000006</text>
+<text x="142" y="32" text-anchor="end" font-size="11" fill="#333">time in s</text>
+<text x="142" y="117" text-anchor="end" font-size="11">CPU</text>
+<rect x="150" y="106" width="22" height="14" fill="#0072B2"/><text x="161" y="117" text-anchor="middle" font-size="11" fill="#fff">0</text>
+<path class="w" d="M198 113h30"/><text x="234" y="117" font-size="11">wants a CPU</text>
+<path class="t" d="M328 113h30"/><text x="364" y="117" font-size="11">throttled</text>
+<path class="r" d="M444 118v-8m-3 4l3 -4l3 4"/><text x="454" y="117" font-size="11">released</text>
+<path class="d" d="M524 110v8m-3 -4l3 4l3 -4"/><text x="534" y="117" font-size="11">due</text>
+<path class="x" d="M574 106v14"/><text x="582" y="117" font-size="11">ended</text>
+</svg>
+"""
+INSIDE_A_JOB = THROTTLED.splitlines()[1:]
+NOBODY = Drawn("a", [])
+HOSTILE = '<&">'
+ONE = scenario(("a", deadline(500, 1000)))
+
+ROWS = [
+    Row("a chart: a part of a run, its whole text", "replay --print chart --from 2 --to 6", THROTTLED, 0, PART, ""),
+    replayed(
+        "throttled inside a job",
+        INSIDE_A_JOB,
+        "",
+        0, 11, 1, [Drawn("a", [(0, 0, 2), (0, 5, 7)], [(2, 5)], marks=[(RELEASED, 0), (DUE, 5), (ENDED, 7)])],
+    ),
+    replayed("from a time on", INSIDE_A_JOB, " --from 5", 5, 11, 1, [Drawn("a", [(0, 5, 7)], marks=[(DUE, 5), (ENDED, 7)])]),
+    replayed("up to a time", INSIDE_A_JOB, " --to 1", 0, 1, 1, [Drawn("a", [(0, 0, 2)], marks=[(RELEASED, 0)])]),
+    replayed("to a time behind the end", INSIDE_A_JOB, " --from 7 --to 20", 7, 20, 1, [Drawn("a", [], marks=[(ENDED, 7)])]),
+    replayed("behind the end", INSIDE_A_JOB, " --from 20", 20, 21, 1, [NOBODY]),
+    replayed("behind the end, to a time", INSIDE_A_JOB, " --from 20 --to 50", 20, 50, 1, [NOBODY]),
+    replayed("of the last microsecond", INSIDE_A_JOB, " --from 4398046511103", MOST - 1, MOST, 1, [NOBODY]),
+    replayed("up to the last microsecond", INSIDE_A_JOB, " --from 4398046511103 --to 4398046511104", MOST - 1, MOST, 1, [NOBODY]),
+    replayed(
+        "a task wants a CPU that another one has",
+        [DOMAIN, "admit 1 1 a 8 20 20 - 0 1:1{r6}", "admit 1 2 b 2 5 10 - 2 1:1{r2}", "advance 1 10"],
+        "",
+        0, 10, 1, [
+            Drawn("a", [(0, 0, 2), (0, 4, 8)], waits=[(2, 4)], marks=[(RELEASED, 0), (ENDED, 8)]),
+            Drawn("b", [(0, 2, 4)], marks=[(RELEASED, 2), (DUE, 7), (ENDED, 4)]),
+        ],
+    ),
+    replayed(
+        "two domains, whose CPUs are counted through",
+        [
+            DOMAIN,
+            "admit 1 1 a 2 8 8 - 0 1:1{r2}",
+            "advance 1 3",
+            "domain 2 524288",
+            "admit 1 1 a 2 8 8 - 2 1:1{r2}",
+            "admit 1 2 b 2 8 8 - 2 1:1{r1}",
+            "advance 1 4",
+        ],
+        "",
+        0, 4, 3, [
+            Drawn("a", [(0, 0, 2)], marks=[(RELEASED, 0), (ENDED, 2)]),
+            Drawn("a", [(2, 2, 4)], marks=[(RELEASED, 2)]),
+            Drawn("b", [(1, 2, 3)], marks=[(RELEASED, 2), (ENDED, 3)]),
+        ],
+    ),
+    replayed(
+        "a task that wakes on another CPU",
+        ["domain 2 1048576", "admit 1 1 a 4 8 8 - 0 -1:1{r2,s2}", "admit 1 3 b 6 8 8 - 2 1:1{r5}", "advance 1 7"],
+        "",
+        0, 7, 2, [Drawn("a", [(1, 0, 2), (0, 4, 6)], marks=[(RELEASED, 0), (RELEASED, 4)]), Drawn("b", [(1, 2, 7)], marks=[(RELEASED, 2)])],
+    ),
+    replayed(
+        "a leave cuts a job and its throttle",
+        [DOMAIN, "admit 1 1 a 2 5 5 - 0 1:1{r100}", "advance 1 3", "leave 1 1", "advance 1 17"],
+        "",
+        0, 20, 1, [Drawn("a", [(0, 0, 2)], [(2, 3)], marks=[(RELEASED, 0), (DUE, 5), (ENDED, 3)])],
+    ),
+    replayed(
+        "a name of signs that XML reads",
+        [DOMAIN, f"admit 1 1 {HOSTILE} 2 8 8 - 0 1:1{{r2}}", "advance 1 5"],
+        "",
+        0, 5, 1, [Drawn(HOSTILE, [(0, 0, 2)], marks=[(RELEASED, 0), (ENDED, 2)])],
+    ),
+    replayed("no calls", ["domain 64 10485", DOMAIN], "", 0, 1, 65, []),
+    Row("a chart: a run in which no time passes", "run --print chart --domains 2", ONE, 0, chart(0, 1, 2, [NOBODY]), ""),
+    Row("a chart: a part of such a run", "run --print chart --from 3 --to 4", ONE, 0, chart(3, 4, 1, [NOBODY]), ""),
+]
+
+EMPTY, UNCUT = "dlsim: empty window\n", "dlsim: no chart to cut\n"
+WRONG = {
+    "run --print chart --to 0": EMPTY,
+    "run --print chart --from 5 --to 5": EMPTY,
+    "run --print chart --from 6 --to 5": EMPTY,
+    "run --print chart --from 4398046511104": EMPTY,
+    "run --print chart --to 0 --domains 0": EMPTY,
+    "replay --print chart --to 0": EMPTY,
+    "replay --print chart --from 4398046511104 --to 4398046511104": EMPTY,
+    "run --from 0": UNCUT,
+    "run --to 4398046511104": UNCUT,
+    "run --print jobs --from 6 --to 5": UNCUT,
+    "run --print calls --from 1 --rt-runtime 2000000": UNCUT,
+    "replay --from 1": UNCUT,
+    "replay --print events --to 9": UNCUT,
+    "run --print chart --from 1 --domains 0": "dlsim: bad list\n",
+}
+ROWS += [Row(f"words {words!r}", words, ONE, 2, "", told) for words, told in WRONG.items()]
+
+# Words that clap refuses.
+REFUSED = [
+    "run --print chart --from 4398046511105",
+    "run --print chart --to 4398046511105",
+    "run --print chart --from -1",
+    "run --print chart --from",
+    "run --print chart --to ''",
+    "run --print chart --from 1 --from 2",
+    "replay --print chart --to 0x10",
+    "replay --print charts",
+]
