@@ -28,12 +28,14 @@ use Rattle.calls_trace.specs.declared.placed_run.PlacedRun.{PlacedRun}
 use Rattle.calls_trace.specs.declared.replaying.ReplayPrint.{ReplayPrint}
 use Rattle.calls_trace.specs.declared.replaying.ReplayPrint.TheVariants as prints
 use Rattle.calls_trace.specs.declared.run_text.RunText.{RunText}
-use Rattle.calls_trace.specs.declared.run_text.RunText.TheVariants.{Trace, Events, Jobs, Summary}
+use Rattle.calls_trace.specs.declared.run_text.RunText.TheVariants.{Trace, Events, Jobs, Summary, Chart}
 use Rattle.calls_trace.specs.Replay.{run_view, runs_from, trace_of_sections}
 use Rattle.calls_trace.specs.Told.{admitted, told_from, jobs_view, summary_view, events_of_sections, jobs_of_sections, summary_of_sections}
+use Rattle.calls_trace.specs.Charted.{chart_of_sections}
 use Rattle.calls_trace.specs.Answer.{replayed, print_tells}
 use Rattle.calls_trace.specs.private.Replaying.{view_of, view_at, views_from, run_in, told_in, jobs_in, summary_in, text_in, text_of_runs}
 use Rattle.calls_trace.specs.private.RunTexts.{run_text, tells, text_of_all}
+use Rattle.calls_trace.proofs.Charts.{chart_same}
 
 -- ---- lists, one element more
 
@@ -120,6 +122,9 @@ text_are text prints.Jobs e ss =
 text_are text prints.Summary e ss =
     let is : Summary ≡ text = ap (λ (o : Option RunText). unwrap_or o Summary) e in
     subst (λ (t : RunText). text_in t (views_from (tells t) 0 ss) ≡ summary_of_sections ss) is (ap summary_text (all_figures 0 ss))
+text_are text (prints.Chart span) e ss =
+    let is : Chart span ≡ text = ap (λ (o : Option RunText). unwrap_or o Trace) e in
+    subst (λ (t : RunText). text_in t (views_from (tells t) 0 ss) ≡ chart_of_sections span ss) is (chart_same span ss)
 
 -- what is asked for
 pub text_is : (text : RunText) (print : ReplayPrint) → run_text print ≡ Some text → (ss : List SectionView) → text_of_all text ss ≡ replayed print ss
@@ -132,6 +137,7 @@ replies_are prints.Replies e ss = refl
 replies_are prints.Events e ss = absurd cc
 replies_are prints.Jobs e ss = absurd cc
 replies_are prints.Summary e ss = absurd cc
+replies_are (prints.Chart span) e ss = absurd cc
 
 pub tells_is : (text : RunText) (print : ReplayPrint) → run_text print ≡ Some text → print_tells print ≡ tells text
 tells_is text prints.Trace e = ap tells (ap (λ (o : Option RunText). unwrap_or o Trace) e)
@@ -139,6 +145,7 @@ tells_is text prints.Replies e = absurd cc
 tells_is text prints.Events e = ap tells (ap (λ (o : Option RunText). unwrap_or o Events) e)
 tells_is text prints.Jobs e = ap tells (ap (λ (o : Option RunText). unwrap_or o Jobs) e)
 tells_is text prints.Summary e = ap tells (ap (λ (o : Option RunText). unwrap_or o Summary) e)
+tells_is text (prints.Chart span) e = ap tells (ap (λ (o : Option RunText). unwrap_or o Trace) e)
 
 -- ---- figures
 

@@ -44,7 +44,7 @@ view_is wanted r s is told =
     ∙ ap (made (domain_of s) (names_in s) (params_in s)) told.told
 
 -- calls change no CPUs
-calls_cpus : (d : Domain) (calls : List Call) → (after_calls d calls).cpus ≡ d.cpus
+pub calls_cpus : (d : Domain) (calls : List Call) → (after_calls d calls).cpus ≡ d.cpus
 calls_cpus d [] = refl
 calls_cpus d (c ∷ calls) = calls_cpus (after_call d c) calls ∙ call_cpus d c
 

@@ -10,10 +10,11 @@ use Rattle.counted_io.specs.Faults.{TakesFront}
 use Rattle.calls_trace.specs.declared.fault.ReplayFault.{ReplayFault}
 use Rattle.calls_trace.specs.declared.fault.ReplayFault.TheVariants.{Calls, Read, Write, Memory}
 use Rattle.calls_trace.specs.declared.replaying.ReplayPrint.{ReplayPrint}
-use Rattle.calls_trace.specs.declared.replaying.ReplayPrint.TheVariants.{Trace, Replies, Events, Jobs, Summary}
+use Rattle.calls_trace.specs.declared.replaying.ReplayPrint.TheVariants.{Trace, Replies, Events, Jobs, Summary, Chart}
 use Rattle.reply_text.specs.Replies.{replies_of}
 use Rattle.calls_trace.specs.Replay.{trace_of_sections}
 use Rattle.calls_trace.specs.Told.{events_of_sections, jobs_of_sections, summary_of_sections}
+use Rattle.calls_trace.specs.Charted.{chart_of_sections}
 
 -- what a call of replay met: its reader and its writer, each before the call and after it
 pub record Streams : Type 0 where
@@ -91,13 +92,14 @@ IsFaultOf = IsFaultBy trace_of_sections
 -- ---- what is asked for
 
 -- what is written of sections: the trace of their run, their calls with the replies, the trace with
--- what happens, or the jobs or the figures of what happens
+-- what happens, the jobs or the figures of what happens, or a part of their run as a chart
 abbrev pub replayed : ReplayPrint → List SectionView → List ℕ
 replayed Trace = trace_of_sections
 replayed Replies = replies_of
 replayed Events = events_of_sections
 replayed Jobs = jobs_of_sections
 replayed Summary = summary_of_sections
+replayed (Chart span) = chart_of_sections span
 
 -- whether what happens has to be known for it
 abbrev pub print_tells : ReplayPrint → Bool
@@ -106,3 +108,4 @@ print_tells Replies = false
 print_tells Events = true
 print_tells Jobs = true
 print_tells Summary = true
+print_tells (Chart span) = true

@@ -44,7 +44,7 @@ fn admitted_as(given: &IndexMap<u32, Params>, number: u32) -> Admitted
 }
 
 /// The tasks that were admitted in a run, by number.
-fn tasks_of(alloc: Global, run: &RunWithNames) -> Result<Vec<Admitted>, NoMemory>
+pub(crate) fn tasks_of(alloc: Global, run: &RunWithNames) -> Result<Vec<Admitted>, NoMemory>
     ensures tasks { IfOk result (λ v. v.items
         ≡ map (admitted (given_in run.now.given)) run.now.state.used) }
     ensures apart { IfOk result (λ v. counted.AreTasks v.items) }
@@ -58,7 +58,7 @@ fn tasks_of(alloc: Global, run: &RunWithNames) -> Result<Vec<Admitted>, NoMemory
 }
 
 /// A run, as figures are made of it.
-fn as_counted<'a>(placed: &'a PlacedRun, tasks: &'a [Admitted]) -> Run<'a>
+pub(crate) fn as_counted<'a>(placed: &'a PlacedRun, tasks: &'a [Admitted]) -> Run<'a>
     requires tasks { tasks.now
         ≡ map (admitted (given_in placed.now.run.given)) placed.now.run.state.used }
     requires apart { counted.AreTasks tasks.now }

@@ -7,6 +7,7 @@ ghost use Rattle.calls_trace.specs.Answer.{streams, IsAnswered, IsAnsweredBy, Is
 use crate::fault::ReplayFault;
 use crate::writing::write_sections;
 use call_book::{CallsFault, read_calls};
+use chart_pieces::Span;
 use std::alloc::Global;
 use std::io::{Read, Write};
 use switch_text::{Counted, ReadFault};
@@ -24,6 +25,9 @@ pub enum ReplayPrint {
     Jobs,
     /// The figures of each task, of each CPU and of each domain.
     Summary,
+    /// A part of the run as a chart, one SVG file: which task ran where, when it wanted a CPU or was
+    /// throttled, and when its jobs were released and due. See [`Span::window`] for what is shown.
+    Chart(Span),
 }
 
 impl ReplayPrint {
@@ -33,7 +37,10 @@ impl ReplayPrint {
     {
         match self {
             ReplayPrint::Trace | ReplayPrint::Replies => false,
-            ReplayPrint::Events | ReplayPrint::Jobs | ReplayPrint::Summary => true,
+            ReplayPrint::Events
+            | ReplayPrint::Jobs
+            | ReplayPrint::Summary
+            | ReplayPrint::Chart(_) => true,
         }
     }
 }
@@ -42,7 +49,7 @@ impl ReplayPrint {
 /// own, and writes what is asked for: one trace of all domains, by time and CPU of the machine, in
 /// which the first domain has the first CPUs of the machine, the second the next ones; the same with
 /// lines of what happens to the tasks; each job of each task; the figures of tasks, CPUs and domains;
-/// or each section's calls, each with the reply that it gets.
+/// a chart of all tasks, by domain; or each section's calls, each with the reply that it gets.
 ///
 /// `Ok`: the input spells sections, and what was written is that text of their run, and nothing
 /// else.

@@ -4,6 +4,7 @@ ghost use Rattle.std.specs.Prelude.{◌≡◌};
 ghost use Rattle.calls_trace.specs.private.RunTexts as texts;
 
 use crate::replaying::ReplayPrint;
+use chart_pieces::Span;
 
 /// A text that is made of the runs of a machine's domains.
 #[derive(Clone, Copy, Debug, PartialEq, Eq)]
@@ -12,6 +13,7 @@ pub(crate) enum RunText {
     Events,
     Jobs,
     Summary,
+    Chart(Span),
 }
 
 impl RunText {
@@ -25,6 +27,7 @@ impl RunText {
             ReplayPrint::Events => Some(RunText::Events),
             ReplayPrint::Jobs => Some(RunText::Jobs),
             ReplayPrint::Summary => Some(RunText::Summary),
+            ReplayPrint::Chart(span) => Some(RunText::Chart(span)),
         }
     }
 
@@ -34,7 +37,7 @@ impl RunText {
     {
         match self {
             RunText::Trace => false,
-            RunText::Events | RunText::Jobs | RunText::Summary => true,
+            RunText::Events | RunText::Jobs | RunText::Summary | RunText::Chart(_) => true,
         }
     }
 }

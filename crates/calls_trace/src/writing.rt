@@ -10,6 +10,7 @@ ghost use Rattle.calls_trace.specs.Written.{IsWritten, IsUnwritten};
 ghost use Rattle.calls_trace.specs.private.Replaying.{IsPlaced, text_of_runs};
 ghost use Rattle.calls_trace.specs.private.RunTexts.{tells, text_of_all};
 
+use crate::charting::write_chart_of;
 use crate::fault::TraceFault;
 use crate::figures::{write_jobs_of, write_summary_of, write_whole};
 use crate::placed_run::{PlacedRun, place_runs, run_sections};
@@ -43,6 +44,7 @@ fn write_runs<W: Write>(
         RunText::Events => write_events_of(alloc, placed, writer),
         RunText::Jobs => write_jobs_of(alloc, placed, writer),
         RunText::Summary => write_summary_of(alloc, placed, writer),
+        RunText::Chart(span) => write_chart_of(alloc, span, placed, writer),
     }
 }
 

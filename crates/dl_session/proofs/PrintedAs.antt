@@ -24,6 +24,7 @@ text_is prints.Replies text e hs = ap (λ (p : ReplayPrint). replayed p hs) (sym
 text_is prints.Events text e hs = ap (λ (p : ReplayPrint). replayed p hs) (sym (meant replays.Events text e))
 text_is prints.Jobs text e hs = ap (λ (p : ReplayPrint). replayed p hs) (sym (meant replays.Jobs text e))
 text_is prints.Summary text e hs = ap (λ (p : ReplayPrint). replayed p hs) (sym (meant replays.Summary text e))
+text_is (prints.Chart span) text e hs = ap (λ (p : ReplayPrint). replayed p hs) (sym (meant (replays.Chart span) text e))
 
 tells_is : (print : Print) (text : ReplayPrint) → replay_print print ≡ Some text → tells print ≡ print_tells text
 tells_is prints.Trace text e = ap print_tells (meant replays.Trace text e)
@@ -32,6 +33,7 @@ tells_is prints.Replies text e = ap print_tells (meant replays.Replies text e)
 tells_is prints.Events text e = ap print_tells (meant replays.Events text e)
 tells_is prints.Jobs text e = ap print_tells (meant replays.Jobs text e)
 tells_is prints.Summary text e = ap print_tells (meant replays.Summary text e)
+tells_is (prints.Chart span) text e = ap print_tells (meant (replays.Chart span) text e)
 
 pub told_as : (print : Print) (text : ReplayPrint) → replay_print print ≡ Some text → (hs : List SectionView) (logs : List LogView) → AreTold (tells print) hs logs → AreTold (print_tells text) hs logs
 told_as print text e hs logs told = subst (λ (w : Bool). AreTold w hs logs) (tells_is print text e) told
@@ -43,3 +45,4 @@ calls_alone prints.Replies e hs = absurd cc
 calls_alone prints.Events e hs = absurd cc
 calls_alone prints.Jobs e hs = absurd cc
 calls_alone prints.Summary e hs = absurd cc
+calls_alone (prints.Chart span) e hs = absurd cc

@@ -33,6 +33,7 @@ use Rattle.dl_session.specs.InOrder.{sections_in_order}
 use Rattle.reply_text.specs.Replies.{replies_of}
 use Rattle.calls_trace.specs.Replay.{trace_of_sections}
 use Rattle.calls_trace.specs.Told.{events_of_sections, jobs_of_sections, summary_of_sections}
+use Rattle.calls_trace.specs.Charted.{chart_of_sections}
 use Rattle.calls_trace.specs.Answer.{Streams, IsInput, NothingWritten, IsUnread, IsOutOfMemory}
 
 -- ---- the scenario
@@ -83,7 +84,8 @@ pub record IsRun (s : Streams) (o : Options) (histories : List SectionView)
       ≡ trace_of_sections (sections_in_order id answers.asked scenario.duration_us)
 
 -- what is written of histories: the trace of their run, their calls text, their calls with the
--- replies, the trace with what happens, or the jobs or the figures of what happens
+-- replies, the trace with what happens, the jobs or the figures of what happens, or a part of their
+-- run as a chart
 abbrev pub printed : Print → List SectionView → List ℕ
 printed prints.Trace histories = trace_of_sections histories
 printed prints.Calls histories = spelling histories
@@ -91,6 +93,7 @@ printed prints.Replies histories = replies_of histories
 printed prints.Events histories = events_of_sections histories
 printed prints.Jobs histories = jobs_of_sections histories
 printed prints.Summary histories = summary_of_sections histories
+printed (prints.Chart span) histories = chart_of_sections span histories
 
 -- ---- what is answered
 

@@ -31,7 +31,7 @@ mod running;
 mod words;
 
 pub use admitting::admit_all;
-pub use calls_trace::ReplayPrint;
+pub use calls_trace::{ReplayPrint, Span};
 pub use compare_report::{CompareOptions, compare_texts};
 pub use comparing::{ComparisonEnding, TraceNames};
 pub use ending::Ending;

@@ -29,6 +29,7 @@ fn replay_print(print: Print) -> Option<ReplayPrint>
         Print::Events => Some(ReplayPrint::Events),
         Print::Jobs => Some(ReplayPrint::Jobs),
         Print::Summary => Some(ReplayPrint::Summary),
+        Print::Chart(span) => Some(ReplayPrint::Chart(span)),
     }
 }
 

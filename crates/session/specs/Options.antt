@@ -5,7 +5,7 @@ use Rattle.domain_run.specs.Domain.{IsCpus, IsLimit}
 use Rattle.session.specs.SessionId.{SessionId, cpu_sets_from}
 use Rattle.session.specs.declared.options.Options.{Options}
 use Rattle.session.specs.declared.options.Print.{Print}
-use Rattle.session.specs.declared.options.Print.TheVariants.{Events, Jobs, Summary}
+use Rattle.session.specs.declared.options.Print.TheVariants.{Events, Jobs, Summary, Chart}
 
 pub record AreOptions (o : Options) : Type 0 where
   pub some_domains : 0 < length o.domains.items
@@ -24,6 +24,7 @@ abbrev pub tells : Print → Bool
 tells Events = true
 tells Jobs = true
 tells Summary = true
+tells (Chart span) = true
 tells _ = false
 
 -- the gate's terms: the CPUs of each domain, and 256 pieces a domain and one a client

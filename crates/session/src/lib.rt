@@ -39,6 +39,7 @@ mod shared;
 mod turnstile;
 
 pub use admitting::admit_all;
+pub use chart_pieces::Span;
 pub use client::Client;
 pub use ending_run::end_run;
 pub use fault::{AdmitFault, EndFault};

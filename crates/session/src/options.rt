@@ -1,6 +1,8 @@
 ghost use Rattle.std.specs.Prelude.{◌≡◌};
 ghost use Rattle.session.specs.Options.{tells};
 
+use chart_pieces::Span;
+
 /// What is written of a run.
 #[derive(Clone, Copy, Debug, PartialEq, Eq)]
 pub enum Print {
@@ -16,6 +18,9 @@ pub enum Print {
     Jobs,
     /// The figures of each task, of each CPU and of each domain.
     Summary,
+    /// A part of the run as a chart, one SVG file: which task ran where, when it wanted a CPU or was
+    /// throttled, and when its jobs were released and due. See [`Span::window`] for what is shown.
+    Chart(Span),
 }
 
 impl Print {
@@ -23,7 +28,10 @@ impl Print {
     pub fn tells(&self) -> bool
         ensures { result ≡ tells self.now }
     {
-        matches!(self, Print::Events | Print::Jobs | Print::Summary)
+        matches!(
+            self,
+            Print::Events | Print::Jobs | Print::Summary | Print::Chart(_)
+        )
     }
 }
 

@@ -1,5 +1,5 @@
 -- Runs under way, and what is written of them.
-use Rattle.std.specs.Prelude.{ℕ, ◌≡◌, ◌+◌, ◌≤◌, Bool, IsTrue, if◌then◌else◌, List, [], ◌∷◌, map, nat_eq, unwrap_or, All, AllPairs}
+use Rattle.std.specs.Prelude.{ℕ, ◌≡◌, ◌+◌, ◌≤◌, Bool, IsTrue, if◌then◌else◌, List, [], ◌∷◌, map, flat_map, fold, max, sum_by, nat_eq, unwrap_or, All, AllPairs}
 use Rattle.std.specs.declared.hash.FoldHasher.{FoldHasher}
 use Rattle.std.specs.declared.hash.BuildHasherDefault.{BuildHasherDefault}
 use Rattle.indexmap.specs.IndexMap.{IndexMap, get}
@@ -22,11 +22,18 @@ use Rattle.run_figures.specs.Jobs.{task_jobs}
 use Rattle.run_figures.specs.Figures.{task_figures, cpu_figures}
 use Rattle.figure_text.specs.Jobs.{JobsView, jobs_text}
 use Rattle.figure_text.specs.Summary.{SummaryView, summary_text}
+use Rattle.chart_pieces.specs.declared.window.Span.{Span}
+use Rattle.chart_pieces.specs.declared.window.Window.{Window}
+use Rattle.chart_pieces.specs.Window.{window_of}
+use Rattle.chart_pieces.specs.Rows.{rows_of}
+use Rattle.chart.specs.Rows.{ChartRowView}
+use Rattle.chart.specs.Chart.{chart_text}
 use Rattle.calls_trace.specs.declared.placed_run.PlacedRun.{PlacedRun}
 use Rattle.calls_trace.specs.declared.run_text.RunText.{RunText}
-use Rattle.calls_trace.specs.declared.run_text.RunText.TheVariants.{Trace, Events, Jobs, Summary}
+use Rattle.calls_trace.specs.declared.run_text.RunText.TheVariants.{Trace, Events, Jobs, Summary, Chart}
 use Rattle.calls_trace.specs.Replay.{names_of, no_names, calls_of}
 use Rattle.calls_trace.specs.Told.{domain_of, names_in, told_of, no_params, params_in, admitted}
+use Rattle.calls_trace.specs.Charted.{charted}
 
 abbrev pub section_view : ℕ → ℕ → List Entry → SectionView
 section_view cpus limit entries = record { cpus = cpus; limit = limit; entries = entries }
@@ -138,12 +145,26 @@ summary_in v = record {
   time = v.domain.time;
 }
 
+-- the chart: when the last run ends, the CPUs of the machine, and the rows
+abbrev pub end_in : List PlacedView → ℕ
+end_in vs = fold (λ end v. max end v.domain.time) 0 vs
+
+abbrev pub cpus_in : List PlacedView → ℕ
+cpus_in vs = sum_by (λ v. v.domain.cpus) vs
+
+abbrev pub rows_in : Window → PlacedView → List ChartRowView
+rows_in window v = map (charted v.names v.base) (rows_of window (figures_in v))
+
+abbrev pub chart_in : Window → List PlacedView → List ℕ
+chart_in window vs = chart_text window (cpus_in vs) (flat_map (rows_in window) vs)
+
 -- a text of the domains of a machine
 abbrev pub text_in : RunText → List PlacedView → List ℕ
 text_in Trace vs = trace_of (map run_in vs)
 text_in Events vs = events_of (map run_in vs) (map told_in vs)
 text_in Jobs vs = jobs_text (map jobs_in vs)
 text_in Summary vs = summary_text (map summary_in vs)
+text_in (Chart span) vs = chart_in (window_of span (end_in vs)) vs
 
 unfoldable pub text_of_runs : RunText → List PlacedRun → List ℕ
 text_of_runs text runs = text_in text (map view_of runs)

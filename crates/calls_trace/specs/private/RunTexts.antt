@@ -4,7 +4,7 @@ use Rattle.call_book.specs.SectionView.{SectionView}
 use Rattle.calls_trace.specs.declared.replaying.ReplayPrint.{ReplayPrint}
 use Rattle.calls_trace.specs.declared.replaying.ReplayPrint.TheVariants as prints
 use Rattle.calls_trace.specs.declared.run_text.RunText.{RunText}
-use Rattle.calls_trace.specs.declared.run_text.RunText.TheVariants.{Trace, Events, Jobs, Summary}
+use Rattle.calls_trace.specs.declared.run_text.RunText.TheVariants.{Trace, Events, Jobs, Summary, Chart}
 use Rattle.calls_trace.specs.private.Replaying.{views_from, text_in}
 
 abbrev pub run_text : ReplayPrint → Option RunText
@@ -13,12 +13,14 @@ run_text prints.Replies = None
 run_text prints.Events = Some Events
 run_text prints.Jobs = Some Jobs
 run_text prints.Summary = Some Summary
+run_text (prints.Chart span) = Some (Chart span)
 
 abbrev pub tells : RunText → Bool
 tells Trace = false
 tells Events = true
 tells Jobs = true
 tells Summary = true
+tells (Chart span) = true
 
 -- that of the runs of sections
 unfoldable pub text_of_all : RunText → List SectionView → List ℕ

@@ -13,3 +13,4 @@ replay_print prints.Replies = Some replayed.Replies
 replay_print prints.Events = Some replayed.Events
 replay_print prints.Jobs = Some replayed.Jobs
 replay_print prints.Summary = Some replayed.Summary
+replay_print (prints.Chart span) = Some (replayed.Chart span)
