@@ -474,3 +474,26 @@ level_has s known none words e =
     let all = level_pass s known none [] nothing_held words false [] tt e in
     both_each (IsKnown s.rules) _ _ s.rules (λ a is has empty. has_passing s.rules a (rows_after s.rules [] words) is.by_id all (has empty))
     known (each_has s.rules (settled s.rules end).rows)
+
+-- the same of each option, where it has a text
+abbrev pub HasPassingIfAny : Rule → List Row → Type 0
+HasPassingIfAny a rows = (text : Text) → one_of a.id rows ≡ Some text → HasPassing a a.id rows
+
+one_has : (id : Text) (rows : List Row) (text : Text) → one_of id rows ≡ Some text → has_row id rows ≡ true
+one_has id [] text is = absurd (true≢false (sym (ap is_some is)))
+one_has id (r ∷ rs) text is = go (bytes_eq r.id id) (λ e. one_has id rs text e) is
+  where
+    go : (t : Bool) → (option_and_then row_text (find (λ x. bytes_eq x.id id) rs) ≡ Some text → has_row id rs ≡ true)
+        → option_and_then row_text (if t then Some r else find (λ x. bytes_eq x.id id) rs) ≡ Some text → (t || has_row id rs) ≡ true
+    go true later e = refl
+    go false later e = later e
+
+each_may : (c rest : List Rule) (rows : List Row) → RowsPass c rows → AllByRecursion (IsKnown c) rest → AllByRecursion (λ a. HasPassingIfAny a rows) rest
+each_may c [] rows all known = tt
+each_may c (a ∷ rest) rows all known = (λ text is. has_passing c a rows known.0.by_id all (one_has a.id rows text is), each_may c rest rows all known.1)
+
+pub level_may : (s : Shape) → AllByRecursion (IsKnown s.rules) s.rules → ((i : ℕ) → arg_by_index s.rules i ≡ None) → (words : List Text)
+    → level_fault s [] nothing_held words false [] ≡ []
+    → AllByRecursion (λ a. HasPassingIfAny a (rows_after s.rules [] words)) s.rules
+level_may s known none words e =
+    each_may s.rules s.rules (rows_after s.rules [] words) (level_pass s known none [] nothing_held words false [] tt e) known

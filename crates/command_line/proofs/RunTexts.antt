@@ -1,11 +1,11 @@
--- The options of `run`, and that of `replay`, have texts that they take, where clap's rules refuse no word.
+-- The options of `run` and of `replay` have texts that they take, where clap's rules refuse no word.
 use Rattle.std.proofs.Common.{◌≡◌, ◌∙◌, ◌⊎◌, ◌||◌, ℕ, true, false, List, [], ◌∷◌, map, Option, Some, None, is_some, unwrap_or, refl, sym, ap, subst, inl, inr, ⊎_elim, option_map, arith, find, codes, Bor, Result, Ok, Err, IfOk, slice_index, true≢false}
 use Rattle.std.specs.List.{AllByRecursion, list_any}
 use Rattle.std.specs.Option.{option_map_or}
 use Rattle.std.specs.Str.{bytes_eq}
 use Rattle.std.proofs.lemmas.Slice.Eq.{bytes_eq-Decides}
 use Rattle.clap.specs.Values.{read_as, reading_of}
-use Rattle.clap.specs.Words.{App, kind_of, Row, Rule, Text, built, fault_of, first_of, subcommand_of}
+use Rattle.clap.specs.Words.{App, kind_of, IsUnsignedIn, Row, Rule, Text, built, fault_of, first_of, one_of, subcommand_of}
 use Rattle.clap.specs.Facts.{parser_of_value}
 use Rattle.clap.specs.Faults.{entered_fault, level_fault, walk_fault}
 use Rattle.clap.specs.Simple.{Shape, argument_words, entered, label_of, names_of, rows_at}
@@ -17,8 +17,8 @@ use Rattle.clap.specs.declared.error.Error.{Error}
 use Rattle.clap.specs.declared.error.kind.ErrorKind.TheVariants.{OutOfMemory}
 use Rattle.clap.specs.declared.parser.matches.ArgMatches.{ArgMatches}
 use Rattle.command_line.specs.Commands.{AreHeld, AreTexts, HeldNames, program_app, replay_texts, run_texts}
-use Rattle.command_line.specs.Reading.{HasNumber, HasText, HasTextOfReplay, HasTexts, HasTextsOfRun, IsOneAt, IsReading}
-use Rattle.command_line.proofs.Passed.{HasPassing, IsKnown, found_has, level_has, neither, or_cases}
+use Rattle.command_line.specs.Reading.{HasNumber, HasReplayTexts, HasTexts, HasTextsOfReplay, HasTextsOfRun, IsMomentIfAny, IsOneAt, IsReading}
+use Rattle.command_line.proofs.Passed.{HasPassing, HasPassingIfAny, IsKnown, found_has, level_has, level_may, neither, or_cases}
 
 abbrev app : HeldNames → HeldNames → App
 app run replay = built (program_app run replay)
@@ -36,7 +36,13 @@ replay_shape run replay = shape_of (codes "replay") run replay
 known_replay : (run replay : HeldNames) → AllByRecursion (IsKnown (replay_shape run replay).rules) (replay_shape run replay).rules
 known_replay run replay = (
   record { by_id = refl; action = inl (refl, refl) },
-  (record { by_id = refl; action = inr (inr refl) }, tt),
+  (
+    record { by_id = refl; action = inl (refl, refl) },
+    (
+      record { by_id = refl; action = inl (refl, refl) },
+      (record { by_id = refl; action = inr (inr refl) }, tt),
+    ),
+  ),
 )
 
 known : (run replay : HeldNames) → AllByRecursion (IsKnown (run_shape run replay).rules) (run_shape run replay).rules
@@ -54,7 +60,13 @@ known run replay = (
             record { by_id = refl; action = inr (inl (refl, (codes "true", refl))) },
             (
               record { by_id = refl; action = inl (refl, refl) },
-              (record { by_id = refl; action = inr (inr refl) }, tt),
+              (
+                record { by_id = refl; action = inl (refl, refl) },
+                (
+                  record { by_id = refl; action = inl (refl, refl) },
+                  (record { by_id = refl; action = inr (inr refl) }, tt),
+                ),
+              ),
             ),
           ),
         ),
@@ -64,12 +76,22 @@ known run replay = (
 )
 
 -- a text that passes the test of a number option
-number_at : (rows : List Row) (a : Rule) (most : ℕ) → a.parser ≡ Some (Unsigned 1 most) → HasPassing a a.id rows → HasNumber rows a.id most
-number_at rows a most is has = (
+number_in : (rows : List Row) (a : Rule) (least most : ℕ) → a.parser ≡ Some (Unsigned least most) → HasPassing a a.id rows
+    → (text : Text) × (one_of a.id rows ≡ Some text) × IsUnsignedIn least most text
+number_in rows a least most is has = (
   has.first,
   has.one_is ∙ subst (λ p. Some (read_as (reading_of (parser_of_value p)) has.first) ≡ Some has.first) (sym is) refl,
-  accepts-Accepts a.ignore_case (Unsigned 1 most) has.first (subst (λ p. accepts a.ignore_case (parser_of_value p) has.first ≡ true) is has.passes),
+  accepts-Accepts a.ignore_case (Unsigned least most) has.first (subst (λ p. accepts a.ignore_case (parser_of_value p) has.first ≡ true) is has.passes),
 )
+
+number_at : (rows : List Row) (a : Rule) (most : ℕ) → a.parser ≡ Some (Unsigned 1 most) → HasPassing a a.id rows → HasNumber rows a.id most
+number_at rows a most is has = number_in rows a 1 most is has
+
+-- the same of an option without a default, where it has a text
+moment_at : (rows : List Row) (a : Rule) → a.parser ≡ Some (Unsigned 0 4398046511104) → HasPassingIfAny a rows → IsMomentIfAny rows a.id
+moment_at rows a is has text at =
+    let number = number_in rows a 0 4398046511104 is (has text at) in
+    subst (λ t. IsUnsignedIn 0 4398046511104 t) (ap (λ (o : Option Text). unwrap_or o text) (sym number.1 ∙ at)) number.2
 
 -- a test of texts passes one of them
 one_among : (rows : List Row) (name text : Text) (texts : List Text) → first_of name rows ≡ Some text → list_any (λ t. bytes_eq t text) texts ≡ true → IsOneAt rows name texts
@@ -95,6 +117,7 @@ run_has : (run replay : HeldNames) → AreHeld run replay → (words : List Text
 run_has run replay held words e =
     let rows = rows_after (run_shape run replay).rules [] words in
     let has = level_has (run_shape run replay) (known run replay) (λ i. refl) words e in
+    let may = level_may (run_shape run replay) (known run replay) (λ i. refl) words e in
     let domains = has.0 refl in
     let reclaim = has.1.1.1.1.1.0 refl in
     let print = has.1.1.1.1.1.1.0 refl in
@@ -107,17 +130,24 @@ run_has run replay held words e =
       reclaim = ⊎_elim (λ is. inl (reclaim.one_is ∙ ap (λ t. Some t) is)) (λ is. inr (reclaim.one_is ∙ ap (λ t. Some t) is))
           (is_bool reclaim.first reclaim.passes);
       print = held_at rows (codes "print") print.first run_texts run held.of_run print.first_is print.passes;
+      from = moment_at rows _ refl may.1.1.1.1.1.1.1.0;
+      to = moment_at rows _ refl may.1.1.1.1.1.1.1.1.0;
     }
   where
     is_bool : (text : Text) → (bytes_eq text (codes "true") || bytes_eq text (codes "false")) ≡ true → (text ≡ codes "true") ⊎ (text ≡ codes "false")
     is_bool text e = ⊎_elim (λ t. inl ((bytes_eq-Decides text (codes "true")).0 t)) (λ f. inr ((bytes_eq-Decides text (codes "false")).0 f)) (or_cases (bytes_eq text (codes "true")) _ e)
 
 replay_has : (run replay : HeldNames) → AreHeld run replay → (words : List Text) → level_fault (replay_shape run replay) [] nothing_held words false [] ≡ []
-    → HasText (rows_after (replay_shape run replay).rules [] words)
+    → HasReplayTexts (rows_after (replay_shape run replay).rules [] words)
 replay_has run replay held words e =
     let rows = rows_after (replay_shape run replay).rules [] words in
     let print = (level_has (replay_shape run replay) (known_replay run replay) (λ i. refl) words e).0 refl in
-    record { print = held_at rows (codes "print") print.first replay_texts replay held.of_replay print.first_is print.passes }
+    let may = level_may (replay_shape run replay) (known_replay run replay) (λ i. refl) words e in
+    record {
+      print = held_at rows (codes "print") print.first replay_texts replay held.of_replay print.first_is print.passes;
+      from = moment_at rows _ refl may.1.0;
+      to = moment_at rows _ refl may.1.1.0;
+    }
 
 -- what a command of this name has
 abbrev HasThen : Text → (List Row → Type 0) → Shape → Type 0
@@ -135,7 +165,7 @@ each_run run replay held = (
   ),
 )
 
-each_replay : (run replay : HeldNames) → AreHeld run replay → AllByRecursion (HasThen (codes "replay") HasText) (app run replay).subs
+each_replay : (run replay : HeldNames) → AreHeld run replay → AllByRecursion (HasThen (codes "replay") HasReplayTexts) (app run replay).subs
 each_replay run replay held = (
   λ words name e. let bad : 117 ≡ 101 = ap (λ xs. slice_index xs 1) name in absurd (omega arith),
   (
@@ -175,8 +205,8 @@ pub reading_has : (words : List Text) (r : Result ArgMatches Error) → IsReadin
 reading_has words (Ok m) reading = λ rows is. found_at reading.run reading.replay (codes "run") HasTexts (each_run reading.run reading.replay reading.are_held) words rows (sym reading.found ∙ is) reading.refused
 reading_has words (Err e) reading = tt
 
-pub reading_has_replay : (words : List Text) (r : Result ArgMatches Error) → IsReading words r → IfOk r HasTextOfReplay
-reading_has_replay words (Ok m) reading = λ rows is. found_at reading.run reading.replay (codes "replay") HasText (each_replay reading.run reading.replay reading.are_held) words rows (sym reading.found ∙ is) reading.refused
+pub reading_has_replay : (words : List Text) (r : Result ArgMatches Error) → IsReading words r → IfOk r HasTextsOfReplay
+reading_has_replay words (Ok m) reading = λ rows is. found_at reading.run reading.replay (codes "replay") HasReplayTexts (each_replay reading.run reading.replay reading.are_held) words rows (sym reading.found ∙ is) reading.refused
 reading_has_replay words (Err e) reading = tt
 
 -- words are read where memory runs out before them

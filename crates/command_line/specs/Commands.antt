@@ -21,13 +21,14 @@ AreTexts texts names = map (λ name. name.now) names.now ≡ texts
 -- what `--print` of `run` takes
 abbrev pub run_texts : List Text
 run_texts =
-    codes "trace" ∷ codes "calls" ∷ codes "replies"
-    ∷ codes "events" ∷ codes "jobs" ∷ codes "summary" ∷ []
+    codes "trace" ∷ codes "calls" ∷ codes "replies" ∷ codes "events"
+    ∷ codes "jobs" ∷ codes "summary" ∷ codes "chart" ∷ []
 
 -- what `--print` of `replay` takes
 abbrev pub replay_texts : List Text
 replay_texts =
-    codes "trace" ∷ codes "replies" ∷ codes "events" ∷ codes "jobs" ∷ codes "summary" ∷ []
+    codes "trace" ∷ codes "replies" ∷ codes "events"
+    ∷ codes "jobs" ∷ codes "summary" ∷ codes "chart" ∷ []
 
 -- the names that clap holds for the two
 pub record AreHeld (run replay : HeldNames) : Type 0 where
@@ -51,6 +52,15 @@ print_option names = record (option (codes "print") (codes "trace")) { parser = 
 abbrev pub flag : Text → Rule
 flag name = record (new_rule name) { long = Some name; action = Some SetTrue }
 
+-- an option whose value passes a test, and which has no default
+abbrev pub tested : Text → ValueParser → Rule
+tested name test =
+    record (new_rule name) { long = Some name; value_names = 1; parser = Some test }
+
+-- a time of a run, in microseconds
+abbrev pub moment : Text → Rule
+moment name = tested name (Unsigned 0 4398046511104)
+
 -- the options of `run`
 abbrev pub run_options : HeldNames → List Rule
 run_options names =
@@ -61,24 +71,26 @@ run_options names =
     ∷ counted (codes "workers") 8 (codes "1")
     ∷ flag (codes "reclaim")
     ∷ print_option names
+    ∷ moment (codes "from")
+    ∷ moment (codes "to")
     ∷ []
 
 -- `dlsim run`
 abbrev pub run_app : HeldNames → App
 run_app names = fold with_rule (new_app (codes "run")) (run_options names)
 
--- `dlsim replay`, whose one option is `--print`
+-- the options of `replay`
+abbrev pub replay_options : HeldNames → List Rule
+replay_options names =
+    print_option names ∷ moment (codes "from") ∷ moment (codes "to") ∷ []
+
+-- `dlsim replay`
 abbrev pub replay_app : HeldNames → App
-replay_app names = with_rule (new_app (codes "replay")) (print_option names)
+replay_app names = fold with_rule (new_app (codes "replay")) (replay_options names)
 
 -- a file, named by its place among the words, which has to be there
 abbrev pub file : Text → Rule
 file name = record (new_rule name) { value_names = 1; required = true }
-
--- an option whose value passes a test, and which has no default
-abbrev pub tested : Text → ValueParser → Rule
-tested name test =
-    record (new_rule name) { long = Some name; value_names = 1; parser = Some test }
 
 -- the files and the options of `compare`; times are in microseconds
 abbrev pub compare_options : List Rule

@@ -15,7 +15,13 @@ IsOneAt rows name [] = ⊥
 IsOneAt rows name (text ∷ texts) =
     (first_of name rows ≡ Some text) ⊎ IsOneAt rows name texts
 
--- each option of `run` has a text that it takes, be it of the words or its default
+-- at the option is no text, or one that spells a time of a run
+abbrev pub IsMomentIfAny : List Row → Text → Type 0
+IsMomentIfAny rows name =
+    (text : Text) → one_of name rows ≡ Some text → IsUnsignedIn 0 4398046511104 text
+
+-- each option of `run` has a text that it takes, be it of the words or its default; those without a
+-- default have one or none
 pub record HasTexts (rows : List Row) : Type 0 where
   pub domains : (text : Text) × (first_of (codes "domains") rows ≡ Some text)
   pub rt_runtime : HasNumber rows (codes "rt-runtime") 1000000000
@@ -25,10 +31,14 @@ pub record HasTexts (rows : List Row) : Type 0 where
   pub reclaim : (one_of (codes "reclaim") rows ≡ Some (codes "true"))
       ⊎ (one_of (codes "reclaim") rows ≡ Some (codes "false"))
   pub print : IsOneAt rows (codes "print") run_texts
+  pub from : IsMomentIfAny rows (codes "from")
+  pub to : IsMomentIfAny rows (codes "to")
 
--- and that of `replay` has one
-pub record HasText (rows : List Row) : Type 0 where
+-- and so have those of `replay`
+pub record HasReplayTexts (rows : List Row) : Type 0 where
   pub print : IsOneAt rows (codes "print") replay_texts
+  pub from : IsMomentIfAny rows (codes "from")
+  pub to : IsMomentIfAny rows (codes "to")
 
 -- the command that the words name and what is found for each of its options are what clap's rules
 -- give for the words, of which the first is the program's name; where it is refused, clap's rules
@@ -46,6 +56,6 @@ HasTextsOfRun m =
     (rows : List Row) → subcommand_rows_of m ≡ Some (codes "run", rows) → HasTexts rows
 
 -- what is found for `replay`
-abbrev pub HasTextOfReplay : ArgMatches → Type 0
-HasTextOfReplay m =
-    (rows : List Row) → subcommand_rows_of m ≡ Some (codes "replay", rows) → HasText rows
+abbrev pub HasTextsOfReplay : ArgMatches → Type 0
+HasTextsOfReplay m =
+    (rows : List Row) → subcommand_rows_of m ≡ Some (codes "replay", rows) → HasReplayTexts rows

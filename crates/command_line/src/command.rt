@@ -3,12 +3,12 @@
 ghost use Rattle.std.specs.Prelude.{◌≡◌, ◌^◌, neg_ℤ, pos, IfOk, Some, codes, false};
 ghost use Rattle.clap.specs.declared.builder.value_parser.ValueParser.TheVariants.{Signed, Unsigned};
 ghost use Rattle.clap.specs.Words.{rule_of};
-ghost use Rattle.command_line.specs.Commands.{AreTexts, HeldNames, IsCompare, IsProgram, IsReplay, IsRun, counted, file, flag, option, print_option, replay_texts, run_texts, tested};
+ghost use Rattle.command_line.specs.Commands.{AreTexts, HeldNames, IsCompare, IsProgram, IsReplay, IsRun, counted, file, flag, moment, option, print_option, replay_texts, run_texts, tested};
 
 use crate::texts::{
-    ABOUT, ABOUT_END, CLIENTS_HELP, COMPARE_ABOUT, COMPARE_END, CPUS_HELP, DOMAINS_HELP,
+    ABOUT, ABOUT_END, CLIENTS_HELP, COMPARE_ABOUT, COMPARE_END, CPUS_HELP, DOMAINS_HELP, FROM_HELP,
     MODEL_HELP, NOISE_HELP, PERIOD_HELP, PRINT_HELP, RECLAIM_HELP, RECORDED_HELP, REPLAY_ABOUT,
-    REPLAY_END, RUN_ABOUT, RUN_END, RUNTIME_HELP, SHIFT_HELP, WITHIN_HELP, WORKERS_HELP,
+    REPLAY_END, RUN_ABOUT, RUN_END, RUNTIME_HELP, SHIFT_HELP, TO_HELP, WITHIN_HELP, WORKERS_HELP,
 };
 use clap::builder::ValueParser;
 use clap::{Arg, ArgAction, Command};
@@ -16,6 +16,9 @@ use std::alloc::{AllocError, Global};
 
 /// The most microseconds that `--rt-runtime` and `--rt-period` take.
 pub const MOST_TIME: u64 = 1000000000;
+
+/// The last microsecond of a run that `--from` and `--to` can name: 2^42.
+pub const LAST_MOMENT: u64 = 1 << 42;
 
 /// The least and the most microseconds that `--shift` takes: 2^60 to either side.
 pub const LEAST_SHIFT: i64 = -(1 << 60);
@@ -29,9 +32,11 @@ pub const MOST_CLIENTS: u64 = 64;
 /// How many workers may compute a domain.
 pub const MOST_WORKERS: u64 = 8;
 
-const RUN_TEXTS: [&str; 6] = ["trace", "calls", "replies", "events", "jobs", "summary"];
+const RUN_TEXTS: [&str; 7] = [
+    "trace", "calls", "replies", "events", "jobs", "summary", "chart",
+];
 
-const REPLAY_TEXTS: [&str; 5] = ["trace", "replies", "events", "jobs", "summary"];
+const REPLAY_TEXTS: [&str; 6] = ["trace", "replies", "events", "jobs", "summary", "chart"];
 
 /// An option with one value, which has a default.
 fn option<'a>(
@@ -113,6 +118,14 @@ fn tested<'a>(alloc: Global, name: &'a str, test: ValueParser<'a>, help: &'a str
         .value_parser(test)
 }
 
+/// An option that names a time of the run.
+fn moment<'a>(alloc: Global, name: &'a str, help: &'a str) -> Arg<'a>
+    ensures rule { rule_of result ≡ moment name.now }
+    ensures local { result.global ≡ false }
+{
+    tested(alloc, name, ValueParser::unsigned(0, LAST_MOMENT), help)
+}
+
 /// The option that says how near a match is.
 fn within<'a>(alloc: Global) -> Arg<'a>
     ensures rule { rule_of result ≡ record (option (codes "within") (codes "1000"))
@@ -157,7 +170,9 @@ fn run_command<'a>(alloc: Global) -> Result<Command<'a>, AllocError>
         .arg(counted(alloc, "clients", MOST_CLIENTS, "1", CLIENTS_HELP))?
         .arg(counted(alloc, "workers", MOST_WORKERS, "1", WORKERS_HELP))?
         .arg(flag(alloc, "reclaim", RECLAIM_HELP))?
-        .arg(print_run(alloc))
+        .arg(print_run(alloc))?
+        .arg(moment(alloc, "from", FROM_HELP))?
+        .arg(moment(alloc, "to", TO_HELP))
 }
 
 /// The command that replays recorded calls.
@@ -167,7 +182,9 @@ fn replay_command<'a>(alloc: Global) -> Result<Command<'a>, AllocError>
     Command::new(alloc, "replay")
         .about(REPLAY_ABOUT)
         .after_help(REPLAY_END)
-        .arg(print_replay(alloc))
+        .arg(print_replay(alloc))?
+        .arg(moment(alloc, "from", FROM_HELP))?
+        .arg(moment(alloc, "to", TO_HELP))
 }
 
 /// The command that compares two traces.

@@ -12,5 +12,5 @@ mod command;
 mod reading;
 mod texts;
 
-pub use command::{LEAST_SHIFT, MOST_CLIENTS, MOST_SHIFT, MOST_TIME, MOST_WORKERS};
+pub use command::{LAST_MOMENT, LEAST_SHIFT, MOST_CLIENTS, MOST_SHIFT, MOST_TIME, MOST_WORKERS};
 pub use reading::{matches_of, not_utf8};

@@ -3,7 +3,7 @@
 ghost use Rattle.std.specs.Prelude.{◌≡◌, IfOk, map, string_bytes};
 ghost use Rattle.clap.specs.Words.{kind_of};
 ghost use Rattle.clap.specs.declared.error.kind.ErrorKind.TheVariants.{InvalidValue};
-ghost use Rattle.command_line.specs.Reading.{HasTextOfReplay, HasTextsOfRun, IsReading};
+ghost use Rattle.command_line.specs.Reading.{HasTextsOfReplay, HasTextsOfRun, IsReading};
 
 use crate::command::program;
 use clap::error::ErrorKind;
@@ -21,7 +21,7 @@ use std::alloc::{AllocError, Global};
 pub fn matches_of<'a>(alloc: Global, words: &'a [String]) -> Result<ArgMatches<'a>, Error>
     ensures reading { IsReading (map string_bytes words.now) result }
     ensures texts { IfOk result HasTextsOfRun }
-    ensures text { IfOk result HasTextOfReplay }
+    ensures replay_texts { IfOk result HasTextsOfReplay }
 {
     program(alloc)?.try_get_matches_from(words)
 }

@@ -1,16 +1,18 @@
 //! The texts of `--help`.
 
 pub(crate) const ABOUT: &str =
-    "A model of Linux SCHED_DEADLINE: deadline tasks in, trace and figures out";
+    "A model of Linux SCHED_DEADLINE: deadline tasks in, trace, figures and chart out";
 
 pub(crate) const ABOUT_END: &str = "\
 `dlsim run` reads an rt-app file, `dlsim replay` recorded calls, both from
 standard input. Both write a trace, with the lines of ftrace's event
-sched_switch, or with `--print` another text, as who was late and by how much.
+sched_switch, or with `--print` another text, as who was late and by how much,
+or a picture of who ran where.
 `dlsim compare` sets a trace beside one that a kernel recorded.
 
   dlsim run < examples/periodic.json
   dlsim run --print summary < examples/periodic.json
+  dlsim run --print chart < examples/periodic.json > periodic.svg
   dlsim replay < examples/reclaiming.calls
   dlsim compare model.txt recorded.txt
 
@@ -20,7 +22,7 @@ nothing was written, unless that line says `write failed after N`.
 docs/FORMATS.md explains every option, format and message.";
 
 pub(crate) const REPLAY_ABOUT: &str =
-    "Runs recorded calls and writes their trace, replies, jobs or figures";
+    "Runs recorded calls and writes their trace, replies, figures or chart";
 
 pub(crate) const REPLAY_END: &str = "\
 In:  a calls text on standard input: the line `dlcalls 1`, then for each root
@@ -35,16 +37,21 @@ Out: the text that --print names, of all domains:
      jobs     a line for each job: its release, end, response time and slack
      summary  a table each of the tasks, the CPUs and the domains: late jobs,
               response times, throttles, CPU time, bandwidth
+     chart    an SVG picture, for a browser: where each task ran, wanted a CPU
+              or was throttled, and when its jobs were released and due; the
+              part of the run from --from to --to
 
   dlsim replay < examples/reclaiming.calls
   dlsim replay --print replies < examples/rounding-down.calls
+  dlsim replay --print chart < examples/two-cpus.calls > two-cpus.svg
 
 Exit status: 0 done; 1 `dlsim: calls 30 line N`, the first bad line; 2 wrong
-words; 3 `dlsim: read failed` or `dlsim: write failed after N`; 4 `dlsim: out
-of memory`. docs/FORMATS.md explains the format and the messages.";
+words, `dlsim: empty window` or `dlsim: no chart to cut`; 3 `dlsim: read failed`
+or `dlsim: write failed after N`; 4 `dlsim: out of memory`.
+docs/FORMATS.md explains the format and the messages.";
 
 pub(crate) const RUN_ABOUT: &str =
-    "Runs an rt-app scenario and writes its trace, calls, jobs or figures";
+    "Runs an rt-app scenario and writes its trace, calls, figures or chart";
 
 pub(crate) const RUN_END: &str = "\
 In:  an rt-app file (JSON) on standard input: `tasks` with the policy
@@ -62,17 +69,21 @@ Out: the text that --print names, of all domains:
      jobs     a line for each job: its release, end, response time and slack
      summary  a table each of the tasks, the CPUs and the domains: late jobs,
               response times, throttles, CPU time, bandwidth
+     chart    an SVG picture, for a browser: where each task ran, wanted a CPU
+              or was throttled, and when its jobs were released and due; the
+              part of the run from --from to --to
 Err: a line for each task that was not admitted, as
      `dlsim: task 4 EBUSY 16 seen 1572864`; the others run.
 
   dlsim run --domains 2 < examples/race.json > race.txt
   dlsim run --print summary < examples/periodic.json
+  dlsim run --print chart --to 100000 < examples/periodic.json > periodic.svg
 
 Exit status: 0 done, refused tasks or not; 1 the input is no JSON (`dlsim: json
 KIND at BYTE`) or no scenario (`dlsim: scenario 22 key resources`); 2 wrong
-words, `dlsim: bad list` or `dlsim: limit out of range`; 3 `dlsim: read failed`,
-`dlsim: write failed after N`, `dlsim: no thread` or `dlsim: book full`;
-4 `dlsim: out of memory`.
+words, `dlsim: empty window`, `dlsim: no chart to cut`, `dlsim: bad list` or
+`dlsim: limit out of range`; 3 `dlsim: read failed`, `dlsim: write failed after
+N`, `dlsim: no thread` or `dlsim: book full`; 4 `dlsim: out of memory`.
 docs/FORMATS.md explains the options, the keys and the messages.";
 
 pub(crate) const DOMAINS_HELP: &str = "\
@@ -99,6 +110,14 @@ Every task reclaims unused bandwidth (GRUB, SCHED_FLAG_RECLAIM); without it
 none does";
 
 pub(crate) const PRINT_HELP: &str = "Which of the texts under `Out:` is written\n";
+
+pub(crate) const FROM_HELP: &str = "\
+The microsecond of the run at which a chart begins, 0 to 4398046511104
+[default: 0]";
+
+pub(crate) const TO_HELP: &str = "\
+The microsecond at which it ends, 1 to 4398046511104 and above --from
+[default: the end of the run]";
 
 pub(crate) const COMPARE_ABOUT: &str = "Sets a recorded trace beside the model's";
 

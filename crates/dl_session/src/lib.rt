@@ -42,4 +42,6 @@ pub use session::{
     AllPass, Answer, Client, Names, Options, Parts, Print, Refusal, Report, Session, Shared,
     Shares, Turnstile,
 };
-pub use words::{Words, WordsFault, read_limit, read_list, read_options};
+pub use words::{
+    SpanWords, Words, WordsFault, read_limit, read_list, read_options, read_span, read_uncut,
+};

@@ -7,9 +7,10 @@ ghost use Rattle.std.specs.List.{slice_split};
 ghost use Rattle.domain_run.specs.Domain.{IsCpus, IsLimit};
 ghost use Rattle.session.specs.Options.{AreOptions};
 ghost use Rattle.dl_session.specs.Words.{is_comma, IsList, limit_of};
-ghost use Rattle.dl_session.specs.Words.{AreMeant, IsWordsFault, words_status};
+ghost use Rattle.dl_session.specs.Words.{AreMeant, IsAsAsked, IsWordsFault, span_of, uncut, words_status};
 
 use attr_check::to_ratio;
+use chart_pieces::Span;
 use session::{Options, Print};
 use std::alloc::{AllocError, Global};
 use std::fmt;
@@ -19,6 +20,9 @@ const MOST_DOMAINS: usize = 8;
 
 /// How many calls the history of each domain has room for.
 const HISTORY: usize = 1024;
+
+/// The last microsecond of a run that a chart can show.
+const LAST_MOMENT: u64 = 1 << 42;
 
 /// The words that say how a scenario is run, as a command line has them.
 #[derive(Clone, Copy, Debug)]
@@ -41,9 +45,23 @@ pub struct Words<'a> {
     pub print: Print,
 }
 
+/// The words that say which part of a run a chart shows, as a command line has them. Times are in
+/// microseconds.
+#[derive(Clone, Copy, Debug, PartialEq, Eq)]
+pub struct SpanWords {
+    /// Where the part begins, if that is said.
+    pub from: Option<u64>,
+    /// Where it ends, if that is said.
+    pub to: Option<u64>,
+}
+
 /// Why words give no options.
 #[derive(Clone, Copy, Debug, PartialEq, Eq)]
 pub enum WordsFault {
+    /// The part of the run that a chart is to show does not begin before it ends.
+    Window,
+    /// A part of the run is asked for, and what is written is no chart.
+    NoChart,
     /// The domains are no list of numbers of CPUs.
     List,
     /// The limit is none from a hundredth of a CPU to the whole.
@@ -58,7 +76,7 @@ impl WordsFault {
         ensures { result ≡ words_status self }
     {
         match self {
-            WordsFault::List | WordsFault::Limit => 2,
+            WordsFault::Window | WordsFault::NoChart | WordsFault::List | WordsFault::Limit => 2,
             WordsFault::Memory => 4,
         }
     }
@@ -72,6 +90,8 @@ impl fmt::Display for WordsFault {
 
     fn fmt<W: fmt::Write>(&self, f: &mut fmt::Formatter<W>) -> fmt::Result {
         f.write_str(match self {
+            WordsFault::Window => "empty window",
+            WordsFault::NoChart => "no chart to cut",
             WordsFault::List => "bad list",
             WordsFault::Limit => "limit out of range",
             WordsFault::Memory => "out of memory",
@@ -133,6 +153,8 @@ pub fn read_list(alloc: Global, text: &str) -> Result<Vec<u32>, WordsFault>
     ensures ok { IfOk result (λ list. IsList text.now list.items) }
     ensures bad { IsErrOf result WordsFault.List → (cpus : List ℕ) → IsList text.now cpus → ⊥ }
     ensures other { IsErrOf result WordsFault.Limit → ⊥ }
+    ensures window { IsErrOf result WordsFault.Window → ⊥ }
+    ensures no_chart { IsErrOf result WordsFault.NoChart → ⊥ }
 {
     let pieces = pieces_of(alloc, text)?;
     if pieces.len() > MOST_DOMAINS {
@@ -159,6 +181,39 @@ pub fn read_limit(rt_runtime: u64, rt_period: u64) -> Option<u64>
         return None;
     }
     Some(to_ratio(rt_period, rt_runtime))
+}
+
+/// The part of a run that the words ask for. Where they do not say so, it begins with the run, and ends
+/// with it.
+///
+/// # Errors
+/// [`WordsFault::Window`]: the part does not begin before it ends, or before 2^42 us where no end is
+/// said; or it ends behind 2^42 us.
+pub fn read_span(words: SpanWords) -> Result<Span, WordsFault>
+    ensures span { result ≡ span_of words }
+    ensures shown { IfOk result IsAsAsked }
+{
+    let from = words.from.unwrap_or(0);
+    let last = words.to.unwrap_or(LAST_MOMENT);
+    if from < last && last <= LAST_MOMENT {
+        Ok(Span { from, to: words.to })
+    } else {
+        Err(WordsFault::Window)
+    }
+}
+
+/// That the words ask for no part of a run, as it is to be where what is written is no chart.
+///
+/// # Errors
+/// [`WordsFault::NoChart`]: they ask for one.
+pub fn read_uncut(words: SpanWords) -> Result<(), WordsFault>
+    ensures { result ≡ uncut words }
+{
+    if words.from.is_none() && words.to.is_none() {
+        Ok(())
+    } else {
+        Err(WordsFault::NoChart)
+    }
 }
 
 /// The options that the words mean; each history has room for 1024 calls.

@@ -3,7 +3,7 @@ use Rattle.std.specs.Prelude.{◌≡◌, ◌≢◌, ◌≤◌, ◌^◌, ◌≤�
 use Rattle.std.specs.Str.Parse.{IsNumeral, signed_digits_value, without_leading_sign}
 use Rattle.std.specs.Int.{w64}
 use Rattle.clap.specs.Words.{Row, one_of}
-use Rattle.dlsim.specs.Found.{IsFlagAt, IsTextAt, Spells}
+use Rattle.dlsim.specs.Found.{IsFlagAt, IsReadAt, IsTextAt}
 use Rattle.compare_report.specs.declared.options.CompareOptions.{CompareOptions}
 use Rattle.dlsim.specs.declared.comparison.Comparison.{Comparison}
 use Rattle.dlsim.specs.declared.comparison.Source.{Source}
@@ -19,13 +19,6 @@ pub record IsSourceAt (rows : List Row) (name : List ℕ) (source : Source) : Ty
   pub text : List ℕ
   pub at : IsTextAt rows name text
   pub is : IsSource text source
-
--- the number that an option's text spells; none where there is no text, or it spells no number
-pub record IsReadAt (rows : List Row) (name : List ℕ) (o : Option ℕ) : Type 0 where
-  pub absent : one_of name rows ≡ None → o ≡ None
-  pub spelled : (text : List ℕ) (v : ℕ) → one_of name rows ≡ Some text → Spells text v → o ≡ Some v
-  pub other : (text : List ℕ) → one_of name rows ≡ Some text → ((v : ℕ) → Spells text v → ⊥)
-      → o ≡ None
 
 -- at most 10^9
 abbrev pub cut : ℕ → ℕ

@@ -2,12 +2,12 @@
 use Rattle.std.specs.Prelude.{◌≡◌, ◌≢◌, ◌⊎◌, ℕ, false, List, Option, Some, Result, IfErr, IfOk, codes, option_map}
 use Rattle.clap.specs.Words.{App, HasKind, Row, Text, fault_of, subcommand_of}
 use Rattle.command_line.specs.Commands.{AreHeld, HeldNames, program_app}
-use Rattle.command_line.specs.Reading.{HasText, HasTexts}
+use Rattle.command_line.specs.Reading.{HasReplayTexts, HasTexts}
 use Rattle.session.specs.Options.{AreOptions}
 use Rattle.dl_session.specs.declared.words.WordsFault.{WordsFault}
 use Rattle.dl_session.specs.declared.words.WordsFault.TheVariants.{Memory}
 use Rattle.dlsim.specs.Comparing.{IsComparisonAt, IsWithItself, shares_stdin, AreFit}
-use Rattle.dlsim.specs.Found.{AreMeantBy, IsFaultOf, IsReplayPrintAt}
+use Rattle.dlsim.specs.Found.{AreMeantBy, IsCutFault, IsFaultOf, IsReplayPrintAt}
 use Rattle.dlsim.specs.declared.words.Task.{Task}
 use Rattle.dlsim.specs.declared.words.Task.TheVariants.{Compare, Replay, Run}
 use Rattle.dlsim.specs.declared.words.Wrong.{Wrong}
@@ -41,6 +41,12 @@ IsRunBy rows (Run options) = AreMeantBy rows options
 IsRunBy rows (Replay print) = ⊥
 IsRunBy rows (Compare comparison) = ⊥
 
+-- a replay, which prints what the words at the options of `replay` say
+abbrev pub IsReplayBy : List Row → Task → Type 0
+IsReplayBy rows (Replay print) = IsReplayPrintAt rows print
+IsReplayBy rows (Run options) = ⊥
+IsReplayBy rows (Compare comparison) = ⊥
+
 -- a comparison, with the traces and numbers at the options of `compare`
 abbrev pub IsComparisonBy : List Row → Task → Type 0
 IsComparisonBy rows (Compare comparison) = IsComparisonAt rows comparison
@@ -62,6 +68,13 @@ IsRunRefusedBy rows (wrong.Options fault) = IsFaultOf rows fault
 IsRunRefusedBy rows (wrong.Clap error) = ⊥
 IsRunRefusedBy rows wrong.BothStdin = ⊥
 
+-- with those at the options of `replay`: they ask for no part that a chart can show, or for one beside
+-- another text
+abbrev pub IsReplayRefusedBy : List Row → Wrong → Type 0
+IsReplayRefusedBy rows (wrong.Options fault) = IsCutFault rows fault
+IsReplayRefusedBy rows (wrong.Clap error) = ⊥
+IsReplayRefusedBy rows wrong.BothStdin = ⊥
+
 -- with those at the options of `compare`: both traces are standard input, or there was no memory to
 -- copy them
 abbrev pub IsComparisonRefusedBy : List Row → Wrong → Type 0
@@ -69,11 +82,12 @@ IsComparisonRefusedBy rows (wrong.Options fault) = fault ≡ Memory
 IsComparisonRefusedBy rows (wrong.Clap error) = ⊥
 IsComparisonRefusedBy rows wrong.BothStdin = IsWithItself rows
 
--- with those of either
+-- with those of the command that was found
 abbrev pub IsRefusedBy : Command → Wrong → Type 0
 IsRefusedBy command w =
     ((rows : List Row) × (command ≡ Some (codes "run", rows)) × IsRunRefusedBy rows w)
-    ⊎ ((rows : List Row) × (command ≡ Some (codes "compare", rows)) × IsComparisonRefusedBy rows w)
+    ⊎ (((rows : List Row) × (command ≡ Some (codes "compare", rows)) × IsComparisonRefusedBy rows w)
+    ⊎ ((rows : List Row) × (command ≡ Some (codes "replay", rows)) × IsReplayRefusedBy rows w))
 
 -- what is wrong: clap's rules refuse the words, or memory ran out; or they accept them, and the words
 -- at the options of the command are refused
@@ -99,5 +113,5 @@ pub record IsAskedBy (words : List Text) (r : Result Task Wrong) : Type 0 where
   pub taken_by_replay : IfOk r
       (λ task. (rows : List Row)
       → subcommand_of (program_app run replay) words ≡ Some (codes "replay", rows)
-      → HasText rows)
+      → HasReplayTexts rows)
   pub wrong : IfErr r (IsWrong (program_app run replay) words)

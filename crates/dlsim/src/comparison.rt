@@ -2,9 +2,9 @@
 
 ghost use Rattle.std.specs.Prelude.{◌≡◌, ◌≤◌, ℕ, IfOk, IfSome, List, None, Some, codes};
 ghost use Rattle.clap.specs.Words.{first_value, found_of, rows_of};
-ghost use Rattle.dlsim.specs.Comparing.{AreFit, AreOptionsAt, IsComparisonAt, IsOptionalAt, IsReadAt, IsShift, IsShiftAt, IsSignedAt, IsSource, IsTimeAt, cut, shares_stdin};
+ghost use Rattle.dlsim.specs.Comparing.{AreFit, AreOptionsAt, IsComparisonAt, IsOptionalAt, IsShift, IsShiftAt, IsSignedAt, IsSource, IsTimeAt, cut, shares_stdin};
 
-use crate::words::text_of;
+use crate::words::{read_at, text_of};
 use clap::ArgMatches;
 use command_line::{LEAST_SHIFT, MOST_SHIFT, MOST_TIME};
 use dl_session::CompareOptions;
@@ -42,14 +42,7 @@ fn source_of(alloc: Global, text: &str) -> Result<Source, AllocError>
     }
 }
 
-/// The number at an option, where it has one.
-fn read_at(found: &ArgMatches<'_>, name: &str) -> Option<u64>
-    ensures { IsReadAt (rows_of (found_of found.now)) name.now result }
-{
-    found.get_one::<u64>(name)
-}
-
-/// The same of a number with a sign.
+/// The number at an option that may be below zero, where it has one.
 fn signed_at(found: &ArgMatches<'_>, name: &str) -> Option<i64>
     ensures { IsSignedAt (rows_of (found_of found.now)) name.now result }
 {

@@ -3,13 +3,15 @@
 ghost use Rattle.std.specs.Prelude.{◌≡◌, ◌<◌, ◌≤◌, List, Some, IfErr, IfOk, codes, map, string_bytes};
 ghost use Rattle.clap.specs.Words.{Row, found_of, rows_of, subcommand_name_of, subcommand_rows_of};
 ghost use Rattle.session.specs.Options.{AreOptions};
-ghost use Rattle.dlsim.specs.Found.{AreFound, AreMeantBy, IsFaultOf, IsNumberAt, IsPrintAt, IsReplayPrintAt, IsTextAt};
-ghost use Rattle.dlsim.specs.Tasks.{IsAskedBy, IsComparisonBy, IsComparisonRefusedBy, IsFit, IsMeant, IsRefusedBy, IsRunBy, IsRunRefusedBy, IsTaskOf};
+ghost use Rattle.dlsim.specs.Found.{AreFound, AreMeantBy, AreSpanWordsAt, IsCutFault, IsFaultOf, IsNumberAt, IsPrintAt, IsReadAt, IsReplayPrintAt, IsTextAt};
+ghost use Rattle.dlsim.specs.Tasks.{IsAskedBy, IsComparisonBy, IsComparisonRefusedBy, IsFit, IsMeant, IsRefusedBy, IsReplayBy, IsReplayRefusedBy, IsRunBy, IsRunRefusedBy, IsTaskOf};
 
 use crate::comparison::{Comparison, comparison_of, shares_stdin};
 use clap::{ArgMatches, Error};
 use command_line::{MOST_CLIENTS, MOST_TIME, MOST_WORKERS, matches_of, not_utf8};
-use dl_session::{Options, Print, ReplayPrint, Words, WordsFault, read_options};
+use dl_session::{
+    Options, Print, ReplayPrint, SpanWords, Words, WordsFault, read_options, read_span, read_uncut,
+};
 use std::alloc::{AllocError, Global};
 use std::env::{self, Env};
 use std::io;
@@ -70,6 +72,13 @@ fn number(found: &ArgMatches<'_>, name: &str, most: u64) -> u64
     found.get_one::<u64>(name).unwrap_or(1).clamp(1, most)
 }
 
+/// The number at an option, where it has one.
+pub(crate) fn read_at(found: &ArgMatches<'_>, name: &str) -> Option<u64>
+    ensures { IsReadAt (rows_of (found_of found.now)) name.now result }
+{
+    found.get_one::<u64>(name)
+}
+
 /// The text at an option; the empty text where it has none, which clap does not let come.
 pub(crate) fn text_of<'a>(found: &ArgMatches<'a>, name: &str) -> &'a str
     ensures { IsTextAt (rows_of (found_of found.now)) name.now result.now }
@@ -80,74 +89,100 @@ pub(crate) fn text_of<'a>(found: &ArgMatches<'a>, name: &str) -> &'a str
     }
 }
 
+/// The words that say which part of the run is drawn.
+fn span_words_of(found: &ArgMatches<'_>) -> SpanWords
+    ensures { AreSpanWordsAt (rows_of (found_of found.now)) result }
+{
+    SpanWords {
+        from: read_at(found, "from"),
+        to: read_at(found, "to"),
+    }
+}
+
 /// What is printed of a run: what the text at `print` asks for. Where it asks for nothing, which clap
 /// does not let come, the trace.
-fn print_of(found: &ArgMatches<'_>) -> Print
-    ensures { IsPrintAt (rows_of (found_of found.now)) result }
+///
+/// # Errors
+/// [`WordsFault::Window`] where a chart's part does not begin before it ends;
+/// [`WordsFault::NoChart`] where a part is asked for, and no chart.
+fn print_of(found: &ArgMatches<'_>) -> Result<Print, WordsFault>
+    ensures print { IfOk result (IsPrintAt (rows_of (found_of found.now))) }
+    ensures refused { IfErr result (IsCutFault (rows_of (found_of found.now))) }
 {
-    match text_of(found, "print") {
+    let words = span_words_of(found);
+    let text = text_of(found, "print");
+    if text == "chart" {
+        return Ok(Print::Chart(read_span(words)?));
+    }
+    read_uncut(words)?;
+    Ok(match text {
         "calls" => Print::Calls,
         "replies" => Print::Replies,
         "events" => Print::Events,
         "jobs" => Print::Jobs,
         "summary" => Print::Summary,
         _ => Print::Trace,
-    }
+    })
 }
 
 /// The same of a replay.
-fn replay_print_of(found: &ArgMatches<'_>) -> ReplayPrint
-    ensures { IsReplayPrintAt (rows_of (found_of found.now)) result }
+///
+/// # Errors
+/// Those of [`print_of`].
+fn replay_print_of(found: &ArgMatches<'_>) -> Result<ReplayPrint, WordsFault>
+    ensures print { IfOk result (IsReplayPrintAt (rows_of (found_of found.now))) }
+    ensures refused { IfErr result (IsCutFault (rows_of (found_of found.now))) }
 {
-    match text_of(found, "print") {
+    let words = span_words_of(found);
+    let text = text_of(found, "print");
+    if text == "chart" {
+        return Ok(ReplayPrint::Chart(read_span(words)?));
+    }
+    read_uncut(words)?;
+    Ok(match text {
         "replies" => ReplayPrint::Replies,
         "events" => ReplayPrint::Events,
         "jobs" => ReplayPrint::Jobs,
         "summary" => ReplayPrint::Summary,
         _ => ReplayPrint::Trace,
-    }
+    })
 }
 
 /// The words of a run, each by its option.
-fn words_of<'a>(found: &ArgMatches<'a>) -> Words<'a>
-    ensures found { AreFound (rows_of (found_of found.now)) result }
-    ensures clients { (0 < result.clients) × (result.clients ≤ 64) }
-    ensures workers { (0 < result.workers) × (result.workers ≤ 8) }
+///
+/// # Errors
+/// Those of [`print_of`].
+fn words_of<'a>(found: &ArgMatches<'a>) -> Result<Words<'a>, WordsFault>
+    ensures found { IfOk result (AreFound (rows_of (found_of found.now))) }
+    ensures clients { IfOk result (λ words. (0 < words.clients) × (words.clients ≤ 64)) }
+    ensures workers { IfOk result (λ words. (0 < words.workers) × (words.workers ≤ 8)) }
+    ensures refused { IfErr result (IsCutFault (rows_of (found_of found.now))) }
 {
-    Words {
+    let print = print_of(found)?;
+    Ok(Words {
         domains: text_of(found, "domains"),
         rt_runtime: number(found, "rt-runtime", MOST_TIME),
         rt_period: number(found, "rt-period", MOST_TIME),
         clients: number(found, "clients", MOST_CLIENTS) as u32,
         workers: number(found, "workers", MOST_WORKERS) as usize,
         reclaim: found.get_flag("reclaim"),
-        print: print_of(found),
-    }
+        print,
+    })
 }
 
 /// The options of a run: what the words at each option mean.
 ///
 /// # Errors
-/// In the order of the tests: [`WordsFault::List`] where the text at `--domains` is no list of
-/// domains, [`WordsFault::Limit`] where `--rt-runtime` and `--rt-period` give no limit.
-/// [`WordsFault::Memory`] where a growth was refused, before any other.
+/// In the order of the tests: those of [`print_of`], [`WordsFault::List`] where the text at
+/// `--domains` is no list of domains, [`WordsFault::Limit`] where `--rt-runtime` and `--rt-period`
+/// give no limit. [`WordsFault::Memory`] where a growth was refused, before either of the last two.
 fn options_of(alloc: Global, found: &ArgMatches<'_>) -> Result<Options, WordsFault>
     ensures sound { IfOk result AreOptions }
     ensures meant { IfOk result (AreMeantBy (rows_of (found_of found.now))) }
     ensures refused { IfErr result (IsFaultOf (rows_of (found_of found.now))) }
 {
-    read_options(alloc, &words_of(found))
-}
-
-/// What is printed of a replay, where the matches are those of one.
-fn replay_print(matches: &ArgMatches<'_>) -> ReplayPrint
-    ensures { (rows : List Row) → subcommand_rows_of matches.now ≡ Some (codes "replay", rows)
-        → IsReplayPrintAt rows result }
-{
-    match matches.subcommand_matches("replay") {
-        Some(found) => replay_print_of(found),
-        None => ReplayPrint::Trace,
-    }
+    let words = words_of(found)?;
+    read_options(alloc, &words)
 }
 
 /// A run, with what the words at its options mean.
@@ -161,6 +196,21 @@ fn run_of(alloc: Global, found: &ArgMatches<'_>) -> Result<Task, Wrong>
 {
     match options_of(alloc, found) {
         Ok(options) => Ok(Task::Run(options)),
+        Err(fault) => Err(Wrong::Options(fault)),
+    }
+}
+
+/// A replay, with what the words at its options mean.
+///
+/// # Errors
+/// [`Wrong::Options`] with those of [`replay_print_of`].
+fn replay_of(found: &ArgMatches<'_>) -> Result<Task, Wrong>
+    ensures fit { IfOk result IsFit }
+    ensures meant { IfOk result (IsReplayBy (rows_of (found_of found.now))) }
+    ensures refused { IfErr result (IsReplayRefusedBy (rows_of (found_of found.now))) }
+{
+    match replay_print_of(found) {
+        Ok(print) => Ok(Task::Replay(print)),
         Err(fault) => Err(Wrong::Options(fault)),
     }
 }
@@ -189,25 +239,29 @@ fn compare_of(alloc: Global, found: &ArgMatches<'_>) -> Result<Task, Wrong>
 /// `replay` with what it prints.
 ///
 /// # Errors
-/// Those of [`run_of`] and [`compare_of`].
+/// Those of [`run_of`], [`compare_of`] and [`replay_of`].
 fn task_of(alloc: Global, matches: &ArgMatches<'_>) -> Result<Task, Wrong>
     ensures fit { IfOk result IsFit }
     ensures named { IfOk result (IsTaskOf (subcommand_name_of matches.now)) }
     ensures meant { IfOk result (IsMeant (subcommand_rows_of matches.now)) }
     ensures refused { IfErr result (IsRefusedBy (subcommand_rows_of matches.now)) }
 {
-    match matches.subcommand_matches("run") {
-        Some(found) => run_of(alloc, found),
-        None => match matches.subcommand_matches("compare") {
-            Some(found) => compare_of(alloc, found),
-            None => Ok(Task::Replay(replay_print(matches))),
-        },
+    if let Some(found) = matches.subcommand_matches("run") {
+        return run_of(alloc, found);
+    }
+    if let Some(found) = matches.subcommand_matches("compare") {
+        return compare_of(alloc, found);
+    }
+    match matches.subcommand_matches("replay") {
+        Some(found) => replay_of(found),
+        // There is no other command.
+        None => Ok(Task::Replay(ReplayPrint::Trace)),
     }
 }
 
 /// What words ask for, of which the first is the program's name; or what is wrong with them: first
-/// what clap says of them, then of `run` the list of domains and the limit, of `compare` that
-/// standard input is for one of its traces.
+/// what clap says of them, then of `run` and `replay` the part that a chart shows, of `run` the list
+/// of domains and the limit, of `compare` that standard input is for one of its traces.
 ///
 /// # Errors
 /// [`Wrong::Clap`]: what clap says, also where it is asked for help. Then those of [`task_of`].

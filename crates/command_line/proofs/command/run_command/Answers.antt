@@ -17,6 +17,8 @@ returns c =
     let workers = with_option _ _ _ _ _ clients c.counted-4.ensures.rule c.counted-4.ensures.local c.in_ok-arg-5.ensures in
     let reclaim = with_option _ _ _ _ _ workers c.flag.ensures.rule c.flag.ensures.local c.in_ok-arg-6.ensures in
     let print = c.print_run.ensures.rule in
-    IfOk-weaker c.arg-7.result _ IsRun (λ command adds.
-    let made = with_option _ _ _ _ _ reclaim print.2 c.print_run.ensures.local adds in
-    record { names = print.0; are_texts = print.1; app = made.is; local = made.local }) c.arg-7.ensures
+    let printed = with_option _ _ _ _ _ reclaim print.2 c.print_run.ensures.local c.in_ok-arg-7.ensures in
+    let from = with_option _ _ _ _ _ printed c.moment.ensures.rule c.moment.ensures.local c.in_ok-arg-8.ensures in
+    IfOk-weaker c.arg-9.result _ IsRun (λ command adds.
+    let made = with_option _ _ _ _ _ from c.moment-2.ensures.rule c.moment-2.ensures.local adds in
+    record { names = print.0; are_texts = print.1; app = made.is; local = made.local }) c.arg-9.ensures

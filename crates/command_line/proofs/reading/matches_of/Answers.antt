@@ -26,5 +26,5 @@ returns-clause-reading c =
 pub returns-clause-texts : goal.returns-clause-texts
 returns-clause-texts c = reading_has (map string_bytes c.args.words.now) c.try_get_matches_from.result (returns-clause-reading c)
 
-pub returns-clause-text : goal.returns-clause-text
-returns-clause-text c = reading_has_replay (map string_bytes c.args.words.now) c.try_get_matches_from.result (returns-clause-reading c)
+pub returns-clause-replay_texts : goal.returns-clause-replay_texts
+returns-clause-replay_texts c = reading_has_replay (map string_bytes c.args.words.now) c.try_get_matches_from.result (returns-clause-reading c)

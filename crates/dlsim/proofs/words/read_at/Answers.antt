@@ -3,7 +3,7 @@ use Rattle.std.specs.Str.Parse.{ExplainsUnsignedError, HasUnsignedDigitsIfOk}
 use Rattle.clap.specs.Words.{found_of}
 use Rattle.clap.proofs.WalkLemmas.{one_text-rows}
 use Rattle.dlsim.proofs.Numbers.{read_other, read_spelled}
-use Rattle.dlsim.proofs.comparison.read_at.Goals as goal
+use Rattle.dlsim.proofs.words.read_at.Goals as goal
 
 pub returns : goal.returns
 returns c =
