@@ -1,95 +1,136 @@
 -- What is told up to a switch, and what is told with the next one.
-use Rattle.std.proofs.Common.{◌≡◌, ℕ, ◌+◌, ◌-◌, ◌≤◌, ◌<◌, ◌^◌, ⊎_elim, true, List, length, get_or, take, drop, map, None, sym, ap, ◌∙◌, arith, subst, All}
-use Rattle.std.specs.Prelude.{AllPairs, IsTrue, count_by, nat_lt, nat_le, ◌==◌, ◌&&◌}
+use Rattle.std.proofs.Common.{◌≡◌, ℕ, ◌+◌, ◌-◌, ◌≤◌, ◌<◌, true, cond, List, [], ◌∷◌, ◌++◌, length, get_or, take, drop, map, None, refl, sym, ap, ◌∙◌, arith, subst, All, length-append}
+use Rattle.std.specs.Prelude.{AllPairs, IsTrue, count_by, nat_le, not, ◌&&◌}
 use Rattle.std.specs.List.{prefix_len}
-use Rattle.std.proofs.lemmas.Bool.{or_cases, and_parts, ltb-true, eqb-true}
-use Rattle.std.proofs.lemmas.List.{take_all, take_rest, length-take, length-drop, get_or_default}
-use Rattle.std.proofs.lemmas.List.Elements.{All-map}
-use Rattle.std.proofs.lemmas.List.Sums.{count_by-le-length, prefix_len-le-length}
+use Rattle.std.proofs.Math.Seq.{take-append_seam, get_or-append_right}
+use Rattle.std.proofs.lemmas.Bool.{le-leb, lt-leb}
+use Rattle.std.proofs.lemmas.List.{take_all, take_rest, take-append-le, length-take, get_or_default, map-id}
+use Rattle.std.proofs.lemmas.List.Elements.{All-head, All-tail, All-map}
+use Rattle.std.proofs.lemmas.List.Sums.{sum_by-cons, count_by-le-length, prefix_len-le-length}
 use Rattle.domain_run.specs.declared.happened.Happened.{Happened}
 use Rattle.domain_run.specs.declared.switch.Switch.{Switch}
 use Rattle.domain_run.specs.declared.switch.PrevState.TheVariants.{Running}
 use Rattle.domain_run.specs.Switches.{is_before}
-use Rattle.run_figures.specs.declared.run.Admitted.{Admitted}
 use Rattle.run_figures.specs.declared.told.Told.{Told}
-use Rattle.run_figures.specs.Throttling.{preempts}
-use Rattle.run_figures.specs.private.Telling.{told_all, untold, so_far, told_by, with_preemption, IsWithin, HaveRoomFor}
+use Rattle.run_figures.specs.Jobs.{of_task}
+use Rattle.run_figures.specs.Stays.{is_task}
+use Rattle.run_figures.specs.Throttling.{wants_it, is_throttled_by, up_to, preempts, preemptions}
+use Rattle.run_figures.specs.private.Telling.{told_all, untold, so_far, told_by, with_preemption, IsWithin}
 use Rattle.run_figures.proofs.Passing.{map-map, map_same, number_of_told, more_told, more_switched, passes_later, goes_on}
+use Rattle.run_figures.proofs.Behind.{not_earlier}
 
 abbrev pub blank_switch : Switch
 blank_switch = record { time = 0; prev = None; next = None; cpu = 0; state = Running }
 
-not_earlier : (a b : Switch) → IsTrue (is_before a b) → a.time ≤ b.time
-not_earlier a b h = ⊎_elim
-    (λ (less : nat_lt a.time b.time ≡ true). omega (arith, ltb-true a.time b.time less))
-    (λ (same : ((a.time == b.time) && nat_lt a.cpu b.cpu) ≡ true). omega (arith, eqb-true a.time b.time (and_parts (a.time == b.time) (nat_lt a.cpu b.cpu) same).0))
-    (or_cases (nat_lt a.time b.time) ((a.time == b.time) && nat_lt a.cpu b.cpu) h)
-
 -- told up to a place in what happened, which each later switch passes, and up to a switch
-pub record IsAtSwitch (end : ℕ) (hs : List Happened) (ss : List Switch) (tasks : List Admitted) (j k : ℕ) (ts : List Told) : Type 0 where
+pub record IsAtSwitch (end : ℕ) (hs : List Happened) (ss : List Switch) (numbers : List ℕ) (j k : ℕ) (ts : List Told) : Type 0 where
   pub inside : j ≤ length hs
-  pub told : ts ≡ map (λ a. so_far end hs ss j k a.number) tasks
+  pub told : ts ≡ map (so_far end hs ss j k) numbers
   pub within : All (IsWithin j) ts
   pub ahead : (i : ℕ) (d : Switch) → k ≤ i → i < length ss → j ≤ prefix_len (λ h. nat_le h.time (get_or ss i d).time) hs
 
-pub at_first : (end : ℕ) (hs : List Happened) (ss : List Switch) (tasks : List Admitted) (told : List Told) → told ≡ map (λ a. untold a.number) tasks → IsAtSwitch end hs ss tasks 0 0 told
-at_first end hs ss tasks told is = record {
-  inside = omega arith;
-  told = is;
-  within = subst (All (IsWithin 0)) (sym is) (All-map (IsWithin 0) (λ (a : Admitted). untold a.number) tasks
-      (λ k d l. record { job = tt; ended = tt; late = omega arith; times = omega arith; us = omega arith }));
-  ahead = λ i d a b. omega arith;
+-- WHAT IS LATER changes nothing of an earlier switch
+none_passes : (time : ℕ) (hs : List Happened) → All (λ h. time < h.time) hs → prefix_len (λ h. nat_le h.time time) hs ≡ 0
+none_passes time [] all = refl
+none_passes time (h ∷ hs) all =
+    ap (λ b. cond b (1 + prefix_len (λ (x : Happened). nat_le x.time time) hs) 0) (lt-leb h.time time (All-head (λ (x : Happened). time < x.time) h hs all))
+
+stays_at : (time : ℕ) (before hs : List Happened) → All (λ h. time < h.time) hs → prefix_len (λ h. nat_le h.time time) (before ++ hs) ≡ prefix_len (λ h. nat_le h.time time) before
+stays_at time [] hs all = none_passes time hs all
+stays_at time (x ∷ xs) hs all = ap (λ (k : ℕ). cond (nat_le x.time time) (1 + k) 0) (stays_at time xs hs all)
+
+up_to_stays : (time : ℕ) (before hs : List Happened) → All (λ h. time < h.time) hs → up_to time (before ++ hs) ≡ up_to time before
+up_to_stays time before hs all =
+    ap (λ (k : ℕ). take k (before ++ hs)) (stays_at time before hs all)
+    ∙ take-append-le (prefix_len (λ (h : Happened). nat_le h.time time) before) before hs (prefix_len-le-length (λ (h : Happened). nat_le h.time time) before)
+
+preempts_still : (n : ℕ) (before hs : List Happened) (s : Switch) → All (λ h. s.time < h.time) hs → preempts (before ++ hs) n s ≡ preempts before n s
+preempts_still n before hs s all =
+    ap (λ (own : List Happened). (is_task n s.prev && wants_it s.state) && not (is_throttled_by (of_task n own))) (up_to_stays s.time before hs all)
+
+preemptions_stay : (n : ℕ) (before hs : List Happened) (ss : List Switch) → All (λ s. All (λ h. s.time < h.time) hs) ss → preemptions before ss n ≡ preemptions (before ++ hs) ss n
+preemptions_stay n before hs [] all = refl
+preemptions_stay n before hs (s ∷ ss) all =
+    let first = preempts_still n before hs s (All-head (λ (x : Switch). All (λ h. x.time < h.time) hs) s ss all) in
+    let rest = preemptions_stay n before hs ss (All-tail (λ (x : Switch). All (λ h. x.time < h.time) hs) s ss all) in
+    omega (
+      arith,
+      sum_by-cons (λ (x : Switch). cond (preempts before n x) 1 0) s ss,
+      sum_by-cons (λ (x : Switch). cond (preempts (before ++ hs) n x) 1 0) s ss,
+      ap {B = ℕ} (λ b. cond b 1 0) first,
+      rest,
+    )
+
+-- what is not later was told
+passes_all : (time : ℕ) (before hs : List Happened) → All (λ h. h.time ≤ time) before → length before ≤ prefix_len (λ h. nat_le h.time time) (before ++ hs)
+passes_all time [] hs all = omega arith
+passes_all time (x ∷ xs) hs all =
+    let first : nat_le x.time time ≡ true = le-leb x.time time (All-head (λ (y : Happened). y.time ≤ time) x xs all) in
+    rw first (omega (arith, passes_all time xs hs (All-tail (λ (y : Happened). y.time ≤ time) x xs all)))
+
+-- A PIECE behind what was told
+still_told : (end : ℕ) (before hs : List Happened) (past ss : List Switch) (n : ℕ) → All (λ s. All (λ h. s.time < h.time) hs) past → told_by end before past n ≡ so_far end (before ++ hs) (past ++ ss) (length before) (length past) n
+still_told end before hs past ss n later =
+    let t = sym (take-append_seam before hs) in
+    let s = sym (take-append_seam past ss) in
+    (λ i. record (told_all end before (untold n)) { preempted = preemptions_stay n before hs past later i })
+    ∙ (λ i. record (told_all end (t i) (untold n)) { preempted = count_by (preempts (before ++ hs) n) (s i) })
+
+pub at_piece : (end : ℕ) (before hs : List Happened) (past ss : List Switch) (numbers : List ℕ) (told : List Told)
+    → told ≡ map (told_by end before past) numbers → All (IsWithin (length before)) told
+    → All (λ s. All (λ h. h.time ≤ s.time) before) ss → All (λ h. All (λ s. s.time < h.time) past) hs
+    → IsAtSwitch end (before ++ hs) (past ++ ss) numbers (length before) (length past) told
+at_piece end before hs past ss numbers told is within behind later = record {
+  inside = omega (arith, length-append before hs);
+  told = is ∙ map_same (told_by end before past) (so_far end (before ++ hs) (past ++ ss) (length before) (length past)) numbers
+      (λ n. still_told end before hs past ss n (λ k s l j h m. later j h m k s l));
+  within = within;
+  ahead = λ i d m l.
+      let at : get_or (past ++ ss) i d ≡ get_or ss (i - length past) d = get_or-append_right past ss i d m in
+      let all = behind (i - length past) d (omega (arith, m, l, length-append past ss)) in
+      subst (λ (s : Switch). length before ≤ prefix_len (λ h. nat_le h.time s.time) (before ++ hs)) (sym at)
+      (passes_all (get_or ss (i - length past) d).time before hs all);
 }
 
-so_far_keyed : (end : ℕ) (hs : List Happened) (ss : List Switch) (tasks : List Admitted) (j k : ℕ) → map (λ t. t.number) (map (λ a. so_far end hs ss j k a.number) tasks) ≡ map (λ a. a.number) tasks
-so_far_keyed end hs ss tasks j k =
-    map-map (λ (t : Told). t.number) (λ (a : Admitted). so_far end hs ss j k a.number) tasks
-    ∙ map_same (λ (a : Admitted). (so_far end hs ss j k a.number).number) (λ (a : Admitted). a.number) tasks (λ a. number_of_told end (take j hs) (untold a.number))
-
-pub switch_keyed : (end : ℕ) (hs : List Happened) (ss : List Switch) (tasks : List Admitted) (j k : ℕ) (told : List Told) (numbers : List ℕ) → IsAtSwitch end hs ss tasks j k told → numbers ≡ map (λ t. t.number) tasks → map (λ t. t.number) told ≡ numbers
-switch_keyed end hs ss tasks j k told numbers at is =
-    ap (λ (ts : List Told). map (λ t. t.number) ts) at.told ∙ so_far_keyed end hs ss tasks j k ∙ sym is
-
-pub switch_room : (end : ℕ) (hs : List Happened) (ss : List Switch) (tasks : List Admitted) (j k : ℕ) (told : List Told) (rest : List Happened) → IsAtSwitch end hs ss tasks j k told → rest ≡ drop j hs → length hs < 2 ^ 64 → HaveRoomFor (length rest) told
-switch_room end hs ss tasks j k told rest at is few = record {
-  used = j;
-  fits = omega (arith, few, at.inside, ap (λ (xs : List Happened). length xs) is, length-drop j hs);
-  within = at.within;
-}
+so_far_keyed : (end : ℕ) (hs : List Happened) (ss : List Switch) (numbers : List ℕ) (j k : ℕ) → map (λ t. t.number) (map (so_far end hs ss j k) numbers) ≡ numbers
+so_far_keyed end hs ss numbers j k =
+    map-map (λ (t : Told). t.number) (so_far end hs ss j k) numbers
+    ∙ map_same (λ n. (so_far end hs ss j k n).number) (λ n. n) numbers (λ n. number_of_told end (take j hs) (untold n))
+    ∙ map-id numbers
 
 -- behind the entries up to a switch
-pub entries_told : (end : ℕ) (hs : List Happened) (ss : List Switch) (tasks : List Admitted) (j k c : ℕ) (told after : List Told) → told ≡ map (λ a. so_far end hs ss j k a.number) tasks → after ≡ map (told_all end (take c (drop j hs))) told → after ≡ map (λ a. so_far end hs ss (j + c) k a.number) tasks
-entries_told end hs ss tasks j k c told after at is =
+pub entries_told : (end : ℕ) (hs : List Happened) (ss : List Switch) (numbers : List ℕ) (j k c : ℕ) (told after : List Told) → told ≡ map (so_far end hs ss j k) numbers → after ≡ map (told_all end (take c (drop j hs))) told → after ≡ map (so_far end hs ss (j + c) k) numbers
+entries_told end hs ss numbers j k c told after at is =
     is ∙ ap (map (told_all end (take c (drop j hs)))) at
-    ∙ map-map (told_all end (take c (drop j hs))) (λ (a : Admitted). so_far end hs ss j k a.number) tasks
-    ∙ map_same (λ (a : Admitted). told_all end (take c (drop j hs)) (so_far end hs ss j k a.number)) (λ (a : Admitted). so_far end hs ss (j + c) k a.number) tasks (λ a. more_told end hs ss j k c a.number)
+    ∙ map-map (told_all end (take c (drop j hs))) (so_far end hs ss j k) numbers
+    ∙ map_same (λ n. told_all end (take c (drop j hs)) (so_far end hs ss j k n)) (so_far end hs ss (j + c) k) numbers (λ n. more_told end hs ss j k c n)
 
-pub entries_keyed : (end : ℕ) (hs : List Happened) (ss : List Switch) (tasks : List Admitted) (j k : ℕ) (after : List Told) (numbers : List ℕ) → after ≡ map (λ a. so_far end hs ss j k a.number) tasks → numbers ≡ map (λ t. t.number) tasks → map (λ t. t.number) after ≡ numbers
-entries_keyed end hs ss tasks j k after numbers at is =
-    ap (λ (ts : List Told). map (λ t. t.number) ts) at ∙ so_far_keyed end hs ss tasks j k ∙ sym is
+pub entries_keyed : (end : ℕ) (hs : List Happened) (ss : List Switch) (numbers : List ℕ) (j k : ℕ) (after : List Told) → after ≡ map (so_far end hs ss j k) numbers → map (λ t. t.number) after ≡ numbers
+entries_keyed end hs ss numbers j k after at =
+    ap (λ (ts : List Told). map (λ t. t.number) ts) at ∙ so_far_keyed end hs ss numbers j k
 
-pub few_preemptions : (end : ℕ) (hs : List Happened) (ss : List Switch) (tasks : List Admitted) (j k m : ℕ) (after : List Told) → after ≡ map (λ a. so_far end hs ss j k a.number) tasks → k ≤ m → All (λ t. t.preempted ≤ m) after
-few_preemptions end hs ss tasks j k m after at l =
+pub few_preemptions : (end : ℕ) (hs : List Happened) (ss : List Switch) (numbers : List ℕ) (j k m : ℕ) (after : List Told) → after ≡ map (so_far end hs ss j k) numbers → k ≤ m → All (λ t. t.preempted ≤ m) after
+few_preemptions end hs ss numbers j k m after at l =
     subst (All (λ t. t.preempted ≤ m)) (sym at)
-    (All-map (λ (t : Told). t.preempted ≤ m) (λ (a : Admitted). so_far end hs ss j k a.number) tasks
-    (λ i d h. omega (arith, l, count_by-le-length (preempts hs (get_or tasks i d).number) (take k ss), length-take k ss)))
+    (All-map (λ (t : Told). t.preempted ≤ m) (so_far end hs ss j k) numbers
+    (λ i d h. omega (arith, l, count_by-le-length (preempts hs (get_or numbers i d)) (take k ss), length-take k ss)))
 
-pub next_switch : (end : ℕ) (hs : List Happened) (ss : List Switch) (tasks : List Admitted) (j k c : ℕ) (d : Switch) (told after last : List Told)
-    → IsAtSwitch end hs ss tasks j k told → k < length ss → AllPairs (λ a b. IsTrue (is_before a b)) ss
+pub next_switch : (end : ℕ) (hs : List Happened) (ss : List Switch) (numbers : List ℕ) (j k c : ℕ) (d : Switch) (told after last : List Told)
+    → IsAtSwitch end hs ss numbers j k told → k < length ss → AllPairs (λ a b. IsTrue (is_before a b)) ss
     → c ≡ prefix_len (λ h. nat_le h.time (get_or ss k d).time) (drop j hs)
     → after ≡ map (told_all end (take c (drop j hs))) told → All (IsWithin (j + c)) last
     → last ≡ map (with_preemption (get_or ss k d)) after
-    → IsAtSwitch end hs ss tasks (j + c) (k + 1) last
-next_switch end hs ss tasks j k c d told after last at l rising count a within b =
+    → IsAtSwitch end hs ss numbers (j + c) (k + 1) last
+next_switch end hs ss numbers j k c d told after last at l rising count a within b =
     let s = get_or ss k d in
     let all : j + c ≡ prefix_len (λ (h : Happened). nat_le h.time s.time) hs = ap (λ n. j + n) count ∙ goes_on hs j s.time (at.ahead k d (omega arith) l) in
     record {
       inside = omega (arith, all, prefix_len-le-length (λ (h : Happened). nat_le h.time s.time) hs);
       told =
-          b ∙ ap (map (with_preemption s)) (entries_told end hs ss tasks j k c told after at.told a)
-          ∙ map-map (with_preemption s) (λ (x : Admitted). so_far end hs ss (j + c) k x.number) tasks
-          ∙ map_same (λ (x : Admitted). with_preemption s (so_far end hs ss (j + c) k x.number)) (λ (x : Admitted). so_far end hs ss (j + c) (k + 1) x.number) tasks
-          (λ x. more_switched end hs ss (j + c) k x.number s l (get_or_default ss k d s l) all);
+          b ∙ ap (map (with_preemption s)) (entries_told end hs ss numbers j k c told after at.told a)
+          ∙ map-map (with_preemption s) (so_far end hs ss (j + c) k) numbers
+          ∙ map_same (λ n. with_preemption s (so_far end hs ss (j + c) k n)) (so_far end hs ss (j + c) (k + 1)) numbers
+          (λ n. more_switched end hs ss (j + c) k n s l (get_or_default ss k d s l) all);
       within = within;
       ahead = λ i e m n.
           let other = get_or ss i e in
@@ -99,11 +140,10 @@ next_switch end hs ss tasks j k c d told after last at l rising count a within b
     }
 
 -- all is told
-pub at_the_end : (end : ℕ) (hs : List Happened) (ss : List Switch) (tasks : List Admitted) (j k : ℕ) (rest : List Happened) (told after : List Told) → IsAtSwitch end hs ss tasks j k told → length ss ≤ k → rest ≡ drop j hs → after ≡ map (told_all end rest) told → after ≡ map (λ a. told_by end hs ss a.number) tasks
-at_the_end end hs ss tasks j k rest told after at l is a =
-    let whole : rest ≡ take (length hs - j) (drop j hs) = is ∙ sym (take_rest hs j) in
+pub at_the_end : (end : ℕ) (hs : List Happened) (ss : List Switch) (numbers : List ℕ) (j k : ℕ) (told after : List Told) → IsAtSwitch end hs ss numbers j k told → length ss ≤ k → after ≡ map (told_all end (drop j hs)) told → after ≡ map (told_by end hs ss) numbers
+at_the_end end hs ss numbers j k told after at l a =
     let to : j + (length hs - j) ≡ length hs = omega (arith, at.inside) in
-    entries_told end hs ss tasks j k (length hs - j) told after at.told (a ∙ ap (λ (xs : List Happened). map (told_all end xs) told) whole)
-    ∙ map_same (λ (x : Admitted). so_far end hs ss (j + (length hs - j)) k x.number) (λ (x : Admitted). told_by end hs ss x.number) tasks
-    (λ x. (λ i. record (told_all end (take (to i) hs) (untold x.number)) { preempted = count_by (preempts hs x.number) (take k ss) })
-    ∙ (λ i. record (told_all end (take_all (length hs) hs (omega arith) i) (untold x.number)) { preempted = count_by (preempts hs x.number) (take_all k ss l i) }))
+    entries_told end hs ss numbers j k (length hs - j) told after at.told (a ∙ ap (λ (xs : List Happened). map (told_all end xs) told) (sym (take_rest hs j)))
+    ∙ map_same (so_far end hs ss (j + (length hs - j)) k) (told_by end hs ss) numbers
+    (λ n. (λ i. record (told_all end (take (to i) hs) (untold n)) { preempted = count_by (preempts hs n) (take k ss) })
+    ∙ (λ i. record (told_all end (take_all (length hs) hs (omega arith) i) (untold n)) { preempted = count_by (preempts hs n) (take_all k ss l i) }))

@@ -4,10 +4,11 @@ pub mod Counted
 pub mod Within
 pub mod Passing
 pub mod Preempting
-pub mod Going
 pub mod Behind
+pub mod Going
 pub mod Shared
 pub mod Put
+pub mod Hearing
 pub mod Listed
 pub mod Once
 pub mod Balance

@@ -5,6 +5,7 @@ pub mod Throttling
 pub mod Balance
 pub mod Runs
 pub mod Figures
+pub mod Accounting
 pub mod Laws
 pub mod Examples
 pub mod private

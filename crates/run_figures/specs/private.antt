@@ -4,3 +4,5 @@ pub mod Telling
 pub mod Running
 pub mod Lines
 pub mod Putting
+pub mod Past
+pub mod Keeping

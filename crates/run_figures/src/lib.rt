@@ -2,14 +2,17 @@
 //!
 //! Meets the definitions of jobs (`specs/Jobs.antt`), of throttling and preemption
 //! (`specs/Throttling.antt`), of the time on CPUs (`specs/Stays.antt`) and of the figures
-//! (`specs/Figures.antt`). To the crate above it promises that each figure is the definition's, of the
-//! list of what happened and the switches that it was given, and that nothing overflows.
+//! (`specs/Figures.antt`), of a run that is given whole or heard piece by piece
+//! (`specs/Accounting.antt`). To the crate above it promises that each figure is the definition's, of
+//! all that happened and all switches that it was given, and that nothing overflows.
 #![tactic(auto)]
 
+mod accounting;
 mod counting;
 mod figures;
 mod job;
 mod lines;
+mod past;
 mod places;
 mod ran;
 mod run;
@@ -18,6 +21,7 @@ mod telling;
 mod throttle;
 mod told;
 
+pub use accounting::Accounting;
 pub use domain_run::NoMemory;
 pub use figures::{CpuFigures, Responses, Summary, TaskFigures};
 pub use job::Job;

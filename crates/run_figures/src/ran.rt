@@ -1,75 +1,92 @@
-//! The time on CPUs, told from the last switch to the first.
+//! The time on CPUs, told from the first switch to the last. Who has a CPU is told as if it kept it
+//! to the end of the run; the rest is taken back at the switch by which it leaves.
 
-ghost use Rattle.std.specs.Prelude.{◌≡◌, ◌+◌, ◌-◌, ◌*◌, ◌<◌, ◌≤◌, ◌^◌, ◌∷◌, IfOk, All, map, length, slice_index_or, drop};
+ghost use Rattle.std.specs.Prelude.{◌≡◌, ◌+◌, ◌-◌, ◌*◌, ◌<◌, ◌≤◌, ◌^◌, IfOk, All, map, length, slice_index_or};
 ghost use Rattle.std.specs.List.{range_with_len};
-ghost use Rattle.run_figures.specs.Runs.{IsRun, view_of};
 ghost use Rattle.run_figures.specs.private.Running as running;
 
 use crate::places::Places;
-use crate::run::{Admitted, Run};
+use crate::run::Admitted;
 use domain_run::{NoMemory, Switch};
 use std::alloc::Global;
 
-/// What is told of a task from a switch on.
+/// What is told of a task up to a switch.
 #[derive(Clone, Copy)]
 pub(crate) struct Ran {
     /// The task's number.
     pub(crate) number: u32,
-    /// Its CPU time from then on.
+    /// Its CPU time.
     pub(crate) cpu_us: u128,
-    /// How often it is placed on another CPU than before, from then on.
+    /// How often it was placed on another CPU than before.
     pub(crate) migrated: u64,
-    /// The CPU on which it is placed first from then on.
-    pub(crate) first: Option<u16>,
+    /// The CPU on which it was placed last.
+    pub(crate) last: Option<u16>,
 }
 
-/// What is told of a CPU from a switch on.
+/// What is told of a CPU up to a switch.
 #[derive(Clone, Copy)]
 pub(crate) struct Cpu {
     pub(crate) cpu: u16,
     pub(crate) busy_us: u128,
     pub(crate) switches: u64,
-    /// When it switches next, or the end of the run.
-    pub(crate) next: u64,
+    /// The task that has it.
+    pub(crate) task: Option<u32>,
 }
 
-/// With a stay on a CPU before.
+/// With a stay on a CPU behind.
 fn with_stay(ran: &Ran, cpu: u16, us: u64) -> Ran
     requires time { ran.now.cpu_us ≤ (2 ^ 64 - 2) * 2 ^ 64 }
     requires moves { ran.now.migrated ≤ 2 ^ 64 - 2 }
     ensures { result ≡ running.with_stay cpu us ran.now }
 {
-    let moves = match ran.first {
-        Some(first) if first != cpu => 1,
+    let moves = match ran.last {
+        Some(last) if cpu != last => 1,
         _ => 0,
     };
     Ran {
         number: ran.number,
         cpu_us: ran.cpu_us + u128::from(us),
         migrated: ran.migrated + moves,
-        first: Some(cpu),
+        last: Some(cpu),
     }
 }
 
-/// With a switch before.
-fn with_switch(cpu: &Cpu, switch: &Switch) -> Cpu
+/// Without the rest of its last stay.
+fn without_rest(ran: &Ran, us: u64) -> Ran
+    ensures { result ≡ running.without_rest us ran.now }
+{
+    Ran {
+        cpu_us: ran.cpu_us.saturating_sub(u128::from(us)),
+        ..*ran
+    }
+}
+
+/// How long a CPU is busy with a task, or with none.
+fn busy_with(task: Option<u32>, us: u64) -> u64
+    ensures { result ≡ running.busy_if task us }
+{
+    match task {
+        None => 0,
+        Some(_) => us,
+    }
+}
+
+/// With a switch behind, so many microseconds before the end.
+fn with_switch(cpu: &Cpu, switch: &Switch, us: u64) -> Cpu
     requires time { cpu.now.busy_us ≤ (2 ^ 64 - 2) * 2 ^ 64 }
     requires count { cpu.now.switches ≤ 2 ^ 64 - 2 }
-    ensures { result ≡ running.with_switch switch.now cpu.now }
+    ensures { result ≡ running.with_switch switch.now us cpu.now }
 {
-    let busy = match switch.next {
-        None => 0,
-        Some(_) => cpu.next.saturating_sub(switch.time),
-    };
+    let busy_us = cpu.busy_us + u128::from(busy_with(switch.next, us));
     Cpu {
         cpu: cpu.cpu,
-        busy_us: cpu.busy_us + u128::from(busy),
+        busy_us: busy_us.saturating_sub(u128::from(busy_with(cpu.task, us))),
         switches: cpu.switches + 1,
-        next: switch.time,
+        task: switch.next,
     }
 }
 
-/// With a stay of the task that comes by a switch before.
+/// With a stay of the task that comes by a switch behind.
 fn put_stay(table: &mut Vec<Ran>, places: &Places, switch: &Switch, us: u64)
     requires keyed { map (λ r. r.number) table.old.items ≡ places.now }
     requires time { All (λ r. r.cpu_us ≤ (2 ^ 64 - 2) * 2 ^ 64) table.old.items }
@@ -81,8 +98,22 @@ fn put_stay(table: &mut Vec<Ran>, places: &Places, switch: &Switch, us: u64)
         return;
     };
     if let Some(place) = places.find(number) {
-        let before = with_stay(&table[place], switch.cpu, us);
-        table[place] = before;
+        let after = with_stay(&table[place], switch.cpu, us);
+        table[place] = after;
+    }
+}
+
+/// Without the rest of the last stay of the task that had a CPU.
+fn take_rest(table: &mut Vec<Ran>, places: &Places, task: Option<u32>, us: u64)
+    requires keyed { map (λ r. r.number) table.old.items ≡ places.now }
+    ensures { table.new.items ≡ map (running.without_rest_of task us) table.old.items }
+{
+    let Some(number) = task else {
+        return;
+    };
+    if let Some(place) = places.find(number) {
+        let after = without_rest(&table[place], us);
+        table[place] = after;
     }
 }
 
@@ -102,7 +133,7 @@ fn none_ran(alloc: Global, tasks: &[Admitted]) -> Result<Vec<Ran>, NoMemory>
             number: task.number,
             cpu_us: 0,
             migrated: 0,
-            first: None,
+            last: None,
         })
         .collect(alloc)
     {
@@ -111,16 +142,16 @@ fn none_ran(alloc: Global, tasks: &[Admitted]) -> Result<Vec<Ran>, NoMemory>
     }
 }
 
-fn idle_cpus(alloc: Global, cpus: u32, end: u64) -> Result<Vec<Cpu>, NoMemory>
+fn idle_cpus(alloc: Global, cpus: u32) -> Result<Vec<Cpu>, NoMemory>
     requires few { cpus ≤ 64 }
-    ensures { IfOk result (λ v. v.items ≡ map (running.idle end) (range_with_len 0 cpus)) }
+    ensures { IfOk result (λ v. v.items ≡ map running.idle (range_with_len 0 cpus)) }
 {
     match (0..cpus as u16)
         .map(|cpu| Cpu {
             cpu,
             busy_us: 0,
             switches: 0,
-            next: end,
+            task: None,
         })
         .collect(alloc)
     {
@@ -129,8 +160,23 @@ fn idle_cpus(alloc: Global, cpus: u32, end: u64) -> Result<Vec<Cpu>, NoMemory>
     }
 }
 
-/// With a switch before those behind it.
-fn put_switch(tables: &mut Tables, places: &Places, switch: &Switch)
+impl Tables {
+    /// Before the first switch.
+    pub(crate) fn open(alloc: Global, cpus: u32, tasks: &[Admitted]) -> Result<Tables, NoMemory>
+        requires few { cpus ≤ 64 }
+        ensures tasks { IfOk result (λ t. t.tasks.items
+            ≡ map (λ a. running.not_run a.number) tasks.now) }
+        ensures cpus { IfOk result (λ t. t.cpus.items ≡ map running.idle (range_with_len 0 cpus)) }
+    {
+        Ok(Tables {
+            tasks: none_ran(alloc, tasks)?,
+            cpus: idle_cpus(alloc, cpus)?,
+        })
+    }
+}
+
+/// With a switch behind those before it, where the run ends at this time.
+pub(crate) fn put_switch(tables: &mut Tables, places: &Places, switch: &Switch, end: u64)
     requires keyed { map (λ r. r.number) tables.old.tasks.items ≡ places.now }
     requires cpu { map (λ c. c.cpu) tables.old.cpus.items
         ≡ range_with_len 0 (length tables.old.cpus.items) }
@@ -139,40 +185,18 @@ fn put_switch(tables: &mut Tables, places: &Places, switch: &Switch)
     requires moves { All (λ r. r.migrated ≤ 2 ^ 64 - 2) tables.old.tasks.items }
     requires busy { All (λ c. c.busy_us ≤ (2 ^ 64 - 2) * 2 ^ 64) tables.old.cpus.items }
     requires count { All (λ c. c.switches ≤ 2 ^ 64 - 2) tables.old.cpus.items }
-    ensures tasks { (d : Cpu) → tables.new.tasks.items ≡ map (running.with_stay_of switch.now.next
-        switch.now.cpu ((slice_index_or tables.old.cpus.items switch.now.cpu d).next - switch.now.time))
-        tables.old.tasks.items }
+    ensures tasks { (d : Cpu) → tables.new.tasks.items ≡ map
+        (running.without_rest_of (slice_index_or tables.old.cpus.items switch.now.cpu d).task
+        (end - switch.now.time))
+        (map (running.with_stay_of switch.now.next switch.now.cpu (end - switch.now.time))
+        tables.old.tasks.items) }
     ensures cpus { tables.new.cpus.items
-        ≡ map (running.with_switch_on switch.now) tables.old.cpus.items }
+        ≡ map (running.with_switch_on switch.now (end - switch.now.time)) tables.old.cpus.items }
 {
     let cpu = switch.cpu as usize;
     let before = tables.cpus[cpu];
-    put_stay(
-        &mut tables.tasks,
-        places,
-        switch,
-        before.next.saturating_sub(switch.time),
-    );
-    tables.cpus[cpu] = with_switch(&before, switch);
-}
-
-/// The time on CPUs by all switches of a run that ends at this time.
-pub(crate) fn ran_of(alloc: Global, run: &Run<'_>, places: &Places) -> Result<Tables, NoMemory>
-    requires places { places.now ≡ map (λ t. t.number) run.now.tasks.now }
-    requires run { IsRun (view_of run.now) }
-    ensures tasks { IfOk result (λ t. t.tasks.items
-        ≡ map (λ a. running.ran_by run.now.time run.now.switches.now a.number) run.now.tasks.now) }
-    ensures cpus { IfOk result (λ t. t.cpus.items
-        ≡ map (running.cpu_by run.now.time run.now.switches.now) (range_with_len 0 run.now.cpus)) }
-{
-    let mut tables = Tables {
-        tasks: none_ran(alloc, run.tasks)?,
-        cpus: idle_cpus(alloc, run.cpus, run.time)?,
-    };
-    let mut left = run.switches.len();
-    while left > 0 {
-        left -= 1;
-        put_switch(&mut tables, places, &run.switches[left]);
-    }
-    Ok(tables)
+    let rest = end.saturating_sub(switch.time);
+    put_stay(&mut tables.tasks, places, switch, rest);
+    take_rest(&mut tables.tasks, places, before.task, rest);
+    tables.cpus[cpu] = with_switch(&before, switch, rest);
 }

@@ -8,12 +8,11 @@ ghost use Rattle.run_figures.specs.private.Telling as telling;
 ghost use Rattle.run_figures.specs.private.Running as running;
 ghost use Rattle.run_figures.specs.private.Putting as putting;
 
+use crate::accounting::Accounting;
 use crate::counting::{Counts, Ended};
 use crate::figures::{CpuFigures, Responses, Summary, TaskFigures};
-use crate::places::Places;
-use crate::ran::{Cpu, Ran, ran_of};
+use crate::ran::{Cpu, Ran};
 use crate::run::{Admitted, Run};
-use crate::telling::told_of;
 use crate::throttle::us_up_to;
 use crate::told::{Told, with_over};
 use domain_run::NoMemory;
@@ -56,7 +55,7 @@ fn figures_of(task: &Admitted, told: &Told, ran: &Ran, end: u64) -> TaskFigures
     }
 }
 
-fn all_figures(
+pub(crate) fn all_figures(
     alloc: Global,
     tasks: &[Admitted],
     told: &[Told],
@@ -75,7 +74,7 @@ fn all_figures(
     Ok(all)
 }
 
-fn cpu_figures(alloc: Global, cpus: &[Cpu]) -> Result<Vec<CpuFigures>, NoMemory>
+pub(crate) fn cpu_figures(alloc: Global, cpus: &[Cpu]) -> Result<Vec<CpuFigures>, NoMemory>
     ensures { IfOk result (λ v. v.items ≡ map putting.put_cpu cpus.now) }
 {
     match cpus
@@ -92,7 +91,7 @@ fn cpu_figures(alloc: Global, cpus: &[Cpu]) -> Result<Vec<CpuFigures>, NoMemory>
 }
 
 /// The figures of a run: of each task, in the order of the tasks, and of each CPU of the domain. Goes
-/// once through what happened, and twice through the switches.
+/// once through what happened and the switches.
 ///
 /// # Errors
 /// 12 [`NoMemory`]: a growth was refused; nothing is left.
@@ -106,18 +105,7 @@ pub fn summary_of(alloc: Global, run: &Run<'_>) -> Result<Summary, NoMemory>
     ensures balanced { IfOk result (λ s. laws.IsToldOfCalls run.now.happened.now
         → All (laws.IsBalanced run.now.happened.now) s.tasks.items) }
 {
-    let places = Places::of(alloc, run.tasks)?;
-    let told = told_of(
-        alloc,
-        run.tasks,
-        &places,
-        run.happened,
-        run.switches,
-        run.time,
-    )?;
-    let ran = ran_of(alloc, run, &places)?;
-    Ok(Summary {
-        tasks: all_figures(alloc, run.tasks, &told, &ran.tasks, run.time)?,
-        cpus: cpu_figures(alloc, &ran.cpus)?,
-    })
+    let mut accounting = Accounting::open(alloc, run.cpus, run.time, run.tasks)?;
+    accounting.hear(run.happened, run.switches);
+    accounting.summary(alloc, run.tasks)
 }

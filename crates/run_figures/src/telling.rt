@@ -1,9 +1,7 @@
 //! What happened and who was preempted, told of all tasks at once.
 
-ghost use Rattle.std.specs.Prelude.{ℕ, ◌≡◌, ◌-◌, ◌+◌, ◌≤◌, ◌<◌, ◌^◌, nat_le, IfOk, All, AllPairs, IsTrue, map, length, take};
+ghost use Rattle.std.specs.Prelude.{ℕ, ◌≡◌, ◌-◌, ◌+◌, ◌≤◌, ◌<◌, ◌^◌, nat_le, IfOk, All, map, length, take};
 ghost use Rattle.std.specs.List.{prefix_len};
-ghost use Rattle.domain_run.specs.Switches.{is_before};
-ghost use Rattle.run_figures.specs.Runs as runs;
 ghost use Rattle.run_figures.specs.private.Telling as telling;
 
 use crate::places::Places;
@@ -27,7 +25,7 @@ fn tell(told: &mut Vec<Told>, places: &Places, happened: &Happened, time: u64)
 }
 
 /// Tells what happened up to a time, where the run ends at `end`, and answers how much that is.
-fn tell_until(
+pub(crate) fn tell_until(
     told: &mut Vec<Told>,
     places: &Places,
     happened: &[Happened],
@@ -54,7 +52,7 @@ fn tell_until(
 }
 
 /// Tells all of this.
-fn tell_all(told: &mut Vec<Told>, places: &Places, happened: &[Happened], end: u64)
+pub(crate) fn tell_all(told: &mut Vec<Told>, places: &Places, happened: &[Happened], end: u64)
     requires keyed { map (λ t. t.number) told.old.items ≡ places.now }
     requires room { telling.HaveRoomFor (length happened.now) told.old.items }
     ensures told { told.new.items ≡ map (telling.told_all end happened.now) told.old.items }
@@ -67,7 +65,7 @@ fn tell_all(told: &mut Vec<Told>, places: &Places, happened: &[Happened], end: u
 }
 
 /// Tells a switch.
-fn tell_switch(told: &mut Vec<Told>, places: &Places, switch: &Switch)
+pub(crate) fn tell_switch(told: &mut Vec<Told>, places: &Places, switch: &Switch)
     requires keyed { map (λ t. t.number) told.old.items ≡ places.now }
     requires room { All (λ t. t.preempted ≤ 2 ^ 64 - 2) told.old.items }
     ensures told { told.new.items ≡ map (telling.with_preemption switch.now) told.old.items }
@@ -85,37 +83,11 @@ fn tell_switch(told: &mut Vec<Told>, places: &Places, switch: &Switch)
     }
 }
 
-fn untold_all(alloc: Global, tasks: &[Admitted]) -> Result<Vec<Told>, NoMemory>
+pub(crate) fn untold_all(alloc: Global, tasks: &[Admitted]) -> Result<Vec<Told>, NoMemory>
     ensures { IfOk result (λ v. v.items ≡ map (λ t. telling.untold t.number) tasks.now) }
 {
     match tasks.iter().map(|task| untold(task.number)).collect(alloc) {
         Ok(told) => Ok(told),
         Err(_) => Err(NoMemory),
     }
-}
-
-/// Tells all that happened, and each switch behind what happened up to its time.
-pub(crate) fn told_of(
-    alloc: Global,
-    tasks: &[Admitted],
-    places: &Places,
-    happened: &[Happened],
-    switches: &[Switch],
-    end: u64,
-) -> Result<Vec<Told>, NoMemory>
-    requires places { places.now ≡ map (λ t. t.number) tasks.now }
-    requires rising { AllPairs (λ a b. IsTrue (is_before a b)) switches.now }
-    ensures told { IfOk result (λ v. v.items
-        ≡ map (λ t. telling.told_by end happened.now switches.now t.number) tasks.now) }
-    ensures within { IfOk result (λ v. All (telling.IsWithin (length happened.now)) v.items) }
-    ensures few { IfOk result (λ v. length happened.now < 2 ^ 64) }
-{
-    let mut told = untold_all(alloc, tasks)?;
-    let mut from = 0;
-    for switch in switches {
-        from += tell_until(&mut told, places, &happened[from..], switch.time, end);
-        tell_switch(&mut told, places, switch);
-    }
-    tell_all(&mut told, places, &happened[from..], end);
-    Ok(told)
 }

@@ -14,7 +14,7 @@ returns-in_default c =
 pub returns-in-Some-find : goal.returns-in-Some-find
 returns-in-Some-find c =
     let items = c.args.table.now.items in
-    ap (λ (x : Ran). set items c.in-Some-find.place x) c.with_stay-before.ensures
+    ap (λ (x : Ran). set items c.in-Some-find.place x) c.with_stay-after.ensures
     ∙ turned_place (λ (r : Ran). r.number) c.in-Some.number (with_stay c.args.switch.now.cpu c.args.us) items c.args.places.now c.in-Some-find.place c.index.result.now c.requires.keyed c.find.ensures.apart c.in-Some-find.ensures.found c.index.ensures
     ∙ ap (λ (o : Option ℕ). map (with_stay_of o c.args.switch.now.cpu c.args.us) items) (sym c.in-Some.is)
 

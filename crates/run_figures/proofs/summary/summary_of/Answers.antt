@@ -1,25 +1,36 @@
-use Rattle.std.proofs.Common.{◌∙◌, arith}
+use Rattle.std.proofs.Common.{◌≡◌, ◌∙◌, ap, subst, arith, All}
+use Rattle.std.specs.Prelude.{IfOk}
+use Rattle.run_figures.specs.Accounting.{AccountingView, heard_run, with_piece}
+use Rattle.run_figures.specs.Figures.{task_figures, cpu_figures}
+use Rattle.run_figures.specs.Laws.{AreKnown, IsShared, IsToldOfCalls, IsBalanced}
 use Rattle.run_figures.specs.Runs.{view_of}
-use Rattle.run_figures.proofs.Evened.{all_balanced}
-use Rattle.run_figures.proofs.Put.{all_tasks, all_cpus, all_short, shared}
+use Rattle.run_figures.proofs.Hearing.{whole_next}
 use Rattle.run_figures.proofs.summary.summary_of.Goals as goal
+
+pub hear-requires : goal.hear-requires
+hear-requires c =
+    record { next = whole_next (view_of c.args.run.now) c.in_ok-accounting.accounting c.requires.run c.in_ok-accounting.ensures (omega arith) (omega arith) }
 
 pub returns-clause-tasks : goal.returns-clause-tasks
 returns-clause-tasks c =
-    all_tasks (view_of c.args.run.now) c.deref.result.now c.deref-2.result.now c.in_ok-all_figures.field-0.items
-    (c.deref.ensures.value ∙ c.in_ok-told.ensures.told) (c.deref-2.ensures.value ∙ c.in_ok-ran.ensures.tasks) c.in_ok-all_figures.ensures
+    let run = c.args.run.now in
+    let whole = c.hear.ensures ∙ ap (λ (a : AccountingView). with_piece a run.happened.now run.switches.now) c.in_ok-accounting.ensures in
+    subst (λ (a : AccountingView). IfOk c.summary.result (λ s. s.tasks.items ≡ task_figures (heard_run a run.tasks.now))) whole c.summary.ensures.tasks
 
 pub returns-clause-cpus : goal.returns-clause-cpus
 returns-clause-cpus c =
-    all_cpus (view_of c.args.run.now) c.deref-3.result.now c.in_ok-cpu_figures.field-0.items (c.deref-3.ensures.value ∙ c.in_ok-ran.ensures.cpus) c.in_ok-cpu_figures.ensures
-
-pub returns-clause-short : goal.returns-clause-short
-returns-clause-short c =
-    all_short (view_of c.args.run.now) c.in_ok-all_figures.field-0.items c.in_ok-cpu_figures.field-0.items c.requires.run (omega arith) (returns-clause-tasks c) (returns-clause-cpus c)
+    let run = c.args.run.now in
+    let whole = c.hear.ensures ∙ ap (λ (a : AccountingView). with_piece a run.happened.now run.switches.now) c.in_ok-accounting.ensures in
+    subst (λ (a : AccountingView). IfOk c.summary.result (λ s. s.cpus.items ≡ cpu_figures (heard_run a run.tasks.now))) whole c.summary.ensures.cpus
 
 pub returns-clause-shared : goal.returns-clause-shared
 returns-clause-shared c =
-    shared (view_of c.args.run.now) c.in_ok-all_figures.field-0.items c.in_ok-cpu_figures.field-0.items c.requires.run (returns-clause-tasks c) (returns-clause-cpus c)
+    let run = c.args.run.now in
+    let whole = c.hear.ensures ∙ ap (λ (a : AccountingView). with_piece a run.happened.now run.switches.now) c.in_ok-accounting.ensures in
+    subst (λ (a : AccountingView). IfOk c.summary.result (λ s. AreKnown run.tasks.now a.switches → IsShared s.tasks.items s.cpus.items)) whole c.summary.ensures.shared
 
 pub returns-clause-balanced : goal.returns-clause-balanced
-returns-clause-balanced c = all_balanced (view_of c.args.run.now) c.in_ok-all_figures.field-0.items (returns-clause-tasks c)
+returns-clause-balanced c =
+    let run = c.args.run.now in
+    let whole = c.hear.ensures ∙ ap (λ (a : AccountingView). with_piece a run.happened.now run.switches.now) c.in_ok-accounting.ensures in
+    subst (λ (a : AccountingView). IfOk c.summary.result (λ s. IsToldOfCalls a.happened → All (IsBalanced a.happened) s.tasks.items)) whole c.summary.ensures.balanced

@@ -1,0 +1,158 @@
+//! The figures of a run that is heard piece by piece.
+
+ghost use Rattle.std.specs.Prelude.{◌≡◌, ◌<◌, ◌≤◌, ◌^◌, [], IfOk, All, map};
+ghost use Rattle.run_figures.specs.Accounting.{IsNextPiece, heard_run, with_piece};
+ghost use Rattle.run_figures.specs.Figures as figures;
+ghost use Rattle.run_figures.specs.Laws as laws;
+ghost use Rattle.run_figures.specs.Runs.{AreTasks};
+ghost use Rattle.run_figures.specs.private.Keeping as keeping;
+
+use crate::figures::Summary;
+use crate::past::Past;
+use crate::places::Places;
+use crate::ran::{Tables, put_switch};
+use crate::run::Admitted;
+use crate::summary::{all_figures, cpu_figures};
+use crate::telling::{tell_all, tell_switch, tell_until, untold_all};
+use crate::told::Told;
+use domain_run::{Happened, NoMemory, Switch};
+use std::alloc::Global;
+use std::marker::Model;
+
+/// What was heard of a run. What happened and the switches stand in proofs alone.
+#[derive(Drop)]
+struct Heard {
+    cpus: u32,
+    /// The time at its end.
+    time: u64,
+    happened: Past<Happened>,
+    switches: Past<Switch>,
+}
+
+/// The figures of a run while it is heard, piece by piece. It keeps a few counts of each task and
+/// of each CPU, and nothing of what it heard. Contracts see how many CPUs the run has, when it will
+/// end, the numbers of its tasks, and all that was heard.
+#[derive(Drop)]
+pub struct Accounting {
+    heard: Heard,
+    places: Places,
+    told: Vec<Told>,
+    ran: Tables,
+}
+
+impl Model for Accounting {
+    ghost use Rattle.run_figures.specs.Accounting.{AccountingView};
+    ghost use Rattle.run_figures.specs.private.Keeping.{IsKept, IsOfRun, view_of};
+
+    ghost Value = { AccountingView };
+
+    ghost view = { λ a. view_of a.heard a.places };
+
+    ghost invariant = { λ a. IsKept (view_of a.heard a.places) a.told.items a.ran.tasks.items
+        a.ran.cpus.items
+        × IsOfRun (view_of a.heard a.places) };
+}
+
+/// Hears one piece more: each switch behind what happened up to its time.
+fn hear_piece(
+    told: &mut Vec<Told>,
+    ran: &mut Tables,
+    places: &Places,
+    heard: &Heard,
+    happened: &[Happened],
+    switches: &[Switch],
+)
+    requires kept { keeping.IsKept (keeping.view_of heard.now places.now) told.old.items
+        ran.old.tasks.items ran.old.cpus.items }
+    requires run { keeping.IsOfRun (keeping.view_of heard.now places.now) }
+    requires next { IsNextPiece (keeping.view_of heard.now places.now) happened.now switches.now }
+    ensures { keeping.IsKept
+        (with_piece (keeping.view_of heard.now places.now) happened.now switches.now)
+        told.new.items ran.new.tasks.items ran.new.cpus.items }
+{
+    let mut from = 0;
+    for switch in switches {
+        from += tell_until(told, places, &happened[from..], switch.time, heard.time);
+        tell_switch(told, places, switch);
+        put_switch(ran, places, switch, heard.time);
+    }
+    tell_all(told, places, &happened[from..], heard.time);
+}
+
+impl Accounting {
+    /// Of a run of which nothing was heard yet: its domain has this many CPUs, at most 64, it will
+    /// end at this time, at most 2^42 us, and these are its tasks.
+    ///
+    /// # Errors
+    /// 12 [`NoMemory`]: a growth was refused; nothing is left.
+    pub fn open(
+        alloc: Global,
+        cpus: u32,
+        end: u64,
+        tasks: &[Admitted],
+    ) -> Result<Accounting, NoMemory>
+        requires cpus { cpus ≤ 64 }
+        requires early { end ≤ 2 ^ 42 }
+        requires tasks { AreTasks tasks.now }
+        ensures { IfOk result (λ a. a ≡ record {
+          cpus = cpus;
+          time = end;
+          tasks = map (λ t. t.number) tasks.now;
+          happened = [];
+          switches = [];
+        }) }
+    {
+        Ok(Accounting {
+            places: Places::of(alloc, tasks)?,
+            told: untold_all(alloc, tasks)?,
+            ran: Tables::open(alloc, cpus, tasks)?,
+            heard: Heard {
+                cpus,
+                time: end,
+                happened: Past::new(),
+                switches: Past::new(),
+            },
+        })
+    }
+
+    /// Hears the next piece: what happened and the switches, both in their order. Takes no memory.
+    pub fn hear(&mut self, happened: &[Happened], switches: &[Switch])
+        requires next { IsNextPiece self.old happened.now switches.now }
+        ensures { self.new ≡ with_piece self.old happened.now switches.now }
+    {
+        hear_piece(
+            &mut self.told,
+            &mut self.ran,
+            &self.places,
+            &self.heard,
+            happened,
+            switches,
+        );
+        self.heard.happened.extend(happened);
+        self.heard.switches.extend(switches);
+    }
+
+    /// The figures of the run that was heard: of each task, in the order of the tasks, with its
+    /// parameters as they are at the end, and of each CPU of the domain.
+    ///
+    /// # Errors
+    /// 12 [`NoMemory`]: a growth was refused; nothing is left of the summary.
+    pub fn summary(&self, alloc: Global, tasks: &[Admitted]) -> Result<Summary, NoMemory>
+        requires tasks { AreTasks tasks.now }
+        requires same { map (λ t. t.number) tasks.now ≡ self.now.tasks }
+        ensures tasks { IfOk result (λ s. s.tasks.items
+            ≡ figures.task_figures (heard_run self.now tasks.now)) }
+        ensures cpus { IfOk result (λ s. s.cpus.items
+            ≡ figures.cpu_figures (heard_run self.now tasks.now)) }
+        ensures short { IfOk result (λ s. laws.AreShort s.tasks.items s.cpus.items) }
+        ensures shared { IfOk result (λ s. laws.AreKnown tasks.now self.now.switches
+            → laws.IsShared s.tasks.items s.cpus.items) }
+        ensures balanced { IfOk result (λ s. laws.IsToldOfCalls self.now.happened
+            → All (laws.IsBalanced self.now.happened) s.tasks.items) }
+    {
+        Ok(Summary {
+            tasks: all_figures(alloc, tasks, &self.told, &self.ran.tasks, self.heard.time)?,
+            cpus: cpu_figures(alloc, &self.ran.cpus)?,
+        })
+    }
+}
