@@ -1,5 +1,5 @@
 -- The chart of runs as they are drawn.
-use Rattle.std.proofs.Common.{◌≡◌, ◌≢◌, ℕ, ◌+◌, ◌*◌, ◌<◌, ◌≤◌, Bool, true, List, [], ◌∷◌, ◌++◌, length, map, get_or, take, refl, sym, ap, subst, ◌∙◌, append_assoc, arith}
+use Rattle.std.proofs.Common.{◌≡◌, ◌≢◌, ℕ, ◌+◌, ◌<◌, ◌≤◌, true, List, [], ◌∷◌, ◌++◌, length, map, get_or, take, refl, sym, ap, ◌∙◌, append_assoc, arith}
 use Rattle.std.specs.Prelude.{All, AllPairs, flat_map, fold, max, sum_by}
 use Rattle.std.proofs.lemmas.List.{length-map, get_or-map, map-append, take_more, flat_map_more}
 use Rattle.std.proofs.lemmas.List.Folds.{fold-map, flat_map-map}
@@ -25,7 +25,7 @@ use Rattle.calls_trace.specs.declared.run_text.RunText.TheVariants.{Chart}
 use Rattle.calls_trace.specs.Replay.{calls_of}
 use Rattle.calls_trace.specs.Told.{domain_of}
 use Rattle.calls_trace.specs.Charted.{end_of, cpus_of, rows_at, rows_from, chart_of_sections}
-use Rattle.calls_trace.specs.private.Replaying.{PlacedView, view_of, view_at, views_from, end_in, cpus_in, rows_in, chart_in, text_of_runs}
+use Rattle.calls_trace.specs.private.Replaying.{PlacedView, view_of, views_from, end_in, cpus_in, rows_in, chart_in, text_of_runs}
 use Rattle.calls_trace.proofs.Written.{calls_cpus}
 
 -- ---- of sections

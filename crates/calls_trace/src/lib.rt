@@ -1,11 +1,12 @@
 //! From the calls of several domains to the trace of their runs.
 //!
 //! [`replay_as`] reads recorded calls and writes the text that is asked for: their trace, their
-//! replies, the trace with what happens, the jobs or the figures of what happens, or a chart; [`replay`]
-//! writes the trace. They meet the definition of what a replay answers (`specs/Answer.antt`), over
-//! the trace of the sections that a calls text spells (`specs/Replay.antt`) and what happens in them
-//! (`specs/Told.antt`), also as a chart (`specs/Charted.antt`). [`write_run_as`] writes the same of histories whose states and logs are at
-//! hand (`specs/Written.antt`); nothing is run again. To the crate above they promise: `Ok` means
+//! replies, the trace with what happens, the jobs or the figures of what happens, or a chart of a
+//! part of their run; [`replay`] writes the trace. They meet the definition of what a replay answers
+//! (`specs/Answer.antt`), over the trace of the sections that a calls text spells
+//! (`specs/Replay.antt`), what happens in them (`specs/Told.antt`), and their chart
+//! (`specs/Charted.antt`). [`write_run_as`] writes the same of histories whose states and logs are
+//! at hand (`specs/Written.antt`); nothing is run again. To the crate above they promise: `Ok` means
 //! that what was written is that text of the runs of the sections, each on a domain of its own, and
 //! nothing else; each fault means what it says, and where it is no fault of the writer, nothing was
 //! written. `proofs/CallerLemmas.antt` has laws for callers: the calls text of histories is read

@@ -25,8 +25,8 @@ pub enum ReplayPrint {
     Jobs,
     /// The figures of each task, of each CPU and of each domain.
     Summary,
-    /// A part of the run as a chart, one SVG file: which task ran where, when it wanted a CPU or was
-    /// throttled, and when its jobs were released and due. See [`Span::window`] for what is shown.
+    /// A part of the run as a chart, an SVG file: which task ran where, when it wanted a CPU or was
+    /// throttled, and when its jobs were released and due. [`Span::window`] says what is shown.
     Chart(Span),
 }
 
@@ -47,9 +47,10 @@ impl ReplayPrint {
 
 /// Reads a calls text to its end, runs the calls of each of its 1 to 8 sections on a domain of its
 /// own, and writes what is asked for: one trace of all domains, by time and CPU of the machine, in
-/// which the first domain has the first CPUs of the machine, the second the next ones; the same with
-/// lines of what happens to the tasks; each job of each task; the figures of tasks, CPUs and domains;
-/// a chart of all tasks, by domain; or each section's calls, each with the reply that it gets.
+/// which the first domain has the first CPUs of the machine, the second the next ones; the same
+/// with lines of what happens to the tasks; each job of each task; the figures of tasks, CPUs and
+/// domains; a chart of all tasks, by domain; or each section's calls, each with the reply that it
+/// gets.
 ///
 /// `Ok`: the input spells sections, and what was written is that text of their run, and nothing
 /// else.

@@ -143,8 +143,8 @@ fn run_in<N: Names + Send + Sync, T: Turnstile, X: Threads + Wait + Sync>(
 /// [`admit_all`](crate::admit_all), each in a thread of its own, with the turnstile round each
 /// admission. Then client 1 advances each domain by the scenario's duration as the last entry of
 /// its book, the session is closed, and what is asked for is written of all domains: the trace, the
-/// calls text of the histories, these with their replies, the trace with what happens, the jobs, the
-/// summary, or a chart of a part of the run. A duration of 0 makes no advance.
+/// calls text of the histories, these with their replies, the trace with what happens, the jobs,
+/// the summary, or a chart of a part of the run. A duration of 0 makes no advance.
 ///
 /// `Ok`: the histories in the report are legal and answer the scenario together with the refusals,
 /// and what was written is the text of their run, and nothing else. A task that is refused is no

@@ -18,8 +18,8 @@ pub enum Print {
     Jobs,
     /// The figures of each task, of each CPU and of each domain.
     Summary,
-    /// A part of the run as a chart, one SVG file: which task ran where, when it wanted a CPU or was
-    /// throttled, and when its jobs were released and due. See [`Span::window`] for what is shown.
+    /// A part of the run as a chart, an SVG file: which task ran where, when it wanted a CPU or was
+    /// throttled, and when its jobs were released and due. [`Span::window`] says what is shown.
     Chart(Span),
 }
 

@@ -22,7 +22,6 @@ use Rattle.run_figures.specs.Jobs.{task_jobs}
 use Rattle.run_figures.specs.Figures.{task_figures, cpu_figures}
 use Rattle.figure_text.specs.Jobs.{JobsView, jobs_text}
 use Rattle.figure_text.specs.Summary.{SummaryView, summary_text}
-use Rattle.chart_pieces.specs.declared.window.Span.{Span}
 use Rattle.chart_pieces.specs.declared.window.Window.{Window}
 use Rattle.chart_pieces.specs.Window.{window_of}
 use Rattle.chart_pieces.specs.Rows.{rows_of}
