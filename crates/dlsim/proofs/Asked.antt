@@ -9,7 +9,7 @@ use Rattle.clap.specs.declared.parser.matches.ArgMatches.{ArgMatches}
 use Rattle.clap.specs.declared.parser.matches.ArgMatches.TheViews.{out-ArgMatches, out-SubCommand}
 use Rattle.clap.specs.declared.parser.matches.SubCommand.{SubCommand}
 use Rattle.command_line.specs.Commands.{program_app}
-use Rattle.command_line.specs.Reading.{HasTextOfReplay, HasTextsOfRun, IsReading}
+use Rattle.command_line.specs.Reading.{HasTextsOfReplay, HasTextsOfRun, IsReading}
 use Rattle.dlsim.specs.Tasks.{IsAskedBy, IsMeant, IsRefusedBy, IsTaskOf, IsWrong, name_of}
 use Rattle.dlsim.specs.declared.words.Task.{Task}
 use Rattle.dlsim.specs.declared.words.Wrong.{Wrong}
@@ -44,7 +44,8 @@ of_error words e read = record { run = read.run; replay = read.replay; are_held 
 
 is_wrong : (app : App) (words : List Text) (w : Wrong) → IsRefusedBy (subcommand_of app words) w → IsWrong app words w
 is_wrong app words (wrong.Clap e) (inl r) = absurd r.2
-is_wrong app words (wrong.Clap e) (inr r) = absurd r.2
+is_wrong app words (wrong.Clap e) (inr (inl r)) = absurd r.2
+is_wrong app words (wrong.Clap e) (inr (inr r)) = absurd r.2
 is_wrong app words (wrong.Options fault) refused = refused
 is_wrong app words wrong.BothStdin refused = refused
 
@@ -61,7 +62,7 @@ of_wrong words m w read refused = record {
   wrong = is_wrong (program_app read.run read.replay) words w (subst (λ (command : Option (Text × List Row)). IsRefusedBy command w) read.found refused);
 }
 
-pub of_task : (words : List Text) (m : ArgMatches) (task : Task) → IsReading words (Ok m) → HasTextsOfRun m → HasTextOfReplay m → IsTaskOf (subcommand_name_of m) task
+pub of_task : (words : List Text) (m : ArgMatches) (task : Task) → IsReading words (Ok m) → HasTextsOfRun m → HasTextsOfReplay m → IsTaskOf (subcommand_name_of m) task
     → IsMeant (subcommand_rows_of m) task → IsAskedBy words (Ok task)
 of_task words m task read texts text named meant = record {
   run = read.run;
@@ -75,7 +76,7 @@ of_task words m task read texts text named meant = record {
   wrong = tt;
 }
 
-pub of_answer : (words : List Text) (m : ArgMatches) (r : Result Task Wrong) → IsReading words (Ok m) → HasTextsOfRun m → HasTextOfReplay m
+pub of_answer : (words : List Text) (m : ArgMatches) (r : Result Task Wrong) → IsReading words (Ok m) → HasTextsOfRun m → HasTextsOfReplay m
     → IfOk r (IsTaskOf (subcommand_name_of m)) → IfOk r (IsMeant (subcommand_rows_of m)) → IfErr r (IsRefusedBy (subcommand_rows_of m)) → IsAskedBy words r
 of_answer words m (Ok task) read texts text named meant refused = of_task words m task read texts text named meant
 of_answer words m (Err w) read texts text named meant refused = of_wrong words m w read refused

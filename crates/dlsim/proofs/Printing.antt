@@ -57,6 +57,9 @@ other text_of span otherwise rows text words read at_words differs cut = record 
 
 -- ---- faults
 
+no_text : length (codes "") ≡ length (codes "chart") → ⊥
+no_text bad = absurd (omega (arith, bad))
+
 -- a chart's part is none
 pub chart_fault : (rows : List Row) (text : List ℕ) (words : SpanWords) (fault : WordsFault) → IsTextAt rows (codes "print") text → AreSpanWordsAt rows words
     → text ≡ codes "chart" → span_of words ≡ Err fault → IsCutFault rows fault
@@ -68,10 +71,7 @@ chart_fault rows text words fault read at_words is refused = record {
 }
   where
     found : (o : Option (List ℕ)) → first_of (codes "print") rows ≡ o → (first_of (codes "print") rows ≡ Some (codes "chart") → ⊥) → ⊥
-    found None at differs = absurd (no_text (ap length (sym (read.absent at) ∙ is)))
-      where
-        no_text : 0 ≡ 5 → ⊥
-        no_text bad = omega (arith, bad)
+    found None at differs = no_text (ap length (sym (read.absent at) ∙ is))
     found (Some t) at differs = differs (at ∙ ap (λ x. Some x) (sym (read.some t at) ∙ is))
 
 -- a part is asked for beside another text

@@ -2,26 +2,30 @@ use Rattle.dlsim.proofs.Printing.{print_named, print_other}
 use Rattle.session.specs.declared.options.Print.TheVariants as prints
 use Rattle.dlsim.proofs.words.print_of.Goals as goal
 
-pub returns-in-calls : goal.returns-in-calls
-returns-in-calls c = print_named _ _ prints.Calls c.text_of.ensures c.in-calls.is
+pub returns-in-calls-clause-print : goal.returns-in-calls-clause-print
+returns-in-calls-clause-print c = print_named _ _ _ prints.Calls c.text_of-text.ensures c.span_words_of-words.ensures c.in-calls.is c.in_ok-read_uncut.ensures
 
-pub returns-in-replies : goal.returns-in-replies
-returns-in-replies c = print_named _ _ prints.Replies c.text_of.ensures c.in-replies.is
+pub returns-in-replies-clause-print : goal.returns-in-replies-clause-print
+returns-in-replies-clause-print c = print_named _ _ _ prints.Replies c.text_of-text.ensures c.span_words_of-words.ensures c.in-replies.is c.in_ok-read_uncut.ensures
 
-pub returns-in-events : goal.returns-in-events
-returns-in-events c = print_named _ _ prints.Events c.text_of.ensures c.in-events.is
+pub returns-in-events-clause-print : goal.returns-in-events-clause-print
+returns-in-events-clause-print c = print_named _ _ _ prints.Events c.text_of-text.ensures c.span_words_of-words.ensures c.in-events.is c.in_ok-read_uncut.ensures
 
-pub returns-in-jobs : goal.returns-in-jobs
-returns-in-jobs c = print_named _ _ prints.Jobs c.text_of.ensures c.in-jobs.is
+pub returns-in-jobs-clause-print : goal.returns-in-jobs-clause-print
+returns-in-jobs-clause-print c = print_named _ _ _ prints.Jobs c.text_of-text.ensures c.span_words_of-words.ensures c.in-jobs.is c.in_ok-read_uncut.ensures
 
-pub returns-in-summary : goal.returns-in-summary
-returns-in-summary c = print_named _ _ prints.Summary c.text_of.ensures c.in-summary.is
+pub returns-in-summary-clause-print : goal.returns-in-summary-clause-print
+returns-in-summary-clause-print c = print_named _ _ _ prints.Summary c.text_of-text.ensures c.span_words_of-words.ensures c.in-summary.is c.in_ok-read_uncut.ensures
 
-pub returns-in_default : goal.returns-in_default
-returns-in_default c =
-    print_other _ _ c.text_of.ensures c.in_default.not-calls (record {
+pub returns-in_default-clause-print : goal.returns-in_default-clause-print
+returns-in_default-clause-print c =
+    print_other _ _ _ c.text_of-text.ensures c.span_words_of-words.ensures c.in_default.not-calls (record {
+      chart = c.if-eq.false;
       replies = c.in_default.not-replies;
       events = c.in_default.not-events;
       jobs = c.in_default.not-jobs;
       summary = c.in_default.not-summary;
-    })
+    }) c.in_ok-read_uncut.ensures
+
+pub returns-then-eq-clause-print : goal.returns-then-eq-clause-print
+returns-then-eq-clause-print c = print_named _ _ _ (prints.Chart _) c.text_of-text.ensures c.span_words_of-words.ensures c.if-eq.true c.in_ok-read_span.ensures.span

@@ -18,5 +18,5 @@ returns-clause-found c =
         on = λ e. c.get_flag.ensures.value (reclaim ∙ e);
         off = λ e. c.get_flag.ensures.other (reclaim ∙ e);
       };
-      print = c.print_of.ensures;
+      print = c.in_ok-print.ensures.print;
     }
