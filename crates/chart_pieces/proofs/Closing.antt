@@ -1,5 +1,5 @@
 -- A line with all that is told of it is the row of its task.
-use Rattle.std.proofs.Common.{◌≡◌, ℕ, true, false, cond, eqb, List, [], ◌∷◌, ◌++◌, map, reverse, refl, sym, ap, ◌∙◌, append-nil, append_assoc, eq-eqb}
+use Rattle.std.proofs.Common.{◌≡◌, ℕ, true, false, cond, eqb, List, [], ◌∷◌, ◌++◌, reverse, refl, sym, ap, ◌∙◌, append-nil, append_assoc, eq-eqb}
 use Rattle.std.specs.Prelude.{filter, fold}
 use Rattle.std.proofs.lemmas.Bool.{ne_eqb, eqb-true, eqb-false}
 use Rattle.std.proofs.lemmas.List.{reverse-reverse}
@@ -13,7 +13,7 @@ use Rattle.chart_pieces.specs.Moments.{moments, moments_of}
 use Rattle.chart_pieces.specs.Standing.{at_rest, after}
 use Rattle.chart_pieces.specs.Rows.{gap_by, gaps_from, marks_by, marks_from, row_of}
 use Rattle.chart_pieces.specs.private.LineView.{LineView}
-use Rattle.chart_pieces.specs.private.Lines.{no_line, with_bars, line_after, line_if, line_all, row_by, line_of}
+use Rattle.chart_pieces.specs.private.Lines.{no_line, with_bars, line_after, line_all, row_by, line_of}
 
 abbrev own_of : ℕ → List Moment → List Moment
 own_of n ms = filter (λ m. eqb m.number n) ms

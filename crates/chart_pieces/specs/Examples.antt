@@ -5,7 +5,7 @@ use Rattle.domain_run.specs.declared.happened.What.TheVariants.{JobEnds, NextRel
 use Rattle.domain_run.specs.declared.happened.Happened.{Happened}
 use Rattle.domain_run.specs.declared.switch.Switch.{Switch}
 use Rattle.domain_run.specs.declared.switch.PrevState.{PrevState}
-use Rattle.domain_run.specs.declared.switch.PrevState.TheVariants.{Running, Preempted, Sleeping, Dead}
+use Rattle.domain_run.specs.declared.switch.PrevState.TheVariants.{Running, Preempted, Dead}
 use Rattle.run_figures.specs.Runs.{RunView}
 use Rattle.run_figures.specs.Stays.{cpu_us}
 use Rattle.chart_pieces.specs.declared.row.Bar.{Bar}

@@ -1,9 +1,7 @@
 -- Laws of the rows.
-use Rattle.std.specs.Prelude.{ℕ, ◌≡◌, ◌<◌, ◌≤◌, ◌&&◌, Bool, All, AllPairs, IsTrue, List, filter, sum_by}
+use Rattle.std.specs.Prelude.{ℕ, ◌≡◌, ◌<◌, ◌≤◌, All, sum_by}
 use Rattle.run_figures.specs.Runs.{RunView}
 use Rattle.run_figures.specs.Stays.{cpu_us}
-use Rattle.chart_pieces.specs.declared.row.Bar.{Bar}
-use Rattle.chart_pieces.specs.declared.row.Gap.{Gap}
 use Rattle.chart_pieces.specs.declared.window.Window.{Window}
 use Rattle.chart_pieces.specs.RowView.{RowView}
 use Rattle.chart_pieces.specs.Bars.{us}

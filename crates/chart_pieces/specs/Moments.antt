@@ -1,10 +1,9 @@
 -- All that concerns tasks, in its order: what happens to one, and who leaves and comes by a switch
 -- (own).
-use Rattle.std.specs.Prelude.{ℕ, ◌==◌, Bool, List, [], ◌∷◌, ◌++◌, drop, filter, length, map, Option, Some, None}
+use Rattle.std.specs.Prelude.{ℕ, ◌==◌, List, [], ◌∷◌, ◌++◌, drop, filter, length, map, Option, Some, None}
 use Rattle.domain_run.specs.declared.happened.Happened.{Happened}
 use Rattle.domain_run.specs.declared.switch.Switch.{Switch}
 use Rattle.run_figures.specs.Throttling.{up_to}
-use Rattle.chart_pieces.specs.declared.standing.Turn.{Turn}
 use Rattle.chart_pieces.specs.declared.standing.Turn.TheVariants.{Told, Leaves, Comes}
 use Rattle.chart_pieces.specs.declared.standing.Moment.{Moment}
 

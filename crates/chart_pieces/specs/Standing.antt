@@ -1,6 +1,6 @@
 -- How a task stands: whether a job of it is under way, whether it is throttled, and on which CPU it is
 -- (own; ready and throttled as in sched-deadline.rst, "2. Task scheduling").
-use Rattle.std.specs.Prelude.{ℕ, Bool, true, false, not, ◌&&◌, ◌||◌, is_none, if◌then◌else◌, Option, Some, None}
+use Rattle.std.specs.Prelude.{ℕ, Bool, true, false, ◌&&◌, ◌||◌, is_none, if◌then◌else◌, Some, None}
 use Rattle.domain_run.specs.declared.happened.What.{What}
 use Rattle.domain_run.specs.declared.happened.What.TheVariants.{JobEnds, NextReleased, Spent, Cut, Replenished, Released, WokenSpent}
 use Rattle.run_figures.specs.Stays.{is_task}

@@ -1,5 +1,5 @@
 -- A task while its switches and its moments go by.
-use Rattle.std.specs.Prelude.{ℕ, ◌&&◌, if◌then◌else◌, ◌++◌, List, [], ◌∷◌, fold, reverse, Option, Some, None}
+use Rattle.std.specs.Prelude.{ℕ, if◌then◌else◌, ◌++◌, List, [], ◌∷◌, fold, reverse, Option, Some, None}
 use Rattle.domain_run.specs.declared.switch.Switch.{Switch}
 use Rattle.run_figures.specs.Runs.{RunView}
 use Rattle.chart_pieces.specs.declared.standing.Moment.{Moment}

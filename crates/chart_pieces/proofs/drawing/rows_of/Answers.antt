@@ -4,7 +4,6 @@ use Rattle.std.proofs.lemmas.List.{nil_from_length, reverse-reverse}
 use Rattle.std.proofs.lemmas.List.Elements.{All-map}
 use Rattle.run_figures.specs.declared.run.Admitted.{Admitted}
 use Rattle.run_figures.specs.Runs.{view_of}
-use Rattle.chart_pieces.specs.RowView.{RowView}
 use Rattle.chart_pieces.specs.Rows.{row_of}
 use Rattle.chart_pieces.specs.Laws.{AreSeen, IsFull}
 use Rattle.chart_pieces.specs.private.LineView.{LineView}

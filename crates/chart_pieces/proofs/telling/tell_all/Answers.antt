@@ -1,8 +1,6 @@
 use Rattle.std.proofs.Common.{map, take, ap, ◌∙◌}
-use Rattle.domain_run.specs.declared.happened.Happened.{Happened}
 use Rattle.chart_pieces.specs.declared.standing.Moment.{Moment}
 use Rattle.chart_pieces.specs.Moments.{moment_of}
-use Rattle.chart_pieces.specs.private.LineView.{LineView}
 use Rattle.chart_pieces.specs.private.Lines.{line_if}
 use Rattle.chart_pieces.proofs.Moments.{none_told, one_told, numbers_of_lines}
 use Rattle.chart_pieces.proofs.telling.tell_all.Goals as goal

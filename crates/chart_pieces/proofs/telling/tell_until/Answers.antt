@@ -1,4 +1,4 @@
-use Rattle.std.proofs.Common.{◌+◌, map, take, refl, ap, ◌∙◌, arith}
+use Rattle.std.proofs.Common.{map, take, refl, ap, ◌∙◌, arith}
 use Rattle.std.proofs.lemmas.List.{get_or_default}
 use Rattle.domain_run.specs.declared.happened.Happened.{Happened}
 use Rattle.chart_pieces.specs.declared.standing.Moment.{Moment}
