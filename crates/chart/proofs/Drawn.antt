@@ -1,7 +1,5 @@
 -- What is drawn of a row begins in time.
 use Rattle.std.proofs.Common.{◌<◌, ◌≤◌, All}
-use Rattle.chart_pieces.specs.declared.row.Bar.{Bar}
-use Rattle.chart_pieces.specs.declared.row.Mark.{Mark}
 use Rattle.chart_pieces.specs.declared.window.Window.{Window}
 use Rattle.chart_pieces.specs.RowView.{RowView}
 use Rattle.chart_pieces.specs.Laws.{AreSeen}

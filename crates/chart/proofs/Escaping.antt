@@ -39,6 +39,7 @@ by_case byte n there other y f = ⊎_elim
     (λ (e : byte ≡ n). subst IsEscaped (sym (ap (λ b. cond b there other) (eq-eqb byte n e))) y)
     (λ (ne : byte ≢ n). subst IsEscaped (sym (ap (λ b. cond b there other) (ne_eqb byte n ne))) (f ne))
     (cases_eq byte n)
+
 abbrev quotes : ℕ → List ℕ
 quotes byte = cond (eqb byte 34) (codes "&quot;") (byte ∷ [])
 

@@ -37,6 +37,20 @@ numbered-map line v n (x ∷ xs) = ap (λ t. line n (v x) ++ t) (numbered-map li
 pub behind : (old one two a b : List ℕ) → one ≡ old ++ a → two ≡ one ++ b → two ≡ old ++ (a ++ b)
 behind old one two a b p q = q ∙ ap (λ t. t ++ b) p ∙ append_assoc old a b
 
-pub on_ok : {T E : Type 0} (r : Result T E) (P Q : Type 0) → (P → Q) → OnOk r P → OnOk r Q
-on_ok (Ok x) P Q f h = f h
-on_ok (Err e) P Q f h = tt
+-- the same where the last of them may be refused
+pub joined : {T E : Type 0} (r : Result T E) (old one two a b : List ℕ) → one ≡ old ++ a → OnOk r (two ≡ one ++ b) → OnOk r (two ≡ old ++ (a ++ b))
+joined (Ok x) old one two a b p h = behind old one two a b p h
+joined (Err e) old one two a b p h = tt
+
+pub joined3 : {T E : Type 0} (r : Result T E) (old one two three a b c : List ℕ) → one ≡ old ++ a → two ≡ one ++ b → OnOk r (three ≡ two ++ c) → OnOk r (three ≡ old ++ (a ++ (b ++ c)))
+joined3 r old one two three a b c p q h =
+    joined r old one three a (b ++ c) p (joined r one two three b c q h)
+
+pub joined4 : {T E : Type 0} (r : Result T E) (old one two three four a b c d : List ℕ) → one ≡ old ++ a → two ≡ one ++ b → three ≡ two ++ c → OnOk r (four ≡ three ++ d) → OnOk r (four ≡ old ++ (a ++ (b ++ (c ++ d))))
+joined4 r old one two three four a b c d p q s h =
+    joined r old one four a (b ++ (c ++ d)) p (joined3 r one two three four b c d q s h)
+
+-- a text that is another one
+pub as_text : {T E : Type 0} (r : Result T E) (old new a b : List ℕ) → a ≡ b → OnOk r (new ≡ old ++ a) → OnOk r (new ≡ old ++ b)
+as_text (Ok x) old new a b e h = h ∙ ap (λ t. old ++ t) e
+as_text (Err e) old new a b f h = tt

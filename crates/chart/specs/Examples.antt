@@ -1,5 +1,5 @@
 -- Worked rows: the text of a chart.
-use Rattle.std.specs.Prelude.{ℕ, ◌≡◌, true, false, List, [], ◌∷◌, ◌++◌, codes, refl}
+use Rattle.std.specs.Prelude.{ℕ, ◌≡◌, true, false, [], ◌∷◌, codes, refl}
 use Rattle.std.specs.Fmt.{digits}
 use Rattle.chart_pieces.specs.declared.row.Bar.{Bar}
 use Rattle.chart_pieces.specs.declared.row.Gap.{Gap}
@@ -9,11 +9,9 @@ use Rattle.chart_pieces.specs.declared.row.Sign.TheVariants.{Released, Due, Ende
 use Rattle.chart_pieces.specs.declared.window.Window.{Window}
 use Rattle.chart.specs.Escape.{escaped}
 use Rattle.chart.specs.Seconds.{seconds}
-use Rattle.chart.specs.Sizes.{sheet_of}
 use Rattle.chart.specs.Axis.{ticks_of, step_of}
 use Rattle.chart.specs.Colours.{fill_of, ink_of, legend_cpus}
 use Rattle.chart.specs.Rows.{ChartRowView}
-use Rattle.chart.specs.Pieces.{name_lines, row_lines, over_lines}
 use Rattle.chart.specs.Chart.{chart_text}
 
 abbrev window : ℕ → ℕ → Window

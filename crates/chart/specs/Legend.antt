@@ -1,5 +1,5 @@
 -- The legend, below the plot (own): the colours of CPUs, and what the lines and marks mean.
-use Rattle.std.specs.Prelude.{ℕ, ◌+◌, ◌*◌, List, ◌++◌, length, codes, decimal}
+use Rattle.std.specs.Prelude.{ℕ, ◌+◌, ◌*◌, List, ◌++◌, length, codes}
 use Rattle.figure_text.specs.Columns.{numbered}
 use Rattle.chart.specs.declared.sheet.Sheet.{Sheet}
 use Rattle.chart.specs.Sizes.{plot_end}

@@ -1,5 +1,5 @@
 -- The elements of a row (own): its band and name, the lines between its bars, its bars, and its marks.
-use Rattle.std.specs.Prelude.{ℕ, ◌+◌, ◌-◌, ◌*◌, ◌/◌, ◌%◌, ◌==◌, ◌&&◌, Bool, true, nat_le, nat_lt, min, max, if◌then◌else◌, List, [], ◌∷◌, ◌++◌, length, flat_map, codes, decimal}
+use Rattle.std.specs.Prelude.{ℕ, ◌+◌, ◌-◌, ◌/◌, ◌%◌, ◌==◌, ◌&&◌, Bool, true, nat_le, nat_lt, min, max, if◌then◌else◌, List, [], ◌++◌, length, flat_map, codes, decimal}
 use Rattle.chart_pieces.specs.declared.row.Bar.{Bar}
 use Rattle.chart_pieces.specs.declared.row.Gap.{Gap}
 use Rattle.chart_pieces.specs.declared.row.Mark.{Mark}
@@ -31,13 +31,15 @@ times start stop = seconds start ++ (codes " to " ++ (seconds stop ++ codes " s"
 
 -- ---- NAMES
 
+abbrev pub band_box : Sheet → ℕ → List ℕ
+band_box s place =
+    with_number (codes "<rect x=\"0\" y=\"") (40 + row_top s place)
+    ++ (with_number (codes "\" width=\"1170\" height=\"") s.size.height
+    ++ codes "\" fill=\"#f4f4f4\"/>\n")
+
 -- every second row has a band
 abbrev pub band : Sheet → ℕ → List ℕ
-band s place =
-    if place % 2 == 0
-    then with_number (codes "<rect x=\"0\" y=\"") (40 + row_top s place)
-    ++ (with_number (codes "\" width=\"1170\" height=\"") s.size.height
-    ++ codes "\" fill=\"#f4f4f4\"/>\n") else []
+band s place = if place % 2 == 0 then band_box s place else []
 
 abbrev pub name_size : Sheet → List ℕ
 name_size s = if is_tall s then [] else codes " font-size=\"10\""

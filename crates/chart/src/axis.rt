@@ -101,12 +101,7 @@ fn ticks_by(alloc: Global, window: &Window, step: u64) -> Result<Vec<u64>, NoMem
     ensures ticks { IfOk result (λ v. v.items ≡ axis.ticks_by window.now step) }
     ensures early { IfOk result (λ v. All (λ t. t ≤ 2 ^ 42) v.items) }
 {
-    ticks_between(
-        alloc,
-        step,
-        first_tick(window, step),
-        window.to / step + 1,
-    )
+    ticks_between(alloc, step, first_tick(window, step), window.to / step + 1)
 }
 
 /// The ticks of a window.

@@ -82,11 +82,7 @@ fn put_background(out: &mut Vec<u8>, sheet: &Sheet) -> Result<(), NoMemory>
     requires sheet { IsSheet sheet.now }
     ensures { OnOk result (out.new.items ≡ out.old.items ++ charts.background sheet.now) }
 {
-    put_with(
-        out,
-        b"<rect width=\"1200\" height=\"",
-        chart_height(sheet),
-    )?;
+    put_with(out, b"<rect width=\"1200\" height=\"", chart_height(sheet))?;
     put(out, b"\" fill=\"#fff\"/>\n")
 }
 
@@ -104,7 +100,7 @@ fn put_head(out: &mut Vec<u8>, sheet: &Sheet) -> Result<(), NoMemory>
 
 fn put_names(out: &mut Vec<u8>, sheet: &Sheet, rows: &[ChartRow<'_>]) -> Result<(), NoMemory>
     requires sheet { IsSheet sheet.now }
-    requires few { length rows.now ≤ 65536 }
+    requires few { length rows.now ≤ 2 ^ 20 }
     ensures { OnOk result (out.new.items
         ≡ out.old.items ++ numbered (pieces.name_lines sheet.now) 0 (map view_of rows.now)) }
 {
@@ -166,7 +162,7 @@ fn put_grid(out: &mut Vec<u8>, sheet: &Sheet, ticks: &[u64]) -> Result<(), NoMem
 
 fn put_rows(out: &mut Vec<u8>, sheet: &Sheet, rows: &[ChartRow<'_>]) -> Result<(), NoMemory>
     requires sheet { IsSheet sheet.now }
-    requires few { length rows.now ≤ 65536 }
+    requires few { length rows.now ≤ 2 ^ 20 }
     ensures { OnOk result (out.new.items
         ≡ out.old.items ++ numbered (pieces.row_lines sheet.now) 0 (map view_of rows.now)) }
 {
@@ -183,7 +179,7 @@ fn put_plot(
     rows: &[ChartRow<'_>],
 ) -> Result<(), NoMemory>
     requires sheet { IsSheet sheet.now }
-    requires few { length rows.now ≤ 65536 }
+    requires few { length rows.now ≤ 2 ^ 20 }
     ensures { OnOk result (out.new.items
         ≡ out.old.items ++ charts.plot sheet.now ticks.now (map view_of rows.now)) }
 {
@@ -197,7 +193,7 @@ fn put_plot(
 
 fn put_over(out: &mut Vec<u8>, sheet: &Sheet, rows: &[ChartRow<'_>]) -> Result<(), NoMemory>
     requires sheet { IsSheet sheet.now }
-    requires few { length rows.now ≤ 65536 }
+    requires few { length rows.now ≤ 2 ^ 20 }
     requires drawn { All (IsDrawn sheet.now.window) rows.now }
     ensures { OnOk result (out.new.items
         ≡ out.old.items ++ numbered (pieces.over_lines sheet.now) 0 (map view_of rows.now)) }
@@ -270,7 +266,7 @@ fn put_upper(
     rows: &[ChartRow<'_>],
 ) -> Result<(), NoMemory>
     requires sheet { IsSheet sheet.now }
-    requires few { length rows.now ≤ 65536 }
+    requires few { length rows.now ≤ 2 ^ 20 }
     ensures { OnOk result (out.new.items
         ≡ out.old.items ++ charts.upper sheet.now ticks.now (map view_of rows.now)) }
 {
@@ -288,7 +284,7 @@ fn put_lower(
 ) -> Result<(), NoMemory>
     requires sheet { IsSheet sheet.now }
     requires cpus { sheet.now.cpus ≤ 512 }
-    requires few { length rows.now ≤ 65536 }
+    requires few { length rows.now ≤ 2 ^ 20 }
     requires early { All (λ t. t ≤ 2 ^ 42) ticks.now }
     requires drawn { All (IsDrawn sheet.now.window) rows.now }
     ensures { OnOk result (out.new.items
@@ -309,7 +305,7 @@ fn put_chart_of(
 ) -> Result<(), NoMemory>
     requires sheet { IsSheet sheet.now }
     requires cpus { sheet.now.cpus ≤ 512 }
-    requires few { length rows.now ≤ 65536 }
+    requires few { length rows.now ≤ 2 ^ 20 }
     requires early { All (λ t. t ≤ 2 ^ 42) ticks.now }
     requires drawn { All (IsDrawn sheet.now.window) rows.now }
     ensures { OnOk result (out.new.items
@@ -319,7 +315,7 @@ fn put_chart_of(
     put_lower(out, alloc, sheet, ticks, rows)
 }
 
-/// Puts the chart of a window behind a text: one SVG file of at most 65536 rows, of a machine of at
+/// Puts the chart of a window behind a text: one SVG file of at most 2^20 rows, of a machine of at
 /// most 512 CPUs. Costs what the window's bars, gaps and marks cost.
 ///
 /// # Errors
@@ -333,7 +329,7 @@ pub fn put_chart(
 ) -> Result<(), NoMemory>
     requires window { IsWindow window }
     requires cpus { cpus ≤ 512 }
-    requires few { length rows.now ≤ 65536 }
+    requires few { length rows.now ≤ 2 ^ 20 }
     requires drawn { All (IsDrawn window) rows.now }
     ensures { OnOk result (out.new.items
         ≡ out.old.items ++ charts.chart_text window cpus (map view_of rows.now)) }

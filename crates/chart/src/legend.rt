@@ -49,12 +49,7 @@ fn put_colour_end(out: &mut Vec<u8>, cpu: u64) -> Result<(), NoMemory>
     put(out, b"</text>\n")
 }
 
-fn put_colour_number(
-    out: &mut Vec<u8>,
-    sheet: &Sheet,
-    place: u64,
-    cpu: u64,
-) -> Result<(), NoMemory>
+fn put_colour_number(out: &mut Vec<u8>, sheet: &Sheet, place: u64, cpu: u64) -> Result<(), NoMemory>
     requires sheet { IsSheet sheet.now }
     requires place { place ≤ 8 }
     requires cpu { cpu < 2 ^ 40 }
@@ -97,10 +92,7 @@ fn put_colour_title(out: &mut Vec<u8>, sheet: &Sheet) -> Result<(), NoMemory>
     ensures { OnOk result (out.new.items ≡ out.old.items ++ legends.colour_title sheet.now) }
 {
     put_with(out, b"<text x=\"142\" y=\"", sheet.plot_end() + 43)?;
-    put(
-        out,
-        b"\" text-anchor=\"end\" font-size=\"11\">CPU</text>\n",
-    )
+    put(out, b"\" text-anchor=\"end\" font-size=\"11\">CPU</text>\n")
 }
 
 fn put_colours(out: &mut Vec<u8>, sheet: &Sheet, cpus: &[u64]) -> Result<(), NoMemory>
@@ -175,12 +167,7 @@ pub(crate) struct Entry<'a> {
 }
 
 /// A sign, and behind it its meaning.
-fn put_entry(
-    out: &mut Vec<u8>,
-    sheet: &Sheet,
-    left: u64,
-    entry: &Entry<'_>,
-) -> Result<(), NoMemory>
+fn put_entry(out: &mut Vec<u8>, sheet: &Sheet, left: u64, entry: &Entry<'_>) -> Result<(), NoMemory>
     requires sheet { IsSheet sheet.now }
     requires left { left ≤ 2000 }
     requires top { entry.now.top ≤ 100 }
@@ -196,12 +183,7 @@ fn put_entry(
         sheet.plot_end() + entry.top,
         entry.path,
     )?;
-    put_meaning(
-        out,
-        left + entry.indent,
-        sheet.plot_end() + 43,
-        entry.word,
-    )
+    put_meaning(out, left + entry.indent, sheet.plot_end() + 43, entry.word)
 }
 
 fn put_line_signs(out: &mut Vec<u8>, sheet: &Sheet, left: u64) -> Result<(), NoMemory>
@@ -283,11 +265,7 @@ fn put_legend_of(out: &mut Vec<u8>, sheet: &Sheet, cpus: &[u64]) -> Result<(), N
 }
 
 /// The legend.
-pub(crate) fn put_legend(
-    out: &mut Vec<u8>,
-    alloc: Global,
-    sheet: &Sheet,
-) -> Result<(), NoMemory>
+pub(crate) fn put_legend(out: &mut Vec<u8>, alloc: Global, sheet: &Sheet) -> Result<(), NoMemory>
     requires sheet { IsSheet sheet.now }
     requires cpus { sheet.now.cpus ≤ 512 }
     ensures { OnOk result (out.new.items ≡ out.old.items ++ legends.legend sheet.now) }

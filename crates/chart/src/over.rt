@@ -62,12 +62,7 @@ fn has_number(sheet: &Sheet, base: u32, bar: &Bar) -> bool
     sheet.is_tall() && 1 < sheet.cpus && number_width(cpu_of(base, bar)) <= seen_width(sheet, bar)
 }
 
-fn put_number_place(
-    out: &mut Vec<u8>,
-    sheet: &Sheet,
-    place: u64,
-    bar: &Bar,
-) -> Result<(), NoMemory>
+fn put_number_place(out: &mut Vec<u8>, sheet: &Sheet, place: u64, bar: &Bar) -> Result<(), NoMemory>
     requires sheet { IsSheet sheet.now }
     requires place { place ≤ 2 ^ 32 }
     requires start { bar.now.start < sheet.now.window.to }
@@ -198,12 +193,7 @@ fn mark_word(sign: Sign) -> &'static [u8]
     }
 }
 
-fn put_mark_place(
-    out: &mut Vec<u8>,
-    sheet: &Sheet,
-    place: u64,
-    mark: &Mark,
-) -> Result<(), NoMemory>
+fn put_mark_place(out: &mut Vec<u8>, sheet: &Sheet, place: u64, mark: &Mark) -> Result<(), NoMemory>
     requires sheet { IsSheet sheet.now }
     requires place { place ≤ 2 ^ 32 }
     requires time { mark.now.time ≤ sheet.now.window.to }
@@ -211,20 +201,11 @@ fn put_mark_place(
         ≡ out.old.items ++ pieces.mark_place sheet.now place mark.now) }
 {
     put_with(out, b"\" d=\"M", sheet.pixel_of(mark.time))?;
-    put_with(
-        out,
-        b" ",
-        40 + (sheet.row_top(place) + mark_top(mark.sign)),
-    )?;
+    put_with(out, b" ", 40 + (sheet.row_top(place) + mark_top(mark.sign)))?;
     put(out, mark_path(mark.sign))
 }
 
-fn put_mark_shape(
-    out: &mut Vec<u8>,
-    sheet: &Sheet,
-    place: u64,
-    mark: &Mark,
-) -> Result<(), NoMemory>
+fn put_mark_shape(out: &mut Vec<u8>, sheet: &Sheet, place: u64, mark: &Mark) -> Result<(), NoMemory>
     requires sheet { IsSheet sheet.now }
     requires place { place ≤ 2 ^ 32 }
     requires time { mark.now.time ≤ sheet.now.window.to }

@@ -33,17 +33,26 @@ pub(crate) fn put_title(out: &mut Vec<u8>, name: &[u8]) -> Result<(), NoMemory>
 
 // ---- names
 
+fn put_band_box(out: &mut Vec<u8>, sheet: &Sheet, place: u64) -> Result<(), NoMemory>
+    requires sheet { IsSheet sheet.now }
+    requires place { place ≤ 2 ^ 32 }
+    ensures { OnOk result (out.new.items ≡ out.old.items ++ pieces.band_box sheet.now place) }
+{
+    put_with(out, b"<rect x=\"0\" y=\"", 40 + sheet.row_top(place))?;
+    put_with(out, b"\" width=\"1170\" height=\"", sheet.size.height)?;
+    put(out, b"\" fill=\"#f4f4f4\"/>\n")
+}
+
+/// Every second row has a band.
 fn put_band(out: &mut Vec<u8>, sheet: &Sheet, place: u64) -> Result<(), NoMemory>
     requires sheet { IsSheet sheet.now }
     requires place { place ≤ 2 ^ 32 }
     ensures { OnOk result (out.new.items ≡ out.old.items ++ pieces.band sheet.now place) }
 {
-    if place % 2 != 0 {
-        return Ok(());
+    if place % 2 == 0 {
+        return put_band_box(out, sheet, place);
     }
-    put_with(out, b"<rect x=\"0\" y=\"", 40 + sheet.row_top(place))?;
-    put_with(out, b"\" width=\"1170\" height=\"", sheet.size.height)?;
-    put(out, b"\" fill=\"#f4f4f4\"/>\n")
+    Ok(())
 }
 
 fn put_name_size(out: &mut Vec<u8>, sheet: &Sheet) -> Result<(), NoMemory>
@@ -77,12 +86,7 @@ fn put_named(out: &mut Vec<u8>, name: &[u8]) -> Result<(), NoMemory>
     put(out, b"</text>\n")
 }
 
-fn put_name_text(
-    out: &mut Vec<u8>,
-    sheet: &Sheet,
-    place: u64,
-    name: &[u8],
-) -> Result<(), NoMemory>
+fn put_name_text(out: &mut Vec<u8>, sheet: &Sheet, place: u64, name: &[u8]) -> Result<(), NoMemory>
     requires sheet { IsSheet sheet.now }
     requires place { place ≤ 2 ^ 32 }
     ensures { OnOk result (out.new.items
@@ -141,12 +145,7 @@ fn gap_word(gap: &Gap) -> &'static [u8]
     b" wants a CPU: "
 }
 
-fn put_gap_path(
-    out: &mut Vec<u8>,
-    sheet: &Sheet,
-    place: u64,
-    gap: &Gap,
-) -> Result<(), NoMemory>
+fn put_gap_path(out: &mut Vec<u8>, sheet: &Sheet, place: u64, gap: &Gap) -> Result<(), NoMemory>
     requires sheet { IsSheet sheet.now }
     requires place { place ≤ 2 ^ 32 }
     ensures { OnOk result (out.new.items
@@ -164,12 +163,7 @@ fn put_gap_said(out: &mut Vec<u8>, gap: &Gap) -> Result<(), NoMemory>
     put_times(out, gap.start, gap.stop)
 }
 
-fn put_gap_shape(
-    out: &mut Vec<u8>,
-    sheet: &Sheet,
-    place: u64,
-    gap: &Gap,
-) -> Result<(), NoMemory>
+fn put_gap_shape(out: &mut Vec<u8>, sheet: &Sheet, place: u64, gap: &Gap) -> Result<(), NoMemory>
     requires sheet { IsSheet sheet.now }
     requires place { place ≤ 2 ^ 32 }
     ensures { OnOk result (out.new.items
@@ -215,23 +209,14 @@ pub(crate) fn us(bar: &Bar) -> u64
     bar.stop.saturating_sub(bar.start)
 }
 
-fn put_bar_box(
-    out: &mut Vec<u8>,
-    sheet: &Sheet,
-    place: u64,
-    bar: &Bar,
-) -> Result<(), NoMemory>
+fn put_bar_box(out: &mut Vec<u8>, sheet: &Sheet, place: u64, bar: &Bar) -> Result<(), NoMemory>
     requires sheet { IsSheet sheet.now }
     requires place { place ≤ 2 ^ 32 }
     ensures { OnOk result (out.new.items
         ≡ out.old.items ++ pieces.bar_box sheet.now place bar.now) }
 {
     put_with(out, b"<rect class=\"b\" x=\"", bar.start)?;
-    put_with(
-        out,
-        b"\" y=\"",
-        sheet.row_top(place) + sheet.size.bar_top,
-    )?;
+    put_with(out, b"\" y=\"", sheet.row_top(place) + sheet.size.bar_top)?;
     put_with(out, b"\" width=\"", us(bar))?;
     put_with(out, b"\" height=\"", sheet.size.bar_height)
 }

@@ -100,30 +100,30 @@ moved : row_of (window 0 9) (run 2 9
     (at 0 1 (Released 9) ∷ [])
     (switch 0 1 None Running (Some 1) ∷ switch 3 0 None Running (Some 1)
     ∷ switch 3 1 (Some 1) Preempted (Some 2) ∷ [])) 1 ≡ record {
-  number = 1;
-  bars = bar 1 0 3 ∷ bar 0 3 9 ∷ [];
-  gaps = [];
-  marks = mark ReleasedAt 0 ∷ mark DueAt 9 ∷ [];
-}
+      number = 1;
+      bars = bar 1 0 3 ∷ bar 0 3 9 ∷ [];
+      gaps = [];
+      marks = mark ReleasedAt 0 ∷ mark DueAt 9 ∷ [];
+    }
 moved = refl
 
 -- A LATE TIMER releases the next job at the end of this one; a job that is cut ends once
 next_job : row_of (window 0 20) (run 1 20
     (at 0 1 (Released 8) ∷ at 6 1 JobEnds ∷ at 6 1 (NextReleased 14) ∷ at 9 1 Cut ∷ [])
     (switch 0 0 None Running (Some 1) ∷ switch 9 0 (Some 1) Dead None ∷ [])) 1 ≡ record {
-  number = 1;
-  bars = bar 0 0 9 ∷ [];
-  gaps = [];
-  marks = mark ReleasedAt 0 ∷ mark DueAt 8 ∷ mark ReleasedAt 6 ∷ mark DueAt 14 ∷ mark EndedAt 9 ∷ [];
-}
+      number = 1;
+      bars = bar 0 0 9 ∷ [];
+      gaps = [];
+      marks = mark ReleasedAt 0 ∷ mark DueAt 8 ∷ mark ReleasedAt 6 ∷ mark DueAt 14 ∷ mark EndedAt 9 ∷ [];
+    }
 next_job = refl
 
 -- IT WAKES WITHOUT BUDGET: it is throttled from its release on, up to the end of the run
 woken : row_of (window 0 20) (run 1 7
     (at 3 1 (Released 8) ∷ at 3 1 (WokenSpent 9) ∷ []) []) 1 ≡ record {
-  number = 1;
-  bars = [];
-  gaps = throttle 3 7 ∷ [];
-  marks = mark ReleasedAt 3 ∷ mark DueAt 8 ∷ [];
-}
+      number = 1;
+      bars = [];
+      gaps = throttle 3 7 ∷ [];
+      marks = mark ReleasedAt 3 ∷ mark DueAt 8 ∷ [];
+    }
 woken = refl

@@ -32,12 +32,12 @@ impl Model for Line {
     ghost Value = { LineView };
 
     ghost view = { λ l. record {
-        number = l.number;
-        bars = l.bars.items;
-        standing = l.standing;
-        since = l.since;
-        gaps = l.gaps.items;
-        marks = l.marks.items;
+      number = l.number;
+      bars = l.bars.items;
+      standing = l.standing;
+      since = l.since;
+      gaps = l.gaps.items;
+      marks = l.marks.items;
     } };
 }
 

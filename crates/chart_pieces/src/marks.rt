@@ -29,12 +29,7 @@ pub(crate) fn push_gap(
     Ok(())
 }
 
-fn push_mark(
-    marks: &mut Vec<Mark>,
-    window: &Window,
-    sign: Sign,
-    time: u64,
-) -> Result<(), NoMemory>
+fn push_mark(marks: &mut Vec<Mark>, window: &Window, sign: Sign, time: u64) -> Result<(), NoMemory>
     ensures { OnOk result (marks.new.items ≡ marks.old.items ++ rows.mark_in window.now sign time) }
 {
     if window.holds(time) {
@@ -57,12 +52,7 @@ fn push_job(
     push_mark(marks, window, Sign::Due, deadline)
 }
 
-fn push_told(
-    marks: &mut Vec<Mark>,
-    window: &Window,
-    time: u64,
-    what: What,
-) -> Result<(), NoMemory>
+fn push_told(marks: &mut Vec<Mark>, window: &Window, time: u64, what: What) -> Result<(), NoMemory>
     ensures { OnOk result (marks.new.items
         ≡ marks.old.items ++ rows.marks_by_told window.now time what) }
 {
@@ -71,10 +61,8 @@ fn push_told(
             push_job(marks, window, time, deadline)
         }
         What::Cut => push_mark(marks, window, Sign::Ended, time),
-        What::JobEnds
-        | What::Spent { .. }
-        | What::Replenished { .. }
-        | What::WokenSpent { .. } => Ok(()),
+        What::JobEnds | What::Spent { .. } | What::Replenished { .. } | What::WokenSpent { .. } =>
+            Ok(()),
     }
 }
 

@@ -57,9 +57,9 @@ impl Model for Row {
     ghost Value = { RowView };
 
     ghost view = { λ r. record {
-        number = r.number;
-        bars = r.bars.items;
-        gaps = r.gaps.items;
-        marks = r.marks.items;
+      number = r.number;
+      bars = r.bars.items;
+      gaps = r.gaps.items;
+      marks = r.marks.items;
     } };
 }

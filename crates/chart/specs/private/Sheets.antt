@@ -1,5 +1,5 @@
 -- Sizes that fit.
-use Rattle.std.specs.Prelude.{ℕ, ◌<◌, ◌≤◌, ◌^◌}
+use Rattle.std.specs.Prelude.{◌≤◌, ◌^◌}
 use Rattle.chart_pieces.specs.Window.{IsWindow}
 use Rattle.chart.specs.declared.sheet.Sheet.{Sheet}
 

@@ -1,4 +1,4 @@
-use Rattle.std.proofs.Common.{ℕ, ◌*◌, ◌/◌, ◌≤◌, arith}
+use Rattle.std.proofs.Common.{◌*◌, ◌/◌, ◌≤◌, arith}
 use Rattle.std.proofs.Math.Nat.{le-div_iff_mul-le}
 use Rattle.chart.proofs.axis.ticks_by.Goals as goal
 
