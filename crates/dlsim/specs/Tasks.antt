@@ -4,7 +4,6 @@ use Rattle.clap.specs.Words.{App, HasKind, Row, Text, fault_of, subcommand_of}
 use Rattle.command_line.specs.Commands.{AreHeld, HeldNames, program_app}
 use Rattle.command_line.specs.Reading.{HasReplayTexts, HasTexts}
 use Rattle.session.specs.Options.{AreOptions}
-use Rattle.dl_session.specs.declared.words.WordsFault.{WordsFault}
 use Rattle.dl_session.specs.declared.words.WordsFault.TheVariants.{Memory}
 use Rattle.dlsim.specs.Comparing.{IsComparisonAt, IsWithItself, shares_stdin, AreFit}
 use Rattle.dlsim.specs.Found.{AreMeantBy, IsCutFault, IsFaultOf, IsReplayPrintAt}

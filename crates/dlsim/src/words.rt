@@ -1,7 +1,7 @@
 //! What the words of the command line ask for.
 
-ghost use Rattle.std.specs.Prelude.{◌≡◌, ◌<◌, ◌≤◌, List, Some, IfErr, IfOk, codes, map, string_bytes};
-ghost use Rattle.clap.specs.Words.{Row, found_of, rows_of, subcommand_name_of, subcommand_rows_of};
+ghost use Rattle.std.specs.Prelude.{◌<◌, ◌≤◌, IfErr, IfOk, map, string_bytes};
+ghost use Rattle.clap.specs.Words.{found_of, rows_of, subcommand_name_of, subcommand_rows_of};
 ghost use Rattle.session.specs.Options.{AreOptions};
 ghost use Rattle.dlsim.specs.Found.{AreFound, AreMeantBy, AreSpanWordsAt, IsCutFault, IsFaultOf, IsNumberAt, IsPrintAt, IsReadAt, IsReplayPrintAt, IsTextAt};
 ghost use Rattle.dlsim.specs.Tasks.{IsAskedBy, IsComparisonBy, IsComparisonRefusedBy, IsFit, IsMeant, IsRefusedBy, IsReplayBy, IsReplayRefusedBy, IsRunBy, IsRunRefusedBy, IsTaskOf};
