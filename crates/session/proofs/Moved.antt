@@ -3,6 +3,7 @@ use Rattle.std.proofs.Common.{◌≡◌, ◌≢◌, ℕ, zero, suc, ◌+◌, ◌
 use Rattle.std.specs.Prelude.{Result, IfSome, IsSomeAnd}
 use Rattle.std.proofs.Math.Seq.{take-append_seam}
 use Rattle.std.proofs.lemmas.List.{get_or-set_other, get_or-take, get_or-drop, get_or_default, length-set}
+use Rattle.attr_check.specs.ParamsView.{ParamsView}
 use Rattle.attr_check.specs.Ratio.{cap}
 use Rattle.pass_seats.specs.Lists.{PassView}
 use Rattle.domain_run.specs.declared.call.Call.{Call}
@@ -10,19 +11,21 @@ use Rattle.domain_run.specs.declared.call.Call.TheVariants as calls
 use Rattle.domain_run.specs.declared.call.Reply.{Reply}
 use Rattle.domain_run.specs.declared.call.Reply.TheVariants as replies
 use Rattle.domain_run.specs.Domain.{Domain}
+use Rattle.domain_run.specs.Views.{Moving, moving_in}
 use Rattle.domain_run.specs.Calls.{reply_to}
 use Rattle.domain_run.specs.Run.{run_of}
-use Rattle.bw_gate.specs.Pieces.{BlankView, TicketView}
+use Rattle.bw_gate.specs.Pieces.{GateId, BlankView, TicketView}
 use Rattle.bw_gate.specs.Answers.{IsGive}
+use Rattle.call_book.specs.Pieces.{IsTicketOf}
 use Rattle.call_book.specs.declared.section.Entry.{Entry}
-use Rattle.call_book.specs.Book.{BookView, AdmissionView, calls_of, state_of}
-use Rattle.call_book.specs.MoveAnswers.{Sides, arrival, ComeBack, LacksRoom}
+use Rattle.call_book.specs.Book.{BookView, AdmissionView, Enters, Stays, calls_of, state_of}
+use Rattle.call_book.specs.MoveAnswers.{Sides, moving_as, arrival, IsStale, ComeBack, IsMoved, LacksRoom}
 use Rattle.session.specs.declared.refusal.Refusal.{Refusal}
 use Rattle.session.specs.SessionId.{SessionId, cpus_of}
 use Rattle.session.specs.Asks.{IsOverCap, ClientView, Made, made_by, Makes}
-use Rattle.session.specs.Moves.{state_after, WouldReply}
+use Rattle.session.specs.Moves.{state_after, WasListed, WouldReply, WasChanged}
 use Rattle.session.specs.private.Entering.{IsSessionBook, IsClientOf, pass_after}
-use Rattle.session.specs.private.Moving.{PassPair, IsWhyRefused, IsRefusedBy, IsBooksAnswer, PassesMove, IsMoveFor}
+use Rattle.session.specs.private.Moving.{PassPair, IsMovedBy, IsWhyRefused, IsRefusedBy, IsBooksAnswer, PassesMove, IsMoveFor}
 use Rattle.session.proofs.Asked.{makes_at, made_nothing}
 use Rattle.session.proofs.Admitted.{followed_more}
 use Rattle.session.proofs.Passes.{kept, still_client}
@@ -50,7 +53,35 @@ no_room id d b a seen named lacks = (
       }),
 )
 
+was_listed : (id : SessionId) (d number : ℕ) (b : BookView) (task : Moving) → IsSessionBook id d b → moving_in (state_of b) number ≡ Some task → WasListed id d number task
+was_listed id d number b task named is =
+    record { before = calls_of b.history; found = subst (λ (s : Domain). moving_in s number ≡ Some task) (same_state id d b named) is }
+
+pub was_changed : (id : SessionId) (d : ℕ) (b : BookView) (a : AdmissionView) (now : ParamsView) → IsSessionBook id d b → IsStale b a now → WasChanged id d a.number (moving_as a) now
+was_changed id d b a now named s = record { task = s.task; listed = was_listed id d a.number b s.task named s.found; differs = s.differs; told = s.told }
+
 -- ---- under both locks
+
+-- each book is the session's still
+pub entered_named : (id : SessionId) (d : ℕ) (old new : BookView) (p q : PassView Entry) (call : Call) (reply : Reply) → IsSessionBook id d old → Enters old new p q call reply → IsSessionBook id d new
+entered_named id d old new p q call reply is e =
+    subst (IsSessionBook id d) (sym e.book)
+    (record { gate = is.gate; domain = is.domain; spine = is.spine; cpus = is.cpus; limit = is.limit; clients = is.clients; room = is.room; workers = is.workers; place = is.place })
+
+pub stays_named : (id : SessionId) (d : ℕ) (old new : BookView) (p q : PassView Entry) → IsSessionBook id d old → Stays old new p q → IsSessionBook id d new
+stays_named id d old new p q is s = subst (IsSessionBook id d) (sym s.book) is
+
+pub moved_by : (id : SessionId) (from to : ℕ) (old new : Sides) (a : AdmissionView) (ticket back : TicketView) (blank : BlankView) → IsSessionBook id from old.from
+    → IsMoved old new a ticket back → IsGive back blank → IsMovedBy id from to (record { out = old.out; into = old.into }) (record { out = new.out; into = new.into }) a blank
+moved_by id from to old new a ticket back blank named m given = record {
+  left = m.left.pass;
+  came = m.came.pass;
+  listed = was_listed id from a.number old.from (moving_as a) named m.as_prepared;
+  ticket = back;
+  own = subst (λ (n : ℕ). IsTicketOf id.gate n back) named.domain (subst (λ (i : GateId). IsTicketOf i old.from.domain back) named.gate m.own);
+  bw = m.bw;
+  given = given;
+}
 
 pub refused_by : (id : SessionId) (from to : ℕ) (old new : Sides) (a b : AdmissionView) (ticket back : TicketView) (blank : BlankView) (refusal : Refusal)
     → ComeBack old new a b ticket back → IsGive back blank → IsWhyRefused id from to a refusal

@@ -1,0 +1,36 @@
+use Rattle.std.proofs.Common.{length, Some, ap, subst, ◌∙◌}
+use Rattle.attr_check.specs.ParamsView.{ParamsView}
+use Rattle.domain_run.specs.declared.call.Call.{Call}
+use Rattle.domain_run.specs.declared.call.Call.TheVariants as calls
+use Rattle.rtapp_scenario.specs.ScenarioView.{TaskSpecView}
+use Rattle.call_book.specs.Book.{AdmissionView, admission}
+use Rattle.session.specs.declared.refusal.Refusal.TheVariants as refusals
+use Rattle.session.specs.SessionId.{cpus_of}
+use Rattle.session.specs.Asks.{ClientView, Makes, made_by, call_of, AsksGate}
+use Rattle.session.specs.private.Entering.{IsVerdict}
+use Rattle.session.proofs.Asked.{accepted_is, refused_makes}
+use Rattle.session.proofs.client.Client.admit_with.Goals as goal
+
+pub returns-in-Ok-clause-made : goal.returns-in-Ok-clause-made
+returns-in-Ok-clause-made g c =
+    let t = c.args.task.now in
+    subst (λ (call : Call). Makes c.args.self.now c.submit.new.self (made_by c.args.place call c.submit.result))
+    (ap admission c.in-Ok.ensures ∙ ap (λ (v : TaskSpecView). calls.Admit v.number v.name c.args.params v.delay v.script) c.task.view_is
+    ∙ ap (λ (p : ParamsView). calls.Admit t.number t.name p t.delay t.script) (accepted_is t.attr c.args.params c.requires.checked)) c.submit.ensures.made
+
+pub returns-in-Ok-clause-verdict : goal.returns-in-Ok-clause-verdict
+returns-in-Ok-clause-verdict g c =
+    subst (λ (p : ParamsView). IsVerdict (length (cpus_of g.N.Names.id c.args.place)) p.bw c.submit.result)
+    (ap (λ (a : AdmissionView). a.params) c.in-Ok.ensures ∙ accepted_is c.args.task.now.attr c.args.params c.requires.checked) c.submit.ensures.verdict
+
+pub returns-in-Ok-clause-last : goal.returns-in-Ok-clause-last
+returns-in-Ok-clause-last g c = c.submit.ensures.last
+
+pub returns-in-Ok-clause-gate : goal.returns-in-Ok-clause-gate
+returns-in-Ok-clause-gate g c =
+    subst (λ (p : ParamsView). AsksGate g.N.Names.id.gate c.args.place p.bw (Some c.args.blank) c.submit.result c.submit.new.self.hand)
+    (ap (λ (a : AdmissionView). a.params) c.in-Ok.ensures ∙ accepted_is c.args.task.now.attr c.args.params c.requires.checked) c.submit.ensures.gate
+
+pub returns-in-Err-clause-made : goal.returns-in-Err-clause-made
+returns-in-Err-clause-made g c =
+    refused_makes c.args.self.now _ c.args.place (call_of c.args.task.now) refusals.Enomem (ap (λ (v : ClientView). v.number) c.self.view_is) (ap (λ (v : ClientView). v.passes) c.self.view_is)
