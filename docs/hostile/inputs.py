@@ -4,7 +4,7 @@ import json
 
 UNIT = 1 << 20
 # What --print takes; each of a replay is a text of a run too.
-REPLAY_TEXTS = ["trace", "replies", "events", "jobs", "summary"]
+REPLAY_TEXTS = ["trace", "replies", "events", "jobs", "summary", "chart"]
 RUN_TEXTS = ["calls", *REPLAY_TEXTS]
 
 
