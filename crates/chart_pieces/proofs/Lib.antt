@@ -1,5 +1,4 @@
 pub mod Turning
-pub mod Indexing
 pub mod Moments
 pub mod Staying
 pub mod Closing

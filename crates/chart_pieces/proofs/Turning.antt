@@ -3,7 +3,7 @@ use Rattle.std.proofs.Common.{◌≡◌, ◌≢◌, ℕ, zero, suc, ◌<◌, con
 use Rattle.std.specs.Prelude.{AllPairs, OnOk, Result, Ok, Err}
 use Rattle.std.proofs.lemmas.List.{length-map}
 use Rattle.std.proofs.lemmas.Bool.{ne_eqb}
-use Rattle.chart_pieces.specs.private.Places.{IsAt, IsAbsent, if_number}
+use Rattle.run_figures.specs.Places.{IsAt, IsAbsent, if_number}
 
 pub rest_absent : (m : ℕ) (numbers : List ℕ) (n : ℕ) → IsAbsent (m ∷ numbers) n → IsAbsent numbers n
 rest_absent m numbers n absent k d h = absent (suc k) d (omega arith)

@@ -8,13 +8,12 @@ ghost use Rattle.chart_pieces.specs.Window.{IsWhole};
 ghost use Rattle.chart_pieces.specs.private.Lines as lines;
 
 use crate::lines::{Line, closed, no_lines};
-use crate::places::Places;
 use crate::row::Row;
 use crate::stays::put_bars;
 use crate::telling::tell_moments;
 use crate::window::Window;
 use domain_run::NoMemory;
-use run_figures::Run;
+use run_figures::{Places, Run};
 use std::alloc::Global;
 
 /// The lines of all tasks, with all that is told.

@@ -11,7 +11,6 @@
 mod drawing;
 mod lines;
 mod marks;
-mod places;
 mod row;
 mod standing;
 mod stays;

@@ -4,12 +4,11 @@ ghost use Rattle.std.specs.Prelude.{ℕ, ◌≡◌, ◌++◌, IfOk, OnOk, map};
 ghost use Rattle.chart_pieces.specs.private.Lines as lines;
 
 use crate::marks::{push_gap, push_marks};
-use crate::places::Places;
 use crate::row::{Bar, Gap, Mark, Row};
 use crate::standing::{Moment, Standing, after, at_rest};
 use crate::window::Window;
 use domain_run::{NoMemory, Switch};
-use run_figures::Admitted;
+use run_figures::{Admitted, Places};
 use std::alloc::Global;
 use std::marker::Model;
 

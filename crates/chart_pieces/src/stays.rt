@@ -5,10 +5,9 @@ ghost use Rattle.run_figures.specs.Runs.{IsRun, view_of};
 ghost use Rattle.chart_pieces.specs.private.Lines as lines;
 
 use crate::lines::{Line, put_bar};
-use crate::places::Places;
 use crate::window::Window;
 use domain_run::NoMemory;
-use run_figures::Run;
+use run_figures::{Places, Run};
 use std::alloc::Global;
 
 /// When each CPU switches next, where none does before the end.

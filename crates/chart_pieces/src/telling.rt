@@ -6,10 +6,10 @@ ghost use Rattle.chart_pieces.specs.Moments as moments;
 ghost use Rattle.chart_pieces.specs.private.Lines as lines;
 
 use crate::lines::{Line, tell};
-use crate::places::Places;
 use crate::standing::{Moment, Turn};
 use crate::window::Window;
 use domain_run::{Happened, NoMemory, Switch};
+use run_figures::Places;
 
 fn moment_of(happened: &Happened) -> Moment
     ensures { result ≡ moments.moment_of happened.now }

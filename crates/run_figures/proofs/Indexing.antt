@@ -6,7 +6,7 @@ use Rattle.std.proofs.lemmas.List.{get_or-set_same, get_or-set_other, get_or-rep
 use Rattle.std.proofs.lemmas.List.Elements.{All-map, All-same}
 use Rattle.run_figures.specs.declared.run.Admitted.{Admitted}
 use Rattle.run_figures.specs.Runs.{AreTasks}
-use Rattle.run_figures.specs.private.Places.{IsIndex, AreIndexed, IsAt, IsAbsent}
+use Rattle.run_figures.specs.Places.{IsIndex, AreIndexed, IsAt, IsAbsent}
 
 pub nothing_seen : (numbers : List ℕ) → IsIndex numbers 0 (replicate 65536 0)
 nothing_seen numbers = record {

@@ -6,7 +6,7 @@ use Rattle.std.proofs.lemmas.List.Elements.{All-head, All-tail, All-nil, All-con
 use Rattle.std.proofs.lemmas.List.Sums.{sum_by-cons}
 use Rattle.domain_run.specs.declared.switch.Switch.{Switch}
 use Rattle.run_figures.specs.Stays.{Stay, until, stays_by, stays}
-use Rattle.run_figures.specs.private.Places.{IsAbsent}
+use Rattle.run_figures.specs.Places.{IsAbsent}
 use Rattle.run_figures.proofs.Turning.{rest_apart, others_absent, rest_absent}
 use Rattle.run_figures.proofs.Behind.{us_in, us_in-cons}
 

@@ -5,7 +5,7 @@ use Rattle.std.specs.List.{range_with_len}
 use Rattle.std.proofs.lemmas.List.{length-map}
 use Rattle.std.proofs.lemmas.List.FromFn.{length-range_with_len, get_or-range_with_len}
 use Rattle.std.proofs.lemmas.Bool.{ne_eqb}
-use Rattle.run_figures.specs.private.Places.{IsAt, IsAbsent, if_number}
+use Rattle.run_figures.specs.Places.{IsAt, IsAbsent, if_number}
 
 pub rest_absent : (m : ℕ) (numbers : List ℕ) (n : ℕ) → IsAbsent (m ∷ numbers) n → IsAbsent numbers n
 rest_absent m numbers n absent k d h = absent (suc k) d (omega arith)

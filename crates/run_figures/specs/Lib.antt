@@ -1,4 +1,5 @@
 pub mod TaskJobsView
+pub mod Places
 pub mod Jobs
 pub mod Stays
 pub mod Throttling

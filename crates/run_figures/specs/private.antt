@@ -1,5 +1,4 @@
 pub mod LineView
-pub mod Places
 pub mod Telling
 pub mod Running
 pub mod Lines

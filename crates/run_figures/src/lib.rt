@@ -26,5 +26,6 @@ pub use domain_run::NoMemory;
 pub use figures::{CpuFigures, Responses, Summary, TaskFigures};
 pub use job::Job;
 pub use lines::{TaskJobs, jobs_of};
+pub use places::Places;
 pub use run::{Admitted, Run};
 pub use summary::summary_of;

@@ -1,7 +1,7 @@
 //! Where a task stands, by its number.
 
 ghost use Rattle.std.specs.Prelude.{◌≡◌, ◌≢◌, ◌<◌, IfOk, IfSome, IfNone, All, AllPairs, length, map};
-ghost use Rattle.run_figures.specs.private.Places as places;
+ghost use Rattle.run_figures.specs.Places as places;
 ghost use Rattle.run_figures.specs.Runs.{AreTasks};
 
 use crate::run::Admitted;
@@ -9,9 +9,10 @@ use domain_run::NoMemory;
 use std::alloc::Global;
 use std::marker::Model;
 
-/// The numbers of tasks in their order, and where each stands.
+/// The numbers of tasks in their order, and where each stands: found without a walk. Contracts see
+/// the numbers.
 #[derive(Drop)]
-pub(crate) struct Places {
+pub struct Places {
     numbers: Vec<u32>,
     /// Of each number below 65536: 0 where it stands nowhere, and else its place and one.
     codes: Vec<usize>,
@@ -19,7 +20,7 @@ pub(crate) struct Places {
 
 impl Model for Places {
     ghost use Rattle.std.specs.Prelude.{ℕ, List};
-    ghost use Rattle.run_figures.specs.private.Places.{AreIndexed};
+    ghost use Rattle.run_figures.specs.Places.{AreIndexed};
 
     ghost Value = { List ℕ };
 
@@ -51,7 +52,11 @@ fn index_of(alloc: Global, numbers: &[u32]) -> Result<Vec<usize>, NoMemory>
 }
 
 impl Places {
-    pub(crate) fn of(alloc: Global, tasks: &[Admitted]) -> Result<Places, NoMemory>
+    /// The places of tasks, by their numbers.
+    ///
+    /// # Errors
+    /// 12 [`NoMemory`]: a growth was refused; nothing is left.
+    pub fn of(alloc: Global, tasks: &[Admitted]) -> Result<Places, NoMemory>
         requires { AreTasks tasks.now }
         ensures { IfOk result (λ p. p ≡ map (λ t. t.number) tasks.now) }
     {
@@ -60,8 +65,8 @@ impl Places {
         Ok(Places { numbers, codes })
     }
 
-    /// The place of a number.
-    pub(crate) fn find(&self, number: u32) -> Option<usize>
+    /// The place of a number among the tasks, where it is one of theirs. Takes no memory.
+    pub fn find(&self, number: u32) -> Option<usize>
         ensures found { IfSome result (places.IsAt self.now number) }
         ensures absent { IfNone result (places.IsAbsent self.now number) }
         ensures apart { AllPairs (λ a b. a ≢ b) self.now }

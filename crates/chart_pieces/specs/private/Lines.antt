@@ -12,7 +12,7 @@ use Rattle.chart_pieces.specs.Moments.{moments}
 use Rattle.chart_pieces.specs.Standing.{at_rest, after}
 use Rattle.chart_pieces.specs.Rows.{gap_by, marks_by}
 use Rattle.chart_pieces.specs.private.LineView.{LineView}
-use Rattle.chart_pieces.specs.private.Places.{if_number}
+use Rattle.run_figures.specs.Places.{if_number}
 
 abbrev pub no_line : ℕ → LineView
 no_line number = record {

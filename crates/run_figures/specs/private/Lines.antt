@@ -4,7 +4,7 @@ use Rattle.std.specs.Option.{option_to_list}
 use Rattle.domain_run.specs.declared.happened.Happened.{Happened}
 use Rattle.run_figures.specs.Jobs.{over_by, under_way}
 use Rattle.run_figures.specs.private.LineView.{LineView}
-use Rattle.run_figures.specs.private.Places.{if_number}
+use Rattle.run_figures.specs.Places.{if_number}
 
 abbrev pub line_after : Happened → LineView → LineView
 line_after h l = record {

@@ -5,7 +5,7 @@ use Rattle.domain_run.specs.declared.switch.Switch.{Switch}
 use Rattle.run_figures.specs.declared.ran.Ran.{Ran}
 use Rattle.run_figures.specs.declared.ran.Cpu.{Cpu}
 use Rattle.run_figures.specs.Stays.{cpu_us, busy_us, placements, migrations}
-use Rattle.run_figures.specs.private.Places.{if_number}
+use Rattle.run_figures.specs.Places.{if_number}
 
 -- A TASK
 abbrev pub last_from : ℕ → List ℕ → ℕ

@@ -13,7 +13,7 @@ use Rattle.run_figures.specs.Jobs.{over_by, under_way}
 use Rattle.run_figures.specs.Figures.{Outcome, outcome_at, is_late}
 use Rattle.run_figures.specs.Stays.{is_task}
 use Rattle.run_figures.specs.Throttling.{throttles, frees, wants_it, preempts, preemptions}
-use Rattle.run_figures.specs.private.Places.{if_number}
+use Rattle.run_figures.specs.Places.{if_number}
 
 -- JOBS
 abbrev pub first_ended : Outcome → Ended

@@ -1,5 +1,5 @@
 use Rattle.std.proofs.Common.{◌≡◌, ℕ, ◌-◌, List, ◌++◌, take, replicate, refl, sym, ◌∙◌, subst}
-use Rattle.run_figures.specs.private.Places.{IsIndex}
+use Rattle.run_figures.specs.Places.{IsIndex}
 use Rattle.run_figures.proofs.Indexing.{nothing_seen, one_seen}
 use Rattle.run_figures.proofs.places.index_of.Goals as goal
 

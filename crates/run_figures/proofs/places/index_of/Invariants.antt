@@ -1,4 +1,4 @@
-use Rattle.run_figures.specs.private.Places.{IsIndex}
+use Rattle.run_figures.specs.Places.{IsIndex}
 use Rattle.run_figures.proofs.places.index_of.Given as goal
 
 -- the numbers so far are indexed

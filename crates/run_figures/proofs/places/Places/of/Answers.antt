@@ -1,5 +1,5 @@
 use Rattle.std.proofs.Common.{◌∙◌, subst, List, ℕ, length}
-use Rattle.run_figures.specs.private.Places.{IsIndex}
+use Rattle.run_figures.specs.Places.{IsIndex}
 use Rattle.run_figures.proofs.Indexing.{numbers_small, all_indexed}
 use Rattle.run_figures.proofs.places.Places.of.Goals as goal
 
