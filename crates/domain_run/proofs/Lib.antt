@@ -18,6 +18,7 @@ pub mod OrderTicks
 pub mod OrderGathered
 pub mod CallerLemmas
 pub mod Staying
+pub mod Passing
 pub mod Jumping
 pub mod Paying
 pub mod Runners

@@ -1,6 +1,7 @@
 pub mod NameView
 pub mod script
 pub mod Domain
+pub mod Passing
 pub mod Conditions
 pub mod Parts
 pub mod Switches

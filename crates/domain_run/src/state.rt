@@ -16,6 +16,7 @@ mod cutting;
 mod jumps;
 mod lending;
 mod machine;
+mod passing;
 mod ticking;
 
 use crate::call::{Refused, Reply};
