@@ -4,5 +4,6 @@ mod ToldLines
 mod Written
 mod Charts
 mod Texts
+mod Figured
 mod Recorded
 pub mod CallerLemmas

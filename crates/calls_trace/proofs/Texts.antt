@@ -80,10 +80,9 @@ unfolding text_of_runs
 jobs_are placed_in counted placed views same are =
     ap jobs_text (are ∙ both placed_in (λ p. jobs_in (view_of p)) counted ∙ ap (map (λ p. jobs_in (view_of p))) same ∙ both view_of jobs_in placed)
 
-pub summary_is : {C : Type 0} (placed_in : C → PlacedRun) (counted : List C) (placed : List PlacedRun) (views : List SummaryView) → map placed_in counted ≡ placed → views ≡ map (λ c. summary_in (view_of (placed_in c))) counted → summary_text views ≡ text_of_runs Summary placed
+pub summary_is : (placed : List PlacedRun) (views : List SummaryView) → views ≡ map (λ p. summary_in (view_of p)) placed → summary_text views ≡ text_of_runs Summary placed
 unfolding text_of_runs
-summary_is placed_in counted placed views same are =
-    ap summary_text (are ∙ both placed_in (λ p. summary_in (view_of p)) counted ∙ ap (map (λ p. summary_in (view_of p))) same ∙ both view_of summary_in placed)
+summary_is placed views are = ap summary_text (are ∙ both view_of summary_in placed)
 
 -- ---- those of sections
 

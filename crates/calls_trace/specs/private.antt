@@ -1,3 +1,4 @@
 pub mod Replaying
 pub mod RunTexts
 pub mod Recorded
+pub mod Counting

@@ -66,7 +66,7 @@ fn draw(alloc: Global, placed: &PlacedRun, window: Window) -> Result<DrawnRun<'_
     ensures run { IfOk result (λ d. d.placed.now ≡ placed.now) }
     ensures window { IfOk result (λ d. d.window ≡ window) }
 {
-    let tasks = tasks_of(alloc, &placed.run)?;
+    let tasks = tasks_of(alloc, &placed.run.state, &placed.run.given)?;
     let rows = rows_of(alloc, &as_counted(placed, &tasks), window)?;
     Ok(DrawnRun {
         placed,

@@ -3,21 +3,21 @@
 ghost use Rattle.std.specs.Prelude.{◌≡◌, ◌<◌, ◌≤◌, ◌^◌, All, IfOk, IfErr, OnOk, length, map};
 ghost use Rattle.counted_io.specs.Sides.{faults_of, side};
 ghost use Rattle.run_figures.specs.Runs as counted;
-ghost use Rattle.run_figures.specs.Figures.{task_figures, cpu_figures};
 ghost use Rattle.run_figures.specs.Laws.{AreShort};
+ghost use Rattle.switch_text.specs.Names.{named};
 ghost use Rattle.figure_text.specs.Jobs as jobs;
 ghost use Rattle.figure_text.specs.Summary as summaries;
 ghost use Rattle.calls_trace.specs.Told.{admitted};
 ghost use Rattle.calls_trace.specs.Written.{IsWritten, IsUnwritten};
 ghost use Rattle.calls_trace.specs.declared.run_text.RunText.TheVariants as texts;
 ghost use Rattle.calls_trace.specs.private.Replaying.{view_of, given_in, figures_in, jobs_in, summary_in, text_of_runs};
+ghost use Rattle.calls_trace.specs.private.Counting.{counted_as, figured};
 
 use crate::fault::TraceFault;
-use crate::named_run::RunWithNames;
 use crate::placed_run::PlacedRun;
 use crate::trace::heard_by;
 use attr_check::Params;
-use domain_run::NoMemory;
+use domain_run::{NoMemory, State};
 use figure_text::{DomainJobs, DomainSummary, put_jobs, put_summary};
 use indexmap::IndexMap;
 use run_figures::{Admitted, Run, Summary, TaskJobs, jobs_of, summary_of};
@@ -44,15 +44,19 @@ fn admitted_as(given: &IndexMap<u32, Params>, number: u32) -> Admitted
 }
 
 /// The tasks that were admitted in a run, by number.
-pub(crate) fn tasks_of(alloc: Global, run: &RunWithNames) -> Result<Vec<Admitted>, NoMemory>
+pub(crate) fn tasks_of(
+    alloc: Global,
+    state: &State,
+    given: &IndexMap<u32, Params>,
+) -> Result<Vec<Admitted>, NoMemory>
     ensures tasks { IfOk result (λ v. v.items
-        ≡ map (admitted (given_in run.now.given)) run.now.state.used) }
+        ≡ map (admitted (given_in given.now)) state.now.used) }
     ensures apart { IfOk result (λ v. counted.AreTasks v.items) }
 {
-    let numbers = run.state.numbers(alloc)?;
+    let numbers = state.numbers(alloc)?;
     let mut tasks = Vec::with_capacity(alloc, numbers.len())?;
     for number in &numbers {
-        tasks.push_reserved(admitted_as(&run.given, *number));
+        tasks.push_reserved(admitted_as(given, *number));
     }
     Ok(tasks)
 }
@@ -87,7 +91,7 @@ struct CountedJobs<'a> {
 fn count_jobs(alloc: Global, placed: &PlacedRun) -> Result<CountedJobs<'_>, NoMemory>
     ensures { IfOk result (λ c. c.placed.now ≡ placed.now) }
 {
-    let tasks = tasks_of(alloc, &placed.run)?;
+    let tasks = tasks_of(alloc, &placed.run.state, &placed.run.given)?;
     let jobs = jobs_of(alloc, &as_counted(placed, &tasks))?;
     Ok(CountedJobs { placed, jobs })
 }
@@ -140,27 +144,51 @@ fn jobs_text(alloc: Global, placed: &[PlacedRun]) -> Result<Vec<u8>, NoMemory>
 
 // ---- the summary
 
-/// A run, and its figures.
+/// The figures of a run, with what else a summary has of it.
 #[derive(Drop)]
-struct CountedRun<'a> {
-    placed: &'a PlacedRun,
+pub(crate) struct CountedRun<'a> {
+    names: &'a IndexMap<u32, String>,
     summary: Summary,
-    ghost tasks: { summary.tasks.items ≡ task_figures (figures_in (view_of placed.now)) },
-    ghost cpus: { summary.cpus.items ≡ cpu_figures (figures_in (view_of placed.now)) },
+    bandwidth: u64,
+    cap: u64,
+    time: u64,
     ghost short: { AreShort summary.tasks.items summary.cpus.items },
+    ghost machine: { length summary.cpus.items ≤ 64 },
+}
+
+/// The figures of a run that led to this state. Nobody looks at its switches.
+pub(crate) fn counted_run<'a>(
+    names: &'a IndexMap<u32, String>,
+    state: &State,
+    summary: Summary,
+) -> CountedRun<'a>
+    requires short { AreShort summary.tasks.items summary.cpus.items }
+    requires cpus { length summary.cpus.items ≡ state.now.cpus }
+    ensures { counted_as result
+        ≡ figured (named names.now) state.now summary.tasks.items summary.cpus.items }
+{
+    CountedRun {
+        names,
+        summary,
+        bandwidth: state.sum(),
+        cap: u64::from(state.cpus()) * state.limit(),
+        time: state.now(),
+    }
 }
 
 fn count_run(alloc: Global, placed: &PlacedRun) -> Result<CountedRun<'_>, NoMemory>
-    ensures { IfOk result (λ c. c.placed.now ≡ placed.now) }
+    ensures { IfOk result (λ c. counted_as c ≡ summary_in (view_of placed.now)) }
 {
-    let tasks = tasks_of(alloc, &placed.run)?;
+    let run = &placed.run;
+    let tasks = tasks_of(alloc, &run.state, &run.given)?;
     let summary = summary_of(alloc, &as_counted(placed, &tasks))?;
-    Ok(CountedRun { placed, summary })
+    Ok(counted_run(&run.names, &run.state, summary))
 }
 
 /// The figures of each run.
 fn all_counted(alloc: Global, placed: &[PlacedRun]) -> Result<Vec<CountedRun<'_>>, NoMemory>
-    ensures { IfOk result (λ v. map (λ c. c.placed.now) v.items ≡ placed.now) }
+    ensures { IfOk result (λ v. map counted_as v.items
+        ≡ map (λ p. summary_in (view_of p)) placed.now) }
 {
     let mut all = Vec::with_capacity(alloc, placed.len())?;
     for run in placed {
@@ -170,18 +198,17 @@ fn all_counted(alloc: Global, placed: &[PlacedRun]) -> Result<Vec<CountedRun<'_>
 }
 
 fn as_summary<'a>(counted: &'a CountedRun<'_>) -> DomainSummary<'a>
-    ensures view { summaries.view_of result ≡ summary_in (view_of counted.now.placed.now) }
+    ensures view { summaries.view_of result ≡ counted_as counted.now }
     ensures short { summaries.IsShort result }
     ensures machine { summaries.IsOfMachine result }
 {
-    let state = &counted.placed.run.state;
     DomainSummary {
-        names: &counted.placed.run.names,
+        names: counted.names,
         tasks: &counted.summary.tasks,
         cpus: &counted.summary.cpus,
-        bandwidth: state.sum(),
-        cap: u64::from(state.cpus()) * state.limit(),
-        time: state.now(),
+        bandwidth: counted.bandwidth,
+        cap: counted.cap,
+        time: counted.time,
     }
 }
 
@@ -190,8 +217,7 @@ fn all_as_summaries<'a>(
     alloc: Global,
     counted: &'a [CountedRun<'_>],
 ) -> Result<Vec<DomainSummary<'a>>, NoMemory>
-    ensures views { IfOk result (λ v. map summaries.view_of v.items
-        ≡ map (λ c. summary_in (view_of c.placed.now)) counted.now) }
+    ensures views { IfOk result (λ v. map summaries.view_of v.items ≡ map counted_as counted.now) }
     ensures short { IfOk result (λ v. All summaries.IsShort v.items) }
     ensures machine { IfOk result (λ v. All summaries.IsOfMachine v.items) }
     ensures count { IfOk result (λ v. length v.items ≡ length counted.now) }
@@ -203,16 +229,27 @@ fn all_as_summaries<'a>(
     Ok(written)
 }
 
+/// The text of figures.
+pub(crate) fn figures_text(
+    alloc: Global,
+    counted: &[CountedRun<'_>],
+) -> Result<Vec<u8>, NoMemory>
+    requires few { length counted.now ≤ 8 }
+    ensures { IfOk result (λ v. v.items ≡ summaries.summary_text (map counted_as counted.now)) }
+{
+    let domains = all_as_summaries(alloc, counted)?;
+    let mut text = Vec::new(alloc);
+    put_summary(&mut text, &domains)?;
+    Ok(text)
+}
+
 /// The text of the figures of runs.
 fn summary_text(alloc: Global, placed: &[PlacedRun]) -> Result<Vec<u8>, NoMemory>
     requires few { length placed.now ≤ 8 }
     ensures { IfOk result (λ v. v.items ≡ text_of_runs texts.Summary placed.now) }
 {
     let counted = all_counted(alloc, placed)?;
-    let domains = all_as_summaries(alloc, &counted)?;
-    let mut text = Vec::new(alloc);
-    put_summary(&mut text, &domains)?;
-    Ok(text)
+    figures_text(alloc, &counted)
 }
 
 // ---- written

@@ -6,7 +6,9 @@
 //! (`specs/Answer.antt`), over the trace of the sections that a calls text spells
 //! (`specs/Replay.antt`), what happens in them (`specs/Told.antt`), and their chart
 //! (`specs/Charted.antt`). [`write_run_as`] writes the same of histories whose states and logs are
-//! at hand (`specs/Written.antt`); nothing is run again. To the crate above they promise: `Ok` means
+//! at hand (`specs/Written.antt`), and [`write_heard_summary`] the summary of histories whose runs
+//! were heard as they were made, while their switches were let go (`specs/Heard.antt`); nothing is
+//! run again. To the crate above they promise: `Ok` means
 //! that what was written is that text of the runs of the sections, each on a domain of its own, and
 //! nothing else; each fault means what it says, and where it is no fault of the writer, nothing was
 //! written. `proofs/CallerLemmas.antt` has laws for callers: the calls text of histories is read
@@ -16,6 +18,7 @@
 mod charting;
 mod fault;
 mod figures;
+mod heard_summary;
 mod named_run;
 mod placed_run;
 mod replaying;
@@ -25,5 +28,6 @@ mod writing;
 
 pub use chart_pieces::Span;
 pub use fault::{ReplayFault, TraceFault};
+pub use heard_summary::write_heard_summary;
 pub use replaying::{ReplayPrint, replay, replay_as};
 pub use writing::write_run_as;

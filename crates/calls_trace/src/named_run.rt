@@ -14,7 +14,7 @@ ghost use Rattle.call_book.specs.Limits.{IsNumber, IsCall, IsEntry, IsSection};
 ghost use Rattle.call_book.specs.Book.{IsLegal};
 ghost use Rattle.switch_text.specs.Names.{named};
 ghost use Rattle.calls_trace.specs.Replay.{no_names, with_name, names_after, calls_of};
-ghost use Rattle.calls_trace.specs.Told.{no_params, with_params, params_after, told_of};
+ghost use Rattle.calls_trace.specs.Told.{names_in, params_in, no_params, with_params, params_after, told_of};
 ghost use Rattle.calls_trace.specs.private.Replaying.{AreNamed, Gives, GivesParams, given_in, IsRunOf, IsToldOf, section_view};
 ghost use Rattle.calls_trace.specs.private.Recorded.{given_by, given_by_all, params_given_by, params_given_by_all};
 
@@ -356,6 +356,22 @@ fn params_given(alloc: Global, entries: &[Entry]) -> Result<IndexMap<u32, Params
         put_given_params(&mut given, entry)?;
     }
     Ok(given)
+}
+
+/// The names of the tasks of a history, by number, as its replies tell them.
+pub(crate) fn names_of(alloc: Global, history: &Section) -> Result<IndexMap<u32, String>, NoMemory>
+    requires { IsLegal history.now.cpus history.now.limit history.now.entries }
+    ensures { IfOk result (λ names. named names ≡ names_in history.now) }
+{
+    names_given(alloc, &history.entries)
+}
+
+/// The parameters of the tasks of a history at its end, by number, as its replies tell them.
+pub(crate) fn params_of(alloc: Global, history: &Section) -> Result<IndexMap<u32, Params>, NoMemory>
+    requires { IsLegal history.now.cpus history.now.limit history.now.entries }
+    ensures { IfOk result (λ given. given_in given ≡ params_in history.now) }
+{
+    params_given(alloc, &history.entries)
 }
 
 /// The run that a history led to, which is not made again: its state, what its log was told, and

@@ -2,7 +2,7 @@ use Rattle.std.proofs.Common.{arith}
 use Rattle.std.proofs.lemmas.List.{length_push}
 use Rattle.std.proofs.lemmas.List.Elements.{All-push}
 use Rattle.figure_text.specs.Summary as summaries
-use Rattle.calls_trace.specs.private.Replaying.{view_of, summary_in}
+use Rattle.calls_trace.specs.private.Counting.{counted_as}
 use Rattle.calls_trace.proofs.Texts.{views_more}
 use Rattle.calls_trace.proofs.figures.all_as_summaries.Goals as goal
 
@@ -12,7 +12,7 @@ loop-one-preserved c =
     let was = c.loop-one.written.items in
     let one = c.as_summary.result in
     rw c.push_reserved.ensures.items (record {
-      views = views_more summaries.view_of (λ x. summary_in (view_of x.placed.now)) was one c.args.counted.now c.loop-one.one-index c.one-item.result c.loop-one-test.true c.one-item.is c.as_summary.ensures.view i.views;
+      views = views_more summaries.view_of counted_as was one c.args.counted.now c.loop-one.one-index c.one-item.result c.loop-one-test.true c.one-item.is c.as_summary.ensures.view i.views;
       short = All-push summaries.IsShort was one i.short c.as_summary.ensures.short;
       machine = All-push summaries.IsOfMachine was one i.machine c.as_summary.ensures.machine;
       count = omega (arith, i.count, length_push was one);

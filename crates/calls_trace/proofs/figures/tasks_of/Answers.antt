@@ -8,7 +8,7 @@ use Rattle.calls_trace.proofs.figures.tasks_of.Goals as goal
 
 pub returns-clause-apart : goal.returns-clause-apart
 returns-clause-apart c =
-    let given = given_in c.args.run.now.given in
+    let given = given_in c.args.given.now in
     let numbers = c.in_ok-numbers.numbers.items in
     let are : c.loop-number.tasks.items ≡ map (admitted given) numbers =
     c.loop-number.invariant.tasks ∙ ap (map (admitted given)) (take_all c.loop-number.number-index c.deref-number-items.result.now c.loop-number-test.false ∙ c.deref-number-items.ensures.value) in

@@ -5,6 +5,6 @@ use Rattle.calls_trace.proofs.figures.tasks_of.Given as goal
 
 abbrev pub invariant-loop-number : goal.invariant-loop-number
 invariant-loop-number l = record {
-  tasks : l.tasks.items ≡ map (admitted (given_in l.run.given)) (take l.number-index l.number-items);
+  tasks : l.tasks.items ≡ map (admitted (given_in l.given)) (take l.number-index l.number-items);
   room : length l.number-items ≤ vec_capacity l.tasks;
 }

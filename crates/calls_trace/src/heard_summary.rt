@@ -1,0 +1,135 @@
+//! The summary of histories whose runs were heard while they were made.
+
+ghost use Rattle.std.specs.Prelude.{◌≡◌, ◌<◌, ◌≤◌, ◌^◌, All, IfErr, IfOk, OnOk, length, map};
+ghost use Rattle.domain_run.specs.Passing.{without_switches};
+ghost use Rattle.counted_io.specs.Sides.{faults_of, side};
+ghost use Rattle.call_book.specs.Book.{IsLegal};
+ghost use Rattle.call_book.specs.Histories.{AreLegal};
+ghost use Rattle.switch_text.specs.Names.{named};
+ghost use Rattle.calls_trace.specs.Told.{domain_of, names_in, summary_view, summary_of_sections};
+ghost use Rattle.calls_trace.specs.Heard.{AreHeard, AreRunsButSwitches, heard_of};
+ghost use Rattle.calls_trace.specs.Written.{IsWritten, IsUnwritten};
+ghost use Rattle.calls_trace.specs.private.Counting.{counted_as};
+
+use crate::fault::TraceFault;
+use crate::figures::{CountedRun, counted_run, figures_text, tasks_of, write_whole};
+use crate::named_run::{names_of, params_of};
+use call_book::Section;
+use domain_run::{NoMemory, State};
+use indexmap::IndexMap;
+use run_figures::Accounting;
+use std::alloc::Global;
+use std::io::Write;
+use switch_text::Counted;
+
+/// The names of each history.
+fn all_names(
+    alloc: Global,
+    histories: &[Section],
+) -> Result<Vec<IndexMap<u32, String>>, NoMemory>
+    requires { AreLegal histories.now }
+    ensures { IfOk result (λ v. map named v.items ≡ map names_in histories.now) }
+{
+    let mut all = Vec::with_capacity(alloc, histories.len())?;
+    for history in histories {
+        all.push_reserved(names_of(alloc, history)?);
+    }
+    Ok(all)
+}
+
+/// The figures of the run of a history, which was heard.
+fn count_heard<'a>(
+    alloc: Global,
+    names: &'a IndexMap<u32, String>,
+    history: &Section,
+    state: &State,
+    heard: &Accounting,
+) -> Result<CountedRun<'a>, NoMemory>
+    requires legal { IsLegal history.now.cpus history.now.limit history.now.entries }
+    requires names { named names.now ≡ names_in history.now }
+    requires state { without_switches state.now ≡ without_switches (domain_of history.now) }
+    requires heard { heard.now ≡ heard_of history.now }
+    ensures { IfOk result (λ c. counted_as c ≡ summary_view history.now) }
+{
+    let given = params_of(alloc, history)?;
+    let tasks = tasks_of(alloc, state, &given)?;
+    let summary = heard.summary(alloc, &tasks)?;
+    Ok(counted_run(names, state, summary))
+}
+
+/// The figures of the run of each history.
+fn all_heard<'a>(
+    alloc: Global,
+    names: &'a [IndexMap<u32, String>],
+    histories: &[Section],
+    states: &[State],
+    heard: &[Accounting],
+) -> Result<Vec<CountedRun<'a>>, NoMemory>
+    requires legal { AreLegal histories.now }
+    requires names { map named names.now ≡ map names_in histories.now }
+    requires count { length states.now ≡ length histories.now }
+    requires as_many { length heard.now ≡ length histories.now }
+    requires runs { AreRunsButSwitches histories.now states.now }
+    requires heard { AreHeard histories.now heard.now }
+    ensures { IfOk result (λ v. map counted_as v.items ≡ map summary_view histories.now) }
+{
+    let mut all = Vec::with_capacity(alloc, histories.len())?;
+    for (place, history) in histories.iter().enumerate() {
+        let one = count_heard(alloc, &names[place], history, &states[place], &heard[place])?;
+        all.push_reserved(one);
+    }
+    Ok(all)
+}
+
+/// The text of the figures of histories.
+fn heard_text(
+    alloc: Global,
+    histories: &[Section],
+    states: &[State],
+    heard: &[Accounting],
+) -> Result<Vec<u8>, NoMemory>
+    requires few { length histories.now ≤ 8 }
+    requires legal { AreLegal histories.now }
+    requires count { length states.now ≡ length histories.now }
+    requires as_many { length heard.now ≡ length histories.now }
+    requires runs { AreRunsButSwitches histories.now states.now }
+    requires heard { AreHeard histories.now heard.now }
+    ensures { IfOk result (λ v. v.items ≡ summary_of_sections histories.now) }
+{
+    let names = all_names(alloc, histories)?;
+    let counted = all_heard(alloc, &names, histories, states, heard)?;
+    figures_text(alloc, &counted)
+}
+
+/// Writes the figures of each task, of each CPU and of each domain of 1 to 8 histories: the text
+/// that [`write_run_as`](crate::write_run_as) writes for
+/// [`ReplayPrint::Summary`](crate::ReplayPrint::Summary). The accountings have heard all that
+/// happened in the runs of the histories, and all their switches; the states are those that the
+/// histories led to. Nobody looks at the switches that a state still has, so it may have forgotten
+/// them. Nothing is run again.
+///
+/// # Errors
+/// [`TraceFault::Memory`]: a growth was refused, and nothing was written. [`TraceFault::Write`]:
+/// the writer failed; it took exactly so many bytes, the front of the text, and not all.
+pub fn write_heard_summary<W: Write>(
+    alloc: Global,
+    histories: &[Section],
+    states: &[State],
+    heard: &[Accounting],
+    writer: &mut Counted<W>,
+) -> Result<(), TraceFault>
+    requires few { length histories.now ≤ 8 }
+    requires count { length states.now ≡ length histories.now }
+    requires as_many { length heard.now ≡ length histories.now }
+    requires legal { AreLegal histories.now }
+    requires runs { AreRunsButSwitches histories.now states.now }
+    requires heard { AreHeard histories.now heard.now }
+    requires faults { faults_of writer.old < 2 ^ 63 }
+    ensures ok { OnOk result (IsWritten (side W.contents writer.old writer.new)
+        (summary_of_sections histories.now)) }
+    ensures err { IfErr result (IsUnwritten (side W.contents writer.old writer.new)
+        (summary_of_sections histories.now)) }
+{
+    let text = heard_text(alloc, histories, states, heard)?;
+    write_whole(&text, writer)
+}
