@@ -1,8 +1,9 @@
 -- The names and the parameters that a legal history's replies tell are those of its run.
-use Rattle.std.proofs.Common.{◌≡◌, ℕ, suc, arith, get_or, drop, ◌++◌, ◌<◌, ◌≤◌, Bool, true, false, cond, eqb, leb, ltb, ◌+◌, List, [], ◌∷◌, length, map, Option, Some, None, refl, sym, ap, ◌∙◌, subst}
-use Rattle.std.specs.Prelude.{All, IsTrue}
+use Rattle.std.proofs.Common.{◌≡◌, ℕ, suc, arith, get_or, drop, ◌++◌, ◌<◌, ◌≤◌, Bool, true, false, cond, eqb, leb, ltb, ◌+◌, List, [], ◌∷◌, length, map, Option, Some, None, Result, refl, sym, ap, ◌∙◌, subst}
+use Rattle.std.specs.Prelude.{All, IsTrue, IfOk}
 use Rattle.std.specs.List.{list_any}
 use Rattle.std.proofs.lemmas.List.{length_push, drop_more}
+use Rattle.std.proofs.lemmas.Result.{IfOk-weaker}
 use Rattle.std.proofs.lemmas.List.Elements.{All-head, All-tail}
 use Rattle.attr_check.specs.ParamsView.{ParamsView}
 use Rattle.attr_check.specs.Ratio.{cap}
@@ -24,11 +25,11 @@ use Rattle.call_book.specs.SectionView.{SectionView}
 use Rattle.call_book.specs.Limits.{IsCall, IsEntry, IsSection}
 use Rattle.call_book.specs.Book.{calls_of, IsLegal}
 use Rattle.call_book.specs.Histories.{AreTold}
-use Rattle.switch_text.specs.Names.{Names}
+use Rattle.switch_text.specs.Names.{Names, named}
 use Rattle.calls_trace.specs.declared.placed_run.PlacedRun.{PlacedRun}
 use Rattle.calls_trace.specs.Replay.{with_name, named_by, names_after, names_of, no_names}
-use Rattle.calls_trace.specs.Told.{told_of, no_params, with_params, params_by, params_after, params_of}
-use Rattle.calls_trace.specs.private.Replaying.{Gives, Given, GivesParams, IsRunOf, IsToldOf, PlacedView, view_of, views_from}
+use Rattle.calls_trace.specs.Told.{names_in, params_in, told_of, no_params, with_params, params_by, params_after, params_of}
+use Rattle.calls_trace.specs.private.Replaying.{Gives, Given, GivesParams, given_in, IsRunOf, IsToldOf, PlacedView, view_of, views_from}
 use Rattle.calls_trace.specs.private.Recorded.{named_where, given_by, given_by_all, HaveNames, params_where, params_given_by, params_given_by_all}
 use Rattle.calls_trace.proofs.Naming.{ticks_used, one_more_named}
 use Rattle.calls_trace.proofs.Written.{runs_more}
@@ -134,6 +135,19 @@ told_is s given log entries legal same gives told =
     hears : (w : Bool) (hs ts : List Happened) → (IsTrue w → hs ≡ ts) → cond w hs [] ≡ cond w ts []
     hears true hs ts same = same refl
     hears false hs ts same = refl
+
+-- the names and the parameters of a history
+pub history_names : {E : Type 0} (s : SectionView) (entries : List Entry) (r : Result Names E) → IsLegal s.cpus s.limit s.entries → entries ≡ s.entries → IfOk r (λ names. Gives names (given_by_all entries no_names)) → IfOk r (λ names. named names ≡ names_in s)
+history_names s entries r legal same given =
+    let are : given_by_all entries no_names ≡ names_in s = ap (λ (es : List Entry). given_by_all es no_names) same ∙ given_is (opened s.cpus s.limit) s.entries no_names legal in
+    IfOk-weaker r (λ (names : Names). Gives names (given_by_all entries no_names)) (λ (names : Names). named names ≡ names_in s)
+    (λ names gives. let each : (n : ℕ) → named names n ≡ names_in s n = λ n. gives n ∙ ap (λ (f : ℕ → List ℕ). f n) are in λ i n. each n i) given
+
+pub history_params : {E : Type 0} (s : SectionView) (entries : List Entry) (r : Result Given E) → IsLegal s.cpus s.limit s.entries → entries ≡ s.entries → IfOk r (λ given. GivesParams given (params_given_by_all entries no_params)) → IfOk r (λ given. given_in given ≡ params_in s)
+history_params s entries r legal same given =
+    let are : params_given_by_all entries no_params ≡ params_in s = ap (λ (es : List Entry). params_given_by_all es no_params) same ∙ params_are (opened s.cpus s.limit) s.entries no_params legal in
+    IfOk-weaker r (λ (given : Given). GivesParams given (params_given_by_all entries no_params)) (λ (given : Given). given_in given ≡ params_in s)
+    (λ found gives. let each : (n : ℕ) → given_in found n ≡ params_in s n = λ n. gives n ∙ ap (λ (f : ℕ → ParamsView). f n) are in λ i n. each n i) given
 
 -- ---- whoever was admitted has a name
 
