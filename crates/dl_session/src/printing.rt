@@ -1,35 +1,49 @@
 //! The last step of a run: the text that is asked for of its histories.
 
-ghost use Rattle.std.specs.Prelude.{◌≡◌, ◌<◌, ◌≤◌, ◌^◌, All, OnOk, IfErr, length};
+ghost use Rattle.std.specs.Prelude.{◌≡◌, ◌≢◌, ◌<◌, ◌≤◌, ◌^◌, All, OnOk, IfErr, length};
 ghost use Rattle.call_book.specs.Limits.{IsSection};
 ghost use Rattle.call_book.specs.Spelling.{spelling};
 ghost use Rattle.call_book.specs.Histories.{AreLegal, AreRuns, AreTold};
 ghost use Rattle.counted_io.specs.Sides.{faults_of, side};
-ghost use Rattle.session.specs.Options.{tells};
+ghost use Rattle.session.specs.Options.{wanted};
+ghost use Rattle.session.specs.RunEnd.{tells_wanted};
+ghost use Rattle.session.specs.declared.report.Wanted.TheVariants as wants;
 ghost use Rattle.calls_trace.specs.Written.{IsWritten, IsUnwritten};
 ghost use Rattle.dl_session.specs.RunAnswer.{printed};
 ghost use Rattle.dl_session.specs.private.Printing as printing;
+ghost use Rattle.dl_session.specs.private.Running.{AreFigured};
 
 use call_book::{Section, write_calls};
-use calls_trace::{ReplayPrint, TraceFault, write_run_as};
+use calls_trace::{ReplayPrint, TraceFault, write_heard_summary, write_run_as};
 use domain_run::{Log, State};
+use run_figures::Accounting;
 use session::Print;
 use std::alloc::Global;
 use std::io::Write;
 use switch_text::{Counted, write_text};
 
-/// What a replay of the calls text would be asked for; nothing where that text itself is.
-fn replay_print(print: Print) -> Option<ReplayPrint>
-    ensures { result ≡ printing.replay_print print }
+/// Of what a text of a run is made.
+#[derive(Clone, Copy, Debug, PartialEq, Eq)]
+enum Source {
+    /// Of the histories alone: their calls text.
+    Histories,
+    /// Of what was heard while the run was made: its figures.
+    Heard,
+    /// Of states and logs: the text for which a replay of the calls text would be asked.
+    Logs(ReplayPrint),
+}
+
+fn source_of(print: Print) -> Source
+    ensures { result ≡ printing.source_of print }
 {
     match print {
-        Print::Trace => Some(ReplayPrint::Trace),
-        Print::Calls => None,
-        Print::Replies => Some(ReplayPrint::Replies),
-        Print::Events => Some(ReplayPrint::Events),
-        Print::Jobs => Some(ReplayPrint::Jobs),
-        Print::Summary => Some(ReplayPrint::Summary),
-        Print::Chart(span) => Some(ReplayPrint::Chart(span)),
+        Print::Trace => Source::Logs(ReplayPrint::Trace),
+        Print::Calls => Source::Histories,
+        Print::Replies => Source::Logs(ReplayPrint::Replies),
+        Print::Events => Source::Logs(ReplayPrint::Events),
+        Print::Jobs => Source::Logs(ReplayPrint::Jobs),
+        Print::Summary => Source::Heard,
+        Print::Chart(span) => Source::Logs(ReplayPrint::Chart(span)),
     }
 }
 
@@ -57,7 +71,8 @@ fn write_histories<W: Write>(
 }
 
 /// Writes the text of histories that led to these states, with what happened in them as these logs
-/// have it, where that is printed. Nothing is run again.
+/// have it, where that is printed; where their figures are, as they were heard, and the states may
+/// have forgotten their switches. Nothing is run again.
 ///
 /// # Errors
 /// [`TraceFault::Memory`]: a growth was refused, and nothing was written. [`TraceFault::Write`]:
@@ -68,6 +83,7 @@ pub(crate) fn write_run<W: Write>(
     histories: &[Section],
     states: Vec<State>,
     logs: Vec<Log>,
+    heard: &[Accounting],
     writer: &mut Counted<W>,
 ) -> Result<(), TraceFault>
     requires few { length histories.now ≤ 8 }
@@ -75,16 +91,19 @@ pub(crate) fn write_run<W: Write>(
     requires as_many { length logs.items ≡ length histories.now }
     requires sections { All IsSection histories.now }
     requires legal { AreLegal histories.now }
-    requires runs { AreRuns histories.now states.items }
-    requires told { AreTold (tells print) histories.now logs.items }
+    requires runs { wanted print ≢ wants.Figures → AreRuns histories.now states.items }
+    requires told { AreTold (tells_wanted (wanted print)) histories.now logs.items }
+    requires heard { wanted print ≡ wants.Figures
+        → AreFigured histories.now states.items heard.now }
     requires faults { faults_of writer.old < 2 ^ 63 }
     ensures ok { OnOk result
         (IsWritten (side W.contents writer.old writer.new) (printed print histories.now)) }
     ensures err { IfErr result
         (IsUnwritten (side W.contents writer.old writer.new) (printed print histories.now)) }
 {
-    match replay_print(print) {
-        Some(text) => write_run_as(alloc, text, histories, states, logs, writer),
-        None => write_histories(alloc, histories, writer),
+    match source_of(print) {
+        Source::Histories => write_histories(alloc, histories, writer),
+        Source::Heard => write_heard_summary(alloc, histories, &states, heard, writer),
+        Source::Logs(text) => write_run_as(alloc, text, histories, states, logs, writer),
     }
 }

@@ -16,7 +16,9 @@ use crate::printing::write_run;
 use call_book::NoMemory;
 use json_order::{JsonFault, JsonKind, read};
 use rtapp_scenario::{Scenario, ScenarioFault, TaskSpec, parse};
-use session::{Client, Finished, Names, Options, Parts, Report, Session, Turnstile, end_run};
+use session::{
+    Client, Finished, Names, Options, Parts, Report, Session, Turnstile, Wanted, end_run,
+};
 use std::alloc::Global;
 use std::io::{Read, Write};
 use std::marker::Brand;
@@ -102,8 +104,7 @@ fn take_clients<N: Names>(
 }
 
 /// Runs tasks in a session of these parts: the admissions, then the advance of each domain by the
-/// whole duration, in microseconds, and the end. What happens stands in the logs where it is
-/// wanted.
+/// whole duration, in microseconds, and the end. What is wanted beside that is left too.
 fn run_in<N: Names + Send + Sync, T: Turnstile, X: Threads + Wait + Sync>(
     rt: &X,
     alloc: Global,
@@ -111,7 +112,7 @@ fn run_in<N: Names + Send + Sync, T: Turnstile, X: Threads + Wait + Sync>(
     many: u32,
     tasks: &[TaskSpec],
     duration: u64,
-    wanted: bool,
+    wanted: Wanted,
     turnstile: &T,
 ) -> Result<Finished, SessionFault>
     requires parts { N.id ≡ parts }
@@ -191,6 +192,7 @@ pub fn run<R: Read, W: Write, T: Turnstile, X: Threads + Wait + Sync>(
         report,
         states,
         logs,
+        heard,
     } = run_in::<Brand, T, X>(
         rt,
         alloc,
@@ -198,11 +200,19 @@ pub fn run<R: Read, W: Write, T: Turnstile, X: Threads + Wait + Sync>(
         many,
         &tasks,
         duration_us,
-        options.print.tells(),
+        options.print.wanted(),
         turnstile,
     )?;
     let histories = &report.histories;
-    match write_run(alloc, options.print, histories, states, logs, writer) {
+    match write_run(
+        alloc,
+        options.print,
+        histories,
+        states,
+        logs,
+        &heard,
+        writer,
+    ) {
         Ok(()) => Ok(report),
         Err(fault) => Err(SessionFault::from(fault)),
     }

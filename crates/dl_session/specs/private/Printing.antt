@@ -1,16 +1,15 @@
--- What of a run is printed as of a replay of its calls.
-use Rattle.std.specs.Prelude.{Option, Some, None}
-use Rattle.calls_trace.specs.declared.replaying.ReplayPrint.{ReplayPrint}
+-- Of what the text of a run is made.
 use Rattle.calls_trace.specs.declared.replaying.ReplayPrint.TheVariants as replayed
 use Rattle.session.specs.declared.options.Print.{Print}
 use Rattle.session.specs.declared.options.Print.TheVariants as prints
+use Rattle.dl_session.specs.declared.printing.Source.{Source}
+use Rattle.dl_session.specs.declared.printing.Source.TheVariants.{Histories, Heard, Logs}
 
--- all but the calls text
-abbrev pub replay_print : Print → Option ReplayPrint
-replay_print prints.Trace = Some replayed.Trace
-replay_print prints.Calls = None
-replay_print prints.Replies = Some replayed.Replies
-replay_print prints.Events = Some replayed.Events
-replay_print prints.Jobs = Some replayed.Jobs
-replay_print prints.Summary = Some replayed.Summary
-replay_print (prints.Chart span) = Some (replayed.Chart span)
+abbrev pub source_of : Print → Source
+source_of prints.Trace = Logs replayed.Trace
+source_of prints.Calls = Histories
+source_of prints.Replies = Logs replayed.Replies
+source_of prints.Events = Logs replayed.Events
+source_of prints.Jobs = Logs replayed.Jobs
+source_of prints.Summary = Heard
+source_of (prints.Chart span) = Logs (replayed.Chart span)

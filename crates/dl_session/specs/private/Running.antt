@@ -1,13 +1,20 @@
 -- The steps of a run: the input is told, tasks are run in a session, and the text of their run is
 -- written.
-use Rattle.std.specs.Prelude.{◌≡◌, ◌≢◌, ℕ, Bool, List, [], length, map}
+use Rattle.std.specs.Prelude.{◌≡◌, ◌≢◌, ℕ, List, [], length, map}
+use Rattle.domain_run.specs.Domain.{Domain}
 use Rattle.json_order.specs.declared.fault.JsonFault.{JsonFault}
 use Rattle.json_order.specs.declared.fault.JsonKind.TheVariants as kinds
 use Rattle.rtapp_scenario.specs.declared.fault.ScenarioFault.{ScenarioFault}
 use Rattle.rtapp_scenario.specs.declared.fault.ScenarioFault.TheVariants as scenario_faults
 use Rattle.rtapp_scenario.specs.ScenarioView.{TaskSpecView}
+use Rattle.run_figures.specs.Accounting.{AccountingView}
+use Rattle.call_book.specs.SectionView.{SectionView}
 use Rattle.call_book.specs.Histories.{AreRuns, AreTold}
+use Rattle.calls_trace.specs.Heard.{AreHeard, AreRunsButSwitches}
 use Rattle.session.specs.declared.report.Finished.{Finished}
+use Rattle.session.specs.declared.report.Wanted.{Wanted}
+use Rattle.session.specs.declared.report.Wanted.TheVariants.{Figures}
+use Rattle.session.specs.RunEnd.{tells_wanted}
 use Rattle.session.specs.SessionId.{SessionId}
 use Rattle.session.specs.Report.{IsLeft}
 use Rattle.dl_session.specs.declared.fault.SessionFault.{SessionFault}
@@ -26,17 +33,27 @@ IsJsonTold found = IsOrMemory (λ e. (e ≡ Json found) × (found.kind ≢ kinds
 abbrev pub IsScenarioTold : ScenarioFault → SessionFault → Type 0
 IsScenarioTold found = IsOrMemory (λ e. (e ≡ Scenario found) × (found ≢ scenario_faults.Memory))
 
+-- what is left of runs whose figures are wanted: they were heard, and but for their switches the
+-- states are what the histories lead to
+pub record AreFigured (histories : List SectionView) (states : List Domain)
+    (heard : List AccountingView) : Type 0 where
+  pub as_many : length heard ≡ length histories
+  pub runs : AreRunsButSwitches histories states
+  pub all : AreHeard histories heard
+
 -- what a run of tasks leaves: the histories and the refusals answer them, and the logs have what the
--- histories tell, where that is wanted
-pub record IsRan (id : SessionId) (tasks : List TaskSpecView) (duration : ℕ) (wanted : Bool)
+-- histories tell, where that is wanted; where figures are, the runs were heard
+pub record IsRan (id : SessionId) (tasks : List TaskSpecView) (duration : ℕ) (wanted : Wanted)
     (f : Finished) : Type 0 where
   pub left : IsLeft id [] f.report
   pub answers : AnswersScenario id id.clients tasks duration
       (map (λ h. h.entries) f.report.histories.items) f.report.refused.items
   pub count : length f.states.items ≡ length f.report.histories.items
   pub as_many : length f.logs.items ≡ length f.report.histories.items
-  pub runs : AreRuns f.report.histories.items f.states.items
-  pub told : AreTold wanted f.report.histories.items f.logs.items
+  pub runs : wanted ≢ Figures → AreRuns f.report.histories.items f.states.items
+  pub told : AreTold (tells_wanted wanted) f.report.histories.items f.logs.items
+  pub figured : wanted ≡ Figures
+      → AreFigured f.report.histories.items f.states.items f.heard.items
 
 -- ---- why it did not come to its end
 
