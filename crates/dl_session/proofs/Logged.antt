@@ -12,6 +12,7 @@ use Rattle.domain_run.specs.declared.call.Reply.{Reply}
 use Rattle.domain_run.specs.declared.call.Reply.TheVariants.{Admitted, Done}
 use Rattle.domain_run.specs.declared.happened.Happened.{Happened}
 use Rattle.domain_run.specs.Domain.{Domain, opened}
+use Rattle.domain_run.specs.Passing.{without_switches}
 use Rattle.domain_run.specs.Calls.{task_of, leave_reply, depart_reply, reply_to, is_refusal, after_call}
 use Rattle.domain_run.specs.Happened.{told_by_ticks, told_by_granted, told_by_call, told_by_calls}
 use Rattle.domain_run.specs.Log.{LogView}
@@ -21,10 +22,13 @@ use Rattle.call_book.specs.declared.section.Entry.{Entry}
 use Rattle.call_book.specs.SectionView.{SectionView}
 use Rattle.call_book.specs.Book.{calls_of}
 use Rattle.call_book.specs.Histories.{AreTold}
+use Rattle.run_figures.specs.Accounting.{AccountingView}
+use Rattle.calls_trace.specs.Told.{domain_of}
+use Rattle.calls_trace.specs.Heard.{AreHeard, AreRunsButSwitches}
 use Rattle.session.specs.declared.refusal.Refusal.{Refusal}
 use Rattle.session.specs.SessionId.{SessionId, IsDomainIndex}
 use Rattle.session.specs.Report.{IsHistoryOf}
-use Rattle.session.specs.RunEnd.{IsLogOf, told_at_end}
+use Rattle.session.specs.RunEnd.{IsLogOf, told_at_end, heard_at_end, AreRunsHeard}
 use Rattle.dl_session.specs.InOrder.{is_admitted}
 use Rattle.dl_session.specs.ScenarioAnswers.{AnswersScenario}
 use Rattle.dl_session.proofs.OrderRuns.{is_verdict, admitted_is, LegalFrom}
@@ -139,3 +143,31 @@ are_told id clients tasks duration wanted histories refused logs count legal ans
       let h = get_or histories d s in
       (each d s x place).has yes ∙ sym (history_tells duration h.cpus h.limit h.entries (split_of id clients tasks duration histories refused count legal answers d s place));
 }
+
+-- ---- what was heard
+
+-- of the run of a history, with this that happened
+heard_with : SectionView → List Happened → AccountingView
+heard_with h happened = record {
+  cpus = (domain_of h).cpus;
+  time = (domain_of h).time;
+  tasks = (domain_of h).used;
+  happened = happened;
+  switches = (domain_of h).switches;
+}
+
+pub are_heard : (id : SessionId) (clients : ℕ) (tasks : List TaskSpecView) (duration : ℕ) (histories : List SectionView) (refused : List (ℕ × Refusal)) (heard : List AccountingView)
+    → length histories ≡ length id.cpu_sets
+    → ((d : ℕ) (x : SectionView) → IsDomainIndex id d → IsHistoryOf id d [] (get_or histories d x))
+    → AnswersScenario id clients tasks duration (map (λ h. h.entries) histories) refused
+    → ((d : ℕ) (s : SectionView) (x : AccountingView) → d < length id.cpu_sets → get_or heard d x ≡ heard_at_end duration (get_or histories d s))
+    → AreHeard histories heard
+unfolding heard_with
+are_heard id clients tasks duration histories refused heard count legal answers each d s x inside =
+    let place : d < length id.cpu_sets = omega (arith, inside, count) in
+    let h = get_or histories d s in
+    each d s x place
+    ∙ ap (heard_with h) (sym (history_tells duration h.cpus h.limit h.entries (split_of id clients tasks duration histories refused count legal answers d s place)))
+
+pub runs_heard : (histories : List SectionView) (states : List Domain) → AreRunsHeard histories states → AreRunsButSwitches histories states
+runs_heard histories states are d s x inside = ap without_switches (are d s x inside)

@@ -21,6 +21,8 @@ use Rattle.session.specs.declared.options.Options.{Options}
 use Rattle.session.specs.declared.refusal.Refusal.{Refusal}
 use Rattle.session.specs.declared.report.Report.{Report}
 use Rattle.session.specs.declared.report.Finished.{Finished}
+use Rattle.session.specs.declared.report.Wanted.{Wanted}
+use Rattle.session.specs.RunEnd.{tells_wanted}
 use Rattle.session.specs.SessionId.{SessionId, IsDomainIndex}
 use Rattle.session.specs.Asks.{ClientView, pass_in}
 use Rattle.session.specs.Admissions.{AreNew, AllAsked}
@@ -40,7 +42,7 @@ use Rattle.dl_session.specs.Upward.{of_end, of_trace}
 use Rattle.dl_session.specs.private.Running.{IsJsonTold, IsScenarioTold, IsRan, IsOrMemory, IsHalted}
 use Rattle.dl_session.proofs.ScenarioLaw.{answers_all, answers_tasks}
 use Rattle.dl_session.proofs.OrderLaw.{in_order}
-use Rattle.dl_session.proofs.Logged.{are_told}
+use Rattle.dl_session.proofs.Logged.{are_told, are_heard, runs_heard}
 use Rattle.calls_trace.proofs.CallerLemmas.{read_again, same_trace}
 use Rattle.session.proofs.CallerLemmas.{length_sets}
 
@@ -95,11 +97,11 @@ pub first_is : (id : SessionId) (tasks : List TaskSpecView) (cs es : List Client
 first_is id tasks cs es refused some new asked x = (asked.each 0 x some).made.number ∙ (new.each 0 x some).numbered
 
 -- what the parts of a run left, with the refusals in the report
-pub is_ran : (id : SessionId) (tasks : List TaskSpecView) (duration : ℕ) (wanted : Bool) (cs es : List ClientView) (r s : Report) (f g : Finished)
+pub is_ran : (id : SessionId) (tasks : List TaskSpecView) (duration : ℕ) (wanted : Wanted) (cs es : List ClientView) (r s : Report) (f g : Finished)
     → 0 < id.clients → AreNew id cs → AllAsked id tasks cs es s.refused.items → IsFinished id duration wanted es f
-    → r ≡ f.report → s.histories ≡ r.histories → s.words ≡ r.words → s.caps ≡ r.caps → s.home ≡ r.home → g.report ≡ s → g.states ≡ f.states → g.logs ≡ f.logs
+    → r ≡ f.report → s.histories ≡ r.histories → s.words ≡ r.words → s.caps ≡ r.caps → s.home ≡ r.home → g.report ≡ s → g.states ≡ f.states → g.logs ≡ f.logs → g.heard ≡ f.heard
     → IsRan id tasks duration wanted g
-is_ran id tasks duration wanted cs es r s f g some new asked finished is histories words caps home report states logs =
+is_ran id tasks duration wanted cs es r s f g some new asked finished is histories words caps home report states logs heard =
     let left = finished.report.left in
     let same_h : g.report.histories ≡ f.report.histories = ap (λ (x : Report). x.histories) report ∙ histories ∙ ap (λ (x : Report). x.histories) is in
     let same_w : g.report.words ≡ f.report.words = ap (λ (x : Report). x.words) report ∙ words ∙ ap (λ (x : Report). x.words) is in
@@ -123,7 +125,12 @@ is_ran id tasks duration wanted cs es r s f g some new asked finished is histori
       count = rw (same_h, states) (finished.count ∙ sym left.count);
       as_many = rw (same_h, logs) (finished.logs_count ∙ sym left.count);
       runs = rw (same_h, states) finished.runs;
-      told = rw (same_h, logs) (are_told id id.clients tasks duration wanted f.report.histories.items s.refused.items f.logs.items left.count anyone answers finished.logs);
+      told = rw (same_h, logs) (are_told id id.clients tasks duration (tells_wanted wanted) f.report.histories.items s.refused.items f.logs.items left.count anyone answers finished.logs);
+      figured = rw (same_h, states, heard) (λ yes. record {
+        as_many = finished.heard_count yes ∙ sym left.count;
+        runs = runs_heard f.report.histories.items f.states.items (finished.heard_runs yes);
+        all = are_heard id id.clients tasks duration f.report.histories.items s.refused.items f.heard.items left.count anyone answers (finished.heard yes);
+      });
     }
 
 -- the domain that was full, once the tasks were asked
@@ -141,7 +148,7 @@ full_domain id tasks duration cs es refused some new asked met = (
   },
 )
 
-abbrev pub ran_answers : (o : Options) (scenario : ScenarioView) (duration : ℕ) (wanted : Bool) (given tasks : List TaskSpecView) (id : SessionId) (f : Finished)
+abbrev pub ran_answers : (o : Options) (scenario : ScenarioView) (duration : ℕ) (wanted : Wanted) (given tasks : List TaskSpecView) (id : SessionId) (f : Finished)
     → record { duration_us = duration; tasks = given } ≡ scenario → tasks ≡ map (flagged o.reclaim) given → IsSessionOf o id → IsRan id tasks duration wanted f
     → AnswersScenario id o.clients (map (flagged o.reclaim) scenario.tasks) scenario.duration_us (map (λ h. h.entries) f.report.histories.items) f.report.refused.items
 ran_answers o scenario duration wanted given tasks id f view same session ran =
@@ -150,7 +157,7 @@ ran_answers o scenario duration wanted given tasks id f view same session ran =
     (subst (λ (ts : List TaskSpecView). AnswersScenario id o.clients ts duration hs f.report.refused.items) same
     (subst (λ (n : ℕ). AnswersScenario id n tasks duration hs f.report.refused.items) session.clients ran.answers))
 
-abbrev pub is_run : (s : Streams) (o : Options) (scenario : ScenarioView) (duration : ℕ) (wanted : Bool) (given tasks : List TaskSpecView) (id : SessionId) (f : Finished)
+abbrev pub is_run : (s : Streams) (o : Options) (scenario : ScenarioView) (duration : ℕ) (wanted : Wanted) (given tasks : List TaskSpecView) (id : SessionId) (f : Finished)
     → AreOptions o → IsScenario s scenario → record { duration_us = duration; tasks = given } ≡ scenario → tasks ≡ map (flagged o.reclaim) given → IsSessionOf o id → IsRan id tasks duration wanted f
     → IsRun s o f.report.histories.items f.report.refused.items
 is_run s o scenario duration wanted given tasks id f options input view same session ran = record {
@@ -173,7 +180,7 @@ is_run s o scenario duration wanted given tasks id f options input view same ses
 }
 
 -- the text of the run was written
-pub run_answered : (s : Streams) (o : Options) (scenario : ScenarioView) (duration : ℕ) (wanted : Bool) (given tasks : List TaskSpecView) (id : SessionId) (f : Finished) (histories : List SectionView)
+pub run_answered : (s : Streams) (o : Options) (scenario : ScenarioView) (duration : ℕ) (wanted : Wanted) (given tasks : List TaskSpecView) (id : SessionId) (f : Finished) (histories : List SectionView)
     → AreOptions o → IsScenario s scenario → record { duration_us = duration; tasks = given } ≡ scenario → tasks ≡ map (flagged o.reclaim) given → IsSessionOf o id → IsRan id tasks duration wanted f
     → histories ≡ f.report.histories.items → HasNoFault s.reader → IsWritten s.writer (printed o.print histories) → IsRunAnswer s o f.report
 run_answered s o scenario duration wanted given tasks id f histories options input view same session ran written_are reads written = record {

@@ -11,7 +11,7 @@ returns-in_ok-finished-in-Ok-admit_all-clause-ok g c =
     let f = c.in_ok-finished-in-Ok-admit_all.finished in
     let many = ap (λ (i : SessionId). i.clients) c.requires.parts in
     is_ran g.N.Names.id c.args.tasks.now c.args.duration c.args.wanted c.in-Ok.clients.items c.in-Ok-admit_all.clients.items f.report _ f _
-    (omega (arith, c.requires.some, c.requires.many, many)) c.in-Ok.ensures c.in-Ok-admit_all.ensures.ok c.in_ok-finished-in-Ok-admit_all.ensures.ok refl refl refl refl refl refl refl refl
+    (omega (arith, c.requires.some, c.requires.many, many)) c.in-Ok.ensures c.in-Ok-admit_all.ensures.ok c.in_ok-finished-in-Ok-admit_all.ensures.ok refl refl refl refl refl refl refl refl refl
 
 pub end_run-requires-clause-first : goal.end_run-requires-clause-first
 end_run-requires-clause-first g c =
