@@ -8,11 +8,10 @@
 //! (`specs/Charted.antt`). [`write_run_as`] writes the same of histories whose states and logs are
 //! at hand (`specs/Written.antt`), and [`write_heard_summary`] the summary of histories whose runs
 //! were heard as they were made, while their switches were let go (`specs/Heard.antt`); nothing is
-//! run again. To the crate above they promise: `Ok` means
-//! that what was written is that text of the runs of the sections, each on a domain of its own, and
-//! nothing else; each fault means what it says, and where it is no fault of the writer, nothing was
-//! written. `proofs/CallerLemmas.antt` has laws for callers: the calls text of histories is read
-//! again, and its replay writes the same trace.
+//! run again. To the crate above they promise: `Ok` means that what was written is that text of the
+//! runs of the sections, each on a domain of its own, and nothing else; each fault means what it
+//! says, and where it is no fault of the writer, nothing was written. `proofs/CallerLemmas.antt` has
+//! laws for callers: the calls text of histories is read again, and its replay writes the same trace.
 #![tactic(auto)]
 
 mod charting;
