@@ -3,16 +3,15 @@
 ghost use Rattle.std.specs.Prelude.{◌≡◌, ◌<◌, ◌≤◌, ◌^◌, All, IfOk, IfErr, OnOk, length, map};
 ghost use Rattle.counted_io.specs.Sides.{faults_of, side};
 ghost use Rattle.run_figures.specs.Runs as counted;
-ghost use Rattle.run_figures.specs.Laws.{AreShort};
-ghost use Rattle.switch_text.specs.Names.{named};
 ghost use Rattle.figure_text.specs.Jobs as jobs;
 ghost use Rattle.figure_text.specs.Summary as summaries;
 ghost use Rattle.calls_trace.specs.Told.{admitted};
 ghost use Rattle.calls_trace.specs.Written.{IsWritten, IsUnwritten};
 ghost use Rattle.calls_trace.specs.declared.run_text.RunText.TheVariants as texts;
 ghost use Rattle.calls_trace.specs.private.Replaying.{view_of, given_in, figures_in, jobs_in, summary_in, text_of_runs};
-ghost use Rattle.calls_trace.specs.private.Counting.{counted_as, figured};
+ghost use Rattle.calls_trace.specs.private.Counting.{counted_as};
 
+use crate::counted_run::CountedRun;
 use crate::fault::TraceFault;
 use crate::placed_run::PlacedRun;
 use crate::trace::heard_by;
@@ -20,7 +19,7 @@ use attr_check::Params;
 use domain_run::{NoMemory, State};
 use figure_text::{DomainJobs, DomainSummary, put_jobs, put_summary};
 use indexmap::IndexMap;
-use run_figures::{Admitted, Run, Summary, TaskJobs, jobs_of, summary_of};
+use run_figures::{Admitted, Run, TaskJobs, jobs_of, summary_of};
 use std::alloc::Global;
 use std::io::Write;
 use switch_text::{Counted, write_text};
@@ -144,45 +143,13 @@ fn jobs_text(alloc: Global, placed: &[PlacedRun]) -> Result<Vec<u8>, NoMemory>
 
 // ---- the summary
 
-/// The figures of a run, with what else a summary has of it.
-#[derive(Drop)]
-pub(crate) struct CountedRun<'a> {
-    names: &'a IndexMap<u32, String>,
-    summary: Summary,
-    bandwidth: u64,
-    cap: u64,
-    time: u64,
-    ghost short: { AreShort summary.tasks.items summary.cpus.items },
-    ghost machine: { length summary.cpus.items ≤ 64 },
-}
-
-/// The figures of a run that led to this state. Nobody looks at its switches.
-pub(crate) fn counted_run<'a>(
-    names: &'a IndexMap<u32, String>,
-    state: &State,
-    summary: Summary,
-) -> CountedRun<'a>
-    requires short { AreShort summary.tasks.items summary.cpus.items }
-    requires cpus { length summary.cpus.items ≡ state.now.cpus }
-    ensures { counted_as result
-        ≡ figured (named names.now) state.now summary.tasks.items summary.cpus.items }
-{
-    CountedRun {
-        names,
-        summary,
-        bandwidth: state.sum(),
-        cap: u64::from(state.cpus()) * state.limit(),
-        time: state.now(),
-    }
-}
-
 fn count_run(alloc: Global, placed: &PlacedRun) -> Result<CountedRun<'_>, NoMemory>
     ensures { IfOk result (λ c. counted_as c ≡ summary_in (view_of placed.now)) }
 {
     let run = &placed.run;
     let tasks = tasks_of(alloc, &run.state, &run.given)?;
     let summary = summary_of(alloc, &as_counted(placed, &tasks))?;
-    Ok(counted_run(&run.names, &run.state, summary))
+    Ok(CountedRun::of(&run.names, &run.state, summary))
 }
 
 /// The figures of each run.
@@ -197,21 +164,6 @@ fn all_counted(alloc: Global, placed: &[PlacedRun]) -> Result<Vec<CountedRun<'_>
     Ok(all)
 }
 
-fn as_summary<'a>(counted: &'a CountedRun<'_>) -> DomainSummary<'a>
-    ensures view { summaries.view_of result ≡ counted_as counted.now }
-    ensures short { summaries.IsShort result }
-    ensures machine { summaries.IsOfMachine result }
-{
-    DomainSummary {
-        names: counted.names,
-        tasks: &counted.summary.tasks,
-        cpus: &counted.summary.cpus,
-        bandwidth: counted.bandwidth,
-        cap: counted.cap,
-        time: counted.time,
-    }
-}
-
 /// The figures of runs as they are written.
 fn all_as_summaries<'a>(
     alloc: Global,
@@ -224,7 +176,7 @@ fn all_as_summaries<'a>(
 {
     let mut written = Vec::with_capacity(alloc, counted.len())?;
     for one in counted {
-        written.push_reserved(as_summary(one));
+        written.push_reserved(one.as_summary());
     }
     Ok(written)
 }

@@ -1,7 +1,7 @@
 //! The summary of histories whose runs were heard while they were made.
 
 ghost use Rattle.std.specs.Prelude.{◌≡◌, ◌<◌, ◌≤◌, ◌^◌, All, IfErr, IfOk, OnOk, length, map};
-ghost use Rattle.domain_run.specs.Passing.{without_switches};
+ghost use Rattle.calls_trace.specs.Passing.{without_switches};
 ghost use Rattle.counted_io.specs.Sides.{faults_of, side};
 ghost use Rattle.call_book.specs.Book.{IsLegal};
 ghost use Rattle.call_book.specs.Histories.{AreLegal};
@@ -11,8 +11,9 @@ ghost use Rattle.calls_trace.specs.Heard.{AreHeard, AreRunsButSwitches, heard_of
 ghost use Rattle.calls_trace.specs.Written.{IsWritten, IsUnwritten};
 ghost use Rattle.calls_trace.specs.private.Counting.{counted_as};
 
+use crate::counted_run::CountedRun;
 use crate::fault::TraceFault;
-use crate::figures::{CountedRun, counted_run, figures_text, tasks_of, write_whole};
+use crate::figures::{figures_text, tasks_of, write_whole};
 use crate::named_run::{names_of, params_of};
 use call_book::Section;
 use domain_run::{NoMemory, State};
@@ -54,7 +55,7 @@ fn count_heard<'a>(
     let given = params_of(alloc, history)?;
     let tasks = tasks_of(alloc, state, &given)?;
     let summary = heard.summary(alloc, &tasks)?;
-    Ok(counted_run(names, state, summary))
+    Ok(CountedRun::of(names, state, summary))
 }
 
 /// The figures of the run of each history.

@@ -15,6 +15,7 @@
 #![tactic(auto)]
 
 mod charting;
+mod counted_run;
 mod fault;
 mod figures;
 mod heard_summary;

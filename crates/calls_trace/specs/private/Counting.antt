@@ -7,7 +7,7 @@ use Rattle.switch_text.specs.Names.{named}
 use Rattle.run_figures.specs.declared.figures.TaskFigures.{TaskFigures}
 use Rattle.run_figures.specs.declared.figures.CpuFigures.{CpuFigures}
 use Rattle.figure_text.specs.Summary.{SummaryView}
-use Rattle.calls_trace.specs.declared.figures.CountedRun.{CountedRun}
+use Rattle.calls_trace.specs.declared.counted_run.CountedRun.{CountedRun}
 
 abbrev pub counted_as : CountedRun → SummaryView
 counted_as c = record {

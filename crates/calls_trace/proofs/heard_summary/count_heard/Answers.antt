@@ -9,8 +9,8 @@ pub summary-requires-clause-same : goal.summary-requires-clause-same
 summary-requires-clause-same c =
     tasks_heard c.args.history.now (given_in c.in_ok-given.given) c.args.state.now c.args.heard.now c.deref.result.now (c.deref.ensures.value ∙ c.in_ok-tasks.ensures.tasks) c.requires.state c.requires.heard
 
-pub counted_run-requires-clause-cpus : goal.counted_run-requires-clause-cpus
-counted_run-requires-clause-cpus c =
+pub of-requires-clause-cpus : goal.of-requires-clause-cpus
+of-requires-clause-cpus c =
     cpus_heard c.args.history.now c.args.state.now c.args.heard.now c.deref.result.now c.in_ok-summary.summary.cpus.items c.requires.state c.requires.heard c.in_ok-summary.ensures.cpus
 
 pub returns : goal.returns
@@ -18,6 +18,6 @@ returns c =
     let made = c.in_ok-summary.summary in
     let tasks = c.deref.result.now in
     let are : tasks ≡ map (admitted (given_in c.in_ok-given.given)) c.args.state.now.used = c.deref.ensures.value ∙ c.in_ok-tasks.ensures.tasks in
-    c.counted_run.ensures
+    c.of.ensures
     ∙ heard_is c.args.history.now (named c.args.names.now) (given_in c.in_ok-given.given) c.args.state.now c.args.heard.now tasks made.tasks.items made.cpus.items
     c.requires.names c.in_ok-given.ensures c.requires.state c.requires.heard are c.in_ok-summary.ensures.tasks c.in_ok-summary.ensures.cpus

@@ -7,4 +7,4 @@ pub returns : goal.returns
 returns c =
     let s = c.args.history.now in
     let same : c.deref.result.now ≡ s.entries = c.deref.ensures.value ∙ ap (λ (x : SectionView). x.entries) c.history.view_is in
-    history_names s c.deref.result.now c.names_given.result c.requires same c.names_given.ensures
+    history_names s c.deref.result.now c.names_given.result c.requires same c.names_given.ensures.names

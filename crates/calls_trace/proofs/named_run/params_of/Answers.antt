@@ -7,4 +7,4 @@ pub returns : goal.returns
 returns c =
     let s = c.args.history.now in
     let same : c.deref.result.now ≡ s.entries = c.deref.ensures.value ∙ ap (λ (x : SectionView). x.entries) c.history.view_is in
-    history_params s c.deref.result.now c.params_given.result c.requires same c.params_given.ensures
+    history_params s c.deref.result.now c.params_given.result c.requires same c.params_given.ensures.given

@@ -1,0 +1,10 @@
+-- A domain whose switches so far are forgotten, and one that had more before them.
+use Rattle.std.specs.Prelude.{List, [], ◌++◌}
+use Rattle.domain_run.specs.declared.switch.Switch.{Switch}
+use Rattle.domain_run.specs.Domain.{Domain}
+
+abbrev pub without_switches : Domain → Domain
+without_switches d = record d { switches = [] }
+
+abbrev pub behind : List Switch → Domain → Domain
+behind past d = record d { switches = past ++ d.switches }
