@@ -24,13 +24,17 @@ use Rattle.call_book.specs.Book.{calls_of}
 use Rattle.call_book.specs.Histories.{AreTold}
 use Rattle.run_figures.specs.Accounting.{AccountingView}
 use Rattle.calls_trace.specs.Told.{domain_of}
-use Rattle.calls_trace.specs.Heard.{AreHeard, AreRunsButSwitches}
+use Rattle.calls_trace.specs.Heard.{AreHeard}
 use Rattle.session.specs.declared.refusal.Refusal.{Refusal}
 use Rattle.session.specs.SessionId.{SessionId, IsDomainIndex}
+use Rattle.session.specs.declared.report.Finished.{Finished}
+use Rattle.session.specs.declared.report.Wanted.{Wanted}
+use Rattle.session.specs.declared.report.Wanted.TheVariants as wants
 use Rattle.session.specs.Report.{IsHistoryOf}
-use Rattle.session.specs.RunEnd.{IsLogOf, told_at_end, heard_at_end, AreRunsHeard}
+use Rattle.session.specs.RunEnd.{IsLeftAs, IsLogOf, told_at_end}
 use Rattle.dl_session.specs.InOrder.{is_admitted}
 use Rattle.dl_session.specs.ScenarioAnswers.{AnswersScenario}
+use Rattle.dl_session.specs.private.Running.{AreLeftAs}
 use Rattle.dl_session.proofs.OrderRuns.{is_verdict, admitted_is, LegalFrom}
 use Rattle.dl_session.proofs.OrderSplit.{after_both, last_calls, last_if, IsSplit}
 use Rattle.dl_session.proofs.OrderLaw.{split_of}
@@ -134,20 +138,20 @@ pub are_told : (id : SessionId) (clients : ℕ) (tasks : List TaskSpecView) (dur
     → length histories ≡ length id.cpu_sets
     → ((d : ℕ) (x : SectionView) → IsDomainIndex id d → IsHistoryOf id d [] (get_or histories d x))
     → AnswersScenario id clients tasks duration (map (λ h. h.entries) histories) refused
-    → ((d : ℕ) (s : SectionView) (x : LogView) → d < length id.cpu_sets → IsLogOf wanted (told_at_end duration (get_or histories d s).cpus (get_or histories d s).limit (get_or histories d s).entries) (get_or logs d x))
+    → ((d : ℕ) (s : SectionView) (x : LogView) → d < length histories → IsLogOf wanted (told_at_end duration (get_or histories d s).cpus (get_or histories d s).limit (get_or histories d s).entries) (get_or logs d x))
     → AreTold wanted histories logs
 are_told id clients tasks duration wanted histories refused logs count legal answers each = record {
-  alike = λ d x inside. (each d (record { cpus = 0; limit = 0; entries = [] }) x (omega (arith, inside, count))).alike;
+  alike = λ d x inside. (each d (record { cpus = 0; limit = 0; entries = [] }) x inside).alike;
   told = λ d s x inside yes.
       let place : d < length id.cpu_sets = omega (arith, inside, count) in
       let h = get_or histories d s in
-      (each d s x place).has yes ∙ sym (history_tells duration h.cpus h.limit h.entries (split_of id clients tasks duration histories refused count legal answers d s place));
+      (each d s x inside).has yes ∙ sym (history_tells duration h.cpus h.limit h.entries (split_of id clients tasks duration histories refused count legal answers d s place));
 }
 
 -- ---- what was heard
 
 -- of the run of a history, with this that happened
-heard_with : SectionView → List Happened → AccountingView
+abbrev heard_with : SectionView → List Happened → AccountingView
 heard_with h happened = record {
   cpus = (domain_of h).cpus;
   time = (domain_of h).time;
@@ -160,14 +164,34 @@ pub are_heard : (id : SessionId) (clients : ℕ) (tasks : List TaskSpecView) (du
     → length histories ≡ length id.cpu_sets
     → ((d : ℕ) (x : SectionView) → IsDomainIndex id d → IsHistoryOf id d [] (get_or histories d x))
     → AnswersScenario id clients tasks duration (map (λ h. h.entries) histories) refused
-    → ((d : ℕ) (s : SectionView) (x : AccountingView) → d < length id.cpu_sets → get_or heard d x ≡ heard_at_end duration (get_or histories d s))
+    → ((d : ℕ) (s : SectionView) (x : AccountingView) → d < length histories → get_or heard d x ≡ heard_with (get_or histories d s) (told_at_end duration (get_or histories d s).cpus (get_or histories d s).limit (get_or histories d s).entries))
     → AreHeard histories heard
-unfolding heard_with
 are_heard id clients tasks duration histories refused heard count legal answers each d s x inside =
     let place : d < length id.cpu_sets = omega (arith, inside, count) in
     let h = get_or histories d s in
-    each d s x place
+    each d s x inside
     ∙ ap (heard_with h) (sym (history_tells duration h.cpus h.limit h.entries (split_of id clients tasks duration histories refused count legal answers d s place)))
 
-pub runs_heard : (histories : List SectionView) (states : List Domain) → AreRunsHeard histories states → AreRunsButSwitches histories states
-runs_heard histories states are d s x inside = ap without_switches (are d s x inside)
+-- ---- what is wanted
+
+pub left_as : (id : SessionId) (clients : ℕ) (tasks : List TaskSpecView) (duration : ℕ) (wanted : Wanted) (f : Finished) (refused : List (ℕ × Refusal))
+    → length f.report.histories.items ≡ length id.cpu_sets
+    → ((d : ℕ) (x : SectionView) → IsDomainIndex id d → IsHistoryOf id d [] (get_or f.report.histories.items d x))
+    → AnswersScenario id clients tasks duration (map (λ h. h.entries) f.report.histories.items) refused
+    → IsLeftAs duration wanted f
+    → AreLeftAs wanted f.report.histories.items f.states.items f.logs.items f.heard.items
+left_as id clients tasks duration wants.Switches f refused count legal answers left = record {
+  runs = left.runs;
+  as_many = left.logs_count;
+  told = are_told id clients tasks duration false f.report.histories.items refused f.logs.items count legal answers left.logs;
+}
+left_as id clients tasks duration wants.Happened f refused count legal answers left = record {
+  runs = left.runs;
+  as_many = left.logs_count;
+  told = are_told id clients tasks duration true f.report.histories.items refused f.logs.items count legal answers left.logs;
+}
+left_as id clients tasks duration wants.Figures f refused count legal answers left = record {
+  as_many = left.heard_count;
+  runs = λ d s x inside. ap without_switches (left.runs d s x inside);
+  all = are_heard id clients tasks duration f.report.histories.items refused f.heard.items count legal answers left.heard;
+}

@@ -22,7 +22,6 @@ use Rattle.session.specs.declared.refusal.Refusal.{Refusal}
 use Rattle.session.specs.declared.report.Report.{Report}
 use Rattle.session.specs.declared.report.Finished.{Finished}
 use Rattle.session.specs.declared.report.Wanted.{Wanted}
-use Rattle.session.specs.RunEnd.{tells_wanted}
 use Rattle.session.specs.SessionId.{SessionId, IsDomainIndex}
 use Rattle.session.specs.Asks.{ClientView, pass_in}
 use Rattle.session.specs.Admissions.{AreNew, AllAsked}
@@ -42,7 +41,7 @@ use Rattle.dl_session.specs.Upward.{of_end, of_trace}
 use Rattle.dl_session.specs.private.Running.{IsJsonTold, IsScenarioTold, IsRan, IsOrMemory, IsHalted}
 use Rattle.dl_session.proofs.ScenarioLaw.{answers_all, answers_tasks}
 use Rattle.dl_session.proofs.OrderLaw.{in_order}
-use Rattle.dl_session.proofs.Logged.{are_told, are_heard, runs_heard}
+use Rattle.dl_session.proofs.Logged.{left_as}
 use Rattle.calls_trace.proofs.CallerLemmas.{read_again, same_trace}
 use Rattle.session.proofs.CallerLemmas.{length_sets}
 
@@ -123,14 +122,7 @@ is_ran id tasks duration wanted cs es r s f g some new asked finished is histori
       };
       answers = rw (same_h, same_r) answers;
       count = rw (same_h, states) (finished.count ∙ sym left.count);
-      as_many = rw (same_h, logs) (finished.logs_count ∙ sym left.count);
-      runs = rw (same_h, states) finished.runs;
-      told = rw (same_h, logs) (are_told id id.clients tasks duration (tells_wanted wanted) f.report.histories.items s.refused.items f.logs.items left.count anyone answers finished.logs);
-      figured = rw (same_h, states, heard) (λ yes. record {
-        as_many = finished.heard_count yes ∙ sym left.count;
-        runs = runs_heard f.report.histories.items f.states.items (finished.heard_runs yes);
-        all = are_heard id id.clients tasks duration f.report.histories.items s.refused.items f.heard.items left.count anyone answers (finished.heard yes);
-      });
+      runs = rw (same_h, states, logs, heard) (left_as id id.clients tasks duration wanted f s.refused.items left.count anyone answers finished.left);
     }
 
 -- the domain that was full, once the tasks were asked

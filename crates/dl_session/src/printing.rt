@@ -1,26 +1,34 @@
 //! The last step of a run: the text that is asked for of its histories.
 
-ghost use Rattle.std.specs.Prelude.{◌≡◌, ◌≢◌, ◌<◌, ◌≤◌, ◌^◌, All, OnOk, IfErr, length};
+ghost use Rattle.std.specs.Prelude.{◌≡◌, ◌<◌, ◌≤◌, ◌^◌, All, OnOk, IfErr, length};
 ghost use Rattle.call_book.specs.Limits.{IsSection};
 ghost use Rattle.call_book.specs.Spelling.{spelling};
-ghost use Rattle.call_book.specs.Histories.{AreLegal, AreRuns, AreTold};
+ghost use Rattle.call_book.specs.Histories.{AreLegal};
 ghost use Rattle.counted_io.specs.Sides.{faults_of, side};
-ghost use Rattle.session.specs.Options.{wanted};
-ghost use Rattle.session.specs.RunEnd.{tells_wanted};
-ghost use Rattle.session.specs.declared.report.Wanted.TheVariants as wants;
 ghost use Rattle.calls_trace.specs.Written.{IsWritten, IsUnwritten};
 ghost use Rattle.dl_session.specs.RunAnswer.{printed};
 ghost use Rattle.dl_session.specs.private.Printing as printing;
-ghost use Rattle.dl_session.specs.private.Running.{AreFigured};
+ghost use Rattle.dl_session.specs.private.Running.{AreLeftAs};
 
 use call_book::{Section, write_calls};
 use calls_trace::{ReplayPrint, TraceFault, write_heard_summary, write_run_as};
 use domain_run::{Log, State};
 use run_figures::Accounting;
-use session::Print;
+use session::{Print, Wanted};
 use std::alloc::Global;
 use std::io::Write;
 use switch_text::{Counted, write_text};
+
+/// What is wanted of a run whose text is this.
+pub(crate) fn wanted_for(print: Print) -> Wanted
+    ensures { result ≡ printing.wanted_for print }
+{
+    match print {
+        Print::Trace | Print::Calls | Print::Replies => Wanted::Switches,
+        Print::Events | Print::Jobs | Print::Chart(_) => Wanted::Happened,
+        Print::Summary => Wanted::Figures,
+    }
+}
 
 /// Of what a text of a run is made.
 #[derive(Clone, Copy, Debug, PartialEq, Eq)]
@@ -88,13 +96,10 @@ pub(crate) fn write_run<W: Write>(
 ) -> Result<(), TraceFault>
     requires few { length histories.now ≤ 8 }
     requires count { length states.items ≡ length histories.now }
-    requires as_many { length logs.items ≡ length histories.now }
     requires sections { All IsSection histories.now }
     requires legal { AreLegal histories.now }
-    requires runs { wanted print ≢ wants.Figures → AreRuns histories.now states.items }
-    requires told { AreTold (tells_wanted (wanted print)) histories.now logs.items }
-    requires heard { wanted print ≡ wants.Figures
-        → AreFigured histories.now states.items heard.now }
+    requires runs { AreLeftAs (printing.wanted_for print) histories.now states.items logs.items
+        heard.now }
     requires faults { faults_of writer.old < 2 ^ 63 }
     ensures ok { OnOk result
         (IsWritten (side W.contents writer.old writer.new) (printed print histories.now)) }

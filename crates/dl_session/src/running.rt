@@ -12,7 +12,7 @@ ghost use Rattle.dl_session.specs.private.Running.{IsJsonTold, IsScenarioTold, I
 
 use crate::admitting::admit_all;
 use crate::fault::SessionFault;
-use crate::printing::write_run;
+use crate::printing::{wanted_for, write_run};
 use call_book::NoMemory;
 use json_order::{JsonFault, JsonKind, read};
 use rtapp_scenario::{Scenario, ScenarioFault, TaskSpec, parse};
@@ -200,7 +200,7 @@ pub fn run<R: Read, W: Write, T: Turnstile, X: Threads + Wait + Sync>(
         many,
         &tasks,
         duration_us,
-        options.print.wanted(),
+        wanted_for(options.print),
         turnstile,
     )?;
     let histories = &report.histories;

@@ -1,7 +1,8 @@
 -- The steps of a run: the input is told, tasks are run in a session, and the text of their run is
 -- written.
-use Rattle.std.specs.Prelude.{◌≡◌, ◌≢◌, ℕ, List, [], length, map}
+use Rattle.std.specs.Prelude.{◌≡◌, ◌≢◌, ℕ, Bool, true, false, List, [], length, map}
 use Rattle.domain_run.specs.Domain.{Domain}
+use Rattle.domain_run.specs.Log.{LogView}
 use Rattle.json_order.specs.declared.fault.JsonFault.{JsonFault}
 use Rattle.json_order.specs.declared.fault.JsonKind.TheVariants as kinds
 use Rattle.rtapp_scenario.specs.declared.fault.ScenarioFault.{ScenarioFault}
@@ -13,8 +14,7 @@ use Rattle.call_book.specs.Histories.{AreRuns, AreTold}
 use Rattle.calls_trace.specs.Heard.{AreHeard, AreRunsButSwitches}
 use Rattle.session.specs.declared.report.Finished.{Finished}
 use Rattle.session.specs.declared.report.Wanted.{Wanted}
-use Rattle.session.specs.declared.report.Wanted.TheVariants.{Figures}
-use Rattle.session.specs.RunEnd.{tells_wanted}
+use Rattle.session.specs.declared.report.Wanted.TheVariants.{Switches, Happened, Figures}
 use Rattle.session.specs.SessionId.{SessionId}
 use Rattle.session.specs.Report.{IsLeft}
 use Rattle.dl_session.specs.declared.fault.SessionFault.{SessionFault}
@@ -33,6 +33,14 @@ IsJsonTold found = IsOrMemory (λ e. (e ≡ Json found) × (found.kind ≢ kinds
 abbrev pub IsScenarioTold : ScenarioFault → SessionFault → Type 0
 IsScenarioTold found = IsOrMemory (λ e. (e ≡ Scenario found) × (found ≢ scenario_faults.Memory))
 
+-- what is left of runs: the states that the histories lead to, and logs of what the histories tell,
+-- where that is wanted
+pub record AreLogged (wanted : Bool) (histories : List SectionView) (states : List Domain)
+    (logs : List LogView) : Type 0 where
+  pub runs : AreRuns histories states
+  pub as_many : length logs ≡ length histories
+  pub told : AreTold wanted histories logs
+
 -- what is left of runs whose figures are wanted: they were heard, and but for their switches the
 -- states are what the histories lead to
 pub record AreFigured (histories : List SectionView) (states : List Domain)
@@ -41,19 +49,22 @@ pub record AreFigured (histories : List SectionView) (states : List Domain)
   pub runs : AreRunsButSwitches histories states
   pub all : AreHeard histories heard
 
--- what a run of tasks leaves: the histories and the refusals answer them, and the logs have what the
--- histories tell, where that is wanted; where figures are, the runs were heard
+-- by what is wanted
+abbrev pub AreLeftAs : Wanted → List SectionView → List Domain → List LogView
+    → List AccountingView → Type 0
+AreLeftAs Switches histories states logs heard = AreLogged false histories states logs
+AreLeftAs Happened histories states logs heard = AreLogged true histories states logs
+AreLeftAs Figures histories states logs heard = AreFigured histories states heard
+
+-- what a run of tasks leaves: the histories and the refusals answer them, and of the runs there is
+-- what is wanted
 pub record IsRan (id : SessionId) (tasks : List TaskSpecView) (duration : ℕ) (wanted : Wanted)
     (f : Finished) : Type 0 where
   pub left : IsLeft id [] f.report
   pub answers : AnswersScenario id id.clients tasks duration
       (map (λ h. h.entries) f.report.histories.items) f.report.refused.items
   pub count : length f.states.items ≡ length f.report.histories.items
-  pub as_many : length f.logs.items ≡ length f.report.histories.items
-  pub runs : wanted ≢ Figures → AreRuns f.report.histories.items f.states.items
-  pub told : AreTold (tells_wanted wanted) f.report.histories.items f.logs.items
-  pub figured : wanted ≡ Figures
-      → AreFigured f.report.histories.items f.states.items f.heard.items
+  pub runs : AreLeftAs wanted f.report.histories.items f.states.items f.logs.items f.heard.items
 
 -- ---- why it did not come to its end
 
