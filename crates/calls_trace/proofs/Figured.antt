@@ -41,7 +41,7 @@ pub heard_is : (s : SectionView) (names : ℕ → List ℕ) (given : ℕ → Par
     → ts ≡ task_figures (heard_run a tasks) → cs ≡ cpu_figures (heard_run a tasks) → figured names d ts cs ≡ summary_view s
 heard_is s names given d a tasks ts cs same_names same_given state heard are made_tasks made_cpus =
     let all : tasks ≡ map (admitted (params_in s)) (domain_of s).used =
-        are ∙ ap (λ (g : ℕ → ParamsView). map (admitted g) d.used) same_given ∙ ap (λ (x : Domain). map (admitted (params_in s)) x.used) state in
+    are ∙ ap (λ (g : ℕ → ParamsView). map (admitted g) d.used) same_given ∙ ap (λ (x : Domain). map (admitted (params_in s)) x.used) state in
     let run : heard_run a tasks ≡ figures_view s = ap (λ (x : AccountingView). heard_run x tasks) heard ∙ ap (heard_run (heard_of s)) all in
     let us = task_figures (figures_view s) in
     let es = cpu_figures (figures_view s) in

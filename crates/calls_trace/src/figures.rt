@@ -182,10 +182,7 @@ fn all_as_summaries<'a>(
 }
 
 /// The text of figures.
-pub(crate) fn figures_text(
-    alloc: Global,
-    counted: &[CountedRun<'_>],
-) -> Result<Vec<u8>, NoMemory>
+pub(crate) fn figures_text(alloc: Global, counted: &[CountedRun<'_>]) -> Result<Vec<u8>, NoMemory>
     requires few { length counted.now ≤ 8 }
     ensures { IfOk result (λ v. v.items ≡ summaries.summary_text (map counted_as counted.now)) }
 {

@@ -24,10 +24,7 @@ use std::io::Write;
 use switch_text::Counted;
 
 /// The names of each history.
-fn all_names(
-    alloc: Global,
-    histories: &[Section],
-) -> Result<Vec<IndexMap<u32, String>>, NoMemory>
+fn all_names(alloc: Global, histories: &[Section]) -> Result<Vec<IndexMap<u32, String>>, NoMemory>
     requires { AreLegal histories.now }
     ensures { IfOk result (λ v. map named v.items ≡ map names_in histories.now) }
 {
