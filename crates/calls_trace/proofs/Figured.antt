@@ -8,7 +8,6 @@ use Rattle.call_book.specs.SectionView.{SectionView}
 use Rattle.run_figures.specs.declared.run.Admitted.{Admitted}
 use Rattle.run_figures.specs.declared.figures.TaskFigures.{TaskFigures}
 use Rattle.run_figures.specs.declared.figures.CpuFigures.{CpuFigures}
-use Rattle.run_figures.specs.Runs.{RunView}
 use Rattle.run_figures.specs.Figures.{task_figures, cpu_figures}
 use Rattle.run_figures.specs.Accounting.{AccountingView, heard_run}
 use Rattle.calls_trace.specs.Told.{domain_of, names_in, params_in, admitted, figures_view, summary_view}

@@ -1,5 +1,4 @@
 use Rattle.std.proofs.Common.{ap, ◌∙◌}
-use Rattle.switch_text.specs.Names.{named}
 use Rattle.run_figures.specs.Figures.{task_figures, cpu_figures}
 use Rattle.calls_trace.specs.private.Replaying.{view_of, figures_in}
 use Rattle.calls_trace.proofs.Texts.{as_many_cpus}
