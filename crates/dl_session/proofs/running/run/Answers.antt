@@ -26,7 +26,7 @@ returns-in-Ok-write_run-clause-ok g c =
     let w = side g.W.Write.contents c.args.writer.now c.write_run.new.writer in
     let s = streams (side g.R.Read.remaining c.args.reader.now c.read_scenario.new.reader) w in
     let given = c.duration_us.inside in
-    run_answered s c.args.options.now c.in-Ok.scenario given.duration_us c.tells.result given.tasks.items c.deref.result.now c.in-Ok-open.parts c.in_ok-report.field-0 c.deref-2.result.now
+    run_answered s c.args.options.now c.in-Ok.scenario given.duration_us c.wanted_for.result given.tasks.items c.deref.result.now c.in-Ok-open.parts c.in_ok-report.field-0 c.deref-2.result.now
     c.requires.options (c.in-Ok.ensures.ok w) c.duration_us.view_is (c.deref.ensures.value ∙ c.flag_all.ensures) c.in-Ok-open.ensures c.in_ok-report.ensures.ok
     c.deref-2.ensures.value c.in-Ok.ensures.reads c.in-Ok-write_run.ensures.ok
 
@@ -35,7 +35,7 @@ returns-clause-err g c =
     let w = side g.W.Write.contents c.args.writer.now c.write_run.new.writer in
     let s = streams (side g.R.Read.remaining c.args.reader.now c.read_scenario.new.reader) w in
     let given = c.duration_us.inside in
-    let run = is_run s c.args.options.now c.in-Ok.scenario given.duration_us c.tells.result given.tasks.items c.deref.result.now c.in-Ok-open.parts c.in_ok-report.field-0
+    let run = is_run s c.args.options.now c.in-Ok.scenario given.duration_us c.wanted_for.result given.tasks.items c.deref.result.now c.in-Ok-open.parts c.in_ok-report.field-0
     c.requires.options (c.in-Ok.ensures.ok w) c.duration_us.view_is (c.deref.ensures.value ∙ c.flag_all.ensures) c.in-Ok-open.ensures c.in_ok-report.ensures.ok in
     subst (IsRunFault s c.args.options.now) (sym c.from.ensures)
     (run_faulted s c.args.options.now c.in_ok-report.field-0.report.histories.items c.deref-2.result.now c.in_ok-report.field-0.report.refused.items c.in-Err-write_run.fault
