@@ -1,7 +1,7 @@
 -- Runs that were heard to their end, while their switches were let go.
 use Rattle.std.specs.Prelude.{◌≡◌, ℕ, ◌<◌, List, length, slice_index_or}
 use Rattle.domain_run.specs.Domain.{Domain}
-use Rattle.calls_trace.specs.Passing.{without_switches}
+use Rattle.domain_run.specs.Passing.{without_switches}
 use Rattle.call_book.specs.SectionView.{SectionView}
 use Rattle.run_figures.specs.Accounting.{AccountingView}
 use Rattle.calls_trace.specs.Told.{domain_of, told_of}

@@ -3,7 +3,6 @@ pub mod Told
 pub mod Charted
 pub mod Answer
 pub mod Written
-pub mod Passing
 pub mod Heard
 pub mod Upward
 pub mod private

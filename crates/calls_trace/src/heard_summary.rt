@@ -1,7 +1,7 @@
 //! The summary of histories whose runs were heard while they were made.
 
 ghost use Rattle.std.specs.Prelude.{◌≡◌, ◌<◌, ◌≤◌, ◌^◌, All, IfErr, IfOk, OnOk, length, map};
-ghost use Rattle.calls_trace.specs.Passing.{without_switches};
+ghost use Rattle.domain_run.specs.Passing.{without_switches};
 ghost use Rattle.counted_io.specs.Sides.{faults_of, side};
 ghost use Rattle.call_book.specs.Book.{IsLegal};
 ghost use Rattle.call_book.specs.Histories.{AreLegal};
