@@ -1,11 +1,7 @@
 -- A book at its end (own): no call is made on it any more, but one last advance that is heard.
-use Rattle.std.specs.Prelude.{◌≡◌, ℕ, Bool, if◌then◌else◌}
-use Rattle.domain_run.specs.declared.call.Reply.{Reply}
-use Rattle.domain_run.specs.declared.call.Reply.TheVariants as replies
+use Rattle.std.specs.Prelude.{Bool, if◌then◌else◌}
 use Rattle.domain_run.specs.Domain.{Domain}
 use Rattle.domain_run.specs.Passing.{without_switches}
-use Rattle.run_figures.specs.Accounting.{AccountingView}
-use Rattle.heard_run.specs.Heard.{heard_after}
 use Rattle.call_book.specs.Book.{BookView, state_of}
 
 pub record EndingView : Type 0 where
@@ -20,10 +16,3 @@ left_of heard d = if heard then without_switches d else d
 -- the state that is left is the run of the history; where it was heard, without its switches
 abbrev pub state_left : EndingView → Domain
 state_left e = left_of e.heard (state_of e.book)
-
--- an accounting heard an advance by so many ticks, of which these were made, and all switches of
--- the run before it and in it
-pub record HearsAdvance (old : BookView) (n : ℕ) (heard : AccountingView) (reply : Reply) : Type 0 where
-  pub made : ℕ
-  pub done : reply ≡ replies.Done made
-  pub all : heard ≡ heard_after n made (state_of old)

@@ -3,9 +3,10 @@
 ghost use Rattle.std.specs.Prelude.{◌≡◌, ◌<◌, ◌≤◌, ◌+◌, [], length, map, true, false, All, IfOk, IfErr, OnErr};
 ghost use Rattle.bw_gate.specs.Pieces.{cpus_of};
 ghost use Rattle.domain_run.specs.declared.call.Call.TheVariants as Call;
+ghost use Rattle.domain_run.specs.declared.call.Reply.TheVariants as Reply;
 ghost use Rattle.domain_run.specs.Tick as tick;
 ghost use Rattle.domain_run.specs.Domain.{IsLimit};
-ghost use Rattle.heard_run.specs.Heard.{heard_of};
+ghost use Rattle.heard_run.specs.Heard.{heard_of, heard_after};
 
 use super::{AdvanceError, Closed, Domain};
 use crate::book::Pass;
@@ -52,8 +53,8 @@ impl Model for EndingBook {
 /// What an advance gives that was heard.
 #[derive(Drop)]
 pub struct HeardAdvance {
-    /// `Done`, with the ticks that were made.
-    pub reply: Reply,
+    /// How many ticks were made, and entered.
+    pub ticks: u64,
     /// What was heard: all switches of the run, and what happened in this advance.
     pub accounting: Accounting,
 }
@@ -93,7 +94,7 @@ impl EndingBook {
     ghost use Rattle.call_book.specs.Pieces.{IsTicketOf, HoldsTickets};
     ghost use Rattle.call_book.specs.Book.{own_entries, state_of, HasItsLimit, IsBookHistory, IsPassOf};
     ghost use Rattle.call_book.specs.BookAnswers.{IsAdvanced, IsNotAdvanced};
-    ghost use Rattle.call_book.specs.Ending.{state_left, HearsAdvance};
+    ghost use Rattle.call_book.specs.Ending.{state_left};
 
     /// Hears the switches of the run, which are forgotten then. Nothing is entered.
     ///
@@ -129,8 +130,10 @@ impl EndingBook {
         requires pass { IsPassOf self.old.book pass.old }
         requires gate { gate.now ≡ self.old.book.gate }
         requires call { IsCall (Call.Advance n) }
-        ensures done { IfOk result (λ r. IsAdvanced self.old.book self.new.book pass.old pass.new n r.reply) }
-        ensures heard { IfOk result (λ r. HearsAdvance self.old.book n r.accounting r.reply) }
+        ensures done { IfOk result (λ r. IsAdvanced self.old.book self.new.book pass.old pass.new n
+            (Reply.Done r.ticks)) }
+        ensures heard { IfOk result (λ r. r.accounting
+            ≡ heard_after n r.ticks (state_of self.old.book)) }
         ensures forgotten { IfOk result (λ _. self.new.heard ≡ true) }
         ensures stopped { IfErr result (IsNotAdvanced self.old.book self.new.book pass.old pass.new) }
     {
@@ -146,9 +149,9 @@ impl EndingBook {
             return Err(AdvanceError::Memory);
         }
         self.stock.sweep(gate, &self.state);
-        let reply = Reply::Done { ticks };
-        self.ledger.enter(pass, Call::Advance { ticks }, reply);
-        Ok(HeardAdvance { reply, accounting })
+        self.ledger
+            .enter(pass, Call::Advance { ticks }, Reply::Done { ticks });
+        Ok(HeardAdvance { ticks, accounting })
     }
 
     /// Compares a pass with the book, which changes neither: the pass's list is exactly its
