@@ -225,13 +225,20 @@ fn advance_told<N: Names, R: Threads + Wait>(
     ensures err { let books = books_of result.ending.books.items in
         IfErr result.told (IsStopped (IsFullAmong duration books client.old client.new)) }
 {
-    let logs = advance(rt, alloc, &mut unlocked, client, duration, wanted);
-    Advanced {
-        ending: unlocked.end(),
-        told: logs.map(|logs| Told {
-            logs,
-            heard: Vec::new(alloc),
-        }),
+    let advanced = advance(rt, alloc, &mut unlocked, client, duration, wanted);
+    let ending = unlocked.end();
+    match advanced {
+        Ok(logs) => Advanced {
+            ending,
+            told: Ok(Told {
+                logs,
+                heard: Vec::new(alloc),
+            }),
+        },
+        Err(fault) => Advanced {
+            ending,
+            told: Err(fault),
+        },
     }
 }
 
@@ -253,13 +260,18 @@ fn advance_heard<N: Names>(
         IfErr result.told (IsStopped (IsFullAmong duration books client.old client.new)) }
 {
     let mut ending = unlocked.end();
-    let heard = hear(alloc, &mut ending, client, duration);
-    Advanced {
-        ending,
-        told: heard.map(|heard| Told {
-            logs: Vec::new(alloc),
-            heard,
-        }),
+    match hear(alloc, &mut ending, client, duration) {
+        Ok(heard) => Advanced {
+            ending,
+            told: Ok(Told {
+                logs: Vec::new(alloc),
+                heard,
+            }),
+        },
+        Err(fault) => Advanced {
+            ending,
+            told: Err(fault),
+        },
     }
 }
 
