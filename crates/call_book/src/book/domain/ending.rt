@@ -106,6 +106,8 @@ impl EndingBook {
         ensures all { IfOk result (λ a. a ≡ heard_of (state_of self.old.book) []) }
         ensures err { OnErr result (self.new ≡ self.old) }
     {
+        // For the prover alone: a look at the state brings what every domain keeps.
+        let _ = self.state.now();
         let mut accounting = open_heard(self.alloc, &self.state, 0)?;
         advance_heard(self.alloc, &mut self.state, 0, &mut accounting);
         self.heard = true;
