@@ -159,6 +159,14 @@ fn hear_still(books: &mut Vec<EndingBook>, heard: &mut Vec<Accounting>) -> Resul
     Ok(())
 }
 
+/// Room for so many accountings.
+fn room_for(alloc: Global, count: usize) -> Result<Vec<Accounting>, NoMemory>
+    ensures empty { IfOk result (λ heard. heard.items ≡ []) }
+    ensures room { IfOk result (λ heard. count ≤ vec_capacity heard) }
+{
+    Ok(Vec::with_capacity(alloc, count)?)
+}
+
 /// The run of each domain is heard; no call is made where the duration is 0.
 fn hear<N: Names>(
     alloc: Global,
@@ -177,7 +185,7 @@ fn hear<N: Names>(
     ensures err { let books = books_of ending.new.books.items in
         IfErr result (IsStopped (IsFullAmong duration books client.old client.new)) }
 {
-    let mut heard = Vec::with_capacity(alloc, ending.books.len())?;
+    let mut heard = room_for(alloc, ending.books.len())?;
     if duration == 0 {
         hear_still(&mut ending.books, &mut heard)?;
         return Ok(heard);
