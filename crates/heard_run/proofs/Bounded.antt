@@ -1,16 +1,16 @@
 -- How much the ticks of an advance tell at most, and how many switches a run has at most.
-use Rattle.std.proofs.Common.{◌≡◌, ℕ, zero, suc, ◌+◌, ◌-◌, ◌*◌, ◌<◌, ◌≤◌, Bool, true, false, cond, ltb, eqb, ◌&&◌, ◌||◌, List, [], ◌∷◌, ◌++◌, length, map, refl, arith, length-append}
+use Rattle.std.proofs.Common.{◌≡◌, ℕ, zero, suc, ◌+◌, ◌-◌, ◌*◌, ◌<◌, ◌≤◌, Bool, true, false, cond, ltb, eqb, ◌&&◌, ◌||◌, List, [], ◌∷◌, length, map, refl, arith, length-append}
 use Rattle.std.specs.Prelude.{All, AllPairs, IsTrue, filter}
 use Rattle.std.specs.List.{flat_map}
 use Rattle.std.proofs.lemmas.Bool.{ltb-true, eqb-true}
 use Rattle.std.proofs.lemmas.List.{length-map}
 use Rattle.std.proofs.lemmas.List.Elements.{All-head, All-tail, All-weaker}
 use Rattle.cbs_rules.specs.Serving.{charged}
-use Rattle.edf_pick.specs.Places.{Places, placed, stands}
+use Rattle.edf_pick.specs.Places.{placed, stands}
 use Rattle.domain_run.specs.declared.task.Task.{Task}
 use Rattle.domain_run.specs.declared.script.Segment.{Segment}
 use Rattle.domain_run.specs.declared.script.Segment.TheVariants.{Run as RunFor, Until, Wait as WaitFor, End as EndNow}
-use Rattle.domain_run.specs.declared.happened.What.TheVariants.{JobEnds, NextReleased, Spent, Replenished, Released, WokenSpent}
+use Rattle.domain_run.specs.declared.happened.What.TheVariants.{JobEnds, NextReleased, Spent, Replenished, WokenSpent}
 use Rattle.domain_run.specs.declared.happened.Happened.{Happened}
 use Rattle.domain_run.specs.declared.switch.Switch.{Switch}
 use Rattle.domain_run.specs.script.Segments.{asked}
@@ -18,7 +18,7 @@ use Rattle.domain_run.specs.Conditions.{is_throttled, is_over, has_come}
 use Rattle.domain_run.specs.Parts.{replenish_due, settled, is_listed, unblocked, with_last_cpu, ran}
 use Rattle.domain_run.specs.Switches.{is_before}
 use Rattle.domain_run.specs.Domain.{Domain}
-use Rattle.domain_run.specs.Tick.{candidates, prepared, begun, ran_if, ticked, rate_of, ticks}
+use Rattle.domain_run.specs.Tick.{candidates, prepared, begun, ran_if, rate_of, ticks}
 use Rattle.domain_run.specs.Happened.{told, due, job_due, passes_late_timer, told_by_segment, told_by_work, told_by_budget, told_by_run, told_if_ran, told_by_replenishment, told_by_wake, told_by_unblocking, at_home, told_to_begin, told_by_beginning, told_by_end, told_by_tick, told_by_ticks}
 use Rattle.domain_run.proofs.ToldSorted.{pairs_first, pairs_rest, length-in_order}
 
@@ -151,9 +151,17 @@ tick_few d =
     let begins : length (told_by_beginning d) ≡ length first + length second =
     omega (arith, length-in_order (map home (told_to_begin d)), length-map (told_to_begin d) home, length-append first second) in
     let ends : length (told_by_end b) ≡ length (flat_map (told_if_ran b) b.tasks) = length-in_order (flat_map (told_if_ran b) b.tasks) in
-    omega (arith, length-append (told_by_beginning d) (told_by_end b), begins, ends,
-    each_few (told_by_replenishment d.time) d.tasks (replenishment_few d.time), each_few (told_by_unblocking d.time) left (unblocking_few d.time), left_few d.time d.tasks,
-    each_few (told_if_ran b) b.tasks (end_few b), begun_few d)
+    omega (
+      arith,
+      length-append (told_by_beginning d) (told_by_end b),
+      begins,
+      ends,
+      each_few (told_by_replenishment d.time) d.tasks (replenishment_few d.time),
+      each_few (told_by_unblocking d.time) left (unblocking_few d.time),
+      left_few d.time d.tasks,
+      each_few (told_if_ran b) b.tasks (end_few b),
+      begun_few d,
+    )
 
 -- of at most 256 tasks
 pub told_few : (n : ℕ) (d : Domain) → length d.tasks ≤ 256 → length (told_by_ticks n d) ≤ 2304 * n

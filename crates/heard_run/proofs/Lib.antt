@@ -1,3 +1,3 @@
 pub mod Bounded
 pub mod Span
-pub mod Hearing
+pub mod Pieces

@@ -1,6 +1,6 @@
 use Rattle.std.proofs.Common.{◌≤◌, ◌-◌}
 use Rattle.domain_run.specs.Keys.{AreKept}
-use Rattle.heard_run.proofs.Hearing.{IsHeard}
+use Rattle.heard_run.proofs.Pieces.{IsHeard}
 use Rattle.heard_run.proofs.hearing.advance_heard.Given as goal
 
 abbrev pub invariant-pieces : goal.invariant-pieces

@@ -1,5 +1,5 @@
 -- The pieces of an advance, one after the other.
-use Rattle.std.proofs.Common.{◌≡◌, ◌≢◌, ℕ, zero, suc, ◌+◌, ◌-◌, ◌^◌, ◌<◌, ◌≤◌, List, [], ◌++◌, length, map, get_or, refl, sym, ap, subst, ◌∙◌, arith}
+use Rattle.std.proofs.Common.{◌≡◌, ◌≢◌, ℕ, zero, suc, ◌+◌, ◌*◌, ◌^◌, ◌<◌, ◌≤◌, List, [], ◌++◌, length, map, get_or, refl, sym, ap, subst, ◌∙◌, arith}
 use Rattle.std.specs.Prelude.{All, AllPairs, IsTrue, Bool, true, if◌then◌else◌}
 use Rattle.std.proofs.lemmas.List.{append-nil, length-map, get_or-map}
 use Rattle.std.proofs.lemmas.List.Elements.{All-nil, All-append, All-weaker}
@@ -69,7 +69,7 @@ seen_behind : (b f : Domain) → IsSeen b → IsSeen f → b.time ≤ f.time →
 seen_behind b f one two later cpus from = record {
   past = All-append (λ (s : Switch). s.time < f.time) b.switches f.switches (All-weaker (λ (s : Switch). s.time < b.time) (λ (s : Switch). s.time < f.time) (λ s h. omega (arith, h, later)) b.switches one.past) two.past;
   inside = All-append (λ (s : Switch). s.cpu < f.cpus) b.switches f.switches (All-weaker (λ (s : Switch). s.cpu < b.cpus) (λ (s : Switch). s.cpu < f.cpus) (λ s h. omega (arith, h, cpus)) b.switches one.inside) two.inside;
-  rising = AllPairs-append (λ (x y : Switch). IsTrue (is_before x y)) b.switches f.switches one.rising two.rising (λ i j x h k. before_time _ _ (omega (arith, one.past i x h, from j x k)));
+  rising = AllPairs-append (λ (x y : Switch). IsTrue (is_before x y)) b.switches f.switches one.rising two.rising (λ i j x h k. before_time (get_or b.switches i x) (get_or f.switches j x) (omega (arith, one.past i x h, from j x k)));
 }
 
 seen_few : (d : Domain) → IsSeen d → d.cpus ≤ 64 → length d.switches ≤ d.time * 64
@@ -111,8 +111,8 @@ told_alone hs before after wanted empty tells = (
 time_behind : (k m : ℕ) (d e f : Domain) → e ≡ without_switches (ticks k d) → f ≡ ticks m e → f.time ≡ d.time + (k + m)
 time_behind k m d e f is made =
     let at : e.time ≡ d.time + k = ap (λ (x : Domain). x.time) is ∙ ticks_time k d in
-    let then : f.time ≡ e.time + m = ap (λ (x : Domain). x.time) made ∙ ticks_time m e in
-    omega (arith, at, then)
+    let more : f.time ≡ e.time + m = ap (λ (x : Domain). x.time) made ∙ ticks_time m e in
+    omega (arith, at, more)
 
 -- its switches are made at the time of its beginning, or later
 from_beginning : (k m : ℕ) (d e f : Domain) → e ≡ without_switches (ticks k d) → f ≡ ticks m e → All (λ s. d.time + k ≤ s.time) f.switches
@@ -169,6 +169,29 @@ heard_more n k m d e f a log now last is made wanted empty =
       heard = ap (λ (x : AccountingView). with_piece x (told_by_ticks m e) f.switches) is.heard
           ∙ (λ i. record { cpus = d.cpus; time = d.time + n; tasks = d.used; happened = told i; switches = switches i });
       switches = subst IsSeen (sym all) whole;
+      wanted = wanted;
+      empty = empty;
+    }
+
+-- as the code has it
+pub first_heard : (n : ℕ) (d e : Domain) (was a : AccountingView) (hs : List Happened) (log : LogView) → IsDomain d → was ≡ unheard n d → hs ≡ [] → a ≡ with_piece was hs d.switches → e ≡ without_switches d
+    → log.wanted ≡ true → log.happened ≡ [] → IsHeard n 0 d e a log
+first_heard n d e was a hs log is new none heard left wanted empty = record {
+  state = left;
+  heard = heard ∙ ap (λ (x : AccountingView). with_piece x hs d.switches) new ∙ ap (λ (gs : List Happened). with_piece (unheard n d) gs d.switches) none;
+  switches = seen d is;
+  wanted = wanted;
+  empty = empty;
+}
+
+pub next_heard : (n k m : ℕ) (d e f g : Domain) (a b : AccountingView) (hs : List Happened) (log now : LogView) → IsDomain f → IsHeard n k d e a log → f ≡ ticks m e → hs ≡ told_by_ticks m e → b ≡ with_piece a hs f.switches → g ≡ without_switches f
+    → now.wanted ≡ true → now.happened ≡ [] → IsHeard n (k + m) d g b now
+next_heard n k m d e f g a b hs log now last is made told heard left wanted empty =
+    let whole = heard_more n k m d e f a log now last is made wanted empty in
+    record {
+      state = left ∙ whole.state;
+      heard = heard ∙ ap (λ (gs : List Happened). with_piece a gs f.switches) told ∙ whole.heard;
+      switches = whole.switches;
       wanted = wanted;
       empty = empty;
     }
