@@ -26,3 +26,4 @@ pub mod TakenOut
 pub mod Moves
 pub mod Limiting
 pub mod TicketSums
+pub mod Ended

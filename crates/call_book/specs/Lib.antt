@@ -11,5 +11,6 @@ pub mod Pieces
 pub mod BookAnswers
 pub mod LimitAnswers
 pub mod MoveAnswers
+pub mod Ending
 pub mod Examples
 pub mod private

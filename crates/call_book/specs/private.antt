@@ -4,4 +4,5 @@ pub mod Ledger
 pub mod Stock
 pub mod Listing
 pub mod Kept
+pub mod Ended
 pub mod Moving

@@ -7,7 +7,10 @@ mod prepared;
 mod same;
 mod stock;
 
-pub use domain::{Admit, AdvanceError, Closed, Domain, Full, Limit, Move, MoveFault, move_task};
+pub use domain::{
+    Admit, AdvanceError, Closed, Domain, EndingBook, Full, HeardAdvance, Limit, Move, MoveFault,
+    move_task,
+};
 pub use prepared::{Prepared, prepare};
 
 /// A client's pass: the list of the calls that it made on one domain.

@@ -168,10 +168,10 @@ paying_apart time running ticks budgets tasks numbered = apart_tasks (told_paid 
 
 -- ---- WHERE A TICK BEGINS, and where it ends
 
-abbrev IsBeginning : ℕ → Happened → Type 0
+abbrev pub IsBeginning : ℕ → Happened → Type 0
 IsBeginning time h = (h.time ≡ time) × (3 < rank h.what)
 
-abbrev IsEnd : ℕ → Happened → Type 0
+abbrev pub IsEnd : ℕ → Happened → Type 0
 IsEnd time h = (h.time ≡ time) × (rank h.what < 3)
 
 -- what parts 1 to 3 tell, before it is in its order
@@ -209,7 +209,7 @@ each_home P d keeps all =
     let f = at_home (begun d).curr in
     each_in_order P (map f (told_to_begin d)) (All-map P f (told_to_begin d) (All-weaker P (λ h. P (f h)) keeps (told_to_begin d) all))
 
-beginning_is : (d : Domain) → All (IsBeginning d.time) (told_by_beginning d)
+pub beginning_is : (d : Domain) → All (IsBeginning d.time) (told_by_beginning d)
 beginning_is d =
     each_home (IsBeginning d.time) d (λ h p. p)
     (All-append (IsBeginning d.time) (replenished_tell d) (woken_tell d)
@@ -244,7 +244,7 @@ beginning_rises d numbered =
     let apart : AllPairs IsApart (map f (told_to_begin d)) = AllPairs-map IsApart f (λ a b h. h) (told_to_begin d) (beginning_apart d numbered) in
     rising_at d.time (told_by_beginning d) (All-weaker (IsBeginning d.time) (λ h. h.time ≡ d.time) (λ h p. p.0) (told_by_beginning d) (beginning_is d)) (in_order_first (map f (told_to_begin d)) apart)
 
-ending_is : (d : Domain) → All (IsEnd (d.time + 1)) (told_by_end d)
+pub ending_is : (d : Domain) → All (IsEnd (d.time + 1)) (told_by_end d)
 ending_is d =
     each_in_order (IsEnd (d.time + 1)) (flat_map (told_if_ran d) d.tasks)
     (each_task IsWhichever (IsEnd (d.time + 1)) (told_if_ran d) d.tasks (λ t which. each_end (IsEnd (d.time + 1)) d t (λ u same w low. (refl, low))) (whichever d.tasks))

@@ -58,7 +58,7 @@ or_true false = refl
 before_same : (a b : Switch) → a.time ≡ b.time → a.cpu < b.cpu → is_before a b ≡ true
 before_same a b e h = rw (eq-eqb a.time b.time e, lt-ltb a.cpu b.cpu h) (or_true (ltb a.time b.time))
 
-before_time : (a b : Switch) → a.time < b.time → is_before a b ≡ true
+pub before_time : (a b : Switch) → a.time < b.time → is_before a b ≡ true
 before_time a b h = rw (lt-ltb a.time b.time h) refl
 
 abbrev Rises : Switch → Switch → Type 0
@@ -80,7 +80,7 @@ rising_here time tasks used cpu (p ∷ before) (n ∷ after) a b =
       | false ↦ AllPairs-cons Rises s more first rest
     ]
 
-AllPairs-append : {X : Type 0} (R : X → X → Type 0) (xs ys : List X) → AllPairs R xs → AllPairs R ys → ((i j : ℕ) (d : X) → i < length xs → j < length ys → R (get_or xs i d) (get_or ys j d)) → AllPairs R (xs ++ ys)
+pub AllPairs-append : {X : Type 0} (R : X → X → Type 0) (xs ys : List X) → AllPairs R xs → AllPairs R ys → ((i j : ℕ) (d : X) → i < length xs → j < length ys → R (get_or xs i d) (get_or ys j d)) → AllPairs R (xs ++ ys)
 AllPairs-append R xs ys first second across i j d less within =
     let n = length xs in
     let all : length (xs ++ ys) ≡ n + length ys = length-append xs ys in

@@ -13,7 +13,7 @@ ticks_more m zero d = let same : m ≡ m + 0 = omega arith in ap (λ n. ticks n 
 ticks_more m (suc k) d = let next : suc (m + k) ≡ m + suc k = omega arith in ap ticked (ticks_more m k d) ∙ ap (λ n. ticks n d) next
 
 -- and so is what they tell
-told_more : (m k : ℕ) (d : Domain) → told_by_ticks m d ++ told_by_ticks k (ticks m d) ≡ told_by_ticks (m + k) d
+pub told_more : (m k : ℕ) (d : Domain) → told_by_ticks m d ++ told_by_ticks k (ticks m d) ≡ told_by_ticks (m + k) d
 told_more m zero d = append-nil (told_by_ticks m d) ∙ (let same : m ≡ m + 0 = omega arith in ap (λ n. told_by_ticks n d) same)
 told_more m (suc k) d =
     let next : suc (m + k) ≡ m + suc k = omega arith in

@@ -76,8 +76,19 @@ fn jump_with<R: Threads + Wait, G: Turn>(
     Ok(span.ticks)
 }
 
-/// As [`advance_told`], with the turns of one piece.
-fn advance_alone<G: Turn>(state: &mut State, n: u64, turn: &G, log: &mut Log) -> Done
+/// Whether the switches of a state, or what a log was told, are so many by now.
+fn has_enough(state: &State, log: &Log, enough: usize) -> bool {
+    state.switches().len() >= enough || log.happened().len() >= enough
+}
+
+/// As [`advance_piece`], with the turns of one piece.
+fn advance_alone<G: Turn>(
+    state: &mut State,
+    n: u64,
+    turn: &G,
+    enough: usize,
+    log: &mut Log,
+) -> Done
     requires { state.old.time + n ≤ 2 ^ 42 }
     ensures state { state.new ≡ ticks_of result.ticks state.old }
     ensures most { result.ticks ≤ n }
@@ -86,7 +97,7 @@ fn advance_alone<G: Turn>(state: &mut State, n: u64, turn: &G, log: &mut Log) ->
 {
     let mut room = Room::new();
     let mut ticks = 0;
-    'events: while ticks < n {
+    'events: while ticks < n && !has_enough(state, log, enough) {
         let Ok(made) = jump(state, n - ticks, &mut room, turn, log) else {
             break;
         };
@@ -134,7 +145,7 @@ pub fn advance(state: &mut State, n: u64) -> Done
     ensures keys { AreKept state.old.tasks state.new.tasks }
 {
     let mut log = state.silent();
-    advance_alone(state, n, &Silent, &mut log)
+    advance_told(state, n, &mut log)
 }
 
 /// As [`advance`], and the log is told what happens in these ticks, in the order of "Happened".
@@ -147,7 +158,20 @@ pub fn advance_told(state: &mut State, n: u64, log: &mut Log) -> Done
     ensures keys { AreKept state.old.tasks state.new.tasks }
     ensures told { Tells log.old (told_by_ticks result.ticks state.old) log.new }
 {
-    advance_alone(state, n, &Silent, log)
+    advance_piece(state, n, usize::MAX, log)
+}
+
+/// As [`advance_told`], but no event more is made once the state has `enough` switches or the log was
+/// told of `enough`, what it was told before among them: so what both hold stays bounded, however
+/// much happens. Where both have fewer at first, at least one tick is made, or a growth was refused.
+pub fn advance_piece(state: &mut State, n: u64, enough: usize, log: &mut Log) -> Done
+    requires { state.old.time + n ≤ 2 ^ 42 }
+    ensures state { state.new ≡ ticks_of result.ticks state.old }
+    ensures most { result.ticks ≤ n }
+    ensures keys { AreKept state.old.tasks state.new.tasks }
+    ensures told { Tells log.old (told_by_ticks result.ticks state.old) log.new }
+{
+    advance_alone(state, n, &Silent, enough, log)
 }
 
 /// As [`advance`], by so many workers at most (1 to 8 are meant): before each jump the rates of the
@@ -194,10 +218,10 @@ pub fn advance_with_told<R: Threads + Wait, G: Turn>(
     ensures told { Tells log.old (told_by_ticks result.ticks state.old) log.new }
 {
     let Some(crew) = Crew::of(rt, alloc, workers, turn) else {
-        return advance_alone(state, n, turn, log);
+        return advance_alone(state, n, turn, usize::MAX, log);
     };
     let Ok(lists) = crew.lists() else {
-        return advance_alone(state, n, turn, log);
+        return advance_alone(state, n, turn, usize::MAX, log);
     };
     advance_by(&crew, state, n, lists, log)
 }

@@ -3,7 +3,7 @@ use Rattle.std.proofs.Common.{◌≡◌, ◌≢◌, ℕ, zero, suc, ◌+◌, ◌
 use Rattle.std.specs.Prelude.{slice_index_or, nat_lt}
 use Rattle.std.specs.List.{cons_option}
 use Rattle.std.proofs.lemmas.Bool.{lt-ltb, eqb-true, eqb-false}
-use Rattle.std.proofs.lemmas.List.{append-nil, get_or_default, get_or-set_same, get_or-set_other, length-set, length_push}
+use Rattle.std.proofs.lemmas.List.{append-nil, get_or_default, get_or-set_same, get_or-set_other, get_or-map, get_or_push, get_or_append_left, length-map, length-set, length_push}
 use Rattle.std.proofs.lemmas.List.Elements.{All-cons, All-head, All-tail, All-get_or}
 use Rattle.std.proofs.Math.Seq.{take-append_seam}
 use Rattle.pass_seats.specs.Lists.{PassView}
@@ -18,20 +18,26 @@ use Rattle.domain_run.specs.declared.call.Reply.TheVariants as replies
 use Rattle.call_book.specs.declared.section.Entry.{Entry}
 use Rattle.call_book.specs.Book.{BookView, IsFull, own_entries, calls_of, state_of, entry_by}
 use Rattle.call_book.specs.BookAnswers.{IsAdvanced, TellsAdvance}
+use Rattle.call_book.specs.Ending.{EndingView, left_of}
+use Rattle.run_figures.specs.Accounting.{AccountingView}
+use Rattle.heard_run.specs.Heard.{heard_of}
 use Rattle.call_book.specs.SectionView.{SectionView}
 use Rattle.session.specs.declared.fault.EndFault.{EndFault}
 use Rattle.session.specs.declared.fault.EndFault.TheVariants as faults
 use Rattle.session.specs.declared.report.Finished.{Finished}
+use Rattle.session.specs.declared.report.Wanted.{Wanted}
+use Rattle.session.specs.declared.report.Wanted.TheVariants.{Switches, Happened as WhatHappened, Figures}
+use Rattle.session.specs.declared.ending_run.Told.{Told}
 use Rattle.session.specs.SessionId.{SessionId}
 use Rattle.session.specs.Asks.{ClientView, Makes, Made, entries_from, pass_in, followed_by}
 use Rattle.session.specs.declared.report.Report.{Report}
-use Rattle.session.specs.Report.{IsReport}
+use Rattle.session.specs.Report.{IsReport, IsHistoryOf}
 use Rattle.session.specs.RunEnd.{advance_of, EndsWith}
 use Rattle.session.specs.private.Entering.{IsSessionBook, pass_after}
 use Rattle.session.specs.private.Parts.{AreSessionBooks}
-use Rattle.session.specs.private.Closing.{HaveEnded}
-use Rattle.session.specs.private.Ending.{MakesAll, IsEndBy, AllEnd, AllTellEnds, AreOpenLogs, AreEndLogs, IsFullAmong}
-use Rattle.session.specs.RunEnd.{HaveAdvanced, IsFinished, IsFullWith, IsLogOf, IsStopped, told_at_end}
+use Rattle.session.specs.private.Closing.{AreHistories, HaveEnded}
+use Rattle.session.specs.private.Ending.{MakesAll, IsEndBy, AllEnd, AllTellEnds, AreOpenLogs, AreEndLogs, AreAll, AreHeardEnds, AreToldAs, IsFullAmong, IsHeardOf, books_of, unheard}
+use Rattle.session.specs.RunEnd.{HaveAdvanced, AreHeard, AreLogged, IsFinished, IsFullWith, IsLeftAs, IsLogOf, IsStopped, run_in, told_at_end}
 use Rattle.session.proofs.Asked.{makes_at, makes_nothing}
 
 -- ---- one domain
@@ -282,6 +288,63 @@ full_among n duration books b a c c' there inside some made full same = record {
   kept = ap (λ (v : ClientView). pass_in v n) same ∙ made.rest n (omega arith) inside;
 }
 
+-- ---- what was heard
+
+-- the first so many books were heard, the others not yet
+abbrev pub FirstAre : Bool → ℕ → List EndingView → Type 0
+FirstAre heard n books = (d : ℕ) (e : EndingView) → d < n → (slice_index_or books d e).heard ≡ heard
+
+abbrev pub RestAre : Bool → ℕ → List EndingView → Type 0
+RestAre heard n books = (d : ℕ) (e : EndingView) → n ≤ d → d < length books → (slice_index_or books d e).heard ≡ heard
+
+pub first_more : (heard : Bool) (n m : ℕ) (books : List EndingView) (b : EndingView) → n < length books → m ≡ n + 1 → FirstAre heard n books → b.heard ≡ heard → FirstAre heard m (set books n b)
+first_more heard n m books b there more first is = λ d e upto. by d e upto (eqb n d) refl
+  where
+    by : (d : ℕ) (e : EndingView) → d < m → (c : Bool) → eqb n d ≡ c → (get_or (set books n b) d e).heard ≡ heard
+    by d e upto true at =
+        subst (λ (k : ℕ). (get_or (set books n b) k e).heard ≡ heard) (eqb-true n d at) (ap (λ (x : EndingView). x.heard) (get_or-set_same books n b e there) ∙ is)
+    by d e upto false at =
+        let other = eqb-false n d at in
+        ap (λ (x : EndingView). x.heard) (get_or-set_other books n d b e (λ same. other (sym same))) ∙ first d e (omega (arith, upto, more, other))
+
+pub rest_less : (heard : Bool) (n m : ℕ) (books : List EndingView) (b : EndingView) → m ≡ n + 1 → RestAre heard n books → RestAre heard m (set books n b)
+rest_less heard n m books b more rest = λ d e behind inside.
+    ap (λ (x : EndingView). x.heard) (get_or-set_other books n d b e (λ same. absurd (omega (arith, same, behind, more))))
+    ∙ rest d e (omega (arith, behind, more)) (omega (arith, inside, length-set books n b))
+
+-- an accounting of each of the first so many books
+abbrev pub FirstHeard : ℕ → ℕ → List BookView → List AccountingView → Type 0
+FirstHeard n ticks books heard =
+    (d : ℕ) (b : BookView) (x : AccountingView) → d < n → IsHeardOf ticks (slice_index_or books d b) (slice_index_or heard d x)
+
+pub heard_more : (n m ticks : ℕ) (books : List BookView) (b : BookView) (heard : List AccountingView) (a : AccountingView) → n < length books → length heard ≡ n → m ≡ n + 1
+    → FirstHeard n ticks books heard → IsHeardOf ticks b a → FirstHeard m ticks (set books n b) (heard ++ a ∷ [])
+heard_more n m ticks books b heard a there many more first last = λ d y x upto. by d y x upto (eqb n d) refl
+  where
+    by : (d : ℕ) (y : BookView) (x : AccountingView) → d < m → (e : Bool) → eqb n d ≡ e → IsHeardOf ticks (get_or (set books n b) d y) (get_or (heard ++ a ∷ []) d x)
+    by d y x upto true is =
+        subst (λ (k : ℕ). IsHeardOf ticks (get_or (set books n b) k y) (get_or (heard ++ a ∷ []) k x)) (eqb-true n d is)
+        (subst (λ (v : BookView). IsHeardOf ticks v (get_or (heard ++ a ∷ []) n x)) (sym (get_or-set_same books n b y there))
+        (get_or_push heard a x n (sym many) ∙ last))
+    by d y x upto false is =
+        let other = eqb-false n d is in
+        let before : d < n = omega (arith, upto, more, other) in
+        subst (λ (v : BookView). IsHeardOf ticks v (get_or (heard ++ a ∷ []) d x)) (sym (get_or-set_other books n d b y (λ same. other (sym same))))
+        (get_or_append_left heard (a ∷ []) d x (omega (arith, before, many)) ∙ first d y x before)
+
+-- the same, of a book that is as it was
+pub heard_still : (n m ticks : ℕ) (books : List BookView) (heard : List AccountingView) (a : AccountingView) → n < length books → length heard ≡ n → m ≡ n + 1
+    → FirstHeard n ticks books heard → ((y : BookView) → IsHeardOf ticks (get_or books n y) a) → FirstHeard m ticks books (heard ++ a ∷ [])
+heard_still n m ticks books heard a there many more first last = λ d y x upto. by d y x upto (eqb n d) refl
+  where
+    by : (d : ℕ) (y : BookView) (x : AccountingView) → d < m → (e : Bool) → eqb n d ≡ e → IsHeardOf ticks (get_or books d y) (get_or (heard ++ a ∷ []) d x)
+    by d y x upto true is =
+        subst (λ (k : ℕ). IsHeardOf ticks (get_or books k y) (get_or (heard ++ a ∷ []) k x)) (eqb-true n d is) (get_or_push heard a x n (sym many) ∙ last y)
+    by d y x upto false is =
+        let other = eqb-false n d is in
+        let before : d < n = omega (arith, upto, more, other) in
+        get_or_append_left heard (a ∷ []) d x (omega (arith, before, many)) ∙ first d y x before
+
 -- ---- the end
 
 -- no book in particular
@@ -301,33 +364,98 @@ no_book id = record {
   left = None;
 }
 
-pub is_finished : (id : SessionId) (duration : ℕ) (wanted : Bool) (cs es : List ClientView) (books : List BookView) (f : Finished)
-    → HaveAdvanced duration cs es → IsReport id es f.report → HaveEnded books f.report.histories.items f.states.items → length books ≡ length id.cpu_sets → AreSessionBooks id books → AllEnd duration books
-    → AreEndLogs wanted duration books f.logs.items → IsFinished id duration wanted cs f
-is_finished id duration wanted cs es books f advanced is ended count named end logs = record {
-  after = es;
-  advanced = advanced;
-  report = is;
-  ends = λ d x inside.
-      let last = ended.each d (no_book id) x (opened 0 0) (omega (arith, inside, is.left.count)) in
-      subst (EndsWith duration) (sym last.entries) (end d (no_book id) (omega (arith, inside, count)));
-  count = ended.states_count ∙ is.left.count;
-  runs = λ d s x inside. (ended.each d (no_book id) s x inside).run;
-  logs_count = logs.count ∙ count;
-  logs = λ d s x inside.
-      let within : d < length f.report.histories.items = omega (arith, inside, is.left.count) in
-      let place : d < length books = omega (arith, inside, count) in
-      let b = get_or books d (no_book id) in
-      let h = get_or f.report.histories.items d s in
-      let left = is.left.histories d s inside in
-      let book = named d (no_book id) place in
-      let entries = (ended.each d (no_book id) s (opened 0 0) within).entries in
-      let told : told_at_end duration b.cpus b.limit b.history ≡ told_at_end duration h.cpus h.limit h.entries =
-      ap (λ (n : ℕ). told_at_end duration n b.limit b.history) (book.cpus ∙ sym left.cpus)
-      ∙ ap (λ (n : ℕ). told_at_end duration h.cpus n b.history) (book.limit ∙ sym left.limit)
-      ∙ ap (told_at_end duration h.cpus h.limit) (sym entries) in
-      subst (λ (hs : List Happened). IsLogOf wanted hs (get_or f.logs.items d x)) told (logs.each d (no_book id) x place);
-}
+-- the book at a place is of the history there, with its CPUs and its limit
+record IsBookAt (id : SessionId) (b : BookView) (h : SectionView) : Type 0 where
+  cpus : b.cpus ≡ h.cpus
+  limit : b.limit ≡ h.limit
+  entries : b.history ≡ h.entries
+  room : b.room ≡ id.max_calls
+
+book_at : (id : SessionId) (cs : List ClientView) (books : List EndingView) (histories : List SectionView) (states : List Domain) (d : ℕ) (s : SectionView) → HaveEnded books histories states → length books ≡ length histories → AreSessionBooks id (books_of books)
+    → d < length histories → IsHistoryOf id d cs (get_or histories d s) → IsBookAt id (get_or (books_of books) d (no_book id)) (get_or histories d s)
+book_at id cs books histories states d s ended count named inside left =
+    let e = unheard (no_book id) in
+    let place : d < length books = omega (arith, inside, count) in
+    let there : d < length (books_of books) = omega (arith, place, length-map books (λ (e : EndingView). e.book)) in
+    let at : get_or (books_of books) d (no_book id) ≡ (get_or books d e).book = get_or-map (λ (e : EndingView). e.book) books d e (no_book id) place in
+    let book = named d (no_book id) there in
+    record {
+      cpus = book.cpus ∙ sym left.cpus;
+      limit = book.limit ∙ sym left.limit;
+      entries = ap (λ (b : BookView). b.history) at ∙ sym (ended.each d e s (opened 0 0) inside).entries;
+      room = book.room;
+    }
+
+-- what is said by CPUs, limit and entries is said of both
+by_book : {X : Type 0} (f : ℕ → ℕ → List Entry → X) (id : SessionId) (b : BookView) (h : SectionView) → IsBookAt id b h → f b.cpus b.limit b.history ≡ f h.cpus h.limit h.entries
+by_book f id b h is =
+    ap (λ (n : ℕ). f n b.limit b.history) is.cpus ∙ ap (λ (n : ℕ). f h.cpus n b.history) is.limit ∙ ap (f h.cpus h.limit) is.entries
+
+-- the runs of the histories, or what is left of them
+runs_left : (heard : Bool) (books : List EndingView) (histories : List SectionView) (states : List Domain) (id : SessionId) → HaveEnded books histories states → length books ≡ length histories → AreAll heard books
+    → (d : ℕ) (s : SectionView) (x : Domain) → d < length histories → get_or states d x ≡ left_of heard (run_in (get_or histories d s))
+runs_left heard books histories states id ended count all d s x inside =
+    let e = unheard (no_book id) in
+    (ended.each d e s x inside).run ∙ ap (λ (b : Bool). left_of b (run_in (get_or histories d s))) (all d e (omega (arith, inside, count)))
+
+logged : (id : SessionId) (cs : List ClientView) (duration : ℕ) (wanted : Bool) (books : List EndingView) (f : Finished) (t : Told) → HaveEnded books f.report.histories.items f.states.items → length books ≡ length f.report.histories.items
+    → AreSessionBooks id (books_of books) → AreHistories id cs f.report.histories.items → f.logs ≡ t.logs → AreAll false books → AreEndLogs wanted duration (books_of books) t.logs.items → AreLogged duration wanted f
+logged id cs duration wanted books f t ended count named left same all logs =
+    let histories = f.report.histories.items in
+    let items : f.logs.items ≡ t.logs.items = ap (λ v. v.items) same in
+    record {
+      runs = runs_left false books histories f.states.items id ended count all;
+      logs_count = ap (λ (ls : List LogView). length ls) items ∙ logs.count ∙ length-map books (λ (e : EndingView). e.book) ∙ count;
+      logs = λ d s x inside.
+          let b = get_or (books_of books) d (no_book id) in
+          let h = get_or histories d s in
+          let is = book_at id cs books histories f.states.items d s ended count named inside (left d s inside) in
+          subst (λ (hs : List Happened). IsLogOf wanted hs (get_or f.logs.items d x)) (by_book (told_at_end duration) id b h is)
+          (subst (λ (ls : List LogView). IsLogOf wanted (told_at_end duration b.cpus b.limit b.history) (get_or ls d x)) (sym items)
+          (logs.each d (no_book id) x (omega (arith, inside, count, length-map books (λ (e : EndingView). e.book)))));
+    }
+
+all_heard : (id : SessionId) (cs : List ClientView) (duration : ℕ) (books : List EndingView) (f : Finished) (t : Told) → HaveEnded books f.report.histories.items f.states.items → length books ≡ length f.report.histories.items
+    → AreSessionBooks id (books_of books) → AreHistories id cs f.report.histories.items → f.heard ≡ t.heard → AreAll true books → AreHeardEnds duration (books_of books) t.heard.items → AreHeard duration f
+all_heard id cs duration books f t ended count named left same all heard =
+    let histories = f.report.histories.items in
+    let items : f.heard.items ≡ t.heard.items = ap (λ v. v.items) same in
+    record {
+      runs = runs_left true books histories f.states.items id ended count all;
+      heard_count = ap (λ (hs : List AccountingView). length hs) items ∙ heard.count ∙ length-map books (λ (e : EndingView). e.book) ∙ count;
+      heard = λ d s x inside.
+          let b = get_or (books_of books) d (no_book id) in
+          let h = get_or histories d s in
+          let is = book_at id cs books histories f.states.items d s ended count named inside (left d s inside) in
+          ap (λ (hs : List AccountingView). get_or hs d x) items
+          ∙ heard.each d (no_book id) x (omega (arith, inside, count, length-map books (λ (e : EndingView). e.book)))
+          ∙ by_book (λ cpus limit entries. heard_of (run_of cpus limit (calls_of entries)) (told_at_end duration cpus limit entries)) id b h is;
+    }
+
+left_as : (id : SessionId) (cs : List ClientView) (duration : ℕ) (wanted : Wanted) (books : List EndingView) (f : Finished) (t : Told) → HaveEnded books f.report.histories.items f.states.items → length books ≡ length f.report.histories.items
+    → AreSessionBooks id (books_of books) → AreHistories id cs f.report.histories.items → f.logs ≡ t.logs → f.heard ≡ t.heard → AreToldAs duration wanted books t → IsLeftAs duration wanted f
+left_as id cs duration Switches books f t ended count named left logs heard told = logged id cs duration false books f t ended count named left logs told.0 told.1
+left_as id cs duration WhatHappened books f t ended count named left logs heard told = logged id cs duration true books f t ended count named left logs told.0 told.1
+left_as id cs duration Figures books f t ended count named left logs heard told = all_heard id cs duration books f t ended count named left heard told.0 told.1
+
+pub is_finished : (id : SessionId) (duration : ℕ) (wanted : Wanted) (cs es : List ClientView) (books : List EndingView) (f : Finished) (t : Told)
+    → HaveAdvanced duration cs es → IsReport id es f.report → HaveEnded books f.report.histories.items f.states.items → length books ≡ length id.cpu_sets → AreSessionBooks id (books_of books) → AllEnd duration (books_of books)
+    → AreToldAs duration wanted books t → f.logs ≡ t.logs → f.heard ≡ t.heard → IsFinished id duration wanted cs f
+is_finished id duration wanted cs es books f t advanced is ended count named end told logs heard =
+    let histories = f.report.histories.items in
+    let many : length books ≡ length histories = count ∙ sym is.left.count in
+    let left : AreHistories id es histories = λ d s inside. is.left.histories d s (omega (arith, inside, is.left.count)) in
+    record {
+      after = es;
+      advanced = advanced;
+      report = is;
+      ends = λ d x inside.
+          let place : d < length histories = omega (arith, inside, is.left.count) in
+          let at = book_at id es books histories f.states.items d x ended many named place (left d x place) in
+          subst (EndsWith duration) at.entries (end d (no_book id) (omega (arith, inside, count, length-map books (λ (e : EndingView). e.book))));
+      count = ended.states_count ∙ is.left.count;
+      left = left_as id es duration wanted books f t ended many named left logs heard told;
+    }
 
 -- what the clients have in a domain in which the first of them has entered nothing more
 kept_own : (d : ℕ) (history : List Entry) (cs : List ClientView) (b c : ClientView) → 0 < length cs → b ≡ get_or cs 0 b → c.number ≡ b.number → pass_in c d ≡ pass_in b d
@@ -340,17 +468,17 @@ kept_own d history (v ∷ cs) b c some first number kept own =
     (All-tail (λ (v : ClientView). pass_in v d ≡ own_entries v.number history) c cs own)
 
 -- a full book is closed as it was found
-pub full_with : (id : SessionId) (duration : ℕ) (cs : List ClientView) (b c : ClientView) (books : List BookView) (r : Report) (states : List Domain) → 0 < length cs → b ≡ get_or cs 0 b
-    → IsReport id (set cs 0 c) r → HaveEnded books r.histories.items states → length books ≡ length id.cpu_sets → AreSessionBooks id books
-    → IsFullAmong duration books b c → IsFullWith id duration cs
+pub full_with : (id : SessionId) (duration : ℕ) (cs : List ClientView) (b c : ClientView) (books : List EndingView) (r : Report) (states : List Domain) → 0 < length cs → b ≡ get_or cs 0 b
+    → IsReport id (set cs 0 c) r → HaveEnded books r.histories.items states → length books ≡ length id.cpu_sets → AreSessionBooks id (books_of books)
+    → IsFullAmong duration (books_of books) b c → IsFullWith id duration cs
 full_with id duration cs b c books r states some first is ended count named met =
     let d = met.domain in
     let x = no_book id in
     let s : SectionView = record { cpus = 0; limit = 0; entries = [] } in
-    let place : d < length id.cpu_sets = omega (arith, met.place, count) in
+    let place : d < length id.cpu_sets = omega (arith, met.place, count, length-map books (λ (e : EndingView). e.book)) in
     let h = get_or r.histories.items d s in
     let left = is.left.histories d s place in
-    let last = ended.each d x s (opened 0 0) (omega (arith, place, is.left.count)) in
+    let at = book_at id (set cs 0 c) books r.histories.items states d s ended (count ∙ sym is.left.count) named (omega (arith, place, is.left.count)) left in
     record {
       advances = met.advances;
       domain = d;
@@ -365,5 +493,5 @@ full_with id duration cs b c books r states some first is ended count named met 
         spelled = left.spelled;
         own = kept_own d h.entries cs b c some first met.number met.kept left.own;
       };
-      full = ap length last.entries ∙ met.full x ∙ (named d x met.place).room;
+      full = ap (λ (es : List Entry). length es) (sym at.entries) ∙ met.full x ∙ at.room;
     }

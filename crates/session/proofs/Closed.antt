@@ -7,6 +7,7 @@ use Rattle.bw_gate.specs.Pieces.{GateId, TicketView, share_of, sum_of}
 use Rattle.call_book.specs.Pieces.{IsTicketOf}
 use Rattle.domain_run.specs.Domain.{Domain}
 use Rattle.call_book.specs.Book.{BookView}
+use Rattle.call_book.specs.Ending.{EndingView}
 use Rattle.call_book.specs.SectionView.{SectionView}
 use Rattle.session.specs.SessionId.{SessionId}
 use Rattle.session.specs.private.Entering.{IsSessionBook}
@@ -59,20 +60,20 @@ taken_first {X} bs all rest b n k d is some at each x =
     sym (sym (ap (λ (ys : List X). get_or ys 0 x) is) ∙ each 0 x some ∙ ap (λ (e : ℕ). get_or bs e x) same)
 
 -- one book more has ended
-pub ended_more : (books : List BookView) (histories : List SectionView) (states : List Domain) (b : BookView) (s : SectionView) (x : Domain)
-    → HaveEnded books histories states → ((y : BookView) → get_or books (length histories) y ≡ b) → IsEnded b s x
+pub ended_more : (books : List EndingView) (histories : List SectionView) (states : List Domain) (b : EndingView) (s : SectionView) (x : Domain)
+    → HaveEnded books histories states → ((y : EndingView) → get_or books (length histories) y ≡ b) → IsEnded b s x
     → HaveEnded books (histories ++ s ∷ []) (states ++ x ∷ [])
 ended_more books histories states b s x ended at last = record {
   states_count = omega (arith, ended.states_count, length_push histories s, length_push states x);
   each = λ d c t y inside. by d c t y inside (eqb d (length histories)) refl;
 }
   where
-    by : (d : ℕ) (c : BookView) (t : SectionView) (y : Domain) → d < length (histories ++ s ∷ []) → (e : Bool) → eqb d (length histories) ≡ e
+    by : (d : ℕ) (c : EndingView) (t : SectionView) (y : Domain) → d < length (histories ++ s ∷ []) → (e : Bool) → eqb d (length histories) ≡ e
         → IsEnded (get_or books d c) (get_or (histories ++ s ∷ []) d t) (get_or (states ++ x ∷ []) d y)
     by d c t y inside true is =
         let n = length histories in
         let here : IsEnded (get_or books n c) (get_or (histories ++ s ∷ []) n t) (get_or (states ++ x ∷ []) n y) =
-        subst (λ (v : BookView). IsEnded v (get_or (histories ++ s ∷ []) n t) (get_or (states ++ x ∷ []) n y)) (sym (at c))
+        subst (λ (v : EndingView). IsEnded v (get_or (histories ++ s ∷ []) n t) (get_or (states ++ x ∷ []) n y)) (sym (at c))
         (subst (λ (v : SectionView). IsEnded b v (get_or (states ++ x ∷ []) n y)) (sym (get_or_push histories s t n refl))
         (subst (λ (v : Domain). IsEnded b s v) (sym (get_or_push states x y n ended.states_count)) last)) in
         subst (λ (k : ℕ). IsEnded (get_or books k c) (get_or (histories ++ s ∷ []) k t) (get_or (states ++ x ∷ []) k y)) (sym (eqb-true d n is)) here

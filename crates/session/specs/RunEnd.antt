@@ -1,12 +1,16 @@
 -- How a run of a scenario ends: client 1 advances each domain, and all books are closed (own).
-use Rattle.std.specs.Prelude.{◌≡◌, ℕ, ◌+◌, ◌-◌, ◌<◌, ◌==◌, ◌&&◌, nat_lt, if◌then◌else◌, Bool, IsTrue, List, [], ◌∷◌}
+use Rattle.std.specs.Prelude.{◌≡◌, ℕ, ◌+◌, ◌-◌, ◌<◌, ◌==◌, ◌&&◌, nat_lt, if◌then◌else◌, Bool, true, false, IsTrue, List, [], ◌∷◌}
 use Rattle.std.specs.Prelude.{◌++◌, length, take, Some, slice_index_or}
 use Rattle.domain_run.specs.declared.call.Call.TheVariants.{Advance}
 use Rattle.domain_run.specs.declared.call.Reply.TheVariants as replies
 use Rattle.domain_run.specs.declared.happened.Happened.{Happened}
 use Rattle.domain_run.specs.Happened.{told_by_ticks}
 use Rattle.domain_run.specs.Log.{LogView}
+use Rattle.domain_run.specs.Domain.{Domain}
+use Rattle.domain_run.specs.Passing.{without_switches}
 use Rattle.domain_run.specs.Run.{run_of}
+use Rattle.run_figures.specs.Accounting.{AccountingView}
+use Rattle.heard_run.specs.Heard.{heard_of}
 use Rattle.call_book.specs.declared.section.Entry.{Entry}
 use Rattle.call_book.specs.Book.{calls_of}
 use Rattle.call_book.specs.SectionView.{SectionView}
@@ -14,6 +18,8 @@ use Rattle.call_book.specs.Histories.{AreRuns}
 use Rattle.session.specs.declared.fault.EndFault.{EndFault}
 use Rattle.session.specs.declared.fault.EndFault.TheVariants.{Full, Memory}
 use Rattle.session.specs.declared.report.Finished.{Finished}
+use Rattle.session.specs.declared.report.Wanted.{Wanted}
+use Rattle.session.specs.declared.report.Wanted.TheVariants.{Switches, Happened as WhatHappened, Figures}
 use Rattle.session.specs.SessionId.{SessionId, IsDomainIndex}
 use Rattle.session.specs.Asks.{ClientView, Made, Makes}
 use Rattle.session.specs.Report.{IsHistoryOf, IsReport}
@@ -64,9 +70,39 @@ pub record HaveAdvanced (duration : ℕ) (before after : List ClientView) : Type
       → Makes (slice_index_or before i x) (slice_index_or after i x)
       (λ d. advance_of duration (i + 1))
 
--- what the end of a run leaves, by clients that had entered so much; the log of each domain has what
--- client 1's advance tells, where that is wanted, and nothing where the duration is 0
-pub record IsFinished (id : SessionId) (duration : ℕ) (wanted : Bool) (clients : List ClientView)
+-- the state to which a history leads
+abbrev pub run_in : SectionView → Domain
+run_in h = run_of h.cpus h.limit (calls_of h.entries)
+
+-- the states are the runs of the histories; the log of each domain has what client 1's advance
+-- tells, where that is wanted, and nothing where the duration is 0
+pub record AreLogged (duration : ℕ) (wanted : Bool) (f : Finished) : Type 0 where
+  pub runs : AreRuns f.report.histories.items f.states.items
+  pub logs_count : length f.logs.items ≡ length f.report.histories.items
+  pub logs : (d : ℕ) (s : SectionView) (x : LogView) → d < length f.report.histories.items
+      → let h = slice_index_or f.report.histories.items d s in
+      IsLogOf wanted (told_at_end duration h.cpus h.limit h.entries) (slice_index_or f.logs.items d x)
+
+-- the states are those runs without their switches; all that was heard of each is its switches, and
+-- what client 1's advance tells
+pub record AreHeard (duration : ℕ) (f : Finished) : Type 0 where
+  pub runs : (d : ℕ) (s : SectionView) (x : Domain) → d < length f.report.histories.items
+      → slice_index_or f.states.items d x
+      ≡ without_switches (run_in (slice_index_or f.report.histories.items d s))
+  pub heard_count : length f.heard.items ≡ length f.report.histories.items
+  pub heard : (d : ℕ) (s : SectionView) (x : AccountingView) → d < length f.report.histories.items
+      → let h = slice_index_or f.report.histories.items d s in
+      slice_index_or f.heard.items d x
+      ≡ heard_of (run_in h) (told_at_end duration h.cpus h.limit h.entries)
+
+-- by what is wanted
+abbrev pub IsLeftAs : ℕ → Wanted → Finished → Type 0
+IsLeftAs duration Switches f = AreLogged duration false f
+IsLeftAs duration WhatHappened f = AreLogged duration true f
+IsLeftAs duration Figures f = AreHeard duration f
+
+-- what the end of a run leaves, by clients that had entered so much
+pub record IsFinished (id : SessionId) (duration : ℕ) (wanted : Wanted) (clients : List ClientView)
     (f : Finished) : Type 0 where
   pub after : List ClientView
   pub advanced : HaveAdvanced duration clients after
@@ -74,11 +110,7 @@ pub record IsFinished (id : SessionId) (duration : ℕ) (wanted : Bool) (clients
   pub ends : (d : ℕ) (x : SectionView) → d < length id.cpu_sets
       → EndsWith duration (slice_index_or f.report.histories.items d x).entries
   pub count : length f.states.items ≡ length id.cpu_sets
-  pub runs : AreRuns f.report.histories.items f.states.items
-  pub logs_count : length f.logs.items ≡ length id.cpu_sets
-  pub logs : (d : ℕ) (s : SectionView) (x : LogView) → d < length id.cpu_sets
-      → let h = slice_index_or f.report.histories.items d s in
-      IsLogOf wanted (told_at_end duration h.cpus h.limit h.entries) (slice_index_or f.logs.items d x)
+  pub left : IsLeftAs duration wanted f
 
 -- ---- why there is none
 

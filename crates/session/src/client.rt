@@ -1,6 +1,6 @@
 //! A client: its passes, the piece in its hand, and the calls that it makes.
 
-ghost use Rattle.std.specs.Prelude.{◌≡◌, Some, None, IfSome, IfNone, IfErr, OnOk, IsSome, Ok, Err, [], ◌∷◌, length};
+ghost use Rattle.std.specs.Prelude.{◌≡◌, Some, None, IfSome, IfNone, IfOk, IfErr, OnOk, IsSome, Ok, Err, true, false, [], ◌∷◌, length};
 ghost use Rattle.attr_check.specs.Accepted.{accepted, params_of};
 ghost use Rattle.domain_run.specs.declared.call.Call.TheVariants as calls;
 ghost use Rattle.domain_run.specs.Domain.{IsLimit};
@@ -13,7 +13,7 @@ ghost use Rattle.session.specs.Clients.{IsNew};
 ghost use Rattle.session.specs.private.Parts.{IsHand};
 ghost use Rattle.session.specs.private.Entering.{IsAdvancedFor, IsAsk, IsDoneFor, IsVerdict, IsSessionBook};
 ghost use Rattle.session.specs.RunEnd.{IsStopped, told_at_end};
-ghost use Rattle.session.specs.private.Ending.{MakesAll, IsEndBy};
+ghost use Rattle.session.specs.private.Ending.{MakesAll, IsEndBy, IsHeardOf};
 
 use crate::books::at_place;
 use crate::fault::EndFault;
@@ -24,9 +24,12 @@ use crate::refusal::{Answer, Refusal};
 use crate::shared::{Shared, Shares};
 use attr_check::{Params, check};
 use bw_gate::{Blank, Gate, Take, used_of};
-use call_book::{AdvanceError, Domain, NoMemory, Pass, Prepared, prepare};
+use call_book::{
+    AdvanceError, Domain, EndingBook, HeardAdvance, NoMemory, Pass, Prepared, prepare,
+};
 use domain_run::{Log, Reply};
 use rtapp_scenario::TaskSpec;
+use run_figures::Accounting;
 use std::alloc::Global;
 use std::marker::{Model, PhantomData};
 use std::sync::{Mutex, Wait};
@@ -144,14 +147,14 @@ impl<N: Names> Client<N> {
     }
 
     /// Lets its pass of a place agree with the book of that place, which changes neither.
-    pub(crate) fn agree(&mut self, domain: &mut Domain, place: usize)
+    pub(crate) fn agree(&mut self, book: &mut EndingBook, place: usize)
         requires place { IsDomainIndex N.id place }
-        requires spine { domain.old.spine ≡ spine_of N.id place }
-        ensures domain { domain.new ≡ domain.old }
+        requires spine { book.old.book.spine ≡ spine_of N.id place }
+        ensures book { book.new ≡ book.old }
         ensures same { self.new ≡ self.old }
-        ensures own { pass_in self.new place ≡ own_entries self.new.number domain.new.history }
+        ensures own { pass_in self.new place ≡ own_entries self.new.number book.new.book.history }
     {
-        domain.agree(&mut self.passes[place]);
+        book.agree(&mut self.passes[place]);
     }
 
     /// Makes exactly so many ticks of a domain that stands behind no lock, 1 to 60000000, as one
@@ -180,6 +183,37 @@ impl<N: Names> Client<N> {
     {
         match domain.advance_told(rt, &mut self.passes[place], gate, ticks, log) {
             Ok(Reply::Done { ticks: made }) if made == ticks => Ok(()),
+            Err(AdvanceError::Full) => Err(EndFault::Full),
+            _ => Err(EndFault::Memory),
+        }
+    }
+
+    /// As [`Client::advance_book`], of a book at its end: an accounting hears its switches, and what
+    /// happens in these ticks, and the book keeps neither.
+    pub(crate) fn hear_book(
+        &mut self,
+        gate: &Gate,
+        book: &mut EndingBook,
+        place: usize,
+        ticks: u64,
+    ) -> Result<Accounting, EndFault>
+        requires gate { gate.now ≡ N.id.gate }
+        requires named { IsSessionBook N.id place book.old.book }
+        requires unheard { book.old.heard ≡ false }
+        requires call { IsCall (calls.Advance ticks) }
+        ensures named { IsSessionBook N.id place book.new.book }
+        ensures domains { length self.old.passes ≡ length N.id.cpu_sets }
+        ensures made { OnOk result (MakesAll self.old self.new place ticks) }
+        ensures ends { OnOk result (IsEndBy self.old.number ticks book.new.book.history) }
+        ensures forgotten { OnOk result (book.new.heard ≡ true) }
+        ensures heard { IfOk result (λ a. IsHeardOf ticks book.new.book a) }
+        ensures err { IfErr result (IsStopped (IsFull book.new.book × (self.new ≡ self.old))) }
+    {
+        match book.advance_heard(&mut self.passes[place], gate, ticks) {
+            Ok(HeardAdvance {
+                ticks: made,
+                accounting,
+            }) if made == ticks => Ok(accounting),
             Err(AdvanceError::Full) => Err(EndFault::Full),
             _ => Err(EndFault::Memory),
         }

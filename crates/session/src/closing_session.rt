@@ -1,6 +1,6 @@
 //! The end of a session: its books are closed, and every piece goes home to the gate.
 
-ghost use Rattle.std.specs.Prelude.{◌≡◌, ◌≢◌, ◌+◌, ◌*◌, ◌≤◌, ◌<◌, ℕ, [], length, All, IfOk, IfSome, vec_capacity, slice_index};
+ghost use Rattle.std.specs.Prelude.{◌≡◌, ◌≢◌, ◌+◌, ◌*◌, ◌≤◌, ◌<◌, ℕ, [], length, map, All, IfOk, IfSome, vec_capacity, slice_index};
 ghost use Rattle.call_book.specs.Book.{own_entries};
 ghost use Rattle.bw_gate.specs.Pieces.{sum_of};
 ghost use Rattle.session.specs.SessionId.{IsSession};
@@ -8,6 +8,7 @@ ghost use Rattle.session.specs.Asks.{pass_in};
 ghost use Rattle.session.specs.Report.{IsHistoryOf, IsReport, sum_left};
 ghost use Rattle.session.specs.private.Entering.{IsSessionBook};
 ghost use Rattle.session.specs.private.Parts.{AreSessionBooks, AreBlanksOf, AreHands};
+ghost use Rattle.session.specs.private.Ending.{books_of, unheard};
 ghost use Rattle.session.specs.private.Closing.{AreTicketsOf, AreHistories, AreSums, IsRoom, IsEnded, HaveEnded};
 
 use crate::client::Client;
@@ -16,7 +17,7 @@ use crate::parts::{Hand, PIECES};
 use crate::refusal::Refusal;
 use crate::report::Report;
 use bw_gate::{Blank, Gate, Ticket, Words};
-use call_book::{Closed, Domain, NoMemory, Section};
+use call_book::{Closed, Domain, EndingBook, NoMemory, Section};
 use domain_run::State;
 use std::alloc::Global;
 use std::marker::PhantomData;
@@ -60,15 +61,15 @@ fn pour_tickets<N: Names>(home: &mut Vec<Ticket>, mut tickets: Vec<Ticket>)
 }
 
 /// Lets every client's pass of a place agree with its book, which changes neither.
-fn agree_all<N: Names>(domain: &mut Domain, clients: &mut Vec<Client<N>>, place: usize)
-    requires named { IsSessionBook N.id place domain.old }
-    ensures domain { domain.new ≡ domain.old }
+fn agree_all<N: Names>(book: &mut EndingBook, clients: &mut Vec<Client<N>>, place: usize)
+    requires named { IsSessionBook N.id place book.old.book }
+    ensures book { book.new ≡ book.old }
     ensures clients { clients.new.items ≡ clients.old.items }
-    ensures own { let history = domain.new.history in
+    ensures own { let history = book.new.book.history in
         All (λ c. pass_in c place ≡ own_entries c.number history) clients.new.items }
 {
     for k in 0..clients.len() {
-        clients[k].agree(domain, place);
+        clients[k].agree(book, place);
     }
 }
 
@@ -82,7 +83,7 @@ struct Ended {
 /// home.
 fn close_book<N: Names>(
     alloc: Global,
-    mut domain: Domain,
+    mut book: EndingBook,
     clients: &mut Vec<Client<N>>,
     place: usize,
     limit: u64,
@@ -90,10 +91,10 @@ fn close_book<N: Names>(
 ) -> Ended
     requires session { IsSession N.id }
     requires limit { limit ≡ N.id.limit }
-    requires named { IsSessionBook N.id place domain }
+    requires named { IsSessionBook N.id place book.book }
     requires room { length home.old.tickets.items + 256 ≤ vec_capacity home.old.tickets }
     ensures history { IsHistoryOf N.id place clients.new.items result.history }
-    ensures ended { IsEnded domain result.history result.state }
+    ensures ended { IsEnded book result.history result.state }
     ensures clients { clients.new.items ≡ clients.old.items }
     ensures here { sum_of place home.new.tickets.items
         ≡ sum_of place home.old.tickets.items + sum_left result.history }
@@ -102,13 +103,13 @@ fn close_book<N: Names>(
     ensures count { length home.new.tickets.items ≤ length home.old.tickets.items + 256 }
     ensures room { vec_capacity home.new.tickets ≡ vec_capacity home.old.tickets }
 {
-    agree_all(&mut domain, clients, place);
+    agree_all(&mut book, clients, place);
     let Closed {
         state,
         entries,
         tickets,
         blanks,
-    } = domain.close(Vec::new(alloc));
+    } = book.close(Vec::new(alloc));
     pour_tickets::<N>(&mut home.tickets, tickets);
     pour_blanks::<N>(&mut home.blanks, blanks);
     let history = Section {
@@ -122,7 +123,7 @@ fn close_book<N: Names>(
 /// Closes the books of all domains, in their order.
 fn close_all<N: Names>(
     alloc: Global,
-    books: Vec<Domain>,
+    books: Vec<EndingBook>,
     limit: u64,
     clients: &mut Vec<Client<N>>,
     home: &mut Home<N>,
@@ -131,7 +132,7 @@ fn close_all<N: Names>(
 )
     requires session { IsSession N.id }
     requires limit { limit ≡ N.id.limit }
-    requires named { AreSessionBooks N.id books.items }
+    requires named { AreSessionBooks N.id (books_of books.items) }
     requires count { length books.items ≡ length N.id.cpu_sets }
     requires pieces { home.old.tickets.items ≡ [] }
     requires empty { (histories.old.items ≡ []) × (states.old.items ≡ []) }
@@ -145,9 +146,9 @@ fn close_all<N: Names>(
     ensures ended { HaveEnded books.items histories.new.items states.new.items }
 {
     let mut rest = books.into_iter();
-    while let Some(domain) = rest.next() {
+    while let Some(book) = rest.next() {
         let place = histories.len();
-        let Ended { history, state } = close_book(alloc, domain, clients, place, limit, home);
+        let Ended { history, state } = close_book(alloc, book, clients, place, limit, home);
         histories.push_reserved(history);
         states.push_reserved(state);
     }
@@ -185,6 +186,31 @@ impl Room {
             caps,
             refused: Vec::new(alloc),
         })
+    }
+}
+
+/// Room for so many books at their end, and for the end itself.
+pub(crate) struct Rooms {
+    pub(crate) books: Vec<EndingBook>,
+    pub(crate) room: Room,
+}
+
+impl Rooms {
+    /// Room for the end of so many domains.
+    pub(crate) fn open(alloc: Global, domains: usize) -> Result<Rooms, NoMemory>
+        requires { domains ≤ 8 }
+        ensures none { IfOk result (λ r. r.books.items ≡ []) }
+        ensures books { IfOk result (λ r. domains ≤ vec_capacity r.books) }
+        ensures room { IfOk result (λ r. IsRoom domains r.room) }
+    {
+        let Ok(books) = Vec::with_capacity(alloc, domains) else {
+            return Err(NoMemory);
+        };
+        let Ok(room) = Room::open(alloc, domains) else {
+            books.destroy_empty();
+            return Err(NoMemory);
+        };
+        Ok(Rooms { books, room })
     }
 }
 
@@ -245,13 +271,27 @@ pub(crate) struct Remains {
     pub(crate) states: Vec<State>,
 }
 
+/// Ends books, in their order.
+fn end_all(books: Vec<Domain>, ending: &mut Vec<EndingBook>)
+    requires empty { ending.old.items ≡ [] }
+    requires room { length books.items ≤ vec_capacity ending.old }
+    ensures { ending.new.items ≡ map unheard books.items }
+{
+    let mut rest = books.into_iter();
+    while let Some(book) = rest.next() {
+        ending.push_reserved(book.end());
+    }
+    rest.destroy_empty();
+}
+
 /// A session whose domains stand behind no lock any more, with all room that its end needs. It is
-/// neither cloned nor dropped, but closed.
+/// neither cloned nor dropped, but ended.
 pub(crate) struct Unlocked<N: Names> {
     pub(crate) gate: Gate,
     pub(crate) books: Vec<Domain>,
     limit: u64,
     blanks: Vec<Blank>,
+    ending: Vec<EndingBook>,
     room: Room,
     of: PhantomData<N>,
     ghost session: { IsSession N.id },
@@ -260,6 +300,8 @@ pub(crate) struct Unlocked<N: Names> {
     ghost count: { length books.items ≡ length N.id.cpu_sets },
     ghost named: { AreSessionBooks N.id books.items },
     ghost blanks_own: { AreBlanksOf N.id.gate blanks.items },
+    ghost none_ended: { ending.items ≡ [] },
+    ghost for_all: { length N.id.cpu_sets ≤ vec_capacity ending },
     ghost enough: { IsRoom (length N.id.cpu_sets) room },
 }
 
@@ -269,6 +311,7 @@ impl<N: Names> Unlocked<N> {
         books: Vec<Domain>,
         limit: u64,
         blanks: Vec<Blank>,
+        ending: Vec<EndingBook>,
         room: Room,
     ) -> Unlocked<N>
         requires session { IsSession N.id }
@@ -277,6 +320,8 @@ impl<N: Names> Unlocked<N> {
         requires count { length books.items ≡ length N.id.cpu_sets }
         requires named { AreSessionBooks N.id books.items }
         requires blanks { AreBlanksOf N.id.gate blanks.items }
+        requires ending { ending.items ≡ [] }
+        requires for_all { length N.id.cpu_sets ≤ vec_capacity ending }
         requires room { IsRoom (length N.id.cpu_sets) room }
     {
         Unlocked {
@@ -284,17 +329,61 @@ impl<N: Names> Unlocked<N> {
             books,
             limit,
             blanks,
+            ending,
             room,
             of: PhantomData,
         }
     }
 
+    /// No call is made on any book any more, but one last advance of each that is heard.
+    pub(crate) fn end(self) -> Ending<N>
+        ensures { result.books.items ≡ map unheard self.books.items }
+    {
+        let Unlocked {
+            gate,
+            books,
+            limit,
+            blanks,
+            mut ending,
+            room,
+            of: _,
+        } = self;
+        end_all(books, &mut ending);
+        Ending {
+            gate,
+            books: ending,
+            limit,
+            blanks,
+            room,
+            of: PhantomData,
+        }
+    }
+}
+
+/// A session whose books are at their end. It is neither cloned nor dropped, but closed.
+pub(crate) struct Ending<N: Names> {
+    pub(crate) gate: Gate,
+    pub(crate) books: Vec<EndingBook>,
+    limit: u64,
+    blanks: Vec<Blank>,
+    room: Room,
+    of: PhantomData<N>,
+    ghost session: { IsSession N.id },
+    ghost same_limit: { limit ≡ N.id.limit },
+    ghost same_gate: { gate ≡ N.id.gate },
+    ghost count: { length books.items ≡ length N.id.cpu_sets },
+    ghost named: { AreSessionBooks N.id (books_of books.items) },
+    ghost blanks_own: { AreBlanksOf N.id.gate blanks.items },
+    ghost enough: { IsRoom (length N.id.cpu_sets) room },
+}
+
+impl<N: Names> Ending<N> {
     /// Closes all books and then the gate.
     pub(crate) fn close(self, alloc: Global, mut clients: Vec<Client<N>>) -> Remains
         ensures report { IsReport N.id clients.items result.report }
         ensures ended { HaveEnded self.books.items result.report.histories.items result.states.items }
     {
-        let Unlocked {
+        let Ending {
             gate,
             books,
             limit,

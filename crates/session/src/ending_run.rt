@@ -1,20 +1,21 @@
 //! The end of a run: client 1 advances each domain, and all books are closed.
 
-ghost use Rattle.std.specs.Prelude.{◌≡◌, ◌<◌, ◌≤◌, [], length, IfOk, IfErr, OnOk};
+ghost use Rattle.std.specs.Prelude.{◌≡◌, ◌<◌, ◌≤◌, true, false, [], length, vec_capacity, IfOk, IfErr, OnOk};
 ghost use Rattle.session.specs.Asks.{Makes};
 ghost use Rattle.session.specs.private.Parts.{AreSessionBooks};
-ghost use Rattle.session.specs.private.Ending.{AllEnd, AllTellEnds, AreEndLogs, AreOpenLogs, IsFullAmong};
+ghost use Rattle.session.specs.private.Ending.{AllEnd, AllTellEnds, AreAll, AreEndLogs, AreHeardEnds, AreOpenLogs, AreToldAs, IsFullAmong, books_of};
 ghost use Rattle.session.specs.RunEnd.{advance_of, IsFirst, IsFinished, IsFullWith, IsLogOf, IsStopped};
 
 use crate::client::Client;
-use crate::closing_session::{Remains, Unlocked};
+use crate::closing_session::{Ending, Remains, Unlocked};
 use crate::fault::EndFault;
 use crate::names::Names;
-use crate::report::Finished;
+use crate::report::{Finished, Wanted};
 use crate::session::Session;
 use bw_gate::Gate;
-use call_book::{Domain, NoMemory};
+use call_book::{Domain, EndingBook, NoMemory};
 use domain_run::Log;
+use run_figures::Accounting;
 use std::alloc::Global;
 use std::sync::Wait;
 use std::thread::Threads;
@@ -108,11 +109,212 @@ fn advance<N: Names, R: Threads + Wait>(
     Ok(logs)
 }
 
+/// Lets client 1 advance each domain by the whole duration, and an accounting of each hear it.
+fn hear_all<N: Names>(
+    gate: &Gate,
+    books: &mut Vec<EndingBook>,
+    client: &mut Client<N>,
+    duration: u64,
+    heard: &mut Vec<Accounting>,
+) -> Result<(), EndFault>
+    requires gate { gate.now ≡ N.id.gate }
+    requires named { AreSessionBooks N.id (books_of books.old.items) }
+    requires count { length books.old.items ≡ length N.id.cpu_sets }
+    requires unheard { AreAll false books.old.items }
+    requires domains { 0 < length N.id.cpu_sets }
+    requires first { client.old.number ≡ 1 }
+    requires some { 0 < duration }
+    requires most { duration ≤ 60000000 }
+    requires empty { heard.old.items ≡ [] }
+    requires room { length books.old.items ≤ vec_capacity heard.old }
+    ensures named { AreSessionBooks N.id (books_of books.new.items) }
+    ensures count { length books.new.items ≡ length books.old.items }
+    ensures made { OnOk result (Makes client.old client.new (λ d. advance_of duration 1)) }
+    ensures ends { OnOk result (AllEnd duration (books_of books.new.items)) }
+    ensures forgotten { OnOk result (AreAll true books.new.items) }
+    ensures heard { OnOk result
+        (AreHeardEnds duration (books_of books.new.items) heard.new.items) }
+    ensures err { IfErr result
+        (IsStopped (IsFullAmong duration (books_of books.new.items) client.old client.new)) }
+{
+    for place in 0..books.len() {
+        let accounting = client.hear_book(gate, &mut books[place], place, duration)?;
+        heard.push_reserved(accounting);
+    }
+    Ok(())
+}
+
+/// Lets an accounting of each domain hear the switches of its run. No call is made.
+fn hear_still(books: &mut Vec<EndingBook>, heard: &mut Vec<Accounting>) -> Result<(), NoMemory>
+    requires unheard { AreAll false books.old.items }
+    requires empty { heard.old.items ≡ [] }
+    requires room { length books.old.items ≤ vec_capacity heard.old }
+    ensures books { books_of books.new.items ≡ books_of books.old.items }
+    ensures forgotten { OnOk result (AreAll true books.new.items) }
+    ensures heard { OnOk result (AreHeardEnds 0 (books_of books.new.items) heard.new.items) }
+{
+    for place in 0..books.len() {
+        heard.push_reserved(books[place].hear()?);
+    }
+    Ok(())
+}
+
+/// Room for so many accountings.
+fn room_for(alloc: Global, count: usize) -> Result<Vec<Accounting>, NoMemory>
+    ensures empty { IfOk result (λ heard. heard.items ≡ []) }
+    ensures room { IfOk result (λ heard. count ≤ vec_capacity heard) }
+{
+    Ok(Vec::with_capacity(alloc, count)?)
+}
+
+/// The run of each domain is heard; no call is made where the duration is 0.
+fn hear<N: Names>(
+    alloc: Global,
+    ending: &mut Ending<N>,
+    client: &mut Client<N>,
+    duration: u64,
+) -> Result<Vec<Accounting>, EndFault>
+    requires unheard { AreAll false ending.old.books.items }
+    requires first { client.old.number ≡ 1 }
+    requires most { duration ≤ 60000000 }
+    ensures made { OnOk result (Makes client.old client.new (λ d. advance_of duration 1)) }
+    ensures ends { OnOk result (AllEnd duration (books_of ending.new.books.items)) }
+    ensures forgotten { OnOk result (AreAll true ending.new.books.items) }
+    ensures heard { let books = books_of ending.new.books.items in
+        IfOk result (λ v. AreHeardEnds duration books v.items) }
+    ensures err { let books = books_of ending.new.books.items in
+        IfErr result (IsStopped (IsFullAmong duration books client.old client.new)) }
+{
+    let mut heard = room_for(alloc, ending.books.len())?;
+    if duration == 0 {
+        hear_still(&mut ending.books, &mut heard)?;
+        return Ok(heard);
+    }
+    hear_all(
+        &ending.gate,
+        &mut ending.books,
+        client,
+        duration,
+        &mut heard,
+    )?;
+    Ok(heard)
+}
+
+/// What is told of the runs of the domains: by a log of each, or by what an accounting of each
+/// heard.
+#[derive(Drop)]
+pub(crate) struct Told {
+    pub(crate) logs: Vec<Log>,
+    pub(crate) heard: Vec<Accounting>,
+}
+
+/// A session whose domains were advanced, and what is told of it; or why not all were.
+struct Advanced<N: Names> {
+    ending: Ending<N>,
+    told: Result<Told, EndFault>,
+}
+
+/// Lets client 1 advance each domain, which a log is told where that is wanted.
+fn advance_told<N: Names, R: Threads + Wait>(
+    rt: &R,
+    alloc: Global,
+    mut unlocked: Unlocked<N>,
+    client: &mut Client<N>,
+    duration: u64,
+    wanted: bool,
+) -> Advanced<N>
+    requires first { client.old.number ≡ 1 }
+    requires most { duration ≤ 60000000 }
+    ensures made { OnOk result.told (Makes client.old client.new (λ d. advance_of duration 1)) }
+    ensures ends { OnOk result.told (AllEnd duration (books_of result.ending.books.items)) }
+    ensures unheard { AreAll false result.ending.books.items }
+    ensures logs { let books = books_of result.ending.books.items in
+        IfOk result.told (λ t. AreEndLogs wanted duration books t.logs.items) }
+    ensures err { let books = books_of result.ending.books.items in
+        IfErr result.told (IsStopped (IsFullAmong duration books client.old client.new)) }
+{
+    let advanced = advance(rt, alloc, &mut unlocked, client, duration, wanted);
+    let ending = unlocked.end();
+    match advanced {
+        Ok(logs) => Advanced {
+            ending,
+            told: Ok(Told {
+                logs,
+                heard: Vec::new(alloc),
+            }),
+        },
+        Err(fault) => Advanced {
+            ending,
+            told: Err(fault),
+        },
+    }
+}
+
+/// Lets client 1 advance each domain, which an accounting hears.
+fn advance_heard<N: Names>(
+    alloc: Global,
+    unlocked: Unlocked<N>,
+    client: &mut Client<N>,
+    duration: u64,
+) -> Advanced<N>
+    requires first { client.old.number ≡ 1 }
+    requires most { duration ≤ 60000000 }
+    ensures made { OnOk result.told (Makes client.old client.new (λ d. advance_of duration 1)) }
+    ensures ends { OnOk result.told (AllEnd duration (books_of result.ending.books.items)) }
+    ensures heard { OnOk result.told (AreAll true result.ending.books.items) }
+    ensures all { let books = books_of result.ending.books.items in
+        IfOk result.told (λ t. AreHeardEnds duration books t.heard.items) }
+    ensures err { let books = books_of result.ending.books.items in
+        IfErr result.told (IsStopped (IsFullAmong duration books client.old client.new)) }
+{
+    let mut ending = unlocked.end();
+    match hear(alloc, &mut ending, client, duration) {
+        Ok(heard) => Advanced {
+            ending,
+            told: Ok(Told {
+                logs: Vec::new(alloc),
+                heard,
+            }),
+        },
+        Err(fault) => Advanced {
+            ending,
+            told: Err(fault),
+        },
+    }
+}
+
+/// Lets client 1 advance each domain, and has told of it what is wanted.
+fn advance_as<N: Names, R: Threads + Wait>(
+    rt: &R,
+    alloc: Global,
+    unlocked: Unlocked<N>,
+    client: &mut Client<N>,
+    duration: u64,
+    wanted: Wanted,
+) -> Advanced<N>
+    requires first { client.old.number ≡ 1 }
+    requires most { duration ≤ 60000000 }
+    ensures made { OnOk result.told (Makes client.old client.new (λ d. advance_of duration 1)) }
+    ensures ends { OnOk result.told (AllEnd duration (books_of result.ending.books.items)) }
+    ensures told { let books = result.ending.books.items in
+        IfOk result.told (AreToldAs duration wanted books) }
+    ensures err { let books = books_of result.ending.books.items in
+        IfErr result.told (IsStopped (IsFullAmong duration books client.old client.new)) }
+{
+    match wanted {
+        Wanted::Switches => advance_told(rt, alloc, unlocked, client, duration, false),
+        Wanted::Happened => advance_told(rt, alloc, unlocked, client, duration, true),
+        Wanted::Figures => advance_heard(alloc, unlocked, client, duration),
+    }
+}
+
 /// Takes each domain out of its lock and lets client 1 advance it by the whole duration, in
 /// microseconds, as the last entry of its book; no call is made where the duration is 0. Then all
 /// books are closed, also where an advance was not made: the pieces go home, and each pass is
-/// compared with its book. What happens in the advance of a domain stands in its log, where it is
-/// `wanted`, in the order of "Happened".
+/// compared with its book. Where what happens is `wanted`, it stands in the log of each domain, in
+/// the order of "Happened", as far as it happened in that advance. Where figures are wanted, an
+/// accounting of each domain heard that, and all switches of its run, while the advance was made:
+/// so neither takes memory that grows with the run, and the states that are left have no switches.
 ///
 /// # Errors
 /// [`EndFault::Full`] where the history of a domain has no room for the advance.
@@ -124,7 +326,7 @@ pub fn end_run<N: Names, R: Threads + Wait>(
     session: Session<N>,
     mut clients: Vec<Client<N>>,
     duration: u64,
-    wanted: bool,
+    wanted: Wanted,
 ) -> Result<Finished, EndFault>
     requires some { 0 < length clients.items }
     requires first { IsFirst clients.items }
@@ -132,13 +334,15 @@ pub fn end_run<N: Names, R: Threads + Wait>(
     ensures ok { IfOk result (IsFinished N.id duration wanted clients.items) }
     ensures err { IfErr result (IsStopped (IsFullWith N.id duration clients.items)) }
 {
-    let mut unlocked = session.unlock(alloc)?;
-    let advanced = advance(rt, alloc, &mut unlocked, &mut clients[0], duration, wanted);
-    let Remains { report, states } = unlocked.close(alloc, clients);
-    let logs = advanced?;
+    let unlocked = session.unlock(alloc)?;
+    let Advanced { ending, told } =
+        advance_as(rt, alloc, unlocked, &mut clients[0], duration, wanted);
+    let Remains { report, states } = ending.close(alloc, clients);
+    let Told { logs, heard } = told?;
     Ok(Finished {
         report,
         states,
         logs,
+        heard,
     })
 }

@@ -47,7 +47,7 @@ pub use names::Names;
 pub use options::{Options, Print};
 pub use parts::Parts;
 pub use refusal::{Answer, Refusal};
-pub use report::{Finished, Report};
+pub use report::{Finished, Report, Wanted};
 pub use session::Session;
 pub use shared::{Shared, Shares};
 pub use turnstile::{AllPass, Turnstile};

@@ -1,6 +1,7 @@
 use crate::refusal::Refusal;
 use call_book::Section;
 use domain_run::{Log, State};
+use run_figures::Accounting;
 
 /// What a session left.
 #[derive(Debug, Drop)]
@@ -19,15 +20,30 @@ pub struct Report {
     pub home: usize,
 }
 
+/// What is wanted of a run, beside its histories.
+#[derive(Clone, Copy, Debug, PartialEq, Eq)]
+pub enum Wanted {
+    /// The states, with their switches.
+    Switches,
+    /// The states, with their switches, and what happened.
+    Happened,
+    /// What figures are made of: the switches and what happened are heard, and let go of at once.
+    Figures,
+}
+
 /// What a run in a session left, with the state of each domain and what happened in it, in their
 /// order. For the crate above, which writes the run.
 #[derive(Drop)]
 pub struct Finished {
     /// As the session's end gives it; nobody stands among the refused.
     pub report: Report,
-    /// The state of each domain, to which its history leads.
+    /// The state of each domain, to which its history leads; without its switches where figures
+    /// were wanted.
     pub states: Vec<State>,
-    /// One for each domain; it keeps what happened in the advance at the end where that was asked
-    /// for, else nothing.
+    /// One for each domain; it keeps what happened in the advance at the end where that was wanted,
+    /// else nothing. None where figures were wanted.
     pub logs: Vec<Log>,
+    /// One for each domain where figures were wanted: it heard all switches of the run, and what
+    /// happened in the advance at the end. Else none.
+    pub heard: Vec<Accounting>,
 }

@@ -6,7 +6,7 @@ ghost use Rattle.session.specs.Report.{IsReport};
 
 use crate::books::{Books, unlock_all};
 use crate::client::Client;
-use crate::closing_session::{Remains, Room, Unlocked, pour_waiting};
+use crate::closing_session::{Remains, Rooms, Unlocked, pour_waiting};
 use crate::names::Names;
 use crate::parts::{Hand, Parts, shut};
 use crate::pool::Pool;
@@ -124,7 +124,7 @@ impl<N: Names> Session<N> {
     pub fn close(self, alloc: Global, clients: Vec<Client<N>>) -> Result<Report, NoMemory>
         ensures { IfOk result (IsReport N.id clients.items) }
     {
-        let Remains { report, states: _ } = self.unlock(alloc)?.close(alloc, clients);
+        let Remains { report, states: _ } = self.unlock(alloc)?.end().close(alloc, clients);
         Ok(report)
     }
 
@@ -145,13 +145,17 @@ impl<N: Names> Session<N> {
             pool,
         } = shared;
         let books = unlock_all(books, room);
-        let Ok(room) = Room::open(alloc, cpu_sets.len()) else {
+        let Ok(rooms) = Rooms::open(alloc, cpu_sets.len()) else {
             shut(alloc, &gate, books);
             return Err(NoMemory);
         };
+        let Rooms {
+            books: ending,
+            room,
+        } = rooms;
         let mut blanks = pool.into_blanks();
         pour_waiting::<N>(&mut blanks, hands);
-        Ok(Unlocked::new(gate, books, limit, blanks, room))
+        Ok(Unlocked::new(gate, books, limit, blanks, ending, room))
     }
 
     /// Ends the session where it is of no use any more; what tickets it holds go back to the gate.

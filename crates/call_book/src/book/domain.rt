@@ -13,6 +13,7 @@ ghost use Rattle.domain_run.specs.Log.{Tells};
 ghost use Rattle.call_book.specs.Pieces.{HoldsTickets};
 ghost use Rattle.call_book.specs.private.Kept.{IsAsked, IsLimitAsked};
 
+mod ending;
 mod moving;
 
 use crate::book::Pass;
@@ -24,6 +25,7 @@ use attr_check::Params;
 use bw_gate::{Blank, Gate, Ticket, used_of};
 use domain_run::{Call, Log, NoMemory, Reply, State};
 use jump_run::Silent;
+pub use ending::{EndingBook, HeardAdvance};
 pub use moving::{Move, MoveFault, move_task};
 use std::alloc::Global;
 use std::error::Error;

@@ -4,7 +4,8 @@ use Rattle.bw_gate.specs.Pieces.{GateId, TicketView, sum_of}
 use Rattle.domain_run.specs.Domain.{Domain}
 use Rattle.domain_run.specs.Run.{run_of}
 use Rattle.call_book.specs.SectionView.{SectionView}
-use Rattle.call_book.specs.Book.{BookView, calls_of}
+use Rattle.call_book.specs.Book.{calls_of}
+use Rattle.call_book.specs.Ending.{EndingView, left_of}
 use Rattle.session.specs.declared.closing_session.Room.{Room}
 use Rattle.session.specs.SessionId.{SessionId}
 use Rattle.session.specs.Asks.{ClientView}
@@ -25,16 +26,17 @@ AreSums histories tickets =
     (d : ℕ) (x : SectionView) → d < length histories
     → sum_of d tickets ≡ sum_left (slice_index_or histories d x)
 
--- what a closed book leaves: its history, and the state that this leads to
-pub record IsEnded (b : BookView) (history : SectionView) (state : Domain) : Type 0 where
-  pub entries : history.entries ≡ b.history
-  pub run : state ≡ run_of history.cpus history.limit (calls_of history.entries)
+-- what a closed book leaves: its history, and the state that this leads to, without its switches
+-- where they were heard
+pub record IsEnded (b : EndingView) (history : SectionView) (state : Domain) : Type 0 where
+  pub entries : history.entries ≡ b.book.history
+  pub run : state ≡ left_of b.heard (run_of history.cpus history.limit (calls_of history.entries))
 
 -- and so the first of these books, one for each history
-pub record HaveEnded (books : List BookView) (histories : List SectionView)
+pub record HaveEnded (books : List EndingView) (histories : List SectionView)
     (states : List Domain) : Type 0 where
   pub states_count : length states ≡ length histories
-  pub each : (d : ℕ) (b : BookView) (s : SectionView) (x : Domain) → d < length histories
+  pub each : (d : ℕ) (b : EndingView) (s : SectionView) (x : Domain) → d < length histories
       → IsEnded (slice_index_or books d b) (slice_index_or histories d s)
       (slice_index_or states d x)
 

@@ -1,10 +1,16 @@
 -- One domain after the other is advanced, at the end of a run.
-use Rattle.std.specs.Prelude.{◌≡◌, ℕ, ◌<◌, Bool, List, [], ◌∷◌, ◌++◌, length, All, Some, Ok, slice_index_or}
+use Rattle.std.specs.Prelude.{◌≡◌, ℕ, ◌<◌, Bool, true, false, List, [], ◌∷◌, ◌++◌, length, map, All, Some, Ok, slice_index_or}
 use Rattle.domain_run.specs.declared.call.Call.TheVariants.{Advance}
 use Rattle.domain_run.specs.declared.call.Reply.TheVariants as replies
 use Rattle.domain_run.specs.Log.{LogView, Tells}
 use Rattle.call_book.specs.declared.section.Entry.{Entry}
-use Rattle.call_book.specs.Book.{BookView, IsFull}
+use Rattle.run_figures.specs.Accounting.{AccountingView}
+use Rattle.heard_run.specs.Heard.{heard_of}
+use Rattle.call_book.specs.Book.{BookView, IsFull, state_of}
+use Rattle.call_book.specs.Ending.{EndingView}
+use Rattle.session.specs.declared.ending_run.Told.{Told}
+use Rattle.session.specs.declared.report.Wanted.{Wanted}
+use Rattle.session.specs.declared.report.Wanted.TheVariants.{Switches, Happened as WhatHappened, Figures}
 use Rattle.session.specs.Asks.{ClientView, Makes, made_by, pass_in}
 use Rattle.session.specs.RunEnd.{EndsWith, IsLogOf, told_at_end}
 
@@ -58,3 +64,36 @@ pub record IsFullAmong (duration : ℕ) (books : List BookView) (c c' : ClientVi
   pub full : (b : BookView) → IsFull (slice_index_or books domain b)
   pub number : c'.number ≡ c.number
   pub kept : pass_in c' domain ≡ pass_in c domain
+
+-- ---- books at their end
+
+abbrev pub unheard : BookView → EndingView
+unheard b = record { book = b; heard = false }
+
+abbrev pub books_of : List EndingView → List BookView
+books_of books = map (λ e. e.book) books
+
+-- all of them were heard, or none was
+abbrev pub AreAll : Bool → List EndingView → Type 0
+AreAll heard books =
+    (d : ℕ) (e : EndingView) → d < length books → (slice_index_or books d e).heard ≡ heard
+
+-- all that an accounting heard of the run of a book whose last so many ticks were heard
+abbrev pub IsHeardOf : ℕ → BookView → AccountingView → Type 0
+IsHeardOf ticks b a = a ≡ heard_of (state_of b) (told_at_end ticks b.cpus b.limit b.history)
+
+-- one for each of these books
+pub record AreHeardEnds (ticks : ℕ) (books : List BookView)
+    (heard : List AccountingView) : Type 0 where
+  pub count : length heard ≡ length books
+  pub each : (d : ℕ) (b : BookView) (x : AccountingView) → d < length books
+      → IsHeardOf ticks (slice_index_or books d b) (slice_index_or heard d x)
+
+-- what is told of them, by what is wanted
+abbrev pub AreToldAs : ℕ → Wanted → List EndingView → Told → Type 0
+AreToldAs ticks Switches books t =
+    AreAll false books × AreEndLogs false ticks (books_of books) t.logs.items
+AreToldAs ticks WhatHappened books t =
+    AreAll false books × AreEndLogs true ticks (books_of books) t.logs.items
+AreToldAs ticks Figures books t =
+    AreAll true books × AreHeardEnds ticks (books_of books) t.heard.items

@@ -5,5 +5,5 @@ use Rattle.session.proofs.closing_session.agree_all.Given as goal
 
 abbrev pub invariant-loop-k : goal.invariant-loop-k
 invariant-loop-k g l =
-    (l.domain ≡ l.fn.domain) × (l.clients.items ≡ l.fn.clients.items)
-    × ((j : ℕ) (x : ClientView) → j < l.k → pass_in (slice_index_or l.fn.clients.items j x) l.fn.place ≡ own_entries (slice_index_or l.fn.clients.items j x).number l.fn.domain.history)
+    (l.book ≡ l.fn.book) × (l.clients.items ≡ l.fn.clients.items)
+    × ((j : ℕ) (x : ClientView) → j < l.k → pass_in (slice_index_or l.fn.clients.items j x) l.fn.place ≡ own_entries (slice_index_or l.fn.clients.items j x).number l.fn.book.book.history)

@@ -1,15 +1,15 @@
 use Rattle.std.proofs.Common.{◌≡◌, ◌+◌, ◌*◌, ◌≤◌, ◌<◌, ℕ, length, slice_index_or, vec_capacity}
 use Rattle.std.specs.Vec.Iter.{into_iter_items, into_iter_len}
 use Rattle.bw_gate.specs.Pieces.{sum_of}
-use Rattle.call_book.specs.Book.{BookView}
+use Rattle.call_book.specs.Ending.{EndingView}
 use Rattle.session.specs.private.Closing.{AreHistories, AreSums, HaveEnded}
 use Rattle.session.proofs.closing_session.close_all.Given as goal
 
 -- so many books are closed; those that are left follow
-abbrev pub invariant-loop-domain : goal.invariant-loop-domain
-invariant-loop-domain g l = record {
+abbrev pub invariant-loop-book : goal.invariant-loop-book
+invariant-loop-book g l = record {
   clients : l.clients.items ≡ l.fn.clients.items;
-  left : (j : ℕ) (x : BookView) → j < into_iter_len l.rest → slice_index_or (into_iter_items l.rest) j x ≡ slice_index_or l.fn.books.items (length l.histories.items + j) x;
+  left : (j : ℕ) (x : EndingView) → j < into_iter_len l.rest → slice_index_or (into_iter_items l.rest) j x ≡ slice_index_or l.fn.books.items (length l.histories.items + j) x;
   count : length l.histories.items + into_iter_len l.rest ≡ length g.N.Names.id.cpu_sets;
   histories : AreHistories g.N.Names.id l.fn.clients.items l.histories.items;
   ended : HaveEnded l.fn.books.items l.histories.items l.states.items;
@@ -21,5 +21,5 @@ invariant-loop-domain g l = record {
   machines : length g.N.Names.id.cpu_sets ≤ vec_capacity l.states;
 }
 
-abbrev pub decreases-loop-domain : goal.decreases-loop-domain
-decreases-loop-domain g l = into_iter_len l.rest
+abbrev pub decreases-loop-book : goal.decreases-loop-book
+decreases-loop-book g l = into_iter_len l.rest

@@ -1,0 +1,45 @@
+use Rattle.std.proofs.Common.{◌≡◌, ◌∙◌, false, length, ap, arith}
+use Rattle.domain_run.specs.Tick.{ticks}
+use Rattle.call_book.specs.Ending.{EndingView}
+use Rattle.call_book.proofs.Growing.{has_room}
+use Rattle.call_book.proofs.Sifting.{sifted_holds, advance_answer}
+use Rattle.call_book.proofs.Ended.{book_unheard, heard_grows, swept_alike, given_alike, ending_of}
+use Rattle.call_book.proofs.book.domain.ending.EndingBook.advance_heard.Goals as goal
+
+-- nothing was heard before
+none_heard : (e : EndingView) (v : EndingView) → v ≡ e → e.heard ≡ false → v.heard ≡ false
+none_heard e v is none = ap (λ (x : EndingView). x.heard) is ∙ none
+
+pub sweep-requires-clause-listed : goal.sweep-requires-clause-listed
+sweep-requires-clause-listed c =
+    let own = c.self.inside in
+    let made = c.advance_heard-ticks in
+    let book = book_unheard _ own.heard own.state c.self.invariant (none_heard c.args.self.now _ c.self.view_is c.requires.unheard) in
+    sifted_holds own.state made.new.state own.stock.tickets book.held made.ensures.keys
+
+pub invariant_of-self-2 : goal.invariant_of-self-2
+invariant_of-self-2 c =
+    let own = c.self.inside in
+    let made = c.advance_heard-ticks in
+    let most = made.ensures.most in
+    let call = c.requires.call.1 in
+    let book = book_unheard _ own.heard own.state c.self.invariant (none_heard c.args.self.now _ c.self.view_is c.requires.unheard) in
+    ending_of _ (ticks made.result.ticks own.state) made.new.state
+    (heard_grows own.cpus own.limit own.workers.count own.left own.ledger c.enter.new.self own.stock c.sweep.new.self own.state made.new.state made.result.ticks c.args.pass.now book c.enter.ensures.ledger made.ensures.state made.ensures.keys c.sweep.ensures.stock (omega (arith, most, call)))
+    made.ensures.state
+
+pub returns-clause-done : goal.returns-clause-done
+returns-clause-done c =
+    let own = c.self.inside in
+    let made = c.advance_heard-ticks in
+    let next = ticks made.result.ticks own.state in
+    let most = made.ensures.most in
+    let call = c.requires.call.1 in
+    let some = c.if-ticks-eq0.false in
+    let free = has_room c.is_full.result (length own.ledger.history) own.ledger.room c.is_full.ensures.full c.if-is_full.false c.is_full.ensures.history.within in
+    let book = book_unheard _ own.heard own.state c.self.invariant (none_heard c.args.self.now _ c.self.view_is c.requires.unheard) in
+    let after = heard_grows own.cpus own.limit own.workers.count own.left own.ledger c.enter.new.self own.stock c.sweep.new.self own.state made.new.state made.result.ticks c.args.pass.now book c.enter.ensures.ledger made.ensures.state made.ensures.keys c.sweep.ensures.stock (omega (arith, most, call)) in
+    advance_answer c.args.self.now.book own.cpus own.limit own.workers.count own.left own.ledger c.enter.new.self own.stock c.sweep.new.self own.state next made.result.ticks c.args.n c.args.pass.now c.enter.new.pass
+    (ap (λ (e : EndingView). e.book) c.self.view_is) book after free (omega (arith, some)) most c.enter.ensures.ledger c.enter.ensures.pass
+    (swept_alike own.stock c.sweep.new.self next made.new.state made.ensures.state c.sweep.ensures.stock)
+    (given_alike own.stock c.sweep.new.self next made.new.state made.ensures.state c.sweep.ensures.given)

@@ -1,0 +1,11 @@
+-- What every book at its end keeps.
+use Rattle.std.specs.Prelude.{◌≡◌, Bool}
+use Rattle.domain_run.specs.Domain.{Domain}
+use Rattle.call_book.specs.Book.{BookView, state_of}
+use Rattle.call_book.specs.Ending.{left_of}
+use Rattle.call_book.specs.private.Kept.{IsBook}
+
+-- the book of the run of its history, of which this is left
+pub record IsEnding (b : BookView) (heard : Bool) (state : Domain) : Type 0 where
+  pub kept : IsBook b (state_of b)
+  pub left : state ≡ left_of heard (state_of b)

@@ -1,0 +1,208 @@
+//! A book at its end: no call is made on it any more, but one last advance that is heard.
+
+ghost use Rattle.std.specs.Prelude.{◌≡◌, ◌<◌, ◌≤◌, ◌+◌, [], length, map, true, false, All, IfOk, IfErr, OnErr};
+ghost use Rattle.bw_gate.specs.Pieces.{cpus_of};
+ghost use Rattle.domain_run.specs.declared.call.Call.TheVariants as Call;
+ghost use Rattle.domain_run.specs.declared.call.Reply.TheVariants as Reply;
+ghost use Rattle.domain_run.specs.Tick as tick;
+ghost use Rattle.domain_run.specs.Domain.{IsLimit};
+ghost use Rattle.heard_run.specs.Heard.{heard_of, heard_after};
+
+use super::{AdvanceError, Closed, Domain};
+use crate::book::Pass;
+use crate::book::ledger::Ledger;
+use crate::book::stock::Stock;
+use bw_gate::Gate;
+use domain_run::{Call, NoMemory, Reply, State};
+use heard_run::{Accounting, advance_heard, open_heard};
+use std::alloc::Global;
+use std::marker::Model;
+
+/// The book of a domain at its end: no call is made on it any more, but one last advance whose run
+/// is heard. Like a [`Domain`] it is neither cloned nor dropped, but closed, since it holds tickets.
+/// Contracts see the book, and whether its run was heard: the switches are forgotten then.
+pub struct EndingBook {
+    cpus: u32,
+    limit: u64,
+    state: State,
+    ledger: Ledger,
+    stock: Stock,
+    workers: super::Workers,
+    left: Option<u64>,
+    // No contract sees it: it changes no answer.
+    alloc: Global,
+    heard: bool,
+}
+
+impl Model for EndingBook {
+    ghost use Rattle.call_book.specs.Ending.{EndingView};
+    ghost use Rattle.call_book.specs.private.Ended.{IsEnding};
+    ghost use Rattle.call_book.specs.private.Kept.{book_of};
+
+    ghost Value = { EndingView };
+
+    ghost view = { λ b. record {
+      book = book_of b.cpus b.limit b.workers.count b.left b.ledger b.stock;
+      heard = b.heard;
+    } };
+
+    ghost invariant = { λ b. IsEnding (book_of b.cpus b.limit b.workers.count b.left b.ledger b.stock)
+        b.heard b.state };
+}
+
+/// What an advance gives that was heard.
+#[derive(Drop)]
+pub struct HeardAdvance {
+    /// How many ticks were made, and entered.
+    pub ticks: u64,
+    /// What was heard: all switches of the run, and what happened in this advance.
+    pub accounting: Accounting,
+}
+
+impl Domain {
+    /// No call is made any more. Takes no memory.
+    pub fn end(self) -> EndingBook
+        ensures { result ≡ record { book = self; heard = false } }
+    {
+        let Domain {
+            cpus,
+            limit,
+            state,
+            ledger,
+            stock,
+            workers,
+            left,
+            alloc,
+        } = self;
+        EndingBook {
+            cpus,
+            limit,
+            state,
+            ledger,
+            stock,
+            workers,
+            left,
+            alloc,
+            heard: false,
+        }
+    }
+}
+
+impl EndingBook {
+    ghost use Rattle.call_book.specs.Limits.{IsCall};
+    ghost use Rattle.bw_gate.specs.Pieces.{sum_of};
+    ghost use Rattle.call_book.specs.Pieces.{IsTicketOf, HoldsTickets};
+    ghost use Rattle.call_book.specs.Book.{own_entries, state_of, HasItsLimit, IsBookHistory, IsPassOf};
+    ghost use Rattle.call_book.specs.BookAnswers.{IsAdvanced, IsNotAdvanced};
+    ghost use Rattle.call_book.specs.Ending.{state_left};
+
+    /// Hears the switches of the run, which are forgotten then. Nothing is entered.
+    ///
+    /// # Errors
+    /// 12 [`NoMemory`]: a growth was refused; nothing has changed.
+    pub fn hear(&mut self) -> Result<Accounting, NoMemory>
+        requires { self.old.heard ≡ false }
+        ensures ok { IfOk result (λ _. self.new ≡ record self.old { heard = true }) }
+        ensures all { IfOk result (λ a. a ≡ heard_of (state_of self.old.book) []) }
+        ensures err { OnErr result (self.new ≡ self.old) }
+    {
+        // For the prover alone: a look at the state brings what every domain keeps.
+        let _ = self.state.now();
+        let mut accounting = open_heard(self.alloc, &self.state, 0)?;
+        advance_heard(self.alloc, &mut self.state, 0, &mut accounting);
+        self.heard = true;
+        Ok(accounting)
+    }
+
+    /// Makes up to `n` ticks, 1 to 60000000, as [`Domain::advance`] does, by one worker; enters how
+    /// many were made, fewer only where a growth was refused; and gives back the tickets of tasks
+    /// that went off the list. An accounting hears all switches of the run, and what happens in
+    /// these ticks, piece by piece; the book keeps neither.
+    ///
+    /// # Errors
+    /// [`AdvanceError::Full`] and [`AdvanceError::Memory`]: no tick was made, and nothing is
+    /// entered. Where memory was refused, the switches may be forgotten.
+    pub fn advance_heard(
+        &mut self,
+        pass: &mut Pass,
+        gate: &Gate,
+        n: u64,
+    ) -> Result<HeardAdvance, AdvanceError>
+        requires unheard { self.old.heard ≡ false }
+        requires pass { IsPassOf self.old.book pass.old }
+        requires gate { gate.now ≡ self.old.book.gate }
+        requires call { IsCall (Call.Advance n) }
+        ensures done { IfOk result (λ r. IsAdvanced self.old.book self.new.book pass.old pass.new n
+            (Reply.Done r.ticks)) }
+        ensures heard { IfOk result (λ r. r.accounting
+            ≡ heard_after n r.ticks (state_of self.old.book)) }
+        ensures forgotten { IfOk result (λ _. self.new.heard ≡ true) }
+        ensures stopped { IfErr result (IsNotAdvanced self.old.book self.new.book pass.old pass.new) }
+    {
+        if self.ledger.is_full() {
+            return Err(AdvanceError::Full);
+        }
+        let Ok(mut accounting) = open_heard(self.alloc, &self.state, n) else {
+            return Err(AdvanceError::Memory);
+        };
+        let ticks = advance_heard(self.alloc, &mut self.state, n, &mut accounting).ticks;
+        self.heard = true;
+        if ticks == 0 {
+            return Err(AdvanceError::Memory);
+        }
+        self.stock.sweep(gate, &self.state);
+        self.ledger
+            .enter(pass, Call::Advance { ticks }, Reply::Done { ticks });
+        Ok(HeardAdvance { ticks, accounting })
+    }
+
+    /// Compares a pass with the book, which changes neither: the pass's list is exactly its
+    /// client's entries.
+    pub fn agree(&mut self, pass: &mut Pass)
+        requires { pass.old.spine ≡ self.old.book.spine }
+        ensures book { self.new ≡ self.old }
+        ensures pass { pass.new ≡ pass.old }
+        ensures own { pass.new.entries ≡ own_entries pass.new.client self.new.book.history }
+    {
+        self.ledger.agree(pass);
+    }
+
+    /// As [`Domain::close`]; the state is without its switches where its run was heard.
+    pub fn close(self, passes: Vec<Pass>) -> Closed
+        requires { All (λ p. p.spine ≡ self.book.spine) passes.items }
+        ensures state { result.state ≡ state_left self }
+        ensures machine { (result.state.cpus ≡ self.book.cpus) × IsLimit result.state.limit }
+        ensures limited { HasItsLimit self.book }
+        ensures cpus { cpus_of self.book.gate self.book.domain ≡ self.book.cpus }
+        ensures entries { result.entries.items ≡ self.book.history }
+        ensures tickets { result.tickets.items ≡ map (λ h. h.ticket) self.book.tickets }
+        ensures blanks { result.blanks.items ≡ self.book.blanks }
+        ensures history { IsBookHistory self.book }
+        ensures own { All (λ p. p.entries ≡ own_entries p.client self.book.history) passes.items }
+        ensures held { HoldsTickets result.state self.book.tickets }
+        ensures sums { sum_of self.book.domain result.tickets.items ≡ tick.sum_of result.state.tasks }
+        ensures homes { All (IsTicketOf self.book.gate self.book.domain) result.tickets.items }
+        ensures spare { All (λ b. b.gate ≡ self.book.gate) result.blanks.items }
+        ensures few { length result.tickets.items + length result.blanks.items ≤ 256 }
+    {
+        let EndingBook {
+            cpus: _,
+            limit: _,
+            state,
+            mut ledger,
+            stock,
+            workers: _,
+            left: _,
+            alloc: _,
+            heard: _,
+        } = self;
+        ledger.agree_all(passes);
+        let (tickets, blanks) = stock.into_pieces();
+        Closed {
+            state,
+            entries: ledger.into_entries(),
+            tickets,
+            blanks,
+        }
+    }
+}

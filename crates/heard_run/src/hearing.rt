@@ -1,0 +1,101 @@
+//! An advance, heard piece by piece.
+
+ghost use Rattle.std.specs.Prelude.{◌≡◌, ◌≤◌, ◌+◌, ◌^◌, [], map, true, IfOk};
+ghost use Rattle.domain_run.specs.Tick.{ticks as ticks_of};
+ghost use Rattle.domain_run.specs.Keys.{AreKept};
+ghost use Rattle.domain_run.specs.Passing.{without_switches};
+ghost use Rattle.run_figures.specs.Accounting.{IsNextPiece, with_piece};
+ghost use Rattle.run_figures.specs.Runs.{AreTasks};
+ghost use Rattle.heard_run.specs.Heard.{unheard, heard_after};
+
+use domain_run::{Log, NoMemory, State};
+use jump_run::{Done, advance_piece};
+use run_figures::{Accounting, Admitted};
+use std::alloc::Global;
+
+/// So many switches, or so much that happened, end a piece: each is 32 bytes, so a piece holds some
+/// 256 kB, and one more event.
+const ENOUGH: usize = 4096;
+
+/// A task by its number. An accounting hears of its parameters only at its end.
+fn by_number(number: u32) -> Admitted
+    ensures { result ≡ record { number = number; runtime = 0; period = 0 } }
+{
+    Admitted {
+        number,
+        runtime: 0,
+        period: 0,
+    }
+}
+
+/// The tasks that were ever admitted, by number.
+fn tasks_of(alloc: Global, state: &State) -> Result<Vec<Admitted>, NoMemory>
+    ensures tasks { IfOk result (λ v. map (λ t. t.number) v.items ≡ state.now.used) }
+    ensures apart { IfOk result (λ v. AreTasks v.items) }
+{
+    let numbers = state.numbers(alloc)?;
+    let mut tasks = Vec::with_capacity(alloc, numbers.len())?;
+    for number in &numbers {
+        tasks.push_reserved(by_number(*number));
+    }
+    Ok(tasks)
+}
+
+/// An accounting of the run of a domain that is to end `n` ticks from now, which has heard nothing
+/// yet: of all tasks that were ever admitted. Time stays within 2^42 us.
+///
+/// # Errors
+/// 12 [`NoMemory`]: a growth was refused; nothing is left.
+pub fn open_heard(alloc: Global, state: &State, n: u64) -> Result<Accounting, NoMemory>
+    requires { state.now.time + n ≤ 2 ^ 42 }
+    ensures { IfOk result (λ a. a ≡ unheard n state.now) }
+{
+    let tasks = tasks_of(alloc, state)?;
+    Accounting::open(alloc, state.cpus(), state.now() + n, &tasks)
+}
+
+/// The accounting hears what the log was told and the switches of the state, which both forget it.
+fn hear(state: &mut State, log: &mut Log, accounting: &mut Accounting)
+    requires next { IsNextPiece accounting.old log.old.happened state.old.switches }
+    ensures heard { accounting.new ≡ with_piece accounting.old log.old.happened state.old.switches }
+    ensures state { state.new ≡ without_switches state.old }
+    ensures wanted { log.new.wanted ≡ log.old.wanted }
+    ensures empty { log.new.happened ≡ [] }
+{
+    accounting.hear(log.happened(), state.switches());
+    log.clear();
+    state.forget_switches();
+}
+
+/// Goes on by so many ticks, as [`advance_told`](jump_run::advance_told) does with a log of its own,
+/// while the accounting hears the run: first the switches so far, and then, piece by piece, what
+/// happens in these ticks and the switches that they make. State and log forget what was heard, so
+/// they hold a bounded number of both, however much happens. At the end the state is that of so many
+/// ticks, without its switches. Room for an event is made before it; where it is refused, the ticks
+/// made so far stand and are heard, and only then are they fewer than asked. Time stays within 2^42
+/// us. Tasks that have left may go off the list; nobody comes, and the others keep number, bandwidth
+/// and order.
+pub fn advance_heard(alloc: Global, state: &mut State, n: u64, accounting: &mut Accounting) -> Done
+    requires early { state.old.time + n ≤ 2 ^ 42 }
+    requires new { accounting.old ≡ unheard n state.old }
+    ensures state { state.new ≡ without_switches (ticks_of result.ticks state.old) }
+    ensures most { result.ticks ≤ n }
+    ensures keys { AreKept state.old.tasks state.new.tasks }
+    ensures heard { accounting.new ≡ heard_after n result.ticks state.old }
+{
+    let mut log = Log::open(alloc);
+    // For the prover alone, here and below: a look at a state brings what every domain keeps.
+    let _ = state.now();
+    hear(state, &mut log, accounting);
+    let mut ticks = 0;
+    'pieces: while ticks < n {
+        let made = advance_piece(state, n - ticks, ENOUGH, &mut log).ticks;
+        if made == 0 {
+            break;
+        }
+        let _ = state.now();
+        hear(state, &mut log, accounting);
+        ticks += made;
+    }
+    Done { ticks }
+}

@@ -1,0 +1,16 @@
+//! An advance of a domain that is heard while it is made.
+//!
+//! An advance leaves the switches in the state and what happens in a log, until somebody asks for
+//! them. Where only the figures of a run are wanted, [`advance_heard`] goes on piece by piece: an
+//! [`Accounting`] hears each piece, and state and log forget it. So it needs as much memory for a
+//! long run as for a short one. Meets the definition "An advance that is heard"
+//! (`specs/Heard.antt`). To the crates above it promises that the accounting heard exactly what the
+//! whole run has, and that the state is that of the run, but for its switches.
+#![tactic(auto)]
+
+mod hearing;
+
+pub use domain_run::NoMemory;
+pub use hearing::{advance_heard, open_heard};
+pub use jump_run::Done;
+pub use run_figures::Accounting;

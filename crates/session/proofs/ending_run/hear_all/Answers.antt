@@ -1,0 +1,54 @@
+use Rattle.std.proofs.Common.{◌≡◌, ◌≤◌, ◌<◌, ◌+◌, ◌∙◌, List, get_or, length, map, set, sym, refl, ap, subst, arith}
+use Rattle.std.proofs.lemmas.List.{get_or-map, length-map, length-set, length_push, map-set}
+use Rattle.std.proofs.lemmas.Result.{err_from_is_err_and}
+use Rattle.run_figures.specs.Accounting.{AccountingView}
+use Rattle.call_book.specs.Book.{BookView, IsFull}
+use Rattle.call_book.specs.Ending.{EndingView}
+use Rattle.session.specs.private.Ending.{IsFullAmong, books_of}
+use Rattle.session.specs.private.Entering.{IsSessionBook}
+use Rattle.session.specs.private.Parts.{AreSessionBooks}
+use Rattle.session.proofs.Advanced.{FirstEnd, FirstHeard, makes_everywhere, makes_more, named_set, ends_by, ends_more, first_more, rest_less, heard_more, stopped_so, full_among}
+use Rattle.session.proofs.ending_run.hear_all.Goals as goal
+
+-- the book of a place
+book : EndingView → BookView
+book e = e.book
+
+-- with another book at a place
+put : (books : List EndingView) (n : _) (e : EndingView) → set (books_of books) n e.book ≡ books_of (set books n e)
+put books n e = sym (map-set (λ (x : EndingView). x.book) books n e)
+
+pub loop-place-preserved : goal.loop-place-preserved
+loop-place-preserved g c =
+    let id = g.N.Names.id in
+    let inv = c.loop-place.invariant in
+    let told = c.hear_book-accounting.ensures in
+    let done = c.in_ok-accounting.ensures in
+    let books = c.loop-place.books.items in
+    let n = c.loop-place.place in
+    let b = c.hear_book-accounting.new.book in
+    let inside : n < length books = omega (arith, c.loop-place-test.true, inv.count, c.len-place-end.ensures, c.args.books.now.ok.0) in
+    let there : n < length (books_of books) = omega (arith, inside, length-map books (λ (x : EndingView). x.book)) in
+    let first : c.loop-place.client.number ≡ 1 = inv.made.number ∙ c.requires.first in
+    let heard = c.push_reserved.ensures.items in
+    record {
+      named = subst (AreSessionBooks id) (put books n b) (named_set id (books_of books) n b.book there inv.named told.named);
+      count = length-set books n b ∙ inv.count;
+      domains = λ some. sym inv.made.domains ∙ told.domains;
+      made = makes_more n (n + 1) c.args.duration c.args.client.now c.loop-place.client c.hear_book-accounting.new.self refl inv.made done.made;
+      ends = subst (FirstEnd (n + 1) c.args.duration) (put books n b) (ends_more n (n + 1) c.args.duration (books_of books) b.book there refl inv.ends (ends_by c.args.duration c.loop-place.client.number b.book.history first done.ends));
+      first = first_more true n (n + 1) books b inside refl inv.first done.forgotten;
+      rest = rest_less false n (n + 1) books b refl inv.rest;
+      many = ap (λ (hs : List AccountingView). length hs) heard ∙ length_push c.loop-place.heard.items c.in_ok-accounting.accounting ∙ ap (λ (k : _). k + 1) inv.many;
+      heard = subst (λ (hs : List AccountingView). FirstHeard (n + 1) c.args.duration (books_of (set books n b)) hs) (sym heard)
+          (subst (λ (bs : List BookView). FirstHeard (n + 1) c.args.duration bs _) (put books n b)
+          (heard_more n (n + 1) c.args.duration (books_of books) b.book c.loop-place.heard.items c.in_ok-accounting.accounting there inv.many refl inv.heard done.heard));
+      room = omega (arith, inv.room, c.push_reserved.ensures.capacity);
+    }
+
+pub returns-clause-made : goal.returns-clause-made
+returns-clause-made g c =
+    let inv = c.loop-place.invariant in
+    let all : length g.N.Names.id.cpu_sets ≤ c.loop-place.place = omega (arith, c.requires.count, c.loop-place-test.false, c.len-place-end.ensures, c.args.books.now.ok.0) in
+    let count = inv.domains (omega (arith, all, c.requires.domains)) in
+    makes_everywhere c.args.duration c.loop-place.place c.args.client.now c.loop-place.client c.requires.some (omega (arith, count, all)) inv.made
