@@ -1,2 +1,4 @@
 pub mod Sides
 pub mod Faults
+pub mod Calls
+pub mod private

@@ -1,10 +1,15 @@
 -- A reader or a writer as calls meet it: what of it is known, and how many of its calls failed.
 use Rattle.std.specs.Prelude.{ℕ, ◌≡◌, ◌+◌, List, Option}
+use Rattle.counted_io.specs.declared.call.Call.{Call}
 use Rattle.counted_io.specs.declared.counted.Counted.{Counted}
 
 -- the reader or writer itself
 abbrev pub inner_of : {T : Type 0} → Counted T → T
-inner_of c = c.inner
+inner_of c = c.port.inner
+
+-- its calls so far, and what each answered
+abbrev pub calls_of : {T : Type 0} → Counted T → List Call
+calls_of c = c.port.calls
 
 -- how many of its calls failed so far
 abbrev pub faults_of : {T : Type 0} → Counted T → ℕ

@@ -1,11 +1,14 @@
 //! Readers and writers whose faults are counted.
 
-ghost use Rattle.std.specs.Prelude.{◌≡◌, ◌<◌, ◌≤◌, ◌^◌, length, take, is_some, is_ok, IfSome, IfNone, IfOk, IfErr, OnOk, OnErr};
+ghost use Rattle.std.specs.Prelude.{◌≡◌, ◌<◌, ◌≤◌, ◌^◌, ◌++◌, ◌∷◌, [], ℕ, List, Option, length, take, is_some, is_ok, IfSome, IfNone, IfOk, IfErr, OnOk, OnErr};
 ghost use Rattle.std.specs.Io.KnownBytes.{Appends, Consumes, IsAtEnd, Keeps};
-ghost use Rattle.counted_io.specs.Sides.{inner_of, faults_of};
+ghost use Rattle.counted_io.specs.declared.call.Call.{Call};
+ghost use Rattle.counted_io.specs.Sides.{inner_of, calls_of, faults_of};
+ghost use Rattle.counted_io.specs.Calls.{IsTakenBy, IsReading, IsWrittenBy};
 ghost use Rattle.counted_io.specs.Faults.{one_more_unless, faults_after, ConsumesSome, TakesFront};
 
 use crate::fault::ReadFault;
+use crate::port::Port;
 use std::alloc::Global;
 use std::io::{Read, Write};
 
@@ -21,7 +24,7 @@ const READS: u64 = 1 << 32;
 /// they claim nothing.
 #[derive(Drop)]
 pub struct Counted<T> {
-    inner: T,
+    port: Port<T>,
     faults: u64,
 }
 
@@ -29,9 +32,13 @@ impl<T> Counted<T> {
     /// A reader or writer of which no call has failed yet. Takes no memory.
     pub fn new(inner: T) -> Counted<T>
         ensures inner { inner_of result ≡ inner }
+        ensures calls { calls_of result ≡ [] }
         ensures faults { faults_of result ≡ 0 }
     {
-        Counted { inner, faults: 0 }
+        Counted {
+            port: Port::new(inner),
+            faults: 0,
+        }
     }
 
     /// How many calls failed so far: reads and writes that answered an error, writes that took 0
@@ -46,7 +53,7 @@ impl<T> Counted<T> {
     pub fn into_inner(self) -> T
         ensures { result ≡ inner_of self }
     {
-        self.inner
+        self.port.into_inner()
     }
 }
 
@@ -65,14 +72,14 @@ impl<R: Read> Counted<R> {
         ensures kept { IfNone result
             (Keeps (R.remaining (inner_of self.old)) (R.remaining (inner_of self.new))) }
         ensures faults { faults_of self.new ≡ one_more_unless (is_some result) (faults_of self.old) }
+        ensures asked { calls_of self.new
+            ≡ calls_of self.old ++ record { most = length buf.new; answer = result } ∷ [] }
     {
-        match self.inner.read(buf) {
-            Ok(n) => Some(n),
-            Err(_) => {
-                self.faults += 1;
-                None
-            }
+        let answer = self.port.read(buf);
+        if answer.is_none() {
+            self.faults += 1;
         }
+        answer
     }
 
     /// Reads to the end: all bytes that were left.
@@ -88,9 +95,9 @@ impl<R: Read> Counted<R> {
         ensures err { OnErr result
             (ConsumesSome (R.remaining (inner_of self.old)) (R.remaining (inner_of self.new))) }
         ensures faults { faults_of self.new ≡ faults_after (faults_of self.old) result }
+        ensures asked { (calls : List Call)
+            × (calls_of self.new ≡ calls_of self.old ++ calls) × IsReading calls result }
     {
-        // A smaller number would call a long input a fault.
-        prove!(READS == 1 << 32);
         let mut bytes = Vec::new(alloc);
         let mut piece = [0u8; 16384];
         for _ in 0..READS {
@@ -122,13 +129,17 @@ impl<W: Write> Counted<W> {
         ensures kept { IfNone result
             (Keeps (W.contents (inner_of self.old)) (W.contents (inner_of self.new))) }
         ensures faults { faults_of self.new ≡ one_more_unless (is_some result) (faults_of self.old) }
+        ensures asked { (answer : Option ℕ)
+            × (calls_of self.new
+            ≡ calls_of self.old ++ record { most = length bytes.now; answer = answer } ∷ [])
+            × IsTakenBy answer result }
     {
-        match self.inner.write(bytes) {
-            Ok(0) | Err(_) => {
+        match self.port.write(bytes) {
+            None | Some(0) => {
                 self.faults += 1;
                 None
             }
-            Ok(n) => Some(n),
+            Some(n) => Some(n),
         }
     }
 
@@ -147,6 +158,9 @@ impl<W: Write> Counted<W> {
             (W.contents (inner_of self.new)) bytes.now) }
         ensures empty { length bytes.now ≡ 0 → self.new ≡ self.old }
         ensures faults { faults_of self.new ≡ one_more_unless (is_ok result) (faults_of self.old) }
+        ensures asked { (calls : List Call)
+            × (calls_of self.new ≡ calls_of self.old ++ calls)
+            × IsWrittenBy (length bytes.now) calls result }
     {
         let mut at = 0;
         while at < bytes.len() {

@@ -7,8 +7,11 @@
 //! were taken.
 #![tactic(auto)]
 
+mod call;
 mod counted;
 mod fault;
+mod past;
+mod port;
 
 pub use counted::Counted;
 pub use fault::ReadFault;

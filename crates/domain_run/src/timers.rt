@@ -1,7 +1,7 @@
 //! When something is next to be done to each listed task before the choice. So a tick looks only at
 //! the tasks that are due.
 
-ghost use Rattle.std.specs.Prelude.{◌≡◌, ◌<◌, ◌≤◌, ◌-◌, ◌+◌, ◌*◌, ◌^◌, ◌∷◌, ◌++◌, [], length, min, false, replicate, slice_set, IfOk};
+ghost use Rattle.std.specs.Prelude.{◌≡◌, ◌<◌, ◌≤◌, ◌-◌, ◌+◌, ◌*◌, ◌^◌, ◌∷◌, ◌++◌, [], length, min, false, replicate, slice_index_or, slice_set, IfOk};
 ghost use Rattle.domain_run.specs.private.Timers as spec;
 
 pub(crate) use crate::tournament::NEVER;
@@ -47,6 +47,7 @@ impl Timers {
         ensures from { from ≤ result }
         ensures most { result ≤ length self.now }
         ensures others { spec.AreLater self.now time from result }
+        ensures due { result < length self.now → slice_index_or self.now result 0 ≤ time }
     {
         let count = self.count;
         let mut place = from;

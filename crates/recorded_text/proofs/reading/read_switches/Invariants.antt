@@ -2,11 +2,12 @@ use Rattle.std.proofs.Common.{◌≡◌, ◌*◌, ◌≤◌, map, length}
 use Rattle.recorded_text.specs.Names.{Grows}
 use Rattle.recorded_text.specs.Steps.{step_view, AreNamed}
 use Rattle.recorded_text.specs.private.SoFar.{Lacks, AreDone, BringsOn}
+use Rattle.counted_io.specs.Sides.{inner_of}
 use Rattle.recorded_text.proofs.reading.read_switches.Given as goal
 
 abbrev pub invariant-loop : goal.invariant-loop
 invariant-loop g l = record {
-  done : AreDone (g.R.Read.remaining l.initial.reader.inner) (g.R.Read.remaining l.reader.inner) l.rest.items l.lines (map (step_view l.names) l.steps.items);
+  done : AreDone (g.R.Read.remaining (inner_of l.initial.reader)) (g.R.Read.remaining (inner_of l.reader)) l.rest.items l.lines (map (step_view l.names) l.steps.items);
   called : BringsOn l.initial.names l.names (map (step_view l.names) l.steps.items);
   lacks : Lacks 10 l.rest.items;
   named : AreNamed l.names l.steps.items;

@@ -8,11 +8,12 @@ use Rattle.switch_text.specs.private.EventMerging.{left_events, after_next, line
 use Rattle.switch_text.proofs.Kept.{nobody_is_slot}
 use Rattle.switch_text.proofs.UnderWay.{sent_within, Sends-more, length_from_append}
 use Rattle.switch_text.proofs.EventsUnderWay.{AreUnderWay, AreUnderWay-start, AreUnderWay-next, AreUnderWay-stop, AreUnderWay-end, counts_fit, left_events-start, few_events}
+use Rattle.counted_io.specs.Sides.{inner_of}
 use Rattle.switch_text.proofs.events.write_with.Goals as goal
 
 pub loop-next-init : goal.loop-next-init
 loop-next-init g c =
-    let before = g.W.Write.contents c.args.writer.now.inner in
+    let before = g.W.Write.contents (inner_of c.args.writer.now) in
     let runs = c.args.runs.now in
     let told = c.args.told.now in
     let total = length (all_events (views runs) (told_views told)) in
@@ -42,9 +43,9 @@ loop-next-preserved g c =
     let text = events_of (views runs) (told_views told) in
     let total = length (all_events (views runs) (told_views told)) in
     let line = line_of_next c.in-Some.next in
-    let before = g.W.Write.contents c.args.writer.now.inner in
-    let mid = g.W.Write.contents c.loop-next.writer.inner in
-    let after = g.W.Write.contents c.make_room.new.writer.inner in
+    let before = g.W.Write.contents (inner_of c.args.writer.now) in
+    let mid = g.W.Write.contents (inner_of c.loop-next.writer) in
+    let after = g.W.Write.contents (inner_of c.make_room.new.writer) in
     let left = c.make_room.new.self in
     let behind = left_events runs told (after_next c.loop-next.places c.in-Some.next) in
     let sends = Sends-more mid after c.loop-next.batch left line c.in-Ok.n c.in-Ok.ensures.ok in
@@ -73,7 +74,7 @@ returns-in-Err-clause-err g c =
     let runs = c.args.runs.now in
     let told = c.args.told.now in
     let text = events_of (views runs) (told_views told) in
-    subst (λ n. TakesFront (g.W.Write.contents c.args.writer.now.inner) (g.W.Write.contents c.make_room.new.writer.inner) text n) (sym c.stopped_after.ensures)
+    subst (λ n. TakesFront (g.W.Write.contents (inner_of c.args.writer.now)) (g.W.Write.contents (inner_of c.make_room.new.writer)) text n) (sym c.stopped_after.ensures)
     (AreUnderWay-stop _ _ _ text (length (all_events (views runs) (told_views told))) (left_events runs told c.loop-next.places) c.loop-next.written c.in-Err.n c.loop-next.batch c.loop-next.invariant.under_way c.in-Err.ensures.err)
 
 pub stopped_after-requires-in-Err-flush : goal.stopped_after-requires-in-Err-flush
@@ -96,5 +97,5 @@ returns-in-Err-flush-clause-err g c =
     let runs = c.args.runs.now in
     let told = c.args.told.now in
     let text = events_of (views runs) (told_views told) in
-    subst (λ n. TakesFront (g.W.Write.contents c.args.writer.now.inner) (g.W.Write.contents c.flush.new.writer.inner) text n) (sym c.stopped_after-in-Err-flush.ensures)
+    subst (λ n. TakesFront (g.W.Write.contents (inner_of c.args.writer.now)) (g.W.Write.contents (inner_of c.flush.new.writer)) text n) (sym c.stopped_after-in-Err-flush.ensures)
     (AreUnderWay-stop _ _ _ text (length (all_events (views runs) (told_views told))) (left_events runs told c.loop-next.places) c.loop-next.written c.in-Err-flush.n c.loop-next.batch c.loop-next.invariant.under_way c.in-Err-flush.ensures.err)

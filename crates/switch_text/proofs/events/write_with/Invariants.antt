@@ -5,12 +5,13 @@ use Rattle.switch_text.specs.Telling.{told_views}
 use Rattle.switch_text.specs.private.EventMerging.{left_events, count_events}
 use Rattle.switch_text.specs.private.Ready.{IsSlot, IsTexts}
 use Rattle.switch_text.proofs.EventsUnderWay.{AreUnderWay}
+use Rattle.counted_io.specs.Sides.{inner_of}
 use Rattle.switch_text.proofs.events.write_with.Given as goal
 
 abbrev pub invariant-loop-next : goal.invariant-loop-next
 invariant-loop-next g l = record {
   under_way :
-      AreUnderWay (g.W.Write.contents l.fn.writer.inner) (g.W.Write.contents l.writer.inner) (events_of (views l.runs) (told_views l.told)) (length (all_events (views l.runs) (told_views l.told)))
+      AreUnderWay (g.W.Write.contents (inner_of l.fn.writer)) (g.W.Write.contents (inner_of l.writer)) (events_of (views l.runs) (told_views l.told)) (length (all_events (views l.runs) (told_views l.told)))
       (left_events l.runs l.told l.places) l.written l.batch;
   many : length l.slots ≡ 640;
   slots : All (IsSlot l.runs) l.slots;

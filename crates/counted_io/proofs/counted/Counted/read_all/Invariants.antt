@@ -1,9 +1,12 @@
-use Rattle.std.proofs.Common.{◌≡◌}
+use Rattle.std.proofs.Common.{◌≡◌, ◌≤◌, ◌^◌}
 use Rattle.std.specs.Io.KnownBytes.{Consumes}
+use Rattle.counted_io.proofs.Asked.{AreReads}
 use Rattle.counted_io.proofs.counted.Counted.read_all.Given as goal
 
 abbrev pub invariant-loop : goal.invariant-loop
 invariant-loop g l = record {
-  gone : Consumes (g.R.Read.remaining l.initial.self.inner) (g.R.Read.remaining l.self.inner) l.bytes.items;
+  gone : Consumes (g.R.Read.remaining l.initial.self.port.inner) (g.R.Read.remaining l.self.port.inner) l.bytes.items;
   faults : l.self.faults ≡ l.initial.self.faults;
+  asked : AreReads l.initial.self.port.calls l.self.port.calls l.counter;
+  few : l.counter ≤ 2 ^ 32;
 }
