@@ -94,7 +94,7 @@ struct Turns {
 
 const NOBODY: usize = usize::MAX;
 
-fn turns(rt: HostRuntime, first: usize) -> Turns {
+fn no_turns(rt: HostRuntime, first: usize) -> Turns {
     Turns {
         rt,
         first,
@@ -203,7 +203,7 @@ fn turns_of_one_piece(rt: HostRuntime) -> Result<(), Fail> {
     for (calls, workers, advances) in ROWS {
         let mut state = opened(rt.alloc(), calls)?;
         for (ticks, order) in advances {
-            let of = turns(rt, NOBODY);
+            let of = no_turns(rt, NOBODY);
             let of = turns_of(&rt, rt.alloc(), &mut state, *ticks, workers, of);
             assert_eq!(rt; of.order.load(Ordering::SeqCst), *order);
         }
@@ -243,7 +243,7 @@ const STEPS: [Step; 11] = [
 fn pieces_of_each_step(rt: HostRuntime) -> Result<(), Fail> {
     for (calls, workers, first, twos, elsewhere) in STEPS {
         let mut state = opened(rt.alloc(), calls)?;
-        let of = turns(rt, first);
+        let of = no_turns(rt, first);
         let of = turns_of(&rt, rt.alloc(), &mut state, 4, workers, of);
         let (begun, ended) = (of.begun.load(Ordering::SeqCst), of.ended.load(Ordering::SeqCst));
         let others = of.elsewhere.load(Ordering::SeqCst);

@@ -62,10 +62,18 @@ fn arrive(here: &AtomicUsize, many: usize) {
     }
 }
 
-/// A client's text, in which its number stands for each `#`.
-fn text_of(alloc: Global, text: &str, client: u32) -> Option<String> {
-    let number = format!(in alloc; "{client}").ok()?;
-    text.replace(alloc, '#', number.as_str()).ok()
+/// A client's text, in which two digits of its own stand for each `#`.
+fn text_of(alloc: Global, text: &str, client: u32) -> Vec<u8> {
+    let mut bytes = Vec::new(alloc);
+    for byte in text.as_bytes() {
+        if *byte == b'#' {
+            let _ = bytes.push(b"123456789"[(client / 10 % 9) as usize]);
+            let _ = bytes.push(b"0123456789"[(client % 10) as usize]);
+        } else {
+            let _ = bytes.push(*byte);
+        }
+    }
+    bytes
 }
 
 /// The calls of a text.
@@ -158,9 +166,7 @@ fn calls_of<N: Names>(alloc: Global, crowd: &Crowd<N>, client: u32) -> Vec<Entry
     ensures { All IsEntry result.items }
 {
     let text = crowd.texts.get((client as usize).wrapping_sub(1));
-    let text = text_of(alloc, text.unwrap_or(&""), client);
-    let text = text.unwrap_or(String::new(alloc));
-    match entries_of(alloc, text.as_bytes()) {
+    match entries_of(alloc, text_of(alloc, text.unwrap_or(&""), client).as_slice()) {
         Some(entries) => entries,
         None => Vec::new(alloc),
     }
@@ -236,12 +242,43 @@ fn played<N: Names + Send + Sync, R: Threads + Wait + Sync>(
     (said, clients)
 }
 
-/// What the clients of a session of these parts were answered, and what it left.
-pub(crate) fn all_in<R: Threads + Wait + Sync>(
+fn all_in<R: Threads + Wait + Sync>(
     rt: &R,
     alloc: Global,
     parts: Parts,
     texts: &[&str],
 ) -> Result<(String, Report), NoMemory> {
     all::<Brand, R>(rt, alloc, parts, texts)
+}
+
+/// The cap of which a history tells: of the last limit that was set, or else of the first one.
+fn cap_of(history: &Section) -> u64 {
+    let mut limit = history.limit;
+    for entry in &history.entries {
+        if let (Call::Limit { limit: wanted, .. }, Some(Reply::Set)) = (&entry.call, &entry.reply) {
+            limit = *wanted;
+        }
+    }
+    u64::from(history.cpus).wrapping_mul(limit)
+}
+
+/// What the clients of a session of these options were answered, a line for each that has a text; and
+/// then what the session left: how many calls each history has and whether it tells of the word's cap,
+/// what is used of the words, their caps, and how many pieces came home.
+fn left_by<R: Threads + Wait + Sync>(
+    rt: &R,
+    alloc: Global,
+    options: &Options,
+    texts: &[&str],
+) -> Result<String, NoMemory>
+    requires { AreOptions options.now }
+{
+    let (mut said, report) = all_in(rt, alloc, Parts::open(alloc, options)?, texts)?;
+    for (history, cap) in report.histories.iter().zip(report.caps.iter()) {
+        let kept = if cap_of(history) == *cap { "kept" } else { "lost" };
+        write!(said, "{} calls, cap {kept}, ", history.entries.len())?;
+    }
+    write!(said, "{:?} of {:?}", report.words, report.caps)?;
+    write!(said, ", {} home", report.home)?;
+    Ok(said)
 }

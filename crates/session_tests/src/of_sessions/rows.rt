@@ -1,26 +1,19 @@
 //! The calls of one client, one after the other.
 
-use super::{all_in, options_on};
+use super::{left_by, options_on};
 use call_book::NoMemory;
-use session::{Parts, Report};
-use std::alloc::{AllocError, Global};
+use std::alloc::AllocError;
 use std::fmt::Write;
-use std::sync::Wait;
 use std::test::Fail;
-use std::thread::Threads;
 
 /// Calls in a session of a domain of so many CPUs and one of one CPU, with room for so many calls in
-/// each history; their answers; how many calls stand in both histories; and of each word what is used
-/// and its cap.
+/// each history; and their answers and what the session left.
 struct Row {
     cpus: u32,
     limit: u64,
     history: usize,
     text: &'static str,
-    said: &'static str,
-    calls: usize,
-    words: [u64; 2],
-    caps: [u64; 2],
+    left: &'static str,
 }
 
 const TWICE: &str =
@@ -43,156 +36,102 @@ const ROWS: [Row; 13] = [
         limit: 1048576,
         history: 1024,
         text: "dlcalls 1\ndomain 1 1048576\nadmit 1 1 w 2 10 10 - 0 -1:1{w,r1}\nadvance 1 3\nwake 1 1\nwake 1 1\nadvance 1 3\n",
-        said: "Admitted; Done { ticks: 3 }; Woken; NotWaiting; Done { ticks: 3 }; \n",
-        calls: 5,
-        words: [209715, 0],
-        caps: [1048576, 1048576],
+        left: "Admitted; Done { ticks: 3 }; Woken; NotWaiting; Done { ticks: 3 }; \n5 calls, cap kept, 0 calls, cap kept, [209715, 0] of [1048576, 1048576], 513 home",
     },
     Row {
         cpus: 1,
         limit: 1048576,
         history: 4,
         text: "dlcalls 1\ndomain 1 1048576\nadvance 1 60000000\nadmit 1 1 a 2 8 8 - 0 -1:1{r1,t8}\nadvance 1 3000\n",
-        said: "Done { ticks: 60000000 }; Admitted; Done { ticks: 3000 }; \n",
-        calls: 3,
-        words: [262144, 0],
-        caps: [1048576, 1048576],
+        left: "Done { ticks: 60000000 }; Admitted; Done { ticks: 3000 }; \n3 calls, cap kept, 0 calls, cap kept, [262144, 0] of [1048576, 1048576], 513 home",
     },
     Row {
         cpus: 1,
         limit: 524288,
         history: 1024,
         text: "dlcalls 1\ndomain 1 524288\nadmit 1 1 a 2 8 8 - 0 1:1{r2}\nregrade 1 1 4 8 8 -\nregrade 1 1 5 8 8 -\nregrade 1 7 4 8 8 -\nleave 1 7\n",
-        said: "Admitted; Changed; Busy { seen: 524288 }; NotListed; NotListed; \n",
-        calls: 5,
-        words: [524288, 0],
-        caps: [524288, 524288],
+        left: "Admitted; Changed; Busy { seen: 524288 }; NotListed; NotListed; \n5 calls, cap kept, 0 calls, cap kept, [524288, 0] of [524288, 524288], 513 home",
     },
     Row {
         cpus: 1,
         limit: 524288,
         history: 1024,
         text: "dlcalls 2\ndomain 1 524288\nadmit 1 1 a 2 8 8 - 0 1:1{r2}\nlimit 1 131072\nlimit 1 262144\nadmit 1 2 b 2 8 8 - 0 1:1{r2}\nlimit 1 1048576\nadmit 1 3 c 2 8 8 - 0 1:1{r2}\n",
-        said: "Admitted; Busy { seen: 262144 }; Set; EBUSY 16 seen 262144; Set; Admitted; \n",
-        calls: 5,
-        words: [524288, 0],
-        caps: [1048576, 524288],
+        left: "Admitted; Busy { seen: 262144 }; Set; EBUSY 16 seen 262144; Set; Admitted; \n5 calls, cap kept, 0 calls, cap kept, [524288, 0] of [1048576, 524288], 513 home",
     },
     Row {
         cpus: 1,
         limit: 1048576,
         history: 1,
         text: "dlcalls 2\ndomain 1 1048576\nadmit 1 1 a 2 8 8 - 0 1:1{r2}\nlimit 1 524288\n",
-        said: "Admitted; Full 40; \n",
-        calls: 1,
-        words: [262144, 0],
-        caps: [1048576, 1048576],
+        left: "Admitted; Full 40; \n1 calls, cap kept, 0 calls, cap kept, [262144, 0] of [1048576, 1048576], 513 home",
     },
     Row {
         cpus: 1,
         limit: 1048576,
         history: 1,
         text: "dlcalls 1\ndomain 1 1048576\nadmit 1 1 a 2 8 8 - 0 1:1{r2}\nadmit 1 2 b 2 8 8 - 0 1:1{r2}\nleave 1 1\nadvance 1 1\n",
-        said: "Admitted; Full 40; Full 40; Full 40; \n",
-        calls: 1,
-        words: [262144, 0],
-        caps: [1048576, 1048576],
+        left: "Admitted; Full 40; Full 40; Full 40; \n1 calls, cap kept, 0 calls, cap kept, [262144, 0] of [1048576, 1048576], 513 home",
     },
     Row {
         cpus: 1,
         limit: 1048576,
         history: 1024,
         text: TWICE,
-        said: "Admitted; Twice 41; Admitted; Twice 41; \n",
-        calls: 2,
-        words: [524288, 0],
-        caps: [1048576, 1048576],
+        left: "Admitted; Twice 41; Admitted; Twice 41; \n2 calls, cap kept, 0 calls, cap kept, [524288, 0] of [1048576, 1048576], 513 home",
     },
     Row {
         cpus: 1,
         limit: 1048576,
         history: 2,
         text: TWICE,
-        said: "Admitted; Twice 41; Admitted; Full 40; \n",
-        calls: 2,
-        words: [524288, 0],
-        caps: [1048576, 1048576],
+        left: "Admitted; Twice 41; Admitted; Full 40; \n2 calls, cap kept, 0 calls, cap kept, [524288, 0] of [1048576, 1048576], 513 home",
     },
     Row {
         cpus: 2,
         limit: 996147,
         history: 1024,
         text: "dlcalls 1\ndomain 2 996147\nadmit 1 1 t 500 1000 1000 - 0 -1:1{r100,s900}\nadmit 1 2 t 500 1000 1000 - 0 -1:1{r100,s900}\nadmit 1 3 t 500 1000 1000 - 0 -1:1{r100,s900}\nadmit 1 4 t 500 1000 1000 - 0 -1:1{r100,s900}\nadmit 1 5 t 500 1000 1000 - 0 -1:1{r100,s900}\n",
-        said: "Admitted; Admitted; Admitted; EBUSY 16 seen 1572864; EBUSY 16 seen 1572864; \n",
-        calls: 3,
-        words: [1572864, 0],
-        caps: [1992294, 996147],
+        left: "Admitted; Admitted; Admitted; EBUSY 16 seen 1572864; EBUSY 16 seen 1572864; \n3 calls, cap kept, 0 calls, cap kept, [1572864, 0] of [1992294, 996147], 513 home",
     },
     Row {
         cpus: 1,
         limit: 524288,
         history: 9,
         text: "dlcalls 1\ndomain 1 524288\nadmit 1 1 a 500 1000 1000 - 0 1:1{r1}\nadmit 1 2 b 2 100 100 - 0 1:1{r1}\nadmit 1 3 c 2 4000000 4000000 - 0 1:1{r1}\n",
-        said: "Admitted; EBUSY 16 seen 524288; Admitted; \n",
-        calls: 2,
-        words: [524288, 0],
-        caps: [524288, 524288],
+        left: "Admitted; EBUSY 16 seen 524288; Admitted; \n2 calls, cap kept, 0 calls, cap kept, [524288, 0] of [524288, 524288], 513 home",
     },
     Row {
         cpus: 1,
         limit: 1048576,
         history: 9,
         text: "dlcalls 1\ndomain 1 1048576\nadmit 1 1 a 10000 15000 15000 - 0 1:1{r1}\nadmit 1 2 b 10000 15000 15000 - 0 1:1{r1}\nleave 1 1\nadvance 1 1\nadmit 1 2 b 10000 15000 15000 - 0 1:1{r1}\n",
-        said: "Admitted; EBUSY 16 seen 699050; Left; Done { ticks: 1 }; Admitted; \n",
-        calls: 4,
-        words: [699050, 0],
-        caps: [1048576, 1048576],
+        left: "Admitted; EBUSY 16 seen 699050; Left; Done { ticks: 1 }; Admitted; \n4 calls, cap kept, 0 calls, cap kept, [699050, 0] of [1048576, 1048576], 513 home",
     },
     Row {
         cpus: 1,
         limit: 1048576,
         history: 1024,
         text: "dlcalls 2\ndomain 1 1048576\nadmit 1 1 a 2 8 8 - 0 -1:1{r2,s6}\nadmit 1 2 b 4 8 8 - 0 -1:1{r4,s4}\ndepart 1 1\ndepart 1 7\ndepart 1 1\ndepart 2 1\n",
-        said: "Admitted; Admitted; Departed; ESRCH 3; ESRCH 3; Twice 41; \n",
-        calls: 4,
-        words: [524288, 262144],
-        caps: [1048576, 1048576],
+        left: "Admitted; Admitted; Departed; ESRCH 3; ESRCH 3; Twice 41; \n3 calls, cap kept, 1 calls, cap kept, [524288, 262144] of [1048576, 1048576], 513 home",
     },
     Row {
         cpus: 1,
         limit: 1048576,
         history: 1024,
         text: "dlcalls 2\ndomain 1 1048576\nadmit 1 1 a 2 8 8 - 0 -1:1{r2,s6}\nadmit 1 2 b 4 8 8 - 0 -1:1{r4,s4}\nlimit 2 262144\ndepart 1 2\ndepart 1 1\ndepart 1 2\n",
-        said: "Admitted; Admitted; Set; EBUSY 16 seen 0; Departed; EBUSY 16 seen 262144; \n",
-        calls: 5,
-        words: [524288, 262144],
-        caps: [1048576, 262144],
+        left: "Admitted; Admitted; Set; EBUSY 16 seen 0; Departed; EBUSY 16 seen 262144; \n3 calls, cap kept, 2 calls, cap kept, [524288, 262144] of [1048576, 262144], 513 home",
     },
 ];
-
-// How many calls stand in all histories.
-fn entered(report: &Report) -> usize {
-    let mut calls: usize = 0;
-    for history in &report.histories {
-        calls = calls.wrapping_add(history.entries.len());
-    }
-    calls
-}
 
 // Each row's calls in a session of its own, with all pieces home in the end.
 #[test]
 fn rows_of_one_client(rt: HostRuntime) -> Result<(), Fail> {
     for row in &ROWS {
         let domains = vec![in rt.alloc(); row.cpus.clamp(1, 64), 1]?;
-        let parts = Parts::open(
-            rt.alloc(),
-            &options_on(domains, row.limit, 1, row.history),
-        )?;
-        let (said, report) = all_in(&rt, rt.alloc(), parts, &[row.text])?;
-        assert_eq!(rt; said.as_str(), row.said);
-        assert_eq!(rt; (entered(&report), report.home), (row.calls, 513));
-        assert_eq!(rt; report.words.as_slice(), row.words.as_slice());
-        assert_eq!(rt; report.caps.as_slice(), row.caps.as_slice());
+        let options = options_on(domains, row.limit, 1, row.history);
+        let left = left_by(&rt, rt.alloc(), &options, &[row.text])?;
+        assert_eq!(rt; left.as_str(), row.left);
     }
     Ok(())
 }
@@ -220,31 +159,28 @@ fn pieces_come_round(rt: HostRuntime) -> Result<(), Fail> {
         come_and_go(&mut text, first, end)?;
     }
     let options = options_on(vec![in rt.alloc(); 1]?, 996147, 1, 2048);
-    let parts = Parts::open(rt.alloc(), &options)?;
-    let (said, report) = all_in(&rt, rt.alloc(), parts, &[text.as_str()])?;
-    let admitted = said.as_str().split("Admitted; ").count();
-    let full = said.as_str().split("Full 40; ").count();
-    assert_eq!(rt; (admitted, full, entered(&report)), (769, 4, 3 * 513));
-    assert_eq!(rt; (report.words.as_slice(), report.home), ([0].as_slice(), 257));
+    let left = left_by(&rt, rt.alloc(), &options, &[text.as_str()])?;
+    let admitted = left.as_str().split("Admitted; ").count();
+    let full = left.as_str().split("Full 40; ").count();
+    assert_eq!(rt; (admitted, full), (769, 4));
+    assert!(rt; left.as_str().ends_with(EMPTIED));
     Ok(())
 }
 
-// How many pieces come home where no client is handed out, of two domains and two clients.
-fn home_at_once<R: Threads + Wait + Sync>(rt: &R, alloc: Global) -> Result<usize, NoMemory> {
-    let options = options_on(vec![in alloc; 2, 1]?, 1048576, 2, 4);
-    let (_, report) = all_in(rt, alloc, Parts::open(alloc, &options)?, &[])?;
-    Ok(report.home)
-}
+const EMPTIED: &str = "\n1539 calls, cap kept, [0] of [996147], 257 home";
 
-// A client that waits loses no piece. With one growth refused (`rt try --test --fail-alloc N`): where
-// parts were refused, or a session could not be ended, nothing is left behind, and another one can be
-// opened and ended.
+const WAITING: &str = "0 calls, cap kept, 0 calls, cap kept, [0, 0] of [2097152, 1048576], 514 home";
+
+// A client that waits loses no piece, where no client of two is handed out, of two domains. With one
+// growth refused (`rt try --test --fail-alloc N`): where parts were refused, or a session could not be
+// ended, nothing is left behind, and another one can be opened and ended.
 #[test]
 fn waiting_clients_lose_no_piece(rt: HostRuntime) -> Result<(), Fail> {
-    let home = match home_at_once(&rt, rt.alloc()) {
-        Ok(home) => home,
-        Err(NoMemory) => home_at_once(&rt, rt.alloc())?,
+    let options = options_on(vec![in rt.alloc(); 2, 1]?, 1048576, 2, 4);
+    let left = match left_by(&rt, rt.alloc(), &options, &[]) {
+        Ok(left) => left,
+        Err(NoMemory) => left_by(&rt, rt.alloc(), &options, &[])?,
     };
-    assert_eq!(rt; home, 2 * 256 + 2);
+    assert_eq!(rt; left.as_str(), WAITING);
     Ok(())
 }

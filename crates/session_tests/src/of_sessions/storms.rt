@@ -1,9 +1,7 @@
 //! Many clients at once, each in a thread of its own. Where all pieces are home at the end, each word
 //! is the sum of its domain's tasks: the contract of a session says so (`exact` of `IsLeft`).
 
-use super::{all_in, options_on};
-use call_book::{Call, Entry, Reply};
-use session::Parts;
+use super::{left_by, options_on};
 use std::test::Fail;
 
 // An admission of half a CPU and a regrade to a quarter.
@@ -14,22 +12,46 @@ const STAYS: &str =
 const LEAVES: &str =
     "dlcalls 1\ndomain 1 1048576\nadmit 1 # t 4 8 8 - 0 -1:1{r2,s6}\nregrade 1 # 2 8 8 -\nadvance 1 1\nleave 1 #\nadvance 1 16\n";
 
-// 64 quarters of a CPU stay; and where each client's task then ends, nothing.
+// An admission of half a CPU alone.
+const HALF: &str = "dlcalls 1\ndomain 1 1048576\nadmit 1 # t 4 8 8 - 0 -1:1{r2,s6}\n";
+
+/// How many CPUs the domain has, the text of each client, an answer and how many clients have it, and
+/// what the session left.
+type Storm = (u32, &'static str, &'static str, usize, &'static str);
+
+// 64 quarters of a CPU stay; and where each client's task then ends, nothing. Of 64 halves of a CPU
+// half fit in 16, whichever clients have them.
+const STORMS: [Storm; 3] = [
+    (
+        64,
+        STAYS,
+        "Admitted; Changed; \n",
+        64,
+        "\n128 calls, cap kept, [16777216] of [67108864], 320 home",
+    ),
+    (
+        64,
+        LEAVES,
+        "Admitted; Changed; Done { ticks: 1 }; Left; Done { ticks: 16 }; \n",
+        64,
+        "\n320 calls, cap kept, [0] of [67108864], 320 home",
+    ),
+    (
+        16,
+        HALF,
+        "Admitted; \n",
+        32,
+        "\n32 calls, cap kept, [16777216] of [16777216], 320 home",
+    ),
+];
+
 #[test]
 fn storm(rt: HostRuntime) -> Result<(), Fail> {
-    for (text, answers, word) in [
-        (STAYS, "Admitted; Changed; \n", 16777216),
-        (
-            LEAVES,
-            "Admitted; Changed; Done { ticks: 1 }; Left; Done { ticks: 16 }; \n",
-            0,
-        ),
-    ] {
-        let options = options_on(vec![in rt.alloc(); 64]?, 1048576, 64, 1024);
-        let parts = Parts::open(rt.alloc(), &options)?;
-        let (said, report) = all_in(&rt, rt.alloc(), parts, &[text; 64])?;
-        assert_eq!(rt; said.as_str().split(answers).count(), 65);
-        assert_eq!(rt; (report.words.as_slice(), report.home), ([word].as_slice(), 256 + 64));
+    for (cpus, text, answer, clients, wanted) in STORMS {
+        let options = options_on(vec![in rt.alloc(); cpus.clamp(1, 64)]?, 1048576, 64, 1024);
+        let left = left_by(&rt, rt.alloc(), &options, &[text; 64])?;
+        assert_eq!(rt; left.as_str().split(answer).count(), clients.wrapping_add(1));
+        assert!(rt; left.as_str().ends_with(wanted));
     }
     Ok(())
 }
@@ -42,29 +64,14 @@ const COMES: &str =
 const LIMITS: &str =
     "dlcalls 2\ndomain 1 1048576\nlimit 1 524288\nlimit 1 1048576\nlimit 1 262144\nlimit 1 786432\nlimit 1 524288\nlimit 1 1048576\nlimit 1 262144\nlimit 1 786432\nlimit 1 524288\nlimit 1 1048576\nlimit 1 262144\nlimit 1 786432\nlimit 1 524288\nlimit 1 1048576\nlimit 1 262144\nlimit 1 786432\nlimit 1 524288\nlimit 1 1048576\nlimit 1 262144\nlimit 1 786432\nlimit 1 524288\nlimit 1 1048576\nlimit 1 262144\nlimit 1 786432\n";
 
-// The limit that a history leaves.
-fn limit_of(entries: &Vec<Entry>) -> u64 {
-    let mut now = 1048576;
-    for entry in entries {
-        if let (Call::Limit { limit, word: _ }, Some(Reply::Set)) = (&entry.call, &entry.reply) {
-            now = *limit;
-        }
-    }
-    now
-}
-
 // The cap is that of the limit which the history leaves.
 #[test]
 fn limit_changes_while_clients_run(rt: HostRuntime) -> Result<(), Fail> {
     let options = options_on(vec![in rt.alloc(); 4]?, 1048576, 9, 1024);
-    let parts = Parts::open(rt.alloc(), &options)?;
     let texts = [COMES, COMES, COMES, COMES, COMES, COMES, COMES, COMES, LIMITS];
-    let (_, report) = all_in(&rt, rt.alloc(), parts, &texts)?;
-    assert_eq!(rt; report.home, 256 + 9);
-    for history in &report.histories {
-        let cap = limit_of(&history.entries).wrapping_mul(4);
-        assert_eq!(rt; report.caps.as_slice(), [cap].as_slice());
-    }
+    let left = left_by(&rt, rt.alloc(), &options, &texts)?;
+    assert_eq!(rt; left.as_str().split(", cap kept, ").count(), 2);
+    assert!(rt; left.as_str().ends_with(", 265 home"));
     Ok(())
 }
 
@@ -89,15 +96,12 @@ const BOTH: &str =
 #[test]
 fn in_opposite_directions(rt: HostRuntime) -> Result<(), Fail> {
     let texts = [THERE, BACK, THERE, BACK, THERE, BACK, THERE, BACK, ADVANCES, BOTH];
-    for (clients, moves) in [(2, 20), (10, 1)] {
+    for (clients, moves, home) in [(2, 20, " 514 home"), (10, 1, " 522 home")] {
         for _ in 0..20 {
-            let domains = vec![in rt.alloc(); 1, 1]?;
-            let options = options_on(domains, 1048576, clients, 1024);
-            let parts = Parts::open(rt.alloc(), &options)?;
-            let texts = &texts[..clients as usize];
-            let (said, report) = all_in(&rt, rt.alloc(), parts, texts)?;
-            assert!(rt; said.as_str().split("Departed; ").count() > moves);
-            assert_eq!(rt; report.home, texts.len().wrapping_add(512));
+            let options = options_on(vec![in rt.alloc(); 1, 1]?, 1048576, clients, 1024);
+            let left = left_by(&rt, rt.alloc(), &options, &texts[..clients as usize])?;
+            assert!(rt; left.as_str().split("Departed; ").count() > moves);
+            assert!(rt; left.as_str().ends_with(home));
         }
     }
     Ok(())
