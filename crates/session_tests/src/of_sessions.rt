@@ -255,7 +255,9 @@ fn all_in<R: Threads + Wait + Sync>(
 fn cap_of(history: &Section) -> u64 {
     let mut limit = history.limit;
     for entry in &history.entries {
-        if let (Call::Limit { limit: wanted, .. }, Some(Reply::Set)) = (&entry.call, &entry.reply) {
+        if entry.reply == Some(Reply::Set)
+            && let Call::Limit { limit: wanted, .. } = &entry.call
+        {
             limit = *wanted;
         }
     }

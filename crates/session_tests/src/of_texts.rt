@@ -1,8 +1,10 @@
 //! Readers and writers that stop short, and that fail in one of their calls, each in turn. Whole runs
 //! and replays, what the built program can be asked for, stand in the table that it runs on.
 
+ghost use Rattle.session.specs.Options.{AreOptions};
+
 use crate::of_sessions::options_on;
-use dl_session::{AllPass, replay, run};
+use dl_session::{AllPass, Options, Report, SessionFault, Turnstile, replay, run};
 use std::alloc::Global;
 use std::io;
 use std::io::{ErrorKind, Read, Write};
@@ -74,8 +76,49 @@ impl<W: Write> Write for Stumbler<W> {
     }
 }
 
-/// What a run of this scenario on one CPU says, with room for so many calls, or else a replay of
-/// these calls, between a reader and a writer of so many bytes a call, of which these calls fail; and
+/// A run between a reader and a writer: how it ended, and the writer.
+pub(crate) fn ran<X: Threads + Wait + Sync, R: Read + Drop, W: Write, T: Turnstile>(
+    rt: &X,
+    alloc: Global,
+    reader: R,
+    writer: W,
+    options: &Options,
+    order: &T,
+) -> (Result<Report, SessionFault>, W)
+    requires { AreOptions options.now }
+{
+    let mut reader = Counted::new(reader);
+    let mut writer = Counted::new(writer);
+    let ended = run(rt, alloc, &mut reader, &mut writer, options, order);
+    (ended, writer.into_inner())
+}
+
+/// The same of a replay.
+fn replayed<R: Read + Drop, W: Write>(alloc: Global, reader: R, writer: W) -> (Option<SessionFault>, W) {
+    let mut reader = Counted::new(reader);
+    let mut writer = Counted::new(writer);
+    let ended = replay(alloc, &mut reader, &mut writer);
+    (ended.err(), writer.into_inner())
+}
+
+/// How a run of this scenario on one CPU ended, with room for so many calls, or else a replay of these
+/// calls.
+fn ended<X: Threads + Wait + Sync, R: Read + Drop, W: Write + Drop>(
+    rt: &X,
+    alloc: Global,
+    history: Option<usize>,
+    reader: R,
+    writer: W,
+) -> Result<(Option<SessionFault>, W), Fail> {
+    let Some(history) = history else {
+        return Ok(replayed(alloc, reader, writer));
+    };
+    let options = options_on(vec![in alloc; 1]?, 996147, 1, history);
+    let (ended, writer) = ran(rt, alloc, reader, writer, &options, &AllPass);
+    Ok((ended.err(), writer))
+}
+
+/// What it says, between a reader and a writer of so many bytes a call, of which these calls fail; and
 /// what was written.
 fn told<X: Threads + Wait + Sync>(
     rt: &X,
@@ -84,30 +127,24 @@ fn told<X: Threads + Wait + Sync>(
     step: usize,
     bad: (usize, usize),
 ) -> Result<(String, Vec<u8>), Fail> {
-    let mut reader = Counted::new(Stumbler {
+    let reader = Stumbler {
         inner: text,
         step,
         calls: 0,
         bad: bad.0,
-    });
-    let mut writer = Counted::new(Stumbler {
+    };
+    let writer = Stumbler {
         inner: Vec::new(alloc),
         step,
         calls: 0,
         bad: bad.1,
-    });
-    let ended = match history {
-        Some(history) => {
-            let options = options_on(vec![in alloc; 1]?, 996147, 1, history);
-            run(rt, alloc, &mut reader, &mut writer, &options, &AllPass).err()
-        }
-        None => replay(alloc, &mut reader, &mut writer).err(),
     };
-    let said = match ended {
+    let (fault, writer) = ended(rt, alloc, history, reader, writer)?;
+    let said = match fault {
         Some(fault) => format!(in alloc; "{fault}")?,
         None => String::new(alloc),
     };
-    Ok((said, writer.into_inner().inner))
+    Ok((said, writer.inner))
 }
 
 const NEVER: usize = usize::MAX;

@@ -3,8 +3,8 @@
 ghost use Rattle.std.specs.Prelude.{◌≡◌, ◌<◌, length};
 
 use super::options_on;
+use crate::of_texts::ran;
 use call_book::NoMemory;
-use dl_session::run;
 use domain_run::Call;
 use json_order::read;
 use rtapp_scenario::{TaskSpec, parse};
@@ -20,7 +20,6 @@ use std::sync::{Mutex, Wait};
 use std::test::Fail;
 use std::thread::{Threads, sleep};
 use std::time::{Clock, Duration};
-use switch_text::Counted;
 
 // Eight tasks of half a CPU.
 const RACE: &[u8] =
@@ -211,25 +210,41 @@ fn in_turn<C: Clock>(clock: C, falling: bool) -> InTurn<C> {
     }
 }
 
+// What a run leaves in this order, and whether somebody was late.
+fn by_run<R: Threads + Wait + Clock + Sync>(
+    rt: &R,
+    alloc: Global,
+    falling: bool,
+) -> Result<(String, bool), Fail> {
+    let order = in_turn(rt, falling);
+    let options = options_on(vec![in alloc; 2]?, 996147, 4, 1024);
+    let (ended, _) = ran(rt, alloc, RACE, Vec::new(alloc), &options, &order);
+    Ok((told(alloc, &ended?)?, order.late.load(Ordering::SeqCst)))
+}
+
+// The same without a run, and with the witness.
+fn by_all<R: Threads + Wait + Abort + Clock + Sync>(
+    rt: &R,
+    alloc: Global,
+    falling: bool,
+) -> Result<(String, bool), Fail> {
+    let order = in_turn(rt, falling);
+    let tasks = parse(alloc, &read(alloc, RACE)?)?.tasks;
+    let options = options_on(vec![in alloc; 2]?, 996147, 5, 1024);
+    let report = admitted_in(rt, alloc, Parts::open(alloc, &options)?, &tasks, &order)?;
+    Ok((told(alloc, &report)?, order.late.load(Ordering::SeqCst)))
+}
+
 // A run that admitted beside its clients' threads, or on one thread, would be late, or enter them
 // in another order. Each turn has the client's number and how many admissions it made before; its
 // task is not listed before the turn, and is after it.
 #[test]
 fn clients_let_in_one_by_one(rt: HostRuntime) -> Result<(), Fail> {
-    let tasks = parse(rt.alloc(), &read(rt.alloc(), RACE)?)?.tasks;
-    for (falling, by_run, by_all) in ROWS {
-        let order = in_turn(rt, falling);
-        let (mut reader, mut writer) = (Counted::new(RACE), Counted::new(Vec::new(rt.alloc())));
-        let options = options_on(vec![in rt.alloc(); 2]?, 996147, 4, 1024);
-        let ran = run(&rt, rt.alloc(), &mut reader, &mut writer, &options, &order)?;
-        assert_eq!(rt; told(rt.alloc(), &ran)?.as_str(), by_run);
-        let again = in_turn(rt, falling);
-        let options = options_on(vec![in rt.alloc(); 2]?, 996147, 5, 1024);
-        let parts = Parts::open(rt.alloc(), &options)?;
-        let report = admitted_in(&rt, rt.alloc(), parts, &tasks, &again)?;
-        assert_eq!(rt; told(rt.alloc(), &report)?.as_str(), by_all);
-        let late = order.late.load(Ordering::SeqCst) || again.late.load(Ordering::SeqCst);
-        assert!(rt; !late);
+    for (falling, ran, asked) in ROWS {
+        let (said, late) = by_run(&rt, rt.alloc(), falling)?;
+        assert_eq!(rt; (said.as_str(), late), (ran, false));
+        let (said, late) = by_all(&rt, rt.alloc(), falling)?;
+        assert_eq!(rt; (said.as_str(), late), (asked, false));
     }
     Ok(())
 }
