@@ -1,8 +1,8 @@
 //! A domain on which the calls of a text were made.
-ghost use Rattle.std.specs.Prelude.{All, IfOk};
-ghost use Rattle.call_book.specs.Limits.{IsCall, IsEntry, IsSection};
+ghost use Rattle.std.specs.Prelude.{IfOk};
+ghost use Rattle.call_book.specs.Limits.{IsCall, IsSection};
 
-use call_book::{Entry, NoMemory, Section, read_calls};
+use call_book::{NoMemory, Section, read_calls};
 use domain_run::{Call, Reply, State};
 use std::alloc::Global;
 use std::test::Fail;
@@ -59,4 +59,13 @@ pub(crate) fn opened(alloc: Global, text: &[u8]) -> Result<State, Fail> {
         make(&mut state, entry.call);
     }
     Ok(state)
+}
+
+/// One tick, before the end of time.
+pub(crate) fn tick(state: &mut State) -> Result<(), NoMemory> {
+    if state.now() < 1 << 42 {
+        state.tick()
+    } else {
+        Ok(())
+    }
 }

@@ -1,6 +1,6 @@
 //! The calls on a domain take no memory: no room grows, and nothing else is asked for.
 
-use crate::domain::{make, opened, section_of};
+use crate::domain::{make, opened, section_of, tick};
 use domain_run::{Reply, State, Switch};
 use std::alloc::AllocError;
 use std::test::Fail;
@@ -28,7 +28,7 @@ const ANSWERS: [Reply; 6] = [
 #[test]
 fn calls_take_no_memory(rt: HostRuntime) -> Result<(), Fail> {
     let mut state = opened(rt.alloc(), WAITS)?;
-    state.tick()?;
+    tick(&mut state)?;
     let mut calls = section_of(rt.alloc(), CALLS)?.entries;
     calls.reverse();
     let before = state.room();
@@ -52,9 +52,7 @@ fn a_tick_takes_room_for_its_switches_alone(rt: HostRuntime) -> Result<(), Fail>
     room.try_reserve(3)?;
     let mut state = State::open(rt.alloc(), 3, 1048576)?;
     for _ in 0..9 {
-        if state.now() < 9 {
-            state.tick()?;
-        }
+        tick(&mut state)?;
         assert_eq!(rt; state.room(), room.capacity());
     }
     assert!(rt; std::mem::size_of::<Switch>() <= 32);
