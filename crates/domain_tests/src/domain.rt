@@ -1,0 +1,71 @@
+//! A domain on which the calls of a text were made.
+ghost use Rattle.std.specs.Prelude.{IfOk};
+ghost use Rattle.call_book.specs.Limits.{IsCall, IsSection};
+
+use call_book::{NoMemory, Section, read_calls};
+use domain_run::{Call, Reply, State};
+use std::alloc::Global;
+use std::test::Fail;
+
+/// The one section of a text.
+pub(crate) fn section_of(alloc: Global, text: &[u8]) -> Result<Section, Fail>
+    ensures { IfOk result IsSection }
+{
+    let mut sections = read_calls(alloc, text)?;
+    match sections.pop() {
+        Some(section) => Ok(section),
+        None => Err(Fail::from(NoMemory)),
+    }
+}
+
+/// Makes a call. Nobody advances, and nobody arrives.
+pub(crate) fn make(state: &mut State, call: Call) -> Reply
+    requires { IsCall call }
+{
+    match call {
+        Call::Admit {
+            number,
+            name,
+            params,
+            delay,
+            script,
+        } => match state.admit(number, name, params, delay, script) {
+            Ok(()) => Reply::Admitted,
+            Err(_) => Reply::Full,
+        },
+        Call::Regrade {
+            number,
+            params,
+            word: _,
+        } => state.regrade(number, params, None),
+        Call::Wake { number } => state.wake(number),
+        Call::Leave { number } => state.leave(number),
+        Call::Depart { number } => state.depart(number),
+        Call::Limit { limit, word: _ } => state.set_limit(limit, None),
+        Call::Advance { .. } | Call::Arrive { .. } => Reply::Full,
+    }
+}
+
+/// A domain after the calls of a text.
+pub(crate) fn opened(alloc: Global, text: &[u8]) -> Result<State, Fail> {
+    let Section {
+        cpus,
+        limit,
+        mut entries,
+    } = section_of(alloc, text)?;
+    let mut state = State::open(alloc, cpus, limit)?;
+    entries.reverse();
+    while let Some(entry) = entries.pop() {
+        make(&mut state, entry.call);
+    }
+    Ok(state)
+}
+
+/// One tick, before the end of time.
+pub(crate) fn tick(state: &mut State) -> Result<(), NoMemory> {
+    if state.now() < 1 << 42 {
+        state.tick()
+    } else {
+        Ok(())
+    }
+}
