@@ -1,8 +1,8 @@
 //! A domain on which the calls of a text were made.
-ghost use Rattle.std.specs.Prelude.{IfOk};
-ghost use Rattle.call_book.specs.Limits.{IsCall, IsSection};
+ghost use Rattle.std.specs.Prelude.{All, IfOk};
+ghost use Rattle.call_book.specs.Limits.{IsCall, IsEntry, IsSection};
 
-use call_book::{NoMemory, Section, read_calls};
+use call_book::{Entry, NoMemory, Section, read_calls};
 use domain_run::{Call, Reply, State};
 use std::alloc::Global;
 use std::test::Fail;
@@ -19,7 +19,7 @@ pub(crate) fn section_of(alloc: Global, text: &[u8]) -> Result<Section, Fail>
 }
 
 /// Makes a call. Nobody advances, and nobody arrives.
-pub(crate) fn make(state: &mut State, call: Call) -> Reply
+fn make(state: &mut State, call: Call) -> Reply
     requires { IsCall call }
 {
     match call {
@@ -46,18 +46,26 @@ pub(crate) fn make(state: &mut State, call: Call) -> Reply
     }
 }
 
+/// Makes calls one after the other: behind these replies stand theirs.
+pub(crate) fn made(state: &mut State, mut entries: Vec<Entry>, replies: &mut Vec<Reply>)
+    requires { All IsEntry entries.items }
+{
+    entries.reverse();
+    while let Some(entry) = entries.pop() {
+        let reply = make(state, entry.call);
+        let _ = replies.push(reply);
+    }
+}
+
 /// A domain after the calls of a text.
 pub(crate) fn opened(alloc: Global, text: &[u8]) -> Result<State, Fail> {
     let Section {
         cpus,
         limit,
-        mut entries,
+        entries,
     } = section_of(alloc, text)?;
     let mut state = State::open(alloc, cpus, limit)?;
-    entries.reverse();
-    while let Some(entry) = entries.pop() {
-        make(&mut state, entry.call);
-    }
+    made(&mut state, entries, &mut Vec::new(alloc));
     Ok(state)
 }
 

@@ -1,6 +1,6 @@
 //! The calls on a domain take no memory: no room grows, and nothing else is asked for.
 
-use crate::domain::{make, opened, section_of, tick};
+use crate::domain::{made, opened, section_of, tick};
 use domain_run::{Reply, State, Switch};
 use std::alloc::AllocError;
 use std::test::Fail;
@@ -29,14 +29,11 @@ const ANSWERS: [Reply; 6] = [
 fn calls_take_no_memory(rt: HostRuntime) -> Result<(), Fail> {
     let mut state = opened(rt.alloc(), WAITS)?;
     tick(&mut state)?;
-    let mut calls = section_of(rt.alloc(), CALLS)?.entries;
-    calls.reverse();
+    let calls = section_of(rt.alloc(), CALLS)?.entries;
+    let mut replies = Vec::with_capacity(rt.alloc(), 6)?;
     let before = state.room();
-    for answer in ANSWERS {
-        if let Some(entry) = calls.pop() {
-            assert_eq!(rt; make(&mut state, entry.call), answer);
-        }
-    }
+    made(&mut state, calls, &mut replies);
+    assert_eq!(rt; replies.as_slice(), ANSWERS.as_slice());
     assert_eq!(rt; state.room(), before);
     let block: Result<Vec<u8>, AllocError> = Vec::with_capacity(rt.alloc(), 1);
     let has_memory = block.is_ok();

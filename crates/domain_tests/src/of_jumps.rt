@@ -1,7 +1,7 @@
 //! Jumps, by one worker and by several: all ticks of a call are made, and which turns are taken, in
 //! what order, and in whose thread. Worked rows by one worker are what the built program replays.
 
-use crate::domain::{make, opened, section_of};
+use crate::domain::{made, opened, section_of};
 use domain_run::State;
 use jump_run::{Done, Silent, Turn, advance_with};
 use std::alloc::{AllocError, Global};
@@ -42,10 +42,8 @@ fn all_ticks_of_a_call(rt: HostRuntime) -> Result<(), Fail> {
         for start in [0, (1 << 42) - MANY_TICKS] {
             let mut state = State::open(rt.alloc(), 2, 1048576)?;
             advanced(&rt, rt.alloc(), &mut state, start, 1, &Silent);
-            let mut tasks = section_of(rt.alloc(), TWO)?.entries;
-            while let Some(entry) = tasks.pop() {
-                make(&mut state, entry.call);
-            }
+            let tasks = section_of(rt.alloc(), TWO)?.entries;
+            made(&mut state, tasks, &mut Vec::new(rt.alloc()));
             let done = advanced(&rt, rt.alloc(), &mut state, MANY_TICKS, workers, &Silent);
             assert_eq!(rt; done.ticks, MANY_TICKS, "{workers} workers from {start}");
             assert!(rt; state.switches().len() > 200);

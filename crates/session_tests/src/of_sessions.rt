@@ -1,5 +1,5 @@
 //! Sessions whose clients make the calls of texts, each in a thread of its own, all at once.
-ghost use Rattle.std.specs.Prelude.{◌≡◌, ◌<◌, ◌≤◌, length, All, IfSome};
+ghost use Rattle.std.specs.Prelude.{◌≡◌, ◌<◌, ◌≤◌, length, All, IfOk, IfSome};
 ghost use Rattle.call_book.specs.Limits.{IsCall, IsEntry};
 ghost use Rattle.domain_run.specs.Domain.{IsCpus};
 ghost use Rattle.session.specs.Options.{AreOptions};
@@ -12,12 +12,11 @@ mod turns;
 use attr_check::SchedAttr;
 use call_book::{Call, Entry, NoMemory, Reply, Section, read_calls};
 use rtapp_scenario::TaskSpec;
-use session::{
-    Answer, Client, Names, Options, Parts, Print, Refusal, Report, Session, Shared,
-};
+use session::{Answer, Client, Names, Options, Parts, Print, Refusal, Report, Session, Shared};
 use std::alloc::Global;
 use std::fmt::Write;
 use std::marker::Brand;
+use std::process::Abort;
 use std::sync::Wait;
 use std::sync::atomic::{AtomicUsize, Ordering};
 use std::thread::{Threads, map_vec, yield_now};
@@ -91,9 +90,77 @@ fn entries_of(alloc: Global, text: &[u8]) -> Option<Vec<Entry>>
     Some(entries)
 }
 
-/// Makes a call on a domain. An admission to the second one names its CPU, the machine's second, and
-/// a departure takes the task to the next domain.
+/// The CPUs of a task: the second domain's is the machine's second; none means the first domain.
+fn cpus_of(alloc: Global, domain: usize) -> Option<Vec<u32>> {
+    if domain == 0 {
+        return None;
+    }
+    Vec::from_slice(alloc, [1].as_slice()).ok()
+}
+
+/// The task that a call admits.
+fn task_of(alloc: Global, domain: usize, call: Call) -> Option<TaskSpec> {
+    let Call::Admit {
+        number,
+        name,
+        params,
+        delay,
+        script,
+    } = call
+    else {
+        return None;
+    };
+    let attr = SchedAttr {
+        policy: 6,
+        flags: 0,
+        runtime: params.runtime.saturating_mul(1000),
+        deadline: params.deadline.saturating_mul(1000),
+        period: params.period.saturating_mul(1000),
+    };
+    Some(TaskSpec {
+        number,
+        name,
+        attr,
+        cpus: cpus_of(alloc, domain),
+        delay,
+        script,
+    })
+}
+
+/// Makes a call other than an admission on a domain. A departure takes the task to the next domain.
 fn make<N: Names, R: Threads + Wait>(
+    rt: &R,
+    alloc: Global,
+    crowd: &Crowd<N>,
+    client: &mut Client<N>,
+    domain: usize,
+    call: &Call,
+) -> Answer
+    requires call { IsCall call.now }
+    requires domain { IsDomainIndex N.id domain }
+{
+    let shared = crowd.shared;
+    match call {
+        Call::Regrade { number, params, .. } => client.regrade(
+            rt, shared, domain, *number, *params,
+        ),
+        Call::Wake { number } => client.wake(rt, shared, domain, *number),
+        Call::Leave { number } => client.leave(rt, shared, domain, *number),
+        Call::Advance { ticks } => client.advance(rt, shared, domain, *ticks),
+        Call::Limit { limit, .. } => client.limit(rt, shared, domain, *limit),
+        Call::Depart { number } => {
+            let to = (domain + 1) % crowd.domains;
+            match client.move_task(rt, alloc, shared, *number, domain, to) {
+                Ok(()) => Ok(Reply::Departed),
+                Err(refusal) => Err(refusal),
+            }
+        }
+        Call::Admit { .. } | Call::Arrive { .. } => Err(Refusal::SameDomain),
+    }
+}
+
+/// Makes a call on a domain.
+fn answer_to<N: Names, R: Threads + Wait>(
     rt: &R,
     alloc: Global,
     crowd: &Crowd<N>,
@@ -104,52 +171,12 @@ fn make<N: Names, R: Threads + Wait>(
     requires call { IsCall call }
     requires domain { IsDomainIndex N.id domain }
 {
-    let shared = crowd.shared;
-    match call {
-        Call::Admit {
-            number,
-            name,
-            params,
-            delay,
-            script,
-        } => {
-            let task = TaskSpec {
-                number,
-                name,
-                attr: SchedAttr {
-                    policy: 6,
-                    flags: 0,
-                    runtime: params.runtime.saturating_mul(1000),
-                    deadline: params.deadline.saturating_mul(1000),
-                    period: params.period.saturating_mul(1000),
-                },
-                cpus: if domain == 0 {
-                    None
-                } else {
-                    Vec::from_slice(alloc, [1].as_slice()).ok()
-                },
-                delay,
-                script,
-            };
-            client.admit(rt, alloc, shared, &task)
-        }
-        Call::Regrade {
-            number,
-            params,
-            word: _,
-        } => client.regrade(rt, shared, domain, number, params),
-        Call::Wake { number } => client.wake(rt, shared, domain, number),
-        Call::Leave { number } => client.leave(rt, shared, domain, number),
-        Call::Advance { ticks } => client.advance(rt, shared, domain, ticks),
-        Call::Limit { limit, word: _ } => client.limit(rt, shared, domain, limit),
-        Call::Depart { number } => {
-            let to = (domain + 1) % crowd.domains;
-            match client.move_task(rt, alloc, shared, number, domain, to) {
-                Ok(()) => Ok(Reply::Departed),
-                Err(refusal) => Err(refusal),
-            }
-        }
-        Call::Arrive { .. } => Err(Refusal::SameDomain),
+    if !matches!(call, Call::Admit { .. }) {
+        return make(rt, alloc, crowd, client, domain, &call);
+    }
+    match task_of(alloc, domain, call) {
+        Some(task) => client.admit(rt, alloc, crowd.shared, &task),
+        None => Err(Refusal::Eperm),
     }
 }
 
@@ -166,7 +193,10 @@ fn calls_of<N: Names>(alloc: Global, crowd: &Crowd<N>, client: u32) -> Vec<Entry
     ensures { All IsEntry result.items }
 {
     let text = crowd.texts.get((client as usize).wrapping_sub(1));
-    match entries_of(alloc, text_of(alloc, text.unwrap_or(&""), client).as_slice()) {
+    match entries_of(
+        alloc,
+        text_of(alloc, text.unwrap_or(&""), client).as_slice(),
+    ) {
         Some(entries) => entries,
         None => Vec::new(alloc),
     }
@@ -186,7 +216,7 @@ fn play<N: Names, R: Threads + Wait>(
     arrive(&crowd.here, crowd.texts.len());
     while let Some(entry) = entries.pop() {
         let domain = (entry.client as usize - 1) % crowd.domains;
-        let answer = make(rt, alloc, crowd, &mut client, domain, entry.call);
+        let answer = answer_to(rt, alloc, crowd, &mut client, domain, entry.call);
         tell(&mut said, answer);
     }
     (client, said)
@@ -264,23 +294,78 @@ fn cap_of(history: &Section) -> u64 {
     u64::from(history.cpus).wrapping_mul(limit)
 }
 
-/// What the clients of a session of these options were answered, a line for each that has a text; and
-/// then what the session left: how many calls each history has and whether it tells of the word's cap,
-/// what is used of the words, their caps, and how many pieces came home.
+/// Of a session: the CPUs of its first domain and of its second, which may have none; the limit; how
+/// many clients it has, and how many calls each history has room for.
+#[derive(Clone, Copy)]
+struct Sizes {
+    cpus: (u32, u32),
+    limit: u64,
+    clients: u32,
+    history: usize,
+}
+
+fn options_of(alloc: Global, sizes: Sizes) -> Result<Options, NoMemory>
+    ensures { IfOk result AreOptions }
+{
+    let (first, second) = (sizes.cpus.0.clamp(1, 64), sizes.cpus.1.clamp(1, 64));
+    let (limit, clients, history) = (sizes.limit, sizes.clients, sizes.history);
+    if sizes.cpus.1 == 0 {
+        return Ok(options_on(vec![in alloc; first]?, limit, clients, history));
+    }
+    Ok(options_on(vec![in alloc; first, second]?, limit, clients, history))
+}
+
+/// What was said, and then what the session left: how many calls each history has and whether it tells
+/// of the word's cap, what is used of the words, their caps, and how many pieces came home.
+fn told(mut said: String, report: &Report) -> String {
+    for (history, cap) in report.histories.iter().zip(report.caps.iter()) {
+        let kept = if cap_of(history) == *cap {
+            "kept"
+        } else {
+            "lost"
+        };
+        let _ = write!(said, "{} calls, cap {kept}, ", history.entries.len());
+    }
+    let (words, caps) = (&report.words, &report.caps);
+    let _ = write!(said, "{words:?} of {caps:?}, {} home", report.home);
+    said
+}
+
+fn left_in<R: Threads + Wait + Sync>(
+    rt: &R,
+    alloc: Global,
+    sizes: Sizes,
+    texts: &[&str],
+) -> Result<String, NoMemory> {
+    let parts = Parts::open(alloc, &options_of(alloc, sizes)?)?;
+    let (said, report) = all_in(rt, alloc, parts, texts)?;
+    Ok(told(said, &report))
+}
+
+/// What the clients of a session of these sizes were answered, a line for each that has a text, and
+/// what it left; nothing where memory ran out.
 fn left_by<R: Threads + Wait + Sync>(
     rt: &R,
     alloc: Global,
-    options: &Options,
+    sizes: Sizes,
     texts: &[&str],
-) -> Result<String, NoMemory>
-    requires { AreOptions options.now }
-{
-    let (mut said, report) = all_in(rt, alloc, Parts::open(alloc, options)?, texts)?;
-    for (history, cap) in report.histories.iter().zip(report.caps.iter()) {
-        let kept = if cap_of(history) == *cap { "kept" } else { "lost" };
-        write!(said, "{} calls, cap {kept}, ", history.entries.len())?;
+) -> String {
+    match left_in(rt, alloc, sizes, texts) {
+        Ok(left) => left,
+        Err(NoMemory) => String::new(alloc),
     }
-    write!(said, "{:?} of {:?}", report.words, report.caps)?;
-    write!(said, ", {} home", report.home)?;
-    Ok(said)
+}
+
+fn want(rt: &impl Abort, got: &str, wanted: &str) {
+    assert_eq!(rt; got, wanted);
+}
+
+/// A text that says something so often, and ends so.
+fn want_end(rt: &impl Abort, got: &str, part: (&str, usize), end: &str) {
+    let count = got.split(part.0).count();
+    assert_eq!(rt;
+        (count, got.ends_with(end)),
+        (part.1.wrapping_add(1), true),
+        "{got}"
+    );
 }

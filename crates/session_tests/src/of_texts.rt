@@ -94,7 +94,11 @@ pub(crate) fn ran<X: Threads + Wait + Sync, R: Read + Drop, W: Write, T: Turnsti
 }
 
 /// The same of a replay.
-fn replayed<R: Read + Drop, W: Write>(alloc: Global, reader: R, writer: W) -> (Option<SessionFault>, W) {
+fn replayed<R: Read + Drop, W: Write>(
+    alloc: Global,
+    reader: R,
+    writer: W,
+) -> (Option<SessionFault>, W) {
     let mut reader = Counted::new(reader);
     let mut writer = Counted::new(writer);
     let ended = replay(alloc, &mut reader, &mut writer);

@@ -1,8 +1,7 @@
 //! Many clients at once, each in a thread of its own. Where all pieces are home at the end, each word
 //! is the sum of its domain's tasks: the contract of a session says so (`exact` of `IsLeft`).
 
-use super::{left_by, options_on};
-use std::test::Fail;
+use super::{Sizes, left_by, want_end};
 
 // An admission of half a CPU and a regrade to a quarter.
 const STAYS: &str =
@@ -46,14 +45,17 @@ const STORMS: [Storm; 3] = [
 ];
 
 #[test]
-fn storm(rt: HostRuntime) -> Result<(), Fail> {
+fn storm(rt: HostRuntime) {
     for (cpus, text, answer, clients, wanted) in STORMS {
-        let options = options_on(vec![in rt.alloc(); cpus.clamp(1, 64)]?, 1048576, 64, 1024);
-        let left = left_by(&rt, rt.alloc(), &options, &[text; 64])?;
-        assert_eq!(rt; left.as_str().split(answer).count(), clients.wrapping_add(1));
-        assert!(rt; left.as_str().ends_with(wanted));
+        let sizes = Sizes {
+            cpus: (cpus, 0),
+            limit: 1048576,
+            clients: 64,
+            history: 1024,
+        };
+        let left = left_by(&rt, rt.alloc(), sizes, &[text; 64]);
+        want_end(&rt, left.as_str(), (answer, clients), wanted);
     }
-    Ok(())
 }
 
 // A client admits a task of half a CPU, regrades it to a quarter and lets it leave, six times.
@@ -64,15 +66,22 @@ const COMES: &str =
 const LIMITS: &str =
     "dlcalls 2\ndomain 1 1048576\nlimit 1 524288\nlimit 1 1048576\nlimit 1 262144\nlimit 1 786432\nlimit 1 524288\nlimit 1 1048576\nlimit 1 262144\nlimit 1 786432\nlimit 1 524288\nlimit 1 1048576\nlimit 1 262144\nlimit 1 786432\nlimit 1 524288\nlimit 1 1048576\nlimit 1 262144\nlimit 1 786432\nlimit 1 524288\nlimit 1 1048576\nlimit 1 262144\nlimit 1 786432\nlimit 1 524288\nlimit 1 1048576\nlimit 1 262144\nlimit 1 786432\n";
 
+const FOUR: Sizes = Sizes {
+    cpus: (4, 0),
+    limit: 1048576,
+    clients: 9,
+    history: 1024,
+};
+
+const CHANGES: [&str; 9] = [
+    COMES, COMES, COMES, COMES, COMES, COMES, COMES, COMES, LIMITS,
+];
+
 // The cap is that of the limit which the history leaves.
 #[test]
-fn limit_changes_while_clients_run(rt: HostRuntime) -> Result<(), Fail> {
-    let options = options_on(vec![in rt.alloc(); 4]?, 1048576, 9, 1024);
-    let texts = [COMES, COMES, COMES, COMES, COMES, COMES, COMES, COMES, LIMITS];
-    let left = left_by(&rt, rt.alloc(), &options, &texts)?;
-    assert_eq!(rt; left.as_str().split(", cap kept, ").count(), 2);
-    assert!(rt; left.as_str().ends_with(", 265 home"));
-    Ok(())
+fn limit_changes_while_clients_run(rt: HostRuntime) {
+    let left = left_by(&rt, rt.alloc(), FOUR, &CHANGES);
+    want_end(&rt, left.as_str(), (", cap kept, ", 1), ", 265 home");
 }
 
 // A client admits a task of a 64th of a CPU to one domain and moves it to the other, ten times, from
@@ -91,18 +100,27 @@ const ADVANCES: &str =
 const BOTH: &str =
     "dlcalls 2\ndomain 1 1048576\nlimit 1 262144\nlimit 2 262144\nlimit 1 1048576\nlimit 2 1048576\nlimit 1 262144\nlimit 2 262144\nlimit 1 1048576\nlimit 2 1048576\nlimit 1 262144\nlimit 2 262144\nlimit 1 1048576\nlimit 2 1048576\nlimit 1 262144\nlimit 2 262144\nlimit 1 1048576\nlimit 2 1048576\nlimit 1 262144\nlimit 2 262144\nlimit 1 1048576\nlimit 2 1048576\n";
 
+const MOVES: [&str; 10] = [
+    THERE, BACK, THERE, BACK, THERE, BACK, THERE, BACK, ADVANCES, BOTH,
+];
+
 // Two clients move tasks in opposite directions at once, and neither waits for the other for ever.
 // Then eight do, while a ninth advances both domains and a tenth sets both limits.
 #[test]
-fn in_opposite_directions(rt: HostRuntime) -> Result<(), Fail> {
-    let texts = [THERE, BACK, THERE, BACK, THERE, BACK, THERE, BACK, ADVANCES, BOTH];
-    for (clients, moves, home) in [(2, 20, " 514 home"), (10, 1, " 522 home")] {
+fn in_opposite_directions(rt: HostRuntime) {
+    for (clients, part, end) in [
+        (2, ("Departed; ", 20), ", 514 home"),
+        (10, (", cap kept, ", 2), ", 522 home"),
+    ] {
+        let sizes = Sizes {
+            cpus: (1, 1),
+            limit: 1048576,
+            clients,
+            history: 1024,
+        };
         for _ in 0..20 {
-            let options = options_on(vec![in rt.alloc(); 1, 1]?, 1048576, clients, 1024);
-            let left = left_by(&rt, rt.alloc(), &options, &texts[..clients as usize])?;
-            assert!(rt; left.as_str().split("Departed; ").count() > moves);
-            assert!(rt; left.as_str().ends_with(home));
+            let left = left_by(&rt, rt.alloc(), sizes, &MOVES[..clients as usize]);
+            want_end(&rt, left.as_str(), part, end);
         }
     }
-    Ok(())
 }

@@ -2,7 +2,7 @@
 //! after each admission.
 ghost use Rattle.std.specs.Prelude.{◌≡◌, ◌<◌, length};
 
-use super::options_on;
+use super::{options_on, want};
 use crate::of_texts::ran;
 use call_book::NoMemory;
 use domain_run::Call;
@@ -82,8 +82,7 @@ impl<'r, 's, N: Names, R: Wait, T> Witness<'r, 's, N, R, T> {
 }
 
 impl<'r, 's, N: Names + Send + Sync, R: Wait + Sync, T: Turnstile> Turnstile
-    for Witness<'r, 's, N, R, T>
-{
+    for Witness<'r, 's, N, R, T> {
     fn before(&self, client: u32, seq: usize) {
         self.order.before(client, seq);
         self.wake(client, seq);
@@ -163,25 +162,26 @@ fn admitted_in<R: Threads + Wait + Abort + Sync, T: Turnstile>(
 }
 
 // Who entered what of which task in the first domain's history, then who was refused what, and then
-// what is used of the word and how many pieces came home.
-fn told(alloc: Global, report: &Report) -> Result<String, Fail> {
+// what is used of the word and how many pieces came home; and whether somebody was late.
+fn told(alloc: Global, report: &Report, late: &AtomicBool) -> String {
     let mut said = String::new(alloc);
     for history in &report.histories {
         for entry in &history.entries {
             if let Call::Admit { number, .. } | Call::Wake { number } = &entry.call
                 && let Some(reply) = &entry.reply
             {
-                write!(said, "{}: {number} {reply:?}, ", entry.client)?;
+                let _ = write!(said, "{}: {number} {reply:?}, ", entry.client);
             }
         }
     }
     for (number, refusal) in &report.refused {
-        write!(said, "{number} {refusal}; ")?;
+        let _ = write!(said, "{number} {refusal}; ");
     }
-    for word in &report.words {
-        write!(said, "{word} used, {} home", report.home)?;
+    let _ = write!(said, "{:?} used, {} home", report.words, report.home);
+    if late.load(Ordering::SeqCst) {
+        let _ = write!(said, ", late");
     }
-    Ok(said)
+    said
 }
 
 // An order, and what stands in the book after a run in this order, and after the same without a run
@@ -191,13 +191,13 @@ type Row = (bool, &'static str, &'static str);
 const ROWS: [Row; 2] = [
     (
         false,
-        "1: 1 Admitted, 2: 2 Admitted, 3: 3 Admitted, 4 EBUSY 16 seen 1572864; 5 EBUSY 16 seen 1572864; 6 EBUSY 16 seen 1572864; 7 EBUSY 16 seen 1572864; 8 EBUSY 16 seen 1572864; 1572864 used, 260 home",
-        "5: 1 NotListed, 1: 1 Admitted, 5: 1 NotWaiting, 5: 2 NotListed, 2: 2 Admitted, 5: 2 NotWaiting, 5: 3 NotListed, 3: 3 Admitted, 5: 3 NotWaiting, 5: 4 NotListed, 5: 4 NotListed, 5: 5 NotListed, 5: 5 NotListed, 5: 6 NotListed, 5: 6 NotListed, 5: 7 NotListed, 5: 7 NotListed, 5: 8 NotListed, 5: 8 NotListed, 4 EBUSY 16 seen 1572864; 5 EBUSY 16 seen 1572864; 6 EBUSY 16 seen 1572864; 7 EBUSY 16 seen 1572864; 8 EBUSY 16 seen 1572864; 1572864 used, 261 home",
+        "1: 1 Admitted, 2: 2 Admitted, 3: 3 Admitted, 4 EBUSY 16 seen 1572864; 5 EBUSY 16 seen 1572864; 6 EBUSY 16 seen 1572864; 7 EBUSY 16 seen 1572864; 8 EBUSY 16 seen 1572864; [1572864] used, 260 home",
+        "5: 1 NotListed, 1: 1 Admitted, 5: 1 NotWaiting, 5: 2 NotListed, 2: 2 Admitted, 5: 2 NotWaiting, 5: 3 NotListed, 3: 3 Admitted, 5: 3 NotWaiting, 5: 4 NotListed, 5: 4 NotListed, 5: 5 NotListed, 5: 5 NotListed, 5: 6 NotListed, 5: 6 NotListed, 5: 7 NotListed, 5: 7 NotListed, 5: 8 NotListed, 5: 8 NotListed, 4 EBUSY 16 seen 1572864; 5 EBUSY 16 seen 1572864; 6 EBUSY 16 seen 1572864; 7 EBUSY 16 seen 1572864; 8 EBUSY 16 seen 1572864; [1572864] used, 261 home",
     ),
     (
         true,
-        "4: 4 Admitted, 3: 3 Admitted, 2: 2 Admitted, 1 EBUSY 16 seen 1572864; 5 EBUSY 16 seen 1572864; 6 EBUSY 16 seen 1572864; 7 EBUSY 16 seen 1572864; 8 EBUSY 16 seen 1572864; 1572864 used, 260 home",
-        "5: 4 NotListed, 4: 4 Admitted, 5: 4 NotWaiting, 5: 3 NotListed, 3: 3 Admitted, 5: 3 NotWaiting, 5: 2 NotListed, 2: 2 Admitted, 5: 2 NotWaiting, 5: 1 NotListed, 5: 1 NotListed, 5: 8 NotListed, 5: 8 NotListed, 5: 7 NotListed, 5: 7 NotListed, 5: 6 NotListed, 5: 6 NotListed, 5: 5 NotListed, 5: 5 NotListed, 1 EBUSY 16 seen 1572864; 5 EBUSY 16 seen 1572864; 6 EBUSY 16 seen 1572864; 7 EBUSY 16 seen 1572864; 8 EBUSY 16 seen 1572864; 1572864 used, 261 home",
+        "4: 4 Admitted, 3: 3 Admitted, 2: 2 Admitted, 1 EBUSY 16 seen 1572864; 5 EBUSY 16 seen 1572864; 6 EBUSY 16 seen 1572864; 7 EBUSY 16 seen 1572864; 8 EBUSY 16 seen 1572864; [1572864] used, 260 home",
+        "5: 4 NotListed, 4: 4 Admitted, 5: 4 NotWaiting, 5: 3 NotListed, 3: 3 Admitted, 5: 3 NotWaiting, 5: 2 NotListed, 2: 2 Admitted, 5: 2 NotWaiting, 5: 1 NotListed, 5: 1 NotListed, 5: 8 NotListed, 5: 8 NotListed, 5: 7 NotListed, 5: 7 NotListed, 5: 6 NotListed, 5: 6 NotListed, 5: 5 NotListed, 5: 5 NotListed, 1 EBUSY 16 seen 1572864; 5 EBUSY 16 seen 1572864; 6 EBUSY 16 seen 1572864; 7 EBUSY 16 seen 1572864; 8 EBUSY 16 seen 1572864; [1572864] used, 261 home",
     ),
 ];
 
@@ -210,16 +210,16 @@ fn in_turn<C: Clock>(clock: C, falling: bool) -> InTurn<C> {
     }
 }
 
-// What a run leaves in this order, and whether somebody was late.
+// What a run leaves in this order.
 fn by_run<R: Threads + Wait + Clock + Sync>(
     rt: &R,
     alloc: Global,
     falling: bool,
-) -> Result<(String, bool), Fail> {
+) -> Result<String, Fail> {
     let order = in_turn(rt, falling);
     let options = options_on(vec![in alloc; 2]?, 996147, 4, 1024);
     let (ended, _) = ran(rt, alloc, RACE, Vec::new(alloc), &options, &order);
-    Ok((told(alloc, &ended?)?, order.late.load(Ordering::SeqCst)))
+    Ok(told(alloc, &ended?, &order.late))
 }
 
 // The same without a run, and with the witness.
@@ -227,12 +227,12 @@ fn by_all<R: Threads + Wait + Abort + Clock + Sync>(
     rt: &R,
     alloc: Global,
     falling: bool,
-) -> Result<(String, bool), Fail> {
+) -> Result<String, Fail> {
     let order = in_turn(rt, falling);
     let tasks = parse(alloc, &read(alloc, RACE)?)?.tasks;
     let options = options_on(vec![in alloc; 2]?, 996147, 5, 1024);
     let report = admitted_in(rt, alloc, Parts::open(alloc, &options)?, &tasks, &order)?;
-    Ok((told(alloc, &report)?, order.late.load(Ordering::SeqCst)))
+    Ok(told(alloc, &report, &order.late))
 }
 
 // A run that admitted beside its clients' threads, or on one thread, would be late, or enter them
@@ -241,10 +241,8 @@ fn by_all<R: Threads + Wait + Abort + Clock + Sync>(
 #[test]
 fn clients_let_in_one_by_one(rt: HostRuntime) -> Result<(), Fail> {
     for (falling, ran, asked) in ROWS {
-        let (said, late) = by_run(&rt, rt.alloc(), falling)?;
-        assert_eq!(rt; (said.as_str(), late), (ran, false));
-        let (said, late) = by_all(&rt, rt.alloc(), falling)?;
-        assert_eq!(rt; (said.as_str(), late), (asked, false));
+        want(&rt, by_run(&rt, rt.alloc(), falling)?.as_str(), ran);
+        want(&rt, by_all(&rt, rt.alloc(), falling)?.as_str(), asked);
     }
     Ok(())
 }

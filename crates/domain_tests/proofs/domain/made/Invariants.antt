@@ -1,6 +1,6 @@
 use Rattle.std.proofs.Common.{All}
 use Rattle.call_book.specs.Limits.{IsEntry}
-use Rattle.domain_tests.proofs.domain.opened.Given as goal
+use Rattle.domain_tests.proofs.domain.made.Given as goal
 
 abbrev pub invariant-loop-entry : goal.invariant-loop-entry
 invariant-loop-entry l = All IsEntry l.entries.items
