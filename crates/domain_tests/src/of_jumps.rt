@@ -243,10 +243,16 @@ fn pieces_of_each_step(rt: HostRuntime) -> Result<(), Fail> {
         let mut state = opened(rt.alloc(), calls)?;
         let of = no_turns(rt, first);
         let of = turns_of(&rt, rt.alloc(), &mut state, 4, workers, of);
-        let (begun, ended) = (of.begun.load(Ordering::SeqCst), of.ended.load(Ordering::SeqCst));
+        let (begun, ended) = (
+            of.begun.load(Ordering::SeqCst),
+            of.ended.load(Ordering::SeqCst),
+        );
         let others = of.elsewhere.load(Ordering::SeqCst);
         let late = of.late.load(Ordering::SeqCst);
-        assert_eq!(rt; ((begun, ended), others, late), ((twos, twos), elsewhere, false));
+        assert_eq!(rt;
+            ((begun, ended), others, late),
+            ((twos, twos), elsewhere, false)
+        );
     }
     Ok(())
 }
