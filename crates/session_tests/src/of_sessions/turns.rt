@@ -25,11 +25,12 @@ use std::time::{Clock, Duration};
 const RACE: &[u8] =
     br#"{"tasks":{"t":{"instance":8,"policy":"SCHED_DEADLINE","dl-runtime":500,"dl-period":1000,"run":100,"sleep":900}},"global":{"duration":0}}"#;
 
-/// Lets four clients in one after the other, by their numbers or the other way round, twice. Who
-/// waits for ten seconds is late.
+/// Lets so many clients in one after the other, by their numbers or the other way round, and again
+/// where they have more tasks. Who waits for ten seconds is late.
 #[derive(Drop)]
 struct InTurn<C> {
     clock: C,
+    many: u32,
     falling: bool,
     passed: AtomicUsize,
     late: AtomicBool,
@@ -38,11 +39,13 @@ struct InTurn<C> {
 impl<C: Clock + Sync> Turnstile for InTurn<C> {
     fn before(&self, client: u32, seq: usize) {
         let place = if self.falling {
-            4u32.saturating_sub(client)
+            self.many.saturating_sub(client)
         } else {
             client.saturating_sub(1)
         };
-        let turn = seq.saturating_mul(4).saturating_add(place as usize);
+        let turn = seq
+            .saturating_mul(self.many as usize)
+            .saturating_add(place as usize);
         for _ in 0..10000 {
             if self.passed.load(Ordering::SeqCst) == turn {
                 return;
@@ -57,24 +60,25 @@ impl<C: Clock + Sync> Turnstile for InTurn<C> {
     }
 }
 
-/// Behind such a turnstile, before and after each admission of four clients a fifth one wakes that
+/// Behind such a turnstile, before and after each admission of so many clients one more wakes that
 /// very task: whether it is listed then stands in the book.
 #[derive(Drop)]
 struct Witness<'r, 's, N: Names, R, T> {
     rt: &'r R,
     shared: &'s Shared<N>,
     order: &'s T,
-    fifth: Mutex<Client<N>>,
+    many: u32,
+    last: Mutex<Client<N>>,
     ghost some: { 0 < length N.id.cpu_sets },
 }
 
 impl<'r, 's, N: Names, R: Wait, T> Witness<'r, 's, N, R, T> {
-    // The client's tasks are numbered by its place, and then by fours.
+    // The client's tasks are numbered by its place, and then by as many as there are clients.
     fn wake(&self, client: u32, seq: usize) {
-        let number = (client as usize).saturating_add(seq.saturating_mul(4));
+        let number = (client as usize).saturating_add(seq.saturating_mul(self.many as usize));
         if 0 < number && number < 65536 {
             let _ = self
-                .fifth
+                .last
                 .lock(self.rt)
                 .wake(self.rt, self.shared, 0, number as u32);
         }
@@ -100,8 +104,9 @@ fn asked<N: Names + Send + Sync, R: Threads + Wait + Sync, T: Turnstile>(
     rt: &R,
     alloc: Global,
     session: &Session<N>,
-    fifth: Client<N>,
+    last: Client<N>,
     clients: Vec<Client<N>>,
+    many: u32,
     tasks: &[TaskSpec],
     order: &T,
 ) -> Result<(Vec<Client<N>>, Vec<(u32, Refusal)>), AdmitFault>
@@ -112,10 +117,11 @@ fn asked<N: Names + Send + Sync, R: Threads + Wait + Sync, T: Turnstile>(
         rt,
         shared: session.shared(),
         order,
-        fifth: Mutex::new(fifth),
+        many,
+        last: Mutex::new(last),
     };
     let (mut clients, refused) = admit_all(rt, alloc, session, clients, tasks, &witness)?;
-    let _ = clients.push(witness.fifth.into_inner());
+    let _ = clients.push(witness.last.into_inner());
     Ok((clients, refused))
 }
 
@@ -124,6 +130,7 @@ fn admitted<N: Names + Send + Sync, R: Threads + Wait + Abort + Sync, T: Turnsti
     rt: &R,
     alloc: Global,
     parts: Parts,
+    many: u32,
     tasks: &[TaskSpec],
     order: &T,
 ) -> Result<Report, NoMemory>
@@ -131,18 +138,18 @@ fn admitted<N: Names + Send + Sync, R: Threads + Wait + Abort + Sync, T: Turnsti
 {
     let mut session: Session<N> = Session::open(parts);
     let mut clients = Vec::new(alloc);
-    for number in 1..5 {
+    for number in 1..many.saturating_add(1) {
         if let Some(client) = session.client(number) {
             let _ = clients.push(client);
         }
     }
-    let Some(fifth) = session.client(5) else {
+    let Some(last) = session.client(many.saturating_add(1)) else {
         panic!(rt; "no client")
     };
     if clients.is_empty() {
         panic!(rt; "no client")
     }
-    let (clients, refused) = match asked(rt, alloc, &session, fifth, clients, tasks, order) {
+    let (clients, refused) = match asked(rt, alloc, &session, last, clients, many, tasks, order) {
         Ok(asked) => asked,
         Err(_) => panic!(rt; "not asked"),
     };
@@ -155,10 +162,11 @@ fn admitted_in<R: Threads + Wait + Abort + Sync, T: Turnstile>(
     rt: &R,
     alloc: Global,
     parts: Parts,
+    many: u32,
     tasks: &[TaskSpec],
     order: &T,
 ) -> Result<Report, NoMemory> {
-    admitted::<Brand, R, T>(rt, alloc, parts, tasks, order)
+    admitted::<Brand, R, T>(rt, alloc, parts, many, tasks, order)
 }
 
 // Who entered what of which task in the first domain's history, then who was refused what, and then
@@ -184,26 +192,41 @@ fn told(alloc: Global, report: &Report, late: &AtomicBool) -> String {
     said
 }
 
-// An order, and what stands in the book after a run in this order, and after the same without a run
-// and with the witness.
-type Row = (bool, &'static str, &'static str);
+// How many clients there are, an order, and what stands in the book after a run in this order, and
+// after the same without a run and with the witness.
+type Row = (u32, bool, &'static str, &'static str);
 
-const ROWS: [Row; 2] = [
+const ROWS: [Row; 4] = [
     (
+        8,
+        false,
+        "1: 1 Admitted, 2: 2 Admitted, 3: 3 Admitted, 4 EBUSY 16 seen 1572864; 5 EBUSY 16 seen 1572864; 6 EBUSY 16 seen 1572864; 7 EBUSY 16 seen 1572864; 8 EBUSY 16 seen 1572864; [1572864] used, 264 home",
+        "9: 1 NotListed, 1: 1 Admitted, 9: 1 NotWaiting, 9: 2 NotListed, 2: 2 Admitted, 9: 2 NotWaiting, 9: 3 NotListed, 3: 3 Admitted, 9: 3 NotWaiting, 9: 4 NotListed, 9: 4 NotListed, 9: 5 NotListed, 9: 5 NotListed, 9: 6 NotListed, 9: 6 NotListed, 9: 7 NotListed, 9: 7 NotListed, 9: 8 NotListed, 9: 8 NotListed, 4 EBUSY 16 seen 1572864; 5 EBUSY 16 seen 1572864; 6 EBUSY 16 seen 1572864; 7 EBUSY 16 seen 1572864; 8 EBUSY 16 seen 1572864; [1572864] used, 265 home",
+    ),
+    (
+        8,
+        true,
+        "8: 8 Admitted, 7: 7 Admitted, 6: 6 Admitted, 1 EBUSY 16 seen 1572864; 2 EBUSY 16 seen 1572864; 3 EBUSY 16 seen 1572864; 4 EBUSY 16 seen 1572864; 5 EBUSY 16 seen 1572864; [1572864] used, 264 home",
+        "9: 8 NotListed, 8: 8 Admitted, 9: 8 NotWaiting, 9: 7 NotListed, 7: 7 Admitted, 9: 7 NotWaiting, 9: 6 NotListed, 6: 6 Admitted, 9: 6 NotWaiting, 9: 5 NotListed, 9: 5 NotListed, 9: 4 NotListed, 9: 4 NotListed, 9: 3 NotListed, 9: 3 NotListed, 9: 2 NotListed, 9: 2 NotListed, 9: 1 NotListed, 9: 1 NotListed, 1 EBUSY 16 seen 1572864; 2 EBUSY 16 seen 1572864; 3 EBUSY 16 seen 1572864; 4 EBUSY 16 seen 1572864; 5 EBUSY 16 seen 1572864; [1572864] used, 265 home",
+    ),
+    (
+        4,
         false,
         "1: 1 Admitted, 2: 2 Admitted, 3: 3 Admitted, 4 EBUSY 16 seen 1572864; 5 EBUSY 16 seen 1572864; 6 EBUSY 16 seen 1572864; 7 EBUSY 16 seen 1572864; 8 EBUSY 16 seen 1572864; [1572864] used, 260 home",
         "5: 1 NotListed, 1: 1 Admitted, 5: 1 NotWaiting, 5: 2 NotListed, 2: 2 Admitted, 5: 2 NotWaiting, 5: 3 NotListed, 3: 3 Admitted, 5: 3 NotWaiting, 5: 4 NotListed, 5: 4 NotListed, 5: 5 NotListed, 5: 5 NotListed, 5: 6 NotListed, 5: 6 NotListed, 5: 7 NotListed, 5: 7 NotListed, 5: 8 NotListed, 5: 8 NotListed, 4 EBUSY 16 seen 1572864; 5 EBUSY 16 seen 1572864; 6 EBUSY 16 seen 1572864; 7 EBUSY 16 seen 1572864; 8 EBUSY 16 seen 1572864; [1572864] used, 261 home",
     ),
     (
+        4,
         true,
         "4: 4 Admitted, 3: 3 Admitted, 2: 2 Admitted, 1 EBUSY 16 seen 1572864; 5 EBUSY 16 seen 1572864; 6 EBUSY 16 seen 1572864; 7 EBUSY 16 seen 1572864; 8 EBUSY 16 seen 1572864; [1572864] used, 260 home",
         "5: 4 NotListed, 4: 4 Admitted, 5: 4 NotWaiting, 5: 3 NotListed, 3: 3 Admitted, 5: 3 NotWaiting, 5: 2 NotListed, 2: 2 Admitted, 5: 2 NotWaiting, 5: 1 NotListed, 5: 1 NotListed, 5: 8 NotListed, 5: 8 NotListed, 5: 7 NotListed, 5: 7 NotListed, 5: 6 NotListed, 5: 6 NotListed, 5: 5 NotListed, 5: 5 NotListed, 1 EBUSY 16 seen 1572864; 5 EBUSY 16 seen 1572864; 6 EBUSY 16 seen 1572864; 7 EBUSY 16 seen 1572864; 8 EBUSY 16 seen 1572864; [1572864] used, 261 home",
     ),
 ];
 
-fn in_turn<C: Clock>(clock: C, falling: bool) -> InTurn<C> {
+fn in_turn<C: Clock>(clock: C, many: u32, falling: bool) -> InTurn<C> {
     InTurn {
         clock,
+        many,
         falling,
         passed: AtomicUsize::new(0),
         late: AtomicBool::new(false),
@@ -214,10 +237,11 @@ fn in_turn<C: Clock>(clock: C, falling: bool) -> InTurn<C> {
 fn by_run<R: Threads + Wait + Clock + Sync>(
     rt: &R,
     alloc: Global,
+    many: u32,
     falling: bool,
 ) -> Result<String, Fail> {
-    let order = in_turn(rt, falling);
-    let options = options_on(vec![in alloc; 2]?, 996147, 4, 1024);
+    let order = in_turn(rt, many, falling);
+    let options = options_on(vec![in alloc; 2]?, 996147, many, 1024);
     let (ended, _) = ran(rt, alloc, RACE, Vec::new(alloc), &options, &order);
     Ok(told(alloc, &ended?, &order.late))
 }
@@ -226,12 +250,20 @@ fn by_run<R: Threads + Wait + Clock + Sync>(
 fn by_all<R: Threads + Wait + Abort + Clock + Sync>(
     rt: &R,
     alloc: Global,
+    many: u32,
     falling: bool,
 ) -> Result<String, Fail> {
-    let order = in_turn(rt, falling);
+    let order = in_turn(rt, many, falling);
     let tasks = parse(alloc, &read(alloc, RACE)?)?.tasks;
-    let options = options_on(vec![in alloc; 2]?, 996147, 5, 1024);
-    let report = admitted_in(rt, alloc, Parts::open(alloc, &options)?, &tasks, &order)?;
+    let options = options_on(vec![in alloc; 2]?, 996147, many.saturating_add(1), 1024);
+    let report = admitted_in(
+        rt,
+        alloc,
+        Parts::open(alloc, &options)?,
+        many,
+        &tasks,
+        &order,
+    )?;
     Ok(told(alloc, &report, &order.late))
 }
 
@@ -240,9 +272,9 @@ fn by_all<R: Threads + Wait + Abort + Clock + Sync>(
 // task is not listed before the turn, and is after it.
 #[test]
 fn clients_let_in_one_by_one(rt: HostRuntime) -> Result<(), Fail> {
-    for (falling, ran, asked) in ROWS {
-        want(&rt, by_run(&rt, rt.alloc(), falling)?.as_str(), ran);
-        want(&rt, by_all(&rt, rt.alloc(), falling)?.as_str(), asked);
+    for (many, falling, ran, asked) in ROWS {
+        want(&rt, by_run(&rt, rt.alloc(), many, falling)?.as_str(), ran);
+        want(&rt, by_all(&rt, rt.alloc(), many, falling)?.as_str(), asked);
     }
     Ok(())
 }
