@@ -87,8 +87,9 @@ pub(crate) fn holds(rt: &impl Abort, is: bool) {
     assert!(rt; is);
 }
 
-/// Whether there is memory.
-pub(crate) fn has_memory(alloc: Global) -> bool {
+/// Asks for memory, which has to be there.
+pub(crate) fn want_memory(rt: &impl Abort, alloc: Global) {
     let block: Result<Vec<u8>, AllocError> = Vec::with_capacity(alloc, 1);
-    block.is_ok()
+    let has_memory = block.is_ok();
+    assert!(rt; has_memory);
 }

@@ -1,7 +1,7 @@
 //! Jumps, by one worker and by several: all ticks of a call are made, and which turns are taken, in
 //! what order, and in whose thread. Worked rows by one worker are what the built program replays.
 
-use crate::domain::{has_memory, holds, made, opened, same, section_of};
+use crate::domain::{holds, made, opened, same, section_of, want_memory};
 use domain_run::State;
 use jump_run::{Done, Silent, Turn, advance_with};
 use std::alloc::Global;
@@ -263,6 +263,6 @@ fn one_worker_takes_no_memory(rt: HostRuntime) -> Result<(), Fail> {
     let mut state = opened(rt.alloc(), EMPTY)?;
     advanced(&rt, rt.alloc(), &mut state, 1, 1, &Silent);
     advanced(&rt, rt.alloc(), &mut state, 4, 1, &Silent);
-    holds(&rt, has_memory(rt.alloc()));
+    want_memory(&rt, rt.alloc());
     Ok(())
 }
