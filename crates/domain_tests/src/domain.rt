@@ -4,7 +4,8 @@ ghost use Rattle.call_book.specs.Limits.{IsCall, IsEntry, IsSection};
 
 use call_book::{Entry, NoMemory, Section, read_calls};
 use domain_run::{Call, Reply, State};
-use std::alloc::Global;
+use std::alloc::{AllocError, Global};
+use std::process::Abort;
 use std::test::Fail;
 
 /// The one section of a text.
@@ -76,4 +77,19 @@ pub(crate) fn tick(state: &mut State) -> Result<(), NoMemory> {
     } else {
         Ok(())
     }
+}
+
+pub(crate) fn same(rt: &impl Abort, got: usize, wanted: usize) {
+    assert_eq!(rt; got, wanted);
+}
+
+pub(crate) fn holds(rt: &impl Abort, is: bool) {
+    assert!(rt; is);
+}
+
+/// Asks for memory, which has to be there.
+pub(crate) fn want_memory(rt: &impl Abort, alloc: Global) {
+    let block: Result<Vec<u8>, AllocError> = Vec::with_capacity(alloc, 1);
+    let has_memory = block.is_ok();
+    assert!(rt; has_memory);
 }

@@ -1,8 +1,8 @@
 //! The calls on a domain take no memory: no room grows, and nothing else is asked for.
 
-use crate::domain::{made, opened, section_of, tick};
-use domain_run::{Reply, State, Switch};
-use std::alloc::AllocError;
+use crate::domain::{holds, made, opened, same, section_of, tick, want_memory};
+use domain_run::{Reply, Switch};
+use std::alloc::{AllocError, Global};
 use std::test::Fail;
 
 /// Task 1 waits behind a tick; then each call once, with its answer.
@@ -22,9 +22,8 @@ const ANSWERS: [Reply; 6] = [
 
 /// The room for switches is what it was. The state's other room is kept by its types.
 ///
-/// All that takes memory is made before the calls, in N requests, and one request is made behind
-/// them. So with that one refused (`rt try --test --fail-alloc N`) the last assertion fails, since
-/// that is the one behind: the calls asked for none.
+/// All that takes memory is made before the calls, and one request is made behind them. So with that
+/// one refused (`rt try --test --fail-alloc N`) the last assertion fails: the calls asked for none.
 #[test]
 fn calls_take_no_memory(rt: HostRuntime) -> Result<(), Fail> {
     let mut state = opened(rt.alloc(), WAITS)?;
@@ -33,25 +32,31 @@ fn calls_take_no_memory(rt: HostRuntime) -> Result<(), Fail> {
     let mut replies = Vec::with_capacity(rt.alloc(), 6)?;
     let before = state.room();
     made(&mut state, calls, &mut replies);
-    assert_eq!(rt; replies.as_slice(), ANSWERS.as_slice());
-    assert_eq!(rt; state.room(), before);
-    let block: Result<Vec<u8>, AllocError> = Vec::with_capacity(rt.alloc(), 1);
-    let has_memory = block.is_ok();
-    assert!(rt; has_memory);
+    holds(&rt, replies.as_slice() == ANSWERS.as_slice());
+    same(&rt, state.room(), before);
+    want_memory(&rt, rt.alloc());
     Ok(())
+}
+
+/// The room that a vector of no switches takes for three.
+fn room_for_three(alloc: Global) -> Result<usize, AllocError> {
+    let mut room: Vec<Switch> = Vec::new(alloc);
+    room.try_reserve(3)?;
+    Ok(room.capacity())
 }
 
 /// Ticks of an empty domain of three CPUs make room for a switch of each, once, and for no more; and
 /// a switch is small.
 #[test]
 fn a_tick_takes_room_for_its_switches_alone(rt: HostRuntime) -> Result<(), Fail> {
-    let mut room: Vec<Switch> = Vec::new(rt.alloc());
-    room.try_reserve(3)?;
-    let mut state = State::open(rt.alloc(), 3, 1048576)?;
+    let room = room_for_three(rt.alloc())?;
+    let mut state = opened(rt.alloc(), THREE)?;
     for _ in 0..9 {
         tick(&mut state)?;
-        assert_eq!(rt; state.room(), room.capacity());
+        same(&rt, state.room(), room);
     }
-    assert!(rt; std::mem::size_of::<Switch>() <= 32);
+    holds(&rt, std::mem::size_of::<Switch>() <= 32);
     Ok(())
 }
+
+const THREE: &[u8] = b"dlcalls 1\ndomain 3 1048576\n";

@@ -1,10 +1,10 @@
 //! Jumps, by one worker and by several: all ticks of a call are made, and which turns are taken, in
 //! what order, and in whose thread. Worked rows by one worker are what the built program replays.
 
-use crate::domain::{made, opened, section_of};
+use crate::domain::{holds, made, opened, same, section_of, want_memory};
 use domain_run::State;
 use jump_run::{Done, Silent, Turn, advance_with};
-use std::alloc::{AllocError, Global};
+use std::alloc::Global;
 use std::fs;
 use std::io::Read;
 use std::sync::Wait;
@@ -29,6 +29,8 @@ fn advanced<R: Threads + Wait, G: Turn>(
 const TWO: &[u8] =
     b"dlcalls 1\ndomain 2 1048576\nadmit 1 1 T 4 32 32 - 0 -1:1{r4,t32}\nadmit 1 2 T 4 32 32 - 0 -1:1{r4,t32}\n";
 
+const NOBODY_OF_TWO: &[u8] = b"dlcalls 1\ndomain 2 1048576\n";
+
 const MANY_TICKS: u64 = 2100;
 
 /// Each advance makes all that it was asked for, of two tasks that are admitted when it begins, also
@@ -40,13 +42,13 @@ const MANY_TICKS: u64 = 2100;
 fn all_ticks_of_a_call(rt: HostRuntime) -> Result<(), Fail> {
     for workers in 1..9 {
         for start in [0, (1 << 42) - MANY_TICKS] {
-            let mut state = State::open(rt.alloc(), 2, 1048576)?;
+            let mut state = opened(rt.alloc(), NOBODY_OF_TWO)?;
             advanced(&rt, rt.alloc(), &mut state, start, 1, &Silent);
             let tasks = section_of(rt.alloc(), TWO)?.entries;
             made(&mut state, tasks, &mut Vec::new(rt.alloc()));
             let done = advanced(&rt, rt.alloc(), &mut state, MANY_TICKS, workers, &Silent);
-            assert_eq!(rt; done.ticks, MANY_TICKS, "{workers} workers from {start}");
-            assert!(rt; state.switches().len() > 200);
+            same(&rt, done.ticks as usize, MANY_TICKS as usize);
+            holds(&rt, state.switches().len() > 200);
         }
     }
     Ok(())
@@ -203,7 +205,7 @@ fn turns_of_one_piece(rt: HostRuntime) -> Result<(), Fail> {
         for (ticks, order) in advances {
             let of = no_turns(rt, NOBODY);
             let of = turns_of(&rt, rt.alloc(), &mut state, *ticks, workers, of);
-            assert_eq!(rt; of.order.load(Ordering::SeqCst), *order);
+            same(&rt, of.order.load(Ordering::SeqCst), *order);
         }
     }
     Ok(())
@@ -243,16 +245,10 @@ fn pieces_of_each_step(rt: HostRuntime) -> Result<(), Fail> {
         let mut state = opened(rt.alloc(), calls)?;
         let of = no_turns(rt, first);
         let of = turns_of(&rt, rt.alloc(), &mut state, 4, workers, of);
-        let (begun, ended) = (
-            of.begun.load(Ordering::SeqCst),
-            of.ended.load(Ordering::SeqCst),
-        );
-        let others = of.elsewhere.load(Ordering::SeqCst);
-        let late = of.late.load(Ordering::SeqCst);
-        assert_eq!(rt;
-            ((begun, ended), others, late),
-            ((twos, twos), elsewhere, false)
-        );
+        same(&rt, of.begun.load(Ordering::SeqCst), twos);
+        same(&rt, of.ended.load(Ordering::SeqCst), twos);
+        same(&rt, of.elsewhere.load(Ordering::SeqCst), elsewhere);
+        holds(&rt, !of.late.load(Ordering::SeqCst));
     }
     Ok(())
 }
@@ -267,8 +263,6 @@ fn one_worker_takes_no_memory(rt: HostRuntime) -> Result<(), Fail> {
     let mut state = opened(rt.alloc(), EMPTY)?;
     advanced(&rt, rt.alloc(), &mut state, 1, 1, &Silent);
     advanced(&rt, rt.alloc(), &mut state, 4, 1, &Silent);
-    let block: Result<Vec<u8>, AllocError> = Vec::with_capacity(rt.alloc(), 1);
-    let has_memory = block.is_ok();
-    assert!(rt; has_memory);
+    want_memory(&rt, rt.alloc());
     Ok(())
 }
