@@ -27,8 +27,8 @@ mod times;
 mod writing;
 
 pub use book::{
-    Admit, AdvanceError, Closed, Domain, EndingBook, Full, HeardAdvance, Limit, Move, MoveFault, Pass,
-    Prepared, move_task, prepare,
+    Admit, AdvanceError, Closed, Domain, EndingBook, Full, HeardAdvance, Limit, Move, MoveFault,
+    Pass, Prepared, move_task, prepare,
 };
 pub use domain_run::{Call, NoMemory, Reply};
 pub use fault::CallsFault;

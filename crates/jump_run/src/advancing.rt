@@ -82,13 +82,7 @@ fn has_enough(state: &State, log: &Log, enough: usize) -> bool {
 }
 
 /// As [`advance_piece`], with the turns of one piece.
-fn advance_alone<G: Turn>(
-    state: &mut State,
-    n: u64,
-    turn: &G,
-    enough: usize,
-    log: &mut Log,
-) -> Done
+fn advance_alone<G: Turn>(state: &mut State, n: u64, turn: &G, enough: usize, log: &mut Log) -> Done
     requires { state.old.time + n ≤ 2 ^ 42 }
     ensures state { state.new ≡ ticks_of result.ticks state.old }
     ensures most { result.ticks ≤ n }

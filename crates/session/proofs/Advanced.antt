@@ -1,6 +1,6 @@
 -- The advance of each domain at the end of a run.
-use Rattle.std.proofs.Common.{◌≡◌, ◌≢◌, ℕ, zero, suc, ◌+◌, ◌-◌, ◌≤◌, ◌<◌, ◌&&◌, Bool, true, false, eqb, cond, List, [], ◌∷◌, ◌++◌, length, take, map, set, get_or, Some, None, Ok, All, refl, sym, ap, subst, ◌∙◌, arith}
-use Rattle.std.specs.Prelude.{slice_index_or, nat_lt}
+use Rattle.std.proofs.Common.{◌≡◌, ◌≢◌, ℕ, zero, suc, ◌+◌, ◌-◌, ◌≤◌, ◌<◌, ◌&&◌, Bool, true, false, eqb, cond, List, [], ◌∷◌, ◌++◌, length, take, map, set, get_or, Some, None, Ok, Err, All, refl, sym, ap, subst, ◌∙◌, arith}
+use Rattle.std.specs.Prelude.{slice_index_or, nat_lt, Result, IfOk, IfErr, OnOk}
 use Rattle.std.specs.List.{cons_option}
 use Rattle.std.proofs.lemmas.Bool.{lt-ltb, eqb-true, eqb-false}
 use Rattle.std.proofs.lemmas.List.{append-nil, get_or_default, get_or-set_same, get_or-set_other, get_or-map, get_or_push, get_or_append_left, length-map, length-set, length_push}
@@ -20,7 +20,10 @@ use Rattle.call_book.specs.Book.{BookView, IsFull, own_entries, calls_of, state_
 use Rattle.call_book.specs.BookAnswers.{IsAdvanced, TellsAdvance}
 use Rattle.call_book.specs.Ending.{EndingView, left_of}
 use Rattle.run_figures.specs.Accounting.{AccountingView}
-use Rattle.heard_run.specs.Heard.{heard_of}
+use Rattle.heard_run.specs.Heard.{heard_of, heard_after}
+use Rattle.heard_run.proofs.Pieces.{heard_whole}
+use Rattle.call_book.proofs.Growing.{run_grows}
+use Rattle.domain_run.specs.Tick.{ticks}
 use Rattle.call_book.specs.SectionView.{SectionView}
 use Rattle.session.specs.declared.fault.EndFault.{EndFault}
 use Rattle.session.specs.declared.fault.EndFault.TheVariants as faults
@@ -187,24 +190,57 @@ all_but_last es e =
     let less : length (es ++ e ∷ []) - 1 ≡ length es = omega (arith, length_push es e) in
     ap (λ (n : ℕ). take n (es ++ e ∷ [])) less ∙ take-append_seam es (e ∷ [])
 
--- an advance of which all ticks were made told what they tell from the state before it
+-- of an advance of which all ticks were made: what they tell from the state before it
+told_end : (old new : BookView) (p q : PassView Entry) (ticks made : ℕ) (reply : Reply) → IsAdvanced old new p q ticks reply → made ≡ ticks → told_by_ticks made (state_of old) ≡ told_at_end ticks new.cpus new.limit new.history
+told_end old new p q ticks made reply a same =
+    let cpus = ap (λ (b : BookView). b.cpus) a.entered.book in
+    let limit = ap (λ (b : BookView). b.limit) a.entered.book in
+    let history = ap (λ (b : BookView). b.history) a.entered.book in
+    let cut : take (length new.history - 1) new.history ≡ old.history =
+    ap (λ (es : List Entry). take (length es - 1) es) history ∙ all_but_last old.history (entry_by p (Advance a.made) reply) in
+    ap (λ (n : ℕ). told_by_ticks n (state_of old)) same
+    ∙ ap (λ (n : ℕ). told_by_ticks ticks (run_of n old.limit (calls_of old.history))) (sym cpus)
+    ∙ ap (λ (n : ℕ). told_by_ticks ticks (run_of new.cpus n (calls_of old.history))) (sym limit)
+    ∙ ap (λ (es : List Entry). told_by_ticks ticks (run_of new.cpus new.limit (calls_of es))) (sym cut)
+
 pub tells_end : (old new : BookView) (p q : PassView Entry) (ticks made : ℕ) (reply : Reply) (before after : LogView)
     → IsAdvanced old new p q ticks reply → TellsAdvance old before after reply → reply ≡ replies.Done made → made ≡ ticks
     → Tells before (told_at_end ticks new.cpus new.limit new.history) after
 tells_end old new p q ticks made reply before after a t is all =
     let done : reply ≡ replies.Done t.made = t.done in
     let same : t.made ≡ ticks = cc in
-    let cpus = ap (λ (b : BookView). b.cpus) a.entered.book in
-    let limit = ap (λ (b : BookView). b.limit) a.entered.book in
-    let history = ap (λ (b : BookView). b.history) a.entered.book in
-    let cut : take (length new.history - 1) new.history ≡ old.history =
-    ap (λ (es : List Entry). take (length es - 1) es) history ∙ all_but_last old.history (entry_by p (Advance a.made) reply) in
-    let told : told_by_ticks t.made (state_of old) ≡ told_at_end ticks new.cpus new.limit new.history =
-    ap (λ (n : ℕ). told_by_ticks n (state_of old)) same
-    ∙ ap (λ (n : ℕ). told_by_ticks ticks (run_of n old.limit (calls_of old.history))) (sym cpus)
-    ∙ ap (λ (n : ℕ). told_by_ticks ticks (run_of new.cpus n (calls_of old.history))) (sym limit)
-    ∙ ap (λ (es : List Entry). told_by_ticks ticks (run_of new.cpus new.limit (calls_of es))) (sym cut) in
-    subst (λ (hs : List Happened). Tells before hs after) told t.told
+    subst (λ (hs : List Happened). Tells before hs after) (told_end old new p q ticks t.made reply a same) t.told
+
+-- and the state that they lead to
+state_end : (old new : BookView) (p q : PassView Entry) (n made : ℕ) → IsAdvanced old new p q n (replies.Done made) → made ≡ n → state_of new ≡ ticks n (state_of old)
+state_end old new p q n made a all =
+    let same : a.made ≡ n = (let done : replies.Done made ≡ replies.Done a.made = a.done in cc) in
+    let e = entry_by p (Advance a.made) (replies.Done made) in
+    ap (λ (b : BookView). run_of b.cpus b.limit (calls_of b.history)) a.entered.book
+    ∙ sym (run_grows old.cpus old.limit old.history e (state_of old) (ticks a.made (state_of old)) refl refl)
+    ∙ ap (λ (k : ℕ). ticks k (state_of old)) same
+
+-- what was heard of it is all of the run
+pub hears_end : (old new : BookView) (p q : PassView Entry) (n made : ℕ) (a x : AccountingView) → IsAdvanced old new p q n (replies.Done made) → x ≡ heard_after n made (state_of old) → (made ≡ n) × (a ≡ x) → IsHeardOf n new a
+hears_end old new p q n made a x is heard all =
+    let d = state_of old in
+    all.1 ∙ heard ∙ ap (λ (k : ℕ). heard_after n k d) all.0 ∙ heard_whole n d
+    ∙ ap (λ (hs : List Happened). heard_of (ticks n d) hs) (told_end old new p q n n (replies.Done made) is refl)
+    ∙ ap (λ (e : Domain). heard_of e (told_at_end n new.cpus new.limit new.history)) (sym (state_end old new p q n made is all.0))
+
+-- where not all ticks were made, memory was refused
+pub made_all : (r : Result AccountingView EndFault) (P : AccountingView → Type 0) (Q : Type 0) → IfOk r P → ((a : AccountingView) → P a → Q) → OnOk r Q
+made_all (Ok a) P Q is f = f a is
+made_all (Err e) P Q is f = tt
+
+pub heard_as : (r : Result AccountingView EndFault) (P Q : AccountingView → Type 0) → IfOk r P → ((a : AccountingView) → P a → Q a) → IfOk r Q
+heard_as (Ok a) P Q is f = f a is
+heard_as (Err e) P Q is f = tt
+
+pub stopped_as : (r : Result AccountingView EndFault) (Q : Type 0) → IfErr r (IsStopped ⊥) → IfErr r (IsStopped Q)
+stopped_as (Ok a) Q is = tt
+stopped_as (Err faults.Full) Q is = absurd is
+stopped_as (Err faults.Memory) Q is = tt
 
 -- the logs of the first so many books were told
 abbrev pub FirstTell : ℕ → ℕ → List BookView → List LogView → List LogView → Type 0
@@ -325,12 +361,12 @@ heard_more n m ticks books b heard a there many more first last = λ d y x upto.
     by d y x upto true is =
         subst (λ (k : ℕ). IsHeardOf ticks (get_or (set books n b) k y) (get_or (heard ++ a ∷ []) k x)) (eqb-true n d is)
         (subst (λ (v : BookView). IsHeardOf ticks v (get_or (heard ++ a ∷ []) n x)) (sym (get_or-set_same books n b y there))
-        (get_or_push heard a x n (sym many) ∙ last))
+        (get_or_push heard a x n many ∙ last))
     by d y x upto false is =
         let other = eqb-false n d is in
         let before : d < n = omega (arith, upto, more, other) in
         subst (λ (v : BookView). IsHeardOf ticks v (get_or (heard ++ a ∷ []) d x)) (sym (get_or-set_other books n d b y (λ same. other (sym same))))
-        (get_or_append_left heard (a ∷ []) d x (omega (arith, before, many)) ∙ first d y x before)
+        (get_or_append_left heard (a ∷ []) x d (omega (arith, before, many)) ∙ first d y x before)
 
 -- the same, of a book that is as it was
 pub heard_still : (n m ticks : ℕ) (books : List BookView) (heard : List AccountingView) (a : AccountingView) → n < length books → length heard ≡ n → m ≡ n + 1
@@ -339,11 +375,11 @@ heard_still n m ticks books heard a there many more first last = λ d y x upto. 
   where
     by : (d : ℕ) (y : BookView) (x : AccountingView) → d < m → (e : Bool) → eqb n d ≡ e → IsHeardOf ticks (get_or books d y) (get_or (heard ++ a ∷ []) d x)
     by d y x upto true is =
-        subst (λ (k : ℕ). IsHeardOf ticks (get_or books k y) (get_or (heard ++ a ∷ []) k x)) (eqb-true n d is) (get_or_push heard a x n (sym many) ∙ last y)
+        subst (λ (k : ℕ). IsHeardOf ticks (get_or books k y) (get_or (heard ++ a ∷ []) k x)) (eqb-true n d is) (get_or_push heard a x n many ∙ last y)
     by d y x upto false is =
         let other = eqb-false n d is in
         let before : d < n = omega (arith, upto, more, other) in
-        get_or_append_left heard (a ∷ []) d x (omega (arith, before, many)) ∙ first d y x before
+        get_or_append_left heard (a ∷ []) x d (omega (arith, before, many)) ∙ first d y x before
 
 -- ---- the end
 

@@ -1,5 +1,5 @@
 -- Books and tickets at a session's end.
-use Rattle.std.proofs.Common.{◌≡◌, ◌≢◌, ℕ, suc, ◌+◌, ◌≤◌, ◌<◌, Bool, true, false, eqb, List, [], ◌∷◌, ◌++◌, length, get_or, All, refl, sym, ap, subst, ◌∙◌, arith}
+use Rattle.std.proofs.Common.{◌≡◌, ◌≢◌, ℕ, zero, suc, ◌+◌, ◌≤◌, ◌<◌, Bool, true, false, eqb, List, [], ◌∷◌, ◌++◌, length, map, get_or, All, refl, sym, ap, subst, ◌∙◌, arith}
 use Rattle.std.proofs.lemmas.Bool.{ne_eqb, eqb-true, eqb-false}
 use Rattle.std.proofs.lemmas.List.{get_or_push, get_or_append_left, length_push}
 use Rattle.std.proofs.lemmas.List.Sums.{sum_by-le}
@@ -13,6 +13,7 @@ use Rattle.session.specs.SessionId.{SessionId}
 use Rattle.session.specs.private.Entering.{IsSessionBook}
 use Rattle.session.specs.private.Parts.{AreSessionBooks}
 use Rattle.session.specs.private.Closing.{IsEnded, HaveEnded}
+use Rattle.session.specs.private.Ending.{AreAll, books_of, unheard}
 
 -- by the place in a list with one element more
 pub by_place_more : {X : Type 0} (P : ℕ → X → Type 0) (xs : List X) (y : X)
@@ -83,3 +84,20 @@ ended_more books histories states b s x ended at last = record {
         let there : d < length states = omega (arith, before, ended.states_count) in
         subst (λ (v : SectionView). IsEnded (get_or books d c) v (get_or (states ++ x ∷ []) d y)) (sym (get_or_append_left histories (s ∷ []) t d before))
         (subst (λ (v : Domain). IsEnded (get_or books d c) (get_or histories d t) v) (sym (get_or_append_left states (x ∷ []) y d there)) (ended.each d c t y before))
+
+-- ---- books that are ended, and not heard
+
+books_back : (books : List BookView) → books_of (map unheard books) ≡ books
+books_back [] = refl
+books_back (b ∷ books) = ap (λ (bs : List BookView). b ∷ bs) (books_back books)
+
+pub books_ended : (ending : List EndingView) (books : List BookView) → ending ≡ map unheard books → books_of ending ≡ books
+books_ended ending books is = ap books_of is ∙ books_back books
+
+none_heard : (books : List BookView) → AreAll false (map unheard books)
+none_heard [] d e inside = absurd (omega (arith, inside))
+none_heard (b ∷ books) zero e inside = refl
+none_heard (b ∷ books) (suc d) e inside = none_heard books d e (omega (arith, inside))
+
+pub all_unheard : (ending : List EndingView) (books : List BookView) → ending ≡ map unheard books → AreAll false ending
+all_unheard ending books is = subst (AreAll false) (sym is) (none_heard books)

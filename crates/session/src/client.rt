@@ -35,6 +35,18 @@ use std::marker::{Model, PhantomData};
 use std::sync::{Mutex, Wait};
 use std::thread::Threads;
 
+/// What was heard, where all ticks were made.
+fn all_heard(heard: HeardAdvance, ticks: u64) -> Result<Accounting, EndFault>
+    ensures ok { IfOk result (λ a. (heard.ticks ≡ ticks) × (a ≡ heard.accounting)) }
+    ensures err { IfErr result (IsStopped ⊥) }
+{
+    if heard.ticks == ticks {
+        Ok(heard.accounting)
+    } else {
+        Err(EndFault::Memory)
+    }
+}
+
 /// One of the clients of a session. It may be dropped; its pass and its piece are then missing at
 /// the session's end. To a contract it is its number, from 1, what it has entered in the book of
 /// each domain, and the piece in its hand.
@@ -210,12 +222,9 @@ impl<N: Names> Client<N> {
         ensures err { IfErr result (IsStopped (IsFull book.new.book × (self.new ≡ self.old))) }
     {
         match book.advance_heard(&mut self.passes[place], gate, ticks) {
-            Ok(HeardAdvance {
-                ticks: made,
-                accounting,
-            }) if made == ticks => Ok(accounting),
+            Ok(heard) => all_heard(heard, ticks),
             Err(AdvanceError::Full) => Err(EndFault::Full),
-            _ => Err(EndFault::Memory),
+            Err(AdvanceError::Memory) => Err(EndFault::Memory),
         }
     }
 

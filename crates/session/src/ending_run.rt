@@ -335,8 +335,14 @@ pub fn end_run<N: Names, R: Threads + Wait>(
     ensures err { IfErr result (IsStopped (IsFullWith N.id duration clients.items)) }
 {
     let unlocked = session.unlock(alloc)?;
-    let Advanced { ending, told } =
-        advance_as(rt, alloc, unlocked, &mut clients[0], duration, wanted);
+    let Advanced { ending, told } = advance_as(
+        rt,
+        alloc,
+        unlocked,
+        &mut clients[0],
+        duration,
+        wanted,
+    );
     let Remains { report, states } = ending.close(alloc, clients);
     let Told { logs, heard } = told?;
     Ok(Finished {

@@ -25,4 +25,4 @@ pub new-requires-clause-room : goal.new-requires-clause-room
 new-requires-clause-room g c =
     let sets = c.shared.inside.cpu_sets in
     let count : c.len.result ≡ length g.N.Names.id.cpu_sets = c.len.ensures ∙ sets.ok.0 ∙ sym (length-map sets.items (λ v. v.items)) ∙ ap (λ (l : List (List ℕ)). length l) c.shared.invariant.1 in
-    subst (λ (n : ℕ). IsRoom n c.in-Ok.room) count c.in-Ok.ensures
+    subst (λ (n : ℕ). IsRoom n c.in-Ok.rooms.room) count c.in-Ok.ensures.room

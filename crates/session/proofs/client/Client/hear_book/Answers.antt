@@ -1,0 +1,32 @@
+use Rattle.std.proofs.Common.{◌≡◌, ◌<◌, ◌∙◌, get_or, length, refl, sym, ap, arith}
+use Rattle.run_figures.specs.Accounting.{AccountingView}
+use Rattle.session.specs.Asks.{ClientView}
+use Rattle.session.specs.private.Ending.{IsHeardOf}
+use Rattle.session.proofs.Advanced.{heard_as, hears_end, made_all, makes_all}
+use Rattle.session.proofs.client.Client.hear_book.Goals.{in-Ok, in-Err-Full, in-Err-Memory}
+use Rattle.session.proofs.client.Client.hear_book.Goals as goal
+
+pub returns-clause-made : goal.returns-clause-made
+returns-clause-made g c =
+    let ps = c.self.inside.passes.items in
+    let p = c.index_mut.result.now in
+    let d = c.args.place in
+    let inside : d < length ps = omega (arith, c.requires.named.place, c.self.invariant.count) in
+    let owner : (get_or ps d p).client ≡ c.args.self.now.number = (c.self.invariant.each d p inside).owner ∙ ap (λ (v : ClientView). v.number) c.self.view_is in
+    elim c.match-advance_heard.branch [
+      | in-Ok w ↦ rw w.result-is (made_all w.all_heard.result _ _ w.all_heard.ensures.ok
+          (λ a is. makes_all c.args.self.now _ ps d c.args.ticks w.in-Ok.heard.ticks p c.advance_heard.new.pass c.args.book.now.book c.advance_heard.new.self.book _
+          (sym (ap (λ (v : ClientView). v.passes) c.self.view_is)) refl (ap (λ (v : ClientView). v.number) c.self.view_is) inside c.index_mut.ensures.value owner w.in-Ok.ensures.done refl is.0))
+      | in-Err-Full w ↦ rw w.result-is tt
+      | in-Err-Memory w ↦ rw w.result-is tt
+    ]
+
+pub returns-clause-heard : goal.returns-clause-heard
+returns-clause-heard g c =
+    let n = c.args.ticks in
+    elim c.match-advance_heard.branch [
+      | in-Ok w ↦ rw w.result-is (heard_as w.all_heard.result _ (IsHeardOf n c.advance_heard.new.self.book) w.all_heard.ensures.ok
+          (λ a is. hears_end c.args.book.now.book c.advance_heard.new.self.book c.index_mut.result.now c.advance_heard.new.pass n w.in-Ok.heard.ticks a w.in-Ok.heard.accounting w.in-Ok.ensures.done w.in-Ok.ensures.heard is))
+      | in-Err-Full w ↦ rw w.result-is tt
+      | in-Err-Memory w ↦ rw w.result-is tt
+    ]

@@ -1,0 +1,39 @@
+use Rattle.std.proofs.Common.{◌≡◌, ℕ, ◌<◌, ◌+◌, ◌∙◌, List, [], ◌∷◌, ◌++◌, true, false, get_or, length, set, sym, refl, ap, subst, arith}
+use Rattle.std.proofs.lemmas.List.{get_or-map, get_or_default, length-map, length-set, length_push}
+use Rattle.std.proofs.Math.Seq.{map-set_same}
+use Rattle.run_figures.specs.Accounting.{AccountingView}
+use Rattle.call_book.specs.Book.{BookView}
+use Rattle.call_book.specs.Ending.{EndingView}
+use Rattle.session.specs.private.Ending.{IsHeardOf, books_of}
+use Rattle.session.proofs.Advanced.{FirstHeard, first_more, heard_still, rest_less}
+use Rattle.session.proofs.ending_run.hear_still.Goals as goal
+
+-- the book of a book at its end
+abbrev book : EndingView → BookView
+book e = e.book
+
+pub loop-place-preserved : goal.loop-place-preserved
+loop-place-preserved c =
+    let inv = c.loop-place.invariant in
+    let books = c.loop-place.books.items in
+    let n = c.loop-place.place in
+    let was = c.index_mut.result.now in
+    let b = c.hear.new.self in
+    let done = c.in_ok-hear.ensures in
+    let a = c.in_ok-hear.field-0 in
+    let heard = c.push_reserved.ensures.items in
+    let inside : n < length books = omega (arith, c.loop-place-test.true, inv.count, c.len-place-end.ensures, c.args.books.now.ok.0) in
+    let there : n < length (books_of books) = omega (arith, inside, length-map books book) in
+    let same : books_of (set books n b) ≡ books_of books = map-set_same book books n b was (ap book done.ok ∙ ap book c.index_mut.ensures.value) in
+    let at : (y : BookView) → get_or (books_of books) n y ≡ was.book = λ y. get_or-map book books n was y inside ∙ ap book (sym c.index_mut.ensures.value) in
+    record {
+      books = same ∙ inv.books;
+      count = length-set books n b ∙ inv.count;
+      first = first_more true n (n + 1) books b inside refl inv.first (ap (λ (e : EndingView). e.heard) done.ok);
+      rest = rest_less false n (n + 1) books b refl inv.rest;
+      many = ap (λ (hs : List AccountingView). length hs) heard ∙ length_push c.loop-place.heard.items a ∙ ap (λ (k : ℕ). k + 1) inv.many;
+      heard = subst (λ (hs : List AccountingView). FirstHeard (n + 1) 0 (books_of (set books n b)) hs) (sym heard)
+          (subst (λ (bs : List BookView). FirstHeard (n + 1) 0 bs (c.loop-place.heard.items ++ a ∷ [])) (sym same)
+          (heard_still n (n + 1) 0 (books_of books) c.loop-place.heard.items a there inv.many refl inv.heard (λ y. subst (λ (v : BookView). IsHeardOf 0 v a) (sym (at y)) done.all)));
+      room = omega (arith, inv.room, c.push_reserved.ensures.capacity);
+    }
