@@ -67,14 +67,14 @@ fn hear(state: &mut State, log: &mut Log, accounting: &mut Accounting)
     state.forget_switches();
 }
 
-/// Goes on by so many ticks, as [`advance_told`](jump_run::advance_told) does with a log of its own,
-/// while the accounting hears the run: first the switches so far, and then, piece by piece, what
-/// happens in these ticks and the switches that they make. State and log forget what was heard, so
-/// they hold a bounded number of both, however much happens. At the end the state is that of so many
-/// ticks, without its switches. Room for an event is made before it; where it is refused, the ticks
-/// made so far stand and are heard, and only then are they fewer than asked. Time stays within 2^42
-/// us. Tasks that have left may go off the list; nobody comes, and the others keep number, bandwidth
-/// and order.
+/// Goes on by so many ticks, as [`advance_told`](jump_run::advance_told) does with a log of its
+/// own, while the accounting hears the run: first the switches so far, and then, piece by piece,
+/// what happens in these ticks and the switches that they make. State and log forget what was
+/// heard, so they hold a bounded number of both, however much happens. At the end the state is that
+/// of so many ticks, without its switches. Room for an event is made before it; where it is
+/// refused, the ticks made so far stand and are heard, and only then are they fewer than asked.
+/// Time stays within 2^42 us. Tasks that have left may go off the list; nobody comes, and the
+/// others keep number, bandwidth and order.
 pub fn advance_heard(alloc: Global, state: &mut State, n: u64, accounting: &mut Accounting) -> Done
     requires early { state.old.time + n ≤ 2 ^ 42 }
     requires new { accounting.old ≡ unheard n state.old }

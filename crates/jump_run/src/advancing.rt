@@ -155,9 +155,10 @@ pub fn advance_told(state: &mut State, n: u64, log: &mut Log) -> Done
     advance_piece(state, n, usize::MAX, log)
 }
 
-/// As [`advance_told`], but no event more is made once the state has `enough` switches or the log was
-/// told of `enough`, what it was told before among them: so what both hold stays bounded, however
-/// much happens. Where both have fewer at first, at least one tick is made, or a growth was refused.
+/// As [`advance_told`], but no event more is made once the state has `enough` switches or the log
+/// was told of `enough`, what it was told before among them: so what both hold stays bounded,
+/// however much happens. Where both have fewer at first, at least one tick is made, or a growth was
+/// refused.
 pub fn advance_piece(state: &mut State, n: u64, enough: usize, log: &mut Log) -> Done
     requires { state.old.time + n ≤ 2 ^ 42 }
     ensures state { state.new ≡ ticks_of result.ticks state.old }

@@ -19,8 +19,8 @@ use std::alloc::Global;
 use std::marker::Model;
 
 /// The book of a domain at its end: no call is made on it any more, but one last advance whose run
-/// is heard. Like a [`Domain`] it is neither cloned nor dropped, but closed, since it holds tickets.
-/// Contracts see the book, and whether its run was heard: the switches are forgotten then.
+/// is heard. Like a [`Domain`] it is neither cloned nor dropped, but closed, since it holds
+/// tickets. Contracts see the book, and whether its run was heard: the switches are forgotten then.
 pub struct EndingBook {
     cpus: u32,
     limit: u64,

@@ -1,4 +1,4 @@
-use Rattle.std.proofs.Common.{◌≡◌, List, sym, subst}
+use Rattle.std.proofs.Common.{List, sym, subst}
 use Rattle.call_book.specs.Book.{BookView}
 use Rattle.session.specs.RunEnd.{IsStopped}
 use Rattle.session.specs.private.Ending.{AllEnd, AreEndLogs, IsFullAmong}

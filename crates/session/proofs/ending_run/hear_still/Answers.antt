@@ -1,5 +1,5 @@
 use Rattle.std.proofs.Common.{◌≡◌, ℕ, ◌<◌, ◌+◌, ◌∙◌, List, [], ◌∷◌, ◌++◌, true, false, get_or, length, set, sym, refl, ap, subst, arith}
-use Rattle.std.proofs.lemmas.List.{get_or-map, get_or_default, length-map, length-set, length_push}
+use Rattle.std.proofs.lemmas.List.{get_or-map, length-map, length-set, length_push}
 use Rattle.std.proofs.Math.Seq.{map-set_same}
 use Rattle.run_figures.specs.Accounting.{AccountingView}
 use Rattle.call_book.specs.Book.{BookView}

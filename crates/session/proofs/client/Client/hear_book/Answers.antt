@@ -1,5 +1,4 @@
 use Rattle.std.proofs.Common.{◌≡◌, ◌<◌, ◌∙◌, get_or, length, refl, sym, ap, arith}
-use Rattle.run_figures.specs.Accounting.{AccountingView}
 use Rattle.session.specs.Asks.{ClientView}
 use Rattle.session.specs.private.Ending.{IsHeardOf}
 use Rattle.session.proofs.Advanced.{heard_as, hears_end, made_all, makes_all}

@@ -1,6 +1,5 @@
 use Rattle.std.proofs.Common.{◌≡◌, ◌∙◌, List, length, sym, ap, subst}
 use Rattle.std.proofs.lemmas.List.{length-map}
-use Rattle.call_book.specs.Book.{BookView}
 use Rattle.call_book.specs.Ending.{EndingView}
 use Rattle.session.specs.private.Ending.{books_of, unheard}
 use Rattle.session.specs.private.Parts.{AreSessionBooks}
