@@ -14,6 +14,7 @@ use std::thread::Threads;
 
 mod memory;
 mod moves;
+mod rates;
 
 // A gate of one domain of one CPU, its book with one client, and the client's blanks.
 struct Desk {

@@ -1,11 +1,10 @@
 //! The tests of a domain and of its jumps, apart from both, so that the gate proves each of those
-//! crates once. What comes of calls in worked rows stands in `specs/examples` of domain_run as
-//! equations, and the built program replays those rows; that an advance is so many ticks is a clause.
+//! crates once.
 #![tactic(auto)]
 
-#[cfg(test)]
-mod domain;
 #[cfg(test)]
 mod of_domain;
 #[cfg(test)]
 mod of_jumps;
+#[cfg(test)]
+mod workers;

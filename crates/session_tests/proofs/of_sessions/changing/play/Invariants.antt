@@ -1,9 +1,9 @@
 use Rattle.std.proofs.Common.{All}
 use Rattle.call_book.specs.Limits.{IsEntry}
-use Rattle.domain_tests.proofs.domain.made.Given as goal
+use Rattle.session_tests.proofs.of_sessions.changing.play.Given as goal
 
 abbrev pub invariant-loop-entry : goal.invariant-loop-entry
-invariant-loop-entry l = All IsEntry l.entries.items
+invariant-loop-entry g l = All IsEntry l.entries.items
 
 abbrev pub decreases-loop-entry : goal.decreases-loop-entry
-decreases-loop-entry l = goal.left-loop-entry l
+decreases-loop-entry g l = goal.left-loop-entry g l

@@ -1,6 +1,6 @@
 use Rattle.std.proofs.Common.{All}
 use Rattle.call_book.specs.Limits.{IsEntry}
-use Rattle.session_tests.proofs.of_sessions.play.Given as goal
+use Rattle.session_tests.proofs.of_sessions.storm.play.Given as goal
 
 abbrev pub invariant-loop-entry : goal.invariant-loop-entry
 invariant-loop-entry g l = All IsEntry l.entries.items

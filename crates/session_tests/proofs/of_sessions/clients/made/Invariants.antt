@@ -1,0 +1,10 @@
+use Rattle.std.proofs.Common.{◌≡◌, ◌+◌, ◌≤◌, length, vec_capacity, All}
+use Rattle.call_book.specs.Limits.{IsEntry}
+use Rattle.session_tests.proofs.of_sessions.clients.made.Given as goal
+
+abbrev pub invariant-loop-entry : goal.invariant-loop-entry
+invariant-loop-entry g l =
+    All IsEntry l.entries.items × (length l.entries.items + length l.answers.items ≤ vec_capacity l.answers)
+
+abbrev pub decreases-loop-entry : goal.decreases-loop-entry
+decreases-loop-entry g l = goal.left-loop-entry g l

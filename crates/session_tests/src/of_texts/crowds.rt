@@ -1,0 +1,161 @@
+// Many clients at once.
+ghost use Rattle.std.specs.Prelude.{◌≡◌, ◌<◌, ◌≤◌};
+
+use super::runs::{RACE, options_on};
+use call_book::NoMemory;
+use dl_session::{Names, Parts, Report, Session, Turnstile, admit_all, run};
+use json_order::read;
+use rtapp_scenario::{TaskSpec, parse};
+use std::alloc::Global;
+use std::fmt::Write;
+use std::marker::Brand;
+use std::process::Abort;
+use std::sync::Wait;
+use std::sync::atomic::{AtomicBool, AtomicUsize, Ordering};
+use std::test::Fail;
+use std::thread::{Threads, sleep};
+use std::time::{Clock, Duration};
+use switch_text::Counted;
+
+/// Lets eight clients in one after the other, by their numbers or the other way round. Who waits
+/// for ten seconds is late.
+#[derive(Drop)]
+struct InTurn<C> {
+    clock: C,
+    falling: bool,
+    passed: AtomicUsize,
+    late: AtomicBool,
+}
+
+impl<C: Clock + Sync> Turnstile for InTurn<C> {
+    fn before(&self, client: u32, _seq: usize) {
+        let turn = if self.falling {
+            8u32.saturating_sub(client)
+        } else {
+            client.saturating_sub(1)
+        };
+        for _ in 0..10000 {
+            if self.passed.load(Ordering::SeqCst) == turn as usize {
+                return;
+            }
+            sleep(&self.clock, Duration::from_millis(1));
+        }
+        self.late.store(true, Ordering::SeqCst);
+    }
+
+    fn after(&self, _client: u32, _seq: usize) {
+        self.passed.fetch_add(1, Ordering::SeqCst);
+    }
+}
+
+fn in_turn<C: Clock>(clock: C, falling: bool) -> InTurn<C> {
+    InTurn {
+        clock,
+        falling,
+        passed: AtomicUsize::new(0),
+        late: AtomicBool::new(false),
+    }
+}
+
+/// Who entered an admission of which task, in the order of the first domain's history, then who was
+/// refused what, and then what is used of the word and how many pieces came home.
+fn admitted(alloc: Global, report: &Report) -> Result<String, Fail> {
+    let mut said = String::new(alloc);
+    for history in &report.histories {
+        for entry in &history.entries {
+            write!(said, "{} ", entry.client)?;
+        }
+    }
+    for (number, refusal) in &report.refused {
+        write!(said, "{number} {refusal}; ")?;
+    }
+    for word in &report.words {
+        write!(said, "{word} used, {} home", report.home)?;
+    }
+    Ok(said)
+}
+
+const RISING: &str =
+    "1 2 3 4 EBUSY 16 seen 1572864; 5 EBUSY 16 seen 1572864; 6 EBUSY 16 seen 1572864; 7 EBUSY 16 seen 1572864; 8 EBUSY 16 seen 1572864; 1572864 used, 264 home";
+
+const FALLING: &str =
+    "8 7 6 1 EBUSY 16 seen 1572864; 2 EBUSY 16 seen 1572864; 3 EBUSY 16 seen 1572864; 4 EBUSY 16 seen 1572864; 5 EBUSY 16 seen 1572864; 1572864 used, 264 home";
+
+// Eight tasks of half a CPU on two CPUs: what a run admits in this order, and whether somebody was
+// late.
+fn admitted_by_run<R: Threads + Wait + Clock + Sync>(
+    rt: &R,
+    alloc: Global,
+    falling: bool,
+) -> Result<(String, bool), Fail> {
+    let order = in_turn(rt, falling);
+    let (mut reader, mut writer) = (Counted::new(RACE), Counted::new(Vec::new(alloc)));
+    let options = options_on(vec![in alloc; 2]?, 8, 1024);
+    let report = run(rt, alloc, &mut reader, &mut writer, &options, &order)?;
+    Ok((admitted(alloc, &report)?, order.late.load(Ordering::SeqCst)))
+}
+
+// The same without a run.
+fn admit_eight<N: Names + Send + Sync, R: Threads + Wait + Abort + Sync, T: Turnstile>(
+    rt: &R,
+    alloc: Global,
+    parts: Parts,
+    tasks: &[TaskSpec],
+    order: &T,
+) -> Result<Report, NoMemory>
+    requires { N.id ≡ parts }
+{
+    let mut session: Session<N> = Session::open(parts);
+    let mut clients = Vec::new(alloc);
+    for number in 1..9 {
+        if let Some(client) = session.client(number) {
+            let _ = clients.push(client);
+        }
+    }
+    if clients.is_empty() {
+        panic!(rt; "no client")
+    }
+    match admit_all(rt, alloc, &session, clients, tasks, order) {
+        Ok((clients, refused)) => {
+            let mut report = session.close(alloc, clients)?;
+            report.refused = refused;
+            Ok(report)
+        }
+        Err(_) => session.close(alloc, Vec::new(alloc)),
+    }
+}
+
+fn admit_eight_in<R: Threads + Wait + Abort + Sync, T: Turnstile>(
+    rt: &R,
+    alloc: Global,
+    parts: Parts,
+    tasks: &[TaskSpec],
+    order: &T,
+) -> Result<Report, NoMemory> {
+    admit_eight::<Brand, R, T>(rt, alloc, parts, tasks, order)
+}
+
+fn admitted_by_all<R: Threads + Wait + Abort + Clock + Sync>(
+    rt: &R,
+    alloc: Global,
+    falling: bool,
+) -> Result<(String, bool), Fail> {
+    let order = in_turn(rt, falling);
+    let scenario = parse(alloc, &read(alloc, RACE)?)?;
+    let parts = Parts::open(alloc, &options_on(vec![in alloc; 2]?, 8, 1024))?;
+    let report = admit_eight_in(rt, alloc, parts, &scenario.tasks, &order)?;
+    Ok((admitted(alloc, &report)?, order.late.load(Ordering::SeqCst)))
+}
+
+// A run that admitted beside its clients' threads, or on one thread, would be late, or enter them
+// in another order.
+#[test]
+fn clients_let_in_one_by_one(rt: HostRuntime) -> Result<(), Fail> {
+    for (falling, wanted) in [(false, RISING), (true, FALLING)] {
+        let (said, late) = admitted_by_run(&rt, rt.alloc(), falling)?;
+        assert_eq!(rt; (said.as_str(), late), (wanted, false));
+        let (said, late) = admitted_by_all(&rt, rt.alloc(), falling)?;
+        assert_eq!(rt; (said.as_str(), late), (wanted, false));
+    }
+    Ok(())
+}
