@@ -1,7 +1,6 @@
 //! Jumps, by one worker and by several. Worked rows by one worker are what the built program replays.
 
 mod by_workers;
-mod heard;
 mod turns;
 
 use crate::workers::{Worker, admitted, forever, single_ticks};
