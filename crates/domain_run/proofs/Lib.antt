@@ -40,3 +40,8 @@ pub mod ToldIn
 pub mod Logging
 pub mod ToldTicks
 pub mod ToldPay
+pub mod SeatTimes
+pub mod Waiting
+pub mod Turning
+pub mod Seatings
+pub mod Passing

@@ -22,6 +22,7 @@ mod roster;
 mod run_queue;
 mod running;
 mod script;
+mod seats;
 mod standing;
 mod state;
 mod sweep;

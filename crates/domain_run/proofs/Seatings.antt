@@ -1,0 +1,164 @@
+-- Seats that are taken and left, and time that goes on for all who sit.
+use Rattle.std.proofs.Common.{◌≡◌, ◌≢◌, ◌⊎◌, ℕ, zero, suc, ◌+◌, ◌-◌, ◌*◌, ◌^◌, ◌<◌, ◌≤◌, min, Bool, true, false, cond, eqb, Option, Some, None, List, [], ◌∷◌, length, map, get_or, set, refl, sym, ap, ◌∙◌, subst, arith, inl, inr, eq-eqb}
+use Rattle.std.specs.Prelude.{ℤ, pos, ◌-ℤ◌, ◌<ℤ◌, All, AllPairs, IsTrue, IfSome}
+use Rattle.std.proofs.lemmas.Int.{ints}
+use Rattle.std.proofs.lemmas.Bool.{cases_eq, cases_lt, eqb-true, ne_eqb}
+use Rattle.std.proofs.lemmas.List.{get_or-set_same, get_or-set_other, get_or_past, get_or_default, get_or-map, length-map, length-set, set-get_or}
+use Rattle.std.proofs.Math.Nat.{mul-le-mul_left}
+use Rattle.domain_run.specs.declared.task.Task.{Task}
+use Rattle.domain_run.specs.declared.seats.Seat.{Seat}
+use Rattle.domain_run.specs.private.Seats.{seat_by, left, IsAhead}
+use Rattle.domain_run.specs.private.Waiting.{left_of, seat_of, slid_for, owed_by, owed, Waits, WaitsIf, AllWait, MaySit, charged_on}
+use Rattle.domain_run.specs.private.Index.{IsAt, IsAbsent}
+use Rattle.domain_run.proofs.Jumping.{Alike, map_alike}
+use Rattle.domain_run.proofs.Placing.{one_index}
+use Rattle.domain_run.proofs.Waiting.{sits, other_seat, alike_owed, owed_set, read_owed}
+
+-- ---- a CPU is left
+
+pub none_at : (seats : List (Option Seat)) (cpu : ℕ) → get_or (set seats cpu None) cpu None ≡ None
+none_at seats cpu = elim (cases_lt cpu (length seats)) [
+  | inl h ↦ get_or-set_same seats cpu None None h
+  | inr h ↦ get_or_past (set seats cpu None) cpu None (omega (arith, h, length-set seats cpu None))
+]
+
+pub nobody_here : (seats : List (Option Seat)) (cpu : ℕ) (t : Task) → t.cpu ≡ cpu → seat_of (set seats cpu None) t ≡ None
+nobody_here seats cpu t e = ap (λ c. seat_by t.number (get_or (set seats cpu None) c None)) e ∙ ap (seat_by t.number) (none_at seats cpu)
+
+pub same_elsewhere : (seats : List (Option Seat)) (cpu : ℕ) (o : Option Seat) (t : Task) → t.cpu ≢ cpu → seat_of (set seats cpu o) t ≡ seat_of seats t
+same_elsewhere seats cpu o t apart = ap (seat_by t.number) (get_or-set_other seats cpu t.cpu o None apart)
+
+-- for a task of another number it was as if nobody sat there
+pub same_stranger : (seats : List (Option Seat)) (cpu : ℕ) (s : Seat) (t : Task) → get_or seats cpu None ≡ Some s → t.number ≢ s.number → seat_of (set seats cpu None) t ≡ seat_of seats t
+same_stranger seats cpu s t there other = elim (cases_eq t.cpu cpu) [
+  | inl e ↦
+      nobody_here seats cpu t e
+      ∙ sym (ap (λ c. seat_by t.number (get_or seats c None)) e ∙ ap (seat_by t.number) there ∙ other_seat t.number s (λ k. other (sym k)))
+  | inr apart ↦ same_elsewhere seats cpu None t apart
+]
+
+pub same_seats : (upto : ℕ) (seats new : List (Option Seat)) (tasks : List Task) → ((k : ℕ) (d : Task) → k < length tasks → seat_of new (get_or tasks k d) ≡ seat_of seats (get_or tasks k d)) → map (owed upto new) tasks ≡ map (owed upto seats) tasks
+same_seats upto seats new tasks same = map_alike (owed upto new) (owed upto seats) tasks (λ k d h. ap (λ o. owed_by upto o (get_or tasks k d)) (same k d h))
+
+pub same_waits : (seats new : List (Option Seat)) (t : Task) → seat_of new t ≡ seat_of seats t → WaitsIf seats t → WaitsIf new t
+same_waits seats new t same = subst (λ o. IfSome o (λ s. Waits s t)) (sym same)
+
+pub none_waits : (seats : List (Option Seat)) (t : Task) → seat_of seats t ≡ None → WaitsIf seats t
+none_waits seats t none = subst (λ o. IfSome o (λ s. Waits s t)) (sym none) tt
+
+cpu_by : (upto : ℕ) (o : Option Seat) (t : Task) → (owed_by upto o t).cpu ≡ t.cpu
+cpu_by upto None t = refl
+cpu_by upto (Some s) t = refl
+
+module _ (upto cpu : ℕ) (seats : List (Option Seat)) (tasks : List Task) (s : Seat) (there : get_or seats cpu None ≡ Some s) where
+  -- the task that sits is not listed
+  pub lost_view : IsAbsent tasks s.number → map (owed upto (set seats cpu None)) tasks ≡ map (owed upto seats) tasks
+  lost_view absent = same_seats upto seats (set seats cpu None) tasks (λ k d h. same_stranger seats cpu s (get_or tasks k d) there (absent k d h))
+
+  pub lost_waits : IsAbsent tasks s.number → AllWait seats tasks → AllWait (set seats cpu None) tasks
+  lost_waits absent waits k d h = same_waits seats (set seats cpu None) (get_or tasks k d) (same_stranger seats cpu s (get_or tasks k d) there (absent k d h)) (waits k d h)
+
+  module _ (p : ℕ) (x : Task) (inside : p < length tasks) (read : x ≡ get_or tasks p x) (number : x.number ≡ s.number) (numbered : AllPairs (λ a b. a.number ≢ b.number) tasks) where
+    others : (k : ℕ) (d : Task) → k < length tasks → k ≢ p → seat_of (set seats cpu None) (get_or tasks k d) ≡ seat_of seats (get_or tasks k d)
+    others k d h apart = same_stranger seats cpu s (get_or tasks k d) there (λ e. apart (one_index tasks k p d d numbered h inside (e ∙ sym number ∙ ap (λ (t : Task). t.number) (read ∙ get_or_default tasks p x d inside))))
+
+    -- where it belongs to the CPU
+    its_seat : x.cpu ≡ cpu → seat_of seats x ≡ Some s
+    its_seat e = ap (λ c. seat_by x.number (get_or seats c None)) e ∙ ap (seat_by x.number) there ∙ ap (λ b. cond b (Some s) None) (eq-eqb s.number x.number (sym number))
+
+    charged_here : x.cpu ≡ cpu → charged_on cpu upto s x ≡ owed upto seats x
+    charged_here e = ap (λ b. cond b (owed_by upto (Some s) x) x) (eq-eqb x.cpu cpu e) ∙ ap (λ o. owed_by upto o x) (sym (its_seat e))
+
+    charged_there : x.cpu ≢ cpu → charged_on cpu upto s x ≡ x
+    charged_there apart = ap (λ b. cond b (owed_by upto (Some s) x) x) (ne_eqb x.cpu cpu apart)
+
+    gone_here : x.cpu ≡ cpu → seat_of (set seats cpu None) (charged_on cpu upto s x) ≡ None
+    gone_here e = ap (seat_of (set seats cpu None)) (charged_here e) ∙ nobody_here seats cpu (owed upto seats x) (cpu_by upto (seat_of seats x) x ∙ e)
+
+    pub charge_waits : AllWait seats tasks → x.cpu ≡ cpu → Waits s x
+    charge_waits waits e = subst (λ o. IfSome o (λ r. Waits r x)) (its_seat e) (subst (WaitsIf seats) (sym read) (waits p x inside))
+
+    pub vacated_view : map (owed upto (set seats cpu None)) (set tasks p (charged_on cpu upto s x)) ≡ map (owed upto seats) tasks
+    vacated_view = elim (cases_eq x.cpu cpu) [
+      | inl e ↦
+          owed_set upto seats (set seats cpu None) tasks p (charged_on cpu upto s x) (owed upto seats x) others (ap (λ o. owed_by upto o (charged_on cpu upto s x)) (gone_here e) ∙ charged_here e)
+          ∙ ap (set (map (owed upto seats) tasks) p) (read_owed upto seats tasks p x inside read)
+          ∙ set-get_or (map (owed upto seats) tasks) p (owed upto seats x)
+      | inr apart ↦
+          ap (λ (t : Task). map (owed upto (set seats cpu None)) (set tasks p t)) (charged_there apart ∙ read)
+          ∙ ap (map (owed upto (set seats cpu None))) (set-get_or tasks p x)
+          ∙ same_seats upto seats (set seats cpu None) tasks (λ k d h. elim (cases_eq k p) [
+            | inl e ↦
+                let is : x ≡ get_or tasks k d = read ∙ get_or_default tasks p x d inside ∙ ap (λ i. get_or tasks i d) (sym e) in
+                subst (λ (t : Task). seat_of (set seats cpu None) t ≡ seat_of seats t) is (same_elsewhere seats cpu None x apart)
+            | inr ne ↦ others k d h ne
+          ])
+    ]
+
+    pub vacated_waits : AllWait seats tasks → AllWait (set seats cpu None) (set tasks p (charged_on cpu upto s x))
+    vacated_waits waits k d h =
+        let y = charged_on cpu upto s x in
+        elim (cases_eq k p) [
+          | inl e ↦
+              let is : y ≡ get_or (set tasks p y) k d = sym (ap (λ i. get_or (set tasks p y) i d) e ∙ get_or-set_same tasks p y d inside) in
+              subst (WaitsIf (set seats cpu None)) is (elim (cases_eq x.cpu cpu) [
+                | inl same ↦ none_waits (set seats cpu None) y (gone_here same)
+                | inr apart ↦ subst (WaitsIf (set seats cpu None)) (sym (charged_there apart)) (same_waits seats (set seats cpu None) x (same_elsewhere seats cpu None x apart) (subst (WaitsIf seats) (sym read) (waits p x inside)))
+              ])
+          | inr ne ↦
+              let within : k < length tasks = omega (arith, h, length-set tasks p y) in
+              subst (WaitsIf (set seats cpu None)) (sym (get_or-set_other tasks p k y d ne)) (same_waits seats (set seats cpu None) (get_or tasks k d) (others k d within ne) (waits k d within))
+        ]
+
+-- ---- a CPU is taken
+
+slide_none : (k rate : ℕ) (t : Task) → k ≡ 0 → slid_for k rate t ≡ t
+slide_none k rate t e =
+    let nought : rate * k ≡ 0 = rw e (omega arith) in
+    let left : t.server.left -ℤ pos (rate * k) ≡ t.server.left = omega (arith, ints, nought) in
+    let work : t.work - k ≡ t.work = omega (arith, e) in
+    λ i. record t { server = record t.server { left = left i }; work = work i }
+
+owes_none : (upto number : ℕ) (s : Seat) (t : Task) → s.since ≡ upto → owed_by upto (seat_by number (Some s)) t ≡ t
+owes_none upto number s t e = elim (eqb s.number number) as (λ b. owed_by upto (cond b (Some s) None) t ≡ t) [
+  | true ↦ slide_none (upto - s.since) s.rate t (omega (arith, e))
+  | false ↦ refl
+]
+
+module _ (upto cpu : ℕ) (seats : List (Option Seat)) (s : Seat) (free : get_or seats cpu None ≡ None) (inside : cpu < length seats) (since : s.since ≡ upto) where
+  taken_here : (t : Task) → t.cpu ≡ cpu → seat_of (set seats cpu (Some s)) t ≡ seat_by t.number (Some s)
+  taken_here t e = ap (λ c. seat_by t.number (get_or (set seats cpu (Some s)) c None)) e ∙ ap (seat_by t.number) (get_or-set_same seats cpu (Some s) None inside)
+
+  free_here : (t : Task) → t.cpu ≡ cpu → seat_of seats t ≡ None
+  free_here t e = ap (λ c. seat_by t.number (get_or seats c None)) e ∙ ap (seat_by t.number) free
+
+  taken_owes : (t : Task) → owed upto (set seats cpu (Some s)) t ≡ owed upto seats t
+  taken_owes t = elim (cases_eq t.cpu cpu) [
+    | inl e ↦ ap (λ o. owed_by upto o t) (taken_here t e) ∙ owes_none upto t.number s t since ∙ ap (λ o. owed_by upto o t) (sym (free_here t e))
+    | inr apart ↦ ap (λ o. owed_by upto o t) (same_elsewhere seats cpu (Some s) t apart)
+  ]
+
+  pub taken_view : (tasks : List Task) → map (owed upto (set seats cpu (Some s))) tasks ≡ map (owed upto seats) tasks
+  taken_view tasks = map_alike (owed upto (set seats cpu (Some s))) (owed upto seats) tasks (λ k d h. taken_owes (get_or tasks k d))
+
+  pub taken_waits : (tasks : List Task) → ((k : ℕ) (d : Task) → k < length tasks → (get_or tasks k d).cpu ≡ cpu → (get_or tasks k d).number ≡ s.number → Waits s (get_or tasks k d)) → AllWait seats tasks → AllWait (set seats cpu (Some s)) tasks
+  taken_waits tasks sat waits k d h =
+      let t = get_or tasks k d in
+      elim (cases_eq t.cpu cpu) [
+        | inl e ↦ subst (λ o. IfSome o (λ r. Waits r t)) (sym (taken_here t e)) (by_number t (eqb s.number t.number) refl (λ n. sat k d h e n))
+        | inr apart ↦ same_waits seats (set seats cpu (Some s)) t (same_elsewhere seats cpu (Some s) t apart) (waits k d h)
+      ]
+    where
+      by_number : (t : Task) (b : Bool) → eqb s.number t.number ≡ b → (t.number ≡ s.number → Waits s t) → IfSome (cond b (Some s) None) (λ r. Waits r t)
+      by_number t true e sat = sat (sym (eqb-true s.number t.number e))
+      by_number t false e sat = tt
+
+-- a seat that ends with the work or the budget of its task, whichever is first
+pub waits_until : (s : Seat) (t : Task) (spent left : ℕ) → MaySit t → pos left ≡ t.server.left → s.end - s.since ≡ min t.work spent → s.rate * (spent - 1) < left → Waits s t
+waits_until s t spent left may is span lasted =
+    let m : s.rate * (s.end - s.since - 1) ≤ s.rate * (spent - 1) = mul-le-mul_left s.rate (omega (arith, span)) in
+    record {
+      ready = may.ready;
+      worked = omega (arith, span);
+      lasted = omega (arith, ints, is, m, lasted);
+    }
