@@ -45,3 +45,4 @@ pub mod Waiting
 pub mod Turning
 pub mod Seatings
 pub mod Passing
+pub mod Leaping

@@ -7,8 +7,11 @@ use Rattle.std.proofs.lemmas.List.{get_or-set_same, get_or-set_other, get_or_pas
 use Rattle.std.proofs.Math.Nat.{mul-le-mul_left}
 use Rattle.domain_run.specs.declared.task.Task.{Task}
 use Rattle.domain_run.specs.declared.seats.Seat.{Seat}
-use Rattle.domain_run.specs.private.Seats.{seat_by, left, IsAhead}
-use Rattle.domain_run.specs.private.Waiting.{left_of, seat_of, slid_for, owed_by, owed, Waits, WaitsIf, AllWait, MaySit, charged_on}
+use Rattle.domain_run.specs.private.Seats.{SeatsView, seat_by, left, IsAhead}
+use Rattle.domain_run.specs.private.Waiting.{left_of, seat_of, slid_for, owed_by, owed, owed_all, Waits, WaitsIf, AllWait, MaySit, IsAtRate, IsRight, charged_on}
+use Rattle.domain_run.specs.declared.run_queue.RunQueue.{RunQueue}
+use Rattle.domain_run.specs.private.RunQueue.{IsCounted}
+use Rattle.domain_run.specs.private.Roster.{RosterView, IsKept}
 use Rattle.domain_run.specs.private.Index.{IsAt, IsAbsent}
 use Rattle.domain_run.proofs.Jumping.{Alike, map_alike}
 use Rattle.domain_run.proofs.Placing.{one_index}
@@ -63,7 +66,7 @@ module _ (upto cpu : ℕ) (seats : List (Option Seat)) (tasks : List Task) (s : 
     others k d h apart = same_stranger seats cpu s (get_or tasks k d) there (λ e. apart (one_index tasks k p d d numbered h inside (e ∙ sym number ∙ ap (λ (t : Task). t.number) (read ∙ get_or_default tasks p x d inside))))
 
     -- where it belongs to the CPU
-    its_seat : x.cpu ≡ cpu → seat_of seats x ≡ Some s
+    pub its_seat : x.cpu ≡ cpu → seat_of seats x ≡ Some s
     its_seat e = ap (λ c. seat_by x.number (get_or seats c None)) e ∙ ap (seat_by x.number) there ∙ ap (λ b. cond b (Some s) None) (eq-eqb s.number x.number (sym number))
 
     charged_here : x.cpu ≡ cpu → charged_on cpu upto s x ≡ owed upto seats x
@@ -162,3 +165,75 @@ waits_until s t spent left may is span lasted =
       worked = omega (arith, span);
       lasted = omega (arith, ints, is, m, lasted);
     }
+
+-- ---- who is to sit sits
+
+at_rate : (rate : ℕ) (o : Option Seat) (s : Seat) → o ≡ Some s → s.rate ≡ rate → IsAtRate rate o
+at_rate rate o s is e = subst (IsAtRate rate) (sym is) e
+
+pub right_rate : (n number rate other : ℕ) (o : Option Seat) → (n ≡ number → rate ≡ other) → IsRight (Some n) number rate o → IsRight (Some n) number other o
+right_rate n number rate other o same is = (λ e. subst (λ r. IsAtRate r o) (same e) (is.0 e), is.1)
+
+module _ (cpu n rate : ℕ) (seats : List (Option Seat)) where
+  pub taken_right : (s : Seat) (t : Task) → cpu < length seats → s.number ≡ n → s.rate ≡ rate → t.cpu ≡ cpu → IsRight (Some n) t.number rate (seat_of (set seats cpu (Some s)) t)
+  taken_right s t inside its r e =
+      let here : seat_of (set seats cpu (Some s)) t ≡ seat_by t.number (Some s) = ap (λ c. seat_by t.number (get_or (set seats cpu (Some s)) c None)) e ∙ ap (seat_by t.number) (get_or-set_same seats cpu (Some s) None inside) in (
+        λ k. at_rate rate (seat_of (set seats cpu (Some s)) t) s (here ∙ ap (λ b. cond b (Some s) None) (eq-eqb s.number t.number (its ∙ k))) r,
+        λ k. here ∙ other_seat t.number s (λ q. k (sym its ∙ q)),
+      )
+
+  pub free_right : (t : Task) → get_or seats cpu None ≡ None → t.number ≢ n → t.cpu ≡ cpu → IsRight (Some n) t.number rate (seat_of seats t)
+  free_right t free other e = (λ k. absurd (other (sym k)), λ k. ap (λ c. seat_by t.number (get_or seats c None)) e ∙ ap (seat_by t.number) free)
+
+  pub sits_right : (t : Task) → IsAtRate rate (seat_by n (get_or seats cpu None)) → t.cpu ≡ cpu → IsRight (Some n) t.number rate (seat_of seats t)
+  sits_right t is e = by_seat (seat_by n (get_or seats cpu None)) refl is
+    where
+      here : seat_of seats t ≡ seat_by t.number (get_or seats cpu None)
+      here = ap (λ c. seat_by t.number (get_or seats c None)) e
+
+      by_seat : (o : Option Seat) → seat_by n (get_or seats cpu None) ≡ o → IsAtRate rate o → IsRight (Some n) t.number rate (seat_of seats t)
+      by_seat None q r = absurd r
+      by_seat (Some s) q r =
+          let at = sits n (get_or seats cpu None) s q in (
+            λ k. at_rate rate (seat_of seats t) s (here ∙ ap (λ m. seat_by m (get_or seats cpu None)) (sym k) ∙ q) r,
+            λ k. here ∙ ap (seat_by t.number) at.at ∙ other_seat t.number s (λ z. k (sym at.its ∙ z)),
+          )
+
+-- ---- the roster, where a seat changes
+
+abbrev pub roster_view : ℕ → SeatsView → List Task → RosterView
+roster_view cpus s tasks = record { cpus = cpus; clock = s.upto; seats = s.seats; tasks = owed_all s tasks }
+
+pub view_again : (cpus cpu : ℕ) (o : Option Seat) (s v : SeatsView) (items after : List Task) (r : RosterView) → roster_view cpus s items ≡ r → v ≡ record s { seats = set s.seats cpu o } → owed_all v after ≡ owed_all s items → roster_view cpus v after ≡ record r { seats = set r.seats cpu o }
+view_again cpus cpu o s v items after r view are same =
+    (λ i. record (roster_view cpus s items) { clock = (are i).upto; seats = (are i).seats; tasks = same i })
+    ∙ ap (λ (x : RosterView). record x { seats = set x.seats cpu o }) view
+
+pub kept_again : (queue : RunQueue) (s v : SeatsView) (items after : List Task) (capacity : ℕ) → IsKept queue s items capacity → owed_all v after ≡ owed_all s items → AllWait v.seats after → length v.seats ≡ length s.seats → IsKept queue v after capacity
+kept_again queue s v items after capacity is same waits long = record {
+  counted = subst (IsCounted (length queue.accounts.all) queue) (sym same) is.counted;
+  waits = waits;
+  wide = long ∙ is.wide;
+  room = is.room;
+}
+
+-- the task of a number is at one place
+pub only_at : (tasks : List Task) (number p k : ℕ) (d : Task) → AllPairs (λ a b. a.number ≢ b.number) tasks → IsAt tasks number p → k < length tasks → (get_or tasks k d).number ≡ number → k ≡ p
+only_at tasks number p k d numbered at h e = one_index tasks k p d d numbered h at.within (e ∙ sym (at.is d))
+
+module _ (upto : ℕ) (seats : List (Option Seat)) (tasks : List Task) (number p : ℕ) (x : Task) (read : x ≡ get_or tasks p x) (at : IsAt (map (owed upto seats) tasks) number p) where
+  pub inside_at : p < length tasks
+  inside_at = let many : length (map (owed upto seats) tasks) ≡ length tasks = simp length-map in let h = at.within in omega (arith, h, many)
+
+  pub number_at : x.number ≡ number
+  number_at = sym (alike_owed upto seats x).number ∙ ap (λ (t : Task). t.number) (read_owed upto seats tasks p x inside_at read) ∙ at.is (owed upto seats x)
+
+  -- who is to sit where nobody sits owes nothing
+  pub may_at : (cpu : ℕ) → get_or seats cpu None ≡ None → All (λ t. t.number ≡ number → (t.cpu ≡ cpu) × MaySit t) (map (owed upto seats) tasks) → (x.cpu ≡ cpu) × MaySit x
+  may_at cpu free may =
+      let u = owed upto seats x in
+      let seen = read_owed upto seats tasks p x inside_at read in
+      let m = may p u at.within (at.is u) in
+      let home : x.cpu ≡ cpu = sym (alike_owed upto seats x).cpu ∙ ap (λ (t : Task). t.cpu) seen ∙ m.0 in
+      let none : seat_of seats x ≡ None = ap (λ c. seat_by x.number (get_or seats c None)) home ∙ ap (seat_by x.number) free in
+      (home, subst MaySit (sym seen ∙ ap (λ o. owed_by upto o x) none) m.1)

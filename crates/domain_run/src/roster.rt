@@ -22,6 +22,8 @@ ghost use Rattle.grub_rules.specs.Sums as sums;
 
 mod lending;
 mod listing;
+mod passing;
+mod seating;
 mod turning;
 
 use crate::change::Change;
@@ -232,6 +234,7 @@ impl Roster {
         ensures cpus { self.new.cpus ≡ self.old.cpus }
         ensures step { IsStep (after_change time change.now) place self.old.tasks self.new.tasks }
         ensures sound { All (IsSound time) self.new.tasks }
+        ensures clock { self.new.clock ≡ self.old.clock }
         ensures seats { (d : Task) → self.new.seats
             ≡ left_of (slice_index_or self.new.tasks place d)
             (left_of (slice_index_or self.old.tasks place d) self.old.seats) }

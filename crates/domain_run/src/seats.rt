@@ -2,7 +2,7 @@
 //! seat tells since when it has not been charged and at which rate it runs, so that time goes on for
 //! all of them at once.
 
-ghost use Rattle.std.specs.Prelude.{◌≡◌, ◌<◌, ◌≤◌, ◌+◌, ◌^◌, IfOk, IfSome, None, length, map, replicate, slice_index_or, slice_set};
+ghost use Rattle.std.specs.Prelude.{ℕ, ◌≡◌, ◌<◌, ◌≤◌, ◌+◌, ◌^◌, All, IfOk, IfSome, None, length, map, replicate, slice_index_or, slice_set};
 ghost use Rattle.domain_run.specs.private.Seats as spec;
 ghost use Rattle.domain_run.specs.private.Timers.{AreLater, least};
 
@@ -157,6 +157,7 @@ impl Seats {
     /// The first time at which a seat ends.
     pub(crate) fn first_end(&self) -> u64
         ensures end { result ≡ least (map spec.end_of self.now.seats) }
+        ensures seats { All (λ o. IfSome o (spec.IsAhead self.now.upto)) self.now.seats }
         ensures ahead { self.now.upto < result }
     {
         self.ends.least()
@@ -169,6 +170,7 @@ impl Seats {
         ensures from { from ≤ result }
         ensures most { result ≤ length self.now.seats }
         ensures others { AreLater (map spec.end_of self.now.seats) time from result }
+        ensures seats { All (λ o. IfSome o (spec.IsAhead self.now.upto)) self.now.seats }
     {
         self.ends.next_due(from, time)
     }
@@ -178,8 +180,17 @@ impl Seats {
         requires early { self.old.upto + ticks ≤ 2 ^ 62 }
         requires ahead { AreLater (map spec.end_of self.old.seats) (self.old.upto + ticks) 0
             (length self.old.seats) }
-        ensures { self.new ≡ record self.old { upto = self.old.upto + ticks } }
+        ensures passed { self.new ≡ record self.old { upto = self.old.upto + ticks } }
+        ensures ahead { All (λ o. IfSome o (spec.IsAhead self.old.upto)) self.old.seats }
     {
         self.upto += ticks;
+    }
+
+    /// The clock begins anew, where nobody sits.
+    pub(crate) fn restart(&mut self)
+        requires { (cpu : ℕ) → slice_index_or self.old.seats cpu None ≡ None }
+        ensures { self.new ≡ record self.old { upto = 0 } }
+    {
+        self.upto = 0;
     }
 }

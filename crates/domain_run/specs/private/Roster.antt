@@ -1,6 +1,6 @@
 -- The list of tasks with what is kept beside it, and what changes one task of it, for the code's
 -- own contracts.
-use Rattle.std.specs.Prelude.{ℕ, ℤ, pos, neg_ℤ, ◌<◌, ◌≤◌, ◌^◌, ◌≤ℤ◌, ◌≡◌, List, length, Option, Some, None, IsTrue}
+use Rattle.std.specs.Prelude.{ℕ, ℤ, pos, neg_ℤ, ◌*◌, ◌<◌, ◌≤◌, ◌^◌, ◌≤ℤ◌, ◌-ℤ◌, ◌≡◌, true, if◌then◌else◌, List, length, Option, Some, None, IsTrue}
 use Rattle.domain_run.specs.declared.task.Condition.TheVariants.{Leaving}
 use Rattle.domain_run.specs.declared.task.Task.{Task}
 use Rattle.domain_run.specs.declared.change.Change.{Change}
@@ -19,7 +19,9 @@ use Rattle.grub_rules.specs.Sums.{uinact}
 use Rattle.grub_rules.specs.Rate as reclaiming
 use Rattle.domain_run.specs.Tick.{shares, sum_of}
 use Rattle.domain_run.specs.private.Seats.{SeatsView}
-use Rattle.domain_run.specs.private.Waiting.{owed_all, AllWait, runner_of}
+use Rattle.domain_run.specs.private.Waiting.{owed_all, AllWait, runner_of, seat_of, IsRight, Lasts}
+use Rattle.edf_pick.specs.Places.{Places, stands}
+use Rattle.domain_run.specs.Sound.{occupant}
 
 -- the listed tasks of a domain of so many CPUs, each charged up to now, and who sits on each CPU
 pub record RosterView : Type 0 where
@@ -116,3 +118,19 @@ runner_in tasks t = runner_of (uinact t.cpu (shares tasks)) t
 abbrev pub rate_in : ℕ → ℕ → List Task → Task → ℕ
 rate_in cpus limit tasks t =
     reclaiming.rate t.params (uinact t.cpu (shares tasks)) (sum_of tasks) cpus limit
+
+-- a task of the list has the seat that those who stand on the CPUs give it
+abbrev pub IsSeated : Places → ℕ → ℕ → List Task → List (Option Seat) → Task → Type 0
+IsSeated places cpus limit tasks seats t =
+    IsRight (occupant places t.cpu) t.number (rate_in cpus limit tasks t) (seat_of seats t)
+
+-- a task after so many ticks, up to a time: where it stands on a CPU it has run in each
+abbrev pub leapt : ℕ → ℕ → Places → ℕ → ℕ → List Task → Task → Task
+leapt time ticks places cpus limit tasks t =
+    if stands t.number places
+    then ran_until time ticks (t.server.left -ℤ pos (rate_in cpus limit tasks t * ticks)) t else t
+
+-- where it stands neither its work nor its budget ends before the last of them
+abbrev pub LastsIf : ℕ → Places → ℕ → ℕ → List Task → Task → Type 0
+LastsIf ticks places cpus limit tasks t =
+    stands t.number places ≡ true → Lasts ticks (rate_in cpus limit tasks t) t

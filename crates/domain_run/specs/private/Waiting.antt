@@ -4,7 +4,9 @@ use Rattle.cbs_rules.specs.Serving.{charged}
 use Rattle.domain_run.specs.declared.task.Task.{Task}
 use Rattle.domain_run.specs.declared.seats.Seat.{Seat}
 use Rattle.domain_run.specs.declared.running.Running.{Running}
+use Rattle.edf_pick.specs.Places.{Places}
 use Rattle.domain_run.specs.Conditions.{is_ready}
+use Rattle.domain_run.specs.Sound.{occupant}
 use Rattle.domain_run.specs.private.Paying.{ran_until}
 use Rattle.domain_run.specs.private.Seats.{SeatsView, seat_by, left}
 
@@ -89,3 +91,9 @@ passed_by time ticks (Some s) t = ran_until time ticks (t.server.left -ℤ pos (
 
 abbrev pub passed : ℕ → ℕ → List (Option Seat) → Task → Task
 passed time ticks seats t = passed_by time ticks (seat_of seats t) t
+
+-- who stands on a CPU may sit there
+abbrev pub MaySitOn : Places → List Task → Type 0
+MaySitOn places tasks =
+    (cpu n : ℕ) → occupant places cpu ≡ Some n
+    → All (λ t. t.number ≡ n → (t.cpu ≡ cpu) × MaySit t) tasks

@@ -1,6 +1,6 @@
 //! A listed task as it is charged up to now.
 
-ghost use Rattle.std.specs.Prelude.{◌≡◌, ℤ, ℕ};
+ghost use Rattle.std.specs.Prelude.{◌≡◌};
 ghost use Rattle.domain_run.specs.Views.{view_of};
 ghost use Rattle.domain_run.specs.private.Waiting as spec;
 

@@ -18,7 +18,7 @@ use crate::task::Task;
 
 /// A task is charged what it owes since it was seated.
 #[inline(always)]
-fn charge(task: &mut Task, seat: Seat, upto: u64)
+pub(super) fn charge(task: &mut Task, seat: Seat, upto: u64)
     requires ahead { seats_spec.IsAhead upto seat }
     requires waits { waiting.Waits seat task.old }
     ensures { task.new ≡ waiting.owed_by upto (Some seat) task.old }
@@ -125,6 +125,7 @@ pub(super) fn turn_task(
         ≡ waiting.left_of (slice_index_or (waiting.owed_all seats.new tasks.new.items) place d)
         (waiting.left_of (slice_index_or (waiting.owed_all seats.old tasks.old.items) place d)
         seats.old.seats) }
+    ensures clock { seats.new.upto ≡ seats.old.upto }
     ensures wide { length seats.new.seats ≡ length seats.old.seats }
     ensures room { vec_capacity tasks.new ≡ vec_capacity tasks.old }
 {
