@@ -27,8 +27,8 @@ seat_standing : (places : Places) (t : Task) (rate : ℕ) (o : Option Seat) → 
 seat_standing places t rate o at right = (subst (λ p. IsRight p t.number rate o) at right).0 refl
 
 none_standing : (places : Places) (t : Task) (rate : ℕ) (o : Option Seat) (p : Option ℕ) → (p ≡ Some t.number → ⊥) → IsRight p t.number rate o → o ≡ None
-none_standing places t rate o None no right = right
-none_standing places t rate o (Some n) no right = right.1 (λ e. no (ap (λ m. Some m) e))
+none_standing places t rate o None never right = right
+none_standing places t rate o (Some n) never right = right.1 (λ e. never (ap (λ m. Some m) e))
 
 stands_from : (places : Places) (cpu n : ℕ) → occupant places cpu ≡ Some n → stands n places ≡ true
 stands_from [] cpu n e = absurd cc
