@@ -1,0 +1,12 @@
+-- A draft that no check has seen; after the pattern of proofs/state/State/finish/Answers.antt.
+-- With d the domain of the fields before, k = c.leap.result, end = s.time + (k - 1), places = s.curr:
+--   f = leapt end k places d.cpus d.limit d.tasks
+--   same_f t : Same t (f t)           by cases of stands t.number places: same_ran_until, same_itself
+--   tasks_are : c.leap.new.roster.tasks ≡ map f d.tasks        (c.leap.ensures.tasks, occupants().ensures, wide)
+-- invariant_of-self: domain = later_is d f end _ domain same_f _ early tasks_are c.leap.ensures.sound; homed by homed_map; the rest as in finish.
+-- returns c e is: let same : d ≡ under_way e = view_is ∙ is; leapt on under_way e is jumped (begun e) k, since
+--   rate_in cpus limit tasks t is rate_of (begun e) t by definition and end ≡ e.time + k;
+--   runs : All (RunsIf (begun e) k) (begun e).tasks from c.leap.ensures.lasts (ready by Paying.is_Ready)
+--   ap .. same ∙ (λ i. record (under_way e) { time = at i; tasks = all i }) ∙ sym (jump_is e k some (k - 1 ≤ ticks_to_due) runs)
+-- requires of leap: may : MaySitOn places tasks from IsPlacement (running), steady.numbered and steady.sound (busy, lifted, high), as in Runners.runner;
+--   apart, homed, homes, within, limit, cpus from IsState.domain.steady and .homed.
