@@ -42,6 +42,7 @@ pub mod ToldTicks
 pub mod ToldPay
 pub mod SeatTimes
 pub mod Waiting
+pub mod Bare
 pub mod Turning
 pub mod Seatings
 pub mod Passing

@@ -15,7 +15,7 @@ ghost use Rattle.domain_run.specs.Calls.{of_number, is_other};
 ghost use Rattle.domain_run.specs.private.Index.{IsAt, IsAbsent};
 ghost use Rattle.domain_run.specs.Views.{view_of};
 ghost use Rattle.domain_run.specs.private.Roster.{after_change, MayMake, Fits, IsSeenAs, runner_in};
-ghost use Rattle.domain_run.specs.private.Waiting.{left_of};
+ghost use Rattle.domain_run.specs.private.Waiting.{left_of, seat_of};
 ghost use Rattle.domain_run.specs.private.Timers.{IsStep, AreNotDue, due_of, least};
 ghost use Rattle.edf_pick.specs.Order.{ordered};
 ghost use Rattle.grub_rules.specs.Sums as sums;
@@ -99,9 +99,20 @@ impl Roster {
         self.tasks.len()
     }
 
-    /// The task at a place. It belongs to a CPU of the domain.
-    pub(crate) fn at(&self, place: usize) -> &Task
+    /// The CPU to which the task at a place belongs.
+    pub(crate) fn cpu_at(&self, place: usize) -> usize
         requires { place < length self.now.tasks }
+        ensures cpu { (d : Task) → result ≡ (slice_index_or self.now.tasks place d).cpu }
+        ensures home { result < self.now.cpus }
+    {
+        self.tasks[place].cpu
+    }
+
+    /// The task at a place, where it does not sit. It belongs to a CPU of the domain.
+    pub(crate) fn at(&self, place: usize) -> &Task
+        requires there { place < length self.now.tasks }
+        requires free { (d : Task)
+            → seat_of self.now.seats (slice_index_or self.now.tasks place d) ≡ None }
         ensures task { (d : Task) → result.now ≡ slice_index_or self.now.tasks place d }
         ensures home { result.now.cpu < self.now.cpus }
     {
