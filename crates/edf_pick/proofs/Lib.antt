@@ -1,4 +1,6 @@
 pub mod Before
 pub mod CallerLemmas
 pub mod Picked
+pub mod Moves
+pub mod Following
 pub mod Rising

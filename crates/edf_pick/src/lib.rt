@@ -10,6 +10,7 @@
 #![tactic(auto)]
 
 mod candidate;
+mod changes;
 mod order;
 mod picking;
 mod placement;
@@ -17,6 +18,7 @@ mod queue;
 mod seats;
 
 pub use candidate::Candidate;
+pub use changes::{Changes, Gone};
 pub use placement::{Placement, pick};
 pub use queue::Queue;
 pub use seats::stands;

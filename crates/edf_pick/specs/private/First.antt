@@ -1,8 +1,8 @@
 -- The placement, where the chosen tasks stand in a list of their own, in the order of the choice.
-use Rattle.std.specs.Prelude.{ℕ, ◌≡◌, ◌==◌, Bool, true, false, if◌then◌else◌, List, fold, slice_index_or, Option, Some, None}
+use Rattle.std.specs.Prelude.{ℕ, ◌≡◌, ◌==◌, Bool, true, false, if◌then◌else◌, List, fold, not, slice_index_or, slice_set, Option, Some, None}
 use Rattle.std.specs.List.{list_any}
 use Rattle.edf_pick.specs.declared.candidate.Candidate.{Candidate}
-use Rattle.edf_pick.specs.Places.{Places, seated}
+use Rattle.edf_pick.specs.Places.{Places, seated, stands}
 
 -- an occupant that is chosen stays
 abbrev pub staying : List Candidate → Option ℕ → Option ℕ
@@ -15,6 +15,19 @@ AreStaying chosen places marks =
     (cpu : ℕ) → slice_index_or marks cpu false ≡ true
     → staying chosen (slice_index_or places cpu None) ≡ slice_index_or places cpu None
 
+-- who stood on these CPUs stands there no more
+abbrev pub left_by : List ℕ → Places → Places
+left_by stops places = fold (λ (ps : Places) cpu. slice_set ps cpu None) places stops
+
+-- a chosen task that stands nowhere starts
+abbrev pub is_starting : Places → Candidate → Bool
+is_starting places c = not (stands c.number places)
+
 -- the chosen tasks, seated one after another
 abbrev pub seated_all : List Candidate → Places → Places
 seated_all chosen places = fold seated places chosen
+
+-- room for 256 of two kinds
+pub record HasRoomFor256 (fresh gone : ℕ) : Type 0 where
+  pub come : fresh ≡ 256
+  pub went : gone ≡ 256

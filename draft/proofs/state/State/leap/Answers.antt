@@ -1,1 +1,0 @@
--- A draft that no check has seen; as jump_run/proofs/advancing/jump/Answers.antt: begin's ok, run.ensures.domain self.old ok, ticks_kept.
