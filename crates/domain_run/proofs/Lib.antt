@@ -47,3 +47,4 @@ pub mod Turning
 pub mod Seatings
 pub mod Passing
 pub mod Leaping
+pub mod Leapt

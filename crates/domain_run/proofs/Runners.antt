@@ -38,7 +38,7 @@ pub record IsRunner (e : Domain) (n : ℕ) : Type 0 where
   pub lifted : pos 0 <ℤ task.server.left
   pub high : task.server.left ≤ℤ pos (2 ^ 52)
 
-contends : (c : Condition) → IsTrue (is_ready c) → IsTrue (is_contending c)
+pub contends : (c : Condition) → IsTrue (is_ready c) → IsTrue (is_contending c)
 contends Ready h = refl
 contends Throttled h = refl
 contends (Blocked u) h = absurd cc

@@ -6,9 +6,11 @@ use Rattle.std.proofs.lemmas.Bool.{cases_eq, cases_lt, eqb-true, ne_eqb}
 use Rattle.std.proofs.lemmas.List.{get_or-set_same, get_or-set_other, get_or_past, get_or_default, get_or-map, length-map, length-set, set-get_or}
 use Rattle.std.proofs.Math.Nat.{mul-le-mul_left}
 use Rattle.domain_run.specs.declared.task.Task.{Task}
+use Rattle.grub_rules.specs.Rate as reclaiming
 use Rattle.domain_run.specs.declared.seats.Seat.{Seat}
+use Rattle.domain_run.specs.declared.seats.Basis.{Basis}
 use Rattle.domain_run.specs.private.Seats.{SeatsView, seat_by, left, IsAhead}
-use Rattle.domain_run.specs.private.Waiting.{left_of, seat_of, slid_for, owed_by, owed, owed_all, Waits, WaitsIf, AllWait, MaySit, IsAtRate, IsRight, charged_on}
+use Rattle.domain_run.specs.private.Waiting.{left_of, seat_of, slid_for, owed_by, owed, owed_all, Waits, WaitsIf, AllWait, MaySit, IsAtRate, IsRight, charged_on, rate_by}
 use Rattle.domain_run.specs.declared.run_queue.RunQueue.{RunQueue}
 use Rattle.domain_run.specs.private.RunQueue.{IsCounted}
 use Rattle.domain_run.specs.private.Roster.{RosterView, IsKept}
@@ -157,13 +159,14 @@ module _ (upto cpu : ℕ) (seats : List (Option Seat)) (s : Seat) (free : get_or
       by_number t false e sat = tt
 
 -- a seat that ends with the work or the budget of its task, whichever is first
-pub waits_until : (s : Seat) (t : Task) (spent left : ℕ) → MaySit t → pos left ≡ t.server.left → s.end - s.since ≡ min t.work spent → s.rate * (spent - 1) < left → Waits s t
-waits_until s t spent left may is span lasted =
+pub waits_until : (s : Seat) (t : Task) (spent left : ℕ) → MaySit t → pos left ≡ t.server.left → s.end - s.since ≡ min t.work spent → s.rate * (spent - 1) < left → ((b : Basis) → s.basis ≡ b → s.rate ≡ rate_by b t) → Waits s t
+waits_until s t spent left may is span lasted rated =
     let m : s.rate * (s.end - s.since - 1) ≤ s.rate * (spent - 1) = mul-le-mul_left s.rate (omega (arith, span)) in
     record {
       ready = may.ready;
       worked = omega (arith, span);
       lasted = omega (arith, ints, is, m, lasted);
+      rated = rated;
     }
 
 -- ---- who is to sit sits
@@ -198,6 +201,39 @@ module _ (cpu n rate : ℕ) (seats : List (Option Seat)) where
             λ k. at_rate rate (seat_of seats t) s (here ∙ ap (λ m. seat_by m (get_or seats cpu None)) (sym k) ∙ q) r,
             λ k. here ∙ ap (seat_by t.number) at.at ∙ other_seat t.number s (λ z. k (sym at.its ∙ z)),
           )
+
+-- who sits on a basis that is still right, is right
+pub basis_right : (upto cpu n : ℕ) (seats : List (Option Seat)) (items : List Task) (s : Seat) (b : Basis) → seat_by n (get_or seats cpu None) ≡ Some s → s.basis ≡ b → AllWait seats items → All (λ t. t.cpu ≡ cpu → IsRight (Some n) t.number (rate_by b t) (seat_of seats t)) (map (owed upto seats) items)
+basis_right upto cpu n seats items s b sat same waits k d h e =
+    let f = owed upto seats in
+    let many : length (map f items) ≡ length items = simp length-map in
+    let inside : k < length items = omega (arith, h, many) in
+    let x = get_or items k d in
+    let t = get_or (map f items) k d in
+    let read : t ≡ f x = get_or-map f items k d d inside in
+    let a = alike_owed upto seats x in
+    let here : seat_of seats t ≡ seat_by t.number (get_or seats cpu None) = ap (λ c. seat_by t.number (get_or seats c None)) e in
+    let at = sits n (get_or seats cpu None) s sat in
+    let cpu_is : x.cpu ≡ cpu = sym a.cpu ∙ ap (λ (u : Task). u.cpu) (sym read) ∙ e in
+    let number_is : x.number ≡ t.number = sym a.number ∙ ap (λ (u : Task). u.number) (sym read) in
+    let params : x.params ≡ t.params = sym a.params ∙ ap (λ (u : Task). u.params) (sym read) in (
+      λ q.
+        let its : seat_of seats x ≡ Some s = (λ i. seat_by ((number_is ∙ sym q) i) (get_or seats (cpu_is i) None)) ∙ sat in
+        let w : Waits s x = subst (λ o. IfSome o (λ r. Waits r x)) its (waits k d inside) in
+        at_rate (rate_by b t) (seat_of seats t) s (here ∙ ap (λ m. seat_by m (get_or seats cpu None)) (sym q) ∙ sat)
+        (w.rated b same ∙ (λ i. reclaiming.rate (params i) b.uinact b.sum b.cpus b.limit)),
+      λ q. here ∙ ap (seat_by t.number) at.at ∙ other_seat t.number s (λ z. q (sym at.its ∙ z)),
+    )
+
+-- the rate of a task that is stored is that of the task as it is seen
+pub rated_at : (upto : ℕ) (seats : List (Option Seat)) (items : List Task) (number p rate : ℕ) (b : Basis) (x : Task) → x ≡ get_or items p x → IsAt (map (owed upto seats) items) number p → All (λ t. t.number ≡ number → rate ≡ rate_by b t) (map (owed upto seats) items) → rate ≡ rate_by b x
+rated_at upto seats items number p rate b x read at rates =
+    let many : length (map (owed upto seats) items) ≡ length items = simp length-map in
+    let inside : p < length items = let h = at.within in omega (arith, h, many) in
+    let u = owed upto seats x in
+    let seen = read_owed upto seats items p x inside read in
+    let params : u.params ≡ x.params = (alike_owed upto seats x).params in
+    rates p u at.within (at.is u) ∙ ap (rate_by b) (sym seen) ∙ (λ i. reclaiming.rate (params i) b.uinact b.sum b.cpus b.limit)
 
 -- ---- the roster, where a seat changes
 

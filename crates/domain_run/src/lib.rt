@@ -30,6 +30,7 @@ mod switch;
 mod task;
 mod telling;
 mod timers;
+mod to_event;
 mod tournament;
 
 pub use call::{Call, Refused, Reply};

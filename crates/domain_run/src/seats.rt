@@ -2,7 +2,7 @@
 //! seat tells since when it has not been charged and at which rate it runs, so that time goes on for
 //! all of them at once.
 
-ghost use Rattle.std.specs.Prelude.{ℕ, ◌≡◌, ◌<◌, ◌≤◌, ◌+◌, ◌^◌, All, IfOk, IfSome, None, length, map, replicate, slice_index_or, slice_set};
+ghost use Rattle.std.specs.Prelude.{ℕ, IsTrue, is_none, ◌≡◌, ◌<◌, ◌≤◌, ◌+◌, ◌^◌, All, IfOk, IfSome, None, length, map, replicate, slice_index_or, slice_set};
 ghost use Rattle.domain_run.specs.private.Seats as spec;
 ghost use Rattle.domain_run.specs.private.Timers.{AreLater, least};
 
@@ -10,6 +10,17 @@ use crate::timers::{NEVER, Timers};
 use no_memory::NoMemory;
 use std::alloc::{AllocError, Global};
 use std::marker::Model;
+
+/// What the rate of a task depends on beside its parameters.
+#[derive(Clone, Copy, Debug, PartialEq, Eq)]
+pub(crate) struct Basis {
+    /// The bandwidth of the inactive tasks of its CPU, in 1/2^20 of a CPU.
+    pub(crate) uinact: u64,
+    /// The bandwidth of all listed tasks.
+    pub(crate) sum: u64,
+    pub(crate) cpus: u64,
+    pub(crate) limit: u64,
+}
 
 /// A task that runs on a CPU, and has not been charged since a time. Times are in microseconds of
 /// the clock of the seats.
@@ -20,6 +31,8 @@ pub(crate) struct Seat {
     pub(crate) since: u64,
     /// What a tick takes of its budget, in 1/2^20 us.
     pub(crate) rate: u64,
+    /// What the rate was worked out from.
+    pub(crate) basis: Basis,
     /// When its work or its budget ends, if it goes on to run at this rate.
     pub(crate) end: u64,
 }
@@ -42,6 +55,16 @@ impl Model for Seats {
     ghost view = { λ s. record { upto = s.upto; seats = s.seats.items } };
 
     ghost invariant = { λ s. AreSeats s.upto s.seats.items s.ends };
+}
+
+impl Basis {
+    /// Whether it is the same.
+    #[inline(always)]
+    pub(crate) fn is_same(&self, other: &Basis) -> bool
+        ensures { IsTrue result → self.now ≡ other.now }
+    {
+        self == other
+    }
 }
 
 /// When a seat ends; never where nobody sits.
@@ -121,6 +144,15 @@ impl Seats {
         ensures ahead { IfSome result (spec.IsAhead self.now.upto) }
     {
         self.seats[cpu]
+    }
+
+    /// Whether nobody sits on a CPU.
+    #[inline(always)]
+    pub(crate) fn is_free(&self, cpu: usize) -> bool
+        requires { cpu < length self.now.seats }
+        ensures { result ≡ is_none (slice_index_or self.now.seats cpu None) }
+    {
+        self.seats[cpu].is_none()
     }
 
     /// The seat of a task on a CPU, where it sits there.

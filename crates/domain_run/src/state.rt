@@ -14,6 +14,7 @@ ghost use Rattle.attr_check.specs.Ratio.{cap};
 mod calls;
 mod cutting;
 mod jumps;
+mod leaping;
 mod lending;
 mod machine;
 mod ticking;

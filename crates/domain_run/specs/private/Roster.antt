@@ -14,6 +14,7 @@ use Rattle.domain_run.specs.private.Paying.{ran_until}
 use Rattle.domain_run.specs.private.RunQueue.{IsCounted, standing_of}
 use Rattle.domain_run.specs.private.Timers.{due_of}
 use Rattle.domain_run.specs.declared.seats.Seat.{Seat}
+use Rattle.domain_run.specs.declared.seats.Basis.{Basis}
 use Rattle.domain_run.specs.declared.running.Running.{Running}
 use Rattle.grub_rules.specs.Sums.{uinact}
 use Rattle.grub_rules.specs.Rate as reclaiming
@@ -118,6 +119,16 @@ runner_in tasks t = runner_of (uinact t.cpu (shares tasks)) t
 abbrev pub rate_in : ℕ → ℕ → List Task → Task → ℕ
 rate_in cpus limit tasks t =
     reclaiming.rate t.params (uinact t.cpu (shares tasks)) (sum_of tasks) cpus limit
+
+-- what the rates of the tasks of a CPU depend on
+abbrev pub basis_in : ℕ → ℕ → List Task → ℕ → Basis
+basis_in cpus limit tasks cpu =
+    record {
+      uinact = uinact cpu (shares tasks);
+      sum = sum_of tasks;
+      cpus = cpus;
+      limit = limit;
+    }
 
 -- a task of the list has the seat that those who stand on the CPUs give it
 abbrev pub IsSeated : Places → ℕ → ℕ → List Task → List (Option Seat) → Task → Type 0

@@ -3,6 +3,8 @@ use Rattle.std.specs.Prelude.{ℕ, pos, ◌-◌, ◌*◌, ◌^◌, ◌<◌, ◌�
 use Rattle.cbs_rules.specs.Serving.{charged}
 use Rattle.domain_run.specs.declared.task.Task.{Task}
 use Rattle.domain_run.specs.declared.seats.Seat.{Seat}
+use Rattle.domain_run.specs.declared.seats.Basis.{Basis}
+use Rattle.grub_rules.specs.Rate as reclaiming
 use Rattle.domain_run.specs.declared.running.Running.{Running}
 use Rattle.edf_pick.specs.Places.{Places}
 use Rattle.domain_run.specs.Conditions.{is_ready}
@@ -37,11 +39,17 @@ charged_on cpu upto s t = if t.cpu == cpu then owed_by upto (Some s) t else t
 abbrev pub owed_all : SeatsView → List Task → List Task
 owed_all s tasks = map (owed s.upto s.seats) tasks
 
--- a seat's task: it is ready, and neither its work nor its budget ends before the seat does
+-- the rate of a task on a basis
+abbrev pub rate_by : Basis → Task → ℕ
+rate_by b t = reclaiming.rate t.params b.uinact b.sum b.cpus b.limit
+
+-- a seat's task: it is ready, the seat has its rate, and neither its work nor its budget ends before
+-- the seat does
 pub record Waits (s : Seat) (t : Task) : Type 0 where
   pub ready : IsTrue (is_ready t.condition)
   pub worked : s.end - s.since ≤ t.work
   pub lasted : pos (s.rate * (s.end - s.since - 1)) <ℤ t.server.left
+  pub rated : (b : Basis) → s.basis ≡ b → s.rate ≡ rate_by b t
 
 abbrev pub WaitsIf : List (Option Seat) → Task → Type 0
 WaitsIf seats t = IfSome (seat_of seats t) (λ s. Waits s t)

@@ -4,13 +4,13 @@ ghost use Rattle.std.specs.Prelude.{◌≡◌, ◌≢◌, ◌<◌, ◌≤◌, �
 ghost use Rattle.attr_check.specs.Ratio.{cap};
 ghost use Rattle.domain_run.specs.Domain.{IsLimit};
 ghost use Rattle.domain_run.specs.Tick.{sum_of};
-ghost use Rattle.domain_run.specs.private.Roster.{rate_in};
+ghost use Rattle.domain_run.specs.private.Roster.{rate_in, basis_in};
 ghost use Rattle.domain_run.specs.private.Seats.{IsAhead, seat_by};
 ghost use Rattle.domain_run.specs.private.Waiting as spec;
 
 use super::Roster;
 use crate::roster::turning::charge;
-use crate::seats::Seat;
+use crate::seats::{Basis, Seat};
 use crate::task::Task;
 
 /// A task is charged what the seat of a CPU owes, where it belongs to that.
@@ -46,10 +46,11 @@ fn lasting(left: u64, rate: u64) -> u64
 }
 
 /// A seat for a task, from a time on, at a rate.
-fn seat_for(task: &Task, upto: u64, rate: u64) -> Seat
+fn seat_for(task: &Task, upto: u64, rate: u64, basis: Basis) -> Seat
     requires may { spec.MaySit task.now }
     requires turns { 0 < rate }
     requires slow { rate ≤ 2 ^ 27 }
+    requires rated { rate ≡ spec.rate_by basis task.now }
     requires early { upto ≤ 2 ^ 62 }
     ensures number { result.number ≡ task.now.number }
     ensures since { result.since ≡ upto }
@@ -62,6 +63,7 @@ fn seat_for(task: &Task, upto: u64, rate: u64) -> Seat
         number: task.number,
         since: upto,
         rate,
+        basis,
         end: upto + task.work.min(spent),
     }
 }
@@ -84,12 +86,24 @@ impl Roster {
         }
     }
 
+    /// As `vacate`: mostly nobody sits there.
+    #[inline(always)]
+    fn leave_free(&mut self, cpu: usize)
+        requires { cpu < self.old.cpus }
+        ensures { self.new ≡ record self.old { seats = slice_set self.old.seats cpu None } }
+    {
+        if !self.seats.is_free(cpu) {
+            self.vacate(cpu);
+        }
+    }
+
     /// The task of a number, which belongs to a CPU on which nobody sits, sits there at a rate.
-    fn occupy(&mut self, cpu: usize, number: u32, rate: u64)
+    fn occupy(&mut self, cpu: usize, number: u32, rate: u64, basis: Basis)
         requires there { cpu < self.old.cpus }
         requires free { slice_index_or self.old.seats cpu None ≡ None }
         requires turns { 0 < rate }
         requires slow { rate ≤ 2 ^ 27 }
+        requires rated { All (λ t. t.number ≡ number → rate ≡ spec.rate_by basis t) self.old.tasks }
         requires may { All (λ t. t.number ≡ number → (t.cpu ≡ cpu) × spec.MaySit t) self.old.tasks }
         ensures cpus { self.new.cpus ≡ self.old.cpus }
         ensures clock { self.new.clock ≡ self.old.clock }
@@ -100,19 +114,35 @@ impl Roster {
             → spec.IsRight (Some number) t.number rate (spec.seat_of self.new.seats t)) self.new.tasks }
     {
         if let Some(place) = self.place(number) {
-            let seat = seat_for(&self.tasks[place], self.seats.upto(), rate);
+            let seat = seat_for(&self.tasks[place], self.seats.upto(), rate, basis);
             self.seats.set(cpu, Some(seat));
         }
     }
 
-    /// Whether the task of a number sits on a CPU at a rate.
-    fn sits_at(&self, cpu: usize, number: u32, rate: u64) -> bool
-        ensures { IsTrue result
-            → spec.IsAtRate rate (seat_by number (slice_index_or self.now.seats cpu None)) }
+    /// What the rates of the tasks of a CPU depend on now.
+    #[inline(always)]
+    fn basis(&self, cpu: usize, limit: u64) -> Basis
+        requires there { cpu < self.now.cpus }
+        ensures { result ≡ basis_in self.now.cpus limit self.now.tasks cpu }
+    {
+        Basis {
+            uinact: self.uinact(cpu),
+            sum: self.sum(),
+            cpus: self.seats.len() as u64,
+            limit,
+        }
+    }
+
+    /// Whether the task of a number sits on a CPU, at a rate that this basis gives: then nobody else
+    /// sits there.
+    #[inline(always)]
+    fn sits_by(&self, cpu: usize, number: u32, basis: &Basis) -> bool
+        ensures { IsTrue result → All (λ t. t.cpu ≡ cpu → spec.IsRight (Some number) t.number
+            (spec.rate_by basis.now t) (spec.seat_of self.now.seats t)) self.now.tasks }
     {
         match self.seats.seat_of(cpu, number) {
             None => false,
-            Some(seat) => seat.rate == rate,
+            Some(seat) => seat.basis.is_same(basis),
         }
     }
 
@@ -140,7 +170,29 @@ impl Roster {
         )
     }
 
+    /// The task of a number, who is to sit on a CPU and did not sit there rightly, does.
+    fn reseat(&mut self, cpu: usize, number: u32, limit: u64, basis: Basis)
+        requires there { cpu < self.old.cpus }
+        requires cpus { (0 < self.old.cpus) × (self.old.cpus ≤ 64) }
+        requires limit { IsLimit limit }
+        requires within { sum_of self.old.tasks ≤ cap self.old.cpus limit }
+        requires may { All (λ t. t.number ≡ number → (t.cpu ≡ cpu) × spec.MaySit t) self.old.tasks }
+        requires basis { basis ≡ basis_in self.old.cpus limit self.old.tasks cpu }
+        ensures cpus { self.new.cpus ≡ self.old.cpus }
+        ensures clock { self.new.clock ≡ self.old.clock }
+        ensures tasks { self.new.tasks ≡ self.old.tasks }
+        ensures others { (d : ℕ) → d ≢ cpu
+            → slice_index_or self.new.seats d None ≡ slice_index_or self.old.seats d None }
+        ensures right { All (λ t. t.cpu ≡ cpu → spec.IsRight (Some number) t.number
+            (rate_in self.old.cpus limit self.old.tasks t) (spec.seat_of self.new.seats t)) self.new.tasks }
+    {
+        let rate = self.rate_of(number, limit);
+        self.vacate(cpu);
+        self.occupy(cpu, number, rate, basis);
+    }
+
     /// Who stands on a CPU, the task of a number, sits there at its rate, and nobody else does.
+    #[inline(always)]
     fn seat_at(&mut self, cpu: usize, number: u32, limit: u64)
         requires there { cpu < self.old.cpus }
         requires cpus { (0 < self.old.cpus) × (self.old.cpus ≤ 64) }
@@ -155,15 +207,15 @@ impl Roster {
         ensures right { All (λ t. t.cpu ≡ cpu → spec.IsRight (Some number) t.number
             (rate_in self.old.cpus limit self.old.tasks t) (spec.seat_of self.new.seats t)) self.new.tasks }
     {
-        let rate = self.rate_of(number, limit);
-        if self.sits_at(cpu, number, rate) {
+        let basis = self.basis(cpu, limit);
+        if self.sits_by(cpu, number, &basis) {
             return;
         }
-        self.vacate(cpu);
-        self.occupy(cpu, number, rate);
+        self.reseat(cpu, number, limit, basis);
     }
 
     /// Who stands on a CPU, if anyone does, sits there at its rate, and nobody else does.
+    #[inline(always)]
     pub(crate) fn seat_on(&mut self, cpu: usize, occupant: Option<u32>, limit: u64)
         requires there { cpu < self.old.cpus }
         requires cpus { (0 < self.old.cpus) × (self.old.cpus ≤ 64) }
@@ -180,7 +232,7 @@ impl Roster {
             (rate_in self.old.cpus limit self.old.tasks t) (spec.seat_of self.new.seats t)) self.new.tasks }
     {
         match occupant {
-            None => self.vacate(cpu),
+            None => self.leave_free(cpu),
             Some(number) => self.seat_at(cpu, number, limit),
         }
     }

@@ -36,8 +36,8 @@ look-before-requires-clause-may c =
     let tasks = ap (λ (r : RosterView). r.tasks) c.vacate.ensures in
     subst (MayMake c.args.time c.args.change.now) (sym (c.at.ensures.task x ∙ ap (λ (ts : List Task). get_or ts c.args.place x) tasks)) (c.requires.may x)
 
-pub at-2-requires-clause-free : goal.at-2-requires-clause-free
-at-2-requires-clause-free c d =
+pub at-requires-2-clause-free : goal.at-requires-2-clause-free
+at-requires-2-clause-free c d =
     let t = get_or c.turn-2.new.self.tasks c.args.place d in
     ap (λ seats. seat_of seats t) (c.turn-2.ensures.seats d)
     ∙ left_free t (left_of (get_or c.vacate.new.self.tasks c.args.place d) c.vacate.new.self.seats)

@@ -6,10 +6,10 @@ use Rattle.domain_run.specs.declared.seats.Seat.{Seat}
 use Rattle.domain_run.specs.private.Index.{IsAt}
 use Rattle.domain_run.specs.private.Roster.{RosterView}
 use Rattle.domain_run.specs.private.Seats.{SeatsView}
-use Rattle.domain_run.specs.private.Waiting.{owed, owed_all, seat_of, AllWait, Waits, MaySit, IsRight}
+use Rattle.domain_run.specs.private.Waiting.{owed, owed_all, seat_of, AllWait, Waits, MaySit, IsRight, rate_by}
 use Rattle.domain_run.proofs.Placing.{one_index}
 use Rattle.domain_run.proofs.Waiting.{alike_owed, numbered_unlike}
-use Rattle.domain_run.proofs.Seatings.{taken_view, taken_waits, taken_right, kept_again, inside_at, number_at, may_at}
+use Rattle.domain_run.proofs.Seatings.{taken_view, taken_waits, taken_right, kept_again, inside_at, number_at, may_at, rated_at}
 use Rattle.domain_run.proofs.roster.Roster.occupy.Goals as goal
 
 pub seat_for-seat-requires-clause-may : goal.seat_for-seat-requires-clause-may
@@ -21,6 +21,15 @@ seat_for-seat-requires-clause-may c =
     let free = subst (λ (r : RosterView). get_or r.seats c.args.cpu None ≡ None) (sym c.self.view_is) c.requires.free in
     let may = subst (λ (r : RosterView). All (λ t. t.number ≡ c.args.number → (t.cpu ≡ c.args.cpu) × MaySit t) r.tasks) (sym c.self.view_is) c.requires.may in
     (may_at s.seats.upto s.seats.seats s.tasks.items c.args.number p x c.index.ensures at c.args.cpu free may).1
+
+pub seat_for-seat-requires-clause-rated : goal.seat_for-seat-requires-clause-rated
+seat_for-seat-requires-clause-rated c =
+    let s = c.self.inside in
+    let p = c.in-Some.place in
+    let x = c.index.result.now in
+    let at = subst (λ (r : RosterView). IsAt r.tasks c.args.number p) (sym c.self.view_is) c.in-Some.ensures.there in
+    let rates = subst (λ (r : RosterView). All (λ t. t.number ≡ c.args.number → c.args.rate ≡ rate_by c.args.basis t) r.tasks) (sym c.self.view_is) c.requires.rated in
+    rated_at s.seats.upto s.seats.seats s.tasks.items c.args.number p c.args.rate c.args.basis x c.index.ensures at rates
 
 pub invariant_of-self : goal.invariant_of-self
 invariant_of-self c =

@@ -1,17 +1,22 @@
-use Rattle.std.proofs.Common.{◌≡◌, ◌<◌, ℕ, Some, None, List, length, get_or, sym, ap, subst, ◌∙◌}
+use Rattle.std.proofs.Common.{◌≡◌, ◌<◌, ℕ, Option, Some, None, List, length, get_or, sym, ap, subst, ◌∙◌}
 use Rattle.std.specs.Prelude.{All}
 use Rattle.domain_run.specs.declared.task.Task.{Task}
-use Rattle.domain_run.specs.private.Roster.{RosterView, rate_in}
-use Rattle.domain_run.specs.private.Waiting.{seat_of}
+use Rattle.domain_run.specs.declared.seats.Seat.{Seat}
+use Rattle.domain_run.specs.declared.seats.Basis.{Basis}
+use Rattle.domain_run.specs.private.Roster.{RosterView, rate_in, basis_in}
+use Rattle.domain_run.specs.private.Waiting.{seat_of, rate_by, IsRight, MaySit}
 use Rattle.domain_run.proofs.Seatings.{right_rate}
 use Rattle.domain_run.proofs.roster.Roster.seat_at.Goals as goal
 
-pub returns-clause-right : goal.returns-clause-right
-returns-clause-right c k d h e =
+-- on the basis of the task's CPU the rate is the rule's
+right_basis : (cpus limit cpu number : ℕ) (tasks : List Task) (seats : List (Option Seat)) (b : Basis) → b ≡ basis_in cpus limit tasks cpu → All (λ t. t.cpu ≡ cpu → IsRight (Some number) t.number (rate_by b t) (seat_of seats t)) tasks → All (λ t. t.cpu ≡ cpu → IsRight (Some number) t.number (rate_in cpus limit tasks t) (seat_of seats t)) tasks
+right_basis cpus limit cpu number tasks seats b is right k d h e =
+    let t = get_or tasks k d in
+    let rate : rate_by b t ≡ rate_in cpus limit tasks t = ap (λ (x : Basis). rate_by x t) is ∙ ap (λ c. rate_by (basis_in cpus limit tasks c) t) (sym e) in
+    right_rate number t.number (rate_by b t) (rate_in cpus limit tasks t) (seat_of seats t) (λ n. rate) (right k d h e)
+
+pub returns-then-sits_by-clause-right : goal.returns-then-sits_by-clause-right
+returns-then-sits_by-clause-right c =
     let old = c.args.self.now in
-    let new = c.occupy.new.self in
-    let rate = c.rate_of-rate.result in
-    let t = get_or new.tasks k d in
-    let tasks_same : new.tasks ≡ old.tasks = c.occupy.ensures.tasks ∙ ap (λ (r : RosterView). r.tasks) c.vacate.ensures in
-    let rates = subst (λ (ts : List Task). All (λ (u : Task). u.number ≡ c.args.number → rate ≡ rate_in old.cpus c.args.limit old.tasks u) ts) (sym tasks_same) c.rate_of-rate.ensures.rate in
-    right_rate c.args.number t.number rate (rate_in old.cpus c.args.limit old.tasks t) (seat_of new.seats t) (λ n. rates k d h (sym n)) (c.occupy.ensures.right k d h e)
+    right_basis old.cpus c.args.limit c.args.cpu c.args.number old.tasks old.seats c.basis-basis.result c.basis-basis.ensures (c.sits_by.ensures c.if-sits_by.true)
+
