@@ -16,6 +16,7 @@ mod picking;
 mod placement;
 mod queue;
 mod seats;
+mod stops;
 
 pub use candidate::Candidate;
 pub use changes::{Changes, Gone};

@@ -15,7 +15,7 @@ fn first_of(queue: &[Candidate], cpus: usize) -> &[Candidate]
     &queue[..cpus.min(queue.len())]
 }
 
-fn is_among(chosen: &[Candidate], number: u32) -> bool
+pub(crate) fn is_among(chosen: &[Candidate], number: u32) -> bool
     ensures { result ≡ list_any (λ c. c.number == number) chosen.now }
 {
     chosen.iter().any(|c| c.number == number)
@@ -113,8 +113,7 @@ pub(crate) fn move_on(
     requires rising { IsRising queue.now }
     requires numbered { AllPairs (λ a b. a.number ≢ b.number) (take (vec_len places.old) queue.now) }
     requires within { All (λ cpu. cpu < vec_len places.old) stops.now }
-    requires stops { spec.left_by stops.now places.old.items
-        ≡ map (spec.staying (take (vec_len places.old) queue.now)) places.old.items }
+    requires stops { spec.AreStops (take (vec_len places.old) queue.now) places.old.items stops.now }
     requires starts { starts.now ≡ filter (spec.is_starting (spec.left_by stops.now places.old.items))
         (take (vec_len places.old) queue.now) }
     ensures places { places.new.items ≡ placed (vec_len places.old) queue.now places.old.items }
