@@ -16,7 +16,9 @@ loop-i-preserved c =
         | inl before ↦ λ at out. c.test.ensures.grows (get_or fresh k d).home (l.invariant.tested k d before within at out)
         | inr past ↦
             let same : l.i ≡ k = omega (arith, less, past) in
-            subst (λ j. IsTested c.args.chosen.now c.args.places.now c.test.new.stops.items (get_or fresh j d).home (get_or fresh j d).number) same c.test.ensures.tested
+            let first : Candidate = record { deadline = 0; number = 0; home = 0 } in
+            let read = get_or_default fresh l.i first d (omega (arith, same, within)) in
+            subst (λ (x : Candidate). IsTested c.args.chosen.now c.args.places.now c.test.new.stops.items x.home x.number) (read ∙ ap (λ j. get_or fresh j d) same) c.test.ensures.tested
       ];
       sound = λ h. c.test.ensures.sound (l.invariant.sound h);
       len = omega (arith, c.test.ensures.len, l.invariant.len);

@@ -16,7 +16,9 @@ loop-i-preserved c =
         | inl before ↦ λ at out. c.test.ensures.grows (get_or gone k d).cpu (l.invariant.tested k d before within at out)
         | inr past ↦
             let same : l.i ≡ k = omega (arith, less, past) in
-            subst (λ j. IsTested c.args.chosen.now c.args.places.now c.test.new.stops.items (get_or gone j d).cpu (get_or gone j d).number) same c.test.ensures.tested
+            let first : Gone = record { cpu = 0; number = 0 } in
+            let read = get_or_default gone l.i first d (omega (arith, same, within)) in
+            subst (λ (x : Gone). IsTested c.args.chosen.now c.args.places.now c.test.new.stops.items x.cpu x.number) (read ∙ ap (λ j. get_or gone j d) same) c.test.ensures.tested
       ];
       sound = λ h. c.test.ensures.sound (l.invariant.sound h);
       len = omega (arith, c.test.ensures.len, l.invariant.len);
