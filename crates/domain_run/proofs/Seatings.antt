@@ -218,10 +218,10 @@ basis_right upto cpu n seats items s b sat same waits k d h e =
     let number_is : x.number ≡ t.number = sym a.number ∙ ap (λ (u : Task). u.number) (sym read) in
     let params : x.params ≡ t.params = sym a.params ∙ ap (λ (u : Task). u.params) (sym read) in (
       λ q.
-        let its : seat_of seats x ≡ Some s = (λ i. seat_by ((number_is ∙ sym q) i) (get_or seats (cpu_is i) None)) ∙ sat in
-        let w : Waits s x = subst (λ o. IfSome o (λ r. Waits r x)) its (waits k d inside) in
-        at_rate (rate_by b t) (seat_of seats t) s (here ∙ ap (λ m. seat_by m (get_or seats cpu None)) (sym q) ∙ sat)
-        (w.rated b same ∙ (λ i. reclaiming.rate (params i) b.uinact b.sum b.cpus b.limit)),
+          let its : seat_of seats x ≡ Some s = (λ i. seat_by ((number_is ∙ sym q) i) (get_or seats (cpu_is i) None)) ∙ sat in
+          let w : Waits s x = subst (λ o. IfSome o (λ r. Waits r x)) its (waits k d inside) in
+          at_rate (rate_by b t) (seat_of seats t) s (here ∙ ap (λ m. seat_by m (get_or seats cpu None)) (sym q) ∙ sat)
+          (w.rated b same ∙ (λ i. reclaiming.rate (params i) b.uinact b.sum b.cpus b.limit)),
       λ q. here ∙ ap (seat_by t.number) at.at ∙ other_seat t.number s (λ z. q (sym at.its ∙ z)),
     )
 

@@ -42,13 +42,13 @@ module _ (P : Candidate → Type 0) where
   any_filter t (a ∷ xs) any =
       elim (any_cases a xs any) [
         | inl p ↦ elim (t a) as (λ b. t a ≡ b → Any P (cond b (a ∷ filter t xs) (filter t xs)) ⊎ ((x : Candidate) × Contains (a ∷ xs) x × P x × (t x ≡ false))) [
-            | true ↦ λ e. inl (any_here a (filter t xs) p)
-            | false ↦ λ e. inr (a, (0, omega arith, refl), p, e)
-          ] refl
+          | true ↦ λ e. inl (any_here a (filter t xs) p)
+          | false ↦ λ e. inr (a, (0, omega arith, refl), p, e)
+        ] refl
         | inr rest ↦ elim (any_filter t xs rest) [
-            | inl kept ↦ inl (elim (t a) as (λ b. Any P (cond b (a ∷ filter t xs) (filter t xs))) [ true ↦ any_later a (filter t xs) kept | false ↦ kept ])
-            | inr (x, (k, h, e), p, out) ↦ inr (x, (suc k, omega (arith, h), e), p, out)
-          ]
+          | inl kept ↦ inl (elim (t a) as (λ b. Any P (cond b (a ∷ filter t xs) (filter t xs))) [ true ↦ any_later a (filter t xs) kept | false ↦ kept ])
+          | inr (x, (k, h, e), p, out) ↦ inr (x, (suc k, omega (arith, h), e), p, out)
+        ]
       ]
 
 any_weaker : (P Q : Candidate → Type 0) (xs : List Candidate) → ((x : Candidate) → P x → Q x) → Any P xs → Any Q xs
@@ -80,14 +80,14 @@ go_follows queue places old c homes (inr is) =
       known = All-filter test (λ x. Contains old.fresh x ⊎ (stands_home places x ≡ is_within old.cut x)) queue is.known;
       held = λ cpu number at. elim (is.held cpu number at) [
         | inl any ↦ elim (any_filter (IsHolding old cpu number) test queue any) [
-            | inl kept ↦ inl kept
-            | inr (x, (k, h, e), p, out) ↦
-                let same : is_same x c ≡ true = not_false (is_same x c) out in
-                let tells = same_tells x c same in
-                let home : x.home ≡ c.home = subst (λ (y : Candidate). is_same y c ≡ true → y.home ≡ c.home) e (homes k x h) same in
-                let is_one : one ≡ record { cpu = cpu; number = number } = λ i. record { cpu = (sym home ∙ p.1) i; number = (sym tells.1 ∙ p.0) i } in
-                inr (subst (Contains (old.gone ++ one ∷ [])) is_one (Contains-push old.gone one))
-          ]
+          | inl kept ↦ inl kept
+          | inr (x, (k, h, e), p, out) ↦
+              let same : is_same x c ≡ true = not_false (is_same x c) out in
+              let tells = same_tells x c same in
+              let home : x.home ≡ c.home = subst (λ (y : Candidate). is_same y c ≡ true → y.home ≡ c.home) e (homes k x h) same in
+              let is_one : one ≡ record { cpu = cpu; number = number } = λ i. record { cpu = (sym home ∙ p.1) i; number = (sym tells.1 ∙ p.0) i } in
+              inr (subst (Contains (old.gone ++ one ∷ [])) is_one (Contains-push old.gone one))
+        ]
         | inr gone ↦ inr (Contains-append_left old.gone (one ∷ []) (record { cpu = cpu; number = number }) gone)
       ];
     })

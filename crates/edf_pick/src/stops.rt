@@ -39,12 +39,7 @@ fn test(
     }
 }
 
-fn test_gone(
-    places: &[Option<u32>],
-    chosen: &[Candidate],
-    gone: &[Gone],
-    stops: &mut Vec<usize>,
-)
+fn test_gone(places: &[Option<u32>], chosen: &[Candidate], gone: &[Gone], stops: &mut Vec<usize>)
     requires room { vec_len stops.old + length gone.now ≤ vec_capacity stops.old }
     ensures grows { spec.Grows stops.old.items stops.new.items }
     ensures tested { All (λ g. spec.IsTested chosen.now places.now stops.new.items g.cpu g.number) gone.now }

@@ -19,4 +19,3 @@ pub returns-then-sits_by-clause-right : goal.returns-then-sits_by-clause-right
 returns-then-sits_by-clause-right c =
     let old = c.args.self.now in
     right_basis old.cpus c.args.limit c.args.cpu c.args.number old.tasks old.seats c.basis-basis.result c.basis-basis.ensures (c.sits_by.ensures c.if-sits_by.true)
-
