@@ -1,0 +1,63 @@
+# the issue's own bodies, by the prover
+BATCHES = [
+ ("call_book", [
+  ("B01 ask asks once more after the word's refusal", "src/book/stock.rt",
+   "    match gate.regrade(rt, ticket, bw) {\n",
+   "    let once = match gate.regrade(rt, ticket, bw) {\n        Regrade::Refused { ticket, .. } => gate.regrade(rt, ticket, bw),\n        other => other,\n    };\n    match once {\n", "book::stock::ask"),
+  ("B01b regrade_held passes over a refusal", "src/book/stock.rt",
+   "    let (ticket, word) = ask(rt, gate, ticket, bw);\n",
+   "    let (ticket, word) = match ask(rt, gate, ticket, bw) { (ticket, Some(_)) => ask(rt, gate, ticket, bw), answer => answer, };\n", "book::stock::regrade_held"),
+  ("B13 set_workers does nothing", "src/book/domain.rt",
+   "        self.workers = Workers { count: n };\n", "        let _workers = Workers { count: n };\n", "book::domain::Domain::set_workers"),
+  ("B14 a book opens with 8", "src/book/domain.rt",
+   "            workers: Workers { count: 1 },\n", "            workers: Workers { count: 8 },\n", "book::domain::Domain::open"),
+ ]),
+ ("bw_gate", [
+  ("B03 a peek before the load", "src/gate.rt",
+   "        let seen = shared.load::<view::Load>(&mut seat, domain);\n        if used_of(seen) + bw > cap_of(seen) {",
+   "        let _looked = shared.peek(domain);\n        let seen = shared.load::<view::Load>(&mut seat, domain);\n        if used_of(seen) + bw > cap_of(seen) {", "gate::Gate::try_take"),
+ ]),
+ ("tick_split", [
+  ("B15 one piece started (type Apart)", "src/apart.rt", "        if pieces > 1 {\n", "        if pieces > 0 {\n", "apart::Apart::of"),
+ ]),
+ ("jump_run", [
+  ("B16 one worker started (type Crew)", "src/crew.rt", "        if workers > 1 {\n", "        if workers > 0 {\n", "crew::Crew::of"),
+ ]),
+ ("domain_run", [
+  ("B22a note takes room", "src/index.rt", "        let at = number as usize;\n", "        let at = number as usize; let _ = self.noted.try_reserve(COUNT);\n", "index::Index::note"),
+  ("B22b timers: clear takes room", "src/tournament.rt", "    nodes.clear();\n", "    nodes.clear(); let _ = nodes.try_reserve(2 * ROOM);\n", "tournament::put_never"),
+  ("B22b2 timers: set takes room", "src/tournament.rt", "    nodes[half + leaf] = time;\n", "    nodes[half + leaf] = time; let _ = nodes.try_reserve(2 * ROOM);\n", "tournament::set_leaf"),
+  ("B22c begin takes room", "src/sweep.rt", "    home_all(roster, before, places.occupants(), time);\n", "    home_all(roster, before, places.occupants(), time); let _ = before.try_reserve(64);\n", "sweep::begin"),
+  ("B22d admit marks with more room", "src/numbers.rt", "        self.marks[number as usize] = true;\n", "        self.marks[number as usize] = true; let _ = self.marks.try_reserve(COUNT);\n", "numbers::Numbers::insert"),
+  ("B22e admit takes room", "src/state.rt", "        self.used.insert(number);\n", "        self.used.insert(number); let _ = self.before.try_reserve(64);\n", "state::State::list"),
+  ("B22f finish takes room", "src/state/jumps.rt", "        self.time = time;\n", "        self.time = time; let _ = self.running.try_reserve(64);\n", "state::State::finish_told"),
+  ("B22g push takes room", "src/roster.rt", "        self.index.note(task.number, self.tasks.len());\n", "        self.index.note(task.number, self.tasks.len()); let _ = self.tasks.try_reserve(256);\n", "roster::Roster::push"),
+ ]),
+ ("session", [
+  ("B02 a stale EBUSY before the gate is asked", "src/client.rt",
+   "        match shared.gate.take(rt, blank, place, prepared.bw()) {\n",
+   "        let (word, wanted) = (blank.last(), prepared.bw()); let (seen, cap) = (used_of(word), bw_gate::cap_of(word)); if seen <= cap && cap - seen < wanted { self.hand = Some(blank); return Err(Refusal::Busy { seen }); }\n        match shared.gate.take(rt, blank, place, prepared.bw()) {\n",
+   "client::Client::submit"),
+  ("B06 piece dropped after ENOMEM, Full told", "src/client.rt",
+   "            Err(NoMemory) => {\n                self.hand = Some(blank);\n",
+   "            Err(NoMemory) if task.number > 0 => { let _dropped = blank; Err(Refusal::Full) }\n            Err(NoMemory) => {\n                self.hand = Some(blank);\n",
+   "client::Client::admit_with"),
+  ("B07 the domain's kept piece never asked for", "src/shared.rt",
+   "            None => self.books.spare_at(rt, place)?,\n", "            None => { let _ = place; return None; }\n", "shared::Shared::find_blank"),
+  ("B08 Twice told as Full by the book", "src/locked_book.rt", "            answer: Err(Refusal::Twice),\n", "            answer: Err(Refusal::Full),\n", "locked_book::admit"),
+  ("B12 workers ignored", "src/parts.rt", "        domain.set_workers(options.workers);\n", "        domain.set_workers(options.workers.min(1));\n", "parts::books_of"),
+  ("B05 Memory after the admissions", "src/admitting.rt",
+   "    let asked = admit_reserved(rt, alloc, shared, tasks, turnstile, reserved)?;\n",
+   "    let asked = admit_reserved(rt, alloc, shared, tasks, turnstile, reserved)?;\n    if asked.1.len() > 1000 { return Err(AdmitFault::Memory); }\n", "admitting::admit_tasks"),
+ ]),
+ ("session", [
+  ("B04 ticket kept after Taken, ENOMEM told", "src/client.rt",
+   "            Take::Taken(ticket) => {\n                self.enter_at(rt, shared, place, Ask::Admit { prepared, ticket })\n            }\n",
+   "            Take::Taken(ticket) => {\n                let _kept = unsafe { std::mem::ManuallyDrop::new_unchecked(ticket) }; Err(Refusal::Enomem)\n            }\n",
+   "client::Client::submit"),
+ ]),
+ ("session", [
+  ("B11 a client under the pool's lock", "src/admitting.rt",
+   "            turnstile.before(number, seq);\n", "            let _held = shared.pool.stored.lock(rt); turnstile.before(number, seq);\n", "admitting::admit_own"),
+ ]),
+]

@@ -1,0 +1,1 @@
+BATCHES = [("session", [("B06 piece dropped after ENOMEM, Full told", "src/client.rt", "                Err(Refusal::Enomem)\n", "                let _dropped = self.hand.take();\n                Err(Refusal::Full)\n", "client::Client::admit_with")])]
