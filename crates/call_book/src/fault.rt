@@ -29,7 +29,7 @@ impl fmt::Display for CallsFault {
 impl Error for CallsFault {}
 
 /// Why a part of a line was not read.
-#[derive(Clone, Copy, Debug, PartialEq, Eq)]
+#[derive(Clone, Copy)]
 pub(crate) enum PartFault {
     /// It is the spelling of nothing.
     Bad,

@@ -7,7 +7,7 @@ use crate::replaying::ReplayPrint;
 use chart_pieces::Span;
 
 /// A text that is made of the runs of a machine's domains.
-#[derive(Clone, Copy, Debug, PartialEq, Eq)]
+#[derive(Clone, Copy)]
 pub(crate) enum RunText {
     Trace,
     Events,

@@ -14,7 +14,7 @@ use trace_compare::{
 };
 
 /// The model's time, and where it lies in the recording.
-#[derive(Clone, Copy, Debug)]
+#[derive(Clone, Copy)]
 pub(crate) struct Span {
     /// By how much the recording's clock is ahead, counted from -2^61 us.
     pub shift: u64,

@@ -31,7 +31,7 @@ pub(crate) fn wanted_for(print: Print) -> Wanted
 }
 
 /// Of what a text of a run is made.
-#[derive(Clone, Copy, Debug, PartialEq, Eq)]
+#[derive(Clone, Copy)]
 enum Source {
     /// Of the histories alone: their calls text.
     Histories,

@@ -11,7 +11,7 @@ use dl_session::CompareOptions;
 use std::alloc::{AllocError, Global};
 
 /// Where a trace comes from.
-#[derive(Debug, Drop)]
+#[derive(Drop)]
 pub(crate) enum Source {
     /// Standard input.
     Stdin,
@@ -20,7 +20,7 @@ pub(crate) enum Source {
 }
 
 /// What is compared with what, and how.
-#[derive(Debug, Drop)]
+#[derive(Drop)]
 pub(crate) struct Comparison {
     pub(crate) model: Source,
     pub(crate) recorded: Source,

@@ -17,7 +17,7 @@ use std::env::{self, Env};
 use std::io;
 
 /// What the words ask for.
-#[derive(Debug, Drop)]
+#[derive(Drop)]
 pub(crate) enum Task {
     Replay(ReplayPrint),
     Run(Options),
@@ -25,7 +25,7 @@ pub(crate) enum Task {
 }
 
 /// What is wrong with the words.
-#[derive(Debug, Drop)]
+#[derive(Drop)]
 pub(crate) enum Wrong {
     /// What clap has to say, of `--help` too.
     Clap(Error),

@@ -3,7 +3,7 @@ use crate::tree::Tree;
 use crate::word::Word;
 
 /// How far an escape in a string is read. Numbers are units of UTF-16, or the front digits of one.
-#[derive(Clone, Copy, Debug, PartialEq, Eq)]
+#[derive(Clone, Copy)]
 pub(crate) enum Escape {
     /// In no escape.
     Outside,
@@ -25,7 +25,7 @@ pub(crate) enum Escape {
 }
 
 /// How far a number is read.
-#[derive(Clone, Copy, Debug, PartialEq, Eq)]
+#[derive(Clone, Copy)]
 pub(crate) enum Part {
     /// Behind the `-` in front.
     Minus,

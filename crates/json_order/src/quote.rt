@@ -12,7 +12,7 @@ use crate::fault::JsonKind;
 use crate::place::Escape;
 
 /// Whether a string goes on or has ended.
-#[derive(Clone, Copy, Debug, PartialEq, Eq)]
+#[derive(Clone, Copy)]
 pub(crate) enum Quote {
     Going,
     Closed,

@@ -5,7 +5,7 @@ ghost use Rattle.json_order.specs.private.Places.{letters_from, value_of};
 use crate::tree::Tree;
 
 /// A value that is a word.
-#[derive(Clone, Copy, Debug, PartialEq, Eq)]
+#[derive(Clone, Copy)]
 pub(crate) enum Word {
     Null,
     True,

@@ -19,7 +19,7 @@ pub enum RecordedFault {
 }
 
 /// Why a line was not taken.
-#[derive(Clone, Copy, Debug, PartialEq, Eq)]
+#[derive(Clone, Copy)]
 pub(crate) enum LineFault {
     /// It is one of sched_switch in none of the three forms.
     Bad,

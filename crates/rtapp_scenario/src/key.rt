@@ -12,7 +12,7 @@ use crate::value::{are_digits, at, is, list, natural_within, number, text};
 use json_order::Tree;
 
 /// What an event's key begins with.
-#[derive(Clone, Copy, Debug, PartialEq, Eq)]
+#[derive(Clone, Copy)]
 pub(crate) enum EventKind {
     /// `run`
     Run,

@@ -15,7 +15,7 @@ pub enum AdmitFault {
 }
 
 /// The system started no thread for a client: all that can be told once the first was started.
-#[derive(Clone, Copy, Debug, PartialEq, Eq)]
+#[derive(Clone, Copy)]
 pub(crate) struct NotStarted;
 
 impl From<NotStarted> for AdmitFault {
