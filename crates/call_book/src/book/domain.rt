@@ -557,7 +557,7 @@ fn sharing(cpus: u32, workers: usize) -> usize
 }
 
 /// How many of so many ticks were made, which the log is told: fewer only where a growth was
-/// refused.
+/// refused. One worker is the caller itself, who looks only at what changes where nobody listens.
 fn make_ticks<R: Threads + Wait>(
     rt: &R,
     alloc: Global,
@@ -573,5 +573,8 @@ fn make_ticks<R: Threads + Wait>(
     ensures told { Tells log.old (told_by_ticks result state.old) log.new }
 {
     let workers = sharing(state.cpus(), workers.count);
+    if workers == 1 {
+        return jump_run::advance_told(state, n, log).ticks;
+    }
     jump_run::advance_with_told(rt, alloc, state, n, workers, &Silent, log).ticks
 }
