@@ -1,4 +1,6 @@
 pub mod Before
 pub mod CallerLemmas
+pub mod Marked
 pub mod Picked
 pub mod Rising
+pub mod Words

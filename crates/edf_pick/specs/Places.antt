@@ -1,5 +1,6 @@
 -- On which CPU each chosen task runs (own).
-use Rattle.std.specs.Prelude.{ℕ, zero, suc, ◌≡◌, ◌<◌, ◌≤◌, length, position, Bool, false, ◌&&◌, ◌==◌, if◌then◌else◌, List, map, slice_get, slice_set, Option, Some, None, is_none}
+use Rattle.std.specs.Prelude.{ℕ, zero, suc, ◌≡◌, ◌<◌, ◌≤◌, length, position, Bool, false, ◌&&◌, ◌==◌, if◌then◌else◌, List, map, slice_get, slice_index_or, slice_set, Option, Some, None, is_none}
+use Rattle.std.specs.Int.{bit_at}
 use Rattle.std.specs.List.{list_any}
 use Rattle.edf_pick.specs.declared.candidate.Candidate.{Candidate}
 use Rattle.edf_pick.specs.Choice.{is_chosen, ranked}
@@ -8,11 +9,28 @@ use Rattle.edf_pick.specs.Choice.{is_chosen, ranked}
 abbrev pub Places : Type 0
 Places = List (Option ℕ)
 
+-- 1 where somebody stands
+abbrev pub taken : Option ℕ → ℕ
+taken None = 0
+taken (Some n) = 1
+
+-- the word has a mark for each CPU on which somebody stands
+abbrev pub AreTaken : Places → ℕ → Type 0
+AreTaken places marks = (cpu : ℕ) → bit_at marks cpu ≡ taken (slice_index_or places cpu None)
+
+-- no task stands on two CPUs
+abbrev pub AreSingle : Places → Type 0
+AreSingle places =
+    (a b n : ℕ) → slice_index_or places a None ≡ Some n → slice_index_or places b None ≡ Some n
+    → a ≡ b
+
 -- those of 1 to 64 CPUs, with the room for so many that they were opened with, so they take no more
-pub record IsPlaces (places : Places) (capacity : ℕ) : Type 0 where
+pub record IsPlaces (places : Places) (capacity marks : ℕ) : Type 0 where
   pub some : 0 < length places
   pub few : length places ≤ 64
   pub room : capacity ≡ length places
+  pub taken : AreTaken places marks
+  pub single : AreSingle places
 
 -- the occupant is this task
 abbrev pub is_task : ℕ → Option ℕ → Bool

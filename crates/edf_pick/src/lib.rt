@@ -10,6 +10,7 @@
 #![tactic(auto)]
 
 mod candidate;
+mod marks;
 mod order;
 mod picking;
 mod placement;

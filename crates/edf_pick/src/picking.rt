@@ -1,12 +1,14 @@
 //! The choice and the placement, read off a queue: its first tasks are the chosen ones.
 
-ghost use Rattle.std.specs.Prelude.{◌≡◌, ◌==◌, ◌≤◌, map, take, vec_len, vec_capacity, length, IsTrue};
+ghost use Rattle.std.specs.Prelude.{ℕ, ◌≡◌, ◌==◌, ◌<◌, ◌≤◌, map, take, vec_len, vec_capacity, length, None, slice_index_or, slice_set};
+ghost use Rattle.std.specs.Int.{bit_at};
 ghost use Rattle.std.specs.List.{list_any};
 ghost use Rattle.edf_pick.specs.private.First as spec;
 ghost use Rattle.edf_pick.specs.Order.{IsRising};
-ghost use Rattle.edf_pick.specs.Places.{placed};
+ghost use Rattle.edf_pick.specs.Places.{AreSingle, AreTaken, placed};
 
 use crate::candidate::Candidate;
+use crate::marks::{beyond, first, with, without};
 use crate::seats::{is_at_home, seat};
 
 fn first_of(queue: &[Candidate], cpus: usize) -> &[Candidate]
@@ -15,77 +17,157 @@ fn first_of(queue: &[Candidate], cpus: usize) -> &[Candidate]
     &queue[..cpus.min(queue.len())]
 }
 
-fn is_among(chosen: &[Candidate], number: u32) -> bool
-    ensures { result ≡ list_any (λ c. c.number == number) chosen.now }
+// Whether a task is one of the movers: the chosen ones at the marked places.
+fn is_among(chosen: &[Candidate], movers: u64, number: u32) -> bool
+    requires { (i : ℕ) → bit_at movers i ≡ 1 → i < length chosen.now }
+    ensures { result ≡ list_any (λ c. c.number == number) (spec.marked (bit_at movers) chosen.now) }
 {
-    chosen.iter().any(|c| c.number == number)
+    let mut left = movers;
+    'tasks: while left != 0 {
+        let i = first(left);
+        if chosen[i].number == number {
+            return true;
+        }
+        left = without(left, i);
+    }
+    false
 }
 
-fn staying(chosen: &[Candidate], occupant: Option<u32>) -> Option<u32>
-    ensures { result ≡ spec.staying chosen.now occupant }
+fn staying(chosen: &[Candidate], movers: u64, occupant: Option<u32>) -> Option<u32>
+    requires { (i : ℕ) → bit_at movers i ≡ 1 → i < length chosen.now }
+    ensures { result ≡ spec.staying (spec.marked (bit_at movers) chosen.now) occupant }
 {
     match occupant {
-        Some(number) if is_among(chosen, number) => Some(number),
+        Some(number) if is_among(chosen, movers, number) => Some(number),
         _ => None,
     }
 }
 
-// The CPUs on which a chosen task stands and to which it belongs, which are nearly all: one look
-// for each task.
-fn marks_of(places: &[Option<u32>], chosen: &[Candidate]) -> [bool; 64]
-    requires { length places.now ≤ 64 }
-    ensures { spec.AreStaying chosen.now places.now result }
+// The chosen tasks in two parts, as words of marks: those that stand on the CPU to which they
+// belong, which are nearly all, by their CPUs, and the movers, by their places in the choice.
+#[derive(Clone, Copy)]
+struct Parts {
+    homes: u64,
+    movers: u64,
+}
+
+// One look for each chosen task.
+fn parts_of(places: &[Option<u32>], chosen: &[Candidate]) -> Parts
+    requires cpus { length places.now ≤ 64 }
+    requires few { length chosen.now ≤ 64 }
+    ensures staying { spec.AreStaying chosen.now places.now result.homes }
+    ensures homes { spec.AreHomes chosen.now places.now result.homes }
+    ensures movers { spec.AreMovers chosen.now places.now result.movers }
 {
-    let mut marks = [false; 64];
-    for c in chosen {
+    let mut homes = 0;
+    let mut movers = 0;
+    for i in 0..chosen.len() {
+        let c = &chosen[i];
         if is_at_home(places, c) {
-            marks[c.home] = true;
+            homes = with(homes, c.home);
+        } else {
+            movers = with(movers, i);
         }
+    }
+    Parts { homes, movers }
+}
+
+// Nobody stands on this CPU any more.
+fn vacate(places: &mut Vec<Option<u32>>, cpu: usize, taken: u64) -> u64
+    requires within { cpu < vec_len places.old }
+    requires few { vec_len places.old ≤ 64 }
+    requires taken { AreTaken places.old.items taken }
+    ensures places { places.new.items ≡ slice_set places.old.items cpu None }
+    ensures len { vec_len places.new ≡ vec_len places.old }
+    ensures room { vec_capacity places.new ≡ vec_capacity places.old }
+    ensures taken { AreTaken places.new.items result }
+{
+    places[cpu] = None;
+    without(taken, cpu)
+}
+
+// Who stands on a CPU that is no home of a chosen task stays only as a mover.
+fn keep_at(
+    places: &mut Vec<Option<u32>>,
+    chosen: &[Candidate],
+    movers: u64,
+    cpu: usize,
+    taken: u64,
+) -> u64
+    requires within { cpu < vec_len places.old }
+    requires few { vec_len places.old ≤ 64 }
+    requires movers { (i : ℕ) → bit_at movers i ≡ 1 → i < length chosen.now }
+    requires taken { AreTaken places.old.items taken }
+    ensures places { places.new.items ≡ slice_set places.old.items cpu
+        (spec.staying (spec.marked (bit_at movers) chosen.now)
+        (slice_index_or places.old.items cpu None)) }
+    ensures len { vec_len places.new ≡ vec_len places.old }
+    ensures room { vec_capacity places.new ≡ vec_capacity places.old }
+    ensures taken { AreTaken places.new.items result }
+{
+    if staying(chosen, movers, places[cpu]).is_some() {
+        return taken;
+    }
+    vacate(places, cpu, taken)
+}
+
+// A look only at the CPUs where somebody stands who is not at home and chosen.
+fn keep(places: &mut Vec<Option<u32>>, chosen: &[Candidate], parts: Parts, taken: u64) -> u64
+    requires few { vec_len places.old ≤ 64 }
+    requires single { AreSingle places.old.items }
+    requires staying { spec.AreStaying chosen.now places.old.items parts.homes }
+    requires homes { spec.AreHomes chosen.now places.old.items parts.homes }
+    requires movers { spec.AreMovers chosen.now places.old.items parts.movers }
+    requires taken { AreTaken places.old.items taken }
+    ensures places { places.new.items ≡ map (spec.staying chosen.now) places.old.items }
+    ensures len { vec_len places.new ≡ vec_len places.old }
+    ensures room { vec_capacity places.new ≡ vec_capacity places.old }
+    ensures taken { AreTaken places.new.items result }
+{
+    let mut marks = taken;
+    let mut left = beyond(taken, parts.homes);
+    'cpus: while left != 0 {
+        let cpu = first(left);
+        left = without(left, cpu);
+        marks = keep_at(places, chosen, parts.movers, cpu, marks);
     }
     marks
 }
 
-// As `staying`; where the occupant is known to stay, without a look at the chosen tasks.
-fn staying_at(chosen: &[Candidate], occupant: Option<u32>, is_marked: bool) -> Option<u32>
-    requires { IsTrue is_marked → spec.staying chosen.now occupant ≡ occupant }
-    ensures { result ≡ spec.staying chosen.now occupant }
-{
-    if is_marked {
-        return occupant;
-    }
-    staying(chosen, occupant)
-}
-
-fn keep(places: &mut Vec<Option<u32>>, chosen: &[Candidate])
-    requires { vec_len places.old ≤ 64 }
-    ensures places { places.new.items ≡ map (spec.staying chosen.now) places.old.items }
+// The movers, in their order: each other chosen task stands already.
+fn seat_marked(places: &mut Vec<Option<u32>>, chosen: &[Candidate], movers: u64, taken: u64) -> u64
+    requires few { vec_len places.old ≤ 64 }
+    requires within { (i : ℕ) → bit_at movers i ≡ 1 → i < length chosen.now }
+    requires taken { AreTaken places.old.items taken }
+    ensures places { places.new.items ≡ spec.seated_all (spec.marked (bit_at movers) chosen.now)
+        places.old.items }
     ensures len { vec_len places.new ≡ vec_len places.old }
     ensures room { vec_capacity places.new ≡ vec_capacity places.old }
+    ensures taken { AreTaken places.new.items result }
 {
-    let marks = marks_of(places, chosen);
-    for cpu in 0..places.len() {
-        places[cpu] = staying_at(chosen, places[cpu], marks[cpu]);
+    let mut marks = taken;
+    let mut left = movers;
+    'tasks: while left != 0 {
+        let i = first(left);
+        left = without(left, i);
+        marks = seat(places, &chosen[i], marks);
     }
+    marks
 }
 
-fn seat_all(places: &mut Vec<Option<u32>>, chosen: &[Candidate])
-    ensures places { places.new.items ≡ spec.seated_all chosen.now places.old.items }
-    ensures len { vec_len places.new ≡ vec_len places.old }
-    ensures room { vec_capacity places.new ≡ vec_capacity places.old }
-{
-    for c in chosen {
-        seat(places, c);
-    }
-}
-
-pub(crate) fn pick_from(places: &mut Vec<Option<u32>>, queue: &[Candidate])
+pub(crate) fn pick_from(places: &mut Vec<Option<u32>>, queue: &[Candidate], taken: &mut u64)
     requires rising { IsRising queue.now }
     requires few { vec_len places.old ≤ 64 }
+    requires taken { AreTaken places.old.items taken.old }
+    requires single { AreSingle places.old.items }
     ensures places { places.new.items ≡ placed (vec_len places.old) queue.now places.old.items }
     ensures len { vec_len places.new ≡ vec_len places.old }
     ensures room { vec_capacity places.new ≡ vec_capacity places.old }
+    ensures taken { AreTaken places.new.items taken.new }
+    ensures single { AreSingle places.new.items }
 {
     let chosen = first_of(queue, places.len());
-    keep(places, chosen);
-    seat_all(places, chosen);
+    let parts = parts_of(places, chosen);
+    let marks = keep(places, chosen, parts, *taken);
+    *taken = seat_marked(places, chosen, parts.movers, marks);
 }

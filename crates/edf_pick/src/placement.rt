@@ -10,10 +10,12 @@ use std::marker::Model;
 
 /// Who stands on each of the 1 to 64 CPUs of a root domain: the number of a task, or nobody where
 /// the CPU is idle. Contracts see it as the list of its occupants. A placement with room for more
-/// or fewer than its CPUs cannot be built.
+/// or fewer than its CPUs, or where a task stands twice, cannot be built. Beside the list it keeps
+/// a word with a mark for each CPU on which somebody stands.
 #[derive(Drop)]
 pub struct Placement {
     occupants: Vec<Option<u32>>,
+    taken: u64,
 }
 
 impl Model for Placement {
@@ -24,7 +26,7 @@ impl Model for Placement {
 
     ghost view = { λ p. p.occupants.items };
 
-    ghost invariant = { λ p. IsPlaces p.occupants.items (vec_capacity p.occupants) };
+    ghost invariant = { λ p. IsPlaces p.occupants.items (vec_capacity p.occupants) p.taken };
 }
 
 // So many idle CPUs, with room for no more.
@@ -49,6 +51,7 @@ impl Placement {
     {
         Ok(Placement {
             occupants: idle(alloc, cpus)?,
+            taken: 0,
         })
     }
 
@@ -70,5 +73,6 @@ impl Placement {
 pub fn pick(placement: &mut Placement, queue: &Queue)
     ensures { placement.new ≡ placed (length placement.old) queue.now placement.old }
 {
-    pick_from(&mut placement.occupants, queue.as_slice());
+    let tasks = queue.as_slice();
+    pick_from(&mut placement.occupants, tasks, &mut placement.taken);
 }

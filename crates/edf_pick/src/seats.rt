@@ -1,25 +1,41 @@
-//! A seat for a task: it stays where it stands, which is mostly where it belongs, else it goes to
-//! the CPU to which it belongs where that is free, else to the lowest free one.
+//! A seat for a task: it stays where it stands, else it goes to the CPU to which it belongs where
+//! that is free, else to the lowest free one.
 
-ghost use Rattle.std.specs.Prelude.{◌≡◌, vec_len, vec_capacity, is_none, slice_get, position, IsTrue, true, Some, None, length, slice_index_or, ◌<◌};
+ghost use Rattle.std.specs.Prelude.{◌≡◌, ◌<◌, ◌≤◌, vec_len, vec_capacity, count_by, is_none, slice_get, slice_set, position, Some, length};
 ghost use Rattle.edf_pick.specs.Places as spec;
+ghost use Rattle.edf_pick.specs.private.First.{is_home};
 
 use crate::candidate::Candidate;
+use crate::marks::{first_bare, with};
+
+fn is_task(number: u32, occupant: &Option<u32>) -> bool
+    ensures { result ≡ spec.is_task number occupant.now }
+{
+    matches!(occupant, Some(n) if *n == number)
+}
+
+// All are counted, which goes faster than a look that ends at the first.
+fn times(number: u32, places: &[Option<u32>]) -> usize
+    ensures { result ≡ count_by (spec.is_task number) places.now }
+{
+    places
+        .iter()
+        .filter(|occupant| is_task(number, occupant))
+        .count()
+}
 
 /// Whether a task stands on a CPU.
 pub fn stands(number: u32, places: &[Option<u32>]) -> bool
     ensures { result ≡ spec.stands number places.now }
 {
-    places.iter().any(|occupant| *occupant == Some(number))
+    times(number, places) != 0
 }
 
 /// Whether a task stands on the CPU to which it belongs.
 pub(crate) fn is_at_home(places: &[Option<u32>], c: &Candidate) -> bool
-    ensures within { IsTrue result → c.now.home < length places.now }
-    ensures at { IsTrue result → slice_index_or places.now c.now.home None ≡ Some c.now.number }
-    ensures stands { IsTrue result → spec.stands c.now.number places.now ≡ true }
+    ensures { result ≡ is_home places.now c.now }
 {
-    c.home < places.len() && places[c.home] == Some(c.number)
+    c.home < places.len() && is_task(c.number, &places[c.home])
 }
 
 fn is_free(places: &[Option<u32>], cpu: usize) -> bool
@@ -28,32 +44,70 @@ fn is_free(places: &[Option<u32>], cpu: usize) -> bool
     matches!(places.get(cpu), Some(None))
 }
 
-fn lowest_free(places: &[Option<u32>]) -> Option<usize>
+fn lowest_free(places: &[Option<u32>], taken: u64) -> Option<usize>
+    requires few { length places.now ≤ 64 }
+    requires taken { spec.AreTaken places.now taken }
     ensures { result ≡ position (λ occupant. is_none occupant) places.now }
 {
-    places.iter().position(|occupant| occupant.is_none())
+    let cpu = first_bare(taken);
+    if cpu < places.len() {
+        return Some(cpu);
+    }
+    None
 }
 
-fn seat_of(places: &[Option<u32>], c: &Candidate) -> Option<usize>
+fn seat_of(places: &[Option<u32>], c: &Candidate, taken: u64) -> Option<usize>
+    requires few { length places.now ≤ 64 }
+    requires taken { spec.AreTaken places.now taken }
     ensures { result ≡ spec.seat_of places.now c.now }
 {
     if is_free(places, c.home) {
         return Some(c.home);
     }
-    lowest_free(places)
+    lowest_free(places, taken)
 }
 
-pub(crate) fn seat(places: &mut Vec<Option<u32>>, c: &Candidate)
+// A task stands on this CPU from now on.
+fn occupy(places: &mut Vec<Option<u32>>, cpu: usize, number: u32, taken: u64) -> u64
+    requires within { cpu < vec_len places.old }
+    requires few { vec_len places.old ≤ 64 }
+    requires taken { spec.AreTaken places.old.items taken }
+    ensures places { places.new.items ≡ slice_set places.old.items cpu (Some number) }
+    ensures len { vec_len places.new ≡ vec_len places.old }
+    ensures room { vec_capacity places.new ≡ vec_capacity places.old }
+    ensures taken { spec.AreTaken places.new.items result }
+{
+    places[cpu] = Some(number);
+    with(taken, cpu)
+}
+
+// As `stands`; where nobody stands at all, without a look.
+fn has_seat(places: &[Option<u32>], number: u32, taken: u64) -> bool
+    requires { spec.AreTaken places.now taken }
+    ensures { result ≡ spec.stands number places.now }
+{
+    if taken == 0 {
+        return false;
+    }
+    stands(number, places)
+}
+
+/// `taken` has a mark for each CPU on which somebody stands, and so has the answer.
+pub(crate) fn seat(places: &mut Vec<Option<u32>>, c: &Candidate, taken: u64) -> u64
+    requires few { vec_len places.old ≤ 64 }
+    requires taken { spec.AreTaken places.old.items taken }
     ensures places { places.new.items ≡ spec.seated places.old.items c.now }
     ensures len { vec_len places.new ≡ vec_len places.old }
     ensures room { vec_capacity places.new ≡ vec_capacity places.old }
+    ensures taken { spec.AreTaken places.new.items result }
 {
-    if is_at_home(places, c) || stands(c.number, places) {
-        return;
+    if has_seat(places, c.number, taken) {
+        return taken;
     }
-    if let Some(cpu) = seat_of(places, c)
+    if let Some(cpu) = seat_of(places, c, taken)
         && cpu < places.len()
     {
-        places[cpu] = Some(c.number);
+        return occupy(places, cpu, c.number, taken);
     }
+    taken
 }

@@ -1,11 +1,20 @@
-use Rattle.std.proofs.Common.{◌≡◌, map, take, drop, ◌++◌, vec_len}
-use Rattle.std.specs.Prelude.{vec_capacity}
+use Rattle.std.proofs.Common.{◌≡◌, ◌<◌, ℕ, get_or, vec_len}
+use Rattle.std.specs.Prelude.{vec_capacity, None}
+use Rattle.std.specs.Int.{bit_at}
 use Rattle.edf_pick.specs.private.First.{staying}
+use Rattle.edf_pick.specs.Places.{AreTaken}
 use Rattle.edf_pick.proofs.picking.keep.Given as goal
 
-abbrev pub invariant-loop-cpu : goal.invariant-loop-cpu
-invariant-loop-cpu l = record {
-  written : l.places.items ≡ map (staying l.chosen) (take l.cpu l.fn.places.items) ++ drop l.cpu l.fn.places.items;
+abbrev pub invariant-cpus : goal.invariant-cpus
+invariant-cpus l = record {
   len : vec_len l.places ≡ vec_len l.fn.places;
   room : vec_capacity l.places ≡ vec_capacity l.fn.places;
+  inside : (cpu : ℕ) → bit_at l.left cpu ≡ 1 → cpu < vec_len l.fn.places;
+  only : (cpu : ℕ) → bit_at l.left cpu ≡ 1 → bit_at l.fn.parts.homes cpu ≡ 0;
+  ahead : (cpu : ℕ) → bit_at l.left cpu ≡ 1 → get_or l.places.items cpu None ≡ get_or l.fn.places.items cpu None;
+  kept : (cpu : ℕ) → bit_at l.left cpu ≡ 0 → get_or l.places.items cpu None ≡ staying l.chosen (get_or l.fn.places.items cpu None);
+  taken : AreTaken l.places.items l.marks;
 }
+
+abbrev pub decreases-cpus : goal.decreases-cpus
+decreases-cpus l = l.left
