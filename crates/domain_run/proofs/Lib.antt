@@ -41,3 +41,11 @@ pub mod ToldIn
 pub mod Logging
 pub mod ToldTicks
 pub mod ToldPay
+pub mod SeatTimes
+pub mod Waiting
+pub mod Bare
+pub mod Turning
+pub mod Seatings
+pub mod Later
+pub mod Leaping
+pub mod Leapt

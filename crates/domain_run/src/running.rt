@@ -27,22 +27,3 @@ pub(crate) fn standing_at(running: &[u32], i: usize) -> Option<u32>
         Some(number) => Some(*number),
     }
 }
-
-/// A running task as a jump sees it.
-pub(crate) fn running_of(task: &Task, uinact: u64) -> Running
-    ensures { result ≡ record {
-      number = task.now.number;
-      params = task.now.params;
-      uinact = uinact;
-      left = task.now.server.left;
-      work = task.now.work;
-    } }
-{
-    Running {
-        number: task.number,
-        params: task.params,
-        uinact,
-        left: task.server.left,
-        work: task.work,
-    }
-}

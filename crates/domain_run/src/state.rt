@@ -14,6 +14,7 @@ ghost use Rattle.attr_check.specs.Ratio.{cap};
 mod calls;
 mod cutting;
 mod jumps;
+mod leaping;
 mod lending;
 mod machine;
 mod passing;
@@ -26,7 +27,7 @@ use crate::numbers::Numbers;
 use crate::roster::Roster;
 use crate::script::Script;
 use crate::switch::Switch;
-use crate::task::{TaskView, view_of};
+use crate::task::TaskView;
 use attr_check::Params;
 use edf_pick::Placement;
 use no_memory::NoMemory;
@@ -156,10 +157,7 @@ impl State {
     pub fn view(&self, number: u32) -> Option<TaskView>
         ensures { result ≡ view_in self.now number }
     {
-        match self.roster.find(number) {
-            None => None,
-            Some(task) => Some(view_of(task)),
-        }
+        self.roster.view(number)
     }
 }
 

@@ -46,6 +46,9 @@ fn turn(roster: &mut Roster, place: usize, time: u64, change: &Change, log: &mut
         roster.turn(place, time, change);
         return;
     }
+    // It is charged what it owes before it is looked at.
+    let cpu = roster.cpu_at(place);
+    roster.vacate(cpu);
     let before = telling::look(roster.at(place), time, change);
     roster.turn(place, time, change);
     let told = telling::seen_behind(time, change, before, roster.at(place));

@@ -10,13 +10,16 @@
 #![tactic(auto)]
 
 mod candidate;
+mod changes;
 mod order;
 mod picking;
 mod placement;
 mod queue;
 mod seats;
+mod stops;
 
 pub use candidate::Candidate;
+pub use changes::{Changes, Gone};
 pub use placement::{Placement, pick};
 pub use queue::Queue;
 pub use seats::stands;

@@ -1,6 +1,6 @@
 //! The choice and the placement, read off a queue: its first tasks are the chosen ones.
 
-ghost use Rattle.std.specs.Prelude.{◌≡◌, ◌==◌, ◌≤◌, map, take, vec_len, vec_capacity, length, IsTrue};
+ghost use Rattle.std.specs.Prelude.{◌≡◌, ◌≢◌, ◌==◌, ◌<◌, ◌≤◌, All, AllPairs, filter, map, take, vec_len, vec_capacity, length, IsTrue};
 ghost use Rattle.std.specs.List.{list_any};
 ghost use Rattle.edf_pick.specs.private.First as spec;
 ghost use Rattle.edf_pick.specs.Order.{IsRising};
@@ -15,7 +15,7 @@ fn first_of(queue: &[Candidate], cpus: usize) -> &[Candidate]
     &queue[..cpus.min(queue.len())]
 }
 
-fn is_among(chosen: &[Candidate], number: u32) -> bool
+pub(crate) fn is_among(chosen: &[Candidate], number: u32) -> bool
     ensures { result ≡ list_any (λ c. c.number == number) chosen.now }
 {
     chosen.iter().any(|c| c.number == number)
@@ -88,4 +88,38 @@ pub(crate) fn pick_from(places: &mut Vec<Option<u32>>, queue: &[Candidate])
     let chosen = first_of(queue, places.len());
     keep(places, chosen);
     seat_all(places, chosen);
+}
+
+// Who stood on these CPUs stands there no more.
+fn stop_all(places: &mut Vec<Option<u32>>, stops: &[usize])
+    requires { All (λ cpu. cpu < vec_len places.old) stops.now }
+    ensures places { places.new.items ≡ spec.left_by stops.now places.old.items }
+    ensures len { vec_len places.new ≡ vec_len places.old }
+    ensures room { vec_capacity places.new ≡ vec_capacity places.old }
+{
+    for cpu in stops {
+        places[*cpu] = None;
+    }
+}
+
+// As `pick_from`, where it is known whose occupants are not chosen any more, and which of the chosen
+// tasks stand nowhere then, in their order: it looks at these alone.
+pub(crate) fn move_on(
+    places: &mut Vec<Option<u32>>,
+    stops: &[usize],
+    starts: &[Candidate],
+    queue: &[Candidate],
+)
+    requires rising { IsRising queue.now }
+    requires numbered { AllPairs (λ a b. a.number ≢ b.number) (take (vec_len places.old) queue.now) }
+    requires within { All (λ cpu. cpu < vec_len places.old) stops.now }
+    requires stops { spec.AreStops (take (vec_len places.old) queue.now) places.old.items stops.now }
+    requires starts { starts.now ≡ filter (spec.is_starting (spec.left_by stops.now places.old.items))
+        (take (vec_len places.old) queue.now) }
+    ensures places { places.new.items ≡ placed (vec_len places.old) queue.now places.old.items }
+    ensures len { vec_len places.new ≡ vec_len places.old }
+    ensures room { vec_capacity places.new ≡ vec_capacity places.old }
+{
+    stop_all(places, stops);
+    seat_all(places, starts);
 }

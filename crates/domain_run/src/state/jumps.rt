@@ -10,7 +10,7 @@ ghost use Rattle.domain_run.specs.Log.{Tells, HasRoomToEnd};
 
 use super::State;
 use crate::log::Log;
-use crate::running::{Running, running_of, standing_at};
+use crate::running::{Running, standing_at};
 use crate::sweep;
 use no_memory::NoMemory;
 
@@ -76,10 +76,7 @@ impl State {
         let Some(number) = standing_at(&self.running, i) else {
             return None;
         };
-        let Some(task) = self.roster.find(number) else {
-            return None;
-        };
-        Some(running_of(task, self.roster.uinact(task.cpu)))
+        self.roster.runner(number)
     }
 
     /// The rate at which a running task uses its budget up, in 1/2^20: one where it does not
