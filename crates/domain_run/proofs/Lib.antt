@@ -26,6 +26,7 @@ pub mod Making
 pub mod Finding
 pub mod Homing
 pub mod AtHome
+pub mod Moving
 pub mod Charged
 pub mod Due
 pub mod Sliding

@@ -26,8 +26,10 @@ fn seat_all(roster: &mut Roster, places: &[Option<u32>], limit: u64)
     ensures right { All (IsSeated places.now roster.old.cpus limit roster.old.tasks roster.new.seats)
         roster.new.tasks }
 {
-    for cpu in 0..places.len() {
+    let mut cpu = roster.next_wrong(places, 0, limit);
+    while cpu < places.len() {
         roster.seat_on(cpu, places[cpu], limit);
+        cpu = roster.next_wrong(places, cpu + 1, limit);
     }
 }
 

@@ -1,6 +1,6 @@
 -- The list of tasks with what is kept beside it, and what changes one task of it, for the code's
 -- own contracts.
-use Rattle.std.specs.Prelude.{ℕ, ℤ, pos, neg_ℤ, ◌*◌, ◌<◌, ◌≤◌, ◌^◌, ◌≤ℤ◌, ◌-ℤ◌, ◌≡◌, true, if◌then◌else◌, List, length, Option, Some, None, IsTrue}
+use Rattle.std.specs.Prelude.{ℕ, ℤ, pos, neg_ℤ, ◌*◌, ◌<◌, ◌≤◌, ◌^◌, ◌≤ℤ◌, ◌-ℤ◌, ◌≡◌, true, if◌then◌else◌, All, List, length, Option, Some, None, IsTrue}
 use Rattle.domain_run.specs.declared.task.Condition.TheVariants.{Leaving}
 use Rattle.domain_run.specs.declared.task.Task.{Task}
 use Rattle.domain_run.specs.declared.change.Change.{Change}
@@ -134,6 +134,11 @@ basis_in cpus limit tasks cpu =
 abbrev pub IsSeated : Places → ℕ → ℕ → List Task → List (Option Seat) → Task → Type 0
 IsSeated places cpus limit tasks seats t =
     IsRight (occupant places t.cpu) t.number (rate_in cpus limit tasks t) (seat_of seats t)
+
+-- those of the CPUs from one up to another have it
+abbrev pub AreSeatedFrom : Places → RosterView → ℕ → ℕ → ℕ → Type 0
+AreSeatedFrom places r limit from upto =
+    All (λ t. from ≤ t.cpu → t.cpu < upto → IsSeated places r.cpus limit r.tasks r.seats t) r.tasks
 
 -- a task after so many ticks, up to a time: where it stands on a CPU it has run in each
 abbrev pub leapt : ℕ → ℕ → Places → ℕ → ℕ → List Task → Task → Task

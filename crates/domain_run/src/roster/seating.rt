@@ -1,10 +1,10 @@
 //! Who sits on which CPU: nobody is charged by it, as callers see it.
 
-ghost use Rattle.std.specs.Prelude.{◌≡◌, ◌≢◌, ◌<◌, ◌≤◌, ◌^◌, ◌*◌, ◌-◌, ℕ, All, IfSome, IsTrue, None, Some, pos, slice_index_or, slice_set};
+ghost use Rattle.std.specs.Prelude.{◌≡◌, ◌≢◌, ◌<◌, ◌≤◌, ◌^◌, ◌*◌, ◌-◌, ℕ, All, IfSome, IsTrue, None, Some, length, pos, slice_index_or, slice_set};
 ghost use Rattle.attr_check.specs.Ratio.{cap};
 ghost use Rattle.domain_run.specs.Domain.{IsLimit};
 ghost use Rattle.domain_run.specs.Tick.{sum_of};
-ghost use Rattle.domain_run.specs.private.Roster.{rate_in, basis_in};
+ghost use Rattle.domain_run.specs.private.Roster.{rate_in, basis_in, AreSeatedFrom};
 ghost use Rattle.domain_run.specs.private.Seats.{IsAhead, seat_by};
 ghost use Rattle.domain_run.specs.private.Waiting as spec;
 
@@ -146,6 +146,47 @@ impl Roster {
         }
     }
 
+    /// Whether the task of a number sits on a CPU at its rate, and nobody else does, by what the rate
+    /// was worked out from.
+    #[inline(always)]
+    fn sits_rightly(&self, cpu: usize, number: u32, limit: u64) -> bool
+        requires there { cpu < self.now.cpus }
+        ensures { IsTrue result → All (λ t. t.cpu ≡ cpu → spec.IsRight (Some number) t.number
+            (rate_in self.now.cpus limit self.now.tasks t) (spec.seat_of self.now.seats t)) self.now.tasks }
+    {
+        let basis = self.basis(cpu, limit);
+        self.sits_by(cpu, number, &basis)
+    }
+
+    /// Whether who stands on a CPU, if anyone does, sits there at its rate, and nobody else does.
+    #[inline(always)]
+    fn is_right(&self, cpu: usize, occupant: Option<u32>, limit: u64) -> bool
+        requires there { cpu < self.now.cpus }
+        ensures { IsTrue result → All (λ t. t.cpu ≡ cpu → spec.IsRight occupant t.number
+            (rate_in self.now.cpus limit self.now.tasks t) (spec.seat_of self.now.seats t)) self.now.tasks }
+    {
+        match occupant {
+            None => self.seats.is_free(cpu),
+            Some(number) => self.sits_rightly(cpu, number, limit),
+        }
+    }
+
+    /// The first CPU, from this one on, where someone is to sit down or to leave; where there is
+    /// none, how many CPUs there are.
+    pub(crate) fn next_wrong(&self, places: &[Option<u32>], from: usize, limit: u64) -> usize
+        requires wide { length places.now ≡ self.now.cpus }
+        requires from { from ≤ length places.now }
+        ensures from { from ≤ result }
+        ensures most { result ≤ length places.now }
+        ensures right { AreSeatedFrom places.now self.now limit from result }
+    {
+        let mut cpu = from;
+        while cpu < places.len() && self.is_right(cpu, places[cpu], limit) {
+            cpu += 1;
+        }
+        cpu
+    }
+
     /// The rate of the task of a number; one where none is listed.
     fn rate_of(&self, number: u32, limit: u64) -> u64
         requires cpus { (0 < self.now.cpus) × (self.now.cpus ≤ 64) }
@@ -208,9 +249,6 @@ impl Roster {
             (rate_in self.old.cpus limit self.old.tasks t) (spec.seat_of self.new.seats t)) self.new.tasks }
     {
         let basis = self.basis(cpu, limit);
-        if self.sits_by(cpu, number, &basis) {
-            return;
-        }
         self.reseat(cpu, number, limit, basis);
     }
 

@@ -61,6 +61,17 @@ fn turn_settled(task: &mut Task, queue: &mut RunQueue, place: usize, time: u64, 
     }
 }
 
+/// A task sits on a CPU no more; on one of them it does not sit as it is.
+#[inline(always)]
+fn leave_other(seats: &mut Seats, left: usize, cpu: usize, number: u32)
+    requires left { seats_spec.seat_by number (slice_index_or seats.old.seats left None) ≡ None }
+    ensures { seats.new ≡ record seats.old { seats = seats_spec.left cpu number seats.old.seats } }
+{
+    if cpu != left {
+        seats.leave(cpu, number);
+    }
+}
+
 /// Makes a change of a task as it is once it is charged. Where it belongs then, it has no seat.
 #[inline(always)]
 fn turn_one(
@@ -90,10 +101,10 @@ fn turn_one(
           (seats_spec.left task.old.cpu task.old.number seats.old.seats);
     } }
 {
-    let number = task.number;
+    let (number, home) = (task.number, task.cpu);
     settle(task, seats);
     turn_settled(task, queue, place, time, change);
-    seats.leave(task.cpu, number);
+    leave_other(seats, home, task.cpu, number);
 }
 
 /// Changes the task at a place of the list.

@@ -16,6 +16,9 @@ begin-requires-clause-cpus c = c.self.invariant.domain.steady.wide ∙ sym c.sel
 pub begin-requires-clause-runners : goal.begin-requires-clause-runners
 begin-requires-clause-runners c = omega (arith, c.self.invariant.domain.steady.wide, c.self.invariant.running_room)
 
+pub begin-requires-clause-listed : goal.begin-requires-clause-listed
+begin-requires-clause-listed c = c.self.invariant.running_is
+
 pub invariant_of-self-2 : goal.invariant_of-self-2
 invariant_of-self-2 c =
     let s = c.self.inside in
