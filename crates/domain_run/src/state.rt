@@ -45,8 +45,9 @@ pub struct State {
     // Who runs on each CPU.
     curr: Placement,
     switches: Vec<Switch>,
-    // Who stands on the CPUs, one after another.
+    // Who stands on the CPUs, one after another, where that is listed: a leap needs no list.
     running: Vec<u32>,
+    is_listed: bool,
     // Room for a tick; between two ticks it means nothing.
     before: Vec<Option<u32>>,
 }
@@ -80,7 +81,7 @@ impl Model for State {
               s.curr;
           switches =
               s.switches.items;
-        }) s.roster.cpus s.running.items (vec_len s.before) (vec_capacity s.before)
+        }) s.roster.cpus s.is_listed s.running.items (vec_len s.before) (vec_capacity s.before)
         (vec_capacity s.running) };
 }
 
@@ -115,6 +116,7 @@ impl State {
             curr: Placement::open(alloc, cpus)?,
             switches: Vec::new(alloc),
             running: Vec::with_capacity(alloc, cpus)?,
+            is_listed: true,
             before: nobody(alloc, cpus)?,
         })
     }

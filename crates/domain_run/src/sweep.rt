@@ -16,7 +16,6 @@ ghost use Rattle.domain_run.specs.private.Roster.{after_change, homed_here, IsPa
 ghost use Rattle.domain_run.specs.private.Timers.{IsStep};
 ghost use Rattle.domain_run.specs.private.Telling as telling_spec;
 ghost use Rattle.domain_run.specs.private.RunQueue.{AreHomed};
-ghost use Rattle.domain_run.specs.Jump as jump;
 
 use crate::change::Change;
 use crate::log::Log;
@@ -254,47 +253,19 @@ fn copy_places(before: &mut Vec<Option<u32>>, places: &[Option<u32>])
     before.copy_from_slice(places);
 }
 
-/// Who stands on the CPUs, one after another.
-fn list_running(running: &mut Vec<u32>, places: &[Option<u32>])
-    requires room { length places.now ≤ vec_capacity running.old }
-    ensures running { running.new.items ≡ jump.running_numbers places.now }
-    ensures room { vec_capacity running.new ≡ vec_capacity running.old }
-{
-    running.clear();
-    for occupant in places {
-        if let Some(number) = occupant {
-            running.push_reserved(*number);
-        }
-    }
-}
-
-/// As `list_running`, where that has changed.
-fn relist(running: &mut Vec<u32>, places: &[Option<u32>], changed: bool)
-    requires room { length places.now ≤ vec_capacity running.old }
-    requires listed { changed ≡ false → running.old.items ≡ jump.running_numbers places.now }
-    ensures running { running.new.items ≡ jump.running_numbers places.now }
-    ensures room { vec_capacity running.new ≡ vec_capacity running.old }
-{
-    if changed {
-        list_running(running, places);
-    }
-}
-
 /// Parts 1 to 5: replenishment, zero-lag times, wake-ups, placement and the switches. The log is
-/// told what happens to the tasks, on the CPUs to which they belong then. `before` is room.
+/// told what happens to the tasks, on the CPUs to which they belong then. `before` is room. Whether a
+/// CPU may have another occupant.
 pub(crate) fn begin(
     time: u64,
     roster: &mut Roster,
     places: &mut Placement,
-    running: &mut Vec<u32>,
     switches: &mut Vec<Switch>,
     before: &mut Vec<Option<u32>>,
     log: &mut Log,
-)
+) -> bool
     requires narrow { roster.old.cpus ≤ 64 }
     requires log { HasRoom (9 * length roster.old.tasks) log.old }
-    requires runners { length places.old ≤ vec_capacity running.old }
-    requires listed { running.old.items ≡ jump.running_numbers places.old }
     requires early { time < 2 ^ 42 }
     requires sound { All (IsSound time) roster.old.tasks }
     requires cpus { length places.old ≡ roster.old.cpus }
@@ -315,8 +286,7 @@ pub(crate) fn begin(
         (tick_spec.prepared time roster.old.tasks) 0 places.old places.new }
     ensures before_len { vec_len before.new ≡ vec_len before.old }
     ensures before_room { vec_capacity before.new ≡ vec_capacity before.old }
-    ensures running { running.new.items ≡ jump.running_numbers places.new }
-    ensures runners { vec_capacity running.new ≡ vec_capacity running.old }
+    ensures none { result ≡ false → places.new ≡ places.old }
     ensures told { Tells log.old (telling_spec.told_at_home places.new time roster.old.tasks) log.new }
     ensures log { log.old.room ≤ log.new.room + 9 * length roster.old.tasks }
 {
@@ -325,8 +295,8 @@ pub(crate) fn begin(
     copy_places(before, places.occupants());
     edf_pick::pick(places, roster.ready());
     let changed = move_all(switches, time, roster, before, places.occupants());
-    relist(running, places.occupants(), changed);
     log.go_home(from, places.occupants(), roster);
+    changed
 }
 
 /// Part 6 of so many ticks at once, up to a time: every running task has its budget, and its work

@@ -49,7 +49,8 @@ impl State {
         ensures err { OnErr result (self.new ≡ self.old) }
         ensures keys { AreKept self.old.tasks self.new.tasks }
     {
-        self.begin()?;
+        let mut log = self.silent();
+        self.begin_unlisted(&mut log)?;
         let most = most.min(self.quiet());
         Ok(self.run(most))
     }

@@ -14,30 +14,33 @@ returns-clause-few c = few_now c.self.view_is c.self.invariant.domain.steady
 
 pub returns-clause-running : goal.returns-clause-running
 returns-clause-running c =
-    let is = runner_now c.self.view_is c.self.invariant.domain.steady c.requires.placed (c.deref.ensures.value ∙ c.self.invariant.running_is) c.in-Some.ensures c.runner.ensures in
+    let is = runner_now c.self.view_is c.self.invariant.domain.steady c.requires.placed (ap running_numbers c.occupants-places.ensures.occupants) c.in-Some.ensures c.runner.ensures in
     sym is.same ∙ ap (λ (x : Domain). running x c.args.i) c.self.view_is
 
 pub returns-clause-there : goal.returns-clause-there
 returns-clause-there c =
-    let is = runner_now c.self.view_is c.self.invariant.domain.steady c.requires.placed (c.deref.ensures.value ∙ c.self.invariant.running_is) c.in-Some.ensures c.runner.ensures in
+    let is = runner_now c.self.view_is c.self.invariant.domain.steady c.requires.placed (ap running_numbers c.occupants-places.ensures.occupants) c.in-Some.ensures c.runner.ensures in
     (λ h. subst (λ (x : Domain). c.args.i < length (running_numbers x.curr)) c.self.view_is is.there, λ h. ap is_some is.is)
 
 pub returns-clause-some : goal.returns-clause-some
 returns-clause-some c =
-    let is = runner_now c.self.view_is c.self.invariant.domain.steady c.requires.placed (c.deref.ensures.value ∙ c.self.invariant.running_is) c.in-Some.ensures c.runner.ensures in
+    let is = runner_now c.self.view_is c.self.invariant.domain.steady c.requires.placed (ap running_numbers c.occupants-places.ensures.occupants) c.in-Some.ensures c.runner.ensures in
     subst (λ o. IfSome o (λ (x : Running). 0 < x.work)) (sym is.is) is.busy
 
 pub returns-clause-lifted : goal.returns-clause-lifted
 returns-clause-lifted c =
-    let is = runner_now c.self.view_is c.self.invariant.domain.steady c.requires.placed (c.deref.ensures.value ∙ c.self.invariant.running_is) c.in-Some.ensures c.runner.ensures in
+    let is = runner_now c.self.view_is c.self.invariant.domain.steady c.requires.placed (ap running_numbers c.occupants-places.ensures.occupants) c.in-Some.ensures c.runner.ensures in
     subst (λ o. IfSome o (λ (x : Running). pos 0 <ℤ x.left)) (sym is.is) is.lifted
 
 pub returns-clause-high : goal.returns-clause-high
 returns-clause-high c =
-    let is = runner_now c.self.view_is c.self.invariant.domain.steady c.requires.placed (c.deref.ensures.value ∙ c.self.invariant.running_is) c.in-Some.ensures c.runner.ensures in
+    let is = runner_now c.self.view_is c.self.invariant.domain.steady c.requires.placed (ap running_numbers c.occupants-places.ensures.occupants) c.in-Some.ensures c.runner.ensures in
     subst (λ o. IfSome o (λ (x : Running). x.left ≤ℤ pos (2 ^ 52))) (sym is.is) is.high
 
 pub returns-clause-short : goal.returns-clause-short
 returns-clause-short c =
-    let is = runner_now c.self.view_is c.self.invariant.domain.steady c.requires.placed (c.deref.ensures.value ∙ c.self.invariant.running_is) c.in-Some.ensures c.runner.ensures in
+    let is = runner_now c.self.view_is c.self.invariant.domain.steady c.requires.placed (ap running_numbers c.occupants-places.ensures.occupants) c.in-Some.ensures c.runner.ensures in
     subst (λ o. IfSome o (λ (x : Running). x.uinact ≤ 2 ^ 26)) (sym is.is) is.short
+
+pub standing_at-requires : goal.standing_at-requires
+standing_at-requires c listed = c.deref.ensures.value ∙ c.self.invariant.running_is listed ∙ ap running_numbers (sym c.occupants-places.ensures.occupants)

@@ -1,7 +1,7 @@
 use Rattle.std.proofs.Common.{ap, ◌∙◌, ◌++◌, [], ◌∷◌, arith}
 use Rattle.domain_run.proofs.Homing.{standing_one, standing_idle}
-use Rattle.domain_run.proofs.sweep.list_running.Goals as goal
-use Rattle.domain_run.proofs.sweep.list_running.Goals.{in-Some, in_default}
+use Rattle.domain_run.proofs.running.list_running.Goals as goal
+use Rattle.domain_run.proofs.running.list_running.Goals.{in-Some, in_default}
 
 pub loop-occupant-preserved : goal.loop-occupant-preserved
 loop-occupant-preserved c =

@@ -1,7 +1,7 @@
 use Rattle.std.proofs.Common.{◌≡◌, ◌≤◌, take, vec_len}
 use Rattle.std.specs.Prelude.{vec_capacity}
 use Rattle.domain_run.specs.Jump.{running_numbers}
-use Rattle.domain_run.proofs.sweep.list_running.Given as goal
+use Rattle.domain_run.proofs.running.list_running.Given as goal
 
 abbrev pub invariant-loop-occupant : goal.invariant-loop-occupant
 invariant-loop-occupant l = record {
