@@ -32,6 +32,7 @@ pub mod Due
 pub mod Sliding
 pub mod Rooted
 pub mod Climbing
+pub mod Descending
 pub mod Leaves
 pub mod ToldOrder
 pub mod ToldOf

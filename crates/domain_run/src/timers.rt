@@ -29,6 +29,19 @@ impl Model for Timers {
     ghost invariant = { λ t. AreTimers t.tournament t.count };
 }
 
+// How many levels there are below the root of so many leaves.
+fn levels_of(len: usize) -> u32
+    requires { spec.IsSize len }
+    ensures { len ≡ 2 ^ result }
+{
+    match len {
+        4 => 2,
+        16 => 4,
+        64 => 6,
+        _ => 8,
+    }
+}
+
 impl Timers {
     /// Of no tasks. No other call takes memory.
     pub(crate) fn open(alloc: Global) -> Result<Timers, NoMemory>
@@ -38,6 +51,19 @@ impl Timers {
             tournament: Tournament::open(alloc)?,
             count: 0,
         })
+    }
+
+    /// A place from this one on, up to which no task is due at a time. From the first of many on it
+    /// is the first that is.
+    fn first_look(&self, from: usize, time: u64) -> usize
+        ensures from { from ≤ result }
+        ensures others { spec.AreLater self.now time from result }
+    {
+        if from > 0 || self.count <= 16 {
+            return from;
+        }
+        self.tournament
+            .first_come(time, levels_of(self.tournament.len()))
     }
 
     /// The first place, from this one on, whose task is due at a time; where there is none, how
@@ -53,7 +79,7 @@ impl Timers {
         if !self.may_be_due(time) {
             return count;
         }
-        let mut place = from;
+        let mut place = self.first_look(from, time);
         while place < count && self.tournament.get(place) > time {
             place = self.tournament.behind(place, time);
         }
