@@ -209,6 +209,7 @@ impl Roster {
 
     /// The first place, from this one on, whose task is due at a time; where there is none, how
     /// many places there are.
+    #[inline(always)]
     pub(crate) fn next_due(&self, from: usize, time: u64) -> usize
         requires { from ≤ length self.now.tasks }
         ensures from { from ≤ result }

@@ -179,7 +179,6 @@ fn next_changed(before: &[Option<u32>], after: &[Option<u32>], from: usize) -> u
 
 /// Parts 4 and 5 on a CPU whose occupant differs: a switch is added, and who stands there now
 /// belongs to it.
-#[inline(never)]
 fn move_at(
     switches: &mut Vec<Switch>,
     time: u64,

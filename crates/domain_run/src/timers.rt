@@ -68,6 +68,7 @@ impl Timers {
 
     /// The first place, from this one on, whose task is due at a time; where there is none, how
     /// many places there are.
+    #[inline(always)]
     pub(crate) fn next_due(&self, from: usize, time: u64) -> usize
         requires { from ≤ length self.now }
         ensures from { from ≤ result }
