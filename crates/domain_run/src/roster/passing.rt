@@ -77,10 +77,11 @@ impl Roster {
             return;
         };
         let at = self.place_on(seat.number, cpu);
-        self.vacate(cpu);
         let Some(place) = at else {
+            self.vacate(cpu);
             return;
         };
+        self.vacate_at(cpu, place, seat);
         let left = self.tasks[place].server.left;
         let left = left_after(left, used_in(left, seat.rate, ticks));
         self.turn(place, time, &Change::Run { ticks, left });

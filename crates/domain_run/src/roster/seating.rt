@@ -4,6 +4,7 @@ ghost use Rattle.std.specs.Prelude.{◌≡◌, ◌≢◌, ◌<◌, ◌≤◌, �
 ghost use Rattle.attr_check.specs.Ratio.{cap};
 ghost use Rattle.domain_run.specs.Domain.{IsLimit};
 ghost use Rattle.domain_run.specs.Tick.{sum_of};
+ghost use Rattle.domain_run.specs.private.Index.{IsAt};
 ghost use Rattle.domain_run.specs.private.Roster.{rate_in, basis_in, AreSeatedFrom};
 ghost use Rattle.domain_run.specs.private.Seats.{IsAhead, seat_by};
 ghost use Rattle.domain_run.specs.private.Waiting as spec;
@@ -69,6 +70,19 @@ fn seat_for(task: &Task, upto: u64, rate: u64, basis: Basis) -> Seat
 }
 
 impl Roster {
+    /// As `vacate`, where it is known who sits there, and at which place of the list that task is.
+    #[inline(always)]
+    pub(super) fn vacate_at(&mut self, cpu: usize, place: usize, seat: Seat)
+        requires there { cpu < self.old.cpus }
+        requires sits { slice_index_or self.old.seats cpu None ≡ Some seat }
+        requires at { IsAt self.old.tasks seat.number place }
+        requires ahead { IsAhead self.old.clock seat }
+        ensures { self.new ≡ record self.old { seats = slice_set self.old.seats cpu None } }
+    {
+        charge_on(&mut self.tasks[place], cpu, seat, self.seats.upto());
+        self.seats.set(cpu, None);
+    }
+
     /// Nobody sits on a CPU any more; who did is charged.
     pub(crate) fn vacate(&mut self, cpu: usize)
         requires { cpu < self.old.cpus }
@@ -79,10 +93,7 @@ impl Roster {
         };
         match self.place(seat.number) {
             None => self.seats.set(cpu, None),
-            Some(place) => {
-                charge_on(&mut self.tasks[place], cpu, seat, self.seats.upto());
-                self.seats.set(cpu, None);
-            }
+            Some(place) => self.vacate_at(cpu, place, seat),
         }
     }
 
@@ -228,7 +239,7 @@ impl Roster {
             (rate_in self.old.cpus limit self.old.tasks t) (spec.seat_of self.new.seats t)) self.new.tasks }
     {
         let rate = self.rate_of(number, limit);
-        self.vacate(cpu);
+        self.leave_free(cpu);
         self.occupy(cpu, number, rate, basis);
     }
 
