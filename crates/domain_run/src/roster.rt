@@ -120,6 +120,7 @@ impl Roster {
     }
 
     /// The place of the task of a number, where it is listed.
+    #[inline(always)]
     pub(crate) fn place(&self, number: u32) -> Option<usize>
         ensures there { IfSome result (IsAt self.now.tasks number) }
         ensures absent { IfNone result (IsAbsent self.now.tasks number) }

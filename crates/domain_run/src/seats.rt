@@ -168,6 +168,7 @@ impl Seats {
     }
 
     /// Another seat for a CPU.
+    #[inline(always)]
     pub(crate) fn set(&mut self, cpu: usize, seat: Option<Seat>)
         requires there { cpu < length self.old.seats }
         requires ahead { IfSome seat (spec.IsAhead self.old.upto) }

@@ -60,6 +60,7 @@ impl Roster {
     }
 
     /// Who sits on a CPU has run for so many ticks, and sits no more.
+    #[inline(always)]
     fn finish_at(&mut self, cpu: usize, ticks: u64, time: u64)
         requires there { cpu < self.old.cpus }
         requires some { 0 < ticks }

@@ -184,6 +184,7 @@ impl Roster {
 
     /// The first CPU, from this one on, where someone is to sit down or to leave; where there is
     /// none, how many CPUs there are.
+    #[inline(always)]
     pub(crate) fn next_wrong(&self, places: &[Option<u32>], from: usize, limit: u64) -> usize
         requires wide { length places.now ≡ self.now.cpus }
         requires from { from ≤ length places.now }
