@@ -65,7 +65,6 @@ impl Index {
     }
 
     /// The place of the task of a number, where it is listed.
-    #[inline(always)]
     pub(crate) fn place(&self, tasks: &[Task], number: u32) -> Option<usize>
         ensures there { IfSome result (IsAt tasks.now number) }
         ensures absent { IfNone result (IsAbsent tasks.now number) }
