@@ -5,7 +5,7 @@ use Rattle.domain_run.specs.declared.task.Task.{Task}
 use Rattle.domain_run.specs.declared.seats.Seat.{Seat}
 use Rattle.domain_run.specs.declared.run_queue.RunQueue.{RunQueue}
 use Rattle.domain_run.specs.private.RunQueue.{IsCounted}
-use Rattle.domain_run.specs.private.Seats.{seat_by, left}
+use Rattle.domain_run.specs.private.Seats.{seat_by}
 use Rattle.domain_run.specs.private.Waiting.{owed, owed_by, seat_of, left_of}
 use Rattle.domain_run.proofs.Counting.{home_at}
 use Rattle.domain_run.proofs.Waiting.{alike_owed, counted_unlike, read_owed, left_here}

@@ -1,5 +1,5 @@
 -- A leap of a domain under way is so many ticks.
-use Rattle.std.proofs.Common.{◌≡◌, ◌≢◌, ℕ, ◌+◌, ◌-◌, ◌<◌, ◌≤◌, true, false, cond, Some, None, List, length, map, get_or, refl, sym, ap, ◌∙◌, subst, arith}
+use Rattle.std.proofs.Common.{◌≡◌, ℕ, ◌+◌, ◌-◌, ◌<◌, ◌≤◌, true, false, cond, List, map, get_or, refl, sym, ap, ◌∙◌, subst, arith}
 use Rattle.std.specs.Prelude.{pos, ◌*◌, ◌-ℤ◌, ◌<ℤ◌, All, Any, IsTrue}
 use Rattle.std.proofs.lemmas.List.{get_or_default}
 use Rattle.edf_pick.specs.Places.{Places, stands}
@@ -7,7 +7,7 @@ use Rattle.domain_run.specs.declared.task.Task.{Task}
 use Rattle.domain_run.specs.Conditions.{is_ready}
 use Rattle.domain_run.specs.Domain.{Domain}
 use Rattle.domain_run.specs.Jump.{under_way, ticks_to_event}
-use Rattle.domain_run.specs.Sound.{occupant, IsSound, IsSteady, IsPlacement}
+use Rattle.domain_run.specs.Sound.{IsSound, IsSteady, IsPlacement}
 use Rattle.domain_run.specs.Tick.{begun, ticks}
 use Rattle.domain_run.specs.private.Paying.{ran_until}
 use Rattle.domain_run.specs.private.Roster.{rate_in, leapt, LastsIf}

@@ -14,7 +14,7 @@ use Rattle.domain_run.specs.Conditions.{is_ready, is_contending}
 use Rattle.domain_run.specs.Domain.{Domain}
 use Rattle.domain_run.specs.Tick.{shares}
 use Rattle.domain_run.specs.Sound.{occupant, IsSound, IsSteady, IsPlacement}
-use Rattle.std.proofs.lemmas.Option.{same_Some, slice_get_within}
+use Rattle.std.proofs.lemmas.Option.{slice_get_within}
 use Rattle.domain_run.specs.Jump.{running_numbers, running_of, running_if, running}
 use Rattle.domain_run.proofs.Paying.{find_here}
 

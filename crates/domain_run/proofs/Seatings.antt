@@ -1,6 +1,6 @@
 -- Seats that are taken and left, and time that goes on for all who sit.
-use Rattle.std.proofs.Common.{◌≡◌, ◌≢◌, ◌⊎◌, ℕ, zero, suc, ◌+◌, ◌-◌, ◌*◌, ◌^◌, ◌<◌, ◌≤◌, min, Bool, true, false, cond, eqb, Option, Some, None, List, [], ◌∷◌, length, map, get_or, set, refl, sym, ap, ◌∙◌, subst, arith, inl, inr, eq-eqb}
-use Rattle.std.specs.Prelude.{ℤ, pos, ◌-ℤ◌, ◌<ℤ◌, All, AllPairs, IsTrue, IfSome}
+use Rattle.std.proofs.Common.{◌≡◌, ◌≢◌, ℕ, ◌-◌, ◌*◌, ◌<◌, ◌≤◌, min, Bool, true, false, cond, eqb, Option, Some, None, List, length, map, get_or, set, refl, sym, ap, ◌∙◌, subst, arith, inl, inr, eq-eqb}
+use Rattle.std.specs.Prelude.{pos, ◌-ℤ◌, All, AllPairs, IfSome}
 use Rattle.std.proofs.lemmas.Int.{ints}
 use Rattle.std.proofs.lemmas.Bool.{cases_eq, cases_lt, eqb-true, ne_eqb}
 use Rattle.std.proofs.lemmas.List.{get_or-set_same, get_or-set_other, get_or_past, get_or_default, get_or-map, length-map, length-set, set-get_or}
@@ -9,13 +9,13 @@ use Rattle.domain_run.specs.declared.task.Task.{Task}
 use Rattle.grub_rules.specs.Rate as reclaiming
 use Rattle.domain_run.specs.declared.seats.Seat.{Seat}
 use Rattle.domain_run.specs.declared.seats.Basis.{Basis}
-use Rattle.domain_run.specs.private.Seats.{SeatsView, seat_by, left, IsAhead}
-use Rattle.domain_run.specs.private.Waiting.{left_of, seat_of, slid_for, owed_by, owed, owed_all, Waits, WaitsIf, AllWait, MaySit, IsAtRate, IsRight, charged_on, rate_by}
+use Rattle.domain_run.specs.private.Seats.{SeatsView, seat_by, left}
+use Rattle.domain_run.specs.private.Waiting.{seat_of, slid_for, owed_by, owed, owed_all, Waits, WaitsIf, AllWait, MaySit, IsAtRate, IsRight, charged_on, rate_by}
 use Rattle.domain_run.specs.declared.run_queue.RunQueue.{RunQueue}
 use Rattle.domain_run.specs.private.RunQueue.{IsCounted}
 use Rattle.domain_run.specs.private.Roster.{RosterView, IsKept}
 use Rattle.domain_run.specs.private.Index.{IsAt, IsAbsent}
-use Rattle.domain_run.proofs.Jumping.{Alike, map_alike}
+use Rattle.domain_run.proofs.Jumping.{map_alike}
 use Rattle.domain_run.proofs.Placing.{one_index}
 use Rattle.domain_run.proofs.Waiting.{sits, other_seat, alike_owed, owed_set, read_owed}
 

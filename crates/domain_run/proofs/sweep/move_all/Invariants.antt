@@ -1,7 +1,7 @@
 use Rattle.std.proofs.Common.{◌≡◌, ◌<◌, ◌≤◌, ◌+◌, ◌-◌, length, vec_len, All}
 use Rattle.std.specs.Prelude.{vec_capacity}
 use Rattle.domain_run.specs.Sound.{IsSound}
-use Rattle.domain_run.specs.private.Moves.{AreUnchanged, HasChanged}
+use Rattle.domain_run.specs.private.Moves.{HasChanged}
 use Rattle.domain_run.proofs.Moving.{AreMoved}
 use Rattle.domain_run.proofs.sweep.move_all.Given as goal
 

@@ -1,10 +1,9 @@
-use Rattle.std.proofs.Common.{◌≡◌, ◌<◌, ◌≤◌, ◌+◌, ◌-◌, ◌^◌, ℕ, List, length, map, sym, ap, subst, ◌∙◌, arith}
+use Rattle.std.proofs.Common.{◌≡◌, ◌+◌, ◌-◌, ℕ, List, map, sym, ap, subst, ◌∙◌, arith}
 use Rattle.std.specs.Prelude.{All, IfSome}
 use Rattle.domain_run.specs.declared.task.Task.{Task}
 use Rattle.domain_run.specs.Sound.{IsSound}
-use Rattle.domain_run.specs.private.Roster.{RosterView, IsSeated, LastsIf, leapt}
-use Rattle.domain_run.specs.private.RunQueue.{AreHomed}
-use Rattle.domain_run.specs.private.Waiting.{seat_of, Lasts, passed, MaySitOn}
+use Rattle.domain_run.specs.private.Roster.{IsSeated}
+use Rattle.domain_run.specs.private.Waiting.{seat_of, Lasts, passed}
 use Rattle.domain_run.proofs.Leaping.{leapt_all, lasts_all}
 use Rattle.domain_run.proofs.Paying.{sound_later}
 use Rattle.domain_run.proofs.to_event.leap.Goals as goal

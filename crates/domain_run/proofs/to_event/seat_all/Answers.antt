@@ -1,9 +1,9 @@
-use Rattle.std.proofs.Common.{◌≡◌, ◌≢◌, ◌<◌, ◌≤◌, ◌+◌, ℕ, Option, Some, None, List, length, get_or, refl, sym, ap, subst, ◌∙◌, arith}
+use Rattle.std.proofs.Common.{◌≡◌, ◌<◌, ◌≤◌, ◌+◌, ℕ, Option, Some, None, List, refl, sym, subst, ◌∙◌, arith}
 use Rattle.std.specs.Prelude.{All, IfSome}
 use Rattle.domain_run.specs.declared.task.Task.{Task}
 use Rattle.domain_run.specs.Sound.{occupant}
 use Rattle.domain_run.specs.private.Roster.{rate_in, IsSeated}
-use Rattle.domain_run.specs.private.Waiting.{MaySit, MaySitOn, IsRight, seat_of}
+use Rattle.domain_run.specs.private.Waiting.{MaySit, IsRight, seat_of}
 use Rattle.domain_run.proofs.Leaping.{right_next, right_both}
 use Rattle.domain_run.proofs.to_event.seat_all.Goals as goal
 

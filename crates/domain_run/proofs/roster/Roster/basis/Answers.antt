@@ -1,5 +1,4 @@
 use Rattle.std.proofs.Common.{◌≡◌, ◌∙◌, ap}
-use Rattle.domain_run.specs.declared.seats.Basis.{Basis}
 use Rattle.domain_run.specs.private.Roster.{RosterView}
 use Rattle.domain_run.proofs.roster.Roster.basis.Goals as goal
 

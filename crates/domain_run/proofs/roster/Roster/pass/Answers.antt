@@ -1,11 +1,10 @@
-use Rattle.std.proofs.Common.{◌≡◌, ◌≢◌, ◌<◌, ◌≤◌, ◌+◌, ◌^◌, ℕ, Option, Some, None, List, length, map, get_or, set, refl, sym, ap, subst, ◌∙◌, arith}
+use Rattle.std.proofs.Common.{◌≡◌, ◌<◌, ◌≤◌, ◌+◌, ◌^◌, ℕ, Option, None, List, length, map, get_or, set, sym, ap, subst, ◌∙◌, arith}
 use Rattle.std.specs.Prelude.{All, IfSome}
 use Rattle.std.proofs.lemmas.List.{length-set}
 use Rattle.domain_run.specs.declared.task.Task.{Task}
 use Rattle.domain_run.specs.declared.seats.Seat.{Seat}
 use Rattle.domain_run.specs.Sound.{IsSound}
-use Rattle.domain_run.specs.private.Roster.{RosterView, IsKept}
-use Rattle.domain_run.specs.private.RunQueue.{IsCounted}
+use Rattle.domain_run.specs.private.Roster.{RosterView}
 use Rattle.domain_run.specs.private.Seats.{SeatsView, IsAhead, end_of}
 use Rattle.domain_run.specs.private.Timers.{AreLater}
 use Rattle.domain_run.specs.private.Waiting.{owed, owed_all, seat_of, AllWait, passed}

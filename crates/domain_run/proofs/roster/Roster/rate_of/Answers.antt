@@ -1,14 +1,14 @@
-use Rattle.std.proofs.Common.{◌≡◌, ◌<◌, ◌≤◌, ◌*◌, ◌^◌, ℕ, List, length, get_or, sym, ap, subst, ◌∙◌, arith}
+use Rattle.std.proofs.Common.{◌≡◌, ◌<◌, ◌≤◌, ◌*◌, ℕ, length, get_or, sym, ap, subst, ◌∙◌, arith}
 use Rattle.std.proofs.Math.Nat.{mul-le-mul}
 use Rattle.std.proofs.lemmas.List.{get_or_default}
 use Rattle.attr_check.specs.Ratio.{cap}
 use Rattle.grub_rules.specs.Rate as reclaiming
 use Rattle.grub_rules.specs.Sums.{uinact}
 use Rattle.grub_rules.proofs.CallerLemmas.{uinact-le-total_bw}
-use Rattle.domain_run.specs.Tick.{shares, sum_of}
+use Rattle.domain_run.specs.Tick.{shares}
 use Rattle.domain_run.specs.declared.task.Task.{Task}
 use Rattle.domain_run.specs.private.Index.{IsAt}
-use Rattle.domain_run.specs.private.Roster.{RosterView, rate_in}
+use Rattle.domain_run.specs.private.Roster.{RosterView}
 use Rattle.domain_run.specs.private.Waiting.{owed, owed_all}
 use Rattle.domain_run.proofs.Counting.{home_at}
 use Rattle.domain_run.proofs.Waiting.{alike_owed, counted_unlike, read_owed}

@@ -1,10 +1,10 @@
-use Rattle.std.proofs.Common.{◌≡◌, ◌<◌, ℕ, Option, Some, None, List, length, get_or, sym, ap, subst, ◌∙◌}
+use Rattle.std.proofs.Common.{◌≡◌, ℕ, Option, Some, List, get_or, sym, ap, ◌∙◌}
 use Rattle.std.specs.Prelude.{All}
 use Rattle.domain_run.specs.declared.task.Task.{Task}
 use Rattle.domain_run.specs.declared.seats.Seat.{Seat}
 use Rattle.domain_run.specs.declared.seats.Basis.{Basis}
-use Rattle.domain_run.specs.private.Roster.{RosterView, rate_in, basis_in}
-use Rattle.domain_run.specs.private.Waiting.{seat_of, rate_by, IsRight, MaySit}
+use Rattle.domain_run.specs.private.Roster.{rate_in, basis_in}
+use Rattle.domain_run.specs.private.Waiting.{seat_of, rate_by, IsRight}
 use Rattle.domain_run.proofs.Seatings.{right_rate}
 use Rattle.domain_run.proofs.roster.Roster.sits_rightly.Goals as goal
 

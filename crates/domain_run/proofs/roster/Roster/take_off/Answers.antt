@@ -1,4 +1,4 @@
-use Rattle.std.proofs.Common.{◌≡◌, ℕ, refl, sym, ap, subst, ◌∙◌, List, length, map}
+use Rattle.std.proofs.Common.{ℕ, refl, sym, ap, subst, ◌∙◌, List, length, map}
 use Rattle.std.specs.Prelude.{filter}
 use Rattle.std.proofs.lemmas.List.Elements.{All-filter}
 use Rattle.domain_run.specs.declared.task.Task.{Task}

@@ -1,14 +1,12 @@
-use Rattle.std.proofs.Common.{◌≡◌, ◌≢◌, ◌<◌, ℕ, Option, Some, None, List, length, map, get_or, set, sym, ap, subst, ◌∙◌}
-use Rattle.std.specs.Prelude.{AllPairs}
+use Rattle.std.proofs.Common.{◌≡◌, ℕ, Some, None, length, map, get_or, set, sym, ap, subst, ◌∙◌}
 use Rattle.std.proofs.lemmas.List.{length-set}
 use Rattle.domain_run.specs.declared.task.Task.{Task}
-use Rattle.domain_run.specs.declared.seats.Seat.{Seat}
-use Rattle.domain_run.specs.private.Index.{IsAt, IsAbsent}
+use Rattle.domain_run.specs.private.Index.{IsAt}
 use Rattle.domain_run.specs.private.Roster.{RosterView}
 use Rattle.domain_run.specs.private.Seats.{SeatsView}
 use Rattle.domain_run.specs.private.Waiting.{owed, owed_all, AllWait, charged_on}
-use Rattle.domain_run.proofs.Waiting.{alike_owed, numbered_unlike, absent_unlike}
-use Rattle.domain_run.proofs.Seatings.{lost_view, lost_waits, charge_waits, vacated_view, vacated_waits, view_again, kept_again, inside_at, number_at}
+use Rattle.domain_run.proofs.Waiting.{alike_owed, numbered_unlike}
+use Rattle.domain_run.proofs.Seatings.{charge_waits, vacated_view, vacated_waits, view_again, kept_again, inside_at, number_at}
 use Rattle.domain_run.proofs.roster.Roster.vacate_at.Goals as goal
 
 pub charge_on-requires-clause-waits : goal.charge_on-requires-clause-waits

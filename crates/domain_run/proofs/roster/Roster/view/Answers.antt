@@ -1,10 +1,9 @@
-use Rattle.std.proofs.Common.{eqb, Some, sym, ap, subst, ◌≡◌, ◌∙◌}
+use Rattle.std.proofs.Common.{eqb, Some, sym, ap, subst, ◌∙◌}
 use Rattle.std.specs.Prelude.{find, option_map}
 use Rattle.domain_run.specs.Views.{view_of}
 use Rattle.domain_run.specs.private.Index.{IsAt}
 use Rattle.domain_run.specs.private.Roster.{RosterView}
 use Rattle.domain_run.specs.declared.task.TaskView.{TaskView}
-use Rattle.domain_run.specs.private.Waiting.{WaitsIf}
 use Rattle.domain_run.proofs.Finding.{find_absent}
 use Rattle.domain_run.proofs.Waiting.{found_owed}
 use Rattle.domain_run.proofs.roster.Roster.view.Goals as goal

@@ -1,4 +1,4 @@
-use Rattle.std.proofs.Common.{◌≡◌, ℕ, None, List, length, get_or, sym, ap, subst, ◌∙◌}
+use Rattle.std.proofs.Common.{◌≡◌, ℕ, None, length, get_or, sym, ap, subst, ◌∙◌}
 use Rattle.domain_run.specs.private.Roster.{RosterView}
 use Rattle.domain_run.specs.private.Seats.{SeatsView}
 use Rattle.domain_run.specs.private.Waiting.{owed_all, AllWait}

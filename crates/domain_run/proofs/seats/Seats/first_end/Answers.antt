@@ -1,4 +1,4 @@
-use Rattle.std.proofs.Common.{◌≡◌, ◌<◌, ℕ, List, map, sym, ap, subst, ◌∙◌}
+use Rattle.std.proofs.Common.{◌≡◌, ◌<◌, ℕ, map, sym, ap, subst, ◌∙◌}
 use Rattle.domain_run.specs.private.Seats.{SeatsView, end_of}
 use Rattle.domain_run.specs.private.Timers.{least}
 use Rattle.domain_run.proofs.SeatTimes.{first_ahead}

@@ -1,4 +1,4 @@
-use Rattle.std.proofs.Common.{◌≡◌, ◌<◌, ◌≤◌, ◌+◌, ◌^◌, ℕ, List, length, map, sym, ap, subst, ◌∙◌, arith}
+use Rattle.std.proofs.Common.{◌≤◌, ◌+◌, ◌^◌, length, map, sym, subst, arith}
 use Rattle.domain_run.specs.private.Seats.{SeatsView, end_of}
 use Rattle.domain_run.specs.private.Timers.{AreLater}
 use Rattle.domain_run.proofs.SeatTimes.{seats_later}

@@ -1,7 +1,6 @@
-use Rattle.std.proofs.Common.{◌≡◌, sym, subst}
+use Rattle.std.proofs.Common.{sym, subst}
 use Rattle.domain_run.specs.Domain.{Domain}
 use Rattle.domain_run.specs.Keys.{AreKept}
-use Rattle.domain_run.specs.Tick.{ticks}
 use Rattle.domain_run.proofs.KeptKeys.{kept_itself, ticks_kept}
 use Rattle.domain_run.proofs.state.State.leap.Goals as goal
 

@@ -1,10 +1,9 @@
-use Rattle.std.proofs.Common.{◌≡◌, ◌<◌, ℕ, List, ◌+◌, ◌-◌, ◌≤◌, ◌^◌, length, map, sym, ap, ◌∙◌, subst, arith}
+use Rattle.std.proofs.Common.{◌≡◌, ◌<◌, ℕ, ◌+◌, ◌-◌, ◌≤◌, ◌^◌, length, map, sym, ap, ◌∙◌, subst, arith}
 use Rattle.std.specs.Prelude.{All}
 use Rattle.edf_pick.specs.Places.{Places}
-use Rattle.domain_run.specs.declared.task.Task.{Task}
 use Rattle.domain_run.specs.Domain.{Domain}
 use Rattle.domain_run.specs.Jump.{under_way, ticks_to_event}
-use Rattle.domain_run.specs.Sound.{IsDomain, IsPlacement, IsApart}
+use Rattle.domain_run.specs.Sound.{IsPlacement, IsApart}
 use Rattle.domain_run.specs.Tick.{sum_of}
 use Rattle.domain_run.specs.private.Roster.{leapt, LastsIf}
 use Rattle.domain_run.specs.private.RunQueue.{AreHomed}

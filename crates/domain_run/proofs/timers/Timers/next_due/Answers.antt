@@ -1,4 +1,3 @@
-use Rattle.std.proofs.Common.{ap}
 use Rattle.domain_run.proofs.Due.{least_later}
 use Rattle.domain_run.proofs.timers.Timers.next_due.Goals as goal
 
