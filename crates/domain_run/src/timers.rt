@@ -29,6 +29,19 @@ impl Model for Timers {
     ghost invariant = { λ t. AreTimers t.tournament t.count };
 }
 
+// How many levels there are below the root of so many leaves.
+fn levels_of(len: usize) -> u32
+    requires { spec.IsSize len }
+    ensures { len ≡ 2 ^ result }
+{
+    match len {
+        4 => 2,
+        16 => 4,
+        64 => 6,
+        _ => 8,
+    }
+}
+
 impl Timers {
     /// Of no tasks. No other call takes memory.
     pub(crate) fn open(alloc: Global) -> Result<Timers, NoMemory>
@@ -40,8 +53,22 @@ impl Timers {
         })
     }
 
+    /// A place from this one on, up to which no task is due at a time. From the first of many on it
+    /// is the first that is.
+    fn first_look(&self, from: usize, time: u64) -> usize
+        ensures from { from ≤ result }
+        ensures others { spec.AreLater self.now time from result }
+    {
+        if from > 0 || self.count <= 16 {
+            return from;
+        }
+        self.tournament
+            .first_come(time, levels_of(self.tournament.len()))
+    }
+
     /// The first place, from this one on, whose task is due at a time; where there is none, how
     /// many places there are.
+    #[inline(always)]
     pub(crate) fn next_due(&self, from: usize, time: u64) -> usize
         requires { from ≤ length self.now }
         ensures from { from ≤ result }
@@ -50,7 +77,10 @@ impl Timers {
         ensures due { result < length self.now → slice_index_or self.now result 0 ≤ time }
     {
         let count = self.count;
-        let mut place = from;
+        if !self.may_be_due(time) {
+            return count;
+        }
+        let mut place = self.first_look(from, time);
         while place < count && self.tournament.get(place) > time {
             place = self.tournament.behind(place, time);
         }

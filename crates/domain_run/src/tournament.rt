@@ -158,6 +158,39 @@ fn behind(nodes: &[u64], from: usize, time: u64) -> usize
     (at + 1) * span
 }
 
+// Of the two below a node the left one where something has come in it, else the right one.
+fn below(nodes: &[u64], at: usize, time: u64) -> usize
+    requires within { 2 * at + 1 < length nodes.now }
+    requires few { length nodes.now ≤ 512 }
+    ensures low { 2 * at ≤ result }
+    ensures high { result ≤ 2 * at + 1 }
+    ensures passed { 2 * at < result → time < slice_index_or nodes.now (2 * at) 0 }
+{
+    let left = 2 * at;
+    if nodes[left] > time {
+        return left + 1;
+    }
+    left
+}
+
+// From the root down to the first leaf that has come, where one has; up to there no leaf has.
+fn first_come(nodes: &[u64], time: u64, levels: u32) -> usize
+    requires tree { spec.IsTree nodes.now }
+    requires whole { length nodes.now ≡ 2 * 2 ^ levels }
+    requires few { length nodes.now ≤ 512 }
+    ensures leaf { length nodes.now / 2 ≤ result }
+    ensures within { result < length nodes.now }
+    ensures others { spec.AreAhead nodes.now time (length nodes.now / 2) result }
+{
+    let mut at = 1;
+    let mut left = levels;
+    'down: while left > 0 {
+        at = below(nodes, at, time);
+        left -= 1;
+    }
+    at
+}
+
 impl Tournament {
     /// Of four times that never come. No other call takes memory.
     pub(crate) fn open(alloc: Global) -> Result<Tournament, NoMemory>
@@ -212,6 +245,15 @@ impl Tournament {
         ensures { result ≡ least self.now }
     {
         root(&self.nodes)
+    }
+
+    /// A place up to which no time has come: the first whose time has come, where one has.
+    pub(crate) fn first_come(&self, time: u64, levels: u32) -> usize
+        requires { length self.now ≡ 2 ^ levels }
+        ensures { AreLater self.now time 0 result }
+    {
+        let half = self.nodes.len() / 2;
+        first_come(&self.nodes, time, levels) - half
     }
 
     /// A place behind this one, whose time has not come: where none has come between.
