@@ -104,7 +104,7 @@ pub all_moved : (time : ℕ) (first : List Task) (before places : Places) (start
     → (tasks ≡ map (with_last_cpu places) first) × (switches ≡ start ++ switches_from time first 0 before places)
 all_moved time first before places start tasks switches cpu wide e m = (
   m.written ∙ ap (λ (ps : Places). map (with_last_cpu ps) first) (take_all cpu places (omega (arith, e))),
-  sym (append-nil switches) ∙ ap (λ (ss : List Switch). switches ++ ss) (sym none) ∙ m.added
+  sym (append-nil switches) ∙ ap (λ (ss : List Switch). switches ++ ss) (sym none) ∙ m.added,
 )
   where
     none : switches_from time first cpu (drop cpu before) (drop cpu places) ≡ []

@@ -61,3 +61,29 @@ fn history_of_one_entry(rt: HostRuntime) -> Result<(), Fail> {
     }
     Ok(())
 }
+
+// Nor has it room for one that is heard: that is told as a full book, and not as want of memory.
+#[test]
+fn heard_history_of_one_entry(rt: HostRuntime) -> Result<(), Fail> {
+    let options = Options {
+        domains: vec![in rt.alloc(); 1]?,
+        limit: 996147,
+        clients: 1,
+        workers: 1,
+        history: 1,
+        reclaim: false,
+        print: Print::Summary,
+    };
+    let (mut reader, mut writer) = (Counted::new(ONE[0]), Counted::new(Vec::new(rt.alloc())));
+    let ran = run(
+        &rt,
+        rt.alloc(),
+        &mut reader,
+        &mut writer,
+        &options,
+        &AllPass,
+    );
+    assert!(rt; matches!(ran, Err(SessionFault::Full)));
+    assert_eq!(rt; writer.into_inner().as_slice(), b"".as_slice());
+    Ok(())
+}

@@ -53,7 +53,6 @@ returns-clause-places c =
     ∙ placed_counted (length before) c.ready.result.now c.wake_all.new.roster.tasks before c.ready.ensures.ready c.ready.ensures.numbered
     ∙ ap (λ (ts : List Task). placed (length before) (candidates ts) before) c.wake_all.ensures.tasks
 
-
 pub returns-clause-none : goal.returns-clause-none
 returns-clause-none c none =
     sym c.occupants-2.ensures.occupants ∙ sym (c.move_all-changed.ensures.none none) ∙ (c.deref.ensures.value ∙ c.copy_places.ensures.places ∙ c.occupants.ensures.occupants)

@@ -31,4 +31,3 @@ returns-in-None c =
     let there = sym c.in-Some.ensures.seat in
     view_again (length s.queue.accounts.all) c.args.cpu None s.seats c.set.new.self s.tasks.items s.tasks.items c.args.self.now c.self.view_is c.set.ensures
     (ap (λ (v : SeatsView). owed_all v s.tasks.items) c.set.ensures ∙ lost_view s.seats.upto c.args.cpu s.seats.seats s.tasks.items seat there absent)
-
