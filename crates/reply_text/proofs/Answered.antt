@@ -59,3 +59,15 @@ history_more s sections out more was put =
     put ∙ ap (λ (x : List ℕ). x ++ text_of (section_replies s)) was
     ∙ sym (flat_map-append line_break (flat_map section_replies sections) (section_replies s))
     ∙ sym (ap text_of (flat_map-append section_replies sections (s ∷ []) ∙ ap (λ (ls : List (List ℕ)). flat_map section_replies sections ++ ls) (append-nil (section_replies s))))
+
+-- a section's lines, where its first line was put down, then a line break, and then those of its calls
+pub section_put : (s : SectionView) (d : Domain) (entries : List Entry) (out line begun : List ℕ) → line ≡ out ++ domain_line s → begun ≡ line ++ codes "\n" → d ≡ opened s.cpus s.limit
+    → entries ≡ s.entries → begun ++ text_of (answered_lines d entries) ≡ out ++ text_of (section_replies s)
+section_put s d entries out line begun first broken domain all =
+    let lines : List ℕ = text_of (answered_lines (opened s.cpus s.limit) s.entries) in
+    ap (λ (x : Domain). begun ++ text_of (answered_lines x entries)) domain
+    ∙ ap (λ (es : List Entry). begun ++ text_of (answered_lines (opened s.cpus s.limit) es)) all
+    ∙ ap (λ (x : List ℕ). x ++ lines) (broken ∙ ap (λ (x : List ℕ). x ++ codes "\n") first)
+    ∙ append_assoc (out ++ domain_line s) (codes "\n") lines
+    ∙ append_assoc out (domain_line s) (codes "\n" ++ lines)
+    ∙ sym (ap (λ (x : List ℕ). out ++ x) (append_assoc (domain_line s) (codes "\n") lines))
