@@ -33,7 +33,7 @@ pub use Rattle.domain_run.proofs.OrderLists.{Reordered, ends, next, swaps, chain
 pub use Rattle.domain_run.proofs.OrderLists.{same_length, same_any, same_found, before_same, apart_reordered}
 pub use Rattle.domain_run.proofs.OrderTicks.{Alike, relisted, same_sum_of, ticks_alike, alike_switches}
 pub use Rattle.domain_run.proofs.OrderGathered.{gathered, gather, gathered_both}
-pub use Rattle.domain_run.proofs.Logging.{tells_none, tells_more}
+pub use Rattle.domain_run.proofs.Logging.{tells_none, tells_more, tells_silent}
 pub use Rattle.domain_run.proofs.ToldRising.{IsSooner, IsSoonerUnlessCut, IsRising}
 pub use Rattle.domain_run.proofs.ToldIn.{IsToldIn, run_tells, run_rises, run_cpus}
 

@@ -48,6 +48,12 @@ least_each : (time : ℕ) (tasks : List Task) → time < least (map due_of tasks
 least_each time [] h = λ k d within. absurd (omega (arith, within))
 least_each time (t ∷ tasks) h = All-cons (λ u. time < due_of u) t tasks (omega (arith, h)) (least_each time tasks (omega (arith, h)))
 
+-- each of several times is not before the first of them
+pub least_later : (time : ℕ) (due : List ℕ) (place : ℕ) → time < least due → place < length due → time < get_or due place 0
+least_later time [] place h within = absurd (omega (arith, within))
+least_later time (t ∷ due) zero h within = omega (arith, h)
+least_later time (t ∷ due) (suc place) h within = least_later time due place (omega (arith, h)) (omega (arith, within))
+
 pub still_each : (time : ℕ) (tasks : List Task) → time < least (map due_of tasks) → All (IsStill time) tasks
 still_each time tasks h = All-weaker (λ t. time < due_of t) (IsStill time) (λ t k. still_at time t k) tasks (least_each time tasks h)
 

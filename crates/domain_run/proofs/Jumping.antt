@@ -39,10 +39,10 @@ pub record Alike (t u : Task) : Type 0 where
   pub zero_lag : u.zero_lag ≡ t.zero_lag
   pub deadline : u.server.deadline ≡ t.server.deadline
 
-share_alike : (t u : Task) → Alike t u → share_of u ≡ share_of t
+pub share_alike : (t u : Task) → Alike t u → share_of u ≡ share_of t
 share_alike t u same = λ i. record { cpu = same.cpu i; bw = (same.params i).bw; active = is_contending (same.condition i) || is_some (same.zero_lag i) }
 
-shares_alike : (f : Task → Task) → ((t : Task) → Alike t (f t)) → (tasks : List Task) → shares (map f tasks) ≡ shares tasks
+pub shares_alike : (f : Task → Task) → ((t : Task) → Alike t (f t)) → (tasks : List Task) → shares (map f tasks) ≡ shares tasks
 shares_alike f same [] = refl
 shares_alike f same (t ∷ tasks) =
     let first = share_alike t (f t) (same t) in
@@ -52,7 +52,7 @@ shares_alike f same (t ∷ tasks) =
 ready_alike : (t u : Task) → Alike t u → ready_of u ≡ ready_of t
 ready_alike t u same = λ i. cond (is_ready (same.condition i)) (Some (record { deadline = unwrap_or (same.deadline i) 0; number = same.number i; home = same.cpu i })) None
 
-candidates_alike : (f : Task → Task) → ((t : Task) → Alike t (f t)) → (tasks : List Task) → candidates (map f tasks) ≡ candidates tasks
+pub candidates_alike : (f : Task → Task) → ((t : Task) → Alike t (f t)) → (tasks : List Task) → candidates (map f tasks) ≡ candidates tasks
 candidates_alike f same [] = refl
 candidates_alike f same (t ∷ tasks) =
     let first = ready_alike t (f t) (same t) in
@@ -79,7 +79,7 @@ map_alike f g (x ∷ xs) all =
     let more = map_alike f g xs rest in
     λ i. first i ∷ more i
 
-map_twice : {X : Type 0} (g f h : X → X) (xs : List X) → All (λ x. g (f x) ≡ h x) xs → map g (map f xs) ≡ map h xs
+pub map_twice : {X : Type 0} (g f h : X → X) (xs : List X) → All (λ x. g (f x) ≡ h x) xs → map g (map f xs) ≡ map h xs
 map_twice g f h [] all = refl
 map_twice g f h (x ∷ xs) all =
     let rest : All (λ y. g (f y) ≡ h y) xs = λ k d w. all (suc k) d (omega arith) in

@@ -26,6 +26,7 @@ pub mod Making
 pub mod Finding
 pub mod Homing
 pub mod AtHome
+pub mod Moving
 pub mod Charged
 pub mod Due
 pub mod Sliding
@@ -41,3 +42,11 @@ pub mod ToldIn
 pub mod Logging
 pub mod ToldTicks
 pub mod ToldPay
+pub mod SeatTimes
+pub mod Waiting
+pub mod Bare
+pub mod Turning
+pub mod Seatings
+pub mod Later
+pub mod Leaping
+pub mod Leapt

@@ -25,7 +25,7 @@ made_fit cpus time Release t fits short home = record { number = refl; short = s
 made_fit cpus time End t fits short home = same_fit cpus t (after_change time End t) (ended_same time t) short home
 made_fit cpus time Depart t fits short home = record { number = refl; short = short; home = home }
 
-place_fit : (cpus : ℕ) (queue : RunQueue) (tasks : List Task) (p time : ℕ) (change : Change) (d : Task) → p < length tasks → Fits cpus change → IsCounted cpus queue tasks → IsFit cpus (get_or tasks p d) (after_change time change (get_or tasks p d))
+pub place_fit : (cpus : ℕ) (queue : RunQueue) (tasks : List Task) (p time : ℕ) (change : Change) (d : Task) → p < length tasks → Fits cpus change → IsCounted cpus queue tasks → IsFit cpus (get_or tasks p d) (after_change time change (get_or tasks p d))
 place_fit cpus queue tasks p time change d h fits is = made_fit cpus time change (get_or tasks p d) fits (is.roster.short p d h) (home_at cpus queue tasks p d h is)
 
 -- ---- the task at a place

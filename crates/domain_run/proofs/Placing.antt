@@ -150,7 +150,7 @@ placed_tasks time cpus d tasks places sound is = record {
 pub stands_at : (n : ℕ) (places : Places) → Any (λ o. is_task n o ≡ true) places → (cpu : ℕ) × (occupant places cpu ≡ Some n)
 stands_at n places (k, o, within, same, test) = (k, get_or_default places k None o within ∙ same ∙ task_there n o test)
 
-one_index : (tasks : List Task) (i j : ℕ) (t u : Task) → AllPairs (λ a b. a.number ≢ b.number) tasks → i < length tasks → j < length tasks → (get_or tasks i t).number ≡ (get_or tasks j t).number → i ≡ j
+pub one_index : (tasks : List Task) (i j : ℕ) (t u : Task) → AllPairs (λ a b. a.number ≢ b.number) tasks → i < length tasks → j < length tasks → (get_or tasks i t).number ≡ (get_or tasks j t).number → i ≡ j
 one_index tasks i j t u numbered h k e =
     elim (cases_lt i j) [
       | inl less ↦ absurd (numbered i j t less k e)

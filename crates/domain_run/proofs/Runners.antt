@@ -1,5 +1,5 @@
 -- The tasks that run in the middle of a tick.
-use Rattle.std.proofs.Common.{◌≡◌, ℕ, zero, suc, ◌*◌, ◌^◌, ◌<◌, ◌≤◌, eqb, Some, None, [], ◌∷◌, length, refl, sym, ap, subst, ◌∙◌, arith, List}
+use Rattle.std.proofs.Common.{◌≡◌, ℕ, zero, suc, ◌*◌, ◌^◌, ◌<◌, ◌≤◌, eqb, Option, Some, None, [], ◌∷◌, length, refl, sym, ap, subst, ◌∙◌, arith, List}
 use Rattle.std.specs.Prelude.{pos, ◌<ℤ◌, ◌≤ℤ◌, Any, IsTrue, find, slice_get, option_map}
 use Rattle.std.proofs.Math.Nat.{mul-le-mul}
 use Rattle.attr_check.specs.Ratio.{cap}
@@ -7,6 +7,7 @@ use Rattle.grub_rules.specs.Sums.{uinact}
 use Rattle.grub_rules.proofs.CallerLemmas.{uinact-le-total_bw}
 use Rattle.edf_pick.specs.Places.{Places}
 use Rattle.domain_run.specs.declared.task.Task.{Task}
+use Rattle.domain_run.specs.declared.running.Running.{Running}
 use Rattle.domain_run.specs.declared.task.Condition.{Condition}
 use Rattle.domain_run.specs.declared.task.Condition.TheVariants.{Ready, Throttled, Blocked, Waiting, Leaving}
 use Rattle.domain_run.specs.Conditions.{is_ready, is_contending}
@@ -37,7 +38,7 @@ pub record IsRunner (e : Domain) (n : ℕ) : Type 0 where
   pub lifted : pos 0 <ℤ task.server.left
   pub high : task.server.left ≤ℤ pos (2 ^ 52)
 
-contends : (c : Condition) → IsTrue (is_ready c) → IsTrue (is_contending c)
+pub contends : (c : Condition) → IsTrue (is_ready c) → IsTrue (is_contending c)
 contends Ready h = refl
 contends Throttled h = refl
 contends (Blocked u) h = absurd cc
@@ -68,48 +69,37 @@ inactive_short {e} cpu steady =
     let most : cap e.cpus e.limit ≤ 64 * 1048576 = mul-le-mul steady.cpus.1 steady.limit.1 in
     omega (arith, uinact-le-total_bw cpu (shares e.tasks), steady.within, most)
 
--- the i-th running task, as it was found
-pub record IsRunning (e : Domain) (i : ℕ) (t : Task) : Type 0 where
-  pub is : running e i ≡ Some (running_of e t)
+-- what was found is the i-th running task
+pub record IsRunningAs (e : Domain) (i : ℕ) (o : Option Running) : Type 0 where
+  pub runner : Running
+  pub is : o ≡ Some runner
+  pub same : running e i ≡ o
   pub there : i < length (running_numbers e.curr)
-  pub home : t.cpu < e.cpus
-  pub busy : 0 < t.work
-  pub lifted : pos 0 <ℤ t.server.left
-  pub high : t.server.left ≤ℤ pos (2 ^ 52)
+  pub busy : 0 < runner.work
+  pub lifted : pos 0 <ℤ runner.left
+  pub short : runner.uinact ≤ 2 ^ 26
+  pub high : runner.left ≤ℤ pos (2 ^ 52)
 
-pub found_running : (e : Domain) (i n : ℕ) (t : Task) → IsSteady e → IsPlacement e → Some n ≡ slice_get (running_numbers e.curr) i → Some t ≡ find (λ u. eqb u.number n) e.tasks → IsRunning e i t
-found_running e i n t steady placed at found =
-    let r = runner e i n steady placed (sym at) in
-    let same : r.task ≡ t = same_Some r.task t (sym r.found ∙ sym found) in
+-- where a domain is known as what was begun with, and its running numbers as what is kept of them
+pub runner_now : {e d : Domain} {held : List ℕ} {i n : ℕ} {o : Option Running} → e ≡ d → IsSteady e → IsPlacement d
+    → held ≡ running_numbers e.curr → Some n ≡ slice_get held i → o ≡ option_map (running_of e) (find (λ u. eqb u.number n) e.tasks)
+    → IsRunningAs e i o
+runner_now {e} {d} {held} {i} {n} {o} same steady placed kept at found =
+    let here : Some n ≡ slice_get (running_numbers e.curr) i = subst (λ (ns : List ℕ). Some n ≡ slice_get ns i) kept at in
+    let r = runner e i n steady (subst IsPlacement (sym same) placed) (sym here) in
     record {
-      is = ap (running_if e) (sym at) ∙ ap (option_map (running_of e)) (sym found);
-      there = slice_get_within (running_numbers e.curr) i n (sym at);
-      home = subst (λ (x : Task). x.cpu < e.cpus) same r.home;
-      busy = subst (λ (x : Task). 0 < x.work) same r.busy;
-      lifted = subst (λ (x : Task). pos 0 <ℤ x.server.left) same r.lifted;
-      high = subst (λ (x : Task). x.server.left ≤ℤ pos (2 ^ 52)) same r.high;
+      runner = running_of e r.task;
+      is = found ∙ ap (option_map (running_of e)) r.found;
+      same = ap (running_if e) (sym here) ∙ sym found;
+      there = slice_get_within (running_numbers e.curr) i n (sym here);
+      busy = r.busy;
+      lifted = r.lifted;
+      short = inactive_short r.task.cpu steady;
+      high = r.high;
     }
-
--- the same where a domain is known as what was begun with, and its running numbers as what is kept of them
-pub found_now : {e d : Domain} {held : List ℕ} {i n : ℕ} {t : Task} → e ≡ d → IsSteady e → IsPlacement d
-    → held ≡ running_numbers e.curr → Some n ≡ slice_get held i → Some t ≡ find (λ u. eqb u.number n) e.tasks
-    → IsRunning e i t
-found_now {e} {d} {held} {i} {n} {t} same steady placed kept at found =
-    found_running e i n t steady (subst IsPlacement (sym same) placed) (subst (λ (ns : List ℕ). Some n ≡ slice_get ns i) kept at) found
-
-pub never_lost : (e : Domain) (i n : ℕ) → IsSteady e → IsPlacement e → Some n ≡ slice_get (running_numbers e.curr) i → None ≡ find (λ u. eqb u.number n) e.tasks → ⊥
-never_lost e i n steady placed at lost =
-    let r = runner e i n steady placed (sym at) in
-    let no : None ≡ Some r.task = lost ∙ r.found in
-    absurd cc
 
 pub standing_short : (e : Domain) → IsSteady e → length (running_numbers e.curr) ≤ 64
 standing_short e steady = omega (arith, standing_few e.curr, steady.wide, steady.cpus.1)
 
 pub few_now : {e d : Domain} → e ≡ d → IsSteady e → length (running_numbers d.curr) ≤ 64
 few_now {e} {d} same steady = subst (λ (x : Domain). length (running_numbers x.curr) ≤ 64) same (standing_short e steady)
-
-pub lost_now : {e d : Domain} {held : List ℕ} {n : ℕ} → (i : ℕ) → e ≡ d → IsSteady e → IsPlacement d
-    → held ≡ running_numbers e.curr → Some n ≡ slice_get held i → None ≡ find (λ u. eqb u.number n) e.tasks → ⊥
-lost_now {e} {d} {held} {n} i same steady placed kept at lost =
-    never_lost e i n steady (subst IsPlacement (sym same) placed) (subst (λ (ns : List ℕ). Some n ≡ slice_get ns i) kept at) lost

@@ -7,3 +7,6 @@ pub mod Roster
 pub mod Telling
 pub mod Progress
 pub mod Tournament
+pub mod Seats
+pub mod Waiting
+pub mod Moves

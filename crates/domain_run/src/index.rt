@@ -2,8 +2,7 @@
 //! last noted, and looks there first; a place that is not right any more costs a walk, and nothing
 //! else.
 
-ghost use Rattle.std.specs.Prelude.{◌≡◌, ◌≢◌, ◌==◌, AllPairs, IfOk, IfSome, IfNone, find, option_copied, vec_capacity, ◌&&◌, not};
-ghost use Rattle.domain_run.specs.Conditions.{is_leaving};
+ghost use Rattle.std.specs.Prelude.{◌≡◌, IfOk, IfSome, IfNone, vec_capacity};
 ghost use Rattle.domain_run.specs.private.Index.{IsAt, IsAbsent};
 
 use crate::task::Task;
@@ -75,31 +74,5 @@ impl Index {
             return Some(place);
         }
         tasks.iter().position(|task| task.number == number)
-    }
-
-    /// The task of a number, where it is listed.
-    pub(crate) fn find<'a>(&self, tasks: &'a [Task], number: u32) -> Option<&'a Task>
-        requires { AllPairs (λ a b. a.number ≢ b.number) tasks.now }
-        ensures { option_copied result ≡ find (λ t. t.number == number) tasks.now }
-    {
-        match self.place(tasks, number) {
-            None => None,
-            Some(place) => Some(&tasks[place]),
-        }
-    }
-
-    /// The task of a number, where it is listed and has not ended.
-    pub(crate) fn live<'a>(&self, tasks: &'a [Task], number: u32) -> Option<&'a Task>
-        requires { AllPairs (λ a b. a.number ≢ b.number) tasks.now }
-        ensures { option_copied result
-            ≡ find (λ t. t.number == number && not (is_leaving t.condition)) tasks.now }
-    {
-        let Some(task) = self.find(tasks, number) else {
-            return None;
-        };
-        if task.condition.is_leaving() {
-            return None;
-        }
-        Some(task)
     }
 }

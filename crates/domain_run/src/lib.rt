@@ -22,6 +22,7 @@ mod roster;
 mod run_queue;
 mod running;
 mod script;
+mod seats;
 mod standing;
 mod state;
 mod sweep;
@@ -29,6 +30,7 @@ mod switch;
 mod task;
 mod telling;
 mod timers;
+mod to_event;
 mod tournament;
 
 pub use call::{Call, Refused, Reply};

@@ -92,7 +92,7 @@ fn cpu_of(number: u32, places: &[Option<u32>], roster: &Roster) -> Option<usize>
     let Some(place) = roster.place(number) else {
         return cpu_among(number, places);
     };
-    let cpu = roster.at(place).cpu;
+    let cpu = roster.cpu_at(place);
     if stands_on(number, places, cpu) {
         Some(cpu)
     } else {

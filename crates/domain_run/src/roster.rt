@@ -1,8 +1,11 @@
 //! The listed tasks of a domain, with what is kept of them beside their list: the run queue, and
-//! where each number is. A task of the list changes at one place, [`Roster::turn`], which tells the
-//! run queue.
+//! where each number is, and who sits on which CPU. A task of the list changes at one place,
+//! [`Roster::turn`], which tells the run queue.
+//!
+//! A task that sits is not charged tick by tick. What callers see is the list with each task charged
+//! up to now, whatever is still owed in it.
 
-ghost use Rattle.std.specs.Prelude.{◌≡◌, ◌≢◌, ◌==◌, ◌<◌, ◌≤◌, ◌^◌, ◌-◌, ◌&&◌, ◌++◌, ◌∷◌, [], not, min, All, AllPairs, IfOk, IfSome, IfNone, false, find, map, filter, length, option_copied, slice_index_or};
+ghost use Rattle.std.specs.Prelude.{◌≡◌, ◌≢◌, ◌==◌, ◌<◌, ◌≤◌, ◌^◌, ◌-◌, ◌&&◌, ◌++◌, ◌∷◌, [], not, min, All, AllPairs, IfOk, IfSome, IfNone, false, find, map, filter, length, option_map, None, replicate, slice_get, slice_index_or};
 ghost use Rattle.domain_run.specs.declared.task.Task.{Task};
 ghost use Rattle.domain_run.specs.Conditions.{is_ready, is_leaving};
 ghost use Rattle.domain_run.specs.Parts.{is_listed};
@@ -10,18 +13,25 @@ ghost use Rattle.domain_run.specs.Sound.{IsSound};
 ghost use Rattle.domain_run.specs.Tick as tick;
 ghost use Rattle.domain_run.specs.Calls.{of_number, is_other};
 ghost use Rattle.domain_run.specs.private.Index.{IsAt, IsAbsent};
-ghost use Rattle.domain_run.specs.private.Roster.{after_change, MayMake, Fits};
+ghost use Rattle.domain_run.specs.Views.{view_of};
+ghost use Rattle.domain_run.specs.private.Roster.{after_change, MayMake, Fits, IsSeenAs, runner_in};
+ghost use Rattle.domain_run.specs.private.Waiting.{left_of, seat_of};
 ghost use Rattle.domain_run.specs.private.Timers.{IsStep, AreNotDue, due_of, least};
 ghost use Rattle.edf_pick.specs.Order.{ordered};
 ghost use Rattle.grub_rules.specs.Sums as sums;
 
+mod lending;
 mod listing;
+mod passing;
+mod seating;
 mod turning;
 
 use crate::change::Change;
 use crate::index::Index;
 use crate::run_queue::RunQueue;
-use crate::task::Task;
+use crate::running::Running;
+use crate::seats::Seats;
+use crate::task::{Task, TaskView};
 use edf_pick::Queue;
 use no_memory::NoMemory;
 use std::alloc::Global;
@@ -30,7 +40,9 @@ use std::marker::Model;
 /// The listed tasks of a domain in the order of their admission, at most 256.
 #[derive(Drop)]
 pub(crate) struct Roster {
+    // Those that sit have not been charged since their seats say.
     tasks: Vec<Task>,
+    seats: Seats,
     // The running sums of the listed tasks, the ready ones in order, and when each is due.
     queue: RunQueue,
     // Where the tasks of the list are, by their numbers.
@@ -40,31 +52,43 @@ pub(crate) struct Roster {
 impl Model for Roster {
     ghost use Rattle.std.specs.Prelude.{length, vec_capacity};
     ghost use Rattle.domain_run.specs.private.Roster.{RosterView, IsKept};
+    ghost use Rattle.domain_run.specs.private.Waiting.{owed_all};
 
     ghost Value = { RosterView };
 
-    ghost view = { λ r. record { cpus = length r.queue.accounts.all; tasks = r.tasks.items } };
+    ghost view = { λ r. record {
+      cpus = length r.queue.accounts.all;
+      clock = r.seats.upto;
+      seats = r.seats.seats;
+      tasks = owed_all r.seats r.tasks.items;
+    } };
 
-    ghost invariant = { λ r. IsKept r.queue r.tasks.items (vec_capacity r.tasks) };
+    ghost invariant = { λ r. IsKept r.queue r.seats r.tasks.items (vec_capacity r.tasks) };
 }
 
 impl Roster {
     /// Of no tasks, with room for 256. No other call takes memory.
     pub(crate) fn open(alloc: Global, cpus: usize) -> Result<Roster, NoMemory>
-        ensures { IfOk result (λ roster. roster ≡ record { cpus = cpus; tasks = [] }) }
+        requires { cpus ≤ 64 }
+        ensures { IfOk result (λ roster. roster
+            ≡ record { cpus = cpus; clock = 0; seats = replicate cpus None; tasks = [] }) }
     {
         Ok(Roster {
             tasks: Vec::with_capacity(alloc, 256)?,
+            seats: Seats::open(alloc, cpus)?,
             queue: RunQueue::open(alloc, cpus)?,
             index: Index::open(alloc)?,
         })
     }
 
-    /// The listed tasks.
-    pub(crate) fn tasks(&self) -> &[Task]
-        ensures tasks { result.now ≡ self.now.tasks }
+    /// The number of the task at a place of the list; none behind its end.
+    pub(crate) fn number_at(&self, place: usize) -> Option<u32>
+        ensures { result ≡ option_map (λ t. t.number) (slice_get self.now.tasks place) }
     {
-        &self.tasks
+        match self.tasks.get(place) {
+            None => None,
+            Some(task) => Some(task.number),
+        }
     }
 
     /// How many they are.
@@ -75,9 +99,20 @@ impl Roster {
         self.tasks.len()
     }
 
-    /// The task at a place. It belongs to a CPU of the domain.
-    pub(crate) fn at(&self, place: usize) -> &Task
+    /// The CPU to which the task at a place belongs.
+    pub(crate) fn cpu_at(&self, place: usize) -> usize
         requires { place < length self.now.tasks }
+        ensures cpu { (d : Task) → result ≡ (slice_index_or self.now.tasks place d).cpu }
+        ensures home { result < self.now.cpus }
+    {
+        self.tasks[place].cpu
+    }
+
+    /// The task at a place, where it does not sit. It belongs to a CPU of the domain.
+    pub(crate) fn at(&self, place: usize) -> &Task
+        requires there { place < length self.now.tasks }
+        requires free { (d : Task)
+            → seat_of self.now.seats (slice_index_or self.now.tasks place d) ≡ None }
         ensures task { (d : Task) → result.now ≡ slice_index_or self.now.tasks place d }
         ensures home { result.now.cpu < self.now.cpus }
     {
@@ -93,19 +128,60 @@ impl Roster {
         self.index.place(&self.tasks, number)
     }
 
-    /// The task of a number, where it is listed.
+    /// The task of a number, where it is listed: all of it but for what is left of its budget and
+    /// its work.
     pub(crate) fn find(&self, number: u32) -> Option<&Task>
-        ensures { option_copied result ≡ find (λ t. t.number == number) self.now.tasks }
+        ensures there { IfSome result
+            (λ t. IsSeenAs t.now (find (λ t. t.number == number) self.now.tasks)) }
+        ensures absent { IfNone result (find (λ t. t.number == number) self.now.tasks ≡ None) }
+        ensures numbered { AllPairs (λ a b. a.number ≢ b.number) self.now.tasks }
     {
-        self.index.find(&self.tasks, number)
+        match self.place(number) {
+            None => None,
+            Some(place) => Some(&self.tasks[place]),
+        }
     }
 
-    /// The task of a number, where it is listed and has not ended.
+    /// The task of a number, where it is listed and has not ended: all of it but for what is left
+    /// of its budget and its work.
     pub(crate) fn live(&self, number: u32) -> Option<&Task>
-        ensures { option_copied result
-            ≡ find (λ t. t.number == number && not (is_leaving t.condition)) self.now.tasks }
+        ensures there { IfSome result (λ t. IsSeenAs t.now
+            (find (λ t. t.number == number && not (is_leaving t.condition)) self.now.tasks)) }
+        ensures absent { IfNone result
+            (find (λ t. t.number == number && not (is_leaving t.condition)) self.now.tasks ≡ None) }
     {
-        self.index.live(&self.tasks, number)
+        let Some(task) = self.find(number) else {
+            return None;
+        };
+        if task.condition.is_leaving() {
+            return None;
+        }
+        Some(task)
+    }
+
+    /// What a caller may see of the task of a number, where it is listed.
+    pub(crate) fn view(&self, number: u32) -> Option<TaskView>
+        ensures { result ≡ option_map view_of (find (λ t. t.number == number) self.now.tasks) }
+    {
+        match self.place(number) {
+            None => None,
+            Some(place) => Some(lending::view_at(&self.tasks[place], &self.seats)),
+        }
+    }
+
+    /// The task of a number as a jump sees it, where it is listed.
+    pub(crate) fn runner(&self, number: u32) -> Option<Running>
+        ensures { result ≡ option_map (runner_in self.now.tasks)
+            (find (λ t. t.number == number) self.now.tasks) }
+    {
+        match self.place(number) {
+            None => None,
+            Some(place) => {
+                let task = &self.tasks[place];
+                let uinact = self.uinact(task.cpu);
+                Some(lending::runner_at(task, &self.seats, uinact))
+            }
+        }
     }
 
     /// The bandwidth of all listed tasks, in 1/2^20 of a CPU.
@@ -116,7 +192,7 @@ impl Roster {
     }
 
     /// The bandwidth of the inactive tasks of a CPU, in 1/2^20 of a CPU.
-    pub(crate) fn uinact(&self, cpu: usize) -> u64
+    fn uinact(&self, cpu: usize) -> u64
         requires { cpu < self.now.cpus }
         ensures { result ≡ sums.uinact cpu (tick.shares self.now.tasks) }
     {
@@ -169,8 +245,19 @@ impl Roster {
         ensures cpus { self.new.cpus ≡ self.old.cpus }
         ensures step { IsStep (after_change time change.now) place self.old.tasks self.new.tasks }
         ensures sound { All (IsSound time) self.new.tasks }
+        ensures clock { self.new.clock ≡ self.old.clock }
+        ensures seats { (d : Task) → self.new.seats
+            ≡ left_of (slice_index_or self.new.tasks place d)
+            (left_of (slice_index_or self.old.tasks place d) self.old.seats) }
     {
-        turning::turn_task(&mut self.tasks, &mut self.queue, place, time, change);
+        turning::turn_task(
+            &mut self.tasks,
+            &mut self.queue,
+            &mut self.seats,
+            place,
+            time,
+            change,
+        );
     }
 
     /// Changes the task of a number, where it is listed.
@@ -199,6 +286,7 @@ impl Roster {
         ensures tasks { self.new.tasks ≡ self.old.tasks ++ task ∷ [] }
     {
         self.index.note(task.number, self.tasks.len());
+        self.seats.leave(task.cpu, task.number);
         listing::push_task(&mut self.tasks, &mut self.queue, task);
     }
 

@@ -1,6 +1,7 @@
 //! Who runs in the middle of a tick.
 
-ghost use Rattle.std.specs.Prelude.{◌≡◌, slice_get};
+ghost use Rattle.std.specs.Prelude.{◌≡◌, ◌≤◌, true, false, length, slice_get, vec_capacity};
+ghost use Rattle.domain_run.specs.Jump.{running_numbers};
 
 use crate::task::Task;
 use attr_check::Params;
@@ -18,8 +19,7 @@ pub struct Running {
     pub work: u64,
 }
 
-/// The i-th of those who stand on the CPUs.
-pub(crate) fn standing_at(running: &[u32], i: usize) -> Option<u32>
+fn listed_at(running: &[u32], i: usize) -> Option<u32>
     ensures { result ≡ slice_get running.now i }
 {
     match running.get(i) {
@@ -28,21 +28,67 @@ pub(crate) fn standing_at(running: &[u32], i: usize) -> Option<u32>
     }
 }
 
-/// A running task as a jump sees it.
-pub(crate) fn running_of(task: &Task, uinact: u64) -> Running
-    ensures { result ≡ record {
-      number = task.now.number;
-      params = task.now.params;
-      uinact = uinact;
-      left = task.now.server.left;
-      work = task.now.work;
-    } }
+/// The i-th of those who stand on the CPUs, found by a walk.
+fn found_at(places: &[Option<u32>], i: usize) -> Option<u32>
+    ensures { result ≡ slice_get (running_numbers places.now) i }
 {
-    Running {
-        number: task.number,
-        params: task.params,
-        uinact,
-        left: task.server.left,
-        work: task.work,
+    let mut left = i;
+    for cpu in 0..places.len() {
+        if let Some(number) = places[cpu] {
+            if left == 0 {
+                return Some(number);
+            }
+            left -= 1;
+        }
     }
+    None
+}
+
+/// The i-th of those who stand on the CPUs, where they are listed or are not.
+pub(crate) fn standing_at(
+    running: &[u32],
+    is_listed: bool,
+    places: &[Option<u32>],
+    i: usize,
+) -> Option<u32>
+    requires { is_listed ≡ true → running.now ≡ running_numbers places.now }
+    ensures { result ≡ slice_get (running_numbers places.now) i }
+{
+    if !is_listed {
+        return found_at(places, i);
+    }
+    listed_at(running, i)
+}
+
+/// Who stands on the CPUs, one after another.
+fn list_running(running: &mut Vec<u32>, places: &[Option<u32>])
+    requires room { length places.now ≤ vec_capacity running.old }
+    ensures running { running.new.items ≡ running_numbers places.now }
+    ensures room { vec_capacity running.new ≡ vec_capacity running.old }
+{
+    running.clear();
+    for occupant in places {
+        if let Some(number) = occupant {
+            running.push_reserved(*number);
+        }
+    }
+}
+
+/// Who stands on the CPUs is listed, where they are not.
+pub(crate) fn relist(running: &mut Vec<u32>, is_listed: bool, places: &[Option<u32>])
+    requires room { length places.now ≤ vec_capacity running.old }
+    requires listed { is_listed ≡ true → running.old.items ≡ running_numbers places.now }
+    ensures running { running.new.items ≡ running_numbers places.now }
+    ensures room { vec_capacity running.new ≡ vec_capacity running.old }
+{
+    if !is_listed {
+        list_running(running, places);
+    }
+}
+
+/// Whether they are still listed.
+pub(crate) fn are_still_listed(is_listed: bool, changed: bool) -> bool
+    ensures { result ≡ true → (is_listed ≡ true) × (changed ≡ false) }
+{
+    is_listed && !changed
 }

@@ -14,6 +14,7 @@ ghost use Rattle.attr_check.specs.Ratio.{cap};
 mod calls;
 mod cutting;
 mod jumps;
+mod leaping;
 mod lending;
 mod machine;
 mod passing;
@@ -26,7 +27,7 @@ use crate::numbers::Numbers;
 use crate::roster::Roster;
 use crate::script::Script;
 use crate::switch::Switch;
-use crate::task::{TaskView, view_of};
+use crate::task::TaskView;
 use attr_check::Params;
 use edf_pick::Placement;
 use no_memory::NoMemory;
@@ -44,8 +45,9 @@ pub struct State {
     // Who runs on each CPU.
     curr: Placement,
     switches: Vec<Switch>,
-    // Who stands on the CPUs, one after another.
+    // Who stands on the CPUs, one after another, where that is listed: a leap needs no list.
     running: Vec<u32>,
+    is_listed: bool,
     // Room for a tick; between two ticks it means nothing.
     before: Vec<Option<u32>>,
 }
@@ -79,7 +81,7 @@ impl Model for State {
               s.curr;
           switches =
               s.switches.items;
-        }) s.roster.cpus s.running.items (vec_len s.before) (vec_capacity s.before)
+        }) s.roster.cpus s.is_listed s.running.items (vec_len s.before) (vec_capacity s.before)
         (vec_capacity s.running) };
 }
 
@@ -114,6 +116,7 @@ impl State {
             curr: Placement::open(alloc, cpus)?,
             switches: Vec::new(alloc),
             running: Vec::with_capacity(alloc, cpus)?,
+            is_listed: true,
             before: nobody(alloc, cpus)?,
         })
     }
@@ -156,10 +159,7 @@ impl State {
     pub fn view(&self, number: u32) -> Option<TaskView>
         ensures { result ≡ view_in self.now number }
     {
-        match self.roster.find(number) {
-            None => None,
-            Some(task) => Some(view_of(task)),
-        }
+        self.roster.view(number)
     }
 }
 

@@ -1,6 +1,6 @@
 //! The parts of a tick, on all tasks of a domain.
 
-ghost use Rattle.std.specs.Prelude.{IsTrue, ◌≡◌, ◌≢◌, ◌<◌, ◌≤◌, ◌^◌, ◌+◌, ◌*◌, map, All, AllPairs, ◌++◌, length, slice_index_or, vec_len, vec_capacity};
+ghost use Rattle.std.specs.Prelude.{IsTrue, ◌≡◌, ◌≢◌, ◌<◌, ◌≤◌, ◌^◌, ◌+◌, ◌*◌, map, All, AllPairs, ◌++◌, ◌∷◌, [], false, length, slice_index_or, vec_len, vec_capacity};
 ghost use Rattle.std.specs.List.{flat_map};
 ghost use Rattle.domain_run.specs.declared.task.Task.{Task};
 ghost use Rattle.domain_run.specs.Calls.{of_number};
@@ -11,11 +11,11 @@ ghost use Rattle.domain_run.specs.Sound.{IsSound, IsApart};
 ghost use Rattle.domain_run.specs.Switches as switches_spec;
 ghost use Rattle.domain_run.specs.Tick as tick_spec;
 ghost use Rattle.domain_run.specs.private.Paying.{MayPayIf, paid};
+ghost use Rattle.domain_run.specs.private.Moves.{AreUnchanged, HasChanged, switch_at};
 ghost use Rattle.domain_run.specs.private.Roster.{after_change, homed_here, IsPart, Fits, MayMake};
 ghost use Rattle.domain_run.specs.private.Timers.{IsStep};
 ghost use Rattle.domain_run.specs.private.Telling as telling_spec;
 ghost use Rattle.domain_run.specs.private.RunQueue.{AreHomed};
-ghost use Rattle.domain_run.specs.Jump as jump;
 
 use crate::change::Change;
 use crate::log::Log;
@@ -46,6 +46,9 @@ fn turn(roster: &mut Roster, place: usize, time: u64, change: &Change, log: &mut
         roster.turn(place, time, change);
         return;
     }
+    // It is charged what it owes before it is looked at.
+    let cpu = roster.cpu_at(place);
+    roster.vacate(cpu);
     let before = telling::look(roster.at(place), time, change);
     roster.turn(place, time, change);
     let told = telling::seen_behind(time, change, before, roster.at(place));
@@ -132,30 +135,6 @@ fn home_at(roster: &mut Roster, occupant: Option<u32>, cpu: usize, time: u64)
     }
 }
 
-fn is_same(prev: Option<u32>, next: Option<u32>) -> bool
-    ensures { IsTrue result → prev ≡ next }
-{
-    prev == next
-}
-
-/// Part 4: a placed task belongs to its CPU. One that stands where it stood does already.
-fn home_all(roster: &mut Roster, before: &[Option<u32>], places: &[Option<u32>], time: u64)
-    requires same { length before.now ≡ length places.now }
-    requires stood { IsApart before.now }
-    requires apart { IsApart places.now }
-    requires wide { length places.now ≡ roster.old.cpus }
-    requires sound { All (IsSound time) roster.old.tasks }
-    requires homed { AreHomed before.now roster.old.tasks }
-    ensures cpus { roster.new.cpus ≡ roster.old.cpus }
-    ensures tasks { roster.new.tasks ≡ map (parts_spec.with_last_cpu places.now) roster.old.tasks }
-{
-    for cpu in 0..places.len() {
-        if !is_same(before[cpu], places[cpu]) {
-            home_at(roster, places[cpu], cpu, time);
-        }
-    }
-}
-
 /// Part 5: the state in which an occupant leaves its CPU.
 fn state_of(roster: &Roster, occupant: Option<u32>) -> PrevState
     ensures { result ≡ switches_spec.state_of roster.now.tasks occupant }
@@ -169,35 +148,100 @@ fn state_of(roster: &Roster, occupant: Option<u32>) -> PrevState
     }
 }
 
-/// Part 5: a switch for each CPU whose occupant differs.
-fn add_switches(
+/// Whether the same occupant stands there, if anyone does.
+#[inline(always)]
+fn is_same(prev: Option<u32>, next: Option<u32>) -> bool
+    ensures { result ≡ switches_spec.same_occupant prev next }
+{
+    match (prev, next) {
+        (None, None) => true,
+        (Some(m), Some(n)) => m == n,
+        _ => false,
+    }
+}
+
+/// The first CPU, from this one on, whose occupant differs; where there is none, how many CPUs
+/// there are.
+fn next_changed(before: &[Option<u32>], after: &[Option<u32>], from: usize) -> usize
+    requires same { length before.now ≡ length after.now }
+    requires from { from ≤ length after.now }
+    ensures from { from ≤ result }
+    ensures most { result ≤ length after.now }
+    ensures others { AreUnchanged before.now after.now from result }
+    ensures changed { result < length after.now → HasChanged before.now after.now result }
+{
+    let mut cpu = from;
+    while cpu < after.len() && is_same(before[cpu], after[cpu]) {
+        cpu += 1;
+    }
+    cpu
+}
+
+/// Parts 4 and 5 on a CPU whose occupant differs: a switch is added, and who stands there now
+/// belongs to it.
+#[inline(never)]
+fn move_at(
     switches: &mut Vec<Switch>,
     time: u64,
-    roster: &Roster,
-    before: &[Option<u32>],
-    after: &[Option<u32>],
+    roster: &mut Roster,
+    cpu: usize,
+    prev: Option<u32>,
+    next: Option<u32>,
 )
-    requires few { length before.now ≤ 64 }
-    requires same { length after.now ≡ length before.now }
-    requires room { vec_len switches.old + length before.now ≤ vec_capacity switches.old }
-    ensures switches { switches.new.items
-        ≡ switches.old.items
-        ++ switches_spec.switches_from time roster.now.tasks 0 before.now after.now }
+    requires fits { cpu < roster.old.cpus }
+    requires narrow { roster.old.cpus ≤ 64 }
+    requires room { vec_len switches.old < vec_capacity switches.old }
+    requires sound { All (IsSound time) roster.old.tasks }
+    ensures cpus { roster.new.cpus ≡ roster.old.cpus }
+    ensures tasks { roster.new.tasks ≡ map (homed_here next cpu) roster.old.tasks }
+    ensures sound { All (IsSound time) roster.new.tasks }
+    ensures switches { switches.new.items ≡ switches.old.items
+        ++ switch_at time roster.old.tasks cpu prev next ∷ [] }
+    ensures len { vec_len switches.new ≡ vec_len switches.old + 1 }
     ensures room { vec_capacity switches.new ≡ vec_capacity switches.old }
 {
-    for cpu in 0..before.len() {
-        let prev = before[cpu];
-        let next = after[cpu];
-        if prev != next {
-            switches.push_reserved(Switch {
-                time,
-                prev,
-                next,
-                cpu: cpu as u16,
-                state: state_of(roster, prev),
-            });
-        }
+    switches.push_reserved(Switch {
+        time,
+        prev,
+        next,
+        cpu: cpu as u16,
+        state: state_of(roster, prev),
+    });
+    home_at(roster, next, cpu, time);
+}
+
+/// Parts 4 and 5: a placed task belongs to its CPU, and there is a switch for each CPU whose
+/// occupant differs. It goes from one of these to the next: a task that stands where it stood
+/// belongs to its CPU already. Whether there are any.
+fn move_all(
+    switches: &mut Vec<Switch>,
+    time: u64,
+    roster: &mut Roster,
+    before: &[Option<u32>],
+    places: &[Option<u32>],
+) -> bool
+    requires narrow { roster.old.cpus ≤ 64 }
+    requires same { length before.now ≡ length places.now }
+    requires stood { IsApart before.now }
+    requires apart { IsApart places.now }
+    requires wide { length places.now ≡ roster.old.cpus }
+    requires sound { All (IsSound time) roster.old.tasks }
+    requires homed { AreHomed before.now roster.old.tasks }
+    requires room { vec_len switches.old + length before.now ≤ vec_capacity switches.old }
+    ensures cpus { roster.new.cpus ≡ roster.old.cpus }
+    ensures tasks { roster.new.tasks ≡ map (parts_spec.with_last_cpu places.now) roster.old.tasks }
+    ensures switches { switches.new.items ≡ switches.old.items
+        ++ switches_spec.switches_from time roster.old.tasks 0 before.now places.now }
+    ensures room { vec_capacity switches.new ≡ vec_capacity switches.old }
+    ensures none { result ≡ false → before.now ≡ places.now }
+{
+    let first = next_changed(before, places, 0);
+    let mut cpu = first;
+    while cpu < places.len() {
+        move_at(switches, time, roster, cpu, before[cpu], places[cpu]);
+        cpu = next_changed(before, places, cpu + 1);
     }
+    first < places.len()
 }
 
 fn copy_places(before: &mut Vec<Option<u32>>, places: &[Option<u32>])
@@ -209,34 +253,19 @@ fn copy_places(before: &mut Vec<Option<u32>>, places: &[Option<u32>])
     before.copy_from_slice(places);
 }
 
-/// Who stands on the CPUs, one after another.
-fn list_running(running: &mut Vec<u32>, places: &[Option<u32>])
-    requires room { length places.now ≤ vec_capacity running.old }
-    ensures running { running.new.items ≡ jump.running_numbers places.now }
-    ensures room { vec_capacity running.new ≡ vec_capacity running.old }
-{
-    running.clear();
-    for occupant in places {
-        if let Some(number) = occupant {
-            running.push_reserved(*number);
-        }
-    }
-}
-
 /// Parts 1 to 5: replenishment, zero-lag times, wake-ups, placement and the switches. The log is
-/// told what happens to the tasks, on the CPUs to which they belong then. `before` is room.
+/// told what happens to the tasks, on the CPUs to which they belong then. `before` is room. Whether a
+/// CPU may have another occupant.
 pub(crate) fn begin(
     time: u64,
     roster: &mut Roster,
     places: &mut Placement,
-    running: &mut Vec<u32>,
     switches: &mut Vec<Switch>,
     before: &mut Vec<Option<u32>>,
     log: &mut Log,
-)
+) -> bool
     requires narrow { roster.old.cpus ≤ 64 }
     requires log { HasRoom (9 * length roster.old.tasks) log.old }
-    requires runners { length places.old ≤ vec_capacity running.old }
     requires early { time < 2 ^ 42 }
     requires sound { All (IsSound time) roster.old.tasks }
     requires cpus { length places.old ≡ roster.old.cpus }
@@ -257,8 +286,7 @@ pub(crate) fn begin(
         (tick_spec.prepared time roster.old.tasks) 0 places.old places.new }
     ensures before_len { vec_len before.new ≡ vec_len before.old }
     ensures before_room { vec_capacity before.new ≡ vec_capacity before.old }
-    ensures running { running.new.items ≡ jump.running_numbers places.new }
-    ensures runners { vec_capacity running.new ≡ vec_capacity running.old }
+    ensures none { result ≡ false → places.new ≡ places.old }
     ensures told { Tells log.old (telling_spec.told_at_home places.new time roster.old.tasks) log.new }
     ensures log { log.old.room ≤ log.new.room + 9 * length roster.old.tasks }
 {
@@ -266,10 +294,9 @@ pub(crate) fn begin(
     wake_all(roster, time, log);
     copy_places(before, places.occupants());
     edf_pick::pick(places, roster.ready());
-    list_running(running, places.occupants());
-    add_switches(switches, time, roster, before, places.occupants());
-    home_all(roster, before, places.occupants(), time);
+    let changed = move_all(switches, time, roster, before, places.occupants());
     log.go_home(from, places.occupants(), roster);
+    changed
 }
 
 /// Part 6 of so many ticks at once, up to a time: every running task has its budget, and its work

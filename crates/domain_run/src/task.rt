@@ -3,7 +3,6 @@
 ghost use Rattle.std.specs.Prelude.{◌≡◌};
 ghost use Rattle.domain_run.specs.Conditions as conditions;
 ghost use Rattle.domain_run.specs.Jump as jump;
-ghost use Rattle.domain_run.specs.Views as views;
 
 use crate::cursor::Cursor;
 use crate::name::Name;
@@ -103,17 +102,4 @@ pub struct TaskView {
     /// The CPU of the domain to which it belongs, from 0.
     pub cpu: usize,
     pub params: Params,
-}
-
-/// What a caller may see of a task.
-pub(crate) fn view_of(task: &Task) -> TaskView
-    ensures { result ≡ views.view_of task.now }
-{
-    TaskView {
-        server: task.server,
-        condition: task.condition,
-        zero_lag: task.zero_lag,
-        cpu: task.cpu,
-        params: task.params,
-    }
 }

@@ -71,16 +71,16 @@ fn told_if(test: bool, time: u64, task: &Task, what: What) -> Option<Happened>
     })
 }
 
-/// A job of a task that a call cuts.
-pub(crate) fn cut(time: u64, task: &Task) -> Happened
-    requires { task.now.cpu < 2 ^ 16 }
-    ensures { result ≡ spec.told time task.now What.Cut }
+/// The job of a task of a CPU that a call cuts.
+pub(crate) fn cut(time: u64, number: u32, cpu: usize) -> Happened
+    requires { cpu < 2 ^ 16 }
+    ensures { result ≡ record { time = time; what = What.Cut; number = number; cpu = cpu } }
 {
     Happened {
         time,
         what: What::Cut,
-        number: task.number,
-        cpu: task.cpu as u16,
+        number,
+        cpu: cpu as u16,
     }
 }
 

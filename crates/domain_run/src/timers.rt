@@ -50,6 +50,9 @@ impl Timers {
         ensures due { result < length self.now → slice_index_or self.now result 0 ≤ time }
     {
         let count = self.count;
+        if !self.may_be_due(time) {
+            return count;
+        }
         let mut place = from;
         while place < count && self.tournament.get(place) > time {
             place = self.tournament.behind(place, time);

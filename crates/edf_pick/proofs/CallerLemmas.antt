@@ -22,10 +22,10 @@ use Rattle.edf_pick.proofs.Picked.{map_same, rank_place, place_at}
 abbrev pub IsNumbered : List Candidate → Type 0
 IsNumbered xs = AllPairs (λ a b. a.number ≢ b.number) xs
 
-numbered_first : (c : Candidate) (xs : List Candidate) → IsNumbered (c ∷ xs) → All (λ b. c.number ≢ b.number) xs
+pub numbered_first : (c : Candidate) (xs : List Candidate) → IsNumbered (c ∷ xs) → All (λ b. c.number ≢ b.number) xs
 numbered_first c xs numbered k d h = numbered 0 (suc k) d (omega arith) (omega arith)
 
-numbered_rest : (c : Candidate) (xs : List Candidate) → IsNumbered (c ∷ xs) → IsNumbered xs
+pub numbered_rest : (c : Candidate) (xs : List Candidate) → IsNumbered (c ∷ xs) → IsNumbered xs
 numbered_rest c xs numbered i j d h k = numbered (suc i) (suc j) d (omega arith) (omega arith)
 
 -- tasks seen as candidates keep their numbers

@@ -1,5 +1,6 @@
 pub mod Before
 pub mod CallerLemmas
+pub mod Following
 pub mod Marked
 pub mod Picked
 pub mod Rising

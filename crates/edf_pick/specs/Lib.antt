@@ -1,5 +1,6 @@
 pub mod Choice
 pub mod Places
 pub mod Order
+pub mod Changes
 pub mod private
 pub mod Examples

@@ -10,6 +10,7 @@
 #![tactic(auto)]
 
 mod candidate;
+mod changes;
 mod marks;
 mod order;
 mod picking;
@@ -18,6 +19,7 @@ mod queue;
 mod seats;
 
 pub use candidate::Candidate;
+pub use changes::{Changes, Gone};
 pub use placement::{Placement, pick};
 pub use queue::Queue;
 pub use seats::stands;

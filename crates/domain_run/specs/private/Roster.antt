@@ -1,6 +1,6 @@
 -- The list of tasks with what is kept beside it, and what changes one task of it, for the code's
 -- own contracts.
-use Rattle.std.specs.Prelude.{ℕ, ℤ, pos, neg_ℤ, ◌<◌, ◌≤◌, ◌^◌, ◌≤ℤ◌, ◌≡◌, List, length, Option, Some, None, IsTrue}
+use Rattle.std.specs.Prelude.{ℕ, ℤ, pos, neg_ℤ, ◌*◌, ◌<◌, ◌≤◌, ◌^◌, ◌≤ℤ◌, ◌-ℤ◌, ◌≡◌, true, if◌then◌else◌, All, List, length, Option, Some, None, IsTrue}
 use Rattle.domain_run.specs.declared.task.Condition.TheVariants.{Leaving}
 use Rattle.domain_run.specs.declared.task.Task.{Task}
 use Rattle.domain_run.specs.declared.change.Change.{Change}
@@ -13,17 +13,38 @@ use Rattle.domain_run.specs.Calls.{of_number, regraded, released, ended}
 use Rattle.domain_run.specs.private.Paying.{ran_until}
 use Rattle.domain_run.specs.private.RunQueue.{IsCounted, standing_of}
 use Rattle.domain_run.specs.private.Timers.{due_of}
+use Rattle.domain_run.specs.declared.seats.Seat.{Seat}
+use Rattle.domain_run.specs.declared.seats.Basis.{Basis}
+use Rattle.domain_run.specs.declared.running.Running.{Running}
+use Rattle.grub_rules.specs.Sums.{uinact}
+use Rattle.grub_rules.specs.Rate as reclaiming
+use Rattle.domain_run.specs.Tick.{shares, sum_of}
+use Rattle.domain_run.specs.private.Seats.{SeatsView}
+use Rattle.domain_run.specs.private.Waiting.{owed_all, AllWait, runner_of, seat_of, IsRight, Lasts}
+use Rattle.edf_pick.specs.Places.{Places, stands}
+use Rattle.domain_run.specs.Sound.{occupant}
 
--- the listed tasks of a domain of so many CPUs
+-- the listed tasks of a domain of so many CPUs, each charged up to now, and who sits on each CPU
 pub record RosterView : Type 0 where
   pub cpus : ℕ
+  -- the time up to which who sits has run
+  pub clock : ℕ
+  pub seats : List (Option Seat)
   pub tasks : List Task
 
--- what a roster keeps: its run queue counts its list, and the room for 256 tasks that it was opened
--- with, so it takes no more
-pub record IsKept (queue : RunQueue) (tasks : List Task) (capacity : ℕ) : Type 0 where
-  pub counted : IsCounted (length queue.accounts.all) queue tasks
+-- what a roster keeps: its run queue counts its list, each seat has its task's charges, there is a
+-- place for each CPU, and the room for 256 tasks that it was opened with, so it takes no more
+pub record IsKept (queue : RunQueue) (seats : SeatsView) (tasks : List Task) (capacity : ℕ) : Type 0 where
+  pub counted : IsCounted (length queue.accounts.all) queue (owed_all seats tasks)
+  pub waits : AllWait seats.seats tasks
+  pub wide : length seats.seats ≡ length queue.accounts.all
   pub room : capacity ≡ 256
+
+-- a task of the list that is seen but for what is left of its budget and its work
+pub record IsSeenAs (t : Task) (found : Option Task) : Type 0 where
+  pub left : ℤ
+  pub work : ℕ
+  pub is : found ≡ Some (record t { server = record t.server { left = left }; work = work })
 
 -- how a task stands that is to go off the list at once
 abbrev pub quit : Task → Task
@@ -89,3 +110,43 @@ pub record IsPart (time : ℕ) (change : Change) : Type 0 where
 abbrev pub homed_here : Option ℕ → ℕ → Task → Task
 homed_here None cpu t = t
 homed_here (Some number) cpu t = of_number number (with_cpu (Some cpu)) t
+
+-- one of the listed tasks as a jump sees it
+abbrev pub runner_in : List Task → Task → Running
+runner_in tasks t = runner_of (uinact t.cpu (shares tasks)) t
+
+-- the rate of one of the listed tasks, from the sums as they are
+abbrev pub rate_in : ℕ → ℕ → List Task → Task → ℕ
+rate_in cpus limit tasks t =
+    reclaiming.rate t.params (uinact t.cpu (shares tasks)) (sum_of tasks) cpus limit
+
+-- what the rates of the tasks of a CPU depend on
+abbrev pub basis_in : ℕ → ℕ → List Task → ℕ → Basis
+basis_in cpus limit tasks cpu =
+    record {
+      uinact = uinact cpu (shares tasks);
+      sum = sum_of tasks;
+      cpus = cpus;
+      limit = limit;
+    }
+
+-- a task of the list has the seat that those who stand on the CPUs give it
+abbrev pub IsSeated : Places → ℕ → ℕ → List Task → List (Option Seat) → Task → Type 0
+IsSeated places cpus limit tasks seats t =
+    IsRight (occupant places t.cpu) t.number (rate_in cpus limit tasks t) (seat_of seats t)
+
+-- those of the CPUs from one up to another have it
+abbrev pub AreSeatedFrom : Places → RosterView → ℕ → ℕ → ℕ → Type 0
+AreSeatedFrom places r limit from upto =
+    All (λ t. from ≤ t.cpu → t.cpu < upto → IsSeated places r.cpus limit r.tasks r.seats t) r.tasks
+
+-- a task after so many ticks, up to a time: where it stands on a CPU it has run in each
+abbrev pub leapt : ℕ → ℕ → Places → ℕ → ℕ → List Task → Task → Task
+leapt time ticks places cpus limit tasks t =
+    if stands t.number places
+    then ran_until time ticks (t.server.left -ℤ pos (rate_in cpus limit tasks t * ticks)) t else t
+
+-- where it stands neither its work nor its budget ends before the last of them
+abbrev pub LastsIf : ℕ → Places → ℕ → ℕ → List Task → Task → Type 0
+LastsIf ticks places cpus limit tasks t =
+    stands t.number places ≡ true → Lasts ticks (rate_in cpus limit tasks t) t

@@ -1,5 +1,5 @@
 -- What a domain keeps of its tasks beside their list, for the code's own contracts.
-use Rattle.std.specs.Prelude.{ℕ, ◌+◌, ◌-◌, ◌<◌, ◌≤◌, ◌^◌, ◌≡◌, ◌≢◌, ◌⊎◌, false, if◌then◌else◌, List, [], ◌∷◌, length, map, slice_set, All, AllPairs, Option, Some, None, IfSome}
+use Rattle.std.specs.Prelude.{ℕ, ◌+◌, ◌-◌, ◌<◌, ◌≤◌, ◌^◌, ◌≡◌, ◌≢◌, ◌⊎◌, Bool, true, false, if◌then◌else◌, List, [], ◌∷◌, length, map, slice_set, All, AllPairs, Option, Some, None, IfSome}
 use Rattle.grub_rules.specs.Accounts.{AreAccounts, Holds, Exchanges}
 use Rattle.edf_pick.specs.declared.candidate.Candidate.{Candidate}
 use Rattle.edf_pick.specs.Order.{ordered, has_candidate, with_candidate, without_candidate}
@@ -73,14 +73,14 @@ pub record HasTurned (place : ℕ) (before after : Standing) (old new : RunQueue
 abbrev pub AreHomed : Places → List Task → Type 0
 AreHomed places tasks = All (λ t. with_last_cpu places t ≡ t) tasks
 
--- what a state keeps: a domain, whose CPUs its roster has too, who stands on its CPUs, a place for
--- each CPU, and for both lists the room for so many that they were opened with, so they take no more
-pub record IsState (d : Domain) (cpus : ℕ) (running : List ℕ)
+-- what a state keeps: a domain, whose CPUs its roster has too, who stands on its CPUs, where that is
+-- listed, a place for each CPU, and for both lists the room for so many that they were opened with, so they take no more
+pub record IsState (d : Domain) (cpus : ℕ) (is_listed : Bool) (running : List ℕ)
     (before before_capacity running_capacity : ℕ) : Type 0 where
   pub domain : IsDomain d
   pub wide : cpus ≡ d.cpus
   pub homed : AreHomed d.curr d.tasks
-  pub running_is : running ≡ running_numbers d.curr
+  pub running_is : is_listed ≡ true → running ≡ running_numbers d.curr
   pub before_len : before ≡ d.cpus
   pub before_room : before_capacity ≡ d.cpus
   pub running_room : running_capacity ≡ d.cpus

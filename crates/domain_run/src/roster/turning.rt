@@ -1,19 +1,52 @@
-//! A change of one listed task, of which the run queue is told.
+//! A change of one listed task, of which the run queue is told. Before it changes it is charged what
+//! it owes, and leaves its seat.
 
-ghost use Rattle.std.specs.Prelude.{◌≡◌, ◌<◌, All, length, slice_index_or, vec_capacity};
+ghost use Rattle.std.specs.Prelude.{◌≡◌, ◌<◌, All, IfSome, None, Some, length, slice_index_or, vec_capacity};
 ghost use Rattle.domain_run.specs.declared.task.Task.{Task};
 ghost use Rattle.domain_run.specs.Sound.{IsSound};
 ghost use Rattle.domain_run.specs.private.Roster.{after_change, MayMake, Fits};
 ghost use Rattle.domain_run.specs.private.RunQueue as spec;
+ghost use Rattle.domain_run.specs.private.Seats as seats_spec;
+ghost use Rattle.domain_run.specs.private.Waiting as waiting;
 ghost use Rattle.domain_run.specs.private.Timers.{IsStep};
 
 use crate::change::{Change, make};
 use crate::run_queue::RunQueue;
+use crate::seats::{Seat, Seats};
 use crate::standing::standing_of;
 use crate::task::Task;
 
+/// A task is charged what it owes since it was seated.
 #[inline(always)]
-fn turn_one(task: &mut Task, queue: &mut RunQueue, place: usize, time: u64, change: &Change)
+pub(super) fn charge(task: &mut Task, seat: Seat, upto: u64)
+    requires ahead { seats_spec.IsAhead upto seat }
+    requires waits { waiting.Waits seat task.old }
+    ensures { task.new ≡ waiting.owed_by upto (Some seat) task.old }
+{
+    let ticks = upto - seat.since;
+    task.server.left -= i128::from(seat.rate) * i128::from(ticks);
+    task.work -= ticks;
+}
+
+/// A task is charged what it owes, and leaves its seat.
+#[inline(always)]
+pub(super) fn settle(task: &mut Task, seats: &mut Seats)
+    requires { waiting.WaitsIf seats.old.seats task.old }
+    ensures task { task.new ≡ waiting.owed seats.old.upto seats.old.seats task.old }
+    ensures seats { seats.new ≡ record seats.old {
+      seats = seats_spec.left task.old.cpu task.old.number seats.old.seats;
+    } }
+{
+    let cpu = task.cpu;
+    if let Some(seat) = seats.seat_of(cpu, task.number) {
+        charge(task, seat, seats.upto());
+        seats.set(cpu, None);
+    }
+}
+
+/// Makes a change of a task, and tells the run queue.
+#[inline(always)]
+fn turn_settled(task: &mut Task, queue: &mut RunQueue, place: usize, time: u64, change: &Change)
     requires sound { IsSound time task.old }
     requires may { MayMake time change.now task.old }
     requires turns { spec.MayTurn place queue.old (spec.standing_of task.old)
@@ -28,24 +61,84 @@ fn turn_one(task: &mut Task, queue: &mut RunQueue, place: usize, time: u64, chan
     }
 }
 
+/// A task sits on a CPU no more; on one of them it does not sit as it is.
+#[inline(always)]
+fn leave_other(seats: &mut Seats, left: usize, cpu: usize, number: u32)
+    requires left { seats_spec.seat_by number (slice_index_or seats.old.seats left None) ≡ None }
+    ensures { seats.new ≡ record seats.old { seats = seats_spec.left cpu number seats.old.seats } }
+{
+    if cpu != left {
+        seats.leave(cpu, number);
+    }
+}
+
+/// Makes a change of a task as it is once it is charged. Where it belongs then, it has no seat.
+#[inline(always)]
+fn turn_one(
+    task: &mut Task,
+    queue: &mut RunQueue,
+    seats: &mut Seats,
+    place: usize,
+    time: u64,
+    change: &Change,
+)
+    requires waits { waiting.WaitsIf seats.old.seats task.old }
+    requires sound { IsSound time (waiting.owed seats.old.upto seats.old.seats task.old) }
+    requires may { MayMake time change.now
+        (waiting.owed seats.old.upto seats.old.seats task.old) }
+    requires turns { spec.MayTurn place queue.old
+        (spec.standing_of (waiting.owed seats.old.upto seats.old.seats task.old))
+        (spec.standing_of
+        (after_change time change.now (waiting.owed seats.old.upto seats.old.seats task.old))) }
+    ensures task { task.new
+        ≡ after_change time change.now (waiting.owed seats.old.upto seats.old.seats task.old) }
+    ensures sound { IsSound time task.new }
+    ensures turned { spec.HasTurned place
+        (spec.standing_of (waiting.owed seats.old.upto seats.old.seats task.old))
+        (spec.standing_of task.new) queue.old queue.new }
+    ensures seats { seats.new ≡ record seats.old {
+      seats = seats_spec.left task.new.cpu task.old.number
+          (seats_spec.left task.old.cpu task.old.number seats.old.seats);
+    } }
+{
+    let (number, home) = (task.number, task.cpu);
+    settle(task, seats);
+    turn_settled(task, queue, place, time, change);
+    leave_other(seats, home, task.cpu, number);
+}
+
 /// Changes the task at a place of the list.
 #[inline(always)]
 pub(super) fn turn_task(
     tasks: &mut Vec<Task>,
     queue: &mut RunQueue,
+    seats: &mut Seats,
     place: usize,
     time: u64,
     change: &Change,
 )
     requires there { place < length tasks.old.items }
     requires fits { Fits (length queue.old.accounts.all) change.now }
-    requires sound { All (IsSound time) tasks.old.items }
-    requires may { (d : Task) → MayMake time change.now (slice_index_or tasks.old.items place d) }
-    requires counted { spec.IsCounted (length queue.old.accounts.all) queue.old tasks.old.items }
-    ensures step { IsStep (after_change time change.now) place tasks.old.items tasks.new.items }
-    ensures sound { All (IsSound time) tasks.new.items }
-    ensures counted { spec.IsCounted (length queue.old.accounts.all) queue.new tasks.new.items }
+    requires waits { waiting.AllWait seats.old.seats tasks.old.items }
+    requires sound { All (IsSound time) (waiting.owed_all seats.old tasks.old.items) }
+    requires may { (d : Task) → MayMake time change.now
+        (slice_index_or (waiting.owed_all seats.old tasks.old.items) place d) }
+    requires counted { spec.IsCounted (length queue.old.accounts.all) queue.old
+        (waiting.owed_all seats.old tasks.old.items) }
+    ensures step { IsStep (after_change time change.now) place
+        (waiting.owed_all seats.old tasks.old.items)
+        (waiting.owed_all seats.new tasks.new.items) }
+    ensures sound { All (IsSound time) (waiting.owed_all seats.new tasks.new.items) }
+    ensures counted { spec.IsCounted (length queue.old.accounts.all) queue.new
+        (waiting.owed_all seats.new tasks.new.items) }
+    ensures waits { waiting.AllWait seats.new.seats tasks.new.items }
+    ensures seats { (d : Task) → seats.new.seats
+        ≡ waiting.left_of (slice_index_or (waiting.owed_all seats.new tasks.new.items) place d)
+        (waiting.left_of (slice_index_or (waiting.owed_all seats.old tasks.old.items) place d)
+        seats.old.seats) }
+    ensures clock { seats.new.upto ≡ seats.old.upto }
+    ensures wide { length seats.new.seats ≡ length seats.old.seats }
     ensures room { vec_capacity tasks.new ≡ vec_capacity tasks.old }
 {
-    turn_one(&mut tasks[place], queue, place, time, change);
+    turn_one(&mut tasks[place], queue, seats, place, time, change);
 }

@@ -20,7 +20,10 @@ impl State {
     {
         match self.roster.place(number) {
             None => None,
-            Some(place) => Some(telling::cut(self.time, self.roster.at(place))),
+            Some(place) => {
+                let cpu = self.roster.cpu_at(place);
+                Some(telling::cut(self.time, number, cpu))
+            }
         }
     }
 

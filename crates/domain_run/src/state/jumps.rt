@@ -10,11 +10,45 @@ ghost use Rattle.domain_run.specs.Log.{Tells, HasRoomToEnd};
 
 use super::State;
 use crate::log::Log;
-use crate::running::{Running, running_of, standing_at};
+use crate::running::{Running, are_still_listed, relist, standing_at};
 use crate::sweep;
 use no_memory::NoMemory;
 
 impl State {
+    /// As [`State::begin_told`], but who stands on the CPUs is not listed where that has changed.
+    pub(super) fn begin_unlisted(&mut self, log: &mut Log) -> Result<(), NoMemory>
+        requires { self.old.time < 2 ^ 42 }
+        ensures ok { OnOk result (self.new ≡ jump.under_way self.old) }
+        ensures begun { OnOk result (jump.IsUnderWay self.new) }
+        ensures err { OnErr result (self.new ≡ self.old) }
+        ensures domain { IsDomain self.old }
+        ensures told { OnOk result (Tells log.old (told_by_beginning self.old) log.new) }
+        ensures room { OnOk result (HasRoomToEnd log.new) }
+        ensures untold { OnErr result (Tells log.old [] log.new) }
+    {
+        self.switches.try_reserve(self.cpus)?;
+        log.make_room(9 * self.roster.len() + 192)?;
+        let changed = sweep::begin(
+            self.time,
+            &mut self.roster,
+            &mut self.curr,
+            &mut self.switches,
+            &mut self.before,
+            log,
+        );
+        self.is_listed = are_still_listed(self.is_listed, changed);
+        self.time += 1;
+        Ok(())
+    }
+
+    /// Who stands on the CPUs is listed.
+    fn list_running(&mut self)
+        ensures { self.new ≡ self.old }
+    {
+        relist(&mut self.running, self.is_listed, self.curr.occupants());
+        self.is_listed = true;
+    }
+
     /// As [`State::begin`], and the log is told what that tells: replenishments, releases, and wakes
     /// without budget, each on the CPU to which its task belongs once all are placed, in the order of
     /// "Happened". Room for it, and for what the tick's end will tell, is made first: on `Err`
@@ -29,18 +63,8 @@ impl State {
         ensures room { OnOk result (HasRoomToEnd log.new) }
         ensures untold { OnErr result (Tells log.old [] log.new) }
     {
-        self.switches.try_reserve(self.cpus)?;
-        log.make_room(9 * self.roster.len() + 192)?;
-        sweep::begin(
-            self.time,
-            &mut self.roster,
-            &mut self.curr,
-            &mut self.running,
-            &mut self.switches,
-            &mut self.before,
-            log,
-        );
-        self.time += 1;
+        self.begin_unlisted(log)?;
+        self.list_running();
         Ok(())
     }
 
@@ -73,13 +97,11 @@ impl State {
         ensures short { IfSome result (λ r. r.uinact ≤ 2 ^ 26) }
         ensures high { IfSome result (λ r. r.left ≤ℤ pos (2 ^ 52)) }
     {
-        let Some(number) = standing_at(&self.running, i) else {
+        let places = self.curr.occupants();
+        let Some(number) = standing_at(&self.running, self.is_listed, places, i) else {
             return None;
         };
-        let Some(task) = self.roster.find(number) else {
-            return None;
-        };
-        Some(running_of(task, self.roster.uinact(task.cpu)))
+        self.roster.runner(number)
     }
 
     /// The rate at which a running task uses its budget up, in 1/2^20: one where it does not
@@ -123,6 +145,8 @@ impl State {
         ensures quiet { (d : Domain) → self.old ≡ jump.under_way d
             → told_by_ticks ticks d ≡ told_by_beginning d ++ told_by_last_end ticks d }
     {
+        relist(&mut self.running, self.is_listed, self.curr.occupants());
+        self.is_listed = true;
         let time = self.time + (ticks - 1);
         sweep::pay_all(&mut self.roster, &self.running, budgets, ticks, time, log);
         self.time = time;

@@ -82,10 +82,7 @@ impl State {
     pub fn number_at(&self, place: usize) -> Option<u32>
         ensures { result ≡ number_in self.now place }
     {
-        match self.roster.tasks().get(place) {
-            None => None,
-            Some(task) => Some(task.number),
-        }
+        self.roster.number_at(place)
     }
 
     /// The numbers ever admitted, in rising order.

@@ -42,3 +42,8 @@ marked mark (c ∷ chosen) =
 -- the chosen tasks, seated one after another
 abbrev pub seated_all : List Candidate → Places → Places
 seated_all chosen places = fold seated places chosen
+
+-- room for 256 of two kinds
+pub record HasRoomFor256 (fresh gone : ℕ) : Type 0 where
+  pub come : fresh ≡ 256
+  pub went : gone ≡ 256

@@ -1,10 +1,15 @@
-use Rattle.std.proofs.Common.{◌≡◌, List, get_or, ap, sym, subst, ◌∙◌}
+use Rattle.std.proofs.Common.{◌≡◌, None, List, get_or, set, ap, sym, subst, ◌∙◌}
 use Rattle.std.proofs.lemmas.List.{get_or-set_same}
 use Rattle.domain_run.specs.declared.task.Task.{Task}
 use Rattle.domain_run.specs.Sound.{IsSound}
-use Rattle.domain_run.specs.private.Roster.{after_change}
+use Rattle.domain_run.specs.private.Roster.{RosterView, after_change, MayMake}
 use Rattle.domain_run.specs.private.Telling.{told_by_change, look_of, told_behind, all_of}
 use Rattle.domain_run.specs.Log.{Tells}
+use Rattle.domain_run.specs.private.Seats.{seat_by}
+use Rattle.domain_run.specs.private.Waiting.{seat_of, left_of}
+use Rattle.domain_run.specs.private.Timers.{IsStep}
+use Rattle.domain_run.proofs.Bare.{left_free}
+use Rattle.domain_run.proofs.Seatings.{none_at}
 use Rattle.domain_run.proofs.Logging.{tells_silent}
 use Rattle.domain_run.proofs.ToldChanges.{change_seen}
 use Rattle.domain_run.proofs.sweep.turn.Goals as goal
@@ -12,21 +17,42 @@ use Rattle.domain_run.proofs.sweep.turn.Goals as goal
 pub returns-then-not-is_wanted-clause-told : goal.returns-then-not-is_wanted-clause-told
 returns-then-not-is_wanted-clause-told c d = tells_silent (told_by_change c.args.time c.args.change.now (get_or c.args.roster.now.tasks c.args.place d)) c.args.log.now (sym c.is_wanted.ensures ∙ c.if-not-is_wanted.true)
 
+pub at-requires-clause-free : goal.at-requires-clause-free
+at-requires-clause-free c d =
+    let t = get_or c.args.roster.now.tasks c.args.place d in
+    ap (λ (r : RosterView). seat_of r.seats (get_or r.tasks c.args.place d)) c.vacate.ensures
+    ∙ ap (λ cpu. seat_of (set c.args.roster.now.seats cpu None) t) (c.cpu_at-cpu.ensures.cpu d)
+    ∙ ap (seat_by t.number) (none_at c.args.roster.now.seats t.cpu)
+
 pub look-before-requires-clause-sound : goal.look-before-requires-clause-sound
 look-before-requires-clause-sound c =
     let x = c.at.result.now in
-    subst (IsSound c.args.time) (sym (c.at.ensures.task x)) (c.requires.sound c.args.place x c.requires.there)
+    let tasks = ap (λ (r : RosterView). r.tasks) c.vacate.ensures in
+    subst (IsSound c.args.time) (sym (c.at.ensures.task x ∙ ap (λ (ts : List Task). get_or ts c.args.place x) tasks)) (c.requires.sound c.args.place x c.requires.there)
+
+pub look-before-requires-clause-may : goal.look-before-requires-clause-may
+look-before-requires-clause-may c =
+    let x = c.at.result.now in
+    let tasks = ap (λ (r : RosterView). r.tasks) c.vacate.ensures in
+    subst (MayMake c.args.time c.args.change.now) (sym (c.at.ensures.task x ∙ ap (λ (ts : List Task). get_or ts c.args.place x) tasks)) (c.requires.may x)
+
+pub at-requires-2-clause-free : goal.at-requires-2-clause-free
+at-requires-2-clause-free c d =
+    let t = get_or c.turn-2.new.self.tasks c.args.place d in
+    ap (λ seats. seat_of seats t) (c.turn-2.ensures.seats d)
+    ∙ left_free t (left_of (get_or c.vacate.new.self.tasks c.args.place d) c.vacate.new.self.seats)
 
 pub returns-clause-told : goal.returns-clause-told
 returns-clause-told c d =
     let old = c.args.roster.now.tasks in
-    let new = c.turn-2.new.self.tasks in
     let time = c.args.time in
     let change = c.args.change.now in
     let f = after_change time change in
     let t = get_or old c.args.place d in
-    let before : c.at.result.now ≡ t = c.at.ensures.task d in
-    let behind : c.at-2.result.now ≡ f t = c.at-2.ensures.task d ∙ ap (λ (ts : List Task). get_or ts c.args.place d) (c.turn-2.ensures.step.is d) ∙ get_or-set_same old c.args.place (f t) d c.requires.there in
+    let tasks = ap (λ (r : RosterView). r.tasks) c.vacate.ensures in
+    let step = subst (λ (ts : List Task). IsStep f c.args.place ts c.turn-2.new.self.tasks) tasks c.turn-2.ensures.step in
+    let before : c.at.result.now ≡ t = c.at.ensures.task d ∙ ap (λ (ts : List Task). get_or ts c.args.place d) tasks in
+    let behind : c.at-2.result.now ≡ f t = c.at-2.ensures.task d ∙ ap (λ (ts : List Task). get_or ts c.args.place d) (step.is d) ∙ get_or-set_same old c.args.place (f t) d c.requires.there in
     let looked = c.look-before.ensures ∙ ap (look_of time change) before in
     let told : all_of c.seen_behind-told.result ≡ told_by_change time change t =
     ap all_of (c.seen_behind-told.ensures ∙ (λ i. told_behind time change (looked i) (behind i))) ∙ change_seen time change t in

@@ -1,14 +1,24 @@
-use Rattle.std.proofs.Common.{◌<◌, length, sym, subst}
+use Rattle.std.proofs.Common.{◌≡◌, ◌<◌, None, length, get_or, sym, subst}
 use Rattle.domain_run.specs.declared.task.Task.{Task}
 use Rattle.domain_run.specs.private.Roster.{RosterView}
-use Rattle.domain_run.proofs.Counting.{home_at}
+use Rattle.domain_run.specs.private.Waiting.{seat_of}
+use Rattle.domain_run.proofs.Bare.{inside_seen, bare_at, home_seen}
 use Rattle.domain_run.proofs.roster.Roster.at.Goals as goal
+
+pub returns-clause-task : goal.returns-clause-task
+returns-clause-task c d =
+    let s = c.self.inside in
+    let x = c.index.result.now in
+    let p = c.args.place in
+    let h = inside_seen s.seats.upto s.seats.seats s.tasks.items p (subst (λ (r : RosterView). p < length r.tasks) (sym c.self.view_is) c.requires.there) in
+    let free = subst (λ (r : RosterView). (e : Task) → seat_of r.seats (get_or r.tasks p e) ≡ None) (sym c.self.view_is) c.requires.free in
+    subst (λ (r : RosterView). x ≡ get_or r.tasks p d) c.self.view_is (bare_at s.seats.upto s.seats.seats s.tasks.items p x h c.index.ensures free d)
 
 pub returns-clause-home : goal.returns-clause-home
 returns-clause-home c =
     let s = c.self.inside in
     let x = c.index.result.now in
-    let cpus = length s.queue.accounts.all in
-    let within : c.args.place < length s.tasks.items = subst (λ (r : RosterView). c.args.place < length r.tasks) (sym c.self.view_is) c.requires in
-    let home = subst (λ (t : Task). t.cpu < cpus) (sym c.index.ensures) (home_at cpus s.queue s.tasks.items c.args.place x within c.self.invariant.counted) in
-    subst (λ (r : RosterView). x.cpu < r.cpus) c.self.view_is home
+    let p = c.args.place in
+    let h = inside_seen s.seats.upto s.seats.seats s.tasks.items p (subst (λ (r : RosterView). p < length r.tasks) (sym c.self.view_is) c.requires.there) in
+    subst (λ (r : RosterView). x.cpu < r.cpus) c.self.view_is
+    (home_seen s.seats.upto s.seats.seats s.tasks.items p x h c.index.ensures (length s.queue.accounts.all) s.queue c.self.invariant.counted)

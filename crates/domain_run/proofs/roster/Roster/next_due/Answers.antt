@@ -1,6 +1,7 @@
 use Rattle.std.proofs.Common.{subst}
 use Rattle.domain_run.specs.private.Roster.{RosterView}
 use Rattle.domain_run.specs.private.Timers.{AreNotDue}
+use Rattle.domain_run.specs.private.Waiting.{owed_all}
 use Rattle.domain_run.proofs.Due.{none_due_at}
 use Rattle.domain_run.proofs.roster.Roster.next_due.Goals as goal
 
@@ -8,4 +9,4 @@ pub returns-clause-others : goal.returns-clause-others
 returns-clause-others c =
     let s = c.self.inside in
     subst (λ (r : RosterView). AreNotDue r.tasks c.args.time c.args.from c.next_due.result) c.self.view_is
-    (none_due_at c.args.time c.args.from c.next_due.result s.queue.timers s.tasks.items c.self.invariant.counted.counts.due c.next_due.ensures.others)
+    (none_due_at c.args.time c.args.from c.next_due.result s.queue.timers (owed_all s.seats s.tasks.items) c.self.invariant.counted.counts.due c.next_due.ensures.others)

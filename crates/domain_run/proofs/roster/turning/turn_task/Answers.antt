@@ -1,23 +1,38 @@
-use Rattle.std.proofs.Common.{length, subst, sym}
-use Rattle.std.proofs.lemmas.List.Elements.{All-set}
+use Rattle.std.proofs.Common.{◌≡◌, length, ap}
+use Rattle.domain_run.specs.private.Seats.{SeatsView}
 use Rattle.domain_run.specs.declared.task.Task.{Task}
-use Rattle.domain_run.specs.Sound.{IsSound}
-use Rattle.domain_run.specs.private.Roster.{after_change, MayMake}
-use Rattle.domain_run.proofs.Due.{step_is}
-use Rattle.domain_run.proofs.Making.{place_may, place_counted}
+use Rattle.domain_run.proofs.Turning.{waits_at, sound_at, may_at, turns_at, step_turned, sound_turned, counted_turned, waits_turned, seats_turned, wide_turned}
 use Rattle.domain_run.proofs.roster.turning.turn_task.Goals as goal
 
+pub turn_one-requires-clause-waits : goal.turn_one-requires-clause-waits
+turn_one-requires-clause-waits c = waits_at (length c.args.queue.now.accounts.all) c.args.time c.args.change.now c.args.queue.now c.args.seats.now c.args.tasks.now.items c.args.place c.index_mut.result.now c.requires.there c.index_mut.ensures.value c.requires.fits c.requires.counted c.requires.waits
+
+pub turn_one-requires-clause-sound : goal.turn_one-requires-clause-sound
+turn_one-requires-clause-sound c = sound_at (length c.args.queue.now.accounts.all) c.args.time c.args.change.now c.args.queue.now c.args.seats.now c.args.tasks.now.items c.args.place c.index_mut.result.now c.requires.there c.index_mut.ensures.value c.requires.fits c.requires.counted c.requires.sound
+
 pub turn_one-requires-clause-may : goal.turn_one-requires-clause-may
-turn_one-requires-clause-may c = let x = c.index_mut.result.now in subst (λ (t : Task). MayMake c.args.time c.args.change.now t) (sym c.index_mut.ensures.value) (c.requires.may x)
+turn_one-requires-clause-may c = may_at (length c.args.queue.now.accounts.all) c.args.time c.args.change.now c.args.queue.now c.args.seats.now c.args.tasks.now.items c.args.place c.index_mut.result.now c.requires.there c.index_mut.ensures.value c.requires.fits c.requires.counted c.requires.may
 
 pub turn_one-requires-clause-turns : goal.turn_one-requires-clause-turns
-turn_one-requires-clause-turns c = place_may (length c.args.queue.now.accounts.all) c.args.queue.now c.args.tasks.now.items c.args.place c.args.time c.args.change.now c.index_mut.result.now c.requires.there c.index_mut.ensures.value c.requires.fits c.requires.counted
+turn_one-requires-clause-turns c = turns_at (length c.args.queue.now.accounts.all) c.args.time c.args.change.now c.args.queue.now c.args.seats.now c.args.tasks.now.items c.args.place c.index_mut.result.now c.requires.there c.index_mut.ensures.value c.requires.fits c.requires.counted
 
 pub returns-clause-step : goal.returns-clause-step
-returns-clause-step c = step_is c.args.tasks.now.items c.args.place c.index_mut.result.now c.turn_one.new.task (after_change c.args.time c.args.change.now) c.requires.there c.index_mut.ensures.value c.turn_one.ensures.task
+returns-clause-step c = step_turned (length c.args.queue.now.accounts.all) c.args.time c.args.change.now c.args.queue.now c.args.seats.now c.args.tasks.now.items c.args.place c.index_mut.result.now c.requires.there c.index_mut.ensures.value c.requires.fits c.requires.counted c.turn_one.new.queue c.turn_one.new.seats c.turn_one.new.task c.turn_one.ensures.task c.turn_one.ensures.seats
 
 pub returns-clause-sound : goal.returns-clause-sound
-returns-clause-sound c = All-set (IsSound c.args.time) c.args.tasks.now.items c.args.place c.turn_one.new.task c.turn_one.ensures.sound c.requires.sound
+returns-clause-sound c = sound_turned (length c.args.queue.now.accounts.all) c.args.time c.args.change.now c.args.queue.now c.args.seats.now c.args.tasks.now.items c.args.place c.index_mut.result.now c.requires.there c.index_mut.ensures.value c.requires.fits c.requires.counted c.turn_one.new.queue c.turn_one.new.seats c.turn_one.new.task c.turn_one.ensures.task c.turn_one.ensures.seats c.turn_one.ensures.sound c.requires.sound
 
 pub returns-clause-counted : goal.returns-clause-counted
-returns-clause-counted c = place_counted (length c.args.queue.now.accounts.all) c.args.queue.now c.turn_one.new.queue c.args.tasks.now.items c.args.place c.args.time c.args.change.now c.index_mut.result.now c.turn_one.new.task c.requires.there c.index_mut.ensures.value c.requires.fits c.turn_one.ensures.task c.turn_one.ensures.turned c.requires.counted
+returns-clause-counted c = counted_turned (length c.args.queue.now.accounts.all) c.args.time c.args.change.now c.args.queue.now c.args.seats.now c.args.tasks.now.items c.args.place c.index_mut.result.now c.requires.there c.index_mut.ensures.value c.requires.fits c.requires.counted c.turn_one.new.queue c.turn_one.new.seats c.turn_one.new.task c.turn_one.ensures.task c.turn_one.ensures.seats c.turn_one.ensures.turned
+
+pub returns-clause-waits : goal.returns-clause-waits
+returns-clause-waits c = waits_turned (length c.args.queue.now.accounts.all) c.args.time c.args.change.now c.args.queue.now c.args.seats.now c.args.tasks.now.items c.args.place c.index_mut.result.now c.requires.there c.index_mut.ensures.value c.requires.fits c.requires.counted c.turn_one.new.queue c.turn_one.new.seats c.turn_one.new.task c.turn_one.ensures.task c.turn_one.ensures.seats c.requires.waits
+
+pub returns-clause-seats : goal.returns-clause-seats
+returns-clause-seats c = seats_turned (length c.args.queue.now.accounts.all) c.args.time c.args.change.now c.args.queue.now c.args.seats.now c.args.tasks.now.items c.args.place c.index_mut.result.now c.requires.there c.index_mut.ensures.value c.requires.fits c.requires.counted c.turn_one.new.queue c.turn_one.new.seats c.turn_one.new.task c.turn_one.ensures.task c.turn_one.ensures.seats
+
+pub returns-clause-wide : goal.returns-clause-wide
+returns-clause-wide c = wide_turned (length c.args.queue.now.accounts.all) c.args.time c.args.change.now c.args.queue.now c.args.seats.now c.args.tasks.now.items c.args.place c.index_mut.result.now c.requires.there c.index_mut.ensures.value c.requires.fits c.requires.counted c.turn_one.new.queue c.turn_one.new.seats c.turn_one.new.task c.turn_one.ensures.task c.turn_one.ensures.seats
+
+pub returns-clause-clock : goal.returns-clause-clock
+returns-clause-clock c = ap (λ (v : SeatsView). v.upto) c.turn_one.ensures.seats

@@ -4,6 +4,7 @@ use Rattle.domain_run.specs.declared.happened.What.TheVariants.{Cut}
 use Rattle.domain_run.specs.declared.task.Task.{Task}
 use Rattle.domain_run.specs.Domain.{Domain}
 use Rattle.domain_run.specs.Happened.{told, told_by_cut}
+use Rattle.domain_run.proofs.Due.{some_task}
 use Rattle.domain_run.proofs.Finding.{filter_absent, filter_at}
 use Rattle.domain_run.proofs.state.State.cut_of.Goals as goal
 
@@ -16,8 +17,14 @@ returns-in-None c =
 pub returns-in-Some : goal.returns-in-Some
 returns-in-Some c =
     let s = c.self.inside in
-    let t = c.at.result.now in
-    let one = filter_at s.roster.tasks c.args.number c.in-Some.place t c.in-Some.ensures.numbered c.in-Some.ensures.there in
-    let same : c.cut.result ≡ told s.time (get_or s.roster.tasks c.in-Some.place t) Cut = c.cut.ensures ∙ ap (λ (x : Task). told s.time x Cut) (c.at.ensures.task t) in
+    let tasks = s.roster.tasks in
+    let p = c.in-Some.place in
+    let there = c.in-Some.ensures.there in
+    let d = some_task tasks p there.within in
+    let t = get_or tasks p d in
+    let cpu = c.cpu_at-cpu.ensures.cpu d in
+    let number = there.is d in
+    let one = filter_at tasks c.args.number p d c.in-Some.ensures.numbered there in
+    let same : c.cut.result ≡ told s.time t Cut = c.cut.ensures ∙ (λ i. record { time = s.time; what = Cut; number = sym number i; cpu = cpu i }) in
     subst (λ (x : Domain). c.cut.result ∷ [] ≡ told_by_cut x c.args.number) c.self.view_is
     (ap (λ (h : Happened). h ∷ []) same ∙ sym (ap (λ (ts : List Task). map (λ t. told s.time t Cut) ts) one))

@@ -1,4 +1,5 @@
 use Rattle.std.proofs.Common.{◌≡◌, ℕ, List, ◌+◌, ◌-◌, ◌≤◌, ◌^◌, length, map, sym, ap, ◌∙◌, subst, arith}
+use Rattle.edf_pick.specs.Places.{Places}
 use Rattle.domain_run.specs.Jump.{running_numbers}
 use Rattle.domain_run.proofs.Homing.{standing_distinct}
 use Rattle.domain_run.specs.Domain.{Domain}
@@ -15,6 +16,12 @@ use Rattle.domain_run.proofs.Runners.{standing_short}
 use Rattle.domain_run.proofs.ToldTicks.{told_pay_is, told_ticks_is}
 use Rattle.domain_run.proofs.state.State.finish_told.Goals as goal
 
+pub relist-requires-clause-room : goal.relist-requires-clause-room
+relist-requires-clause-room c = omega (arith, ap (λ (ps : Places). length ps) c.occupants.ensures.occupants, c.self.invariant.domain.steady.wide, c.self.invariant.running_room)
+
+pub relist-requires-clause-listed : goal.relist-requires-clause-listed
+relist-requires-clause-listed c listed = c.self.invariant.running_is listed ∙ ap running_numbers (sym c.occupants.ensures.occupants)
+
 pub pay_all-requires-clause-sound : goal.pay_all-requires-clause-sound
 pay_all-requires-clause-sound c =
     let s = c.self.inside in
@@ -26,24 +33,24 @@ pay_all-requires-clause-may c =
     let d : Domain = record { cpus = s.cpus; limit = s.limit; time = s.time; tasks = s.roster.tasks; used = s.used; curr = s.curr; switches = s.switches.items } in
     let charged : AreCharged d c.args.ticks c.args.budgets.now = subst (λ (x : Domain). AreCharged x c.args.ticks c.args.budgets.now) (sym c.self.view_is) c.requires.charged in
     let placed : IsPlacement d = subst IsPlacement (sym c.self.view_is) c.requires.begun.placed in
-    rw (c.deref.ensures.value, c.self.invariant.running_is) (may_pay d c.args.ticks c.args.budgets.now c.self.invariant.domain.steady placed c.requires.some charged)
+    rw (c.deref.ensures.value, c.relist.ensures.running, c.occupants.ensures.occupants) (may_pay d c.args.ticks c.args.budgets.now c.self.invariant.domain.steady placed c.requires.some charged)
 
 pub pay_all-requires-clause-apart : goal.pay_all-requires-clause-apart
-pay_all-requires-clause-apart c = rw (c.deref.ensures.value, c.self.invariant.running_is) (standing_distinct c.self.inside.curr c.self.invariant.domain.steady.apart)
+pay_all-requires-clause-apart c = rw (c.deref.ensures.value, c.relist.ensures.running, c.occupants.ensures.occupants) (standing_distinct c.self.inside.curr c.self.invariant.domain.steady.apart)
 
 pub pay_all-requires-clause-many : goal.pay_all-requires-clause-many
 pay_all-requires-clause-many c =
     let s = c.self.inside in
     let d : Domain = record { cpus = s.cpus; limit = s.limit; time = s.time; tasks = s.roster.tasks; used = s.used; curr = s.curr; switches = s.switches.items } in
     let charged : AreCharged d c.args.ticks c.args.budgets.now = subst (λ (x : Domain). AreCharged x c.args.ticks c.args.budgets.now) (sym c.self.view_is) c.requires.charged in
-    charged.many ∙ sym (ap (λ (ns : List ℕ). length ns) (c.deref.ensures.value ∙ c.self.invariant.running_is))
+    charged.many ∙ sym (ap (λ (ns : List ℕ). length ns) (c.deref.ensures.value ∙ c.relist.ensures.running ∙ ap running_numbers c.occupants.ensures.occupants))
 
 pub invariant_of-self : goal.invariant_of-self
 invariant_of-self c =
     let s = c.self.inside in
     let d : Domain = record { cpus = s.cpus; limit = s.limit; time = s.time; tasks = s.roster.tasks; used = s.used; curr = s.curr; switches = s.switches.items } in
     let end : ℕ = s.time + (c.args.ticks - 1) in
-    let tasks_are : c.pay_all.new.roster.tasks ≡ map (paid end (running_numbers s.curr) c.args.ticks c.args.budgets.now) s.roster.tasks = c.pay_all.ensures.tasks ∙ ap (λ (ns : List ℕ). map (paid end ns c.args.ticks c.args.budgets.now) s.roster.tasks) (c.deref.ensures.value ∙ c.self.invariant.running_is) in
+    let tasks_are : c.pay_all.new.roster.tasks ≡ map (paid end (running_numbers s.curr) c.args.ticks c.args.budgets.now) s.roster.tasks = c.pay_all.ensures.tasks ∙ ap (λ (ns : List ℕ). map (paid end ns c.args.ticks c.args.budgets.now) s.roster.tasks) (c.deref.ensures.value ∙ c.relist.ensures.running ∙ ap running_numbers c.occupants.ensures.occupants) in
     let same_time : c.self.inside.time ≡ c.args.self.now.time = ap (λ (x : Domain). x.time) c.self.view_is in
     let early : end ≤ 2 ^ 42 = omega (arith, same_time, c.requires.early, c.requires.some) in
     record {
@@ -53,9 +60,9 @@ invariant_of-self c =
       homed =
           let same = same_paid end (running_numbers s.curr) c.args.ticks c.args.budgets.now in
           subst (AreHomed s.curr) (sym tasks_are) (homed_map s.curr (paid end (running_numbers s.curr) c.args.ticks c.args.budgets.now) s.roster.tasks (λ t. (same t).number) (λ t. (same t).cpu) c.self.invariant.homed);
-      running_is = c.self.invariant.running_is;
+      running_is = λ listed. c.relist.ensures.running ∙ ap running_numbers c.occupants.ensures.occupants;
       before_room = c.self.invariant.before_room;
-      running_room = c.self.invariant.running_room;
+      running_room = c.relist.ensures.room ∙ c.self.invariant.running_room;
     }
 
 pub returns-clause-domain : goal.returns-clause-domain
@@ -63,7 +70,7 @@ returns-clause-domain c e is =
     let s = c.self.inside in
     let d : Domain = record { cpus = s.cpus; limit = s.limit; time = s.time; tasks = s.roster.tasks; used = s.used; curr = s.curr; switches = s.switches.items } in
     let end : ℕ = s.time + (c.args.ticks - 1) in
-    let tasks_are : c.pay_all.new.roster.tasks ≡ map (paid end (running_numbers s.curr) c.args.ticks c.args.budgets.now) s.roster.tasks = c.pay_all.ensures.tasks ∙ ap (λ (ns : List ℕ). map (paid end ns c.args.ticks c.args.budgets.now) s.roster.tasks) (c.deref.ensures.value ∙ c.self.invariant.running_is) in
+    let tasks_are : c.pay_all.new.roster.tasks ≡ map (paid end (running_numbers s.curr) c.args.ticks c.args.budgets.now) s.roster.tasks = c.pay_all.ensures.tasks ∙ ap (λ (ns : List ℕ). map (paid end ns c.args.ticks c.args.budgets.now) s.roster.tasks) (c.deref.ensures.value ∙ c.relist.ensures.running ∙ ap running_numbers c.occupants.ensures.occupants) in
     let k = c.args.ticks in
     let budgets = c.args.budgets.now in
     let same : d ≡ under_way e = c.self.view_is ∙ is in
@@ -80,7 +87,7 @@ pay_all-requires-clause-numbered c = c.self.invariant.domain.steady.numbered
 pub pay_all-requires-clause-room : goal.pay_all-requires-clause-room
 pay_all-requires-clause-room c wanted =
     let few : length (running_numbers c.self.inside.curr) ≤ 64 = standing_short _ c.self.invariant.domain.steady in
-    omega (arith, c.requires.room wanted, few, ap (λ (ns : List ℕ). length ns) (c.deref.ensures.value ∙ c.self.invariant.running_is))
+    omega (arith, c.requires.room wanted, few, ap (λ (ns : List ℕ). length ns) (c.deref.ensures.value ∙ c.relist.ensures.running ∙ ap running_numbers c.occupants.ensures.occupants))
 
 pub returns-clause-told : goal.returns-clause-told
 returns-clause-told c e is =
@@ -91,7 +98,7 @@ returns-clause-told c e is =
     let budgets = c.args.budgets.now in
     let same : d ≡ under_way e = c.self.view_is ∙ is in
     let told : told_in_pay end c.deref.result.now k budgets s.roster.tasks ≡ told_by_last_end k e =
-    ap (λ (ns : List ℕ). told_in_pay end ns k budgets s.roster.tasks) (c.deref.ensures.value ∙ c.self.invariant.running_is)
+    ap (λ (ns : List ℕ). told_in_pay end ns k budgets s.roster.tasks) (c.deref.ensures.value ∙ c.relist.ensures.running ∙ ap running_numbers c.occupants.ensures.occupants)
     ∙ ap (λ (x : Domain). told_in_pay end (running_numbers x.curr) k budgets x.tasks) same
     ∙ told_pay_is e k budgets end (subst (λ (x : Domain). IsDomain x) same c.self.invariant.domain).steady (subst IsPlacement is c.requires.begun.placed) c.requires.some (subst (λ (x : Domain). k ≤ ticks_to_event x) is c.requires.quiet) (subst (λ (x : Domain). AreCharged x k budgets) is c.requires.charged) (ap (λ (x : Domain). x.time + (k - 1)) same) in
     subst (λ hs. Tells c.args.log.now hs c.pay_all.new.log) told c.pay_all.ensures.told

@@ -1,0 +1,124 @@
+-- From one event to the next: who stands sits, and has run in all of the ticks between.
+use Rattle.std.proofs.Common.{◌≡◌, ◌≢◌, ◌⊎◌, ℕ, zero, suc, ◌+◌, ◌-◌, ◌*◌, ◌<◌, ◌≤◌, Bool, true, false, cond, ◌||◌, eq-eqb, Option, Some, None, List, [], ◌∷◌, length, map, get_or, set, refl, sym, ap, ◌∙◌, subst, arith, inl, inr}
+use Rattle.std.specs.Prelude.{ℤ, pos, ◌-ℤ◌, All, Any, IfSome, IsTrue, is_none, position}
+use Rattle.std.proofs.lemmas.Bool.{cases_eq, cases_lt}
+use Rattle.std.proofs.lemmas.List.Folds.{Any-from_list_any}
+use Rattle.edf_pick.specs.Places.{Places, is_task, stands}
+use Rattle.domain_run.specs.declared.task.Task.{Task}
+use Rattle.domain_run.specs.declared.seats.Seat.{Seat}
+use Rattle.domain_run.specs.Parts.{with_cpu, with_last_cpu}
+use Rattle.domain_run.specs.Sound.{occupant, IsApart}
+use Rattle.domain_run.specs.private.Paying.{ran_until}
+use Rattle.domain_run.specs.private.Seats.{seat_by}
+use Rattle.domain_run.specs.private.Roster.{RosterView, rate_in, IsSeated, AreSeatedFrom, leapt, LastsIf}
+use Rattle.domain_run.specs.private.Waiting.{seat_of, IsAtRate, IsRight, Lasts, passed_by, passed}
+use Rattle.domain_run.proofs.Placing.{position_at, stands_at}
+use Rattle.domain_run.proofs.Jumping.{map_alike}
+
+-- ---- who stands, stands on the CPU to which it belongs
+
+home_of : (places : Places) (t : Task) → IsApart places → with_last_cpu places t ≡ t → stands t.number places ≡ true → occupant places t.cpu ≡ Some t.number
+home_of places t apart homed stand =
+    let at = stands_at t.number places (Any-from_list_any (is_task t.number) places stand) in
+    let cpu : t.cpu ≡ at.0 = sym (ap (λ (u : Task). u.cpu) homed) ∙ ap (λ o. (with_cpu o t).cpu) (position_at places at.0 t.number apart at.1) in
+    ap (occupant places) cpu ∙ at.1
+
+seat_standing : (places : Places) (t : Task) (rate : ℕ) (o : Option Seat) → occupant places t.cpu ≡ Some t.number → IsRight (occupant places t.cpu) t.number rate o → IsAtRate rate o
+seat_standing places t rate o at right = (subst (λ p. IsRight p t.number rate o) at right).0 refl
+
+none_standing : (places : Places) (t : Task) (rate : ℕ) (o : Option Seat) (p : Option ℕ) → (p ≡ Some t.number → ⊥) → IsRight p t.number rate o → o ≡ None
+none_standing places t rate o None never right = right
+none_standing places t rate o (Some n) never right = right.1 (λ e. never (ap (λ m. Some m) e))
+
+stands_from : (places : Places) (cpu n : ℕ) → occupant places cpu ≡ Some n → stands n places ≡ true
+stands_from [] cpu n e = absurd cc
+stands_from (o ∷ places) zero n e = ap (λ p. is_task n p || stands n places) e ∙ ap (λ b. b || stands n places) (eq-eqb n n refl)
+stands_from (o ∷ places) (suc cpu) n e = elim (is_task n o) as (λ b. (b || stands n places) ≡ true) [ true ↦ refl | false ↦ stands_from places cpu n e ]
+
+at_rate_passes : (time k rate : ℕ) (t : Task) (o : Option Seat) → IsAtRate rate o → passed_by time k o t ≡ ran_until time k (t.server.left -ℤ pos (rate * k)) t
+at_rate_passes time k rate t None is = absurd is
+at_rate_passes time k rate t (Some s) is = ap (λ n. ran_until time k (t.server.left -ℤ pos (n * k)) t) is
+
+leapt_one : (time k : ℕ) (places : Places) (cpus limit : ℕ) (tasks : List Task) (seats : List (Option Seat)) (t : Task) → IsApart places → with_last_cpu places t ≡ t → IsSeated places cpus limit tasks seats t → passed time k seats t ≡ leapt time k places cpus limit tasks t
+leapt_one time k places cpus limit tasks seats t apart homed right = by_stand (stands t.number places) refl
+  where
+    by_stand : (b : Bool) → stands t.number places ≡ b → passed_by time k (seat_of seats t) t ≡ cond b (ran_until time k (t.server.left -ℤ pos (rate_in cpus limit tasks t * k)) t) t
+    by_stand true e = at_rate_passes time k (rate_in cpus limit tasks t) t (seat_of seats t) (seat_standing places t (rate_in cpus limit tasks t) (seat_of seats t) (home_of places t apart homed e) right)
+    by_stand false e =
+        let none = none_standing places t (rate_in cpus limit tasks t) (seat_of seats t) (occupant places t.cpu) (λ q. let no : true ≡ false = sym (stands_from places t.cpu t.number q) ∙ e in absurd cc) right in
+        ap (λ o. passed_by time k o t) none
+
+pub leapt_all : (time k : ℕ) (places : Places) (cpus limit : ℕ) (tasks : List Task) (seats : List (Option Seat)) → IsApart places → All (λ t. with_last_cpu places t ≡ t) tasks → All (IsSeated places cpus limit tasks seats) tasks → map (passed time k seats) tasks ≡ map (leapt time k places cpus limit tasks) tasks
+leapt_all time k places cpus limit tasks seats apart homed right = map_alike (passed time k seats) (leapt time k places cpus limit tasks) tasks (λ i d h. leapt_one time k places cpus limit tasks seats (get_or tasks i d) apart (homed i d h) (right i d h))
+
+lasts_at : (k rate : ℕ) (t : Task) (o : Option Seat) → IsAtRate rate o → IfSome o (λ s. Lasts k s.rate t) → Lasts k rate t
+lasts_at k rate t None is lasts = absurd is
+lasts_at k rate t (Some s) is lasts = subst (λ n. Lasts k n t) is lasts
+
+pub lasts_all : (k : ℕ) (places : Places) (cpus limit : ℕ) (tasks : List Task) (seats : List (Option Seat)) → IsApart places → All (λ t. with_last_cpu places t ≡ t) tasks → All (IsSeated places cpus limit tasks seats) tasks → All (λ t. IfSome (seat_of seats t) (λ s. Lasts k s.rate t)) tasks → All (LastsIf k places cpus limit tasks) tasks
+lasts_all k places cpus limit tasks seats apart homed right lasts i d h stand =
+    let t = get_or tasks i d in
+    let rate = rate_in cpus limit tasks t in
+    lasts_at k rate t (seat_of seats t) (seat_standing places t rate (seat_of seats t) (home_of places t apart (homed i d h) stand) (right i d h)) (lasts i d h)
+
+-- ---- one CPU after another
+
+pub right_next : (places : Places) (cpus limit i : ℕ) (tasks : List Task) (old new : List (Option Seat))
+    → All (λ t. t.cpu < i → IsSeated places cpus limit tasks old t) tasks
+    → ((d : ℕ) → d ≢ i → get_or new d None ≡ get_or old d None)
+    → All (λ t. t.cpu ≡ i → IsRight (occupant places i) t.number (rate_in cpus limit tasks t) (seat_of new t)) tasks
+    → All (λ t. t.cpu < i + 1 → IsSeated places cpus limit tasks new t) tasks
+right_next places cpus limit i tasks old new before others here k d h less =
+    let t = get_or tasks k d in
+    let rate = rate_in cpus limit tasks t in
+    elim (cases_eq t.cpu i) [
+      | inl e ↦ subst (λ c. IsRight (occupant places c) t.number rate (seat_of new t)) (sym e) (here k d h e)
+      | inr other ↦
+          let is : t.cpu < i = below (cases_lt t.cpu i) other less in
+          subst (λ o. IsRight (occupant places t.cpu) t.number rate o) (sym (ap (seat_by t.number) (others t.cpu other))) (before k d h is)
+    ]
+  where
+    below : {a b : ℕ} → (a < b) ⊎ (b ≤ a) → (a ≡ b → ⊥) → a < b + 1 → a < b
+    below (inl l) ne h = l
+    below (inr m) ne h = absurd (ne (omega (arith, m, h)))
+
+-- ---- from one CPU on up to another
+
+pub right_none : (places : Places) (r : RosterView) (limit from : ℕ) → AreSeatedFrom places r limit from from
+right_none places r limit from k d h above below = absurd (omega (arith, above, below))
+
+pub right_more : (places : Places) (r : RosterView) (limit from i : ℕ)
+    → AreSeatedFrom places r limit from i
+    → All (λ t. t.cpu ≡ i → IsRight (occupant places i) t.number (rate_in r.cpus limit r.tasks t) (seat_of r.seats t)) r.tasks
+    → AreSeatedFrom places r limit from (i + 1)
+right_more places r limit from i before here k d h above below =
+    let t = get_or r.tasks k d in
+    let rate = rate_in r.cpus limit r.tasks t in
+    elim (cases_eq t.cpu i) [
+      | inl e ↦ subst (λ c. IsRight (occupant places c) t.number rate (seat_of r.seats t)) (sym e) (here k d h e)
+      | inr other ↦ before k d h above (under (cases_lt t.cpu i) other below)
+    ]
+  where
+    under : {a b : ℕ} → (a < b) ⊎ (b ≤ a) → (a ≡ b → ⊥) → a < b + 1 → a < b
+    under (inl l) ne h = l
+    under (inr m) ne h = absurd (ne (omega (arith, m, h)))
+
+none_is : (o : Option Seat) → IsTrue (is_none o) → o ≡ None
+none_is None is = refl
+none_is (Some s) is = absurd cc
+
+-- nobody stands on a CPU, and nobody sits there
+pub free_right : (cpu limit : ℕ) (r : RosterView) → IsTrue (is_none (get_or r.seats cpu None)) → All (λ t. t.cpu ≡ cpu → IsRight None t.number (rate_in r.cpus limit r.tasks t) (seat_of r.seats t)) r.tasks
+free_right cpu limit r free k d h e =
+    let t = get_or r.tasks k d in
+    ap (λ c. seat_by t.number (get_or r.seats c None)) e ∙ ap (seat_by t.number) (none_is (get_or r.seats cpu None) free)
+
+-- those below one CPU, and those from there on
+pub right_both : (places : Places) (cpus limit from upto : ℕ) (tasks : List Task) (seats : List (Option Seat))
+    → All (λ t. t.cpu < from → IsSeated places cpus limit tasks seats t) tasks
+    → All (λ t. from ≤ t.cpu → t.cpu < upto → IsSeated places cpus limit tasks seats t) tasks
+    → All (λ t. t.cpu < upto → IsSeated places cpus limit tasks seats t) tasks
+right_both places cpus limit from upto tasks seats low high k d h below = elim (cases_lt (get_or tasks k d).cpu from) [
+  | inl less ↦ low k d h less
+  | inr above ↦ high k d h above below
+]

@@ -1,0 +1,54 @@
+-- A leap of a domain under way is so many ticks.
+use Rattle.std.proofs.Common.{◌≡◌, ◌≢◌, ℕ, ◌+◌, ◌-◌, ◌<◌, ◌≤◌, true, false, cond, Some, None, List, length, map, get_or, refl, sym, ap, ◌∙◌, subst, arith}
+use Rattle.std.specs.Prelude.{pos, ◌*◌, ◌-ℤ◌, ◌<ℤ◌, All, Any, IsTrue}
+use Rattle.std.proofs.lemmas.List.{get_or_default}
+use Rattle.edf_pick.specs.Places.{Places, stands}
+use Rattle.domain_run.specs.declared.task.Task.{Task}
+use Rattle.domain_run.specs.Conditions.{is_ready}
+use Rattle.domain_run.specs.Domain.{Domain}
+use Rattle.domain_run.specs.Jump.{under_way, ticks_to_event}
+use Rattle.domain_run.specs.Sound.{occupant, IsSound, IsSteady, IsPlacement}
+use Rattle.domain_run.specs.Tick.{begun, ticks}
+use Rattle.domain_run.specs.private.Paying.{ran_until}
+use Rattle.domain_run.specs.private.Roster.{rate_in, leapt, LastsIf}
+use Rattle.domain_run.specs.private.Waiting.{MaySit, MaySitOn}
+use Rattle.domain_run.proofs.Jumping.{RunsIf, jump_is}
+use Rattle.domain_run.proofs.Keeping.{Same}
+use Rattle.domain_run.proofs.Paying.{is_Ready, same_ran_until}
+use Rattle.domain_run.proofs.Placing.{one_index}
+use Rattle.domain_run.proofs.Runners.{contends}
+
+-- who stands on a CPU may sit there
+pub may_sit_on : (e : Domain) → IsSteady e → IsPlacement e → MaySitOn e.curr e.tasks
+may_sit_on e steady placed cpu n at i d h number = by_task (placed.running cpu n at)
+  where
+    by_task : Any (λ t. (t.number ≡ n) × (t.cpu ≡ cpu) × IsTrue (is_ready t.condition) × (pos 0 <ℤ t.server.left)) e.tasks → ((get_or e.tasks i d).cpu ≡ cpu) × MaySit (get_or e.tasks i d)
+    by_task (k, t, within, same, facts) =
+        let sound : IsSound e.time t = subst (IsSound e.time) same (steady.sound k t within) in
+        let read : t ≡ get_or e.tasks k d = sym same ∙ get_or_default e.tasks k t d within in
+        let i_is : i ≡ k = one_index e.tasks i k d d steady.numbered h within (number ∙ sym facts.0 ∙ ap (λ (x : Task). x.number) read) in
+        let is : t ≡ get_or e.tasks i d = read ∙ ap (λ j. get_or e.tasks j d) (sym i_is) in
+        subst (λ (x : Task). (x.cpu ≡ cpu) × MaySit x) is (
+          facts.1,
+          record { ready = facts.2; busy = sound.busy (contends t.condition facts.2); lifted = facts.3; high = sound.served.high },
+        )
+
+pub same_leapt : (time k : ℕ) (places : Places) (cpus limit : ℕ) (tasks : List Task) (t : Task) → Same t (leapt time k places cpus limit tasks t)
+same_leapt time k places cpus limit tasks t =
+    let left = t.server.left -ℤ pos (rate_in cpus limit tasks t * k) in
+    elim (stands t.number places) as (λ b. Same t (cond b (ran_until time k left t) t)) [
+      | true ↦ same_ran_until time k left t
+      | false ↦ record { number = refl; params = refl; cpu = refl }
+    ]
+
+pub leap_is : (e : Domain) (k time : ℕ) (tasks : List Task) → 0 < k → k ≤ ticks_to_event (under_way e) → time ≡ (under_way e).time + (k - 1)
+    → All (LastsIf k (under_way e).curr (under_way e).cpus (under_way e).limit (under_way e).tasks) (under_way e).tasks
+    → tasks ≡ map (leapt time k (under_way e).curr (under_way e).cpus (under_way e).limit (under_way e).tasks) (under_way e).tasks
+    → record (under_way e) { time = time; tasks = tasks } ≡ ticks k e
+leap_is e k time tasks some quiet time-is lasts tasks-are =
+    let u = under_way e in
+    let b = begun e in
+    let at : time ≡ e.time + k = omega (arith, time-is, some) in
+    let runs : All (RunsIf b k) b.tasks = λ i x h stand. let r = lasts i x h stand in record { ready = is_Ready (get_or b.tasks i x).condition r.ready; worked = r.worked; lasted = r.lasted } in
+    let all = tasks-are ∙ ap (λ n. map (leapt n k u.curr u.cpus u.limit u.tasks) u.tasks) at in
+    (λ i. record u { time = at i; tasks = all i }) ∙ sym (jump_is e k some (omega (arith, quiet)) runs)

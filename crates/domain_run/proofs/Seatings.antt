@@ -1,0 +1,275 @@
+-- Seats that are taken and left, and time that goes on for all who sit.
+use Rattle.std.proofs.Common.{◌≡◌, ◌≢◌, ◌⊎◌, ℕ, zero, suc, ◌+◌, ◌-◌, ◌*◌, ◌^◌, ◌<◌, ◌≤◌, min, Bool, true, false, cond, eqb, Option, Some, None, List, [], ◌∷◌, length, map, get_or, set, refl, sym, ap, ◌∙◌, subst, arith, inl, inr, eq-eqb}
+use Rattle.std.specs.Prelude.{ℤ, pos, ◌-ℤ◌, ◌<ℤ◌, All, AllPairs, IsTrue, IfSome}
+use Rattle.std.proofs.lemmas.Int.{ints}
+use Rattle.std.proofs.lemmas.Bool.{cases_eq, cases_lt, eqb-true, ne_eqb}
+use Rattle.std.proofs.lemmas.List.{get_or-set_same, get_or-set_other, get_or_past, get_or_default, get_or-map, length-map, length-set, set-get_or}
+use Rattle.std.proofs.Math.Nat.{mul-le-mul_left}
+use Rattle.domain_run.specs.declared.task.Task.{Task}
+use Rattle.grub_rules.specs.Rate as reclaiming
+use Rattle.domain_run.specs.declared.seats.Seat.{Seat}
+use Rattle.domain_run.specs.declared.seats.Basis.{Basis}
+use Rattle.domain_run.specs.private.Seats.{SeatsView, seat_by, left, IsAhead}
+use Rattle.domain_run.specs.private.Waiting.{left_of, seat_of, slid_for, owed_by, owed, owed_all, Waits, WaitsIf, AllWait, MaySit, IsAtRate, IsRight, charged_on, rate_by}
+use Rattle.domain_run.specs.declared.run_queue.RunQueue.{RunQueue}
+use Rattle.domain_run.specs.private.RunQueue.{IsCounted}
+use Rattle.domain_run.specs.private.Roster.{RosterView, IsKept}
+use Rattle.domain_run.specs.private.Index.{IsAt, IsAbsent}
+use Rattle.domain_run.proofs.Jumping.{Alike, map_alike}
+use Rattle.domain_run.proofs.Placing.{one_index}
+use Rattle.domain_run.proofs.Waiting.{sits, other_seat, alike_owed, owed_set, read_owed}
+
+-- ---- a CPU is left
+
+pub none_at : (seats : List (Option Seat)) (cpu : ℕ) → get_or (set seats cpu None) cpu None ≡ None
+none_at seats cpu = elim (cases_lt cpu (length seats)) [
+  | inl h ↦ get_or-set_same seats cpu None None h
+  | inr h ↦ get_or_past (set seats cpu None) cpu None (omega (arith, h, length-set seats cpu None))
+]
+
+pub nobody_here : (seats : List (Option Seat)) (cpu : ℕ) (t : Task) → t.cpu ≡ cpu → seat_of (set seats cpu None) t ≡ None
+nobody_here seats cpu t e = ap (λ c. seat_by t.number (get_or (set seats cpu None) c None)) e ∙ ap (seat_by t.number) (none_at seats cpu)
+
+pub same_elsewhere : (seats : List (Option Seat)) (cpu : ℕ) (o : Option Seat) (t : Task) → t.cpu ≢ cpu → seat_of (set seats cpu o) t ≡ seat_of seats t
+same_elsewhere seats cpu o t apart = ap (seat_by t.number) (get_or-set_other seats cpu t.cpu o None apart)
+
+-- for a task of another number it was as if nobody sat there
+pub same_stranger : (seats : List (Option Seat)) (cpu : ℕ) (s : Seat) (t : Task) → get_or seats cpu None ≡ Some s → t.number ≢ s.number → seat_of (set seats cpu None) t ≡ seat_of seats t
+same_stranger seats cpu s t there other = elim (cases_eq t.cpu cpu) [
+  | inl e ↦
+      nobody_here seats cpu t e
+      ∙ sym (ap (λ c. seat_by t.number (get_or seats c None)) e ∙ ap (seat_by t.number) there ∙ other_seat t.number s (λ k. other (sym k)))
+  | inr apart ↦ same_elsewhere seats cpu None t apart
+]
+
+pub same_seats : (upto : ℕ) (seats new : List (Option Seat)) (tasks : List Task) → ((k : ℕ) (d : Task) → k < length tasks → seat_of new (get_or tasks k d) ≡ seat_of seats (get_or tasks k d)) → map (owed upto new) tasks ≡ map (owed upto seats) tasks
+same_seats upto seats new tasks same = map_alike (owed upto new) (owed upto seats) tasks (λ k d h. ap (λ o. owed_by upto o (get_or tasks k d)) (same k d h))
+
+pub same_waits : (seats new : List (Option Seat)) (t : Task) → seat_of new t ≡ seat_of seats t → WaitsIf seats t → WaitsIf new t
+same_waits seats new t same = subst (λ o. IfSome o (λ s. Waits s t)) (sym same)
+
+pub none_waits : (seats : List (Option Seat)) (t : Task) → seat_of seats t ≡ None → WaitsIf seats t
+none_waits seats t none = subst (λ o. IfSome o (λ s. Waits s t)) (sym none) tt
+
+cpu_by : (upto : ℕ) (o : Option Seat) (t : Task) → (owed_by upto o t).cpu ≡ t.cpu
+cpu_by upto None t = refl
+cpu_by upto (Some s) t = refl
+
+module _ (upto cpu : ℕ) (seats : List (Option Seat)) (tasks : List Task) (s : Seat) (there : get_or seats cpu None ≡ Some s) where
+  -- the task that sits is not listed
+  pub lost_view : IsAbsent tasks s.number → map (owed upto (set seats cpu None)) tasks ≡ map (owed upto seats) tasks
+  lost_view absent = same_seats upto seats (set seats cpu None) tasks (λ k d h. same_stranger seats cpu s (get_or tasks k d) there (absent k d h))
+
+  pub lost_waits : IsAbsent tasks s.number → AllWait seats tasks → AllWait (set seats cpu None) tasks
+  lost_waits absent waits k d h = same_waits seats (set seats cpu None) (get_or tasks k d) (same_stranger seats cpu s (get_or tasks k d) there (absent k d h)) (waits k d h)
+
+  module _ (p : ℕ) (x : Task) (inside : p < length tasks) (read : x ≡ get_or tasks p x) (number : x.number ≡ s.number) (numbered : AllPairs (λ a b. a.number ≢ b.number) tasks) where
+    others : (k : ℕ) (d : Task) → k < length tasks → k ≢ p → seat_of (set seats cpu None) (get_or tasks k d) ≡ seat_of seats (get_or tasks k d)
+    others k d h apart = same_stranger seats cpu s (get_or tasks k d) there (λ e. apart (one_index tasks k p d d numbered h inside (e ∙ sym number ∙ ap (λ (t : Task). t.number) (read ∙ get_or_default tasks p x d inside))))
+
+    -- where it belongs to the CPU
+    pub its_seat : x.cpu ≡ cpu → seat_of seats x ≡ Some s
+    its_seat e = ap (λ c. seat_by x.number (get_or seats c None)) e ∙ ap (seat_by x.number) there ∙ ap (λ b. cond b (Some s) None) (eq-eqb s.number x.number (sym number))
+
+    charged_here : x.cpu ≡ cpu → charged_on cpu upto s x ≡ owed upto seats x
+    charged_here e = ap (λ b. cond b (owed_by upto (Some s) x) x) (eq-eqb x.cpu cpu e) ∙ ap (λ o. owed_by upto o x) (sym (its_seat e))
+
+    charged_there : x.cpu ≢ cpu → charged_on cpu upto s x ≡ x
+    charged_there apart = ap (λ b. cond b (owed_by upto (Some s) x) x) (ne_eqb x.cpu cpu apart)
+
+    gone_here : x.cpu ≡ cpu → seat_of (set seats cpu None) (charged_on cpu upto s x) ≡ None
+    gone_here e = ap (seat_of (set seats cpu None)) (charged_here e) ∙ nobody_here seats cpu (owed upto seats x) (cpu_by upto (seat_of seats x) x ∙ e)
+
+    pub charge_waits : AllWait seats tasks → x.cpu ≡ cpu → Waits s x
+    charge_waits waits e = subst (λ o. IfSome o (λ r. Waits r x)) (its_seat e) (subst (WaitsIf seats) (sym read) (waits p x inside))
+
+    pub vacated_view : map (owed upto (set seats cpu None)) (set tasks p (charged_on cpu upto s x)) ≡ map (owed upto seats) tasks
+    vacated_view = elim (cases_eq x.cpu cpu) [
+      | inl e ↦
+          owed_set upto seats (set seats cpu None) tasks p (charged_on cpu upto s x) (owed upto seats x) others (ap (λ o. owed_by upto o (charged_on cpu upto s x)) (gone_here e) ∙ charged_here e)
+          ∙ ap (set (map (owed upto seats) tasks) p) (read_owed upto seats tasks p x inside read)
+          ∙ set-get_or (map (owed upto seats) tasks) p (owed upto seats x)
+      | inr apart ↦
+          ap (λ (t : Task). map (owed upto (set seats cpu None)) (set tasks p t)) (charged_there apart ∙ read)
+          ∙ ap (map (owed upto (set seats cpu None))) (set-get_or tasks p x)
+          ∙ same_seats upto seats (set seats cpu None) tasks (λ k d h. elim (cases_eq k p) [
+            | inl e ↦
+                let is : x ≡ get_or tasks k d = read ∙ get_or_default tasks p x d inside ∙ ap (λ i. get_or tasks i d) (sym e) in
+                subst (λ (t : Task). seat_of (set seats cpu None) t ≡ seat_of seats t) is (same_elsewhere seats cpu None x apart)
+            | inr ne ↦ others k d h ne
+          ])
+    ]
+
+    pub vacated_waits : AllWait seats tasks → AllWait (set seats cpu None) (set tasks p (charged_on cpu upto s x))
+    vacated_waits waits k d h =
+        let y = charged_on cpu upto s x in
+        elim (cases_eq k p) [
+          | inl e ↦
+              let is : y ≡ get_or (set tasks p y) k d = sym (ap (λ i. get_or (set tasks p y) i d) e ∙ get_or-set_same tasks p y d inside) in
+              subst (WaitsIf (set seats cpu None)) is (elim (cases_eq x.cpu cpu) [
+                | inl same ↦ none_waits (set seats cpu None) y (gone_here same)
+                | inr apart ↦ subst (WaitsIf (set seats cpu None)) (sym (charged_there apart)) (same_waits seats (set seats cpu None) x (same_elsewhere seats cpu None x apart) (subst (WaitsIf seats) (sym read) (waits p x inside)))
+              ])
+          | inr ne ↦
+              let within : k < length tasks = omega (arith, h, length-set tasks p y) in
+              subst (WaitsIf (set seats cpu None)) (sym (get_or-set_other tasks p k y d ne)) (same_waits seats (set seats cpu None) (get_or tasks k d) (others k d within ne) (waits k d within))
+        ]
+
+-- ---- a CPU is taken
+
+slide_none : (k rate : ℕ) (t : Task) → k ≡ 0 → slid_for k rate t ≡ t
+slide_none k rate t e =
+    let nought : rate * k ≡ 0 = rw e (omega arith) in
+    let left : t.server.left -ℤ pos (rate * k) ≡ t.server.left = omega (arith, ints, nought) in
+    let work : t.work - k ≡ t.work = omega (arith, e) in
+    λ i. record t { server = record t.server { left = left i }; work = work i }
+
+owes_none : (upto number : ℕ) (s : Seat) (t : Task) → s.since ≡ upto → owed_by upto (seat_by number (Some s)) t ≡ t
+owes_none upto number s t e = elim (eqb s.number number) as (λ b. owed_by upto (cond b (Some s) None) t ≡ t) [
+  | true ↦ slide_none (upto - s.since) s.rate t (omega (arith, e))
+  | false ↦ refl
+]
+
+module _ (upto cpu : ℕ) (seats : List (Option Seat)) (s : Seat) (free : get_or seats cpu None ≡ None) (inside : cpu < length seats) (since : s.since ≡ upto) where
+  taken_here : (t : Task) → t.cpu ≡ cpu → seat_of (set seats cpu (Some s)) t ≡ seat_by t.number (Some s)
+  taken_here t e = ap (λ c. seat_by t.number (get_or (set seats cpu (Some s)) c None)) e ∙ ap (seat_by t.number) (get_or-set_same seats cpu (Some s) None inside)
+
+  free_here : (t : Task) → t.cpu ≡ cpu → seat_of seats t ≡ None
+  free_here t e = ap (λ c. seat_by t.number (get_or seats c None)) e ∙ ap (seat_by t.number) free
+
+  taken_owes : (t : Task) → owed upto (set seats cpu (Some s)) t ≡ owed upto seats t
+  taken_owes t = elim (cases_eq t.cpu cpu) [
+    | inl e ↦ ap (λ o. owed_by upto o t) (taken_here t e) ∙ owes_none upto t.number s t since ∙ ap (λ o. owed_by upto o t) (sym (free_here t e))
+    | inr apart ↦ ap (λ o. owed_by upto o t) (same_elsewhere seats cpu (Some s) t apart)
+  ]
+
+  pub taken_view : (tasks : List Task) → map (owed upto (set seats cpu (Some s))) tasks ≡ map (owed upto seats) tasks
+  taken_view tasks = map_alike (owed upto (set seats cpu (Some s))) (owed upto seats) tasks (λ k d h. taken_owes (get_or tasks k d))
+
+  pub taken_waits : (tasks : List Task) → ((k : ℕ) (d : Task) → k < length tasks → (get_or tasks k d).cpu ≡ cpu → (get_or tasks k d).number ≡ s.number → Waits s (get_or tasks k d)) → AllWait seats tasks → AllWait (set seats cpu (Some s)) tasks
+  taken_waits tasks sat waits k d h =
+      let t = get_or tasks k d in
+      elim (cases_eq t.cpu cpu) [
+        | inl e ↦ subst (λ o. IfSome o (λ r. Waits r t)) (sym (taken_here t e)) (by_number t (eqb s.number t.number) refl (λ n. sat k d h e n))
+        | inr apart ↦ same_waits seats (set seats cpu (Some s)) t (same_elsewhere seats cpu (Some s) t apart) (waits k d h)
+      ]
+    where
+      by_number : (t : Task) (b : Bool) → eqb s.number t.number ≡ b → (t.number ≡ s.number → Waits s t) → IfSome (cond b (Some s) None) (λ r. Waits r t)
+      by_number t true e sat = sat (sym (eqb-true s.number t.number e))
+      by_number t false e sat = tt
+
+-- a seat that ends with the work or the budget of its task, whichever is first
+pub waits_until : (s : Seat) (t : Task) (spent left : ℕ) → MaySit t → pos left ≡ t.server.left → s.end - s.since ≡ min t.work spent → s.rate * (spent - 1) < left → ((b : Basis) → s.basis ≡ b → s.rate ≡ rate_by b t) → Waits s t
+waits_until s t spent left may is span lasted rated =
+    let m : s.rate * (s.end - s.since - 1) ≤ s.rate * (spent - 1) = mul-le-mul_left s.rate (omega (arith, span)) in
+    record {
+      ready = may.ready;
+      worked = omega (arith, span);
+      lasted = omega (arith, ints, is, m, lasted);
+      rated = rated;
+    }
+
+-- ---- who is to sit sits
+
+at_rate : (rate : ℕ) (o : Option Seat) (s : Seat) → o ≡ Some s → s.rate ≡ rate → IsAtRate rate o
+at_rate rate o s is e = subst (IsAtRate rate) (sym is) e
+
+pub right_rate : (n number rate other : ℕ) (o : Option Seat) → (n ≡ number → rate ≡ other) → IsRight (Some n) number rate o → IsRight (Some n) number other o
+right_rate n number rate other o same is = (λ e. subst (λ r. IsAtRate r o) (same e) (is.0 e), is.1)
+
+module _ (cpu n rate : ℕ) (seats : List (Option Seat)) where
+  pub taken_right : (s : Seat) (t : Task) → cpu < length seats → s.number ≡ n → s.rate ≡ rate → t.cpu ≡ cpu → IsRight (Some n) t.number rate (seat_of (set seats cpu (Some s)) t)
+  taken_right s t inside its r e =
+      let here : seat_of (set seats cpu (Some s)) t ≡ seat_by t.number (Some s) = ap (λ c. seat_by t.number (get_or (set seats cpu (Some s)) c None)) e ∙ ap (seat_by t.number) (get_or-set_same seats cpu (Some s) None inside) in (
+        λ k. at_rate rate (seat_of (set seats cpu (Some s)) t) s (here ∙ ap (λ b. cond b (Some s) None) (eq-eqb s.number t.number (its ∙ k))) r,
+        λ k. here ∙ other_seat t.number s (λ q. k (sym its ∙ q)),
+      )
+
+  pub free_right : (t : Task) → get_or seats cpu None ≡ None → t.number ≢ n → t.cpu ≡ cpu → IsRight (Some n) t.number rate (seat_of seats t)
+  free_right t free other e = (λ k. absurd (other (sym k)), λ k. ap (λ c. seat_by t.number (get_or seats c None)) e ∙ ap (seat_by t.number) free)
+
+  pub sits_right : (t : Task) → IsAtRate rate (seat_by n (get_or seats cpu None)) → t.cpu ≡ cpu → IsRight (Some n) t.number rate (seat_of seats t)
+  sits_right t is e = by_seat (seat_by n (get_or seats cpu None)) refl is
+    where
+      here : seat_of seats t ≡ seat_by t.number (get_or seats cpu None)
+      here = ap (λ c. seat_by t.number (get_or seats c None)) e
+
+      by_seat : (o : Option Seat) → seat_by n (get_or seats cpu None) ≡ o → IsAtRate rate o → IsRight (Some n) t.number rate (seat_of seats t)
+      by_seat None q r = absurd r
+      by_seat (Some s) q r =
+          let at = sits n (get_or seats cpu None) s q in (
+            λ k. at_rate rate (seat_of seats t) s (here ∙ ap (λ m. seat_by m (get_or seats cpu None)) (sym k) ∙ q) r,
+            λ k. here ∙ ap (seat_by t.number) at.at ∙ other_seat t.number s (λ z. k (sym at.its ∙ z)),
+          )
+
+-- who sits on a basis that is still right, is right
+pub basis_right : (upto cpu n : ℕ) (seats : List (Option Seat)) (items : List Task) (s : Seat) (b : Basis) → seat_by n (get_or seats cpu None) ≡ Some s → s.basis ≡ b → AllWait seats items → All (λ t. t.cpu ≡ cpu → IsRight (Some n) t.number (rate_by b t) (seat_of seats t)) (map (owed upto seats) items)
+basis_right upto cpu n seats items s b sat same waits k d h e =
+    let f = owed upto seats in
+    let many : length (map f items) ≡ length items = simp length-map in
+    let inside : k < length items = omega (arith, h, many) in
+    let x = get_or items k d in
+    let t = get_or (map f items) k d in
+    let read : t ≡ f x = get_or-map f items k d d inside in
+    let a = alike_owed upto seats x in
+    let here : seat_of seats t ≡ seat_by t.number (get_or seats cpu None) = ap (λ c. seat_by t.number (get_or seats c None)) e in
+    let at = sits n (get_or seats cpu None) s sat in
+    let cpu_is : x.cpu ≡ cpu = sym a.cpu ∙ ap (λ (u : Task). u.cpu) (sym read) ∙ e in
+    let number_is : x.number ≡ t.number = sym a.number ∙ ap (λ (u : Task). u.number) (sym read) in
+    let params : x.params ≡ t.params = sym a.params ∙ ap (λ (u : Task). u.params) (sym read) in (
+      λ q.
+          let its : seat_of seats x ≡ Some s = (λ i. seat_by ((number_is ∙ sym q) i) (get_or seats (cpu_is i) None)) ∙ sat in
+          let w : Waits s x = subst (λ o. IfSome o (λ r. Waits r x)) its (waits k d inside) in
+          at_rate (rate_by b t) (seat_of seats t) s (here ∙ ap (λ m. seat_by m (get_or seats cpu None)) (sym q) ∙ sat)
+          (w.rated b same ∙ (λ i. reclaiming.rate (params i) b.uinact b.sum b.cpus b.limit)),
+      λ q. here ∙ ap (seat_by t.number) at.at ∙ other_seat t.number s (λ z. q (sym at.its ∙ z)),
+    )
+
+-- the rate of a task that is stored is that of the task as it is seen
+pub rated_at : (upto : ℕ) (seats : List (Option Seat)) (items : List Task) (number p rate : ℕ) (b : Basis) (x : Task) → x ≡ get_or items p x → IsAt (map (owed upto seats) items) number p → All (λ t. t.number ≡ number → rate ≡ rate_by b t) (map (owed upto seats) items) → rate ≡ rate_by b x
+rated_at upto seats items number p rate b x read at rates =
+    let many : length (map (owed upto seats) items) ≡ length items = simp length-map in
+    let inside : p < length items = let h = at.within in omega (arith, h, many) in
+    let u = owed upto seats x in
+    let seen = read_owed upto seats items p x inside read in
+    let params : u.params ≡ x.params = (alike_owed upto seats x).params in
+    rates p u at.within (at.is u) ∙ ap (rate_by b) (sym seen) ∙ (λ i. reclaiming.rate (params i) b.uinact b.sum b.cpus b.limit)
+
+-- ---- the roster, where a seat changes
+
+abbrev pub roster_view : ℕ → SeatsView → List Task → RosterView
+roster_view cpus s tasks = record { cpus = cpus; clock = s.upto; seats = s.seats; tasks = owed_all s tasks }
+
+pub view_again : (cpus cpu : ℕ) (o : Option Seat) (s v : SeatsView) (items after : List Task) (r : RosterView) → roster_view cpus s items ≡ r → v ≡ record s { seats = set s.seats cpu o } → owed_all v after ≡ owed_all s items → roster_view cpus v after ≡ record r { seats = set r.seats cpu o }
+view_again cpus cpu o s v items after r view are same =
+    (λ i. record (roster_view cpus s items) { clock = (are i).upto; seats = (are i).seats; tasks = same i })
+    ∙ ap (λ (x : RosterView). record x { seats = set x.seats cpu o }) view
+
+pub kept_again : (queue : RunQueue) (s v : SeatsView) (items after : List Task) (capacity : ℕ) → IsKept queue s items capacity → owed_all v after ≡ owed_all s items → AllWait v.seats after → length v.seats ≡ length s.seats → IsKept queue v after capacity
+kept_again queue s v items after capacity is same waits long = record {
+  counted = subst (IsCounted (length queue.accounts.all) queue) (sym same) is.counted;
+  waits = waits;
+  wide = long ∙ is.wide;
+  room = is.room;
+}
+
+-- the task of a number is at one place
+pub only_at : (tasks : List Task) (number p k : ℕ) (d : Task) → AllPairs (λ a b. a.number ≢ b.number) tasks → IsAt tasks number p → k < length tasks → (get_or tasks k d).number ≡ number → k ≡ p
+only_at tasks number p k d numbered at h e = one_index tasks k p d d numbered h at.within (e ∙ sym (at.is d))
+
+module _ (upto : ℕ) (seats : List (Option Seat)) (tasks : List Task) (number p : ℕ) (x : Task) (read : x ≡ get_or tasks p x) (at : IsAt (map (owed upto seats) tasks) number p) where
+  pub inside_at : p < length tasks
+  inside_at = let many : length (map (owed upto seats) tasks) ≡ length tasks = simp length-map in let h = at.within in omega (arith, h, many)
+
+  pub number_at : x.number ≡ number
+  number_at = sym (alike_owed upto seats x).number ∙ ap (λ (t : Task). t.number) (read_owed upto seats tasks p x inside_at read) ∙ at.is (owed upto seats x)
+
+  -- who is to sit where nobody sits owes nothing
+  pub may_at : (cpu : ℕ) → get_or seats cpu None ≡ None → All (λ t. t.number ≡ number → (t.cpu ≡ cpu) × MaySit t) (map (owed upto seats) tasks) → (x.cpu ≡ cpu) × MaySit x
+  may_at cpu free may =
+      let u = owed upto seats x in
+      let seen = read_owed upto seats tasks p x inside_at read in
+      let m = may p u at.within (at.is u) in
+      let home : x.cpu ≡ cpu = sym (alike_owed upto seats x).cpu ∙ ap (λ (t : Task). t.cpu) seen ∙ m.0 in
+      let none : seat_of seats x ≡ None = ap (λ c. seat_by x.number (get_or seats c None)) home ∙ ap (seat_by x.number) free in
+      (home, subst MaySit (sym seen ∙ ap (λ o. owed_by upto o x) none) m.1)

@@ -1,0 +1,74 @@
+-- A change of one task of the list, where charges wait.
+use Rattle.std.proofs.Common.{◌≡◌, ◌≢◌, ℕ, ◌<◌, Option, List, length, map, get_or, set, refl, sym, ap, ◌∙◌, subst, arith}
+use Rattle.std.specs.Prelude.{All, AllPairs}
+use Rattle.std.proofs.lemmas.List.{length-map}
+use Rattle.std.proofs.lemmas.List.Elements.{All-set}
+use Rattle.domain_run.specs.declared.task.Task.{Task}
+use Rattle.domain_run.specs.declared.change.Change.{Change}
+use Rattle.domain_run.specs.declared.run_queue.RunQueue.{RunQueue}
+use Rattle.domain_run.specs.declared.seats.Seat.{Seat}
+use Rattle.domain_run.specs.Sound.{IsSound}
+use Rattle.domain_run.specs.private.RunQueue.{standing_of, IsCounted, MayTurn, HasTurned}
+use Rattle.domain_run.specs.private.Roster.{after_change, Fits, MayMake}
+use Rattle.domain_run.specs.private.Seats.{SeatsView}
+use Rattle.domain_run.specs.private.Waiting.{owed, owed_all, left_of, WaitsIf, AllWait}
+use Rattle.domain_run.specs.private.Timers.{IsStep}
+use Rattle.domain_run.proofs.Making.{place_fit, place_may, place_counted}
+use Rattle.domain_run.proofs.Due.{step_is}
+use Rattle.domain_run.proofs.Waiting.{alike_owed, numbered_unlike, read_owed, left_twice, length_left, turned_owed, turned_waits, seats_seen}
+
+module _ (w time : ℕ) (change : Change) (queue : RunQueue) (s : SeatsView) (tasks : List Task) (p : ℕ) (x : Task) (h : p < length tasks) (read : x ≡ get_or tasks p x) (fits : Fits w change) (counted : IsCounted w queue (owed_all s tasks)) where
+  abbrev seen : Task
+  seen = owed s.upto s.seats x
+
+  within : p < length (owed_all s tasks)
+  within = let many : length (map (owed s.upto s.seats) tasks) ≡ length tasks = simp length-map in omega (arith, h, many)
+
+  read_seen : seen ≡ get_or (owed_all s tasks) p seen
+  read_seen = read_owed s.upto s.seats tasks p x h read
+
+  pub waits_at : AllWait s.seats tasks → WaitsIf s.seats x
+  waits_at waits = subst (WaitsIf s.seats) (sym read) (waits p x h)
+
+  pub sound_at : All (IsSound time) (owed_all s tasks) → IsSound time (owed s.upto s.seats x)
+  sound_at sound = subst (IsSound time) (sym read_seen) (sound p seen within)
+
+  pub may_at : ((d : Task) → MayMake time change (get_or (owed_all s tasks) p d)) → MayMake time change (owed s.upto s.seats x)
+  may_at may = subst (MayMake time change) (sym read_seen) (may seen)
+
+  pub turns_at : MayTurn p queue (standing_of (owed s.upto s.seats x)) (standing_of (after_change time change (owed s.upto s.seats x)))
+  turns_at = place_may w queue (owed_all s tasks) p time change seen within read_seen fits counted
+
+  module _ (new : RunQueue) (after : SeatsView) (y : Task) (is : y ≡ after_change time change (owed s.upto s.seats x)) (are : after ≡ record s { seats = left_twice x y s.seats }) where
+    same : y.number ≡ x.number
+    same =
+        let fit = place_fit w queue (owed_all s tasks) p time change seen within fits counted in
+        let made : (after_change time change seen).number ≡ seen.number = ap (λ (t : Task). (after_change time change t).number) read_seen ∙ fit.number ∙ sym (ap (λ (t : Task). t.number) read_seen) in
+        ap (λ (t : Task). t.number) is ∙ made ∙ (alike_owed s.upto s.seats x).number
+
+    numbered : AllPairs (λ a b. a.number ≢ b.number) tasks
+    numbered = numbered_unlike (owed s.upto s.seats) (alike_owed s.upto s.seats) tasks counted.roster.numbered
+
+    view_is : owed_all after (set tasks p y) ≡ set (owed_all s tasks) p y
+    view_is = ap (λ (v : SeatsView). owed_all v (set tasks p y)) are ∙ turned_owed s.upto s.seats tasks p x y h read numbered same
+
+    pub step_turned : IsStep (after_change time change) p (owed_all s tasks) (owed_all after (set tasks p y))
+    step_turned = subst (IsStep (after_change time change) p (owed_all s tasks)) (sym view_is) (step_is (owed_all s tasks) p seen y (after_change time change) within read_seen is)
+
+    pub sound_turned : IsSound time y → All (IsSound time) (owed_all s tasks) → All (IsSound time) (owed_all after (set tasks p y))
+    sound_turned one all = subst (All (IsSound time)) (sym view_is) (All-set (IsSound time) (owed_all s tasks) p y one all)
+
+    pub counted_turned : HasTurned p (standing_of (owed s.upto s.seats x)) (standing_of y) queue new → IsCounted w new (owed_all after (set tasks p y))
+    counted_turned has = subst (IsCounted w new) (sym view_is) (place_counted w queue new (owed_all s tasks) p time change seen y within read_seen fits is has counted)
+
+    pub waits_turned : AllWait s.seats tasks → AllWait after.seats (set tasks p y)
+    waits_turned waits = subst (λ (v : SeatsView). AllWait v.seats (set tasks p y)) (sym are) (turned_waits s.upto s.seats tasks p x y h read numbered same waits)
+
+    pub seats_turned : (d : Task) → after.seats ≡ left_of (get_or (owed_all after (set tasks p y)) p d) (left_of (get_or (owed_all s tasks) p d) s.seats)
+    seats_turned d =
+        ap (λ (v : SeatsView). v.seats) are
+        ∙ seats_seen s.upto s.seats tasks p x y h read numbered same d
+        ∙ ap (λ (ts : List Task). left_of (get_or ts p d) (left_of (get_or (owed_all s tasks) p d) s.seats)) (sym view_is)
+
+    pub wide_turned : length after.seats ≡ length s.seats
+    wide_turned = ap (λ (v : SeatsView). length v.seats) are ∙ length_left y.cpu x.number (left_of x s.seats) ∙ length_left x.cpu x.number s.seats

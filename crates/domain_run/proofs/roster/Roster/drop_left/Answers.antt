@@ -1,0 +1,37 @@
+use Rattle.std.proofs.Common.{◌≡◌, ℕ, List, length, map, refl, sym, ap, subst, ◌∙◌}
+use Rattle.std.specs.Prelude.{filter}
+use Rattle.std.proofs.lemmas.List.Elements.{All-filter}
+use Rattle.domain_run.specs.declared.task.Task.{Task}
+use Rattle.domain_run.specs.Parts.{is_listed}
+use Rattle.domain_run.specs.private.Roster.{RosterView}
+use Rattle.domain_run.specs.private.RunQueue.{IsCounted}
+use Rattle.domain_run.specs.private.Waiting.{owed, AllWait, WaitsIf}
+use Rattle.domain_run.proofs.Waiting.{alike_owed, counted_like, counted_unlike, listed_alike, filter_alike}
+use Rattle.domain_run.proofs.roster.Roster.drop_left.Goals as goal
+
+pub drop_left-requires : goal.drop_left-requires
+drop_left-requires c =
+    let s = c.self.inside in
+    counted_unlike (owed s.seats.upto s.seats.seats) (alike_owed s.seats.upto s.seats.seats) (length s.queue.accounts.all) s.queue s.tasks.items c.self.invariant.counted
+
+pub invariant_of-self : goal.invariant_of-self
+invariant_of-self c =
+    let s = c.self.inside in
+    let f = owed s.seats.upto s.seats.seats in
+    let queue = c.drop_left.new.queue in
+    let items = c.drop_left.new.tasks.items in
+    let counted = c.drop_left.ensures.counted in
+    record {
+      counted = subst (λ (n : ℕ). IsCounted n queue (map f items)) (sym counted.wide) (counted_like f (alike_owed s.seats.upto s.seats.seats) (length s.queue.accounts.all) queue items counted);
+      waits = subst (AllWait s.seats.seats) (sym c.drop_left.ensures.tasks) (All-filter is_listed (WaitsIf s.seats.seats) s.tasks.items c.self.invariant.waits);
+      wide = c.self.invariant.wide ∙ sym counted.wide;
+      room = c.drop_left.ensures.room ∙ c.self.invariant.room;
+    }
+
+pub returns-clause-tasks : goal.returns-clause-tasks
+returns-clause-tasks c =
+    let s = c.self.inside in
+    let f = owed s.seats.upto s.seats.seats in
+    ap (map f) c.drop_left.ensures.tasks
+    ∙ sym (filter_alike f (alike_owed s.seats.upto s.seats.seats) is_listed s.tasks.items (listed_alike f (alike_owed s.seats.upto s.seats.seats)))
+    ∙ ap (λ (r : RosterView). filter is_listed r.tasks) c.self.view_is

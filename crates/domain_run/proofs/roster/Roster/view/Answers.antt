@@ -1,0 +1,23 @@
+use Rattle.std.proofs.Common.{eqb, Some, sym, ap, subst, ◌≡◌, ◌∙◌}
+use Rattle.std.specs.Prelude.{find, option_map}
+use Rattle.domain_run.specs.Views.{view_of}
+use Rattle.domain_run.specs.private.Index.{IsAt}
+use Rattle.domain_run.specs.private.Roster.{RosterView}
+use Rattle.domain_run.specs.declared.task.TaskView.{TaskView}
+use Rattle.domain_run.specs.private.Waiting.{WaitsIf}
+use Rattle.domain_run.proofs.Finding.{find_absent}
+use Rattle.domain_run.proofs.Waiting.{found_owed}
+use Rattle.domain_run.proofs.roster.Roster.view.Goals as goal
+
+pub returns-in-None : goal.returns-in-None
+returns-in-None c = sym (ap (option_map view_of) (find_absent c.args.self.now.tasks c.args.number c.in-None.ensures.absent))
+
+pub returns-in-Some : goal.returns-in-Some
+returns-in-Some c =
+    let s = c.self.inside in
+    let x = c.index.result.now in
+    let at = subst (λ (r : RosterView). IsAt r.tasks c.args.number c.in-Some.place) (sym c.self.view_is) c.in-Some.ensures.there in
+    let found = found_owed s.seats.upto s.seats.seats s.tasks.items c.args.number c.in-Some.place x c.self.invariant.counted.roster.numbered at c.index.ensures in
+    ap (λ (v : TaskView). Some v) c.view_at.ensures
+    ∙ sym (ap (option_map view_of) found)
+    ∙ ap (λ (r : RosterView). option_map view_of (find (λ t. eqb t.number c.args.number) r.tasks)) c.self.view_is

@@ -1,0 +1,17 @@
+use Rattle.std.proofs.Common.{◌≡◌, List, Option, None, map, length, replicate, sym, ap, subst, ◌∙◌, arith}
+use Rattle.std.specs.Prelude.{IfSome, All}
+use Rattle.std.proofs.lemmas.List.{length-map}
+use Rattle.domain_run.specs.declared.seats.Seat.{Seat}
+use Rattle.domain_run.specs.private.Seats.{IsAhead, end_of}
+use Rattle.domain_run.proofs.SeatTimes.{none_ahead, none_end, none_length}
+use Rattle.domain_run.proofs.seats.Seats.open.Goals as goal
+
+pub invariant_of-result : goal.invariant_of-result
+invariant_of-result c =
+    let n = c.args.cpus in
+    record {
+      early = omega arith;
+      few = omega (arith, c.requires, ap (λ (xs : List (Option Seat)). length (map end_of xs)) c.in_ok-seats.ensures, length-map c.in_ok-seats.seats.items end_of, none_length n);
+      ahead = subst (All (λ o. IfSome o (IsAhead 0))) (sym c.in_ok-seats.ensures) (none_ahead n);
+      ends_are = c.add_never.ensures ∙ none_end n ∙ ap (λ (xs : List (Option Seat)). map end_of xs) (sym c.in_ok-seats.ensures);
+    }

@@ -1,0 +1,51 @@
+use Rattle.std.proofs.Common.{◌≡◌, ◌<◌, ◌≤◌, ◌+◌, ◌-◌, ◌^◌, ℕ, List, length, map, sym, ap, subst, ◌∙◌, arith}
+use Rattle.std.specs.Prelude.{All, IfSome}
+use Rattle.domain_run.specs.declared.task.Task.{Task}
+use Rattle.domain_run.specs.Sound.{IsSound}
+use Rattle.domain_run.specs.private.Roster.{RosterView, IsSeated, LastsIf, leapt}
+use Rattle.domain_run.specs.private.RunQueue.{AreHomed}
+use Rattle.domain_run.specs.private.Waiting.{seat_of, Lasts, passed, MaySitOn}
+use Rattle.domain_run.proofs.Leaping.{leapt_all, lasts_all}
+use Rattle.domain_run.proofs.Paying.{sound_later}
+use Rattle.domain_run.proofs.to_event.leap.Goals as goal
+
+tasks_are : (c : goal.After-pass) → c.seat_all.new.roster.tasks ≡ c.args.roster.now.tasks
+tasks_are c = c.seat_all.ensures.tasks ∙ c.wind_back.ensures.tasks
+
+right_are : (c : goal.After-pass) → All (IsSeated c.args.places.now c.args.roster.now.cpus c.args.limit c.args.roster.now.tasks c.seat_all.new.roster.seats) c.args.roster.now.tasks
+right_are c =
+    let places = c.args.places.now in
+    let old = c.args.roster.now in
+    let mid = c.wind_back.new.self in
+    let seats = c.seat_all.new.roster.seats in
+    subst (λ (ts : List Task). All (IsSeated places old.cpus c.args.limit old.tasks seats) ts) (tasks_are c)
+    (subst (λ (ts : List Task). All (IsSeated places old.cpus c.args.limit ts seats) c.seat_all.new.roster.tasks) c.wind_back.ensures.tasks
+    (subst (λ (n : ℕ). All (IsSeated places n c.args.limit mid.tasks seats) c.seat_all.new.roster.tasks) c.wind_back.ensures.cpus c.seat_all.ensures.right))
+
+pub pass-requires-clause-clock : goal.pass-requires-clause-clock
+pass-requires-clause-clock c = omega (arith, c.seat_all.ensures.clock, c.wind_back.ensures.early, c.ticks_to_end-ticks.ensures.most, c.requires.early)
+
+pub pass-requires-clause-sound : goal.pass-requires-clause-sound
+pass-requires-clause-sound c =
+    let k = c.ticks_to_end-ticks.result in
+    let old = c.args.roster.now in
+    subst (λ (ts : List Task). All (IsSound (c.args.time + (k - 1))) ts) (sym (c.seat_all.ensures.tasks ∙ c.wind_back.ensures.tasks))
+    (sound_later c.args.time (c.args.time + (k - 1)) old.tasks (omega arith) c.requires.sound)
+
+pub returns-clause-lasts : goal.returns-clause-lasts
+returns-clause-lasts c =
+    let old = c.args.roster.now in
+    let k = c.ticks_to_end-ticks.result in
+    let seats = c.seat_all.new.roster.seats in
+    lasts_all k c.args.places.now old.cpus c.args.limit old.tasks seats c.requires.apart c.requires.homed (right_are c)
+    (subst (λ (ts : List Task). All (λ t. IfSome (seat_of seats t) (λ s. Lasts k s.rate t)) ts) (tasks_are c) c.ticks_to_end-ticks.ensures.lasts)
+
+pub returns-clause-tasks : goal.returns-clause-tasks
+returns-clause-tasks c =
+    let old = c.args.roster.now in
+    let k = c.ticks_to_end-ticks.result in
+    let end = c.args.time + (k - 1) in
+    let seats = c.seat_all.new.roster.seats in
+    c.pass.ensures.tasks
+    ∙ ap (λ (ts : List Task). map (passed end k seats) ts) (tasks_are c)
+    ∙ leapt_all end k c.args.places.now old.cpus c.args.limit old.tasks seats c.requires.apart c.requires.homed (right_are c)

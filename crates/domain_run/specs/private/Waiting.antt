@@ -1,0 +1,107 @@
+-- Charges that wait: what a running task owes is told by its seat, for the code's own contracts.
+use Rattle.std.specs.Prelude.{ℕ, pos, ◌-◌, ◌*◌, ◌^◌, ◌<◌, ◌≤◌, ◌<ℤ◌, ◌≤ℤ◌, ◌-ℤ◌, ◌≡◌, ◌≢◌, ◌==◌, if◌then◌else◌, List, map, All, slice_index_or, Option, Some, None, IfSome, IsSomeAnd, IsTrue}
+use Rattle.cbs_rules.specs.Serving.{charged}
+use Rattle.domain_run.specs.declared.task.Task.{Task}
+use Rattle.domain_run.specs.declared.seats.Seat.{Seat}
+use Rattle.domain_run.specs.declared.seats.Basis.{Basis}
+use Rattle.grub_rules.specs.Rate as reclaiming
+use Rattle.domain_run.specs.declared.running.Running.{Running}
+use Rattle.edf_pick.specs.Places.{Places}
+use Rattle.domain_run.specs.Conditions.{is_ready}
+use Rattle.domain_run.specs.Sound.{occupant}
+use Rattle.domain_run.specs.private.Paying.{ran_until}
+use Rattle.domain_run.specs.private.Seats.{SeatsView, seat_by, left}
+
+-- the seat of a task: that of the CPU to which it belongs, where it is the task's
+abbrev pub seat_of : List (Option Seat) → Task → Option Seat
+seat_of seats t = seat_by t.number (slice_index_or seats t.cpu None)
+
+-- without that of a task
+abbrev pub left_of : Task → List (Option Seat) → List (Option Seat)
+left_of t seats = left t.cpu t.number seats
+
+-- a task that ran for so many ticks at a rate, in which neither its work nor its budget ended
+abbrev pub slid_for : ℕ → ℕ → Task → Task
+slid_for ticks rate t = record t { server = charged rate ticks t.server; work = t.work - ticks }
+
+-- a task with what it owes charged, up to a time
+abbrev pub owed_by : ℕ → Option Seat → Task → Task
+owed_by upto None t = t
+owed_by upto (Some s) t = slid_for (upto - s.since) s.rate t
+
+abbrev pub owed : ℕ → List (Option Seat) → Task → Task
+owed upto seats t = owed_by upto (seat_of seats t) t
+
+-- a task charged by the seat of a CPU, where it belongs to that
+abbrev pub charged_on : ℕ → ℕ → Seat → Task → Task
+charged_on cpu upto s t = if t.cpu == cpu then owed_by upto (Some s) t else t
+
+abbrev pub owed_all : SeatsView → List Task → List Task
+owed_all s tasks = map (owed s.upto s.seats) tasks
+
+-- the rate of a task on a basis
+abbrev pub rate_by : Basis → Task → ℕ
+rate_by b t = reclaiming.rate t.params b.uinact b.sum b.cpus b.limit
+
+-- a seat's task: it is ready, the seat has its rate, and neither its work nor its budget ends before
+-- the seat does
+pub record Waits (s : Seat) (t : Task) : Type 0 where
+  pub ready : IsTrue (is_ready t.condition)
+  pub worked : s.end - s.since ≤ t.work
+  pub lasted : pos (s.rate * (s.end - s.since - 1)) <ℤ t.server.left
+  pub rated : (b : Basis) → s.basis ≡ b → s.rate ≡ rate_by b t
+
+abbrev pub WaitsIf : List (Option Seat) → Task → Type 0
+WaitsIf seats t = IfSome (seat_of seats t) (λ s. Waits s t)
+
+abbrev pub AllWait : List (Option Seat) → List Task → Type 0
+AllWait seats tasks = All (WaitsIf seats) tasks
+
+-- a task as a jump sees it, where its CPU has so much inactive bandwidth
+abbrev pub runner_of : ℕ → Task → Running
+runner_of uinact t =
+    record {
+      number = t.number;
+      params = t.params;
+      uinact = uinact;
+      left = t.server.left;
+      work = t.work;
+    }
+
+-- ---- who is to sit, and time that goes on
+
+-- a task that may sit down: it is ready, and has budget and work left
+pub record MaySit (t : Task) : Type 0 where
+  pub ready : IsTrue (is_ready t.condition)
+  pub busy : 0 < t.work
+  pub lifted : pos 0 <ℤ t.server.left
+  pub high : t.server.left ≤ℤ pos (2 ^ 52)
+
+-- a seat at a rate
+abbrev pub IsAtRate : ℕ → Option Seat → Type 0
+IsAtRate rate o = IsSomeAnd o (λ s. s.rate ≡ rate)
+
+-- the occupant of a CPU sits there at its rate, and no other task does
+abbrev pub IsRight : Option ℕ → ℕ → ℕ → Option Seat → Type 0
+IsRight None number rate o = o ≡ None
+IsRight (Some n) number rate o = (n ≡ number → IsAtRate rate o) × (n ≢ number → o ≡ None)
+
+-- neither its work nor its budget ends before the last of so many ticks at a rate
+pub record Lasts (ticks rate : ℕ) (t : Task) : Type 0 where
+  pub ready : IsTrue (is_ready t.condition)
+  pub worked : ticks ≤ t.work
+  pub lasted : pos (rate * (ticks - 1)) <ℤ t.server.left
+
+-- a task once so many ticks have passed, up to a time
+abbrev pub passed_by : ℕ → ℕ → Option Seat → Task → Task
+passed_by time ticks None t = t
+passed_by time ticks (Some s) t = ran_until time ticks (t.server.left -ℤ pos (s.rate * ticks)) t
+
+abbrev pub passed : ℕ → ℕ → List (Option Seat) → Task → Task
+passed time ticks seats t = passed_by time ticks (seat_of seats t) t
+
+-- who stands on a CPU may sit there
+abbrev pub MaySitOn : Places → List Task → Type 0
+MaySitOn places tasks =
+    (cpu n : ℕ) → occupant places cpu ≡ Some n
+    → All (λ t. t.number ≡ n → (t.cpu ≡ cpu) × MaySit t) tasks

@@ -1,0 +1,71 @@
+//! A listed task as it is charged up to now.
+
+ghost use Rattle.std.specs.Prelude.{◌≡◌};
+ghost use Rattle.domain_run.specs.Views.{view_of};
+ghost use Rattle.domain_run.specs.private.Waiting as spec;
+
+use crate::running::Running;
+use crate::seats::Seats;
+use crate::task::{Task, TaskView};
+use cbs_rules::Server;
+
+/// What is left of a task's budget, in 1/2^20 us, and of its work, in microseconds.
+#[derive(Clone, Copy, Debug)]
+struct Balance {
+    left: i128,
+    work: u64,
+}
+
+/// What is left once what a task owes is charged.
+fn balance_of(task: &Task, seats: &Seats) -> Balance
+    requires { spec.WaitsIf seats.now.seats task.now }
+    ensures left { result.left ≡ (spec.owed seats.now.upto seats.now.seats task.now).server.left }
+    ensures work { result.work ≡ (spec.owed seats.now.upto seats.now.seats task.now).work }
+{
+    match seats.seat_of(task.cpu, task.number) {
+        None => Balance {
+            left: task.server.left,
+            work: task.work,
+        },
+        Some(seat) => {
+            let ticks = seats.upto() - seat.since;
+            Balance {
+                left: task.server.left - i128::from(seat.rate) * i128::from(ticks),
+                work: task.work - ticks,
+            }
+        }
+    }
+}
+
+/// What a caller may see of a task.
+pub(super) fn view_at(task: &Task, seats: &Seats) -> TaskView
+    requires { spec.WaitsIf seats.now.seats task.now }
+    ensures { result ≡ view_of (spec.owed seats.now.upto seats.now.seats task.now) }
+{
+    let balance = balance_of(task, seats);
+    TaskView {
+        server: Server {
+            deadline: task.server.deadline,
+            left: balance.left,
+        },
+        condition: task.condition,
+        zero_lag: task.zero_lag,
+        cpu: task.cpu,
+        params: task.params,
+    }
+}
+
+/// A task as a jump sees it, where its CPU has so much inactive bandwidth.
+pub(super) fn runner_at(task: &Task, seats: &Seats, uinact: u64) -> Running
+    requires { spec.WaitsIf seats.now.seats task.now }
+    ensures { result ≡ spec.runner_of uinact (spec.owed seats.now.upto seats.now.seats task.now) }
+{
+    let balance = balance_of(task, seats);
+    Running {
+        number: task.number,
+        params: task.params,
+        uinact,
+        left: balance.left,
+        work: balance.work,
+    }
+}

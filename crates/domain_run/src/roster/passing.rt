@@ -1,0 +1,109 @@
+//! Time goes on for all who sit.
+
+ghost use Rattle.std.specs.Prelude.{◌≡◌, ◌<◌, ◌≤◌, ◌+◌, ◌^◌, ◌*◌, ◌-◌, ◌<ℤ◌, ◌≤ℤ◌, ◌-ℤ◌, pos, ℕ, All, IfSome, IfNone, None, map, slice_index_or, slice_set};
+ghost use Rattle.domain_run.specs.Sound.{IsSound};
+ghost use Rattle.domain_run.specs.private.Index.{IsAt};
+ghost use Rattle.domain_run.specs.private.Waiting as spec;
+ghost use Rattle.domain_run.specs.declared.task.Task.{Task};
+
+use super::Roster;
+use crate::change::Change;
+
+/// What so many ticks at a rate take of a budget that lasts until the last of them.
+fn used_in(left: i128, rate: u64, ticks: u64) -> u64
+    requires some { 0 < ticks }
+    requires slow { rate ≤ 2 ^ 27 }
+    requires high { left ≤ℤ pos (2 ^ 52) }
+    requires lasted { pos (rate * (ticks - 1)) <ℤ left }
+    ensures used { result ≡ rate * (ticks - 1) + rate }
+    ensures small { result ≤ 2 ^ 53 }
+{
+    rate * (ticks - 1) + rate
+}
+
+fn left_after(left: i128, used: u64) -> i128
+    requires lifted { pos 0 <ℤ left }
+    requires high { left ≤ℤ pos (2 ^ 52) }
+    requires small { used ≤ 2 ^ 53 }
+    ensures { result ≡ left -ℤ pos used }
+{
+    left - i128::from(used)
+}
+
+impl Roster {
+    /// The place of the task of a number, where it is listed and belongs to a CPU.
+    fn place_on(&self, number: u32, cpu: usize) -> Option<usize>
+        ensures there { IfSome result (IsAt self.now.tasks number) }
+        ensures home { IfSome result (λ place. (d : Task) → (slice_index_or self.now.tasks place d).cpu ≡ cpu) }
+        ensures absent { IfNone result (All (λ t. t.number ≡ number → t.cpu ≡ cpu → ⊥) self.now.tasks) }
+    {
+        let Some(place) = self.place(number) else {
+            return None;
+        };
+        if self.tasks[place].cpu != cpu {
+            return None;
+        }
+        Some(place)
+    }
+
+    /// Of at most so many ticks as many as pass up to the first end of a seat.
+    pub(crate) fn ticks_to_end(&self, most: u64) -> u64
+        requires some { 0 < most }
+        ensures some { 0 < result }
+        ensures most { result ≤ most }
+        ensures ends { (cpu : ℕ) → IfSome (slice_index_or self.now.seats cpu None)
+            (λ s. self.now.clock + result ≤ s.end) }
+        ensures lasts { All (λ t. IfSome (spec.seat_of self.now.seats t)
+            (λ s. spec.Lasts result s.rate t)) self.now.tasks }
+    {
+        (self.seats.first_end() - self.seats.upto()).min(most)
+    }
+
+    /// Who sits on a CPU has run for so many ticks, and sits no more.
+    fn finish_at(&mut self, cpu: usize, ticks: u64, time: u64)
+        requires there { cpu < self.old.cpus }
+        requires some { 0 < ticks }
+        requires early { time < 2 ^ 43 }
+        requires ends { IfSome (slice_index_or self.old.seats cpu None) (λ s. self.old.clock + ticks ≤ s.end) }
+        requires sound { All (IsSound time) self.old.tasks }
+        ensures cpus { self.new.cpus ≡ self.old.cpus }
+        ensures clock { self.new.clock ≡ self.old.clock }
+        ensures seats { self.new.seats ≡ slice_set self.old.seats cpu None }
+        ensures tasks { map (spec.passed time ticks self.new.seats) self.new.tasks
+            ≡ map (spec.passed time ticks self.old.seats) self.old.tasks }
+        ensures sound { All (IsSound time) self.new.tasks }
+    {
+        let Some(seat) = self.seats.get(cpu) else {
+            return;
+        };
+        let at = self.place_on(seat.number, cpu);
+        self.vacate(cpu);
+        let Some(place) = at else {
+            return;
+        };
+        let left = self.tasks[place].server.left;
+        let left = left_after(left, used_in(left, seat.rate, ticks));
+        self.turn(place, time, &Change::Run { ticks, left });
+    }
+
+    /// So many ticks pass, up to a time, and no seat ends before the last of them: who sits has run
+    /// in each.
+    pub(crate) fn pass(&mut self, ticks: u64, time: u64)
+        requires some { 0 < ticks }
+        requires early { time < 2 ^ 43 }
+        requires clock { self.old.clock + ticks ≤ 2 ^ 62 }
+        requires ends { (cpu : ℕ) → IfSome (slice_index_or self.old.seats cpu None) (λ s. self.old.clock + ticks ≤ s.end) }
+        requires sound { All (IsSound time) self.old.tasks }
+        ensures cpus { self.new.cpus ≡ self.old.cpus }
+        ensures tasks { self.new.tasks ≡ map (spec.passed time ticks self.old.seats) self.old.tasks }
+        ensures sound { All (IsSound time) self.new.tasks }
+    {
+        let end = self.seats.upto() + ticks;
+        let mut cpu = self.seats.next_ended(0, end);
+        while cpu < self.seats.len() {
+            self.finish_at(cpu, ticks, time);
+            cpu = self.seats.next_ended(cpu + 1, end);
+        }
+        self.seats.pass(ticks);
+    }
+}

@@ -1,0 +1,300 @@
+//! Who sits on which CPU: nobody is charged by it, as callers see it.
+
+ghost use Rattle.std.specs.Prelude.{◌≡◌, ◌≢◌, ◌<◌, ◌≤◌, ◌^◌, ◌*◌, ◌-◌, ℕ, All, IfSome, IsTrue, None, Some, length, pos, slice_index_or, slice_set};
+ghost use Rattle.attr_check.specs.Ratio.{cap};
+ghost use Rattle.domain_run.specs.Domain.{IsLimit};
+ghost use Rattle.domain_run.specs.Tick.{sum_of};
+ghost use Rattle.domain_run.specs.private.Roster.{rate_in, basis_in, AreSeatedFrom};
+ghost use Rattle.domain_run.specs.private.Seats.{IsAhead, seat_by};
+ghost use Rattle.domain_run.specs.private.Waiting as spec;
+
+use super::Roster;
+use crate::roster::turning::charge;
+use crate::seats::{Basis, Seat};
+use crate::task::Task;
+
+/// A task is charged what the seat of a CPU owes, where it belongs to that.
+fn charge_on(task: &mut Task, cpu: usize, seat: Seat, upto: u64)
+    requires ahead { IsAhead upto seat }
+    requires waits { task.old.cpu ≡ cpu → spec.Waits seat task.old }
+    ensures { task.new ≡ spec.charged_on cpu upto seat task.old }
+{
+    if task.cpu == cpu {
+        charge(task, seat, upto);
+    }
+}
+
+/// What is left of the budget of a task, which is above 0.
+fn left_in(task: &Task) -> u64
+    requires { spec.MaySit task.now }
+    ensures left { pos result ≡ task.now.server.left }
+    ensures some { 0 < result }
+    ensures high { result ≤ 2 ^ 52 }
+{
+    task.server.left as u64
+}
+
+/// For how many ticks a budget lasts at a rate, the last of them included.
+fn lasting(left: u64, rate: u64) -> u64
+    requires left { 0 < left }
+    requires turns { 0 < rate }
+    ensures some { 0 < result }
+    ensures most { result ≤ left }
+    ensures lasted { rate * (result - 1) < left }
+{
+    left.div_ceil(rate)
+}
+
+/// A seat for a task, from a time on, at a rate.
+fn seat_for(task: &Task, upto: u64, rate: u64, basis: Basis) -> Seat
+    requires may { spec.MaySit task.now }
+    requires turns { 0 < rate }
+    requires slow { rate ≤ 2 ^ 27 }
+    requires rated { rate ≡ spec.rate_by basis task.now }
+    requires early { upto ≤ 2 ^ 62 }
+    ensures number { result.number ≡ task.now.number }
+    ensures since { result.since ≡ upto }
+    ensures rate { result.rate ≡ rate }
+    ensures ahead { IsAhead upto result }
+    ensures waits { spec.Waits result task.now }
+{
+    let spent = lasting(left_in(task), rate);
+    Seat {
+        number: task.number,
+        since: upto,
+        rate,
+        basis,
+        end: upto + task.work.min(spent),
+    }
+}
+
+impl Roster {
+    /// Nobody sits on a CPU any more; who did is charged.
+    pub(crate) fn vacate(&mut self, cpu: usize)
+        requires { cpu < self.old.cpus }
+        ensures { self.new ≡ record self.old { seats = slice_set self.old.seats cpu None } }
+    {
+        let Some(seat) = self.seats.get(cpu) else {
+            return;
+        };
+        match self.place(seat.number) {
+            None => self.seats.set(cpu, None),
+            Some(place) => {
+                charge_on(&mut self.tasks[place], cpu, seat, self.seats.upto());
+                self.seats.set(cpu, None);
+            }
+        }
+    }
+
+    /// As `vacate`: mostly nobody sits there.
+    #[inline(always)]
+    fn leave_free(&mut self, cpu: usize)
+        requires { cpu < self.old.cpus }
+        ensures { self.new ≡ record self.old { seats = slice_set self.old.seats cpu None } }
+    {
+        if !self.seats.is_free(cpu) {
+            self.vacate(cpu);
+        }
+    }
+
+    /// The task of a number, which belongs to a CPU on which nobody sits, sits there at a rate.
+    fn occupy(&mut self, cpu: usize, number: u32, rate: u64, basis: Basis)
+        requires there { cpu < self.old.cpus }
+        requires free { slice_index_or self.old.seats cpu None ≡ None }
+        requires turns { 0 < rate }
+        requires slow { rate ≤ 2 ^ 27 }
+        requires rated { All (λ t. t.number ≡ number → rate ≡ spec.rate_by basis t) self.old.tasks }
+        requires may { All (λ t. t.number ≡ number → (t.cpu ≡ cpu) × spec.MaySit t) self.old.tasks }
+        ensures cpus { self.new.cpus ≡ self.old.cpus }
+        ensures clock { self.new.clock ≡ self.old.clock }
+        ensures tasks { self.new.tasks ≡ self.old.tasks }
+        ensures others { (d : ℕ) → d ≢ cpu
+            → slice_index_or self.new.seats d None ≡ slice_index_or self.old.seats d None }
+        ensures right { All (λ t. t.cpu ≡ cpu
+            → spec.IsRight (Some number) t.number rate (spec.seat_of self.new.seats t)) self.new.tasks }
+    {
+        if let Some(place) = self.place(number) {
+            let seat = seat_for(&self.tasks[place], self.seats.upto(), rate, basis);
+            self.seats.set(cpu, Some(seat));
+        }
+    }
+
+    /// What the rates of the tasks of a CPU depend on now.
+    #[inline(always)]
+    fn basis(&self, cpu: usize, limit: u64) -> Basis
+        requires there { cpu < self.now.cpus }
+        ensures { result ≡ basis_in self.now.cpus limit self.now.tasks cpu }
+    {
+        Basis {
+            uinact: self.uinact(cpu),
+            sum: self.sum(),
+            cpus: self.seats.len() as u64,
+            limit,
+        }
+    }
+
+    /// Whether the task of a number sits on a CPU, at a rate that this basis gives: then nobody else
+    /// sits there.
+    #[inline(always)]
+    fn sits_by(&self, cpu: usize, number: u32, basis: &Basis) -> bool
+        ensures { IsTrue result → All (λ t. t.cpu ≡ cpu → spec.IsRight (Some number) t.number
+            (spec.rate_by basis.now t) (spec.seat_of self.now.seats t)) self.now.tasks }
+    {
+        match self.seats.seat_of(cpu, number) {
+            None => false,
+            Some(seat) => seat.basis.is_same(basis),
+        }
+    }
+
+    /// Whether the task of a number sits on a CPU at its rate, and nobody else does, by what the rate
+    /// was worked out from.
+    #[inline(always)]
+    fn sits_rightly(&self, cpu: usize, number: u32, limit: u64) -> bool
+        requires there { cpu < self.now.cpus }
+        ensures { IsTrue result → All (λ t. t.cpu ≡ cpu → spec.IsRight (Some number) t.number
+            (rate_in self.now.cpus limit self.now.tasks t) (spec.seat_of self.now.seats t)) self.now.tasks }
+    {
+        let basis = self.basis(cpu, limit);
+        self.sits_by(cpu, number, &basis)
+    }
+
+    /// Whether who stands on a CPU, if anyone does, sits there at its rate, and nobody else does.
+    #[inline(always)]
+    fn is_right(&self, cpu: usize, occupant: Option<u32>, limit: u64) -> bool
+        requires there { cpu < self.now.cpus }
+        ensures { IsTrue result → All (λ t. t.cpu ≡ cpu → spec.IsRight occupant t.number
+            (rate_in self.now.cpus limit self.now.tasks t) (spec.seat_of self.now.seats t)) self.now.tasks }
+    {
+        match occupant {
+            None => self.seats.is_free(cpu),
+            Some(number) => self.sits_rightly(cpu, number, limit),
+        }
+    }
+
+    /// The first CPU, from this one on, where someone is to sit down or to leave; where there is
+    /// none, how many CPUs there are.
+    pub(crate) fn next_wrong(&self, places: &[Option<u32>], from: usize, limit: u64) -> usize
+        requires wide { length places.now ≡ self.now.cpus }
+        requires from { from ≤ length places.now }
+        ensures from { from ≤ result }
+        ensures most { result ≤ length places.now }
+        ensures right { AreSeatedFrom places.now self.now limit from result }
+    {
+        let mut cpu = from;
+        while cpu < places.len() && self.is_right(cpu, places[cpu], limit) {
+            cpu += 1;
+        }
+        cpu
+    }
+
+    /// The rate of the task of a number; one where none is listed.
+    fn rate_of(&self, number: u32, limit: u64) -> u64
+        requires cpus { (0 < self.now.cpus) × (self.now.cpus ≤ 64) }
+        requires limit { IsLimit limit }
+        requires within { sum_of self.now.tasks ≤ cap self.now.cpus limit }
+        ensures rate { All (λ t. t.number ≡ number
+            → result ≡ rate_in self.now.cpus limit self.now.tasks t) self.now.tasks }
+        ensures some { 0 < result }
+        ensures slow { result ≤ 2 ^ 27 }
+    {
+        let Some(place) = self.place(number) else {
+            return 1;
+        };
+        let task = &self.tasks[place];
+        let uinact = self.uinact(task.cpu);
+        grub_rules::rate(
+            &task.params,
+            uinact,
+            self.sum(),
+            self.seats.len() as u64,
+            limit,
+        )
+    }
+
+    /// The task of a number, who is to sit on a CPU and did not sit there rightly, does.
+    fn reseat(&mut self, cpu: usize, number: u32, limit: u64, basis: Basis)
+        requires there { cpu < self.old.cpus }
+        requires cpus { (0 < self.old.cpus) × (self.old.cpus ≤ 64) }
+        requires limit { IsLimit limit }
+        requires within { sum_of self.old.tasks ≤ cap self.old.cpus limit }
+        requires may { All (λ t. t.number ≡ number → (t.cpu ≡ cpu) × spec.MaySit t) self.old.tasks }
+        requires basis { basis ≡ basis_in self.old.cpus limit self.old.tasks cpu }
+        ensures cpus { self.new.cpus ≡ self.old.cpus }
+        ensures clock { self.new.clock ≡ self.old.clock }
+        ensures tasks { self.new.tasks ≡ self.old.tasks }
+        ensures others { (d : ℕ) → d ≢ cpu
+            → slice_index_or self.new.seats d None ≡ slice_index_or self.old.seats d None }
+        ensures right { All (λ t. t.cpu ≡ cpu → spec.IsRight (Some number) t.number
+            (rate_in self.old.cpus limit self.old.tasks t) (spec.seat_of self.new.seats t)) self.new.tasks }
+    {
+        let rate = self.rate_of(number, limit);
+        self.vacate(cpu);
+        self.occupy(cpu, number, rate, basis);
+    }
+
+    /// Who stands on a CPU, the task of a number, sits there at its rate, and nobody else does.
+    #[inline(always)]
+    fn seat_at(&mut self, cpu: usize, number: u32, limit: u64)
+        requires there { cpu < self.old.cpus }
+        requires cpus { (0 < self.old.cpus) × (self.old.cpus ≤ 64) }
+        requires limit { IsLimit limit }
+        requires within { sum_of self.old.tasks ≤ cap self.old.cpus limit }
+        requires may { All (λ t. t.number ≡ number → (t.cpu ≡ cpu) × spec.MaySit t) self.old.tasks }
+        ensures cpus { self.new.cpus ≡ self.old.cpus }
+        ensures clock { self.new.clock ≡ self.old.clock }
+        ensures tasks { self.new.tasks ≡ self.old.tasks }
+        ensures others { (d : ℕ) → d ≢ cpu
+            → slice_index_or self.new.seats d None ≡ slice_index_or self.old.seats d None }
+        ensures right { All (λ t. t.cpu ≡ cpu → spec.IsRight (Some number) t.number
+            (rate_in self.old.cpus limit self.old.tasks t) (spec.seat_of self.new.seats t)) self.new.tasks }
+    {
+        let basis = self.basis(cpu, limit);
+        self.reseat(cpu, number, limit, basis);
+    }
+
+    /// Who stands on a CPU, if anyone does, sits there at its rate, and nobody else does.
+    #[inline(always)]
+    pub(crate) fn seat_on(&mut self, cpu: usize, occupant: Option<u32>, limit: u64)
+        requires there { cpu < self.old.cpus }
+        requires cpus { (0 < self.old.cpus) × (self.old.cpus ≤ 64) }
+        requires limit { IsLimit limit }
+        requires within { sum_of self.old.tasks ≤ cap self.old.cpus limit }
+        requires may { IfSome occupant
+            (λ n. All (λ t. t.number ≡ n → (t.cpu ≡ cpu) × spec.MaySit t) self.old.tasks) }
+        ensures cpus { self.new.cpus ≡ self.old.cpus }
+        ensures clock { self.new.clock ≡ self.old.clock }
+        ensures tasks { self.new.tasks ≡ self.old.tasks }
+        ensures others { (d : ℕ) → d ≢ cpu
+            → slice_index_or self.new.seats d None ≡ slice_index_or self.old.seats d None }
+        ensures right { All (λ t. t.cpu ≡ cpu → spec.IsRight occupant t.number
+            (rate_in self.old.cpus limit self.old.tasks t) (spec.seat_of self.new.seats t)) self.new.tasks }
+    {
+        match occupant {
+            None => self.leave_free(cpu),
+            Some(number) => self.seat_at(cpu, number, limit),
+        }
+    }
+
+    /// Nobody sits any more.
+    fn vacate_all(&mut self)
+        ensures cpus { self.new.cpus ≡ self.old.cpus }
+        ensures tasks { self.new.tasks ≡ self.old.tasks }
+        ensures nobody { (cpu : ℕ) → slice_index_or self.new.seats cpu None ≡ None }
+    {
+        for cpu in 0..self.seats.len() {
+            self.vacate(cpu);
+        }
+    }
+
+    /// Where the clock of the seats has come far, everyone is charged, and it begins anew.
+    pub(crate) fn wind_back(&mut self)
+        ensures cpus { self.new.cpus ≡ self.old.cpus }
+        ensures tasks { self.new.tasks ≡ self.old.tasks }
+        ensures early { self.new.clock ≤ 2 ^ 61 }
+    {
+        if self.seats.upto() > 1 << 61 {
+            self.vacate_all();
+            self.seats.restart();
+        }
+    }
+}

@@ -1,0 +1,97 @@
+//! What has come into a queue and gone out of it since the last choice.
+
+ghost use Rattle.std.specs.Prelude.{◌≡◌, ◌≤◌, ◌<◌, [], None, true, false, length, Contains, IfOk, List, All};
+ghost use Rattle.edf_pick.specs.declared.candidate.Candidate.{Candidate};
+ghost use Rattle.edf_pick.specs.Changes as spec;
+ghost use Rattle.edf_pick.specs.Order.{is_same, with_candidate, without_candidate};
+ghost use Rattle.edf_pick.specs.Places.{Places};
+
+use crate::candidate::Candidate;
+use std::alloc::{AllocError, Global};
+use std::marker::Model;
+
+/// A task that went out of a queue, and the CPU to which it belonged.
+#[derive(Clone, Copy, Debug, PartialEq, Eq)]
+pub struct Gone {
+    /// The CPU to which it belonged.
+    pub cpu: usize,
+    /// Its number.
+    pub number: u32,
+}
+
+/// As many are listed of either kind.
+const MOST: usize = 256;
+
+/// What has come into a queue and gone out of it since the last choice, and how far that went.
+/// Changes with other room than for 256 of either kind cannot be built: past them they tell only
+/// that there were too many.
+#[derive(Drop)]
+pub struct Changes {
+    cut: Option<Candidate>,
+    fresh: Vec<Candidate>,
+    gone: Vec<Gone>,
+    many: bool,
+}
+
+impl Model for Changes {
+    ghost use Rattle.std.specs.Prelude.{vec_capacity};
+    ghost use Rattle.edf_pick.specs.Changes.{ChangesView};
+    ghost use Rattle.edf_pick.specs.private.First.{HasRoomFor256};
+
+    ghost Value = { ChangesView };
+
+    ghost view = { λ c. record {
+      cut = c.cut;
+      fresh = c.fresh.items;
+      gone = c.gone.items;
+      many = c.many;
+    } };
+
+    ghost invariant = { λ c. HasRoomFor256 (vec_capacity c.fresh) (vec_capacity c.gone) };
+}
+
+impl Changes {
+    /// Too many to be listed: the first choice looks at all. No other call takes memory. `Err` where
+    /// the room was refused.
+    pub fn open(alloc: Global) -> Result<Changes, AllocError>
+        ensures { IfOk result (λ changes. changes.many ≡ true) }
+    {
+        Ok(Changes {
+            cut: None,
+            fresh: Vec::with_capacity(alloc, MOST)?,
+            gone: Vec::with_capacity(alloc, MOST)?,
+            many: true,
+        })
+    }
+
+    /// A task has come into the queue.
+    pub fn come(&mut self, c: &Candidate)
+        ensures follows { (queue : List Candidate) (places : Places)
+            → spec.Follows queue places self.old
+            → spec.Follows (with_candidate c.now queue) places self.new }
+    {
+        if self.fresh.len() < MOST {
+            self.fresh.push_reserved(*c);
+        } else {
+            self.many = true;
+        }
+    }
+
+    /// A task has gone out of the queue.
+    pub fn go(&mut self, c: &Candidate)
+        ensures follows { (queue : List Candidate) (places : Places)
+            → All (λ a. is_same a c.now ≡ true → a.home ≡ c.now.home) queue
+            → All (λ a. a.number ≡ c.now.number → is_same a c.now ≡ true) queue
+            → spec.Follows queue places self.old
+            → spec.Follows (without_candidate c.now queue) places self.new }
+    {
+        if self.gone.len() < MOST {
+            self.gone.push_reserved(Gone {
+                cpu: c.home,
+                number: c.number,
+            });
+        } else {
+            self.many = true;
+        }
+    }
+}
