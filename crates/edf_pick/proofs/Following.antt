@@ -1,10 +1,10 @@
 -- The changes of a queue since a choice.
-use Rattle.std.proofs.Common.{◌≡◌, ℕ, zero, suc, ◌<◌, Bool, true, false, cond, Option, Some, None, List, [], ◌∷◌, ◌++◌, length, get_or, refl, sym, ap, ◌∙◌, subst, arith, inl, inr}
-use Rattle.std.specs.Prelude.{◌⊎◌, All, Any, Contains, filter, not, slice_index_or}
+use Rattle.std.proofs.Common.{◌≡◌, ℕ, zero, suc, ◌<◌, Bool, true, false, cond, List, [], ◌∷◌, ◌++◌, length, get_or, refl, sym, ap, ◌∙◌, subst, arith, inl, inr}
+use Rattle.std.specs.Prelude.{◌⊎◌, All, Any, Contains, filter, not}
 use Rattle.std.proofs.lemmas.List.Elements.{All-cons, All-weaker, All-filter, Contains-push, Contains-append_left}
 use Rattle.edf_pick.specs.declared.candidate.Candidate.{Candidate}
 use Rattle.edf_pick.specs.declared.changes.Gone.{Gone}
-use Rattle.edf_pick.specs.Changes.{ChangesView, is_within, stands_home, IsHolding, IsListed, Follows}
+use Rattle.edf_pick.specs.Changes.{ChangesView, is_within, stands_home, IsHolding, Follows}
 use Rattle.edf_pick.specs.Choice.{is_before}
 use Rattle.edf_pick.specs.Order.{is_same, with_candidate, without_candidate}
 use Rattle.edf_pick.specs.Places.{Places}

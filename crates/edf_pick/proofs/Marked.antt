@@ -2,19 +2,25 @@
 use Rattle.std.proofs.Common.{◌≡◌, ◌≢◌, ◌<◌, ◌≤◌, ℕ, zero, suc, Bool, true, false, cond, eqb, ltb, ◌||◌, ◌⊎◌, Option, Some, None, List, [], ◌∷◌, length, take, map, get_or, set, replicate, refl, sym, ap, ◌∙◌, subst, arith, inl, inr, eq-eqb, eqb-true, ◌+◌, zero-add}
 use mathlib.Core.Path.{fun_ext}
 use Rattle.std.specs.Prelude.{All, filter, not, is_none, position, slice_get, count_by, sum_by}
+use Rattle.std.specs.Int.{bit_at}
 use Rattle.std.specs.List.{list_any, position_or_len}
 use Rattle.std.proofs.lemmas.Bool.{cases_eq, cases_lt, ne_eqb, cond-true, ltb-true, lt-ltb, le-ltb, or_left, or_right}
 use Rattle.std.proofs.lemmas.List.Sums.{passes_at_first, position_or_len_is, sum_by-cons}
 use Rattle.std.proofs.lemmas.Option.{slice_get-get_or, slice_get_past}
+use Rattle.std.proofs.lemmas.Nat.Bits.{bit_at-lt}
 use Rattle.edf_pick.specs.declared.candidate.Candidate.{Candidate}
+use Rattle.edf_pick.specs.declared.changes.Gone.{Gone}
 use Rattle.edf_pick.specs.Order.{IsRising}
-use Rattle.edf_pick.specs.Places.{Places, taken, AreSingle, is_task, stands, is_free, seat_of, put, seated, placed}
-use Rattle.edf_pick.specs.private.First.{staying, is_home, moves, marked, seated_all}
+use Rattle.edf_pick.specs.Places.{Places, taken, AreTaken, AreSingle, is_task, stands, is_free, seat_of, put, seated, placed}
+use Rattle.edf_pick.specs.private.First.{staying, AreStaying, is_home, AreHomes, moves, AreMovers, AreLeaving, marked, seated_all}
 use Rattle.edf_pick.proofs.Picked.{picked}
 
 -- what is read past the end
 abbrev pub nobody : Candidate
 nobody = record { deadline = 0; number = 0; home = 0 }
+
+abbrev pub no_one : Gone
+no_one = record { cpu = 0; number = 0 }
 
 -- MARKED
 marked_same : (f g : ℕ → ℕ) (xs : List Candidate) → ((i : ℕ) → f i ≡ g i) → marked f xs ≡ marked g xs
@@ -145,7 +151,7 @@ stands_kept f n (Some k ∷ places) zero at same =
     or_left (is_task n (f (Some k))) (stands n (map f places)) (ap (λ (j : ℕ). is_task n (f (Some j))) (eqb-true k n at) ∙ ap (λ (o : Option ℕ). is_task n o) same ∙ eq-eqb n n refl)
 stands_kept f n (o ∷ places) (suc cpu) at same = or_right (is_task n (f o)) (stands n (map f places)) (stands_kept f n places cpu at same)
 
-any_at : (p : Candidate → Bool) (xs : List Candidate) (k : ℕ) (d : Candidate) → k < length xs → p (get_or xs k d) ≡ true → list_any p xs ≡ true
+pub any_at : (p : Candidate → Bool) (xs : List Candidate) (k : ℕ) (d : Candidate) → k < length xs → p (get_or xs k d) ≡ true → list_any p xs ≡ true
 any_at p [] k d h e = absurd (omega arith)
 any_at p (x ∷ xs) zero d h e = or_left (p x) (list_any p xs) e
 any_at p (x ∷ xs) (suc k) d h e = or_right (p x) (list_any p xs) (any_at p xs k d (omega arith) e)
@@ -184,7 +190,7 @@ kept_all chosen (o ∷ old) (x ∷ new) len same =
     ap (λ (y : Option ℕ). y ∷ new) (same 0) ∙ ap (λ (ys : Places). staying chosen o ∷ ys) (kept_all chosen old new (omega arith) (λ cpu. same (suc cpu)))
 
 -- ONE LOOK FOR EACH TASK
-task_is : (n : ℕ) (o : Option ℕ) → is_task n o ≡ true → o ≡ Some n
+pub task_is : (n : ℕ) (o : Option ℕ) → is_task n o ≡ true → o ≡ Some n
 task_is n None at = absurd cc
 task_is n (Some k) at = ap (λ (j : ℕ). Some j) (eqb-true k n at)
 
@@ -259,9 +265,10 @@ not_true : (b : Bool) → not b ≡ false → b ≡ true
 not_true true e = refl
 not_true false e = absurd cc
 
-pub staying_movers : (chosen : List Candidate) (places : Places) (f homes : ℕ → ℕ) (cpu : ℕ) → AreSingle places → All (λ c. is_home places c ≡ true → homes c.home ≡ 1) chosen
-    → ((i : ℕ) → f i ≡ moves places (slice_get chosen i)) → homes cpu ≡ 0 → staying (marked f chosen) (get_or places cpu None) ≡ staying chosen (get_or places cpu None)
-staying_movers chosen places f homes cpu single whole movers bare = by_occupant (get_or places cpu None) refl
+-- where no chosen task is at home
+pub staying_movers : (chosen : List Candidate) (places : Places) (f : ℕ → ℕ) (cpu : ℕ) → AreSingle places → All (λ c. is_home places c ≡ true → c.home ≢ cpu) chosen
+    → ((i : ℕ) → f i ≡ moves places (slice_get chosen i)) → staying (marked f chosen) (get_or places cpu None) ≡ staying chosen (get_or places cpu None)
+staying_movers chosen places f cpu single apart movers = by_occupant (get_or places cpu None) refl
   where
     by_occupant : (o : Option ℕ) → get_or places cpu None ≡ o → staying (marked f chosen) o ≡ staying chosen o
     by_occupant None at = refl
@@ -272,11 +279,38 @@ staying_movers chosen places f homes cpu single whole movers bare = by_occupant 
         let c = get_or chosen k d in
         let home : is_home places c ≡ true = not_true (is_home places c) e in
         let stands_there : get_or places c.home None ≡ Some c.number = task_is c.number (get_or places c.home None) home in
-        ne_eqb c.number n (λ same.
-        let one : c.home ≡ cpu = single c.home cpu n (stands_there ∙ ap (λ (j : ℕ). Some j) same) at in
-        let both : homes cpu ≡ 1 = ap homes (sym one) ∙ whole k d h home in
-        omega arith) in
+        ne_eqb c.number n (λ same. apart k d h home (single c.home cpu n (stands_there ∙ ap (λ (j : ℕ). Some j) same) at)) in
         ap (λ (b : Bool). cond b (Some n) None) (ap (list_any p) (marked_movers places f chosen movers) ∙ sym (any_away p away chosen none))
+
+-- who stands somewhere stands on one of the CPUs
+pub occupied : (places : Places) (cpu n : ℕ) → get_or places cpu None ≡ Some n → cpu < length places
+occupied [] cpu n on = absurd cc
+occupied (o ∷ places) zero n on = omega arith
+occupied (o ∷ places) (suc cpu) n on = omega (arith, occupied places cpu n on)
+
+-- what a walk over all chosen tasks has marked
+pub walked_leaving : (chosen : List Candidate) (places : Places) (words homes movers left : ℕ) → AreSingle places → AreTaken places words → AreStaying chosen places homes → AreHomes chosen places homes → AreMovers chosen places movers
+    → ((i : ℕ) → bit_at left i ≡ 1 → bit_at words i ≡ 1) → ((i : ℕ) → bit_at left i ≡ 1 → bit_at homes i ≡ 0) → ((i : ℕ) → bit_at left i ≡ 0 → bit_at homes i ≡ 0 → bit_at words i ≡ 0)
+    → AreLeaving chosen places movers left
+walked_leaving chosen places words homes movers left single takes stays whole are here only bare = record {
+  within = λ cpu e. by_occupant cpu (get_or places cpu None) refl (sym (takes cpu) ∙ here cpu e);
+  only = λ cpu e. staying_movers chosen places (bit_at movers) cpu single
+      (λ k d h home at. let mark : bit_at homes cpu ≡ 1 = ap (bit_at homes) (sym at) ∙ whole k d h home in let none : bit_at homes cpu ≡ 0 = only cpu e in omega arith) are;
+  others = λ cpu e. elim (cases_eq (bit_at homes cpu) 1) [
+    | inl mark ↦ stays cpu mark
+    | inr other ↦
+        let none : taken (get_or places cpu None) ≡ 0 = sym (takes cpu) ∙ bare cpu e (omega (arith, other, bit_at-lt homes cpu)) in
+        ap (staying chosen) (nobody_there (get_or places cpu None) none) ∙ sym (nobody_there (get_or places cpu None) none)
+  ];
+}
+  where
+    by_occupant : (cpu : ℕ) (o : Option ℕ) → get_or places cpu None ≡ o → taken (get_or places cpu None) ≡ 1 → cpu < length places
+    by_occupant cpu None at e = absurd (let none : taken None ≡ 1 = ap taken (sym at) ∙ e in omega arith)
+    by_occupant cpu (Some n) at e = occupied places cpu n at
+
+    nobody_there : (o : Option ℕ) → taken o ≡ 0 → o ≡ None
+    nobody_there None e = refl
+    nobody_there (Some n) e = absurd (omega arith)
 
 -- NOBODY STANDS TWICE
 mapped : (f : Option ℕ → Option ℕ) → f None ≡ None → (places : Places) (cpu : ℕ) → get_or (map f places) cpu None ≡ f (get_or places cpu None)

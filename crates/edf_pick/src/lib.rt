@@ -11,6 +11,7 @@
 
 mod candidate;
 mod changes;
+mod listed;
 mod marks;
 mod order;
 mod picking;

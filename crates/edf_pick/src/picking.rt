@@ -1,13 +1,16 @@
 //! The choice and the placement, read off a queue: its first tasks are the chosen ones.
 
-ghost use Rattle.std.specs.Prelude.{ℕ, ◌≡◌, ◌==◌, ◌<◌, ◌≤◌, map, take, vec_len, vec_capacity, length, None, slice_index_or, slice_set};
+ghost use Rattle.std.specs.Prelude.{ℕ, ◌≡◌, ◌≢◌, ◌==◌, ◌<◌, ◌≤◌, false, AllPairs, map, take, vec_len, vec_capacity, length, None, slice_index_or, slice_set};
 ghost use Rattle.std.specs.Int.{bit_at};
 ghost use Rattle.std.specs.List.{list_any};
 ghost use Rattle.edf_pick.specs.private.First as spec;
+ghost use Rattle.edf_pick.specs.Changes.{IsListed};
 ghost use Rattle.edf_pick.specs.Order.{IsRising};
 ghost use Rattle.edf_pick.specs.Places.{AreSingle, AreTaken, placed};
 
 use crate::candidate::Candidate;
+use crate::changes::Gone;
+use crate::listed::words_of;
 use crate::marks::{beyond, first, with, without};
 use crate::seats::{is_at_home, seat};
 
@@ -111,13 +114,17 @@ fn keep_at(
     vacate(places, cpu, taken)
 }
 
-// A look only at the CPUs where somebody stands who is not at home and chosen.
-fn keep(places: &mut Vec<Option<u32>>, chosen: &[Candidate], parts: Parts, taken: u64) -> u64
+// A look only at the marked CPUs.
+fn keep(
+    places: &mut Vec<Option<u32>>,
+    chosen: &[Candidate],
+    left: u64,
+    movers: u64,
+    taken: u64,
+) -> u64
     requires few { vec_len places.old ≤ 64 }
-    requires single { AreSingle places.old.items }
-    requires staying { spec.AreStaying chosen.now places.old.items parts.homes }
-    requires homes { spec.AreHomes chosen.now places.old.items parts.homes }
-    requires movers { spec.AreMovers chosen.now places.old.items parts.movers }
+    requires movers { (i : ℕ) → bit_at movers i ≡ 1 → i < length chosen.now }
+    requires leaving { spec.AreLeaving chosen.now places.old.items movers left }
     requires taken { AreTaken places.old.items taken }
     ensures places { places.new.items ≡ map (spec.staying chosen.now) places.old.items }
     ensures len { vec_len places.new ≡ vec_len places.old }
@@ -125,11 +132,11 @@ fn keep(places: &mut Vec<Option<u32>>, chosen: &[Candidate], parts: Parts, taken
     ensures taken { AreTaken places.new.items result }
 {
     let mut marks = taken;
-    let mut left = beyond(taken, parts.homes);
-    'cpus: while left != 0 {
-        let cpu = first(left);
-        left = without(left, cpu);
-        marks = keep_at(places, chosen, parts.movers, cpu, marks);
+    let mut ahead = left;
+    'cpus: while ahead != 0 {
+        let cpu = first(ahead);
+        ahead = without(ahead, cpu);
+        marks = keep_at(places, chosen, movers, cpu, marks);
     }
     marks
 }
@@ -155,6 +162,30 @@ fn seat_marked(places: &mut Vec<Option<u32>>, chosen: &[Candidate], movers: u64,
     marks
 }
 
+// Who goes, by the marks of the CPUs, and then the movers.
+fn move_on(
+    places: &mut Vec<Option<u32>>,
+    chosen: &[Candidate],
+    left: u64,
+    movers: u64,
+    taken: &mut u64,
+)
+    requires few { vec_len places.old ≤ 64 }
+    requires single { AreSingle places.old.items }
+    requires movers { spec.AreMovers chosen.now places.old.items movers }
+    requires leaving { spec.AreLeaving chosen.now places.old.items movers left }
+    requires taken { AreTaken places.old.items taken.old }
+    ensures places { places.new.items ≡ spec.seated_all (spec.marked (bit_at movers) chosen.now)
+        (map (spec.staying chosen.now) places.old.items) }
+    ensures len { vec_len places.new ≡ vec_len places.old }
+    ensures room { vec_capacity places.new ≡ vec_capacity places.old }
+    ensures taken { AreTaken places.new.items taken.new }
+    ensures single { AreSingle places.new.items }
+{
+    let marks = keep(places, chosen, left, movers, *taken);
+    *taken = seat_marked(places, chosen, movers, marks);
+}
+
 pub(crate) fn pick_from(places: &mut Vec<Option<u32>>, queue: &[Candidate], taken: &mut u64)
     requires rising { IsRising queue.now }
     requires few { vec_len places.old ≤ 64 }
@@ -168,6 +199,34 @@ pub(crate) fn pick_from(places: &mut Vec<Option<u32>>, queue: &[Candidate], take
 {
     let chosen = first_of(queue, places.len());
     let parts = parts_of(places, chosen);
-    let marks = keep(places, chosen, parts, *taken);
-    *taken = seat_marked(places, chosen, parts.movers, marks);
+    let left = beyond(*taken, parts.homes);
+    move_on(places, chosen, left, parts.movers, taken);
+}
+
+/// As `pick_from`, where it is known what has changed since the last choice: a look at that alone.
+pub(crate) fn pick_listed(
+    places: &mut Vec<Option<u32>>,
+    queue: &[Candidate],
+    cut: &Option<Candidate>,
+    fresh: &[Candidate],
+    gone: &[Gone],
+    taken: &mut u64,
+)
+    requires rising { IsRising queue.now }
+    requires numbered { AllPairs (λ a b. a.number ≢ b.number) queue.now }
+    requires few { vec_len places.old ≤ 64 }
+    requires taken { AreTaken places.old.items taken.old }
+    requires single { AreSingle places.old.items }
+    requires listed { IsListed queue.now places.old.items
+        (record { cut = cut.now; fresh = fresh.now; gone = gone.now; many = false }) }
+    ensures places { places.new.items ≡ placed (vec_len places.old) queue.now places.old.items }
+    ensures len { vec_len places.new ≡ vec_len places.old }
+    ensures room { vec_capacity places.new ≡ vec_capacity places.old }
+    ensures taken { AreTaken places.new.items taken.new }
+    ensures single { AreSingle places.new.items }
+{
+    let words = words_of(places, queue, cut, fresh, gone);
+    let left = beyond(words.left, words.homes);
+    let chosen = first_of(queue, places.len());
+    move_on(places, chosen, left, words.movers, taken);
 }

@@ -1,7 +1,7 @@
 //! A seat for a task: it stays where it stands, else it goes to the CPU to which it belongs where
 //! that is free, else to the lowest free one.
 
-ghost use Rattle.std.specs.Prelude.{◌≡◌, ◌<◌, ◌≤◌, vec_len, vec_capacity, count_by, is_none, slice_get, slice_set, position, Some, length};
+ghost use Rattle.std.specs.Prelude.{◌≡◌, ◌<◌, ◌≤◌, vec_len, vec_capacity, count_by, is_none, slice_get, slice_index_or, slice_set, position, None, Some, length};
 ghost use Rattle.edf_pick.specs.Places as spec;
 ghost use Rattle.edf_pick.specs.private.First.{is_home};
 
@@ -31,11 +31,18 @@ pub fn stands(number: u32, places: &[Option<u32>]) -> bool
     times(number, places) != 0
 }
 
+/// Whether a task stands on this CPU.
+pub(crate) fn is_on(places: &[Option<u32>], cpu: usize, number: u32) -> bool
+    ensures { result ≡ spec.is_task number (slice_index_or places.now cpu None) }
+{
+    cpu < places.len() && is_task(number, &places[cpu])
+}
+
 /// Whether a task stands on the CPU to which it belongs.
 pub(crate) fn is_at_home(places: &[Option<u32>], c: &Candidate) -> bool
     ensures { result ≡ is_home places.now c.now }
 {
-    c.home < places.len() && is_task(c.number, &places[c.home])
+    is_on(places, c.home, c.number)
 }
 
 fn is_free(places: &[Option<u32>], cpu: usize) -> bool

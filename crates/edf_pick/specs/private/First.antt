@@ -1,5 +1,5 @@
 -- The placement, where the chosen tasks stand in a list of their own, in the order of the choice.
-use Rattle.std.specs.Prelude.{ℕ, suc, ◌≡◌, ◌==◌, All, IsTrue, Bool, if◌then◌else◌, List, [], ◌∷◌, fold, slice_get, slice_index_or, Option, Some, None}
+use Rattle.std.specs.Prelude.{ℕ, suc, ◌≡◌, ◌==◌, ◌<◌, length, All, IsTrue, Bool, if◌then◌else◌, List, [], ◌∷◌, fold, slice_get, slice_index_or, Option, Some, None}
 use Rattle.std.specs.Int.{bit_at}
 use Rattle.std.specs.List.{list_any}
 use Rattle.edf_pick.specs.declared.candidate.Candidate.{Candidate}
@@ -38,6 +38,16 @@ abbrev pub marked : (ℕ → ℕ) → List Candidate → List Candidate
 marked mark [] = []
 marked mark (c ∷ chosen) =
     if mark 0 == 1 then c ∷ marked (λ i. mark (suc i)) chosen else marked (λ i. mark (suc i)) chosen
+
+-- marked are the CPUs from which somebody goes, and no CPU where a chosen task is at home; who stands
+-- on a marked CPU stays only as a mover
+pub record AreLeaving (chosen : List Candidate) (places : Places) (movers marks : ℕ) : Type 0 where
+  pub within : (cpu : ℕ) → bit_at marks cpu ≡ 1 → cpu < length places
+  pub only : (cpu : ℕ) → bit_at marks cpu ≡ 1
+      → staying (marked (bit_at movers) chosen) (slice_index_or places cpu None)
+      ≡ staying chosen (slice_index_or places cpu None)
+  pub others : (cpu : ℕ) → bit_at marks cpu ≡ 0
+      → staying chosen (slice_index_or places cpu None) ≡ slice_index_or places cpu None
 
 -- the chosen tasks, seated one after another
 abbrev pub seated_all : List Candidate → Places → Places
