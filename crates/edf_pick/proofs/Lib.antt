@@ -3,6 +3,7 @@ pub mod CallerLemmas
 pub mod Following
 pub mod Listing
 pub mod Marked
+pub mod Moving
 pub mod Picked
 pub mod Rising
 pub mod Words

@@ -386,3 +386,45 @@ pub none_stands : (n : ℕ) (places : Places) → ((cpu : ℕ) → 0 ≡ taken (
 none_stands n [] none = refl
 none_stands n (None ∷ places) none = none_stands n places (λ cpu. none (suc cpu))
 none_stands n (Some k ∷ places) none = absurd (let no = none 0 in omega arith)
+
+-- WHO STAYS WHERE
+-- who stands on a CPU is not moved by the seating of others
+put_stays : (places : Places) (cpu at m n : ℕ) → is_free (slice_get places at) ≡ true → get_or places cpu None ≡ Some n → get_or (set places at (Some m)) cpu None ≡ Some n
+put_stays [] cpu at m n free on = on
+put_stays (None ∷ places) zero zero m n free on = absurd cc
+put_stays (Some k ∷ places) cpu zero m n free on = absurd cc
+put_stays (o ∷ places) zero (suc at) m n free on = on
+put_stays (None ∷ places) (suc cpu) zero m n free on = on
+put_stays (o ∷ places) (suc cpu) (suc at) m n free on = put_stays places cpu at m n free on
+
+seated_stays : (places : Places) (c : Candidate) (cpu n : ℕ) → get_or places cpu None ≡ Some n → get_or (seated places c) cpu None ≡ Some n
+seated_stays places c cpu n on =
+    elim (stands c.number places) as (λ b. get_or (cond b places (put places c.number (seat_of places c))) cpu None ≡ Some n) [
+      | true ↦ on
+      | false ↦ by_seat (seat_of places c) refl
+    ]
+  where
+    by_seat : (o : Option ℕ) → seat_of places c ≡ o → get_or (put places c.number o) cpu None ≡ Some n
+    by_seat None e = on
+    by_seat (Some at) e = put_stays places cpu at c.number n (seat_free places c at e) on
+
+all_stay : (chosen : List Candidate) (places : Places) (cpu n : ℕ) → get_or places cpu None ≡ Some n → get_or (seated_all chosen places) cpu None ≡ Some n
+all_stay [] places cpu n on = on
+all_stay (c ∷ chosen) places cpu n on = all_stay chosen (seated places c) cpu n (seated_stays places c cpu n on)
+
+-- where nobody goes and nobody comes, the same one stands
+pub unchanged : (chosen movers : List Candidate) (old mid new : Places) (cpu : ℕ) → mid ≡ map (staying chosen) old → new ≡ seated_all movers mid
+    → (taken (get_or mid cpu None) ≡ 0 → taken (get_or old cpu None) ≡ 0) → (taken (get_or mid cpu None) ≡ 0 → taken (get_or new cpu None) ≡ 0) → get_or old cpu None ≡ get_or new cpu None
+unchanged chosen movers old mid new cpu mid_is new_is went came = by_occupant (get_or mid cpu None) refl
+  where
+    idle : (o : Option ℕ) → taken o ≡ 0 → o ≡ None
+    idle None e = refl
+    idle (Some n) e = absurd (omega arith)
+
+    by_occupant : (o : Option ℕ) → get_or mid cpu None ≡ o → get_or old cpu None ≡ get_or new cpu None
+    by_occupant None on =
+        let none : taken (get_or mid cpu None) ≡ 0 = ap taken on in
+        idle (get_or old cpu None) (went none) ∙ sym (idle (get_or new cpu None) (came none))
+    by_occupant (Some n) on =
+        let stood : get_or old cpu None ≡ Some n = staying_same chosen (get_or old cpu None) n (sym (mapped (staying chosen) refl old cpu) ∙ ap (λ (ps : Places). get_or ps cpu None) (sym mid_is) ∙ on) in
+        stood ∙ sym (ap (λ (ps : Places). get_or ps cpu None) new_is ∙ all_stay movers mid cpu n on)

@@ -2,5 +2,6 @@ pub mod Choice
 pub mod Places
 pub mod Order
 pub mod Changes
+pub mod Moves
 pub mod private
 pub mod Examples

@@ -13,6 +13,7 @@ mod candidate;
 mod changes;
 mod listed;
 mod marks;
+mod moves;
 mod order;
 mod picking;
 mod placement;
@@ -21,6 +22,7 @@ mod seats;
 
 pub use candidate::Candidate;
 pub use changes::{Changes, Gone};
+pub use moves::{Moved, Moves};
 pub use placement::{Placement, pick};
 pub use queue::Queue;
 pub use seats::stands;

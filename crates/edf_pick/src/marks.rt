@@ -31,6 +31,14 @@ pub(crate) fn beyond(marks: u64, others: u64) -> u64
     marks & !others
 }
 
+/// The marks of two words.
+pub(crate) fn both(a: u64, b: u64) -> u64
+    ensures first { (i : ℕ) → bit_at result i ≡ 0 → bit_at a i ≡ 0 }
+    ensures second { (i : ℕ) → bit_at result i ≡ 0 → bit_at b i ≡ 0 }
+{
+    a | b
+}
+
 /// The first place with a mark.
 pub(crate) fn first(marks: u64) -> usize
     requires { 0 < marks }

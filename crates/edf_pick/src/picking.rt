@@ -11,7 +11,7 @@ ghost use Rattle.edf_pick.specs.Places.{AreSingle, AreTaken, placed};
 use crate::candidate::Candidate;
 use crate::changes::Gone;
 use crate::listed::words_of;
-use crate::marks::{beyond, first, with, without};
+use crate::marks::{beyond, both, first, with, without};
 use crate::seats::{is_at_home, seat};
 
 fn first_of(queue: &[Candidate], cpus: usize) -> &[Candidate]
@@ -162,14 +162,14 @@ fn seat_marked(places: &mut Vec<Option<u32>>, chosen: &[Candidate], movers: u64,
     marks
 }
 
-// Who goes, by the marks of the CPUs, and then the movers.
+// Who goes, by the marks of the CPUs, and then the movers. Marks of the CPUs that another one has.
 fn move_on(
     places: &mut Vec<Option<u32>>,
     chosen: &[Candidate],
     left: u64,
     movers: u64,
     taken: &mut u64,
-)
+) -> u64
     requires few { vec_len places.old ≤ 64 }
     requires single { AreSingle places.old.items }
     requires movers { spec.AreMovers chosen.now places.old.items movers }
@@ -181,12 +181,17 @@ fn move_on(
     ensures room { vec_capacity places.new ≡ vec_capacity places.old }
     ensures taken { AreTaken places.new.items taken.new }
     ensures single { AreSingle places.new.items }
+    ensures changed { (cpu : ℕ) → bit_at result cpu ≡ 0
+        → slice_index_or places.old.items cpu None ≡ slice_index_or places.new.items cpu None }
 {
-    let marks = keep(places, chosen, left, movers, *taken);
-    *taken = seat_marked(places, chosen, movers, marks);
+    let stood = *taken;
+    let kept = keep(places, chosen, left, movers, stood);
+    let now = seat_marked(places, chosen, movers, kept);
+    *taken = now;
+    both(beyond(stood, kept), beyond(now, kept))
 }
 
-pub(crate) fn pick_from(places: &mut Vec<Option<u32>>, queue: &[Candidate], taken: &mut u64)
+pub(crate) fn pick_from(places: &mut Vec<Option<u32>>, queue: &[Candidate], taken: &mut u64) -> u64
     requires rising { IsRising queue.now }
     requires few { vec_len places.old ≤ 64 }
     requires taken { AreTaken places.old.items taken.old }
@@ -196,11 +201,13 @@ pub(crate) fn pick_from(places: &mut Vec<Option<u32>>, queue: &[Candidate], take
     ensures room { vec_capacity places.new ≡ vec_capacity places.old }
     ensures taken { AreTaken places.new.items taken.new }
     ensures single { AreSingle places.new.items }
+    ensures changed { (cpu : ℕ) → bit_at result cpu ≡ 0
+        → slice_index_or places.old.items cpu None ≡ slice_index_or places.new.items cpu None }
 {
     let chosen = first_of(queue, places.len());
     let parts = parts_of(places, chosen);
     let left = beyond(*taken, parts.homes);
-    move_on(places, chosen, left, parts.movers, taken);
+    move_on(places, chosen, left, parts.movers, taken)
 }
 
 /// As `pick_from`, where it is known what has changed since the last choice: a look at that alone.
@@ -211,7 +218,7 @@ pub(crate) fn pick_listed(
     fresh: &[Candidate],
     gone: &[Gone],
     taken: &mut u64,
-)
+) -> u64
     requires rising { IsRising queue.now }
     requires numbered { AllPairs (λ a b. a.number ≢ b.number) queue.now }
     requires few { vec_len places.old ≤ 64 }
@@ -224,9 +231,11 @@ pub(crate) fn pick_listed(
     ensures room { vec_capacity places.new ≡ vec_capacity places.old }
     ensures taken { AreTaken places.new.items taken.new }
     ensures single { AreSingle places.new.items }
+    ensures changed { (cpu : ℕ) → bit_at result cpu ≡ 0
+        → slice_index_or places.old.items cpu None ≡ slice_index_or places.new.items cpu None }
 {
     let words = words_of(places, queue, cut, fresh, gone);
     let left = beyond(words.left, words.homes);
     let chosen = first_of(queue, places.len());
-    move_on(places, chosen, left, words.movers, taken);
+    move_on(places, chosen, left, words.movers, taken)
 }

@@ -74,5 +74,5 @@ pub fn pick(placement: &mut Placement, queue: &Queue)
     ensures { placement.new ≡ placed (length placement.old) queue.now placement.old }
 {
     let tasks = queue.as_slice();
-    pick_from(&mut placement.occupants, tasks, &mut placement.taken);
+    let _ = pick_from(&mut placement.occupants, tasks, &mut placement.taken);
 }
