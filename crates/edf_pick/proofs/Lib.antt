@@ -5,5 +5,7 @@ pub mod Listing
 pub mod Marked
 pub mod Moving
 pub mod Picked
+pub mod Renewed
 pub mod Rising
+pub mod Standing
 pub mod Words

@@ -87,13 +87,13 @@ within_first queue cut i k a b d rising at_i at_k within out =
     ]
 
 -- THE WORDS
-take_get : (xs : List Candidate) (n i : ℕ) → i < n → slice_get (take n xs) i ≡ slice_get xs i
+pub take_get : (xs : List Candidate) (n i : ℕ) → i < n → slice_get (take n xs) i ≡ slice_get xs i
 take_get xs zero i h = absurd (omega arith)
 take_get [] (suc n) i h = refl
 take_get (x ∷ xs) (suc n) zero h = refl
 take_get (x ∷ xs) (suc n) (suc i) h = take_get xs n i (omega arith)
 
-take_past : (xs : List Candidate) (n i : ℕ) → n ≤ i → slice_get (take n xs) i ≡ None
+pub take_past : (xs : List Candidate) (n i : ℕ) → n ≤ i → slice_get (take n xs) i ≡ None
 take_past xs zero i h = slice_get_past [] i (omega arith)
 take_past [] (suc n) i h = slice_get_past [] i (omega arith)
 take_past (x ∷ xs) (suc n) zero h = absurd (omega arith)
@@ -107,7 +107,7 @@ among queue cpus k c at h =
     any_at (λ b. eqb b.number c.number) chosen k c (inside chosen k c there)
     (ap (λ (b : Candidate). eqb b.number c.number) (read chosen k c c there) ∙ eq-eqb c.number c.number refl)
 
-same_place : (queue : List Candidate) (i k : ℕ) (a b : Candidate) → AllPairs (λ x y. x.number ≢ y.number) queue → slice_get queue i ≡ Some a → slice_get queue k ≡ Some b → a.number ≡ b.number → i ≡ k
+pub same_place : (queue : List Candidate) (i k : ℕ) (a b : Candidate) → AllPairs (λ x y. x.number ≢ y.number) queue → slice_get queue i ≡ Some a → slice_get queue k ≡ Some b → a.number ≡ b.number → i ≡ k
 same_place queue i k a b numbered at_i at_k same =
     let number_i : (get_or queue i a).number ≡ a.number = ap (λ (x : Candidate). x.number) (read queue i a a at_i) in
     let number_k : (get_or queue k a).number ≡ b.number = ap (λ (x : Candidate). x.number) (read queue k b a at_k) in

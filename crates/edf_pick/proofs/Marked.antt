@@ -103,7 +103,7 @@ free_position places cpu e =
     subst (λ i. is_free (slice_get places i) ≡ true) s.1 (ap is_free (slice_get-get_or places k None h) ∙ free)
 
 -- a task is seated where nobody stands
-seat_free : (places : Places) (c : Candidate) (cpu : ℕ) → seat_of places c ≡ Some cpu → is_free (slice_get places cpu) ≡ true
+pub seat_free : (places : Places) (c : Candidate) (cpu : ℕ) → seat_of places c ≡ Some cpu → is_free (slice_get places cpu) ≡ true
 seat_free places c cpu e = by_home (is_free (slice_get places c.home)) refl e
   where
     by_home : (b : Bool) → is_free (slice_get places c.home) ≡ b → cond b (Some c.home) (position (λ o. is_none o) places) ≡ Some cpu → is_free (slice_get places cpu) ≡ true
@@ -133,7 +133,7 @@ stays_put n m (o ∷ places) (suc cpu) free h =
       | false ↦ λ e. stays_put n m places cpu free e
     ] h
 
-stays_seated : (n : ℕ) (places : Places) (c : Candidate) → stands n places ≡ true → stands n (seated places c) ≡ true
+pub stays_seated : (n : ℕ) (places : Places) (c : Candidate) → stands n places ≡ true → stands n (seated places c) ≡ true
 stays_seated n places c h =
     elim (stands c.number places) as (λ b. stands n (cond b places (put places c.number (seat_of places c))) ≡ true) [
       | true ↦ h
@@ -313,7 +313,7 @@ walked_leaving chosen places words homes movers left single takes stays whole ar
     nobody_there (Some n) e = absurd (omega arith)
 
 -- NOBODY STANDS TWICE
-mapped : (f : Option ℕ → Option ℕ) → f None ≡ None → (places : Places) (cpu : ℕ) → get_or (map f places) cpu None ≡ f (get_or places cpu None)
+pub mapped : (f : Option ℕ → Option ℕ) → f None ≡ None → (places : Places) (cpu : ℕ) → get_or (map f places) cpu None ≡ f (get_or places cpu None)
 mapped f none [] cpu = sym none
 mapped f none (o ∷ places) zero = refl
 mapped f none (o ∷ places) (suc cpu) = mapped f none places cpu
@@ -331,13 +331,13 @@ single_kept chosen places single a b n ea eb =
     single a b n (staying_same chosen (get_or places a None) n (sym (mapped (staying chosen) refl places a) ∙ ea))
     (staying_same chosen (get_or places b None) n (sym (mapped (staying chosen) refl places b) ∙ eb))
 
-stands_here : (n : ℕ) (places : Places) (cpu : ℕ) → get_or places cpu None ≡ Some n → stands n places ≡ true
+pub stands_here : (n : ℕ) (places : Places) (cpu : ℕ) → get_or places cpu None ≡ Some n → stands n places ≡ true
 stands_here n [] cpu at = absurd cc
 stands_here n (o ∷ places) zero at = or_left (is_task n o) (stands n places) (ap (λ (x : Option ℕ). is_task n x) at ∙ eq-eqb n n refl)
 stands_here n (o ∷ places) (suc cpu) at = or_right (is_task n o) (stands n places) (stands_here n places cpu at)
 
 -- who stands on a CPU once a task is put on one
-put_at : (places : Places) (cpu m a n : ℕ) → get_or (set places cpu (Some m)) a None ≡ Some n → ((a ≡ cpu) × (m ≡ n)) ⊎ (get_or places a None ≡ Some n)
+pub put_at : (places : Places) (cpu m a n : ℕ) → get_or (set places cpu (Some m)) a None ≡ Some n → ((a ≡ cpu) × (m ≡ n)) ⊎ (get_or places a None ≡ Some n)
 put_at [] cpu m a n e = inr e
 put_at (o ∷ places) zero m zero n e = inl (refl, cc)
 put_at (o ∷ places) zero m (suc a) n e = inr e
@@ -361,7 +361,7 @@ single_put places cpu m single absent a b n ea eb =
       ]
     ]
 
-single_seated : (places : Places) (c : Candidate) → AreSingle places → AreSingle (seated places c)
+pub single_seated : (places : Places) (c : Candidate) → AreSingle places → AreSingle (seated places c)
 single_seated places c single =
     elim (stands c.number places) as (λ b. stands c.number places ≡ b → AreSingle (cond b places (put places c.number (seat_of places c)))) [
       | true ↦ λ e. single

@@ -1,13 +1,13 @@
 -- What has come into a queue and gone out of it since a choice, so that the next choice looks at
 -- that alone (own).
-use Rattle.std.specs.Prelude.{ℕ, ◌≡◌, ◌⊎◌, Bool, true, not, List, All, Any, Contains, IsTrue, Option, Some, None, slice_index_or}
+use Rattle.std.specs.Prelude.{ℕ, ◌≡◌, ◌⊎◌, ◌-◌, Bool, true, false, not, List, [], position, slice_get, All, Any, Contains, IsTrue, Option, Some, None, slice_index_or}
 use Rattle.edf_pick.specs.declared.candidate.Candidate.{Candidate}
 use Rattle.edf_pick.specs.declared.changes.Gone.{Gone}
 use Rattle.edf_pick.specs.Choice.{is_before}
 use Rattle.edf_pick.specs.Places.{Places, is_task}
 
 pub record ChangesView : Type 0 where
-  -- the last of the chosen tasks; none where all were
+  -- the last of the chosen tasks; none where a CPU is free
   pub cut : Option Candidate
   pub fresh : List Candidate
   pub gone : List Gone
@@ -44,3 +44,15 @@ pub record IsListed (queue : List Candidate) (places : Places) (changes : Change
 -- the changes tell all that has changed since these places were taken
 abbrev pub Follows : List Candidate → Places → ChangesView → Type 0
 Follows queue places changes = IsTrue changes.many ⊎ IsListed queue places changes
+
+abbrev pub home_on : Candidate → Option ℕ → Candidate
+home_on c None = c
+home_on c (Some cpu) = record c { home = cpu }
+
+-- a task that stands belongs to the CPU on which it stands
+abbrev pub homed : Places → Candidate → Candidate
+homed places c = home_on c (position (is_task c.number) places)
+
+-- nothing has changed since the choice
+abbrev pub unchanged : ℕ → List Candidate → ChangesView
+unchanged cpus queue = record { cut = slice_get queue (cpus - 1); fresh = []; gone = []; many = false }
