@@ -1,20 +1,20 @@
 -- Right after a choice nothing has changed since.
 use Rattle.std.proofs.Common.{◌≡◌, ◌≢◌, ◌<◌, ◌≤◌, ◌-◌, ℕ, zero, suc, Bool, true, false, cond, eqb, ltb, ◌||◌, Option, Some, None, List, [], ◌∷◌, length, take, map, get_or, refl, sym, ap, ◌∙◌, subst, arith, inl, inr, eq-eqb, eqb-true}
-use Rattle.std.specs.Prelude.{◌⊎◌, All, AllPairs, Any, Contains, not, position, slice_get}
+use Rattle.std.specs.Prelude.{◌⊎◌, All, AllPairs, Contains, not, position, slice_get}
 use Rattle.std.specs.List.{list_any, position_or_len}
-use Rattle.std.proofs.lemmas.Bool.{cases_eq, cases_lt, cases_Bool, ne_eqb, lt-ltb}
+use Rattle.std.proofs.lemmas.Bool.{cases_eq, cases_lt, cases_Bool, lt-ltb}
 use Rattle.std.proofs.lemmas.List.Elements.{All-map}
 use Rattle.std.proofs.lemmas.List.Sums.{position_or_len_is}
 use Rattle.std.proofs.lemmas.Option.{slice_get-get_or}
 use Rattle.edf_pick.specs.declared.candidate.Candidate.{Candidate}
-use Rattle.edf_pick.specs.Changes.{ChangesView, is_within, stands_home, IsHolding, IsListed, home_on, homed, unchanged}
+use Rattle.edf_pick.specs.Changes.{is_within, stands_home, IsListed, Follows, home_on, homed, unchanged}
 use Rattle.edf_pick.specs.Choice.{is_before}
 use Rattle.edf_pick.specs.Order.{IsRising}
-use Rattle.edf_pick.specs.Places.{Places, AreSingle, is_task, stands}
+use Rattle.edf_pick.specs.Places.{Places, AreSingle, is_task, stands, placed}
 use Rattle.edf_pick.proofs.Before.{before_itself, before_reverse}
 use Rattle.edf_pick.proofs.Listing.{inside, read, same_place, take_get, take_past}
 use Rattle.edf_pick.proofs.Marked.{occupied, task_is}
-use Rattle.edf_pick.proofs.Standing.{AllChosen, stands_where}
+use Rattle.edf_pick.proofs.Standing.{AllChosen, placed_chosen, placed_single, placed_stands, stands_where}
 
 -- where a task stands
 on_position : (places : Places) (cpu n : ℕ) → AreSingle places → get_or places cpu None ≡ Some n → position (is_task n) places ≡ Some cpu
@@ -22,12 +22,12 @@ on_position places cpu n single on =
     let within : cpu < length places = occupied places cpu n on in
     let here : is_task n (get_or places cpu None) ≡ true = ap (is_task n) on ∙ eq-eqb n n refl in
     let first : position_or_len (is_task n) places ≡ cpu =
-      position_or_len_is (is_task n) places cpu None (omega (arith, within))
-      (λ k l. other k (elim (cases_Bool (is_task n (get_or places k None))) [
-        | inl t ↦ inl (let same : k ≡ cpu = single k cpu n (task_is n (get_or places k None) t) on in absurd (omega (arith, l, same)))
-        | inr f ↦ inr f
-      ]))
-      (λ _. here) in
+    position_or_len_is (is_task n) places cpu None (omega (arith, within))
+    (λ k l. other k (elim (cases_Bool (is_task n (get_or places k None))) [
+      | inl t ↦ inl (let same : k ≡ cpu = single k cpu n (task_is n (get_or places k None) t) on in absurd (omega (arith, l, same)))
+      | inr f ↦ inr f
+    ]))
+    (λ _. here) in
     ap (λ (k : ℕ). cond (ltb k (length places)) (Some k) None) first ∙ ap (λ (b : Bool). cond b (Some cpu) None) (lt-ltb cpu (length places) within)
   where
     other : (k : ℕ) → ⊥ ⊎ (is_task n (get_or places k None) ≡ false) → is_task n (get_or places k None) ≡ false
@@ -82,8 +82,8 @@ module _ (queue : List Candidate) (places : Places) (some : 0 < length places) (
                 ap not (ap (is_before last) both ∙ before_itself last)
             | inr apart ↦
                 let earlier : is_before c last ≡ true =
-                  ap (λ (x : Candidate). is_before x last) (sym (read queue k c c at)) ∙ ap (is_before (get_or queue k c)) (sym (read queue (length places - 1) last c e))
-                  ∙ rising k (length places - 1) c (omega (arith, h, apart)) (inside queue (length places - 1) last e) in
+                ap (λ (x : Candidate). is_before x last) (sym (read queue k c c at)) ∙ ap (is_before (get_or queue k c)) (sym (read queue (length places - 1) last c e))
+                ∙ rising k (length places - 1) c (omega (arith, h, apart)) (inside queue (length places - 1) last e) in
                 ap not (before_reverse c last earlier)
           ]
 
@@ -152,10 +152,27 @@ module _ (queue : List Candidate) (places : Places) (some : 0 < length places) (
         let is : x ≡ home_on c (Some cpu) = homed_at c cpu stood in
         let in_map : i.0 < length (map (homed places) queue) = (let l = inside queue i.0 c at in let m = map_len (homed places) queue in omega (arith, l, m)) in
         let entry : get_or (map (homed places) queue) i.0 x ≡ x = get_map (homed places) queue i.0 x c (inside queue i.0 c at) ∙ ap (homed places) (read queue i.0 c c at) in
-        inl (i.0, x, in_map, entry, (
-          ap (λ (y : Candidate). y.number) is ∙ number,
-          ap (λ (y : Candidate). y.home) is,
-          inl (within_homed cut c (position (is_task c.number) places) ∙ chosen_within i.0 c at less),
-        ));
+        inl (
+          i.0,
+          x,
+          in_map,
+          entry,
+          (
+            ap (λ (y : Candidate). y.number) is ∙ number,
+            ap (λ (y : Candidate). y.home) is,
+            inl (within_homed cut c (position (is_task c.number) places) ∙ chosen_within i.0 c at less),
+          ),
+        );
     again = λ k d h has. absurd (let l = has.1 in omega (arith, l));
   }
+
+pub followed : (queue : List Candidate) (before after : Places) → after ≡ placed (length before) queue before → length after ≡ length before → 0 < length before → IsRising queue → AllPairs (λ a b. a.number ≢ b.number) queue → AreSingle before
+    → Follows (map (homed after) queue) after (unchanged (length after) queue)
+followed queue before after is same some rising numbered single =
+    let one : AreSingle after = subst (λ (ps : Places). AreSingle ps) (sym is) (placed_single (length before) queue before rising single) in
+    let all : AllChosen (take (length after) queue) after =
+    subst (λ (k : ℕ). AllChosen (take k queue) after) (sym same) (subst (λ (ps : Places). AllChosen (take (length before) queue) ps) (sym is) (placed_chosen (length before) queue before rising)) in
+    let each : All (λ c. stands c.number after ≡ true) (take (length after) queue) =
+    subst (λ (k : ℕ). All (λ c. stands c.number after ≡ true) (take k queue)) (sym same)
+    (subst (λ (ps : Places). All (λ c. stands c.number ps ≡ true) (take (length before) queue)) (sym is) (placed_stands queue before rising single)) in
+    inr (renewed queue after (omega (arith, same, some)) rising numbered one all each)

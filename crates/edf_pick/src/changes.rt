@@ -1,12 +1,16 @@
 //! What has come into a queue and gone out of it since the last choice.
 
-ghost use Rattle.std.specs.Prelude.{◌≡◌, ◌≤◌, ◌<◌, [], None, true, false, length, Contains, IfOk, List, All};
+ghost use Rattle.std.specs.Prelude.{◌≡◌, ◌≢◌, ◌<◌, true, length, map, slice_get, IfOk, List, All, AllPairs};
 ghost use Rattle.edf_pick.specs.declared.candidate.Candidate.{Candidate};
 ghost use Rattle.edf_pick.specs.Changes as spec;
+ghost use Rattle.edf_pick.specs.Moves.{moved_from};
 ghost use Rattle.edf_pick.specs.Order.{is_same, with_candidate, without_candidate};
-ghost use Rattle.edf_pick.specs.Places.{Places};
+ghost use Rattle.edf_pick.specs.Places.{Places, placed};
 
 use crate::candidate::Candidate;
+use crate::moves::Moves;
+use crate::placement::{Placement, pick_by_list, pick_by_walk};
+use crate::queue::Queue;
 use std::alloc::{AllocError, Global};
 use std::marker::Model;
 
@@ -94,4 +98,48 @@ impl Changes {
             self.many = true;
         }
     }
+}
+
+fn task_at(queue: &[Candidate], k: usize) -> Option<Candidate>
+    ensures { result ≡ slice_get queue.now k }
+{
+    if k < queue.len() {
+        return Some(queue[k]);
+    }
+    None
+}
+
+// Nothing has changed since the choice of so many.
+fn renew(changes: &mut Changes, queue: &[Candidate], cpus: usize)
+    requires { 0 < cpus }
+    ensures { changes.new ≡ spec.unchanged cpus queue.now }
+{
+    changes.cut = task_at(queue, cpus - 1);
+    changes.fresh.clear();
+    changes.gone.clear();
+    changes.many = false;
+}
+
+/// As [`crate::pick`], by what has changed since the last choice: where that is listed, it looks at
+/// that alone, and else at all. It lists the CPUs that another one has then. Nothing has changed since
+/// in the queue in which each task that stands belongs to the CPU on which it stands. Takes no memory.
+pub fn pick_changed(
+    placement: &mut Placement,
+    queue: &Queue,
+    changes: &mut Changes,
+    moves: &mut Moves,
+)
+    requires numbered { AllPairs (λ a b. a.number ≢ b.number) queue.now }
+    requires follows { spec.Follows queue.now placement.old changes.old }
+    ensures places { placement.new ≡ placed (length placement.old) queue.now placement.old }
+    ensures moves { moves.new ≡ moved_from 0 placement.old placement.new }
+    ensures follows { spec.Follows (map (spec.homed placement.new) queue.now) placement.new changes.new }
+{
+    if changes.many {
+        pick_by_walk(placement, queue, moves);
+    } else {
+        let (cut, fresh, gone) = (&changes.cut, &changes.fresh, &changes.gone);
+        pick_by_list(placement, queue, cut, fresh, gone, moves);
+    }
+    renew(changes, queue.as_slice(), placement.occupants().len());
 }

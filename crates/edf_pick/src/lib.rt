@@ -21,7 +21,7 @@ mod queue;
 mod seats;
 
 pub use candidate::Candidate;
-pub use changes::{Changes, Gone};
+pub use changes::{Changes, Gone, pick_changed};
 pub use moves::{Moved, Moves};
 pub use placement::{Placement, pick};
 pub use queue::Queue;

@@ -91,7 +91,7 @@ fn list_one(
     requires within { cpu < vec_len before.old }
     requires len { vec_len before.old ≡ length occupants.now }
     requires room { spec.same_occupant (slice_index_or before.old.items cpu None)
-            (slice_index_or occupants.now cpu None) ≡ false
+        (slice_index_or occupants.now cpu None) ≡ false
         → vec_len list.old < vec_capacity list.old }
     ensures list { list.new.items ≡ list.old.items ++ spec.moved_at cpu
         (slice_index_or before.old.items cpu None) (slice_index_or occupants.now cpu None) }
