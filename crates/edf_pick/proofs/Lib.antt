@@ -1,6 +1,7 @@
 pub mod Before
 pub mod CallerLemmas
 pub mod Following
+pub mod Homing
 pub mod Listing
 pub mod Marked
 pub mod Moving

@@ -120,8 +120,16 @@ fn renew(changes: &mut Changes, queue: &[Candidate], cpus: usize)
     changes.many = false;
 }
 
-/// As [`crate::pick`], by what has changed since the last choice: where that is listed, it looks at
-/// that alone, and else at all. It lists the CPUs that another one has then. Nothing has changed since
+// Whether a walk over all chosen tasks is less than a look at each change: a look costs as much as
+// about eight steps of a walk.
+fn is_long(changes: &Changes, cpus: usize) -> bool
+    ensures { changes.now.many ≡ true → result ≡ true }
+{
+    changes.many || 8 * changes.fresh.len() + changes.gone.len() >= cpus
+}
+
+/// As [`crate::pick`], by what has changed since the last choice: where that is listed and little, it
+/// looks at that alone, and else at all. It lists the CPUs that another one has then. Nothing has changed since
 /// in the queue in which each task that stands belongs to the CPU on which it stands. Takes no memory.
 pub fn pick_changed(
     placement: &mut Placement,
@@ -135,11 +143,12 @@ pub fn pick_changed(
     ensures moves { moves.new ≡ moved_from 0 placement.old placement.new }
     ensures follows { spec.Follows (map (spec.homed placement.new) queue.now) placement.new changes.new }
 {
-    if changes.many {
+    let cpus = placement.occupants().len();
+    if is_long(changes, cpus) {
         pick_by_walk(placement, queue, moves);
     } else {
         let (cut, fresh, gone) = (&changes.cut, &changes.fresh, &changes.gone);
         pick_by_list(placement, queue, cut, fresh, gone, moves);
     }
-    renew(changes, queue.as_slice(), placement.occupants().len());
+    renew(changes, queue.as_slice(), cpus);
 }

@@ -33,6 +33,8 @@ pub(crate) fn find(queue: &[Candidate], c: &Candidate) -> Option<usize>
     requires { order.IsRising queue.now }
     ensures there { is_some result ≡ order.has_candidate c.now queue.now }
     ensures inside { IfSome result (λ place. place < length queue.now) }
+    ensures place { IfSome result (λ place.
+        place ≡ prefix_len (λ a. choice.is_before a c.now) queue.now) }
     ensures nowhere { IfNone result (order.without_candidate c.now queue.now ≡ queue.now) }
     ensures at { IfSome result (λ place. order.without_candidate c.now queue.now ≡ remove queue.now place) }
 {

@@ -1,6 +1,6 @@
 //! The ready tasks in the order of the choice.
 
-ghost use Rattle.std.specs.Prelude.{◌≡◌, ◌<◌, ◌≤◌, ◌==◌, false, [], length, IfOk};
+ghost use Rattle.std.specs.Prelude.{◌≡◌, ◌<◌, ◌≤◌, ◌==◌, true, false, [], length, map, IfOk};
 ghost use Rattle.edf_pick.specs.Order as order;
 
 use crate::candidate::Candidate;
@@ -96,5 +96,16 @@ impl Queue {
         };
         self.tasks.remove(place);
         true
+    }
+    /// The task of the deadline and the number of `c` belongs to the CPU of `c` from now on, if it is
+    /// there. Found by binary search; no other task is touched.
+    pub fn home(&mut self, c: &Candidate)
+        ensures homed { self.new ≡ map (order.with_home c.now) self.old }
+        ensures turned { order.has_candidate c.now self.old ≡ true
+            → self.new ≡ order.with_candidate c.now (order.without_candidate c.now self.old) }
+    {
+        if let Some(place) = find(&self.tasks, c) {
+            self.tasks[place] = *c;
+        }
     }
 }
