@@ -318,7 +318,7 @@ mapped f none [] cpu = sym none
 mapped f none (o ∷ places) zero = refl
 mapped f none (o ∷ places) (suc cpu) = mapped f none places cpu
 
-staying_same : (chosen : List Candidate) (o : Option ℕ) (n : ℕ) → staying chosen o ≡ Some n → o ≡ Some n
+pub staying_same : (chosen : List Candidate) (o : Option ℕ) (n : ℕ) → staying chosen o ≡ Some n → o ≡ Some n
 staying_same chosen None n e = absurd cc
 staying_same chosen (Some m) n e = by_test (list_any (λ c. eqb c.number m) chosen) e
   where
@@ -428,3 +428,21 @@ unchanged chosen movers old mid new cpu mid_is new_is went came = by_occupant (g
     by_occupant (Some n) on =
         let stood : get_or old cpu None ≡ Some n = staying_same chosen (get_or old cpu None) n (sym (mapped (staying chosen) refl old cpu) ∙ ap (λ (ps : Places). get_or ps cpu None) (sym mid_is) ∙ on) in
         stood ∙ sym (ap (λ (ps : Places). get_or ps cpu None) new_is ∙ all_stay movers mid cpu n on)
+
+-- THE OTHERS STAND WHERE THEY STOOD
+stands_put : (n m : ℕ) (places : Places) (cpu : ℕ) → n ≢ m → is_free (slice_get places cpu) ≡ true → stands n (set places cpu (Some m)) ≡ stands n places
+stands_put n m [] cpu other free = refl
+stands_put n m (None ∷ places) zero other free = ap (λ (b : Bool). b || stands n places) (ne_eqb m n (λ e. other (sym e)))
+stands_put n m (Some k ∷ places) zero other free = absurd cc
+stands_put n m (o ∷ places) (suc cpu) other free = ap (λ (b : Bool). is_task n o || b) (stands_put n m places cpu other free)
+
+pub stands_seated : (n : ℕ) (places : Places) (c : Candidate) → n ≢ c.number → stands n (seated places c) ≡ stands n places
+stands_seated n places c other =
+    elim (stands c.number places) as (λ b. stands n (cond b places (put places c.number (seat_of places c))) ≡ stands n places) [
+      | true ↦ refl
+      | false ↦ by_seat (seat_of places c) refl
+    ]
+  where
+    by_seat : (o : Option ℕ) → seat_of places c ≡ o → stands n (put places c.number o) ≡ stands n places
+    by_seat None e = refl
+    by_seat (Some cpu) e = stands_put n c.number places cpu other (seat_free places c cpu e)

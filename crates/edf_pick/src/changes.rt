@@ -122,10 +122,10 @@ fn renew(changes: &mut Changes, queue: &[Candidate], cpus: usize)
 
 // Whether a walk over all chosen tasks is less than a look at each change: a look costs as much as
 // about eight steps of a walk.
-fn is_long(changes: &Changes, cpus: usize) -> bool
+fn is_long(changes: &Changes, chosen: usize) -> bool
     ensures { changes.now.many ≡ true → result ≡ true }
 {
-    changes.many || 8 * changes.fresh.len() + changes.gone.len() >= cpus
+    changes.many || 8 * changes.fresh.len() + changes.gone.len() >= chosen
 }
 
 /// As [`crate::pick`], by what has changed since the last choice: where that is listed and little, it
@@ -144,7 +144,7 @@ pub fn pick_changed(
     ensures follows { spec.Follows (map (spec.homed placement.new) queue.now) placement.new changes.new }
 {
     let cpus = placement.occupants().len();
-    if is_long(changes, cpus) {
+    if is_long(changes, cpus.min(queue.len())) {
         pick_by_walk(placement, queue, moves);
     } else {
         let (cut, fresh, gone) = (&changes.cut, &changes.fresh, &changes.gone);
