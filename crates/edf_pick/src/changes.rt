@@ -26,6 +26,9 @@ pub struct Gone {
 /// As many are listed of either kind.
 const MOST: usize = 256;
 
+/// On fewer CPUs than these nothing is listed: a walk over their tasks is less.
+const FEW: usize = 8;
+
 /// What has come into a queue and gone out of it since the last choice, and how far that went.
 /// Changes with other room than for 256 of either kind cannot be built: past them they tell only
 /// that there were too many.
@@ -74,6 +77,9 @@ impl Changes {
             → spec.Follows queue places self.old
             → spec.Follows (with_candidate c.now queue) places self.new }
     {
+        if self.many {
+            return;
+        }
         if self.fresh.len() < MOST {
             self.fresh.push_reserved(*c);
         } else {
@@ -89,6 +95,9 @@ impl Changes {
             → spec.Follows queue places self.old
             → spec.Follows (without_candidate c.now queue) places self.new }
     {
+        if self.many {
+            return;
+        }
         if self.gone.len() < MOST {
             self.gone.push_reserved(Gone {
                 cpu: c.home,
@@ -149,6 +158,10 @@ pub fn pick_changed(
     } else {
         let (cut, fresh, gone) = (&changes.cut, &changes.fresh, &changes.gone);
         pick_by_list(placement, queue, cut, fresh, gone, moves);
+    }
+    if cpus < FEW {
+        changes.many = true;
+        return;
     }
     renew(changes, queue.as_slice(), cpus);
 }
