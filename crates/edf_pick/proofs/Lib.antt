@@ -8,5 +8,6 @@ pub mod Moving
 pub mod Picked
 pub mod Renewed
 pub mod Rising
+pub mod Scheduling
 pub mod Standing
 pub mod Words

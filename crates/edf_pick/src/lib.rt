@@ -18,6 +18,7 @@ mod order;
 mod picking;
 mod placement;
 mod queue;
+mod schedule;
 mod seats;
 
 pub use candidate::Candidate;
@@ -25,4 +26,5 @@ pub use changes::{Changes, Gone, pick_changed};
 pub use moves::{Moved, Moves};
 pub use placement::{Placement, pick};
 pub use queue::Queue;
+pub use schedule::Schedule;
 pub use seats::stands;

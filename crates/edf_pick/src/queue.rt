@@ -1,6 +1,6 @@
 //! The ready tasks in the order of the choice.
 
-ghost use Rattle.std.specs.Prelude.{◌≡◌, ◌<◌, ◌≤◌, ◌==◌, true, false, [], length, map, IfOk};
+ghost use Rattle.std.specs.Prelude.{◌≡◌, ◌<◌, ◌≤◌, ◌==◌, true, false, [], length, map, is_some, Contains, IfOk, IfSome};
 ghost use Rattle.edf_pick.specs.Order as order;
 
 use crate::candidate::Candidate;
@@ -97,6 +97,21 @@ impl Queue {
         self.tasks.remove(place);
         true
     }
+    /// As `remove`, and answers the task that was there.
+    pub(crate) fn take(&mut self, c: &Candidate) -> Option<Candidate>
+        ensures removed { self.new ≡ order.without_candidate c.now self.old }
+        ensures there { is_some result ≡ order.has_candidate c.now self.old }
+        ensures entry { IfSome result (λ a. Contains self.old a) }
+        ensures same { IfSome result (λ a. order.is_same a c.now ≡ true) }
+    {
+        let Some(place) = find(&self.tasks, c) else {
+            return None;
+        };
+        let entry = self.tasks[place];
+        self.tasks.remove(place);
+        Some(entry)
+    }
+
     /// The task of the deadline and the number of `c` belongs to the CPU of `c` from now on, if it is
     /// there. Found by binary search; no other task is touched.
     pub fn home(&mut self, c: &Candidate)
