@@ -9,7 +9,7 @@ same_itself : (o : Option ℕ) → same_occupant o o ≡ true
 same_itself None = refl
 same_itself (Some n) = eq-eqb n n refl
 
-same_is : (a b : Option ℕ) → same_occupant a b ≡ true → a ≡ b
+pub same_is : (a b : Option ℕ) → same_occupant a b ≡ true → a ≡ b
 same_is None None e = refl
 same_is None (Some n) e = absurd cc
 same_is (Some m) None e = absurd cc

@@ -17,7 +17,7 @@ use Rattle.edf_pick.proofs.Marked.{occupied, task_is}
 use Rattle.edf_pick.proofs.Standing.{AllChosen, placed_chosen, placed_single, placed_stands, stands_where}
 
 -- where a task stands
-on_position : (places : Places) (cpu n : ℕ) → AreSingle places → get_or places cpu None ≡ Some n → position (is_task n) places ≡ Some cpu
+pub on_position : (places : Places) (cpu n : ℕ) → AreSingle places → get_or places cpu None ≡ Some n → position (is_task n) places ≡ Some cpu
 on_position places cpu n single on =
     let within : cpu < length places = occupied places cpu n on in
     let here : is_task n (get_or places cpu None) ≡ true = ap (is_task n) on ∙ eq-eqb n n refl in
@@ -49,7 +49,7 @@ within_homed cut c None = refl
 within_homed None c (Some cpu) = refl
 within_homed (Some last) c (Some cpu) = refl
 
-number_homed : (c : Candidate) (o : Option ℕ) → (home_on c o).number ≡ c.number
+pub number_homed : (c : Candidate) (o : Option ℕ) → (home_on c o).number ≡ c.number
 number_homed c None = refl
 number_homed c (Some cpu) = refl
 

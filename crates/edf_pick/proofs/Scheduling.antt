@@ -1,9 +1,9 @@
 -- One task more and one less in a schedule.
-use Rattle.std.proofs.Common.{◌≡◌, ◌≢◌, ◌<◌, ℕ, Bool, true, false, ◌&&◌, eqb, List, [], ◌∷◌, length, get_or, refl, sym, ap, ◌∙◌, subst, arith, inl, inr}
-use Rattle.std.specs.Prelude.{All, AllPairs, Contains, filter, not}
+use Rattle.std.proofs.Common.{◌≡◌, ◌≢◌, ◌<◌, ℕ, Bool, true, false, ◌&&◌, eqb, List, [], ◌∷◌, length, get_or, sym, ap, ◌∙◌, subst, arith, inl, inr}
+use Rattle.std.specs.Prelude.{All, Contains, filter, not}
 use Rattle.std.proofs.lemmas.Bool.{cases_Bool, cases_eq, cases_lt, cond_both}
 use Rattle.std.proofs.lemmas.List.{get_or_default}
-use Rattle.std.proofs.lemmas.List.Elements.{All-cons, All-filter, All-head, All-tail, All-weaker}
+use Rattle.std.proofs.lemmas.List.Elements.{All-filter, All-head, All-tail, All-weaker}
 use Rattle.std.proofs.lemmas.List.Folds.{list_any_none}
 use Rattle.std.proofs.lemmas.List.Kept.{AllPairs-cons, AllPairs-filter}
 use Rattle.edf_pick.specs.declared.candidate.Candidate.{Candidate}
@@ -28,10 +28,10 @@ numbered_with c (a ∷ queue) numbered others =
     let rest = All-tail (λ x. x.number ≢ c.number) a queue others in
     cond_both (is_before a c) (a ∷ with_candidate c queue) (c ∷ a ∷ queue) (λ xs. IsNumbered xs)
     (λ _. AllPairs-cons (λ x y. x.number ≢ y.number) a (with_candidate c queue)
-      (All-with (λ y. a.number ≢ y.number) c queue first (numbered_first a queue numbered))
-      (numbered_with c queue (numbered_rest a queue numbered) rest))
+    (All-with (λ y. a.number ≢ y.number) c queue first (numbered_first a queue numbered))
+    (numbered_with c queue (numbered_rest a queue numbered) rest))
     (λ _. AllPairs-cons (λ x y. x.number ≢ y.number) c (a ∷ queue)
-      (All-weaker (λ x. x.number ≢ c.number) (λ x. c.number ≢ x.number) (λ x h e. h (sym e)) (a ∷ queue) others) numbered)
+    (All-weaker (λ x. x.number ≢ c.number) (λ x. c.number ≢ x.number) (λ x h e. h (sym e)) (a ∷ queue) others) numbered)
 
 pub inserted : (queue : List Candidate) (places : Places) (old new : ChangesView) (c : Candidate) → IsSchedule queue places old → All (λ a. a.number ≢ c.number) queue → IsAtHome places c → Follows (with_candidate c queue) places new
     → IsSchedule (with_candidate c queue) places new
@@ -52,7 +52,7 @@ without_same a c queue same =
     λ i. filter (λ (x : Candidate). not (eqb x.deadline (tells.0 i) && eqb x.number (tells.1 i))) queue
 
 -- the tasks of one number are one
-one_entry : (queue : List Candidate) (a : Candidate) (j : ℕ) (d : Candidate) → IsNumbered queue → Contains queue a → j < length queue → (get_or queue j d).number ≡ a.number → get_or queue j d ≡ a
+pub one_entry : (queue : List Candidate) (a : Candidate) (j : ℕ) (d : Candidate) → IsNumbered queue → Contains queue a → j < length queue → (get_or queue j d).number ≡ a.number → get_or queue j d ≡ a
 one_entry queue a j d numbered (k, h, e) l same =
     let number_k : (get_or queue k d).number ≡ a.number = ap (λ (x : Candidate). x.number) (get_or_default queue k d a h ∙ e) in
     elim (cases_eq j k) [
@@ -68,9 +68,9 @@ pub removed : (queue : List Candidate) (places : Places) (old new : ChangesView)
     → IsSchedule (without_candidate c queue) places new
 removed queue places old new c a is there same follows =
     let homes : All (λ x. is_same x a ≡ true → x.home ≡ a.home) queue = λ k d h e.
-      ap (λ (x : Candidate). x.home) (one_entry queue a k d is.numbered there h (same_tells (get_or queue k d) a e).1) in
+    ap (λ (x : Candidate). x.home) (one_entry queue a k d is.numbered there h (same_tells (get_or queue k d) a e).1) in
     let singles : All (λ x. x.number ≡ a.number → is_same x a ≡ true) queue = λ k d h e.
-      ap (λ (x : Candidate). is_same x a) (one_entry queue a k d is.numbered there h e) ∙ same_itself a in
+    ap (λ (x : Candidate). is_same x a) (one_entry queue a k d is.numbered there h e) ∙ same_itself a in
     let test : Candidate → Bool = λ x. not (is_same x c) in
     record {
       numbered = AllPairs-filter (λ x y. x.number ≢ y.number) test queue is.numbered;

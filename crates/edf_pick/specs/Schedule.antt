@@ -1,9 +1,9 @@
 -- The ready tasks of a root domain and who stands on its CPUs, as one (own).
-use Rattle.std.specs.Prelude.{ℕ, ◌≡◌, ◌≢◌, true, List, All, AllPairs, IsTrue}
+use Rattle.std.specs.Prelude.{ℕ, ◌≡◌, ◌≢◌, true, if◌then◌else◌, List, fold, All, AllPairs, IsTrue, None, slice_index_or}
 use Rattle.edf_pick.specs.declared.candidate.Candidate.{Candidate}
 use Rattle.edf_pick.specs.declared.moves.Moved.{Moved}
 use Rattle.edf_pick.specs.Changes.{ChangesView, stands_home, Follows}
-use Rattle.edf_pick.specs.Places.{Places, stands}
+use Rattle.edf_pick.specs.Places.{Places, is_task, stands}
 
 pub record ScheduleView : Type 0 where
   -- the ready tasks in the order of the choice
@@ -23,3 +23,12 @@ pub record IsSchedule (queue : List Candidate) (places : Places) (changes : Chan
   pub numbered : AllPairs (λ a b. a.number ≢ b.number) queue
   pub homed : All (IsAtHome places) queue
   pub follows : Follows queue places changes
+
+-- the task that stands on this CPU belongs to it
+abbrev pub homed_on : Places → ℕ → Candidate → Candidate
+homed_on places cpu c =
+    if is_task c.number (slice_index_or places cpu None) then record c { home = cpu } else c
+
+-- and so on each CPU that was given to another one
+abbrev pub homed_by : Places → List Moved → Candidate → Candidate
+homed_by places moves c = fold (λ (a : Candidate) m. homed_on places m.cpu a) c moves

@@ -5,7 +5,7 @@ ghost use Rattle.edf_pick.specs.declared.candidate.Candidate.{Candidate};
 ghost use Rattle.edf_pick.specs.Changes as spec;
 ghost use Rattle.edf_pick.specs.Moves.{moved_from};
 ghost use Rattle.edf_pick.specs.Order.{is_same, with_candidate, without_candidate};
-ghost use Rattle.edf_pick.specs.Places.{Places, placed};
+ghost use Rattle.edf_pick.specs.Places.{AreSingle, Places, placed};
 
 use crate::candidate::Candidate;
 use crate::moves::Moves;
@@ -150,6 +150,9 @@ pub fn pick_changed(
     requires follows { spec.Follows queue.now placement.old changes.old }
     ensures places { placement.new ≡ placed (length placement.old) queue.now placement.old }
     ensures moves { moves.new ≡ moved_from 0 placement.old placement.new }
+    ensures len { length placement.new ≡ length placement.old }
+    ensures single { AreSingle placement.old }
+    ensures still { AreSingle placement.new }
     ensures follows { spec.Follows (map (spec.homed placement.new) queue.now) placement.new changes.new }
 {
     let cpus = placement.occupants().len();

@@ -95,6 +95,7 @@ pub(crate) fn pick_by_walk(placement: &mut Placement, queue: &Queue, moves: &mut
     ensures len { length placement.new ≡ length placement.old }
     ensures some { 0 < length placement.old }
     ensures single { AreSingle placement.old }
+    ensures still { AreSingle placement.new }
 {
     let tasks = queue.as_slice();
     let changed = pick_from(&mut placement.occupants, tasks, &mut placement.taken);
@@ -119,6 +120,7 @@ pub(crate) fn pick_by_list(
     ensures len { length placement.new ≡ length placement.old }
     ensures some { 0 < length placement.old }
     ensures single { AreSingle placement.old }
+    ensures still { AreSingle placement.new }
 {
     let tasks = queue.as_slice();
     let places = &mut placement.occupants;

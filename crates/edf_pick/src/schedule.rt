@@ -1,12 +1,16 @@
 //! The ready tasks of a root domain and who stands on its CPUs, as one.
 
-ghost use Rattle.std.specs.Prelude.{◌≡◌, ◌≢◌, ◌<◌, ◌≤◌, [], None, true, length, replicate, All, IfOk};
+ghost use Rattle.std.specs.Prelude.{◌≡◌, ◌≢◌, ◌<◌, ◌≤◌, [], None, true, length, map, replicate, All, AllPairs, IfOk};
+ghost use Rattle.edf_pick.specs.Changes.{homed};
+ghost use Rattle.edf_pick.specs.Moves.{moved_from};
 ghost use Rattle.edf_pick.specs.Order as order;
+ghost use Rattle.edf_pick.specs.Places.{placed};
 ghost use Rattle.edf_pick.specs.Schedule as spec;
 
 use crate::candidate::Candidate;
-use crate::changes::Changes;
+use crate::changes::{Changes, pick_changed};
 use crate::moves::{Moved, Moves};
+use crate::order::find_number;
 use crate::placement::Placement;
 use crate::queue::Queue;
 use std::alloc::{AllocError, Global};
@@ -96,5 +100,53 @@ impl Schedule {
         };
         self.changes.go(&entry);
         true
+    }
+
+    /// The choice of the next tick and its placement, as [`crate::pick`], by what has changed since the
+    /// last one: see [`crate::pick_changed`]. Each task that stands then belongs to its CPU.
+    pub fn pick(&mut self)
+        ensures places { self.new.places
+            ≡ placed (length self.old.places) self.old.queue self.old.places }
+        ensures queue { self.new.queue ≡ map (homed self.new.places) self.old.queue }
+        ensures moves { self.new.moves ≡ moved_from 0 self.old.places self.new.places }
+    {
+        pick_changed(
+            &mut self.placement,
+            &self.queue,
+            &mut self.changes,
+            &mut self.moves,
+        );
+        let places = self.placement.occupants();
+        home_all(&mut self.queue, places, self.moves.as_slice());
+    }
+}
+
+// Who stands on this CPU belongs to it.
+fn home_one(queue: &mut Queue, places: &[Option<u32>], cpu: usize)
+    requires { AllPairs (λ a b. a.number ≢ b.number) queue.old }
+    ensures { queue.new ≡ map (spec.homed_on places.now cpu) queue.old }
+{
+    if cpu >= places.len() {
+        return;
+    }
+    let Some(number) = places[cpu] else {
+        return;
+    };
+    let Some(entry) = find_number(queue.as_slice(), number) else {
+        return;
+    };
+    queue.home(&Candidate {
+        deadline: entry.deadline,
+        number,
+        home: cpu,
+    });
+}
+
+fn home_all(queue: &mut Queue, places: &[Option<u32>], moves: &[Moved])
+    requires { AllPairs (λ a b. a.number ≢ b.number) queue.old }
+    ensures { queue.new ≡ map (spec.homed_by places.now moves.now) queue.old }
+{
+    for i in 0..moves.len() {
+        home_one(queue, places, moves[i].cpu);
     }
 }

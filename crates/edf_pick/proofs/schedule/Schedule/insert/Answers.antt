@@ -1,7 +1,6 @@
-use Rattle.std.proofs.Common.{◌≡◌, ◌≢◌, List, ap, sym, subst}
+use Rattle.std.proofs.Common.{◌≢◌, List, ap, sym, subst}
 use Rattle.std.specs.Prelude.{All}
 use Rattle.edf_pick.specs.declared.candidate.Candidate.{Candidate}
-use Rattle.edf_pick.specs.Order.{with_candidate}
 use Rattle.edf_pick.specs.Places.{Places}
 use Rattle.edf_pick.specs.Schedule.{ScheduleView, IsAtHome, IsSchedule}
 use Rattle.edf_pick.proofs.Scheduling.{absent_number, inserted}
