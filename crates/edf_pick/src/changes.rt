@@ -138,8 +138,9 @@ fn is_long(changes: &Changes, chosen: usize) -> bool
 }
 
 /// As [`crate::pick`], by what has changed since the last choice: where that is listed and little, it
-/// looks at that alone, and else at all. It lists the CPUs that another one has then. Nothing has changed since
-/// in the queue in which each task that stands belongs to the CPU on which it stands. Takes no memory.
+/// looks at that alone, and else at all. It lists the CPUs that another one has then. Nothing has
+/// changed since in the queue in which each task that stands belongs to the CPU on which it stands.
+/// Takes no memory.
 pub fn pick_changed(
     placement: &mut Placement,
     queue: &Queue,

@@ -91,12 +91,9 @@ impl Queue {
         ensures removed { self.new ≡ order.without_candidate c.now self.old }
         ensures there { result ≡ order.has_candidate c.now self.old }
     {
-        let Some(place) = find(&self.tasks, c) else {
-            return false;
-        };
-        self.tasks.remove(place);
-        true
+        self.take(c).is_some()
     }
+
     /// As `remove`, and answers the task that was there.
     pub(crate) fn take(&mut self, c: &Candidate) -> Option<Candidate>
         ensures removed { self.new ≡ order.without_candidate c.now self.old }
