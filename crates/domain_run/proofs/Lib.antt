@@ -29,6 +29,7 @@ pub mod AtHome
 pub mod Moving
 pub mod Charged
 pub mod Due
+pub mod Front
 pub mod Sliding
 pub mod Rooted
 pub mod Climbing

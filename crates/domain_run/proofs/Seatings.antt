@@ -10,7 +10,7 @@ use Rattle.grub_rules.specs.Rate as reclaiming
 use Rattle.domain_run.specs.declared.seats.Seat.{Seat}
 use Rattle.domain_run.specs.declared.seats.Basis.{Basis}
 use Rattle.domain_run.specs.private.Seats.{SeatsView, seat_by, left}
-use Rattle.domain_run.specs.private.Waiting.{seat_of, slid_for, owed_by, owed, owed_all, Waits, WaitsIf, AllWait, MaySit, IsAtRate, IsRight, charged_on, rate_by}
+use Rattle.domain_run.specs.private.Waiting.{seat_of, slid_for, owed_by, owed, owed_all, Waits, WaitsIf, AllWait, MaySit, IsAtRate, IsRight, charged_on, rate_by, IsRatedBy}
 use Rattle.domain_run.specs.declared.run_queue.RunQueue.{RunQueue}
 use Rattle.domain_run.specs.private.RunQueue.{IsCounted}
 use Rattle.domain_run.specs.private.Roster.{RosterView, IsKept}
@@ -159,7 +159,7 @@ module _ (upto cpu : ℕ) (seats : List (Option Seat)) (s : Seat) (free : get_or
       by_number t false e sat = tt
 
 -- a seat that ends with the work or the budget of its task, whichever is first
-pub waits_until : (s : Seat) (t : Task) (spent left : ℕ) → MaySit t → pos left ≡ t.server.left → s.end - s.since ≡ min t.work spent → s.rate * (spent - 1) < left → ((b : Basis) → s.basis ≡ b → s.rate ≡ rate_by b t) → Waits s t
+pub waits_until : (s : Seat) (t : Task) (spent left : ℕ) → MaySit t → pos left ≡ t.server.left → s.end - s.since ≡ min t.work spent → s.rate * (spent - 1) < left → IsRatedBy s.basis s.rate t → Waits s t
 waits_until s t spent left may is span lasted rated =
     let m : s.rate * (s.end - s.since - 1) ≤ s.rate * (spent - 1) = mul-le-mul_left s.rate (omega (arith, span)) in
     record {
@@ -202,8 +202,12 @@ module _ (cpu n rate : ℕ) (seats : List (Option Seat)) where
             λ k. here ∙ ap (seat_by t.number) at.at ∙ other_seat t.number s (λ z. k (sym at.its ∙ z)),
           )
 
+rated_on : (kept : Option Basis) (rate : ℕ) (t : Task) (b : Basis) → IfSome kept (λ k. k ≡ b) → IsRatedBy kept rate t → rate ≡ rate_by b t
+rated_on None rate t b same rated = rated b
+rated_on (Some k) rate t b same rated = rated ∙ ap (λ (x : Basis). rate_by x t) same
+
 -- who sits on a basis that is still right, is right
-pub basis_right : (upto cpu n : ℕ) (seats : List (Option Seat)) (items : List Task) (s : Seat) (b : Basis) → seat_by n (get_or seats cpu None) ≡ Some s → s.basis ≡ b → AllWait seats items → All (λ t. t.cpu ≡ cpu → IsRight (Some n) t.number (rate_by b t) (seat_of seats t)) (map (owed upto seats) items)
+pub basis_right : (upto cpu n : ℕ) (seats : List (Option Seat)) (items : List Task) (s : Seat) (b : Basis) → seat_by n (get_or seats cpu None) ≡ Some s → IfSome s.basis (λ k. k ≡ b) → AllWait seats items → All (λ t. t.cpu ≡ cpu → IsRight (Some n) t.number (rate_by b t) (seat_of seats t)) (map (owed upto seats) items)
 basis_right upto cpu n seats items s b sat same waits k d h e =
     let f = owed upto seats in
     let many : length (map f items) ≡ length items = simp length-map in
@@ -221,7 +225,7 @@ basis_right upto cpu n seats items s b sat same waits k d h e =
           let its : seat_of seats x ≡ Some s = (λ i. seat_by ((number_is ∙ sym q) i) (get_or seats (cpu_is i) None)) ∙ sat in
           let w : Waits s x = subst (λ o. IfSome o (λ r. Waits r x)) its (waits k d inside) in
           at_rate (rate_by b t) (seat_of seats t) s (here ∙ ap (λ m. seat_by m (get_or seats cpu None)) (sym q) ∙ sat)
-          (w.rated b same ∙ (λ i. reclaiming.rate (params i) b.uinact b.sum b.cpus b.limit)),
+          (rated_on s.basis s.rate x b same w.rated ∙ (λ i. reclaiming.rate (params i) b.uinact b.sum b.cpus b.limit)),
       λ q. here ∙ ap (seat_by t.number) at.at ∙ other_seat t.number s (λ z. q (sym at.its ∙ z)),
     )
 

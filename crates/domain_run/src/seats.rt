@@ -31,8 +31,8 @@ pub(crate) struct Seat {
     pub(crate) since: u64,
     /// What a tick takes of its budget, in 1/2^20 us.
     pub(crate) rate: u64,
-    /// What the rate was worked out from.
-    pub(crate) basis: Basis,
+    /// What the rate was worked out from; nothing where it is the same on every basis.
+    pub(crate) basis: Option<Basis>,
     /// When its work or its budget ends, if it goes on to run at this rate.
     pub(crate) end: u64,
 }

@@ -1,7 +1,7 @@
 //! When something is next to be done to each listed task before the choice. So a tick looks only at
 //! the tasks that are due.
 
-ghost use Rattle.std.specs.Prelude.{◌≡◌, ◌<◌, ◌≤◌, ◌-◌, ◌+◌, ◌*◌, ◌^◌, ◌∷◌, ◌++◌, [], length, min, false, replicate, slice_index_or, slice_set, IfOk};
+ghost use Rattle.std.specs.Prelude.{◌≡◌, ◌<◌, ◌≤◌, ◌-◌, ◌+◌, ◌*◌, ◌^◌, ◌∷◌, ◌++◌, [], length, min, false, take, replicate, slice_index_or, slice_set, IfOk};
 ghost use Rattle.domain_run.specs.private.Timers as spec;
 
 pub(crate) use crate::tournament::NEVER;
@@ -107,12 +107,30 @@ impl Timers {
         self.count += 1;
     }
 
-    /// Of no tasks.
-    pub(crate) fn clear(&mut self)
-        ensures { self.new ≡ [] }
+    // How many tasks there are.
+    fn len(&self) -> usize
+        ensures { result ≡ length self.now }
     {
-        self.tournament.clear();
-        self.count = 0;
+        self.count
+    }
+
+    // Without the last task.
+    fn pop(&mut self)
+        requires { 0 < length self.old }
+        ensures { self.new ≡ take (length self.old - 1) self.old }
+    {
+        self.count -= 1;
+        self.tournament.set(self.count, NEVER);
+    }
+
+    /// Only the first so many tasks.
+    pub(crate) fn keep(&mut self, count: usize)
+        requires { count ≤ length self.old }
+        ensures { self.new ≡ take count self.old }
+    {
+        while self.len() > count {
+            self.pop();
+        }
     }
 
     /// Whether a task may be due at a time. Where it says no, none is.

@@ -83,16 +83,6 @@ fn add_never(nodes: &mut Vec<u64>, count: usize)
     }
 }
 
-// So many nodes that never come.
-fn put_never(nodes: &mut Vec<u64>, count: usize)
-    requires { count ≤ vec_capacity nodes.old }
-    ensures nodes { nodes.new.items ≡ replicate count (2 ^ 64 - 1) }
-    ensures room { vec_capacity nodes.new ≡ vec_capacity nodes.old }
-{
-    nodes.clear();
-    add_never(nodes, count);
-}
-
 // Of eight halves of nodes the second becomes the fifth as well.
 fn copy_leaves(nodes: &mut Vec<u64>, half: usize)
     requires { length nodes.old.items ≡ 8 * half }
@@ -197,15 +187,8 @@ impl Tournament {
         ensures { IfOk result (λ tournament. tournament ≡ replicate 4 (2 ^ 64 - 1)) }
     {
         let mut nodes = Vec::with_capacity(alloc, ROOM)?;
-        put_never(&mut nodes, 8);
+        add_never(&mut nodes, 8);
         Ok(Tournament { nodes })
-    }
-
-    /// Of four times that never come.
-    pub(crate) fn clear(&mut self)
-        ensures { self.new ≡ replicate 4 (2 ^ 64 - 1) }
-    {
-        put_never(&mut self.nodes, 8);
     }
 
     /// Four times as many; those that are new never come.

@@ -43,13 +43,18 @@ owed_all s tasks = map (owed s.upto s.seats) tasks
 abbrev pub rate_by : Basis → Task → ℕ
 rate_by b t = reclaiming.rate t.params b.uinact b.sum b.cpus b.limit
 
+-- a rate is that of a task on a basis that is kept; on every one, where none is
+abbrev pub IsRatedBy : Option Basis → ℕ → Task → Type 0
+IsRatedBy None rate t = (b : Basis) → rate ≡ rate_by b t
+IsRatedBy (Some b) rate t = rate ≡ rate_by b t
+
 -- a seat's task: it is ready, the seat has its rate, and neither its work nor its budget ends before
 -- the seat does
 pub record Waits (s : Seat) (t : Task) : Type 0 where
   pub ready : IsTrue (is_ready t.condition)
   pub worked : s.end - s.since ≤ t.work
   pub lasted : pos (s.rate * (s.end - s.since - 1)) <ℤ t.server.left
-  pub rated : (b : Basis) → s.basis ≡ b → s.rate ≡ rate_by b t
+  pub rated : IsRatedBy s.basis s.rate t
 
 abbrev pub WaitsIf : List (Option Seat) → Task → Type 0
 WaitsIf seats t = IfSome (seat_of seats t) (λ s. Waits s t)

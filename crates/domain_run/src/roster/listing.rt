@@ -1,6 +1,6 @@
 //! A task comes onto the list; tasks that have left go off it.
 
-ghost use Rattle.std.specs.Prelude.{◌≡◌, ◌<◌, ◌≤◌, ◌^◌, ◌++◌, ◌∷◌, [], map, filter, false, All, length, vec_len, vec_capacity};
+ghost use Rattle.std.specs.Prelude.{◌≡◌, ◌<◌, ◌≤◌, ◌^◌, ◌++◌, ◌∷◌, [], map, take, filter, false, All, length, vec_len, vec_capacity};
 ghost use Rattle.grub_rules.specs.Accounts.{AreAccounts};
 ghost use Rattle.domain_run.specs.Conditions.{is_ready};
 ghost use Rattle.domain_run.specs.Parts as parts_spec;
@@ -50,27 +50,29 @@ fn part_left(accounts: &mut Accounts, tasks: &[Task])
     }
 }
 
-// Where fewer tasks are listed than before, each is at another place.
-fn note_left(index: &mut Index, tasks: &[Task], before: usize) {
-    if tasks.len() < before {
-        for place in 0..tasks.len() {
-            index.note(tasks[place].number, place);
-        }
+// Where the tasks of a list are, from a place on.
+fn note_left(index: &mut Index, tasks: &[Task], from: usize) {
+    for place in from..tasks.len() {
+        index.note(tasks[place].number, place);
     }
 }
 
-// When each task of a list is due.
-fn set_timers(timers: &mut Timers, tasks: &[Task])
-    requires { length tasks.now ≤ 256 }
+// When each task of a list is due, where that is known of those before a place.
+fn set_timers(timers: &mut Timers, tasks: &[Task], from: usize)
+    requires few { length tasks.now ≤ 256 }
+    requires within { from ≤ length timers.old }
+    requires there { from ≤ length tasks.now }
+    requires known { take from timers.old ≡ map timers_spec.due_of (take from tasks.now) }
     ensures { timers.new ≡ map timers_spec.due_of tasks.now }
 {
-    timers.clear();
-    for task in tasks {
-        timers.push(due_of(task));
+    timers.keep(from);
+    for place in from..tasks.len() {
+        timers.push(due_of(&tasks[place]));
     }
 }
 
-/// Tasks that have left go off the list. They are due at once.
+/// Tasks that have left go off the list. They are due at once, so those before the first that is
+/// due stay as they are, and cost nothing but a look.
 pub(super) fn drop_left(tasks: &mut Vec<Task>, queue: &mut RunQueue, index: &mut Index)
     requires { IsCounted (length queue.old.accounts.all) queue.old tasks.old.items }
     ensures tasks { tasks.new.items ≡ filter parts_spec.is_listed tasks.old.items }
@@ -81,11 +83,11 @@ pub(super) fn drop_left(tasks: &mut Vec<Task>, queue: &mut RunQueue, index: &mut
     if !queue.timers.may_be_due(0) {
         return;
     }
-    let before = tasks.len();
+    let first = queue.timers.next_due(0, 0);
     part_left(&mut queue.accounts, tasks);
     tasks.retain(|task| parts::is_listed(task));
-    set_timers(&mut queue.timers, tasks);
-    note_left(index, tasks, before);
+    set_timers(&mut queue.timers, tasks, first);
+    note_left(index, tasks, first);
 }
 
 // Whether a task has another number.
@@ -122,9 +124,8 @@ pub(super) fn drop_number(
     ensures counted { IsCounted (length queue.old.accounts.all) queue.new tasks.new.items }
     ensures room { vec_capacity tasks.new ≡ vec_capacity tasks.old }
 {
-    let before = tasks.len();
     part_number(&mut queue.accounts, tasks, number);
     tasks.retain(|task| is_other(task, number));
-    set_timers(&mut queue.timers, tasks);
-    note_left(index, tasks, before);
+    set_timers(&mut queue.timers, tasks, 0);
+    note_left(index, tasks, 0);
 }

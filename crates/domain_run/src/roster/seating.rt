@@ -46,6 +46,17 @@ fn lasting(left: u64, rate: u64) -> u64
     left.div_ceil(rate)
 }
 
+/// What is kept of the basis of a task's rate: nothing where the task does not reclaim, since its
+/// rate is one on every basis.
+fn kept_basis(task: &Task, basis: Basis) -> Option<Basis>
+    ensures { (rate : ℕ) → rate ≡ spec.rate_by basis task.now → spec.IsRatedBy result rate task.now }
+{
+    if task.params.reclaim {
+        return Some(basis);
+    }
+    None
+}
+
 /// A seat for a task, from a time on, at a rate.
 fn seat_for(task: &Task, upto: u64, rate: u64, basis: Basis) -> Seat
     requires may { spec.MaySit task.now }
@@ -64,7 +75,7 @@ fn seat_for(task: &Task, upto: u64, rate: u64, basis: Basis) -> Seat
         number: task.number,
         since: upto,
         rate,
-        basis,
+        basis: kept_basis(task, basis),
         end: upto + task.work.min(spent),
     }
 }
@@ -144,16 +155,16 @@ impl Roster {
         }
     }
 
-    /// Whether the task of a number sits on a CPU, at a rate that this basis gives: then nobody else
-    /// sits there.
+    /// Whether a basis that is kept, if one is, is still that of a CPU.
     #[inline(always)]
-    fn sits_by(&self, cpu: usize, number: u32, basis: &Basis) -> bool
-        ensures { IsTrue result → All (λ t. t.cpu ≡ cpu → spec.IsRight (Some number) t.number
-            (spec.rate_by basis.now t) (spec.seat_of self.now.seats t)) self.now.tasks }
+    fn is_still(&self, cpu: usize, kept: Option<Basis>, limit: u64) -> bool
+        requires there { cpu < self.now.cpus }
+        ensures { IsTrue result
+            → IfSome kept (λ b. b ≡ basis_in self.now.cpus limit self.now.tasks cpu) }
     {
-        match self.seats.seat_of(cpu, number) {
-            None => false,
-            Some(seat) => seat.basis.is_same(basis),
+        match kept {
+            None => true,
+            Some(basis) => basis.is_same(&self.basis(cpu, limit)),
         }
     }
 
@@ -165,8 +176,10 @@ impl Roster {
         ensures { IsTrue result → All (λ t. t.cpu ≡ cpu → spec.IsRight (Some number) t.number
             (rate_in self.now.cpus limit self.now.tasks t) (spec.seat_of self.now.seats t)) self.now.tasks }
     {
-        let basis = self.basis(cpu, limit);
-        self.sits_by(cpu, number, &basis)
+        match self.seats.seat_of(cpu, number) {
+            None => false,
+            Some(seat) => self.is_still(cpu, seat.basis, limit),
+        }
     }
 
     /// Whether who stands on a CPU, if anyone does, sits there at its rate, and nobody else does.
