@@ -191,15 +191,19 @@ impl Log {
     pub fn clear(&mut self)
         ensures wanted { self.new.wanted ≡ self.old.wanted }
         ensures empty { self.new.happened ≡ [] }
+        ensures room { self.new.room ≡ self.old.room + length self.old.happened }
     {
+        // For the prover alone: a look at the room tells that what is there fits it.
+        let _ = self.happened.capacity();
         self.happened.clear();
     }
 
-    /// Room for so much more, where it keeps it. `Err` where a growth was refused; it has what it
-    /// had then.
+    /// Room for so much more, where it keeps it; a silent one is as it was. `Err` where a growth was
+    /// refused; it has what it had then.
     pub fn make_room(&mut self, more: usize) -> Result<(), NoMemory>
         ensures told { Tells self.old [] self.new }
         ensures ok { OnOk result (HasRoom more self.new) }
+        ensures silent { self.old.wanted ≡ false → self.new ≡ self.old }
     {
         if self.wanted {
             self.happened.try_reserve(more)?;
@@ -212,6 +216,7 @@ impl Log {
         requires room { HasRoom 1 self.old }
         ensures told { Tells self.old (one_of one) self.new }
         ensures room { self.old.room ≤ self.new.room + 1 }
+        ensures no_more { self.new.room ≤ self.old.room }
     {
         if let Some(one) = one
             && self.wanted

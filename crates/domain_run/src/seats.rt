@@ -2,7 +2,7 @@
 //! seat tells since when it has not been charged and at which rate it runs, so that time goes on for
 //! all of them at once.
 
-ghost use Rattle.std.specs.Prelude.{ℕ, IsTrue, is_none, ◌≡◌, ◌<◌, ◌≤◌, ◌+◌, ◌^◌, All, IfOk, IfSome, None, length, map, replicate, slice_index_or, slice_set};
+ghost use Rattle.std.specs.Prelude.{ℕ, IsTrue, is_none, ◌≡◌, ◌<◌, ◌≤◌, ◌+◌, ◌^◌, All, IfOk, IfSome, None, length, map, replicate, slice_index_or, slice_set, vec_capacity};
 ghost use Rattle.domain_run.specs.private.Seats as spec;
 ghost use Rattle.domain_run.specs.private.Timers.{AreLater, least};
 
@@ -38,7 +38,7 @@ pub(crate) struct Seat {
 }
 
 /// For each CPU the seat of who runs there, if anyone does, and the time up to which all of them
-/// have run.
+/// have run. Seats with room for more or fewer than the CPUs cannot be built.
 #[derive(Drop)]
 pub(crate) struct Seats {
     upto: u64,
@@ -48,13 +48,14 @@ pub(crate) struct Seats {
 }
 
 impl Model for Seats {
+    ghost use Rattle.std.specs.Prelude.{vec_capacity};
     ghost use Rattle.domain_run.specs.private.Seats.{SeatsView, AreSeats};
 
     ghost Value = { SeatsView };
 
     ghost view = { λ s. record { upto = s.upto; seats = s.seats.items } };
 
-    ghost invariant = { λ s. AreSeats s.upto s.seats.items s.ends };
+    ghost invariant = { λ s. AreSeats s.upto s.seats.items s.ends (vec_capacity s.seats) };
 }
 
 impl Basis {
@@ -87,11 +88,16 @@ fn if_of(seat: Option<Seat>, number: u32) -> Option<Seat>
     }
 }
 
-// So many empty seats.
+// So many empty seats, with room for no more.
 fn empty(alloc: Global, cpus: usize) -> Result<Vec<Option<Seat>>, AllocError>
-    ensures { IfOk result (λ seats. seats.items ≡ replicate cpus None) }
+    ensures seats { IfOk result (λ seats. seats.items ≡ replicate cpus None) }
+    ensures room { IfOk result (λ seats. vec_capacity seats ≡ cpus) }
 {
-    Ok(vec![in alloc; None; cpus]?)
+    let mut seats = Vec::with_capacity(alloc, cpus)?;
+    for _ in 0..cpus {
+        seats.push_reserved(None);
+    }
+    Ok(seats)
 }
 
 // So many times that never come.
@@ -106,7 +112,7 @@ fn add_never(ends: &mut Timers, count: usize)
 }
 
 impl Seats {
-    /// Nobody runs, on at most 64 CPUs. No other call takes memory.
+    /// Nobody runs, on at most 64 CPUs, with room for their seats. No other call takes memory.
     pub(crate) fn open(alloc: Global, cpus: usize) -> Result<Seats, NoMemory>
         requires { cpus ≤ 64 }
         ensures { IfOk result (λ made. made ≡ record { upto = 0; seats = replicate cpus None }) }

@@ -19,12 +19,14 @@ pub record IsAhead (upto : ℕ) (s : Seat) : Type 0 where
   pub soon : s.end ≤ 2 ^ 63
   pub slow : s.rate ≤ 2 ^ 27
 
--- what seats keep: none has ended, and the timers tell when each does
-pub record AreSeats (upto : ℕ) (seats : List (Option Seat)) (ends : List ℕ) : Type 0 where
+-- what seats keep: none has ended, the timers tell when each does, and there is room for a seat of
+-- each CPU and no more, so they take no more
+pub record AreSeats (upto : ℕ) (seats : List (Option Seat)) (ends : List ℕ) (capacity : ℕ) : Type 0 where
   pub early : upto ≤ 2 ^ 62
   pub few : length seats ≤ 64
   pub ahead : All (λ o. IfSome o (IsAhead upto)) seats
   pub ends_are : ends ≡ map end_of seats
+  pub room : capacity ≡ length seats
 
 -- a seat, where it is that of a number
 abbrev pub seat_by : ℕ → Option Seat → Option Seat

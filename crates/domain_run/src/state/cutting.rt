@@ -1,6 +1,6 @@
 //! Calls that end a task here, and tell a log that its job is cut.
 
-ghost use Rattle.std.specs.Prelude.{◌≡◌};
+ghost use Rattle.std.specs.Prelude.{◌≡◌, ◌≤◌};
 ghost use Rattle.domain_run.specs.declared.call.Call.TheVariants as Call;
 ghost use Rattle.domain_run.specs.Calls as calls;
 ghost use Rattle.domain_run.specs.Happened.{told_by_cut, told_by_call};
@@ -34,6 +34,7 @@ impl State {
         ensures reply { result ≡ calls.reply_to self.old (Call.Leave number) }
         ensures domain { self.new ≡ calls.after_call self.old (Call.Leave number) }
         ensures told { Tells log.old (told_by_call self.old (Call.Leave number)) log.new }
+        ensures no_more { log.new.room ≤ log.old.room }
     {
         let cut = self.cut_of(number);
         let reply = self.leave(number);
@@ -50,6 +51,7 @@ impl State {
         ensures reply { result ≡ calls.reply_to self.old (Call.Depart number) }
         ensures domain { self.new ≡ calls.after_call self.old (Call.Depart number) }
         ensures told { Tells log.old (told_by_call self.old (Call.Depart number)) log.new }
+        ensures no_more { log.new.room ≤ log.old.room }
     {
         let cut = self.cut_of(number);
         let reply = self.depart(number);

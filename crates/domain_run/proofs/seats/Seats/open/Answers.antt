@@ -11,7 +11,8 @@ invariant_of-result c =
     let n = c.args.cpus in
     record {
       early = omega arith;
-      few = omega (arith, c.requires, ap (λ (xs : List (Option Seat)). length (map end_of xs)) c.in_ok-seats.ensures, length-map c.in_ok-seats.seats.items end_of, none_length n);
-      ahead = subst (All (λ o. IfSome o (IsAhead 0))) (sym c.in_ok-seats.ensures) (none_ahead n);
-      ends_are = c.add_never.ensures ∙ none_end n ∙ ap (λ (xs : List (Option Seat)). map end_of xs) (sym c.in_ok-seats.ensures);
+      few = omega (arith, c.requires, ap (λ (xs : List (Option Seat)). length (map end_of xs)) c.in_ok-seats.ensures.seats, length-map c.in_ok-seats.seats.items end_of, none_length n);
+      ahead = subst (All (λ o. IfSome o (IsAhead 0))) (sym c.in_ok-seats.ensures.seats) (none_ahead n);
+      ends_are = c.add_never.ensures ∙ none_end n ∙ ap (λ (xs : List (Option Seat)). map end_of xs) (sym c.in_ok-seats.ensures.seats);
+      room = omega (arith, c.in_ok-seats.ensures.room, ap (λ (xs : List (Option Seat)). length (map end_of xs)) c.in_ok-seats.ensures.seats, length-map c.in_ok-seats.seats.items end_of, none_length n);
     }

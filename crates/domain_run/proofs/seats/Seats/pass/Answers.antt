@@ -13,4 +13,5 @@ invariant_of-self c =
       ahead = seats_later s.upto (s.upto + c.args.ticks) s.seats.items (omega arith) c.self.invariant.ahead
           (subst (λ (v : SeatsView). AreLater (map end_of v.seats) (v.upto + c.args.ticks) 0 (length v.seats)) (sym c.self.view_is) c.requires.ahead);
       ends_are = c.self.invariant.ends_are;
+      room = c.self.invariant.room;
     }
