@@ -8,19 +8,14 @@ ghost use Rattle.call_book.specs.Limits.{IsCall};
 ghost use Rattle.call_book.specs.Pieces.{IsTicketOf};
 ghost use Rattle.session.specs.SessionId.{IsSession, spine_of};
 ghost use Rattle.session.specs.private.Entering.{IsSessionBook, SameBook, IsAsk, IsGivenBack, NoneIsKept, IsDone, IsOffered, IsReplied, IsRegradedBy, limit_answer, limit_back, IsLimitedBy, IsAdvancedBy, IsWhyNotAdmitted, IsWhyNotMade, IsWhyNot};
-ghost use Rattle.call_book.specs.MoveAnswers.{moving_as};
-ghost use Rattle.session.specs.Moves.{WasListed};
-ghost use Rattle.session.specs.private.Moving.{IsPassPair, IsMoveAsk, IsBooksAnswer, IsUnpreparedAt, IsWhyNotMoved};
+ghost use Rattle.session.specs.private.Moving.{IsPassPair, IsMoveAsk, IsBooksAnswer, IsWhyNotMoved};
 
 use crate::names::Names;
 use crate::refusal::{Answer, Refusal};
 use attr_check::Params;
 use bw_gate::{Blank, Gate, Ticket};
-use call_book::{
-    Admit, AdvanceError, Domain, Full, Limit, Move, MoveFault, Pass, Prepared, move_task,
-};
+use call_book::{Admit, AdvanceError, Domain, Full, Limit, Move, Pass, Prepared, move_task};
 use domain_run::Reply;
-use std::alloc::Global;
 use std::marker::PhantomData;
 use std::sync::Wait;
 use std::thread::Threads;
@@ -42,8 +37,8 @@ pub(crate) struct Outcome {
 
 /// The domain of a place in a session.
 pub(crate) struct LockedBook<N: Names, const D: usize> {
-    domain: Domain,
-    of: PhantomData<N>,
+    pub(crate) domain: Domain,
+    pub(crate) of: PhantomData<N>,
     ghost named: { IsSessionBook N.id D domain },
 }
 
@@ -242,23 +237,6 @@ fn move_listed<N: Names, const D: usize, const E: usize>(
 }
 
 impl<N: Names, const D: usize> LockedBook<N, D> {
-    pub(crate) fn new(domain: Domain) -> LockedBook<N, D>
-        requires { IsSessionBook N.id D domain }
-    {
-        LockedBook {
-            domain,
-            of: PhantomData,
-        }
-    }
-
-    /// The domain, which is then the caller's.
-    pub(crate) fn into_domain(self) -> Domain
-        ensures { IsSessionBook N.id D result }
-    {
-        let LockedBook { domain, of: _ } = self;
-        domain
-    }
-
     /// Makes a call with a client's pass. A refusal is told of the book as it was.
     pub(crate) fn make<R: Wait>(
         &mut self,
@@ -309,17 +287,6 @@ impl<N: Names, const D: usize> LockedBook<N, D> {
         }
     }
 
-    /// What a task takes along to another domain.
-    pub(crate) fn prepare_move(&self, alloc: Global, number: u32) -> Result<Prepared, MoveFault>
-        requires call { IsCall (calls.Depart number) }
-        ensures number { IfOk result (λ a. a.number ≡ number) }
-        ensures soon { IfOk result (λ a. a.delay ≡ 0) }
-        ensures listed { IfOk result (λ a. WasListed N.id D number (moving_as a)) }
-        ensures fault { IfErr result (IsUnpreparedAt N.id D number) }
-    {
-        self.domain.prepare_move(alloc, number)
-    }
-
     /// Moves a task to another domain with a client's passes of both. A refusal is told of both books
     /// as they were.
     pub(crate) fn move_to<const E: usize>(
@@ -344,12 +311,5 @@ impl<N: Names, const D: usize> LockedBook<N, D> {
     {
         let (from, to) = (&mut self.domain, &mut to.domain);
         move_listed::<N, D, E>(from, from_pass, to, to_pass, gate, prepared, ticket)
-    }
-
-    /// Hands out a blank that the domain keeps, where there is one.
-    pub(crate) fn spare(&mut self) -> Option<Blank>
-        ensures { IfSome result (λ b. b.gate ≡ N.id.gate) }
-    {
-        self.domain.spare()
     }
 }
