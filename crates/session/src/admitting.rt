@@ -153,7 +153,11 @@ fn seat_all<N: Names>(
     let mut seats = Vec::with_capacity(alloc, many)?;
     for client in clients {
         let place = seats.len();
-        let answers = VecDeque::with_capacity(alloc, count_own(tasks, place, many))?;
+        let Ok(answers) = VecDeque::with_capacity(alloc, count_own(tasks, place, many)) else {
+            // For the prover alone: dropped by a call, and not field by field.
+            drop(client);
+            return Err(NoMemory);
+        };
         seats.push_reserved(Seat {
             client,
             place,

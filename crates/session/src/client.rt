@@ -43,6 +43,8 @@ fn all_heard(heard: HeardAdvance, ticks: u64) -> Result<Accounting, EndFault>
     if heard.ticks == ticks {
         Ok(heard.accounting)
     } else {
+        // For the prover alone: dropped by a call, and not field by field.
+        drop(heard.accounting);
         Err(EndFault::Memory)
     }
 }
@@ -277,6 +279,8 @@ impl<N: Names> Client<N> {
                 self.enter_at(rt, shared, place, Ask::Admit { prepared, ticket })
             }
             Take::Refused { blank, seen: word } => {
+                // For the prover alone: dropped by a call, and not field by field.
+                drop(prepared);
                 self.hand = Some(blank);
                 Err(Refusal::Busy {
                     seen: used_of(word),

@@ -103,9 +103,11 @@ fn advance<N: Names, R: Threads + Wait>(
         IfErr result (IsStopped (IsFullAmong duration books client.old client.new)) }
 {
     let mut logs = open_logs(alloc, unlocked.books.len(), wanted)?;
-    let heard = Vec::new(alloc);
     if duration == 0 {
-        return Ok(Told { logs, heard });
+        return Ok(Told {
+            logs,
+            heard: Vec::new(alloc),
+        });
     }
     advance_all(
         rt,
@@ -115,7 +117,10 @@ fn advance<N: Names, R: Threads + Wait>(
         duration,
         &mut logs,
     )?;
-    Ok(Told { logs, heard })
+    Ok(Told {
+        logs,
+        heard: Vec::new(alloc),
+    })
 }
 
 /// Lets client 1 advance each domain by the whole duration, and an accounting of each hear it.
@@ -189,10 +194,12 @@ fn hear<N: Names>(
     let Ok(mut heard) = Vec::with_capacity(alloc, ending.books.len()) else {
         return Err(EndFault::Memory);
     };
-    let logs = Vec::new(alloc);
     if duration == 0 {
         hear_still(&mut ending.books, &mut heard)?;
-        return Ok(Told { logs, heard });
+        return Ok(Told {
+            logs: Vec::new(alloc),
+            heard,
+        });
     }
     hear_all(
         &ending.gate,
@@ -201,7 +208,10 @@ fn hear<N: Names>(
         duration,
         &mut heard,
     )?;
-    Ok(Told { logs, heard })
+    Ok(Told {
+        logs: Vec::new(alloc),
+        heard,
+    })
 }
 
 /// A session whose domains were advanced, and what is told of it; or why not all were.

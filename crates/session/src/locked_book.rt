@@ -1,6 +1,7 @@
 //! One domain of a session, behind its lock, and what a client may ask of it.
 
 ghost use Rattle.std.specs.Prelude.{◌≡◌, Some, None, IfSome, IsSome, IfOk, IfErr, Ok, Err};
+ghost use Rattle.bw_gate.specs.Answers.{IsGive};
 ghost use Rattle.domain_run.specs.declared.call.Call.TheVariants as calls;
 ghost use Rattle.domain_run.specs.Domain.{IsLimit};
 ghost use Rattle.call_book.specs.Book.{IsPassOf, IsMember, admission};
@@ -42,6 +43,17 @@ pub(crate) struct LockedBook<N: Names, const D: usize> {
     ghost named: { IsSessionBook N.id D domain },
 }
 
+/// Gives the ticket of a task that was refused back to the gate, and lets go of what was prepared
+/// for the task.
+fn give_back(gate: &Gate, ticket: Ticket, prepared: Prepared) -> Blank
+    requires { ticket.gate ≡ gate.now }
+    ensures { IsGive ticket result }
+{
+    // For the prover alone: dropped by a call, and not field by field.
+    drop(prepared);
+    gate.give(ticket)
+}
+
 /// Admits a task; where the domain refuses it, the ticket goes back to the gate.
 fn admit(
     domain: &mut Domain,
@@ -69,19 +81,13 @@ fn admit(
             answer: Ok(Reply::Busy { seen }),
             blank: Some(gate.give(ticket)),
         },
-        Admit::Full {
-            ticket,
-            prepared: _,
-        } => Outcome {
+        Admit::Full { ticket, prepared } => Outcome {
             answer: Err(Refusal::Full),
-            blank: Some(gate.give(ticket)),
+            blank: Some(give_back(gate, ticket, prepared)),
         },
-        Admit::Twice {
-            ticket,
-            prepared: _,
-        } => Outcome {
+        Admit::Twice { ticket, prepared } => Outcome {
             answer: Err(Refusal::Twice),
-            blank: Some(gate.give(ticket)),
+            blank: Some(give_back(gate, ticket, prepared)),
         },
     }
 }
@@ -211,28 +217,31 @@ fn move_listed<N: Names, const D: usize, const E: usize>(
 {
     match move_task(from, from_pass, to, to_pass, prepared, ticket) {
         Move::Moved { ticket } => (Ok(()), gate.give(ticket)),
-        Move::Full {
-            ticket,
-            prepared: _,
-        } => (Err(Refusal::Full), gate.give(ticket)),
-        Move::NotListed {
-            ticket,
-            prepared: _,
-        } => (Err(Refusal::Esrch), gate.give(ticket)),
+        Move::Full { ticket, prepared } => {
+            (Err(Refusal::Full), give_back(gate, ticket, prepared))
+        }
+        Move::NotListed { ticket, prepared } => {
+            (Err(Refusal::Esrch), give_back(gate, ticket, prepared))
+        }
         Move::Stale {
             now,
             ticket,
-            prepared: _,
-        } => (Err(Refusal::Stale { now }), gate.give(ticket)),
-        Move::Twice {
-            ticket,
-            prepared: _,
-        } => (Err(Refusal::Twice), gate.give(ticket)),
+            prepared,
+        } => (
+            Err(Refusal::Stale { now }),
+            give_back(gate, ticket, prepared),
+        ),
+        Move::Twice { ticket, prepared } => {
+            (Err(Refusal::Twice), give_back(gate, ticket, prepared))
+        }
         Move::Busy {
             seen,
             ticket,
-            prepared: _,
-        } => (Err(Refusal::Busy { seen }), gate.give(ticket)),
+            prepared,
+        } => (
+            Err(Refusal::Busy { seen }),
+            give_back(gate, ticket, prepared),
+        ),
     }
 }
 

@@ -216,6 +216,8 @@ impl<N: Names> Client<N> {
         match shared.gate.take(rt, blank, to, prepared.bw()) {
             Take::Taken(ticket) => self.move_at(rt, shared, from, to, prepared, ticket),
             Take::Refused { blank, seen: word } => {
+                // For the prover alone: dropped by a call, and not field by field.
+                drop(prepared);
                 self.hand = Some(blank);
                 Err(Refusal::Busy {
                     seen: used_of(word),
