@@ -153,7 +153,11 @@ fn seat_all<N: Names>(
     let mut seats = Vec::with_capacity(alloc, many)?;
     for client in clients {
         let place = seats.len();
-        let answers = VecDeque::with_capacity(alloc, count_own(tasks, place, many))?;
+        let Ok(answers) = VecDeque::with_capacity(alloc, count_own(tasks, place, many)) else {
+            // For the prover alone: dropped by a call, and not field by field.
+            drop(client);
+            return Err(NoMemory);
+        };
         seats.push_reserved(Seat {
             client,
             place,
@@ -288,55 +292,6 @@ fn gather(
     refused
 }
 
-/// All that the admissions of a scenario grow, taken before a thread is started: each client in its
-/// seat, with room for its answers, for the threads' handles, for who is back, and for who is
-/// refused.
-#[derive(Drop)]
-struct Reserved<N: Names, A: TasksBrand> {
-    clients: Snapshot<Vec<Client<N>>>,
-    seats: Vec<Seat<N>>,
-    handles: Vec<PromisedHandle<ClientAnswers<N>, AdmitPromise<N, A>>>,
-    joined: Joined<N>,
-    refused: Vec<(u32, Refusal)>,
-    ghost some: { 0 < length clients.value.items },
-    ghost no_handles: { handles.items ≡ [] },
-    ghost for_handles: { length seats.items ≤ vec_capacity handles },
-    ghost nobody: { (joined.clients.items ≡ []) × (joined.shares.items ≡ []) },
-    ghost for_clients: { length seats.items ≤ vec_capacity joined.clients },
-    ghost for_shares: { length seats.items ≤ vec_capacity joined.shares },
-    ghost none_refused: { refused.items ≡ [] },
-}
-
-/// Takes the room that these clients need for these tasks.
-fn reserve<N: Names, A: TasksBrand>(
-    alloc: Global,
-    clients: Vec<Client<N>>,
-    tasks: &[TaskSpec],
-) -> Result<Reserved<N, A>, NoMemory>
-    requires { 0 < length clients.items }
-    ensures clients { IfOk result (λ r. r.clients.value.items ≡ clients.items) }
-    ensures seats { IfOk result (λ r. AreSeats tasks.now r.clients.value.items r.seats.items) }
-    ensures refused { IfOk result (λ r. length tasks.now ≤ vec_capacity r.refused) }
-{
-    let before = Snapshot::of(&clients);
-    let handles = Vec::with_capacity(alloc, clients.len())?;
-    let back = Vec::with_capacity(alloc, clients.len())?;
-    let shares = Vec::with_capacity(alloc, clients.len())?;
-    let refused = Vec::with_capacity(alloc, tasks.len())?;
-    let seats = seat_all(alloc, clients, tasks)?;
-    let joined = Joined {
-        clients: back,
-        shares,
-    };
-    Ok(Reserved {
-        clients: before,
-        seats,
-        handles,
-        joined,
-        refused,
-    })
-}
-
 /// Lets the clients of these seats ask for their own tasks, each in a thread of its own.
 fn ask_apart<N: Names + Send + Sync, A: TasksBrand, T: Turnstile, R: Threads + Wait + Sync>(
     rt: &R,
@@ -376,36 +331,9 @@ fn ask_apart<N: Names + Send + Sync, A: TasksBrand, T: Turnstile, R: Threads + W
     )
 }
 
-/// Lets the clients for which all room was taken ask for their own tasks, and puts their answers
-/// together. What it may fail of is a thread that was not started.
-fn admit_reserved<N: Names + Send + Sync, A: TasksBrand, T: Turnstile, R: Threads + Wait + Sync>(
-    rt: &R,
-    alloc: Global,
-    shared: &Shared<N>,
-    tasks: &[TaskSpec],
-    turnstile: &T,
-    reserved: Reserved<N, A>,
-) -> Result<(Vec<Client<N>>, Vec<(u32, Refusal)>), NotStarted>
-    requires tasks { tasks.now ≡ A.tasks }
-    requires seats { AreSeats tasks.now reserved.clients.value.items reserved.seats.items }
-    requires refused { length tasks.now ≤ vec_capacity reserved.refused }
-    ensures { let before = reserved.clients.value.items in
-        IfOk result (λ r. AllAsked N.id tasks.now before r.0.items r.1.items) }
-{
-    let Reserved {
-        clients: _,
-        seats,
-        handles,
-        joined,
-        refused,
-    } = reserved;
-    let Joined { clients, shares } = ask_apart(
-        rt, alloc, shared, tasks, turnstile, seats, handles, joined,
-    )?;
-    Ok((clients, gather(tasks, shares, refused)))
-}
-
-/// Takes all room, and then lets the clients ask.
+/// Lets the clients ask for their own tasks, and puts their answers together. All that this grows is
+/// taken before a thread is started: room for the threads' handles, for who is back, for who is
+/// refused, and each client in its seat, with room for its answers.
 fn admit_tasks<N: Names + Send + Sync, A: TasksBrand, T: Turnstile, R: Threads + Wait + Sync>(
     rt: &R,
     alloc: Global,
@@ -418,9 +346,27 @@ fn admit_tasks<N: Names + Send + Sync, A: TasksBrand, T: Turnstile, R: Threads +
     requires some { 0 < length clients.items }
     ensures { IfOk result (λ r. AllAsked N.id tasks.now clients.items r.0.items r.1.items) }
 {
-    let reserved: Reserved<N, A> = reserve(alloc, clients, tasks)?;
-    let asked = admit_reserved(rt, alloc, shared, tasks, turnstile, reserved)?;
-    Ok(asked)
+    let Ok(handles) = Vec::with_capacity(alloc, clients.len()) else {
+        return Err(AdmitFault::Memory);
+    };
+    let Ok(back) = Vec::with_capacity(alloc, clients.len()) else {
+        return Err(AdmitFault::Memory);
+    };
+    let Ok(shares) = Vec::with_capacity(alloc, clients.len()) else {
+        return Err(AdmitFault::Memory);
+    };
+    let Ok(refused) = Vec::with_capacity(alloc, tasks.len()) else {
+        return Err(AdmitFault::Memory);
+    };
+    let seats = seat_all(alloc, clients, tasks)?;
+    let joined = Joined {
+        clients: back,
+        shares,
+    };
+    let Joined { clients, shares } = ask_apart::<N, A, T, R>(
+        rt, alloc, shared, tasks, turnstile, seats, handles, joined,
+    )?;
+    Ok((clients, gather(tasks, shares, refused)))
 }
 
 /// Lets the clients admit a scenario's tasks, each client in a thread of its own, with the

@@ -7,6 +7,7 @@ use crate::locked_book::LockedBook;
 use crate::names::Names;
 use bw_gate::Blank;
 use call_book::Domain;
+use std::marker::PhantomData;
 use std::sync::{Mutex, Wait};
 
 /// The domains of a session, each behind a lock whose type tells its place.
@@ -61,7 +62,10 @@ fn locked<N: Names, const D: usize>(books: &mut Vec<Domain>) -> Option<Mutex<Loc
         return None;
     }
     let domain = books.pop()?;
-    Some(Mutex::new(LockedBook::new(domain)))
+    Some(Mutex::new(LockedBook {
+        domain,
+        of: PhantomData,
+    }))
 }
 
 impl<N: Names> Books<N> {
@@ -107,7 +111,7 @@ fn spare<N: Names, const D: usize, R: Wait>(
     ensures { IfSome result (λ b. b.gate ≡ N.id.gate) }
 {
     match book {
-        Some(lock) => lock.lock(rt).spare(),
+        Some(lock) => lock.lock(rt).domain.spare(),
         None => None,
     }
 }
@@ -123,7 +127,8 @@ fn unlock<N: Names, const D: usize>(lock: Option<Mutex<LockedBook<N, D>>>, books
     ensures room { vec_capacity books.new ≡ vec_capacity books.old }
 {
     if let Some(lock) = lock {
-        books.push_reserved(lock.into_inner().into_domain());
+        let LockedBook { domain, of: _ } = lock.into_inner();
+        books.push_reserved(domain);
     }
 }
 

@@ -43,6 +43,8 @@ fn all_heard(heard: HeardAdvance, ticks: u64) -> Result<Accounting, EndFault>
     if heard.ticks == ticks {
         Ok(heard.accounting)
     } else {
+        // For the prover alone: dropped by a call, and not field by field.
+        drop(heard.accounting);
         Err(EndFault::Memory)
     }
 }
@@ -104,16 +106,18 @@ impl<N: Names> Client<N> {
     fn enter<const D: usize, R: Wait>(
         &mut self,
         rt: &R,
-        lock: &Mutex<LockedBook<N, D>>,
+        book: &Option<Mutex<LockedBook<N, D>>>,
         gate: &Gate,
         ask: Ask,
     ) -> Answer
         requires session { IsSession N.id }
         requires gate { gate.now ≡ N.id.gate }
         requires place { IsDomainIndex N.id D }
+        requires some { IsSome book.now }
         requires ask { IsAsk N.id D ask }
         ensures { IsDoneFor N.id D self.old self.new ask result }
     {
+        let Some(lock) = book else { unreachable!() };
         let mut named = lock.lock(rt);
         let Outcome { answer, blank } = named.make(rt, gate, &mut self.passes[D], ask);
         if let Some(blank) = blank {
@@ -126,22 +130,6 @@ impl<N: Names> Client<N> {
     fn advance_locked<const D: usize, R: Threads + Wait>(
         &mut self,
         rt: &R,
-        lock: &Mutex<LockedBook<N, D>>,
-        gate: &Gate,
-        ticks: u64,
-    ) -> Answer
-        requires gate { gate.now ≡ N.id.gate }
-        requires place { IsDomainIndex N.id D }
-        requires call { IsCall (calls.Advance ticks) }
-        ensures { IsAdvancedFor D self.old self.new ticks result }
-    {
-        let mut named = lock.lock(rt);
-        named.advance(rt, gate, &mut self.passes[D], ticks)
-    }
-
-    fn advance_here<const D: usize, R: Threads + Wait>(
-        &mut self,
-        rt: &R,
         book: &Option<Mutex<LockedBook<N, D>>>,
         gate: &Gate,
         ticks: u64,
@@ -152,10 +140,9 @@ impl<N: Names> Client<N> {
         requires call { IsCall (calls.Advance ticks) }
         ensures { IsAdvancedFor D self.old self.new ticks result }
     {
-        match book {
-            Some(lock) => self.advance_locked(rt, lock, gate, ticks),
-            None => unreachable!(),
-        }
+        let Some(lock) = book else { unreachable!() };
+        let mut named = lock.lock(rt);
+        named.advance(rt, gate, &mut self.passes[D], ticks)
     }
 
     /// Lets its pass of a place agree with the book of that place, which changes neither.
@@ -241,26 +228,6 @@ impl<N: Names> Client<N> {
         hand
     }
 
-    fn enter_book<const D: usize, R: Wait>(
-        &mut self,
-        rt: &R,
-        book: &Option<Mutex<LockedBook<N, D>>>,
-        gate: &Gate,
-        ask: Ask,
-    ) -> Answer
-        requires session { IsSession N.id }
-        requires gate { gate.now ≡ N.id.gate }
-        requires place { IsDomainIndex N.id D }
-        requires some { IsSome book.now }
-        requires ask { IsAsk N.id D ask }
-        ensures { IsDoneFor N.id D self.old self.new ask result }
-    {
-        match book {
-            Some(lock) => self.enter(rt, lock, gate, ask),
-            None => unreachable!(),
-        }
-    }
-
     /// Makes a call under the lock of the domain of a place.
     fn enter_at<R: Wait>(&mut self, rt: &R, shared: &Shared<N>, place: usize, ask: Ask) -> Answer
         requires place { IsDomainIndex N.id place }
@@ -268,7 +235,7 @@ impl<N: Names> Client<N> {
         ensures { IsDoneFor N.id place self.old self.new ask result }
     {
         let gate = &shared.gate;
-        at_place!(shared.books, place, book => self.enter_book(rt, book, gate, ask))
+        at_place!(shared.books, place, book => self.enter(rt, book, gate, ask))
     }
 
     /// A piece for an admission to a domain, a change of its limit, or a task that moves there: the
@@ -312,6 +279,8 @@ impl<N: Names> Client<N> {
                 self.enter_at(rt, shared, place, Ask::Admit { prepared, ticket })
             }
             Take::Refused { blank, seen: word } => {
+                // For the prover alone: dropped by a call, and not field by field.
+                drop(prepared);
                 self.hand = Some(blank);
                 Err(Refusal::Busy {
                     seen: used_of(word),
@@ -510,6 +479,6 @@ impl<N: Names> Client<N> {
     {
         let shared = session.shares();
         let gate = &shared.gate;
-        at_place!(shared.books, domain, book => self.advance_here(rt, book, gate, ticks))
+        at_place!(shared.books, domain, book => self.advance_locked(rt, book, gate, ticks))
     }
 }

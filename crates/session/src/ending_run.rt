@@ -20,6 +20,14 @@ use std::alloc::Global;
 use std::sync::Wait;
 use std::thread::Threads;
 
+/// What is told of the runs of the domains: by a log of each, or by what an accounting of each
+/// heard.
+#[derive(Drop)]
+pub(crate) struct Told {
+    pub(crate) logs: Vec<Log>,
+    pub(crate) heard: Vec<Accounting>,
+}
+
 /// A log that has nothing yet, and keeps what it is told where that is wanted.
 fn open_log(alloc: Global, wanted: bool) -> Log
     ensures { IsLogOf wanted [] result }
@@ -84,19 +92,22 @@ fn advance<N: Names, R: Threads + Wait>(
     client: &mut Client<N>,
     duration: u64,
     wanted: bool,
-) -> Result<Vec<Log>, EndFault>
+) -> Result<Told, EndFault>
     requires first { client.old.number ≡ 1 }
     requires most { duration ≤ 60000000 }
     ensures made { OnOk result (Makes client.old client.new (λ d. advance_of duration 1)) }
     ensures ends { OnOk result (AllEnd duration unlocked.new.books.items) }
     ensures logs { let books = unlocked.new.books.items in
-        IfOk result (λ logs. AreEndLogs wanted duration books logs.items) }
+        IfOk result (λ t. AreEndLogs wanted duration books t.logs.items) }
     ensures err { let books = unlocked.new.books.items in
         IfErr result (IsStopped (IsFullAmong duration books client.old client.new)) }
 {
     let mut logs = open_logs(alloc, unlocked.books.len(), wanted)?;
     if duration == 0 {
-        return Ok(logs);
+        return Ok(Told {
+            logs,
+            heard: Vec::new(alloc),
+        });
     }
     advance_all(
         rt,
@@ -106,7 +117,10 @@ fn advance<N: Names, R: Threads + Wait>(
         duration,
         &mut logs,
     )?;
-    Ok(logs)
+    Ok(Told {
+        logs,
+        heard: Vec::new(alloc),
+    })
 }
 
 /// Lets client 1 advance each domain by the whole duration, and an accounting of each hear it.
@@ -159,21 +173,13 @@ fn hear_still(books: &mut Vec<EndingBook>, heard: &mut Vec<Accounting>) -> Resul
     Ok(())
 }
 
-/// Room for so many accountings.
-fn room_for(alloc: Global, count: usize) -> Result<Vec<Accounting>, NoMemory>
-    ensures empty { IfOk result (λ heard. heard.items ≡ []) }
-    ensures room { IfOk result (λ heard. count ≤ vec_capacity heard) }
-{
-    Ok(Vec::with_capacity(alloc, count)?)
-}
-
 /// The run of each domain is heard; no call is made where the duration is 0.
 fn hear<N: Names>(
     alloc: Global,
     ending: &mut Ending<N>,
     client: &mut Client<N>,
     duration: u64,
-) -> Result<Vec<Accounting>, EndFault>
+) -> Result<Told, EndFault>
     requires unheard { AreAll false ending.old.books.items }
     requires first { client.old.number ≡ 1 }
     requires most { duration ≤ 60000000 }
@@ -181,14 +187,19 @@ fn hear<N: Names>(
     ensures ends { OnOk result (AllEnd duration (books_of ending.new.books.items)) }
     ensures forgotten { OnOk result (AreAll true ending.new.books.items) }
     ensures heard { let books = books_of ending.new.books.items in
-        IfOk result (λ v. AreHeardEnds duration books v.items) }
+        IfOk result (λ t. AreHeardEnds duration books t.heard.items) }
     ensures err { let books = books_of ending.new.books.items in
         IfErr result (IsStopped (IsFullAmong duration books client.old client.new)) }
 {
-    let mut heard = room_for(alloc, ending.books.len())?;
+    let Ok(mut heard) = Vec::with_capacity(alloc, ending.books.len()) else {
+        return Err(EndFault::Memory);
+    };
     if duration == 0 {
         hear_still(&mut ending.books, &mut heard)?;
-        return Ok(heard);
+        return Ok(Told {
+            logs: Vec::new(alloc),
+            heard,
+        });
     }
     hear_all(
         &ending.gate,
@@ -197,15 +208,10 @@ fn hear<N: Names>(
         duration,
         &mut heard,
     )?;
-    Ok(heard)
-}
-
-/// What is told of the runs of the domains: by a log of each, or by what an accounting of each
-/// heard.
-#[derive(Drop)]
-pub(crate) struct Told {
-    pub(crate) logs: Vec<Log>,
-    pub(crate) heard: Vec<Accounting>,
+    Ok(Told {
+        logs: Vec::new(alloc),
+        heard,
+    })
 }
 
 /// A session whose domains were advanced, and what is told of it; or why not all were.
@@ -233,21 +239,9 @@ fn advance_told<N: Names, R: Threads + Wait>(
     ensures err { let books = books_of result.ending.books.items in
         IfErr result.told (IsStopped (IsFullAmong duration books client.old client.new)) }
 {
-    let advanced = advance(rt, alloc, &mut unlocked, client, duration, wanted);
+    let told = advance(rt, alloc, &mut unlocked, client, duration, wanted);
     let ending = unlocked.end();
-    match advanced {
-        Ok(logs) => Advanced {
-            ending,
-            told: Ok(Told {
-                logs,
-                heard: Vec::new(alloc),
-            }),
-        },
-        Err(fault) => Advanced {
-            ending,
-            told: Err(fault),
-        },
-    }
+    Advanced { ending, told }
 }
 
 /// Lets client 1 advance each domain, which an accounting hears.
@@ -268,19 +262,8 @@ fn advance_heard<N: Names>(
         IfErr result.told (IsStopped (IsFullAmong duration books client.old client.new)) }
 {
     let mut ending = unlocked.end();
-    match hear(alloc, &mut ending, client, duration) {
-        Ok(heard) => Advanced {
-            ending,
-            told: Ok(Told {
-                logs: Vec::new(alloc),
-                heard,
-            }),
-        },
-        Err(fault) => Advanced {
-            ending,
-            told: Err(fault),
-        },
-    }
+    let told = hear(alloc, &mut ending, client, duration);
+    Advanced { ending, told }
 }
 
 /// Lets client 1 advance each domain, and has told of it what is wanted.

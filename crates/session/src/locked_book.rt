@@ -1,6 +1,7 @@
 //! One domain of a session, behind its lock, and what a client may ask of it.
 
 ghost use Rattle.std.specs.Prelude.{◌≡◌, Some, None, IfSome, IsSome, IfOk, IfErr, Ok, Err};
+ghost use Rattle.bw_gate.specs.Answers.{IsGive};
 ghost use Rattle.domain_run.specs.declared.call.Call.TheVariants as calls;
 ghost use Rattle.domain_run.specs.Domain.{IsLimit};
 ghost use Rattle.call_book.specs.Book.{IsPassOf, IsMember, admission};
@@ -8,19 +9,14 @@ ghost use Rattle.call_book.specs.Limits.{IsCall};
 ghost use Rattle.call_book.specs.Pieces.{IsTicketOf};
 ghost use Rattle.session.specs.SessionId.{IsSession, spine_of};
 ghost use Rattle.session.specs.private.Entering.{IsSessionBook, SameBook, IsAsk, IsGivenBack, NoneIsKept, IsDone, IsOffered, IsReplied, IsRegradedBy, limit_answer, limit_back, IsLimitedBy, IsAdvancedBy, IsWhyNotAdmitted, IsWhyNotMade, IsWhyNot};
-ghost use Rattle.call_book.specs.MoveAnswers.{moving_as};
-ghost use Rattle.session.specs.Moves.{WasListed};
-ghost use Rattle.session.specs.private.Moving.{IsPassPair, IsMoveAsk, IsBooksAnswer, IsUnpreparedAt, IsWhyNotMoved};
+ghost use Rattle.session.specs.private.Moving.{IsPassPair, IsMoveAsk, IsBooksAnswer, IsWhyNotMoved};
 
 use crate::names::Names;
 use crate::refusal::{Answer, Refusal};
 use attr_check::Params;
 use bw_gate::{Blank, Gate, Ticket};
-use call_book::{
-    Admit, AdvanceError, Domain, Full, Limit, Move, MoveFault, Pass, Prepared, move_task,
-};
+use call_book::{Admit, AdvanceError, Domain, Full, Limit, Move, Pass, Prepared, move_task};
 use domain_run::Reply;
-use std::alloc::Global;
 use std::marker::PhantomData;
 use std::sync::Wait;
 use std::thread::Threads;
@@ -42,9 +38,20 @@ pub(crate) struct Outcome {
 
 /// The domain of a place in a session.
 pub(crate) struct LockedBook<N: Names, const D: usize> {
-    domain: Domain,
-    of: PhantomData<N>,
+    pub(crate) domain: Domain,
+    pub(crate) of: PhantomData<N>,
     ghost named: { IsSessionBook N.id D domain },
+}
+
+/// Gives the ticket of a task that was refused back to the gate, and lets go of what was prepared
+/// for the task.
+fn give_back(gate: &Gate, ticket: Ticket, prepared: Prepared) -> Blank
+    requires { ticket.gate ≡ gate.now }
+    ensures { IsGive ticket result }
+{
+    // For the prover alone: dropped by a call, and not field by field.
+    drop(prepared);
+    gate.give(ticket)
 }
 
 /// Admits a task; where the domain refuses it, the ticket goes back to the gate.
@@ -74,19 +81,13 @@ fn admit(
             answer: Ok(Reply::Busy { seen }),
             blank: Some(gate.give(ticket)),
         },
-        Admit::Full {
-            ticket,
-            prepared: _,
-        } => Outcome {
+        Admit::Full { ticket, prepared } => Outcome {
             answer: Err(Refusal::Full),
-            blank: Some(gate.give(ticket)),
+            blank: Some(give_back(gate, ticket, prepared)),
         },
-        Admit::Twice {
-            ticket,
-            prepared: _,
-        } => Outcome {
+        Admit::Twice { ticket, prepared } => Outcome {
             answer: Err(Refusal::Twice),
-            blank: Some(gate.give(ticket)),
+            blank: Some(give_back(gate, ticket, prepared)),
         },
     }
 }
@@ -216,49 +217,35 @@ fn move_listed<N: Names, const D: usize, const E: usize>(
 {
     match move_task(from, from_pass, to, to_pass, prepared, ticket) {
         Move::Moved { ticket } => (Ok(()), gate.give(ticket)),
-        Move::Full {
-            ticket,
-            prepared: _,
-        } => (Err(Refusal::Full), gate.give(ticket)),
-        Move::NotListed {
-            ticket,
-            prepared: _,
-        } => (Err(Refusal::Esrch), gate.give(ticket)),
+        Move::Full { ticket, prepared } => {
+            (Err(Refusal::Full), give_back(gate, ticket, prepared))
+        }
+        Move::NotListed { ticket, prepared } => {
+            (Err(Refusal::Esrch), give_back(gate, ticket, prepared))
+        }
         Move::Stale {
             now,
             ticket,
-            prepared: _,
-        } => (Err(Refusal::Stale { now }), gate.give(ticket)),
-        Move::Twice {
-            ticket,
-            prepared: _,
-        } => (Err(Refusal::Twice), gate.give(ticket)),
+            prepared,
+        } => (
+            Err(Refusal::Stale { now }),
+            give_back(gate, ticket, prepared),
+        ),
+        Move::Twice { ticket, prepared } => {
+            (Err(Refusal::Twice), give_back(gate, ticket, prepared))
+        }
         Move::Busy {
             seen,
             ticket,
-            prepared: _,
-        } => (Err(Refusal::Busy { seen }), gate.give(ticket)),
+            prepared,
+        } => (
+            Err(Refusal::Busy { seen }),
+            give_back(gate, ticket, prepared),
+        ),
     }
 }
 
 impl<N: Names, const D: usize> LockedBook<N, D> {
-    pub(crate) fn new(domain: Domain) -> LockedBook<N, D>
-        requires { IsSessionBook N.id D domain }
-    {
-        LockedBook {
-            domain,
-            of: PhantomData,
-        }
-    }
-
-    /// The domain, which is then the caller's.
-    pub(crate) fn into_domain(self) -> Domain
-        ensures { IsSessionBook N.id D result }
-    {
-        let LockedBook { domain, of: _ } = self;
-        domain
-    }
-
     /// Makes a call with a client's pass. A refusal is told of the book as it was.
     pub(crate) fn make<R: Wait>(
         &mut self,
@@ -309,17 +296,6 @@ impl<N: Names, const D: usize> LockedBook<N, D> {
         }
     }
 
-    /// What a task takes along to another domain.
-    pub(crate) fn prepare_move(&self, alloc: Global, number: u32) -> Result<Prepared, MoveFault>
-        requires call { IsCall (calls.Depart number) }
-        ensures number { IfOk result (λ a. a.number ≡ number) }
-        ensures soon { IfOk result (λ a. a.delay ≡ 0) }
-        ensures listed { IfOk result (λ a. WasListed N.id D number (moving_as a)) }
-        ensures fault { IfErr result (IsUnpreparedAt N.id D number) }
-    {
-        self.domain.prepare_move(alloc, number)
-    }
-
     /// Moves a task to another domain with a client's passes of both. A refusal is told of both books
     /// as they were.
     pub(crate) fn move_to<const E: usize>(
@@ -344,12 +320,5 @@ impl<N: Names, const D: usize> LockedBook<N, D> {
     {
         let (from, to) = (&mut self.domain, &mut to.domain);
         move_listed::<N, D, E>(from, from_pass, to, to_pass, gate, prepared, ticket)
-    }
-
-    /// Hands out a blank that the domain keeps, where there is one.
-    pub(crate) fn spare(&mut self) -> Option<Blank>
-        ensures { IfSome result (λ b. b.gate ≡ N.id.gate) }
-    {
-        self.domain.spare()
     }
 }

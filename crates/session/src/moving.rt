@@ -21,50 +21,6 @@ use call_book::{MoveFault, Pass, Prepared};
 use std::alloc::Global;
 use std::sync::{Mutex, Wait};
 
-/// Moves a task to a later domain with two of a client's passes.
-fn move_up<N: Names, const D: usize, const E: usize>(
-    passes: &mut Vec<Pass>,
-    from: &mut LockedBook<N, D>,
-    to: &mut LockedBook<N, E>,
-    gate: &Gate,
-    prepared: Prepared,
-    ticket: Ticket,
-) -> (Result<(), Refusal>, Blank)
-    requires order { D < E }
-    requires gate { gate.now ≡ N.id.gate }
-    requires place { IsDomainIndex N.id E }
-    requires passes { AreOfOne N.id passes.old.items }
-    requires ask { IsMoveAsk N.id E prepared ticket }
-    ensures moved { PassesMove N.id D E passes.old.items passes.new.items
-        prepared ticket result.1 result.0 }
-    ensures own { result.1.gate ≡ N.id.gate }
-{
-    let (low, high) = passes.split_at_mut(E);
-    from.move_to(to, gate, &mut low[D], &mut high[0], prepared, ticket)
-}
-
-/// Moves a task to an earlier domain with two of a client's passes.
-fn move_down<N: Names, const D: usize, const E: usize>(
-    passes: &mut Vec<Pass>,
-    from: &mut LockedBook<N, D>,
-    to: &mut LockedBook<N, E>,
-    gate: &Gate,
-    prepared: Prepared,
-    ticket: Ticket,
-) -> (Result<(), Refusal>, Blank)
-    requires order { E < D }
-    requires gate { gate.now ≡ N.id.gate }
-    requires place { IsDomainIndex N.id D }
-    requires passes { AreOfOne N.id passes.old.items }
-    requires ask { IsMoveAsk N.id E prepared ticket }
-    ensures moved { PassesMove N.id D E passes.old.items passes.new.items
-        prepared ticket result.1 result.0 }
-    ensures own { result.1.gate ≡ N.id.gate }
-{
-    let (low, high) = passes.split_at_mut(D);
-    from.move_to(to, gate, &mut high[0], &mut low[E], prepared, ticket)
-}
-
 /// Moves a task with two of a client's passes.
 fn move_both<N: Names, const D: usize, const E: usize>(
     passes: &mut Vec<Pass>,
@@ -85,9 +41,11 @@ fn move_both<N: Names, const D: usize, const E: usize>(
     ensures own { result.1.gate ≡ N.id.gate }
 {
     if D < E {
-        move_up(passes, from, to, gate, prepared, ticket)
+        let (low, high) = passes.split_at_mut(E);
+        from.move_to(to, gate, &mut low[D], &mut high[0], prepared, ticket)
     } else {
-        move_down(passes, from, to, gate, prepared, ticket)
+        let (low, high) = passes.split_at_mut(D);
+        from.move_to(to, gate, &mut high[0], &mut low[E], prepared, ticket)
     }
 }
 
@@ -116,7 +74,7 @@ fn prepare_here<N: Names, const D: usize, R: Wait>(
     ensures fault { IfErr result (IsUnpreparedAt N.id D number) }
 {
     match book {
-        Some(lock) => lock.lock(rt).prepare_move(alloc, number),
+        Some(lock) => lock.lock(rt).domain.prepare_move(alloc, number),
         None => unreachable!(),
     }
 }
@@ -258,6 +216,8 @@ impl<N: Names> Client<N> {
         match shared.gate.take(rt, blank, to, prepared.bw()) {
             Take::Taken(ticket) => self.move_at(rt, shared, from, to, prepared, ticket),
             Take::Refused { blank, seen: word } => {
+                // For the prover alone: dropped by a call, and not field by field.
+                drop(prepared);
                 self.hand = Some(blank);
                 Err(Refusal::Busy {
                     seen: used_of(word),

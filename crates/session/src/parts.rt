@@ -193,11 +193,13 @@ pub(crate) fn shut(alloc: Global, gate: &Gate, mut books: Vec<Domain>)
 {
     while let Some(domain) = books.pop() {
         let Closed {
-            state: _,
+            state,
             entries: _,
             tickets,
             blanks: _,
         } = domain.close(Vec::new(alloc));
+        // For the prover alone: dropped by a call, and not field by field.
+        drop(state);
         give_all(gate, tickets);
     }
     books.destroy_empty();

@@ -16,15 +16,6 @@ struct Stored<N: Names> {
     ghost own: { All (λ b. b.gate ≡ N.id.gate) blanks.items },
 }
 
-impl<N: Names> Stored<N> {
-    /// A piece, where there is one. Takes no memory.
-    fn take(&mut self) -> Option<Blank>
-        ensures { IfSome result (λ b. b.gate ≡ N.id.gate) }
-    {
-        self.blanks.pop()
-    }
-}
-
 /// The pieces that no client and no domain holds. Its lock is held while one is taken out.
 #[derive(Drop)]
 pub(crate) struct Pool<N: Names> {
@@ -47,7 +38,7 @@ impl<N: Names> Pool<N> {
     pub(crate) fn take<R: Wait>(&self, rt: &R) -> Option<Blank>
         ensures { IfSome result (λ b. b.gate ≡ N.id.gate) }
     {
-        self.stored.lock(rt).take()
+        self.stored.lock(rt).blanks.pop()
     }
 
     pub(crate) fn into_blanks(self) -> Vec<Blank>

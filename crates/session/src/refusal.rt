@@ -46,16 +46,21 @@ impl fmt::Display for Refusal {
     ghost output = { λ refusal. Some (refusal_text refusal) };
 
     fn fmt<W: fmt::Write>(&self, f: &mut fmt::Formatter<W>) -> fmt::Result {
+        f.write_str(match self {
+            Refusal::Einval(_) => "EINVAL 22 ",
+            Refusal::Eperm => "EPERM 1",
+            Refusal::Full => "Full 40",
+            Refusal::Twice => "Twice 41",
+            Refusal::Enomem => "ENOMEM 12",
+            Refusal::Busy { .. } => "EBUSY 16 seen ",
+            Refusal::Esrch => "ESRCH 3",
+            Refusal::Stale { .. } => "Stale 43",
+            Refusal::SameDomain => "SameDomain 44",
+        })?;
         match self {
-            Refusal::Einval(kind) => write!(f, "EINVAL 22 {kind}"),
-            Refusal::Eperm => write!(f, "EPERM 1"),
-            Refusal::Full => write!(f, "Full 40"),
-            Refusal::Twice => write!(f, "Twice 41"),
-            Refusal::Enomem => write!(f, "ENOMEM 12"),
-            Refusal::Busy { seen } => write!(f, "EBUSY 16 seen {seen}"),
-            Refusal::Esrch => write!(f, "ESRCH 3"),
-            Refusal::Stale { .. } => write!(f, "Stale 43"),
-            Refusal::SameDomain => write!(f, "SameDomain 44"),
+            Refusal::Einval(kind) => kind.fmt(f),
+            Refusal::Busy { seen } => write!(f, "{seen}"),
+            _ => Ok(()),
         }
     }
 }

@@ -19,7 +19,7 @@ loop-client-preserved g c =
       client = next x ∙ ap (λ (m : ℕ). get_or clients m x) seats.ok.0;
       place = c.len-place.ensures ∙ seats.ok.0;
       many = was.many;
-      room = omega (arith, c.count_own.ensures, c.in_ok-answers.ensures.capacity);
+      room = omega (arith, c.count_own.ensures, c.in-Ok.ensures.capacity);
     } in
     record {
       left = search rules;

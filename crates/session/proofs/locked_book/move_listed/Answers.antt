@@ -23,7 +23,7 @@ returns-in-Full-clause-to g c = stays_named g.N.Names.id g.row.E _ _ _ _ c.requi
 
 pub returns-in-Full-clause-answered : goal.returns-in-Full-clause-answered
 returns-in-Full-clause-answered g c =
-    refused_by g.N.Names.id g.row.D g.row.E _ _ c.args.prepared c.in-Full.prepared c.args.ticket c.in-Full.ticket c.give-in-Full.result refusals.Full c.in-Full.ensures.0 c.give-in-Full.ensures
+    refused_by g.N.Names.id g.row.D g.row.E _ _ c.args.prepared c.in-Full.prepared c.args.ticket c.in-Full.ticket c.give_back.result refusals.Full c.in-Full.ensures.0 c.give_back.ensures
     tt
 
 pub returns-in-NotListed-clause-from : goal.returns-in-NotListed-clause-from
@@ -34,7 +34,7 @@ returns-in-NotListed-clause-to g c = stays_named g.N.Names.id g.row.E _ _ _ _ c.
 
 pub returns-in-NotListed-clause-answered : goal.returns-in-NotListed-clause-answered
 returns-in-NotListed-clause-answered g c =
-    refused_by g.N.Names.id g.row.D g.row.E _ _ c.args.prepared c.in-NotListed.prepared c.args.ticket c.in-NotListed.ticket c.give-in-NotListed.result refusals.Esrch c.in-NotListed.ensures.0 c.give-in-NotListed.ensures
+    refused_by g.N.Names.id g.row.D g.row.E _ _ c.args.prepared c.in-NotListed.prepared c.args.ticket c.in-NotListed.ticket c.give_back-in-NotListed.result refusals.Esrch c.in-NotListed.ensures.0 c.give_back-in-NotListed.ensures
     (would_reply g.N.Names.id g.row.D c.args.from.now (calls.Depart c.args.prepared.number) replies.NotListed c.requires.from c.in-NotListed.ensures.2)
 
 pub returns-in-NotListed-clause-told : goal.returns-in-NotListed-clause-told
@@ -48,7 +48,7 @@ returns-in-Stale-clause-to g c = stays_named g.N.Names.id g.row.E _ _ _ _ c.requ
 
 pub returns-in-Stale-clause-answered : goal.returns-in-Stale-clause-answered
 returns-in-Stale-clause-answered g c =
-    refused_by g.N.Names.id g.row.D g.row.E _ _ c.args.prepared c.in-Stale.prepared c.args.ticket c.in-Stale.ticket c.give-in-Stale.result (refusals.Stale c.in-Stale.now) c.in-Stale.ensures.0 c.give-in-Stale.ensures
+    refused_by g.N.Names.id g.row.D g.row.E _ _ c.args.prepared c.in-Stale.prepared c.args.ticket c.in-Stale.ticket c.give_back-in-Stale.result (refusals.Stale c.in-Stale.now) c.in-Stale.ensures.0 c.give_back-in-Stale.ensures
     (was_changed g.N.Names.id g.row.D c.args.from.now c.args.prepared c.in-Stale.now c.requires.from c.in-Stale.ensures.2)
 
 pub returns-in-Stale-clause-told : goal.returns-in-Stale-clause-told
@@ -62,7 +62,7 @@ returns-in-Twice-clause-to g c = stays_named g.N.Names.id g.row.E _ _ _ _ c.requ
 
 pub returns-in-Twice-clause-answered : goal.returns-in-Twice-clause-answered
 returns-in-Twice-clause-answered g c =
-    refused_by g.N.Names.id g.row.D g.row.E _ _ c.args.prepared c.in-Twice.prepared c.args.ticket c.in-Twice.ticket c.give-in-Twice.result refusals.Twice c.in-Twice.ensures.0 c.give-in-Twice.ensures
+    refused_by g.N.Names.id g.row.D g.row.E _ _ c.args.prepared c.in-Twice.prepared c.args.ticket c.in-Twice.ticket c.give_back-in-Twice.result refusals.Twice c.in-Twice.ensures.0 c.give_back-in-Twice.ensures
     (would_reply g.N.Names.id g.row.E c.args.to.now (arrival c.args.prepared) replies.Twice c.requires.to c.in-Twice.ensures.3)
 
 pub returns-in-Twice-clause-told : goal.returns-in-Twice-clause-told
@@ -76,7 +76,7 @@ returns-in-Busy-clause-to g c = stays_named g.N.Names.id g.row.E _ _ _ _ c.requi
 
 pub returns-in-Busy-clause-answered : goal.returns-in-Busy-clause-answered
 returns-in-Busy-clause-answered g c =
-    refused_by g.N.Names.id g.row.D g.row.E _ _ c.args.prepared c.in-Busy.prepared c.args.ticket c.in-Busy.ticket c.give-in-Busy.result (refusals.Busy c.in-Busy.seen) c.in-Busy.ensures.0 c.give-in-Busy.ensures
+    refused_by g.N.Names.id g.row.D g.row.E _ _ c.args.prepared c.in-Busy.prepared c.args.ticket c.in-Busy.ticket c.give_back-in-Busy.result (refusals.Busy c.in-Busy.seen) c.in-Busy.ensures.0 c.give_back-in-Busy.ensures
     (no_room g.N.Names.id g.row.E c.args.to.now c.args.prepared c.in-Busy.seen c.requires.to c.in-Busy.ensures.3)
 
 pub returns-in-Busy-clause-told : goal.returns-in-Busy-clause-told

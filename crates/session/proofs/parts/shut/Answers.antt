@@ -10,7 +10,7 @@ give_all-requires c =
     let gate = c.args.gate.now in
     let domain = c.in-Some.domain in
     let own = (All-pop (λ (b : BookView). b.gate ≡ gate) c.loop-domain.books.items c.pop.new.self.items (Some domain) c.in-Some.ensures.items c.loop-domain.invariant).1 in
-    All-weaker (IsTicketOf domain.gate domain.domain) (λ (t : TicketView). t.gate ≡ gate) (λ t is. is.own ∙ own) c.close-tickets.result.tickets.items c.close-tickets.ensures.homes
+    All-weaker (IsTicketOf domain.gate domain.domain) (λ (t : TicketView). t.gate ≡ gate) (λ t is. is.own ∙ own) c.close-state.result.tickets.items c.close-state.ensures.homes
 
 pub loop-domain-preserved : goal.loop-domain-preserved
 loop-domain-preserved c =

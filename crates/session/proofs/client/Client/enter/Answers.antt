@@ -7,7 +7,7 @@ use Rattle.session.specs.Asks.{ClientView}
 use Rattle.session.specs.private.Entering.{pass_after, NoneIsKept, IsDone}
 use Rattle.session.proofs.Asked.{none_kept, done_anyhow, makes_at, done_for}
 use Rattle.session.proofs.Passes.{done_kept, still_client}
-use Rattle.session.proofs.client.Client.enter.Goals.{in-Some+in-Some-1, in-Some+in-None-1, in_default}
+use Rattle.session.proofs.client.Client.enter.Goals.{in-Some-blank+in-Some-1, in-Some-blank+in-None-1, in_default-blank}
 use Rattle.session.proofs.client.Client.enter.Goals as goal
 
 pub returns : goal.returns
@@ -19,34 +19,34 @@ returns g c =
     λ is. subst (λ (h : Option BlankView). NoneIsKept c.args.ask c.make-answer.result.answer h) is c.make-answer.ensures.given in
     let passes : (c.match-blank.self).passes ≡ map (λ (r : PassView Entry). r.entries) (set ps g.row.D q) =
     elim c.match-blank.branch [
-      | in-Some+in-Some-1 w ↦ ap (λ (v : ClientView). v.passes) w.self-is
-      | in-Some+in-None-1 w ↦ ap (λ (v : ClientView). v.passes) w.self-is
-      | in_default w ↦ ap (λ (v : ClientView). v.passes) w.self-is
+      | in-Some-blank+in-Some-1 w ↦ ap (λ (v : ClientView). v.passes) w.self-is
+      | in-Some-blank+in-None-1 w ↦ ap (λ (v : ClientView). v.passes) w.self-is
+      | in_default-blank w ↦ ap (λ (v : ClientView). v.passes) w.self-is
     ] in
     let number : (c.match-blank.self).number ≡ c.args.self.now.number =
     elim c.match-blank.branch [
-      | in-Some+in-Some-1 w ↦ ap (λ (v : ClientView). v.number) w.self-is ∙ ap (λ (v : ClientView). v.number) c.self.view_is
-      | in-Some+in-None-1 w ↦ ap (λ (v : ClientView). v.number) w.self-is ∙ ap (λ (v : ClientView). v.number) c.self.view_is
-      | in_default w ↦ ap (λ (v : ClientView). v.number) w.self-is ∙ ap (λ (v : ClientView). v.number) c.self.view_is
+      | in-Some-blank+in-Some-1 w ↦ ap (λ (v : ClientView). v.number) w.self-is ∙ ap (λ (v : ClientView). v.number) c.self.view_is
+      | in-Some-blank+in-None-1 w ↦ ap (λ (v : ClientView). v.number) w.self-is ∙ ap (λ (v : ClientView). v.number) c.self.view_is
+      | in_default-blank w ↦ ap (λ (v : ClientView). v.number) w.self-is ∙ ap (λ (v : ClientView). v.number) c.self.view_is
     ] in
     let inside : g.row.D < length ps = omega (arith, c.requires.place, c.self.invariant.count) in
     let at : p ≡ get_or ps g.row.D p = c.index_mut.ensures.value in
     let owner : (get_or ps g.row.D p).client ≡ c.args.self.now.number = (c.self.invariant.each g.row.D p inside).owner ∙ ap (λ (v : ClientView). v.number) c.self.view_is in
     let given : NoneIsKept c.args.ask c.make-answer.result.answer c.match-blank.self.hand =
     elim c.match-blank.branch [
-      | in-Some+in-Some-1 w ↦ left (w.in-Some.is ∙ sym (ap (λ (v : ClientView). v.hand) w.self-is))
-      | in-Some+in-None-1 w ↦ left (w.in-Some.is ∙ sym (ap (λ (v : ClientView). v.hand) w.self-is))
-      | in_default w ↦ none_kept c.args.ask c.make-answer.result.answer c.match-blank.self.hand (subst (λ (h : Option BlankView). NoneIsKept c.args.ask c.make-answer.result.answer h) w.in_default.is c.make-answer.ensures.given)
+      | in-Some-blank+in-Some-1 w ↦ left (w.in-Some-blank.is ∙ sym (ap (λ (v : ClientView). v.hand) w.self-is))
+      | in-Some-blank+in-None-1 w ↦ left (w.in-Some-blank.is ∙ sym (ap (λ (v : ClientView). v.hand) w.self-is))
+      | in_default-blank w ↦ none_kept c.args.ask c.make-answer.result.answer c.match-blank.self.hand (subst (λ (h : Option BlankView). NoneIsKept c.args.ask c.make-answer.result.answer h) w.in_default-blank.is c.make-answer.ensures.given)
     ] in
     let moved : c.make-answer.result.blank ≡ c.match-blank.self.hand → IsDone g.N.Names.id g.row.D p q c.args.ask c.make-answer.result.answer c.match-blank.self.hand =
     λ is. subst (λ (h : Option BlankView). IsDone g.N.Names.id g.row.D p q c.args.ask c.make-answer.result.answer h) is c.make-answer.ensures.done in
     let done : IsDone g.N.Names.id g.row.D p q c.args.ask c.make-answer.result.answer c.match-blank.self.hand =
     elim c.match-blank.branch [
-      | in-Some+in-Some-1 w ↦ moved (w.in-Some.is ∙ sym (ap (λ (v : ClientView). v.hand) w.self-is))
-      | in-Some+in-None-1 w ↦ moved (w.in-Some.is ∙ sym (ap (λ (v : ClientView). v.hand) w.self-is))
-      | in_default w ↦ done_anyhow g.N.Names.id g.row.D p q c.args.ask c.make-answer.result.answer c.match-blank.self.hand
-          (subst (λ (h : Option BlankView). IsDone g.N.Names.id g.row.D p q c.args.ask c.make-answer.result.answer h) w.in_default.is c.make-answer.ensures.done)
-          (subst (λ (h : Option BlankView). NoneIsKept c.args.ask c.make-answer.result.answer h) w.in_default.is c.make-answer.ensures.given)
+      | in-Some-blank+in-Some-1 w ↦ moved (w.in-Some-blank.is ∙ sym (ap (λ (v : ClientView). v.hand) w.self-is))
+      | in-Some-blank+in-None-1 w ↦ moved (w.in-Some-blank.is ∙ sym (ap (λ (v : ClientView). v.hand) w.self-is))
+      | in_default-blank w ↦ done_anyhow g.N.Names.id g.row.D p q c.args.ask c.make-answer.result.answer c.match-blank.self.hand
+          (subst (λ (h : Option BlankView). IsDone g.N.Names.id g.row.D p q c.args.ask c.make-answer.result.answer h) w.in_default-blank.is c.make-answer.ensures.done)
+          (subst (λ (h : Option BlankView). NoneIsKept c.args.ask c.make-answer.result.answer h) w.in_default-blank.is c.make-answer.ensures.given)
     ] in
     done_for g.N.Names.id g.row.D c.args.self.now c.match-blank.self p q c.args.ask c.make-answer.result.answer
     (λ call a becomes. makes_at c.args.self.now c.match-blank.self ps g.row.D p q call a (sym (ap (λ (v : ClientView). v.passes) c.self.view_is)) passes number inside owner (subst (λ (r : PassView Entry). q ≡ pass_after r call a) at becomes))
@@ -59,22 +59,22 @@ invariant_of-self g c =
     let ps = c.self.inside.passes.items in
     let p = c.index_mut.result.now in
     let q = c.make-answer.new.pass in
-    still_client id c.self.inside.number ps c.self.inside.hand (Some c.in-Some.blank) g.row.D p q c.self.invariant (omega (arith, c.requires.place, c.self.invariant.count)) c.index_mut.ensures.value
+    still_client id c.self.inside.number ps c.self.inside.hand (Some c.in-Some-blank.blank) g.row.D p q c.self.invariant (omega (arith, c.requires.place, c.self.invariant.count)) c.index_mut.ensures.value
     (done_kept id g.row.D p q c.args.ask c.make-answer.result.answer c.make-answer.result.blank c.make-answer.ensures.done)
-    (subst (λ (o : Option BlankView). IfSome o (λ b. b.gate ≡ id.gate)) c.in-Some.is c.make-answer.ensures.own)
+    (subst (λ (o : Option BlankView). IfSome o (λ b. b.gate ≡ id.gate)) c.in-Some-blank.is c.make-answer.ensures.own)
 
-pub invariant_of-self-in-Some-2 : goal.invariant_of-self-in-Some-2
-invariant_of-self-in-Some-2 g c =
+pub invariant_of-self-in-Some-blank-2 : goal.invariant_of-self-in-Some-blank-2
+invariant_of-self-in-Some-blank-2 g c =
     let id = g.N.Names.id in
     let ps = c.self.inside.passes.items in
     let p = c.index_mut.result.now in
     let q = c.make-answer.new.pass in
-    still_client id c.self.inside.number ps c.self.inside.hand (Some c.in-Some.blank) g.row.D p q c.self.invariant (omega (arith, c.requires.place, c.self.invariant.count)) c.index_mut.ensures.value
+    still_client id c.self.inside.number ps c.self.inside.hand (Some c.in-Some-blank.blank) g.row.D p q c.self.invariant (omega (arith, c.requires.place, c.self.invariant.count)) c.index_mut.ensures.value
     (done_kept id g.row.D p q c.args.ask c.make-answer.result.answer c.make-answer.result.blank c.make-answer.ensures.done)
-    (subst (λ (o : Option BlankView). IfSome o (λ b. b.gate ≡ id.gate)) c.in-Some.is c.make-answer.ensures.own)
+    (subst (λ (o : Option BlankView). IfSome o (λ b. b.gate ≡ id.gate)) c.in-Some-blank.is c.make-answer.ensures.own)
 
-pub invariant_of-self-in_default : goal.invariant_of-self-in_default
-invariant_of-self-in_default g c =
+pub invariant_of-self-in_default-blank : goal.invariant_of-self-in_default-blank
+invariant_of-self-in_default-blank g c =
     let id = g.N.Names.id in
     let ps = c.self.inside.passes.items in
     let p = c.index_mut.result.now in
