@@ -241,7 +241,9 @@ fn closed(alloc: Global, desk: Desk) -> (State, u64, Vec<Entry>) {
 // The same with the sum of bandwidths in place of the state.
 fn end(alloc: Global, desk: Desk) -> (u64, u64, usize) {
     let (state, word, calls) = closed(alloc, desk);
-    (state.sum(), word, calls.len())
+    let ends = (state.sum(), word, calls.len());
+    drop(state);
+    ends
 }
 
 // The ticket of another client, which takes a quarter of a CPU at the word and not in the book.
@@ -273,13 +275,11 @@ fn refused_by_the_word(rt: HostRuntime) -> Result<(), Fail> {
     let got = replies(&rt, rt.alloc(), &mut desk, admission);
     desk.gate.give(other);
     let (state, word, entries) = closed(rt.alloc(), desk);
+    let ends = (state.limit(), state.sum(), word, entries.len());
+    drop(state);
     assert_eq!(rt; limit, Reply::Busy { seen: 262144 });
     let busy = Reply::Busy { seen: 524288 };
     assert_eq!(rt; got?.as_slice(), [Reply::Admitted, busy].as_slice());
-    assert_eq!(rt;
-        (state.limit(), state.sum(), word),
-        (524288, 262144, 262144)
-    );
-    assert_eq!(rt; entries.len(), 3);
+    assert_eq!(rt; ends, (524288, 262144, 262144, 3));
     Ok(())
 }

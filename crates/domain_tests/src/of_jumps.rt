@@ -4,7 +4,7 @@ mod by_workers;
 mod turns;
 
 use crate::workers::{Worker, admitted, forever, single_ticks};
-use domain_run::Event;
+use domain_run::{Event, State};
 use jump_run::{Done, advance};
 use std::test::Fail;
 
@@ -14,6 +14,13 @@ fn three<'a>() -> [Worker<'a>; 3] {
     [forever((4, 8, 8), &HALF_OF_8_US); 3]
 }
 
+fn are_same(jumping: &State, ticking: &State) -> bool {
+    jumping.now() == ticking.now()
+        && jumping.sum() == ticking.sum()
+        && jumping.switches() == ticking.switches()
+        && jumping.view(1) == ticking.view(1)
+}
+
 /// An advance with many switches, and as many single ticks of the same domain as it made.
 ///
 /// With a growth of the switches refused in the middle (`rt try --test --fail-alloc N`) it is the
@@ -21,16 +28,13 @@ fn three<'a>() -> [Worker<'a>; 3] {
 #[test]
 fn cut_short_by_memory(rt: HostRuntime) -> Result<(), Fail> {
     let tasks = [forever((2, 8, 8), &[Event::Run(1), Event::Sleep(3)])];
-    let mut jumping = admitted(rt.alloc(), 1, &tasks)?;
-    let mut ticking = admitted(rt.alloc(), 1, &tasks)?;
+    let mut jumped = admitted(rt.alloc(), 1, &tasks)?;
+    let mut ticked = admitted(rt.alloc(), 1, &tasks)?;
+    let (jumping, ticking) = (&mut jumped[0], &mut ticked[0]);
     let left = (1_u64 << 42).saturating_sub(jumping.now());
-    let done = advance(&mut jumping, 5000_u64.min(left));
-    single_ticks(&mut ticking, done.ticks)?;
-    let same = jumping.now() == ticking.now()
-        && jumping.sum() == ticking.sum()
-        && jumping.switches() == ticking.switches()
-        && jumping.view(1) == ticking.view(1);
-    assert!(rt; same);
+    let done = advance(jumping, 5000_u64.min(left));
+    single_ticks(ticking, done.ticks)?;
+    assert!(rt; are_same(jumping, ticking));
     assert_eq!(rt; done, Done { ticks: 5000 });
     Ok(())
 }

@@ -1,12 +1,17 @@
 //! The tasks of worked rows, as the tests of a domain and of its jumps tell them.
+//!
+//! A test has its domain as a list of one. What owns a state itself has, at each of its ends, the
+//! drop of each of the state's fields in its proof; a list's is one call.
+
+ghost use Rattle.std.specs.Prelude.{◌≡◌, IfOk, length};
 
 use attr_check::{Params, SchedAttr, check};
-use domain_run::{Event, Name, Phase, Script, State};
+use domain_run::{Event, Name, NoMemory, Phase, Script, State};
 use std::alloc::Global;
 use std::test::Fail;
 
 /// A whole CPU, in 1/2^20 of a CPU.
-pub(crate) const UNIT: u64 = 1048576;
+const UNIT: u64 = 1048576;
 
 /// A task of a row: runtime, deadline and period in us, and one phase of events, for ever.
 #[derive(Clone, Copy)]
@@ -30,6 +35,10 @@ pub(crate) fn params(times: (u64, u64, u64)) -> Result<Params, Fail> {
     })?)
 }
 
+pub(crate) fn name(alloc: Global) -> Result<Name, Fail> {
+    Ok(Name::new(String::from_str(alloc, "T")?)?)
+}
+
 pub(crate) fn script(alloc: Global, worker: Worker<'_>) -> Result<Script, Fail> {
     let mut phases = Vec::new(alloc);
     phases.push(Phase {
@@ -47,21 +56,37 @@ pub(crate) fn admit(
     worker: Worker<'_>,
 ) -> Result<(), Fail> {
     let given = params(worker.times)?;
-    let name = Name::new(String::from_str(alloc, "T")?)?;
+    let name = name(alloc)?;
     let script = script(alloc, worker)?;
     let _ = state.admit(number.clamp(1, 65535), name, given, 0, script);
     Ok(())
 }
 
-/// Tasks 1, 2, .., admitted at 0 to a domain of so many CPUs.
-pub(crate) fn admitted(alloc: Global, cpus: u32, workers: &[Worker<'_>]) -> Result<State, Fail> {
-    let mut state = State::open(alloc, cpus.clamp(1, 64), UNIT)?;
+/// An empty domain of so many CPUs.
+fn opened(alloc: Global, cpus: u32) -> Result<Vec<State>, NoMemory>
+    ensures { IfOk result (λ states. length states.items ≡ 1) }
+{
+    let mut states = Vec::new(alloc);
+    states.push(State::open(alloc, cpus.clamp(1, 64), UNIT)?)?;
+    Ok(states)
+}
+
+fn admit_all(alloc: Global, state: &mut State, workers: &[Worker<'_>]) -> Result<(), Fail> {
     let mut number: u32 = 0;
     for worker in workers {
         number = number.saturating_add(1);
-        admit(alloc, &mut state, number, *worker)?;
+        admit(alloc, state, number, *worker)?;
     }
-    Ok(state)
+    Ok(())
+}
+
+/// A domain of so many CPUs, to which tasks 1, 2, .. are admitted at 0.
+pub(crate) fn admitted(alloc: Global, cpus: u32, workers: &[Worker<'_>]) -> Result<Vec<State>, Fail>
+    ensures { IfOk result (λ states. length states.items ≡ 1) }
+{
+    let mut states = opened(alloc, cpus)?;
+    admit_all(alloc, &mut states[0], workers)?;
+    Ok(states)
 }
 
 pub(crate) fn single_ticks(state: &mut State, ticks: u64) -> Result<(), Fail> {

@@ -126,6 +126,14 @@ fn give_back(desk: &mut Desk, ticket: Ticket)
     let _ = desk.blanks.push(blank);
 }
 
+// How a refused move went, with its ticket; what was prepared is let go in this one place.
+fn stayed(how: &'static str, ticket: Ticket, prepared: Prepared) -> (&'static str, Ticket)
+    ensures { result.1 ≡ ticket }
+{
+    drop(prepared);
+    (how, ticket)
+}
+
 // Moves the task, and tells how it went, with the ticket that comes out.
 fn moved(pair: &mut Pair, prepared: Prepared, ticket: Ticket) -> (&'static str, Ticket)
     requires ticket { (ticket.gate ≡ pair.old.desk.gate) × (ticket.domain ≡ 1) }
@@ -137,28 +145,19 @@ fn moved(pair: &mut Pair, prepared: Prepared, ticket: Ticket) -> (&'static str, 
     let Pair { desk, to, into } = pair;
     match move_task(&mut desk.domain, &mut desk.pass, to, into, prepared, ticket) {
         Move::Moved { ticket } => ("moved", ticket),
-        Move::Full {
-            ticket,
-            prepared: _,
-        } => ("full", ticket),
-        Move::NotListed {
-            ticket,
-            prepared: _,
-        } => ("not listed", ticket),
+        Move::Full { ticket, prepared } => stayed("full", ticket, prepared),
+        Move::NotListed { ticket, prepared } => stayed("not listed", ticket, prepared),
         Move::Stale {
             now: _,
             ticket,
-            prepared: _,
-        } => ("stale", ticket),
-        Move::Twice {
-            ticket,
-            prepared: _,
-        } => ("twice", ticket),
+            prepared,
+        } => stayed("stale", ticket, prepared),
+        Move::Twice { ticket, prepared } => stayed("twice", ticket, prepared),
         Move::Busy {
             seen: _,
             ticket,
-            prepared: _,
-        } => ("busy", ticket),
+            prepared,
+        } => stayed("busy", ticket, prepared),
     }
 }
 
@@ -186,7 +185,9 @@ fn ends(rt: &impl Abort, alloc: Global, mut pair: Pair) -> [(u64, u64, usize); 2
         blanks: _,
     } = to.close(passes);
     give_all(&desk.gate, tickets);
-    [end(alloc, desk), (state.sum(), there, entries.len())]
+    let ends = (state.sum(), there, entries.len());
+    drop(state);
+    [end(alloc, desk), ends]
 }
 
 const TASK: &[u8] = b"dlcalls 1\ndomain 1 1048576\nadmit 1 1 a 4 8 8 - 0 -1:1{r2,s6}\n";
@@ -202,12 +203,13 @@ fn after<R: Abort + Threads + Wait>(
     calls: &[u8],
 ) -> Result<Step, Fail> {
     let prepared = pair.desk.domain.prepare_move(alloc, 1)?;
-    replies(rt, alloc, &mut pair.desk, calls)?;
+    let made = replies(rt, alloc, &mut pair.desk, calls);
     let ticket = taken(rt, &mut pair.desk, &prepared);
     let both = used(rt, pair);
     let (answer, ticket) = moved(pair, prepared, ticket);
     let still = used(rt, pair);
     give_back(&mut pair.desk, ticket);
+    made?;
     Ok((answer, both, still))
 }
 

@@ -1,31 +1,44 @@
 //! The calls on a domain take no memory: no room grows, and nothing else is asked for.
 
-use crate::workers::{UNIT, admit, admitted, forever, params, script, single_ticks};
-use domain_run::{Event, Name, Reply, State, Switch};
+use crate::workers::{admitted, forever, name, params, script, single_ticks};
+use domain_run::{Event, Reply, Switch};
 use std::alloc::AllocError;
 use std::test::Fail;
 
 /// Each call once, with its answer; task 1 waits. The room for switches is what it was. The state's
 /// other room is kept by its types.
 ///
-/// All that takes memory is made before the calls, in 19 requests, and one request is made behind
-/// them. So with the 20th refused (`rt try --test --fail-alloc 20`) the last assertion fails, since
+/// All that takes memory is made before the calls, in 20 requests, and one request is made behind
+/// them. So with the 21st refused (`rt try --test --fail-alloc 21`) the last assertion fails, since
 /// that is the one behind: the calls asked for none.
 #[test]
 fn calls_take_no_memory(rt: HostRuntime) -> Result<(), Fail> {
     let waiting = forever((2, 8, 8), &[Event::Wait]);
     let given = params(waiting.times)?;
-    let name = Name::new(String::from_str(rt.alloc(), "T")?)?;
+    let mut states = admitted(rt.alloc(), 1, &[waiting])?;
+    let state = &mut states[0];
+    single_ticks(state, 1)?;
     let script = script(rt.alloc(), waiting)?;
-    let mut state = admitted(rt.alloc(), 1, &[waiting])?;
-    single_ticks(&mut state, 1)?;
+    let name = name(rt.alloc())?;
     let before = state.room();
     assert!(rt; state.admit(2, name, given, 0, script).is_ok());
-    assert_eq!(rt; state.regrade(1, given, None), Reply::Changed);
-    assert_eq!(rt; state.wake(1), Reply::Woken);
-    assert_eq!(rt; state.leave(1), Reply::Left);
-    assert_eq!(rt; state.depart(2), Reply::Departed);
-    assert_eq!(rt; state.set_limit(524288, None), Reply::Set);
+    let replies = [
+        state.regrade(1, given, None),
+        state.wake(1),
+        state.leave(1),
+        state.depart(2),
+        state.set_limit(524288, None),
+    ];
+    assert_eq!(rt;
+        replies,
+        [
+            Reply::Changed,
+            Reply::Woken,
+            Reply::Left,
+            Reply::Departed,
+            Reply::Set
+        ]
+    );
     assert_eq!(rt; state.room(), before);
     let block: Result<Vec<u8>, AllocError> = Vec::with_capacity(rt.alloc(), 1);
     let has_memory = block.is_ok();
@@ -38,9 +51,10 @@ fn calls_take_no_memory(rt: HostRuntime) -> Result<(), Fail> {
 fn a_tick_takes_room_for_its_switches_alone(rt: HostRuntime) -> Result<(), Fail> {
     let mut room: Vec<Switch> = Vec::new(rt.alloc());
     room.try_reserve(3)?;
-    let mut state = State::open(rt.alloc(), 3, UNIT)?;
+    let mut states = admitted(rt.alloc(), 3, &[])?;
+    let state = &mut states[0];
     for ticks in [1, 8] {
-        single_ticks(&mut state, ticks)?;
+        single_ticks(state, ticks)?;
         assert_eq!(rt; state.room(), room.capacity());
     }
     Ok(())

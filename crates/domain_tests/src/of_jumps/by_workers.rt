@@ -36,13 +36,14 @@ fn made_from<R: Threads + Wait>(
     start: u64,
     workers: usize,
 ) -> Result<(u64, bool, bool), Fail> {
-    let mut state = admitted(alloc, 2, &[])?;
-    advanced(rt, alloc, &mut state, start, 1, &Silent);
+    let mut states = admitted(alloc, 2, &[])?;
+    let state = &mut states[0];
+    advanced(rt, alloc, state, start, 1, &Silent);
     for number in 1..3 {
         let worker = forever((4, 32, 32), &FOUR_OF_32_US);
-        admit(alloc, &mut state, number, worker)?;
+        admit(alloc, state, number, worker)?;
     }
-    let done = advanced(rt, alloc, &mut state, 2100, workers, &Silent);
+    let done = advanced(rt, alloc, state, 2100, workers, &Silent);
     let told = state.now() == start.wrapping_add(done.ticks);
     Ok((done.ticks, told, state.switches().len() > 200))
 }
@@ -99,7 +100,7 @@ fn in_order<R: Threads + Wait + Clock + Sync>(
     alloc: Global,
     first: usize,
 ) -> Result<(usize, usize, bool), Fail> {
-    let mut state = admitted(alloc, 2, &three())?;
+    let mut states = admitted(alloc, 2, &three())?;
     let order = InOrder {
         clock: rt,
         first,
@@ -107,7 +108,7 @@ fn in_order<R: Threads + Wait + Clock + Sync>(
         ended: AtomicUsize::new(0),
         late: AtomicBool::new(false),
     };
-    advanced(rt, alloc, &mut state, 4, 2, &order);
+    advanced(rt, alloc, &mut states[0], 4, 2, &order);
     let (begun, ended) = (&order.begun, &order.ended);
     let late = order.late.load(Ordering::SeqCst);
     Ok((

@@ -118,9 +118,9 @@ fn turns_of<R: Threads + Wait>(
 fn turns_of_one_piece(rt: HostRuntime) -> Result<(), Fail> {
     let alloc = rt.alloc();
     for (tasks, workers) in [(1, 1), (2, 1), (3, 1), (1, 3), (1, 8)] {
-        let mut state = admitted(alloc, 3, &three()[..tasks])?;
+        let mut states = admitted(alloc, 3, &three()[..tasks])?;
         for (ticks, order) in [(1, 0x1212), (3, 0x1212), (4, 0), (16, 0x12121212)] {
-            let (_, told, _) = turns_of(&rt, rt, alloc, &mut state, ticks, workers);
+            let (_, told, _) = turns_of(&rt, rt, alloc, &mut states[0], ticks, workers);
             assert_eq!(rt; told, order);
         }
     }
@@ -134,8 +134,8 @@ const LONG: [Event; 1] = [Event::Run(1000)];
 fn one_jump_of_many_ticks(rt: HostRuntime) -> Result<(), Fail> {
     let tasks = [forever((1000, 2000, 2000), &LONG)];
     for workers in [1, 2, 8] {
-        let mut state = admitted(rt.alloc(), 1, &tasks)?;
-        let (_, order, _) = turns_of(&rt, rt, rt.alloc(), &mut state, 1000, workers);
+        let mut states = admitted(rt.alloc(), 1, &tasks)?;
+        let (_, order, _) = turns_of(&rt, rt, rt.alloc(), &mut states[0], 1000, workers);
         assert_eq!(rt; order, 0x1212);
     }
     Ok(())
@@ -157,21 +157,21 @@ fn pieces_of_each_step(rt: HostRuntime) -> Result<(), Fail> {
         (9, 8, 0x22222222, 32),
         (9, 9, 0x222222222, 36),
     ] {
-        let mut state = admitted(rt.alloc(), 9, &nine[..tasks])?;
-        let (turns, _, others) = turns_of(&rt, rt, rt.alloc(), &mut state, 4, workers);
+        let mut states = admitted(rt.alloc(), 9, &nine[..tasks])?;
+        let (turns, _, others) = turns_of(&rt, rt, rt.alloc(), &mut states[0], 4, workers);
         assert_eq!(rt; (turns, others), ((twos, twos), elsewhere));
     }
     Ok(())
 }
 
 /// A tick of an empty domain takes room for switches once. With the growth after that refused (`rt
-/// try --test --fail-alloc 14`) this fails at its assertion, since that growth is the one behind:
+/// try --test --fail-alloc 15`) this fails at its assertion, since that growth is the one behind:
 /// one worker asked for none.
 #[test]
 fn one_worker_takes_no_memory(rt: HostRuntime) -> Result<(), Fail> {
-    let mut state = admitted(rt.alloc(), 1, &[])?;
-    single_ticks(&mut state, 1)?;
-    advanced(&rt, rt.alloc(), &mut state, 4, 1, &Silent);
+    let mut states = admitted(rt.alloc(), 1, &[])?;
+    single_ticks(&mut states[0], 1)?;
+    advanced(&rt, rt.alloc(), &mut states[0], 4, 1, &Silent);
     let block: Result<Vec<u8>, AllocError> = Vec::with_capacity(rt.alloc(), 1);
     let has_memory = block.is_ok();
     assert!(rt; has_memory);
