@@ -26,6 +26,7 @@ fn calls_take_no_memory(rt: HostRuntime) -> Result<(), Fail> {
     assert_eq!(rt; state.leave(1), Reply::Left);
     assert_eq!(rt; state.depart(2), Reply::Departed);
     assert_eq!(rt; state.set_limit(524288, None), Reply::Set);
+    state.forget_switches();
     assert_eq!(rt; state.room(), before);
     let block: Result<Vec<u8>, AllocError> = Vec::with_capacity(rt.alloc(), 1);
     let has_memory = block.is_ok();
