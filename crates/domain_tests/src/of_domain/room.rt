@@ -39,6 +39,7 @@ fn calls_take_no_memory(rt: HostRuntime) -> Result<(), Fail> {
             Reply::Set
         ]
     );
+    state.forget_switches();
     assert_eq!(rt; state.room(), before);
     let block: Result<Vec<u8>, AllocError> = Vec::with_capacity(rt.alloc(), 1);
     let has_memory = block.is_ok();
