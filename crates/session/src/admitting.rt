@@ -199,7 +199,11 @@ fn start_one<
     { admit_own(rt, alloc, shared, tasks, turnstile, seat) };
     match scope.spawn_with(promise, asking) {
         Ok(handle) => Ok(handle),
-        Err(_) => Err(NotStarted),
+        Err(refused) => {
+            // For the prover alone: dropped by a call, and not field by field.
+            drop(refused);
+            Err(NotStarted)
+        }
     }
 }
 

@@ -215,6 +215,14 @@ impl<N: Names> Client<N> {
         }
     }
 
+    /// Takes a piece into its hand.
+    pub(crate) fn keep(&mut self, blank: Blank)
+        requires { blank.gate ≡ N.id.gate }
+        ensures { self.new ≡ record self.old { hand = Some blank } }
+    {
+        self.hand = Some(blank);
+    }
+
     /// The piece in its hand.
     pub(crate) fn into_hand(self) -> Option<Blank>
         ensures own { IfSome result (λ b. b.gate ≡ N.id.gate) }
@@ -281,7 +289,7 @@ impl<N: Names> Client<N> {
             Take::Refused { blank, seen: word } => {
                 // For the prover alone: dropped by a call, and not field by field.
                 drop(prepared);
-                self.hand = Some(blank);
+                self.keep(blank);
                 Err(Refusal::Busy {
                     seen: used_of(word),
                 })
@@ -321,7 +329,7 @@ impl<N: Names> Client<N> {
         ) {
             Ok(prepared) => self.submit(rt, shared, place, blank, prepared),
             Err(NoMemory) => {
-                self.hand = Some(blank);
+                self.keep(blank);
                 Err(Refusal::Enomem)
             }
         }

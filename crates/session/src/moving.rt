@@ -218,7 +218,7 @@ impl<N: Names> Client<N> {
             Take::Refused { blank, seen: word } => {
                 // For the prover alone: dropped by a call, and not field by field.
                 drop(prepared);
-                self.hand = Some(blank);
+                self.keep(blank);
                 Err(Refusal::Busy {
                     seen: used_of(word),
                 })
@@ -251,7 +251,7 @@ impl<N: Names> Client<N> {
         match prepare_at(rt, alloc, shared, from, number) {
             Ok(prepared) => self.submit_move(rt, shared, from, to, blank, prepared),
             Err(fault) => {
-                self.hand = Some(blank);
+                self.keep(blank);
                 Err(refusal_of(fault))
             }
         }

@@ -33,4 +33,4 @@ returns-in-Ok-clause-gate g c =
 
 pub returns-in-Err-clause-made : goal.returns-in-Err-clause-made
 returns-in-Err-clause-made g c =
-    refused_makes c.args.self.now _ c.args.place (call_of c.args.task.now) refusals.Enomem (ap (λ (v : ClientView). v.number) c.self.view_is) (ap (λ (v : ClientView). v.passes) c.self.view_is)
+    refused_makes c.args.self.now _ c.args.place (call_of c.args.task.now) refusals.Enomem (ap (λ (v : ClientView). v.number) c.keep.ensures) (ap (λ (v : ClientView). v.passes) c.keep.ensures)

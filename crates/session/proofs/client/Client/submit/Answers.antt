@@ -1,15 +1,15 @@
-use Rattle.std.proofs.Common.{◌≡◌, ℕ, ap, refl, subst, length, ◌∙◌}
+use Rattle.std.proofs.Common.{◌≡◌, ℕ, Some, Err, ap, refl, sym, subst, length, ◌∙◌}
 use Rattle.bw_gate.specs.Pieces.{GateId, cpus_of as gate_cpus}
 use Rattle.call_book.specs.Book.{admission}
 use Rattle.session.specs.declared.refusal.Refusal.TheVariants as refusals
 use Rattle.session.specs.SessionId.{cpus_of}
-use Rattle.session.specs.Asks.{ClientView, IsOverCap, IsGateRefusal}
+use Rattle.session.specs.Asks.{ClientView, AsksGate, IsLastFound, IsOverCap, IsGateRefusal}
 use Rattle.session.proofs.Asked.{refused_makes, last_seen, gate_over, gate_refused}
 use Rattle.session.proofs.client.Client.submit.Goals as goal
 
 pub returns-in-Refused-clause-made : goal.returns-in-Refused-clause-made
 returns-in-Refused-clause-made g c =
-    refused_makes c.args.self.now _ c.args.place (admission c.args.prepared) (refusals.Busy c.used_of.result) (ap (λ (v : ClientView). v.number) c.self.view_is) (ap (λ (v : ClientView). v.passes) c.self.view_is)
+    refused_makes c.args.self.now _ c.args.place (admission c.args.prepared) (refusals.Busy c.used_of.result) (ap (λ (v : ClientView). v.number) c.keep.ensures) (ap (λ (v : ClientView). v.passes) c.keep.ensures)
 
 pub returns-in-Refused-clause-verdict : goal.returns-in-Refused-clause-verdict
 returns-in-Refused-clause-verdict g c =
@@ -20,9 +20,13 @@ returns-in-Refused-clause-verdict g c =
     (gate_over cpus c.args.blank c.args.place c.bw.result c.in-Refused.blank c.in-Refused.word c.used_of.result same c.in-Refused.ensures c.used_of.ensures)
 
 pub returns-in-Refused-clause-last : goal.returns-in-Refused-clause-last
-returns-in-Refused-clause-last g c = (last_seen c.args.blank c.args.place c.bw.result c.in-Refused.blank c.in-Refused.word c.used_of.result c.in-Refused.ensures c.used_of.ensures, refl)
+returns-in-Refused-clause-last g c =
+    subst (λ (v : ClientView). IsLastFound v.hand (Err (refusals.Busy c.used_of.result))) (sym c.keep.ensures)
+    (last_seen c.args.blank c.args.place c.bw.result c.in-Refused.blank c.in-Refused.word c.used_of.result c.in-Refused.ensures c.used_of.ensures, refl)
 
 pub returns-in-Refused-clause-gate : goal.returns-in-Refused-clause-gate
 returns-in-Refused-clause-gate g c =
-    subst (λ (bw : ℕ). IsGateRefusal c.args.blank c.args.place bw c.used_of.result c.in-Refused.blank) c.bw.ensures.value
-    (gate_refused c.args.blank c.args.place c.bw.result c.in-Refused.blank c.in-Refused.word c.used_of.result c.in-Refused.ensures c.used_of.ensures)
+    let bw = c.args.prepared.params.bw in
+    subst (λ (v : ClientView). AsksGate g.N.Names.id.gate c.args.place bw (Some c.args.blank) (Err (refusals.Busy c.used_of.result)) v.hand) (sym c.keep.ensures)
+    (subst (λ (n : ℕ). IsGateRefusal c.args.blank c.args.place n c.used_of.result c.in-Refused.blank) c.bw.ensures.value
+    (gate_refused c.args.blank c.args.place c.bw.result c.in-Refused.blank c.in-Refused.word c.used_of.result c.in-Refused.ensures c.used_of.ensures))
