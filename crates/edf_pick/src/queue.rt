@@ -1,6 +1,6 @@
 //! The ready tasks in the order of the choice.
 
-ghost use Rattle.std.specs.Prelude.{◌≡◌, ◌<◌, ◌≤◌, ◌==◌, false, [], length, IfOk};
+ghost use Rattle.std.specs.Prelude.{◌≡◌, ◌<◌, ◌≤◌, ◌==◌, true, false, [], length, map, is_some, Contains, IfOk, IfSome};
 ghost use Rattle.edf_pick.specs.Order as order;
 
 use crate::candidate::Candidate;
@@ -91,10 +91,33 @@ impl Queue {
         ensures removed { self.new ≡ order.without_candidate c.now self.old }
         ensures there { result ≡ order.has_candidate c.now self.old }
     {
+        self.take(c).is_some()
+    }
+
+    /// As `remove`, and answers the task that was there.
+    pub(crate) fn take(&mut self, c: &Candidate) -> Option<Candidate>
+        ensures removed { self.new ≡ order.without_candidate c.now self.old }
+        ensures there { is_some result ≡ order.has_candidate c.now self.old }
+        ensures entry { IfSome result (λ a. Contains self.old a) }
+        ensures same { IfSome result (λ a. order.is_same a c.now ≡ true) }
+    {
         let Some(place) = find(&self.tasks, c) else {
-            return false;
+            return None;
         };
+        let entry = self.tasks[place];
         self.tasks.remove(place);
-        true
+        Some(entry)
+    }
+
+    /// The task of the deadline and the number of `c` belongs to the CPU of `c` from now on, if it is
+    /// there. Found by binary search; no other task is touched.
+    pub fn home(&mut self, c: &Candidate)
+        ensures homed { self.new ≡ map (order.with_home c.now) self.old }
+        ensures turned { order.has_candidate c.now self.old ≡ true
+            → self.new ≡ order.with_candidate c.now (order.without_candidate c.now self.old) }
+    {
+        if let Some(place) = find(&self.tasks, c) {
+            self.tasks[place] = *c;
+        }
     }
 }
