@@ -1,33 +1,18 @@
 -- Who stands on a CPU belongs to it, whatever else happens to it.
-use Rattle.std.proofs.Common.{◌≡◌, ℕ, ◌+◌, ◌<◌, ◌≤◌, Bool, true, false, cond, eqb, Option, Some, None, List, length, take, get_or, map, refl, sym, ap, subst, ◌∙◌, arith, inl, inr, eq-eqb}
-use Rattle.std.specs.Prelude.{filter, position}
+use Rattle.std.proofs.Common.{◌≡◌, ℕ, Bool, true, false, cond, eqb, Option, Some, None, List, get_or, map, refl, sym, ap, subst, ◌∙◌}
+use Rattle.std.specs.Prelude.{position}
 use Rattle.std.specs.List.{list_any}
-use Rattle.std.proofs.lemmas.Bool.{both_ways, cases_eq, ne_eqb}
-use Rattle.std.proofs.lemmas.List.{get_or-take, length-take-le}
-use Rattle.std.proofs.lemmas.List.Elements.{All-map, All-weaker, All-filter}
+use Rattle.std.proofs.lemmas.Bool.{both_ways}
+use Rattle.std.proofs.lemmas.List.Elements.{All-map}
 use Rattle.std.proofs.lemmas.List.Folds.{Any-from_list_any}
 use Rattle.edf_pick.specs.Places.{Places, is_task, stands}
 use Rattle.domain_run.specs.declared.task.Task.{Task}
-use Rattle.domain_run.specs.Parts.{replenish_due, settled, is_listed, unblocked, with_cpu, with_last_cpu}
-use Rattle.domain_run.specs.Tick.{prepared}
+use Rattle.domain_run.specs.Parts.{with_cpu, with_last_cpu}
 use Rattle.domain_run.specs.Sound.{occupant, IsApart}
 use Rattle.domain_run.specs.private.Index.{IsAt}
 use Rattle.domain_run.specs.private.RunQueue.{AreHomed}
-use Rattle.domain_run.proofs.Keeping.{Same, same_replenished, same_settled, same_unblocked}
-use Rattle.domain_run.proofs.Placing.{homed_nowhere, homed_number, position_at, found_at, stands_at, task_there, there}
-use Rattle.domain_run.proofs.Homes.{homed_map}
+use Rattle.domain_run.proofs.Placing.{homed_nowhere, homed_number, position_at, found_at, stands_at, task_there}
 use Rattle.domain_run.proofs.Tracing.{AreStanding}
-
-homed_same : (places : Places) (f : Task → Task) (tasks : List Task) → ((t : Task) → Same t (f t)) → AreHomed places tasks → AreHomed places (map f tasks)
-homed_same places f tasks same all = homed_map places f tasks (λ t. (same t).number) (λ t. (same t).cpu) all
-
--- parts 1 to 3
-pub homed_prepared : (places : Places) (time : ℕ) (tasks : List Task) → AreHomed places tasks → AreHomed places (prepared time tasks)
-homed_prepared places time tasks all =
-    let a = homed_same places (replenish_due time) tasks (same_replenished time) all in
-    let b = homed_same places (settled time) (map (replenish_due time) tasks) (same_settled time) a in
-    let c = All-filter is_listed (λ t. with_last_cpu places t ≡ t) (map (settled time) (map (replenish_due time) tasks)) b in
-    homed_same places (unblocked time) (filter is_listed (map (settled time) (map (replenish_due time) tasks))) (same_unblocked time) c
 
 -- part 4
 twice : (o : Option ℕ) (t : Task) → with_cpu o (with_cpu o t) ≡ with_cpu o t

@@ -15,7 +15,7 @@ use Rattle.grub_rules.proofs.CallerLemmas.{at, set_at, held_at, turned_at, joine
 use Rattle.edf_pick.specs.declared.candidate.Candidate.{Candidate}
 use Rattle.edf_pick.specs.Order.{ordered}
 use Rattle.edf_pick.specs.Schedule.{ScheduleView, IsAtHome}
-use Rattle.edf_pick.proofs.CallerLemmas.{IsNumbered, numbered_map, length_ordered, contains_from_ordered, ordered_insert, ordered_remove, placed_ordered}
+use Rattle.edf_pick.proofs.CallerLemmas.{IsNumbered, numbered_map, length_ordered, ordered_insert, ordered_remove, placed_ordered}
 use Rattle.domain_run.specs.declared.task.Task.{Task}
 use Rattle.domain_run.specs.declared.run_queue.RunQueue.{RunQueue}
 use Rattle.domain_run.specs.Conditions.{is_ready, is_contending, is_leaving}

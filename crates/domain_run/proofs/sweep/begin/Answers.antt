@@ -1,15 +1,11 @@
 use Rattle.std.proofs.Common.{◌≡◌, Bool, true, false, not, eqb, eqb-true, refl, List, [], ◌∷◌, ◌++◌, ℕ, ◌≤◌, None, get_or, length, sym, ap, ◌∙◌, arith, map, subst}
-use Rattle.std.proofs.lemmas.List.{length-append}
 use Rattle.edf_pick.specs.declared.moves.Moved.{Moved}
 use Rattle.edf_pick.specs.Moves.{moved_from}
 use Rattle.edf_pick.specs.Places.{Places, placed}
 use Rattle.edf_pick.proofs.Moving.{moved_length}
-use Rattle.domain_run.specs.declared.happened.Happened.{Happened}
 use Rattle.domain_run.specs.declared.switch.Switch.{Switch}
 use Rattle.domain_run.specs.declared.task.Task.{Task}
 use Rattle.domain_run.specs.Domain.{Domain}
-use Rattle.domain_run.specs.Log.{kept}
-use Rattle.domain_run.specs.Parts.{with_last_cpu}
 use Rattle.domain_run.specs.Sound.{IsApart}
 use Rattle.domain_run.specs.Switches.{switches_from}
 use Rattle.domain_run.specs.Tick.{candidates}

@@ -1,8 +1,5 @@
-use Rattle.std.proofs.Common.{◌≡◌, ◌<◌, ◌+◌, None, List, [], length, get_or, map, take, sym, ap, subst, refl, ◌∙◌, arith}
-use Rattle.edf_pick.specs.declared.moves.Moved.{Moved}
-use Rattle.edf_pick.specs.Places.{Places}
-use Rattle.domain_run.specs.declared.task.Task.{Task}
-use Rattle.domain_run.specs.private.Choosing.{AreWithin, homed_by}
+use Rattle.std.proofs.Common.{length, sym, subst, refl, ◌∙◌, arith}
+use Rattle.domain_run.specs.private.Choosing.{AreWithin}
 use Rattle.domain_run.specs.private.Waiting.{owed_all}
 use Rattle.domain_run.proofs.Choosing.{nobody, homed_more, homed_none}
 use Rattle.domain_run.proofs.roster.choosing.home_all.Goals as goal

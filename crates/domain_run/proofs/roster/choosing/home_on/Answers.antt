@@ -1,4 +1,4 @@
-use Rattle.std.proofs.Common.{◌≡◌, ◌<◌, ℕ, None, Some, List, map, length, sym, ap, subst, refl, ◌∙◌, arith}
+use Rattle.std.proofs.Common.{None, Some, List, map, sym, ap, subst, refl, ◌∙◌}
 use Rattle.domain_run.specs.declared.task.Task.{Task}
 use Rattle.domain_run.specs.Parts.{with_cpu}
 use Rattle.domain_run.specs.private.Index.{IsAt, IsAbsent}
