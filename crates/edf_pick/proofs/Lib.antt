@@ -1,6 +1,5 @@
 pub mod Before
 pub mod CallerLemmas
-pub mod Finding
 pub mod Following
 pub mod Homing
 pub mod Listing

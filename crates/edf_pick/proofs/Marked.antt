@@ -408,7 +408,7 @@ seated_stays places c cpu n on =
     by_seat None e = on
     by_seat (Some at) e = put_stays places cpu at c.number n (seat_free places c at e) on
 
-all_stay : (chosen : List Candidate) (places : Places) (cpu n : ℕ) → get_or places cpu None ≡ Some n → get_or (seated_all chosen places) cpu None ≡ Some n
+pub all_stay : (chosen : List Candidate) (places : Places) (cpu n : ℕ) → get_or places cpu None ≡ Some n → get_or (seated_all chosen places) cpu None ≡ Some n
 all_stay [] places cpu n on = on
 all_stay (c ∷ chosen) places cpu n on = all_stay chosen (seated places c) cpu n (seated_stays places c cpu n on)
 

@@ -53,7 +53,7 @@ pub number_homed : (c : Candidate) (o : Option ℕ) → (home_on c o).number ≡
 number_homed c None = refl
 number_homed c (Some cpu) = refl
 
-get_map : (f : Candidate → Candidate) (xs : List Candidate) (k : ℕ) (d e : Candidate) → k < length xs → get_or (map f xs) k d ≡ f (get_or xs k e)
+pub get_map : (f : Candidate → Candidate) (xs : List Candidate) (k : ℕ) (d e : Candidate) → k < length xs → get_or (map f xs) k d ≡ f (get_or xs k e)
 get_map f [] k d e h = absurd (omega (arith, h))
 get_map f (x ∷ xs) zero d e h = refl
 get_map f (x ∷ xs) (suc k) d e h = get_map f xs k d e (omega (arith, h))
@@ -97,7 +97,7 @@ module _ (queue : List Candidate) (places : Places) (some : 0 < length places) (
       ap (λ (o : Option Candidate). is_within o c) e ∙ ap not later
 
   -- and they stand nowhere
-  others_away : (k : ℕ) (c : Candidate) → slice_get queue k ≡ Some c → length places ≤ k → (home : ℕ) → is_task c.number (get_or places home None) ≡ false
+  pub others_away : (k : ℕ) (c : Candidate) → slice_get queue k ≡ Some c → length places ≤ k → (home : ℕ) → is_task c.number (get_or places home None) ≡ false
   others_away k c at h home =
       elim (cases_Bool (is_task c.number (get_or places home None))) [
         | inl on ↦

@@ -1,23 +1,20 @@
 -- After a choice each task that stands belongs to its CPU: those that start get it, the others have it.
-use Rattle.std.proofs.Common.{◌≡◌, ◌≢◌, ◌<◌, ◌+◌, ℕ, zero, suc, Bool, true, false, cond, eqb, ltb, Some, None, List, [], ◌∷◌, length, take, map, get_or, refl, sym, ap, ◌∙◌, subst, arith, inl, inr, eq-eqb, zero-add}
-use Rattle.std.specs.Prelude.{◌⊎◌, All, Contains, find, position}
+use Rattle.std.proofs.Common.{◌≡◌, ◌≢◌, ◌<◌, ◌+◌, ℕ, zero, suc, Bool, true, false, cond, ltb, Some, None, List, [], ◌∷◌, length, map, get_or, refl, sym, ap, ◌∙◌, subst, arith, inl, inr, eq-eqb, zero-add}
+use Rattle.std.specs.Prelude.{◌⊎◌, All, position}
 use Rattle.std.specs.List.{position_or_len}
-use Rattle.std.proofs.lemmas.Bool.{cases_Bool, cases_eq, ne_eqb, le-ltb, or_parts}
+use Rattle.std.proofs.lemmas.Bool.{cases_Bool, cases_eq, le-ltb, or_parts}
 use Rattle.std.proofs.lemmas.List.Elements.{All-map}
-use Rattle.std.proofs.lemmas.List.Sums.{fold_more, position_or_len_is}
+use Rattle.std.proofs.lemmas.List.Sums.{position_or_len_is}
 use Rattle.edf_pick.specs.declared.candidate.Candidate.{Candidate}
 use Rattle.edf_pick.specs.declared.moves.Moved.{Moved}
 use Rattle.edf_pick.specs.Changes.{ChangesView, Follows, stands_home, home_on, homed}
 use Rattle.edf_pick.specs.Moves.{same_occupant, moved_from}
-use Rattle.edf_pick.specs.Order.{is_same, with_home}
 use Rattle.edf_pick.specs.Places.{Places, AreSingle, is_task, stands}
 use Rattle.edf_pick.specs.Schedule.{IsAtHome, IsSchedule, homed_on, homed_by}
-use Rattle.edf_pick.proofs.Before.{same_itself, same_tells}
 use Rattle.edf_pick.proofs.CallerLemmas.{IsNumbered, numbered_map}
 use Rattle.edf_pick.proofs.Marked.{task_is, occupied, stands_here}
 use Rattle.edf_pick.proofs.Moving.{same_is}
 use Rattle.edf_pick.proofs.Renewed.{on_position, number_homed}
-use Rattle.edf_pick.proofs.Scheduling.{one_entry}
 use Rattle.edf_pick.proofs.Standing.{stands_where}
 
 -- MAPS
@@ -26,105 +23,11 @@ map_same_on f g [] same = refl
 map_same_on f g (x ∷ xs) same =
     ap (λ (y : Candidate). y ∷ map f xs) (same 0 x (omega arith)) ∙ ap (λ (ys : List Candidate). g x ∷ ys) (map_same_on f g xs (λ k d h. same (suc k) d (omega (arith, h))))
 
-pub map_id_on : (f : Candidate → Candidate) (xs : List Candidate) → All (λ x. f x ≡ x) xs → map f xs ≡ xs
-map_id_on f [] same = refl
-map_id_on f (x ∷ xs) same =
-    ap (λ (y : Candidate). y ∷ map f xs) (same 0 x (omega arith)) ∙ ap (λ (ys : List Candidate). x ∷ ys) (map_id_on f xs (λ k d h. same (suc k) d (omega (arith, h))))
-
-map_both : (f g : Candidate → Candidate) (xs : List Candidate) → map g (map f xs) ≡ map (λ x. g (f x)) xs
-map_both f g [] = refl
-map_both f g (x ∷ xs) = ap (λ (ys : List Candidate). g (f x) ∷ ys) (map_both f g xs)
-
 -- ONE CPU
-number_on : (places : Places) (cpu : ℕ) (c : Candidate) → (homed_on places cpu c).number ≡ c.number
-number_on places cpu c = elim (is_task c.number (get_or places cpu None)) as (λ b. (cond b (record c { home = cpu }) c).number ≡ c.number) [ true ↦ refl | false ↦ refl ]
-
-pub numbered_on : (places : Places) (cpu : ℕ) (queue : List Candidate) → IsNumbered queue → IsNumbered (map (homed_on places cpu) queue)
-numbered_on places cpu queue numbered = numbered_map (homed_on places cpu) (λ c. c.number) (number_on places cpu) queue numbered
-
 off : (places : Places) (cpu : ℕ) (c : Candidate) → is_task c.number (get_or places cpu None) ≡ false → homed_on places cpu c ≡ c
 off places cpu c e = ap (λ (b : Bool). cond b (record c { home = cpu }) c) e
 
--- nobody stands there
-pub idle_on : (places : Places) (cpu : ℕ) (queue : List Candidate) → get_or places cpu None ≡ None → queue ≡ map (homed_on places cpu) queue
-idle_on places cpu queue none = sym (map_id_on (homed_on places cpu) queue (λ k d h. off places cpu (get_or queue k d) (ap (is_task (get_or queue k d).number) none)))
-
-find_none : (n : ℕ) (queue : List Candidate) → find (λ c. eqb c.number n) queue ≡ None → All (λ c. c.number ≢ n) queue
-find_none n [] e = λ k d h. absurd (omega (arith, h))
-find_none n (a ∷ queue) e =
-    elim (cases_eq a.number n) [
-      | inl same ↦ absurd (let clash : Some a ≡ None = sym (ap (λ (b : Bool). cond b (Some a) (find (λ c. eqb c.number n) queue)) (eq-eqb a.number n same)) ∙ e in cc)
-      | inr other ↦
-          let rest = find_none n queue (sym (ap (λ (b : Bool). cond b (Some a) (find (λ c. eqb c.number n) queue)) (ne_eqb a.number n other)) ∙ e) in
-          both other rest
-    ]
-  where
-    both : a.number ≢ n → All (λ c. c.number ≢ n) queue → All (λ c. c.number ≢ n) (a ∷ queue)
-    both other rest zero d h = other
-    both other rest (suc k) d h = rest k d (omega (arith, h))
-
-find_some : (n : ℕ) (queue : List Candidate) (x : Candidate) → find (λ c. eqb c.number n) queue ≡ Some x → Contains queue x × (x.number ≡ n)
-find_some n [] x e = absurd cc
-find_some n (a ∷ queue) x e =
-    elim (cases_eq a.number n) [
-      | inl same ↦
-          let one : Some a ≡ Some x = sym (ap (λ (b : Bool). cond b (Some a) (find (λ c. eqb c.number n) queue)) (eq-eqb a.number n same)) ∙ e in
-          let is : a ≡ x = cc in
-          ((0, omega arith, is), ap (λ (c : Candidate). c.number) (sym is) ∙ same)
-      | inr other ↦
-          let rest = find_some n queue x (sym (ap (λ (b : Bool). cond b (Some a) (find (λ c. eqb c.number n) queue)) (ne_eqb a.number n other)) ∙ e) in
-          later rest.0 rest.1
-    ]
-  where
-    later : Contains queue x → x.number ≡ n → Contains (a ∷ queue) x × (x.number ≡ n)
-    later (k, h, f) m = ((suc k, omega (arith, h), f), m)
-
--- a task that is not ready
-pub unknown_on : (places : Places) (cpu n : ℕ) (queue : List Candidate) → get_or places cpu None ≡ Some n → find (λ c. eqb c.number n) queue ≡ None → queue ≡ map (homed_on places cpu) queue
-unknown_on places cpu n queue on none =
-    let others = find_none n queue none in
-    sym (map_id_on (homed_on places cpu) queue (λ k d h. off places cpu (get_or queue k d) (ap (is_task (get_or queue k d).number) on ∙ ne_eqb n (get_or queue k d).number (λ e. others k d h (sym e)))))
-
--- a ready one
-pub known_on : (places : Places) (cpu n : ℕ) (queue : List Candidate) (x : Candidate) → IsNumbered queue → get_or places cpu None ≡ Some n → find (λ c. eqb c.number n) queue ≡ Some x
-    → map (with_home (record { deadline = x.deadline; number = n; home = cpu })) queue ≡ map (homed_on places cpu) queue
-known_on places cpu n queue x numbered on is =
-    let f = find_some n queue x is in
-    let one : Candidate = record { deadline = x.deadline; number = n; home = cpu } in
-    map_same_on (with_home one) (homed_on places cpu) queue (λ k d h. same_at (get_or queue k d) (λ e. one_entry queue x k d numbered f.0 h (e ∙ sym f.1)) f.1)
-  where
-    same_at : (a : Candidate) → (a.number ≡ n → a ≡ x) → x.number ≡ n → with_home (record { deadline = x.deadline; number = n; home = cpu }) a ≡ homed_on places cpu a
-    same_at a is_x number =
-        elim (cases_eq a.number n) [
-          | inl same ↦
-              let both : is_same a (record { deadline = x.deadline; number = n; home = cpu }) ≡ true =
-              ap (λ (y : Candidate). is_same y (record { deadline = x.deadline; number = n; home = cpu })) (is_x same)
-              ∙ ap (λ (m : ℕ). is_same x (record { deadline = x.deadline; number = m; home = cpu })) (sym number) ∙ same_itself x in
-              let here : is_task a.number (get_or places cpu None) ≡ true = ap (is_task a.number) on ∙ eq-eqb n a.number (sym same) in
-              ap (λ (b : Bool). cond b (record a { home = cpu }) a) both ∙ sym (ap (λ (b : Bool). cond b (record a { home = cpu }) a) here)
-          | inr other ↦
-              let differs : is_same a (record { deadline = x.deadline; number = n; home = cpu }) ≡ false =
-              elim (cases_Bool (is_same a (record { deadline = x.deadline; number = n; home = cpu }))) [
-                | inl hit ↦ absurd (other (same_tells a (record { deadline = x.deadline; number = n; home = cpu }) hit).1)
-                | inr f ↦ f
-              ] in
-              ap (λ (b : Bool). cond b (record a { home = cpu }) a) differs ∙ sym (off places cpu a (ap (is_task a.number) on ∙ ne_eqb n a.number (λ e. other (sym e))))
-        ]
-
 -- ALL CPUS
-number_by : (places : Places) (moves : List Moved) (c : Candidate) → (homed_by places moves c).number ≡ c.number
-number_by places [] c = refl
-number_by places (m ∷ moves) c = number_by places moves (homed_on places m.cpu c) ∙ number_on places m.cpu c
-
-pub numbered_by : (places : Places) (moves : List Moved) (queue : List Candidate) → IsNumbered queue → IsNumbered (map (homed_by places moves) queue)
-numbered_by places moves queue numbered = numbered_map (homed_by places moves) (λ c. c.number) (number_by places moves) queue numbered
-
-pub by_more : (places : Places) (moves : List Moved) (queue : List Candidate) (i : ℕ) (d : Moved) → i < length moves
-    → map (homed_on places (get_or moves i d).cpu) (map (homed_by places (take i moves)) queue) ≡ map (homed_by places (take (i + 1) moves)) queue
-by_more places moves queue i d h =
-    map_both (homed_by places (take i moves)) (homed_on places (get_or moves i d).cpu) queue
-    ∙ map_same_on (λ c. homed_on places (get_or moves i d).cpu (homed_by places (take i moves) c)) (homed_by places (take (i + 1) moves)) queue
-    (λ k e l. sym (fold_more (λ (a : Candidate) (m : Moved). homed_on places m.cpu a) (get_or queue k e) moves i d h))
 
 -- who stands nowhere keeps its home
 nowhere : (places : Places) (n cpu : ℕ) → stands n places ≡ false → is_task n (get_or places cpu None) ≡ false
@@ -136,7 +39,7 @@ by_nowhere : (places : Places) (moves : List Moved) (c : Candidate) → stands c
 by_nowhere places [] c e = refl
 by_nowhere places (m ∷ moves) c e = ap (λ (a : Candidate). homed_by places moves a) (off places m.cpu c (nowhere places c.number m.cpu e)) ∙ by_nowhere places moves c e
 
-no_position : (places : Places) (n : ℕ) → stands n places ≡ false → position (is_task n) places ≡ None
+pub no_position : (places : Places) (n : ℕ) → stands n places ≡ false → position (is_task n) places ≡ None
 no_position places n e =
     let k : position_or_len (is_task n) places ≡ length places = position_or_len_is (is_task n) places (length places) None (omega arith) (λ k l. nowhere places n k e) (λ l. absurd (omega arith)) in
     ap (λ (j : ℕ). cond (ltb j (length places)) (Some j) None) k ∙ ap (λ (b : Bool). cond b (Some (length places)) None) (le-ltb (length places) (length places) (omega arith))

@@ -3,7 +3,7 @@ use Rattle.std.specs.Prelude.{ℕ, ◌≡◌, [], ◌∷◌, map, false, Some, N
 use Rattle.edf_pick.specs.declared.candidate.Candidate.{Candidate}
 use Rattle.edf_pick.specs.Changes.{homed, unchanged}
 use Rattle.edf_pick.specs.Moves.{moved_from}
-use Rattle.edf_pick.specs.Order.{without_candidate, with_home, ordered}
+use Rattle.edf_pick.specs.Order.{without_candidate, ordered}
 use Rattle.edf_pick.specs.Places.{placed}
 
 abbrev ready : ℕ → ℕ → ℕ → Candidate
@@ -58,8 +58,3 @@ each_home = refl
 cut_of_two : unchanged 2 (ready 5 7 1 ∷ ready 8 1 0 ∷ ready 8 2 0 ∷ [])
     ≡ record { cut = Some (ready 8 1 0); fresh = []; gone = []; many = false }
 cut_of_two = refl
-
--- one task of the queue has another home
-other_home : map (with_home (ready 8 1 3)) (ready 5 7 1 ∷ ready 8 1 0 ∷ [])
-    ≡ ready 5 7 1 ∷ ready 8 1 3 ∷ []
-other_home = refl

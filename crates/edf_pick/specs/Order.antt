@@ -31,10 +31,6 @@ with_candidate c (a ∷ queue) = if is_before a c then a ∷ with_candidate c qu
 abbrev pub without_candidate : Candidate → List Candidate → List Candidate
 without_candidate c queue = filter (λ a. not (is_same a c)) queue
 
--- the task of this deadline and number belongs to this CPU
-abbrev pub with_home : Candidate → Candidate → Candidate
-with_home c a = if is_same a c then record a { home = c.home } else a
-
 -- the same tasks, each in its place
 abbrev pub ordered : List Candidate → List Candidate
 ordered [] = []

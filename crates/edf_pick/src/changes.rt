@@ -1,11 +1,12 @@
 //! What has come into a queue and gone out of it since the last choice.
 
-ghost use Rattle.std.specs.Prelude.{◌≡◌, ◌≢◌, ◌<◌, true, length, map, slice_get, IfOk, List, All, AllPairs};
+ghost use Rattle.std.specs.Prelude.{◌≡◌, ◌≢◌, ◌<◌, true, length, map, take, slice_get, IfOk, List, All, AllPairs};
 ghost use Rattle.edf_pick.specs.declared.candidate.Candidate.{Candidate};
 ghost use Rattle.edf_pick.specs.Changes as spec;
 ghost use Rattle.edf_pick.specs.Moves.{moved_from};
 ghost use Rattle.edf_pick.specs.Order.{is_same, with_candidate, without_candidate};
 ghost use Rattle.edf_pick.specs.Places.{AreSingle, Places, placed};
+ghost use Rattle.edf_pick.specs.private.First.{AreMovers};
 
 use crate::candidate::Candidate;
 use crate::moves::Moves;
@@ -140,32 +141,35 @@ fn is_long(changes: &Changes, chosen: usize) -> bool
 /// As [`crate::pick`], by what has changed since the last choice: where that is listed and little, it
 /// looks at that alone, and else at all. It lists the CPUs that another one has then. Nothing has
 /// changed since in the queue in which each task that stands belongs to the CPU on which it stands.
+/// Answers the places in the queue of the chosen tasks that did not stand at home, as a word of marks.
 /// Takes no memory.
-pub fn pick_changed(
+pub(crate) fn pick_changed(
     placement: &mut Placement,
     queue: &Queue,
     changes: &mut Changes,
     moves: &mut Moves,
-)
+) -> u64
     requires numbered { AllPairs (λ a b. a.number ≢ b.number) queue.now }
     requires follows { spec.Follows queue.now placement.old changes.old }
     ensures places { placement.new ≡ placed (length placement.old) queue.now placement.old }
     ensures moves { moves.new ≡ moved_from 0 placement.old placement.new }
     ensures len { length placement.new ≡ length placement.old }
+    ensures movers { AreMovers (take (length placement.old) queue.now) placement.old result }
     ensures single { AreSingle placement.old }
     ensures still { AreSingle placement.new }
     ensures follows { spec.Follows (map (spec.homed placement.new) queue.now) placement.new changes.new }
 {
     let cpus = placement.occupants().len();
-    if is_long(changes, cpus.min(queue.len())) {
-        pick_by_walk(placement, queue, moves);
+    let movers = if is_long(changes, cpus.min(queue.len())) {
+        pick_by_walk(placement, queue, moves)
     } else {
         let (cut, fresh, gone) = (&changes.cut, &changes.fresh, &changes.gone);
-        pick_by_list(placement, queue, cut, fresh, gone, moves);
-    }
+        pick_by_list(placement, queue, cut, fresh, gone, moves)
+    };
     if cpus < FEW {
         changes.many = true;
-        return;
+        return movers;
     }
     renew(changes, queue.as_slice(), cpus);
+    movers
 }

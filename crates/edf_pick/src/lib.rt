@@ -24,7 +24,7 @@ mod schedule;
 mod seats;
 
 pub use candidate::Candidate;
-pub use changes::{Changes, Gone, pick_changed};
+pub use changes::{Changes, Gone};
 pub use moves::{Moved, Moves};
 pub use placement::{Placement, pick};
 pub use queue::Queue;

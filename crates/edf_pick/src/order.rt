@@ -1,6 +1,6 @@
 //! The order of the choice: an earlier deadline first, ties by number.
 
-ghost use Rattle.std.specs.Prelude.{◌≡◌, ◌<◌, ◌≤◌, ◌==◌, length, find, is_some, IfSome, IfNone};
+ghost use Rattle.std.specs.Prelude.{◌≡◌, ◌<◌, ◌≤◌, ◌==◌, length, is_some, IfSome, IfNone};
 ghost use Rattle.std.specs.List.{prefix_len, remove};
 ghost use Rattle.edf_pick.specs.Choice as choice;
 ghost use Rattle.edf_pick.specs.Order as order;
@@ -41,18 +41,6 @@ pub(crate) fn find(queue: &[Candidate], c: &Candidate) -> Option<usize>
     let place = place_of(queue, c);
     if place < queue.len() && is_same(&queue[place], c) {
         return Some(place);
-    }
-    None
-}
-
-/// The first task of a number.
-pub(crate) fn find_number(queue: &[Candidate], number: u32) -> Option<Candidate>
-    ensures { result ≡ find (λ c. c.number == number) queue.now }
-{
-    for i in 0..queue.len() {
-        if queue[i].number == number {
-            return Some(queue[i]);
-        }
     }
     None
 }

@@ -241,7 +241,20 @@ fn move_on(
     both(beyond(stood, kept), beyond(now, kept))
 }
 
-pub(crate) fn pick_from(places: &mut Vec<Option<u32>>, queue: &[Candidate], taken: &mut u64) -> u64
+/// What a choice did, as words of marks.
+#[derive(Clone, Copy)]
+pub(crate) struct Outcome {
+    /// The CPUs that may have another one.
+    pub(crate) changed: u64,
+    /// The places in the queue of the chosen tasks that did not stand at home.
+    pub(crate) movers: u64,
+}
+
+pub(crate) fn pick_from(
+    places: &mut Vec<Option<u32>>,
+    queue: &[Candidate],
+    taken: &mut u64,
+) -> Outcome
     requires rising { IsRising queue.now }
     requires few { vec_len places.old ≤ 64 }
     requires taken { AreTaken places.old.items taken.old }
@@ -251,13 +264,16 @@ pub(crate) fn pick_from(places: &mut Vec<Option<u32>>, queue: &[Candidate], take
     ensures room { vec_capacity places.new ≡ vec_capacity places.old }
     ensures taken { AreTaken places.new.items taken.new }
     ensures single { AreSingle places.new.items }
-    ensures changed { (cpu : ℕ) → bit_at result cpu ≡ 0
+    ensures movers { spec.AreMovers (take (vec_len places.old) queue.now) places.old.items result.movers }
+    ensures changed { (cpu : ℕ) → bit_at result.changed cpu ≡ 0
         → slice_index_or places.old.items cpu None ≡ slice_index_or places.new.items cpu None }
 {
     let chosen = first_of(queue, places.len());
     let parts = parts_of(places, chosen);
     let left = beyond(*taken, parts.homes);
-    move_on(places, chosen, left, parts.movers, false, taken)
+    let changed = move_on(places, chosen, left, parts.movers, false, taken);
+    let movers = parts.movers;
+    Outcome { changed, movers }
 }
 
 /// As `pick_from`, where it is known what has changed since the last choice: a look at that alone.
@@ -268,7 +284,7 @@ pub(crate) fn pick_listed(
     fresh: &[Candidate],
     gone: &[Gone],
     taken: &mut u64,
-) -> u64
+) -> Outcome
     requires rising { IsRising queue.now }
     requires numbered { AllPairs (λ a b. a.number ≢ b.number) queue.now }
     requires few { vec_len places.old ≤ 64 }
@@ -281,11 +297,14 @@ pub(crate) fn pick_listed(
     ensures room { vec_capacity places.new ≡ vec_capacity places.old }
     ensures taken { AreTaken places.new.items taken.new }
     ensures single { AreSingle places.new.items }
-    ensures changed { (cpu : ℕ) → bit_at result cpu ≡ 0
+    ensures movers { spec.AreMovers (take (vec_len places.old) queue.now) places.old.items result.movers }
+    ensures changed { (cpu : ℕ) → bit_at result.changed cpu ≡ 0
         → slice_index_or places.old.items cpu None ≡ slice_index_or places.new.items cpu None }
 {
     let words = words_of(places, queue, cut, fresh, gone);
     let left = beyond(words.left, words.homes);
     let chosen = first_of(queue, places.len());
-    move_on(places, chosen, left, words.movers, true, taken)
+    let changed = move_on(places, chosen, left, words.movers, true, taken);
+    let movers = words.movers;
+    Outcome { changed, movers }
 }

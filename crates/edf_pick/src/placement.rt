@@ -1,9 +1,10 @@
 //! Who stands on each CPU, and how that moves on by one tick.
 
-ghost use Rattle.std.specs.Prelude.{◌≡◌, ◌≢◌, ◌<◌, ◌≤◌, AllPairs, false, IfOk, None, length, replicate, vec_len, vec_capacity};
+ghost use Rattle.std.specs.Prelude.{◌≡◌, ◌≢◌, ◌<◌, ◌≤◌, AllPairs, false, IfOk, None, length, replicate, take, vec_len, vec_capacity};
 ghost use Rattle.edf_pick.specs.Changes.{IsListed};
 ghost use Rattle.edf_pick.specs.Moves.{moved_from};
 ghost use Rattle.edf_pick.specs.Places.{AreSingle, placed};
+ghost use Rattle.edf_pick.specs.private.First.{AreMovers};
 
 use crate::candidate::Candidate;
 use crate::changes::Gone;
@@ -88,19 +89,22 @@ pub fn pick(placement: &mut Placement, queue: &Queue)
         .copy_from_slice(placement.occupants.as_slice());
 }
 
-/// As `pick`, and lists the CPUs that another one has.
-pub(crate) fn pick_by_walk(placement: &mut Placement, queue: &Queue, moves: &mut Moves)
+/// As `pick`, and lists the CPUs that another one has. Answers the places in the queue of the chosen
+/// tasks that did not stand at home, as a word of marks.
+pub(crate) fn pick_by_walk(placement: &mut Placement, queue: &Queue, moves: &mut Moves) -> u64
     ensures places { placement.new ≡ placed (length placement.old) queue.now placement.old }
     ensures moves { moves.new ≡ moved_from 0 placement.old placement.new }
     ensures len { length placement.new ≡ length placement.old }
     ensures some { 0 < length placement.old }
+    ensures movers { AreMovers (take (length placement.old) queue.now) placement.old result }
     ensures single { AreSingle placement.old }
     ensures still { AreSingle placement.new }
 {
     let tasks = queue.as_slice();
-    let changed = pick_from(&mut placement.occupants, tasks, &mut placement.taken);
+    let outcome = pick_from(&mut placement.occupants, tasks, &mut placement.taken);
     let occupants = placement.occupants.as_slice();
-    moves.list(&mut placement.before, occupants, changed);
+    moves.list(&mut placement.before, occupants, outcome.changed);
+    outcome.movers
 }
 
 /// As `pick_by_walk`, where it is known what has changed since the last choice.
@@ -111,7 +115,7 @@ pub(crate) fn pick_by_list(
     fresh: &[Candidate],
     gone: &[Gone],
     moves: &mut Moves,
-)
+) -> u64
     requires numbered { AllPairs (λ a b. a.number ≢ b.number) queue.now }
     requires listed { IsListed queue.now placement.old
         (record { cut = cut.now; fresh = fresh.now; gone = gone.now; many = false }) }
@@ -119,12 +123,14 @@ pub(crate) fn pick_by_list(
     ensures moves { moves.new ≡ moved_from 0 placement.old placement.new }
     ensures len { length placement.new ≡ length placement.old }
     ensures some { 0 < length placement.old }
+    ensures movers { AreMovers (take (length placement.old) queue.now) placement.old result }
     ensures single { AreSingle placement.old }
     ensures still { AreSingle placement.new }
 {
     let tasks = queue.as_slice();
     let places = &mut placement.occupants;
-    let changed = pick_listed(places, tasks, cut, fresh, gone, &mut placement.taken);
+    let outcome = pick_listed(places, tasks, cut, fresh, gone, &mut placement.taken);
     let occupants = placement.occupants.as_slice();
-    moves.list(&mut placement.before, occupants, changed);
+    moves.list(&mut placement.before, occupants, outcome.changed);
+    outcome.movers
 }

@@ -1,6 +1,7 @@
 //! The ready tasks in the order of the choice.
 
-ghost use Rattle.std.specs.Prelude.{◌≡◌, ◌<◌, ◌≤◌, ◌==◌, true, false, [], length, map, is_some, Contains, IfOk, IfSome};
+ghost use Rattle.std.specs.Prelude.{◌≡◌, ◌<◌, ◌≤◌, ◌==◌, true, false, [], length, is_some, slice_index_or, slice_set, Contains, IfOk, IfSome};
+ghost use Rattle.edf_pick.specs.declared.candidate.Candidate.{Candidate};
 ghost use Rattle.edf_pick.specs.Order as order;
 
 use crate::candidate::Candidate;
@@ -109,15 +110,12 @@ impl Queue {
         Some(entry)
     }
 
-    /// The task of the deadline and the number of `c` belongs to the CPU of `c` from now on, if it is
-    /// there. Found by binary search; no other task is touched.
-    pub fn home(&mut self, c: &Candidate)
-        ensures homed { self.new ≡ map (order.with_home c.now) self.old }
-        ensures turned { order.has_candidate c.now self.old ≡ true
-            → self.new ≡ order.with_candidate c.now (order.without_candidate c.now self.old) }
+    /// The task at this place belongs to this CPU from now on. No other task is touched.
+    pub(crate) fn rehome(&mut self, place: usize, cpu: usize)
+        requires { place < length self.old }
+        ensures { (d : Candidate) → self.new
+            ≡ slice_set self.old place (record (slice_index_or self.old place d) { home = cpu }) }
     {
-        if let Some(place) = find(&self.tasks, c) {
-            self.tasks[place] = *c;
-        }
+        self.tasks[place].home = cpu;
     }
 }

@@ -1,18 +1,21 @@
 //! The ready tasks of a root domain and who stands on its CPUs, as one.
 
-ghost use Rattle.std.specs.Prelude.{◌≡◌, ◌≢◌, ◌<◌, ◌≤◌, [], None, true, length, map, replicate, All, AllPairs, IfOk};
+ghost use Rattle.std.specs.Prelude.{ℕ, ◌≡◌, ◌≢◌, ◌<◌, ◌≤◌, [], None, Some, length, map, position, replicate, slice_get, All, IfOk};
+ghost use Rattle.std.specs.Int.{bit_at};
+ghost use Rattle.edf_pick.specs.declared.candidate.Candidate.{Candidate};
 ghost use Rattle.edf_pick.specs.Changes.{homed};
 ghost use Rattle.edf_pick.specs.Moves.{moved_from};
 ghost use Rattle.edf_pick.specs.Order as order;
-ghost use Rattle.edf_pick.specs.Places.{placed};
+ghost use Rattle.edf_pick.specs.Places.{AreSingle, is_task, placed};
 ghost use Rattle.edf_pick.specs.Schedule as spec;
 
 use crate::candidate::Candidate;
 use crate::changes::{Changes, pick_changed};
+use crate::marks::{first, without};
 use crate::moves::{Moved, Moves};
-use crate::order::find_number;
 use crate::placement::Placement;
 use crate::queue::Queue;
+use crate::seats::is_at_home;
 use std::alloc::{AllocError, Global};
 use std::marker::Model;
 
@@ -110,43 +113,52 @@ impl Schedule {
         ensures queue { self.new.queue ≡ map (homed self.new.places) self.old.queue }
         ensures moves { self.new.moves ≡ moved_from 0 self.old.places self.new.places }
     {
-        pick_changed(
+        // For the prover alone: a look at the queue brings what its type keeps.
+        let _ = self.queue.as_slice();
+        let movers = pick_changed(
             &mut self.placement,
             &self.queue,
             &mut self.changes,
             &mut self.moves,
         );
-        let places = self.placement.occupants();
-        home_all(&mut self.queue, places, self.moves.as_slice());
+        home_movers(&mut self.queue, self.placement.occupants(), movers);
     }
 }
 
-// Who stands on this CPU belongs to it.
-fn home_one(queue: &mut Queue, places: &[Option<u32>], cpu: usize)
-    requires { AllPairs (λ a b. a.number ≢ b.number) queue.old }
-    ensures { queue.new ≡ map (spec.homed_on places.now cpu) queue.old }
+// The CPU on which a task stands, if it stands on one.
+fn cpu_among(places: &[Option<u32>], number: u32) -> Option<usize>
+    ensures { result ≡ position (is_task number) places.now }
 {
-    if cpu >= places.len() {
-        return;
-    }
-    let Some(number) = places[cpu] else {
-        return;
-    };
-    let Some(entry) = find_number(queue.as_slice(), number) else {
-        return;
-    };
-    queue.home(&Candidate {
-        deadline: entry.deadline,
-        number,
-        home: cpu,
-    });
+    places.iter().position(|occupant| *occupant == Some(number))
 }
 
-fn home_all(queue: &mut Queue, places: &[Option<u32>], moves: &[Moved])
-    requires { AllPairs (λ a b. a.number ≢ b.number) queue.old }
-    ensures { queue.new ≡ map (spec.homed_by places.now moves.now) queue.old }
+// Where a task belongs: to the CPU on which it stands, if it stands on one.
+fn home_of(places: &[Option<u32>], c: &Candidate) -> usize
+    requires { AreSingle places.now }
+    ensures { result ≡ (homed places.now c.now).home }
 {
-    for i in 0..moves.len() {
-        home_one(queue, places, moves[i].cpu);
+    if is_at_home(places, c) {
+        return c.home;
+    }
+    match cpu_among(places, c.number) {
+        Some(cpu) => cpu,
+        None => c.home,
+    }
+}
+
+// The tasks at the marked places of the queue belong to the CPUs on which they stand.
+fn home_movers(queue: &mut Queue, places: &[Option<u32>], movers: u64)
+    requires single { AreSingle places.now }
+    requires within { (i : ℕ) → bit_at movers i ≡ 1 → i < length queue.old }
+    requires others { (i : ℕ) (c : Candidate) → bit_at movers i ≡ 0
+        → slice_get queue.old i ≡ Some c → homed places.now c ≡ c }
+    ensures { queue.new ≡ map (homed places.now) queue.old }
+{
+    let mut left = movers;
+    'tasks: while left != 0 {
+        let i = first(left);
+        left = without(left, i);
+        let home = home_of(places, &queue.as_slice()[i]);
+        queue.rehome(i, home);
     }
 }

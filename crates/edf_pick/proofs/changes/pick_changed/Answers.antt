@@ -12,10 +12,10 @@ returns-clause-follows c =
     let after = c.if-is_long.placement in
     let facts : (after ≡ placed (length before) queue before) × (length after ≡ length before) × (0 < length before) × AreSingle before = elim c.if-is_long.branch [
       | then-is_long w ↦
-          let e = w.pick_by_walk.ensures in
+          let e = w.pick_by_walk-movers.ensures in
           (w.placement-is ∙ e.places, ap (λ (ps : Places). length ps) w.placement-is ∙ e.len, e.some, e.single)
       | else-is_long w ↦
-          let e = w.pick_by_list.ensures in
+          let e = w.pick_by_list-movers.ensures in
           (w.placement-is ∙ e.places, ap (λ (ps : Places). length ps) w.placement-is ∙ e.len, e.some, e.single)
     ] in
     let cpus : length c.occupants-cpus.result.now ≡ length after = ap (λ (ps : Places). length ps) c.occupants-cpus.ensures.occupants ∙ sym facts.1 in

@@ -7,8 +7,8 @@ use Rattle.edf_pick.specs.private.First.{staying, moves, marked, seated_all, Are
 use Rattle.edf_pick.proofs.Marked.{moved, walked_leaving}
 use Rattle.edf_pick.proofs.picking.pick_from.Goals as goal
 
-pub move_on-requires-clause-leaving : goal.move_on-requires-clause-leaving
-move_on-requires-clause-leaving c =
+pub move_on-changed-requires-clause-leaving : goal.move_on-changed-requires-clause-leaving
+move_on-changed-requires-clause-leaving c =
     let before = c.args.places.now.items in
     let chosen = c.first_of-chosen.result.now in
     let parts = c.parts_of-parts in
@@ -30,5 +30,15 @@ returns-clause-places c =
     let movers : (i : ℕ) → mark i ≡ moves before (slice_get (take cpus queue) i) = λ i.
     c.parts_of-parts.ensures.movers i ∙ ap (λ (ps : Places). moves ps (slice_get chosen i)) c.deref.ensures.value
     ∙ ap (λ (xs : List Candidate). moves before (slice_get xs i)) first in
-    c.move_on.ensures.places ∙ ap (λ (xs : List Candidate). seated_all (marked mark xs) (map (staying xs) before)) first
+    c.move_on-changed.ensures.places ∙ ap (λ (xs : List Candidate). seated_all (marked mark xs) (map (staying xs) before)) first
     ∙ moved cpus queue before mark c.requires.rising movers
+
+pub returns-clause-movers : goal.returns-clause-movers
+returns-clause-movers c i =
+    let queue = c.args.queue.now in
+    let before = c.args.places.now.items in
+    let cpus = vec_len c.args.places.now in
+    let chosen = c.first_of-chosen.result.now in
+    let first : chosen ≡ take cpus queue = c.first_of-chosen.ensures ∙ ap (λ (k : ℕ). take k queue) c.len.ensures in
+    c.parts_of-parts.ensures.movers i ∙ ap (λ (ps : Places). moves ps (slice_get chosen i)) c.deref.ensures.value
+    ∙ ap (λ (xs : List Candidate). moves before (slice_get xs i)) first
