@@ -13,23 +13,25 @@ use Rattle.grub_rules.specs.Sums.{total_bw, uinact}
 use Rattle.grub_rules.specs.Accounts.{AccountsView, AreAccounts, Exchanges, inactive_at}
 use Rattle.grub_rules.proofs.CallerLemmas.{at, set_at, held_at, turned_at, joined_last}
 use Rattle.edf_pick.specs.declared.candidate.Candidate.{Candidate}
-use Rattle.edf_pick.specs.Order.{ordered, has_candidate}
-use Rattle.edf_pick.proofs.CallerLemmas.{IsNumbered, numbered_map, length_ordered, ordered_absent, ordered_insert, ordered_remove, placed_ordered}
+use Rattle.edf_pick.specs.Order.{ordered}
+use Rattle.edf_pick.specs.Schedule.{ScheduleView, IsAtHome}
+use Rattle.edf_pick.proofs.CallerLemmas.{IsNumbered, numbered_map, length_ordered, ordered_insert, ordered_remove, placed_ordered}
 use Rattle.domain_run.specs.declared.task.Task.{Task}
 use Rattle.domain_run.specs.declared.run_queue.RunQueue.{RunQueue}
 use Rattle.domain_run.specs.Conditions.{is_ready, is_contending, is_leaving}
 use Rattle.domain_run.specs.Tick.{share_of, shares, candidate_of, candidates}
 use Rattle.domain_run.specs.private.Timers.{due_of}
-use Rattle.domain_run.specs.private.RunQueue.{ready_of, standing_of, Counts, IsRoster, IsCounted, with_ready, without_ready, MayTurn, HasTurned}
+use Rattle.domain_run.specs.private.RunQueue.{ready_of, standing_of, Counts, IsRoster, IsCounted, with_ready, without_ready, MayTurn, HasTurned, AreHomed}
 use Rattle.edf_pick.specs.Places.{Places, placed}
 use Rattle.domain_run.specs.declared.task.Condition.{Condition}
 use Rattle.domain_run.specs.declared.task.Condition.TheVariants.{Ready, Throttled, Blocked, Waiting, Leaving}
-use Rattle.domain_run.specs.Parts.{is_listed}
+use Rattle.domain_run.specs.Parts.{is_listed, with_last_cpu}
 use Rattle.domain_run.specs.Calls.{ended}
 use Rattle.domain_run.proofs.Placing.{not_true}
 use Rattle.domain_run.specs.Sound.{IsApart}
 use Rattle.domain_run.proofs.Seating.{IsSeating, placed_is}
 use Rattle.domain_run.proofs.Keeping.{Same, same_either, length-filter_least}
+use Rattle.domain_run.proofs.Homes.{still_homed, is_at_home, ordered_others}
 use Rattle.attr_check.specs.ParamsView.{ParamsView}
 
 -- a ready task, or none
@@ -89,9 +91,12 @@ with_one : (o : Option Candidate) (xs ys : List Candidate) → IsNumbered (xs ++
 with_one None xs ys numbered = refl
 with_one (Some c) xs ys numbered = sym (ordered_insert c xs ys numbered)
 
-absent_one : (o : Option Candidate) (xs ys : List Candidate) → IsNumbered (xs ++ (one o ++ ys)) → IfSome o (λ c. has_candidate c (ordered (xs ++ ys)) ≡ false)
-absent_one None xs ys numbered = tt
-absent_one (Some c) xs ys numbered = ordered_absent c xs ys numbered
+others_one : (o : Option Candidate) (xs ys : List Candidate) → IsNumbered (xs ++ (one o ++ ys)) → IfSome o (λ c. All (λ a. a.number ≢ c.number) (ordered (xs ++ ys)))
+others_one None xs ys numbered = tt
+others_one (Some c) xs ys numbered = ordered_others c xs ys numbered
+
+homed_one : (places : Places) (t : Task) → with_last_cpu places t ≡ t → IfSome (ready_of t) (λ c. IsAtHome places c)
+homed_one places t homed = elim (is_ready t.condition) as (λ b. IfSome (cond b (Some (candidate_of t)) None) (λ c. IsAtHome places c)) [ true ↦ is_at_home places t homed | false ↦ tt ]
 
 -- a task at a place, what is before it and behind it
 pub record IsSplit (tasks : List Task) (t y : Task) (front back : List Task) : Type 0 where
@@ -119,11 +124,12 @@ total_short tasks is =
     let e : length (shares tasks) ≡ length tasks = simp length-map in
     omega (arith, sum_by-le (λ (s : Share). s.bw) (2 ^ 26) (shares tasks) (All-map (λ (s : Share). s.bw ≤ 2 ^ 26) share_of tasks is.short), is.few)
 
--- what a task may turn to: its number stays, its bandwidth is in range, and its CPU is there
+-- what a task may turn to: its number and its CPU stay, its bandwidth is in range, and its CPU is there
 pub record IsFit (cpus : ℕ) (t y : Task) : Type 0 where
   pub number : y.number ≡ t.number
   pub short : y.params.bw ≤ 2 ^ 26
   pub home : y.cpu < cpus
+  pub cpu : y.cpu ≡ t.cpu
 
 pub home_at : (cpus : ℕ) (queue : RunQueue) (tasks : List Task) (i : ℕ) (d : Task) → i < length tasks → IsCounted cpus queue tasks → (get_or tasks i d).cpu < cpus
 home_at cpus queue tasks i d h is = subst (λ n. (get_or tasks i d).cpu < n) is.wide (held_at share_of queue.accounts tasks i d h is.counts.sums).home
@@ -134,6 +140,7 @@ same_fit cpus t y same short home = record {
   number = same.number;
   short = subst (λ (p : ParamsView). p.bw ≤ 2 ^ 26) (sym same.params) short;
   home = subst (λ n. n < cpus) (sym same.cpu) home;
+  cpu = same.cpu;
 }
 
 -- the same, after a call
@@ -147,7 +154,7 @@ may_turn cpus queue tasks i d y h fit is =
     let front = take i tasks in
     let back = drop (i + 1) tasks in
     let order = is.counts.order ∙ ap ordered s.was in
-    let rest : without_ready (ready_of (get_or tasks i d)) queue.ready ≡ ordered (candidates front ++ candidates back) = ap (without_ready (ready_of (get_or tasks i d))) order ∙ without_one (ready_of (get_or tasks i d)) (candidates front) (candidates back) s.numbered in
+    let rest : without_ready (ready_of (get_or tasks i d)) queue.schedule.queue ≡ ordered (candidates front ++ candidates back) = ap (without_ready (ready_of (get_or tasks i d))) order ∙ without_one (ready_of (get_or tasks i d)) (candidates front) (candidates back) s.numbered in
     let timers : length (map due_of tasks) ≡ length tasks = simp length-map in
     record {
       within = omega (arith, h, timers, ap (λ (ds : List ℕ). length ds) is.counts.due);
@@ -155,7 +162,8 @@ may_turn cpus queue tasks i d y h fit is =
       home = subst (λ n. y.cpu < n) (sym is.wide) fit.home;
       fits = omega (arith, is.counts.sums.total, total_short tasks is.roster);
       room = rw rest (omega (arith, length_ordered (candidates front ++ candidates back), length-append (candidates front) (candidates back), candidates_few front, candidates_few back, s.one_less, is.roster.few));
-      absent = rw rest (absent_one (ready_of y) (candidates front) (candidates back) s.turned);
+      numbered = rw rest (others_one (ready_of y) (candidates front) (candidates back) s.turned);
+      homed = homed_one queue.schedule.places y (still_homed queue.schedule.places (get_or tasks i d) y fit.number fit.cpu (is.homed i d h));
     }
 
 pub turned : (cpus : ℕ) (queue new : RunQueue) (tasks : List Task) (i : ℕ) (d y : Task) → i < length tasks → IsFit cpus (get_or tasks i d) y → HasTurned i (standing_of (get_or tasks i d)) (standing_of y) queue new → IsCounted cpus queue tasks → IsCounted cpus new (set tasks i y)
@@ -182,6 +190,8 @@ turned cpus queue new tasks i d y h fit has is =
         ];
       };
       roster = roster_set tasks i d y fit.number fit.short is.roster;
+      homed = subst (λ (ps : Places). AreHomed ps (set tasks i y)) (sym has.places)
+          (All-set (λ (u : Task). with_last_cpu queue.schedule.places u ≡ u) tasks i y (still_homed queue.schedule.places (get_or tasks i d) y fit.number fit.cpu (is.homed i d h)) is.homed);
     }
 
 -- ---- lists
@@ -214,15 +224,16 @@ candidates_listed (t ∷ tasks) =
     ] refl
 
 -- tasks that have left go off the list, and their bandwidth goes back
-pub counted_listed : (cpus : ℕ) (queue new : RunQueue) (tasks : List Task) → length new.accounts.all ≡ length queue.accounts.all → new.ready ≡ queue.ready → new.timers ≡ map due_of (filter is_listed tasks) → AreAccounts new.accounts (shares (filter is_listed tasks)) → IsCounted cpus queue tasks → IsCounted cpus new (filter is_listed tasks)
+pub counted_listed : (cpus : ℕ) (queue new : RunQueue) (tasks : List Task) → length new.accounts.all ≡ length queue.accounts.all → new.schedule ≡ queue.schedule → new.timers ≡ map due_of (filter is_listed tasks) → AreAccounts new.accounts (shares (filter is_listed tasks)) → IsCounted cpus queue tasks → IsCounted cpus new (filter is_listed tasks)
 counted_listed cpus queue new tasks wide ready due sums is = record {
   wide = wide ∙ is.wide;
-  counts = record { sums = sums; order = ready ∙ is.counts.order ∙ sym (ap ordered (candidates_listed tasks)); due = due };
+  counts = record { sums = sums; order = ap (λ (v : ScheduleView). v.queue) ready ∙ is.counts.order ∙ sym (ap ordered (candidates_listed tasks)); due = due };
   roster = record {
     few = omega (arith, length-filter_least is_listed tasks, is.roster.few);
     short = All-filter is_listed (λ (t : Task). t.params.bw ≤ 2 ^ 26) tasks is.roster.short;
     numbered = AllPairs-filter (λ a b. a.number ≢ b.number) is_listed tasks is.roster.numbered;
   };
+  homed = subst (λ (v : ScheduleView). AreHomed v.places (filter is_listed tasks)) (sym ready) (All-filter is_listed (λ (t : Task). with_last_cpu queue.schedule.places t ≡ t) tasks is.homed);
 }
 
 -- the placement over the queue is that of the list
@@ -238,11 +249,11 @@ pub inactive_is : (a : AccountsView) (xs : List Share) (cpu : ℕ) → AreAccoun
 inactive_is a xs cpu is = omega (arith, is.all cpu, is.active cpu)
 
 -- a task at the end of the list that is not ready
-pub counts_push : (queue new : RunQueue) (tasks : List Task) (t : Task) → is_ready t.condition ≡ false → new.ready ≡ queue.ready → new.timers ≡ queue.timers ++ due_of t ∷ [] → t.cpu < length queue.accounts.all → Exchanges queue.accounts new.accounts [] (share_of t ∷ []) → Counts queue tasks → Counts new (tasks ++ t ∷ [])
+pub counts_push : (queue new : RunQueue) (tasks : List Task) (t : Task) → is_ready t.condition ≡ false → new.schedule ≡ queue.schedule → new.timers ≡ queue.timers ++ due_of t ∷ [] → t.cpu < length queue.accounts.all → Exchanges queue.accounts new.accounts [] (share_of t ∷ []) → Counts queue tasks → Counts new (tasks ++ t ∷ [])
 counts_push queue new tasks t idle same due home joins is =
     let none : candidates (t ∷ []) ≡ [] = candidates_first t [] ∙ rw idle refl in
     record {
       sums = joined_last share_of queue.accounts new.accounts tasks t home joins is.sums;
-      order = same ∙ is.order ∙ sym (ap ordered (candidates_append tasks (t ∷ []) ∙ ap (λ cs. candidates tasks ++ cs) none ∙ append-nil (candidates tasks)));
+      order = ap (λ (v : ScheduleView). v.queue) same ∙ is.order ∙ sym (ap ordered (candidates_append tasks (t ∷ []) ∙ ap (λ cs. candidates tasks ++ cs) none ∙ append-nil (candidates tasks)));
       due = due ∙ ap (λ (ds : List ℕ). ds ++ due_of t ∷ []) is.due ∙ sym (map-append due_of tasks (t ∷ []));
     }

@@ -1,20 +1,22 @@
 -- A task that goes off the list: what its list keeps, and what its domain keeps.
-use Rattle.std.proofs.Common.{◌≡◌, ℕ, ◌^◌, ◌<◌, ◌≤◌, true, false, cond, eqb, List, [], ◌∷◌, ◌++◌, length, map, zero, suc, refl, sym, ap, ◌∙◌, arith, eq-eqb}
+use Rattle.std.proofs.Common.{◌≡◌, ℕ, ◌^◌, ◌<◌, ◌≤◌, true, false, cond, eqb, List, [], ◌∷◌, ◌++◌, length, map, zero, suc, refl, sym, ap, ◌∙◌, subst, arith, eq-eqb}
 use Rattle.std.specs.Prelude.{All, ◌≢◌, filter, not}
 use Rattle.std.proofs.lemmas.Bool.{eqb-true}
 use Rattle.std.proofs.lemmas.List.Elements.{All-filter}
 use Rattle.std.proofs.lemmas.List.Kept.{AllPairs-filter}
 use Rattle.grub_rules.specs.Accounts.{AreAccounts}
 use Rattle.edf_pick.specs.Order.{ordered}
+use Rattle.edf_pick.specs.Schedule.{ScheduleView}
 use Rattle.domain_run.specs.declared.task.Task.{Task}
 use Rattle.domain_run.specs.declared.run_queue.RunQueue.{RunQueue}
 use Rattle.domain_run.specs.Conditions.{is_ready}
 use Rattle.domain_run.specs.Domain.{Domain}
 use Rattle.domain_run.specs.Tick.{shares, candidates}
+use Rattle.domain_run.specs.Parts.{with_last_cpu}
 use Rattle.domain_run.specs.Calls.{of_number, is_other, departed}
 use Rattle.domain_run.specs.Sound.{IsSound, IsAdmitted, IsDomain}
 use Rattle.domain_run.specs.private.Roster.{quit}
-use Rattle.domain_run.specs.private.RunQueue.{IsCounted, ready_of}
+use Rattle.domain_run.specs.private.RunQueue.{IsCounted, AreHomed, ready_of}
 use Rattle.domain_run.specs.private.Timers.{due_of}
 use Rattle.domain_run.proofs.Counting.{one, candidates_first}
 use Rattle.domain_run.proofs.Keeping.{length-filter_least, sum-filter}
@@ -38,15 +40,16 @@ candidates_others number (t ∷ tasks) idle =
       | false ↦ λ e. candidates_first t rest ∙ ap (λ cs. one (ready_of t) ++ cs) more ∙ sym (candidates_first t tasks)
     ] refl
 
-pub counted_others : (cpus : ℕ) (queue new : RunQueue) (number : ℕ) (tasks : List Task) → length new.accounts.all ≡ length queue.accounts.all → new.ready ≡ queue.ready → new.timers ≡ map due_of (filter (is_other number) tasks) → AreAccounts new.accounts (shares (filter (is_other number) tasks)) → IsIdle number tasks → IsCounted cpus queue tasks → IsCounted cpus new (filter (is_other number) tasks)
+pub counted_others : (cpus : ℕ) (queue new : RunQueue) (number : ℕ) (tasks : List Task) → length new.accounts.all ≡ length queue.accounts.all → new.schedule ≡ queue.schedule → new.timers ≡ map due_of (filter (is_other number) tasks) → AreAccounts new.accounts (shares (filter (is_other number) tasks)) → IsIdle number tasks → IsCounted cpus queue tasks → IsCounted cpus new (filter (is_other number) tasks)
 counted_others cpus queue new number tasks wide ready due sums idle is = record {
   wide = wide ∙ is.wide;
-  counts = record { sums = sums; order = ready ∙ is.counts.order ∙ sym (ap ordered (candidates_others number tasks idle)); due = due };
+  counts = record { sums = sums; order = ap (λ (v : ScheduleView). v.queue) ready ∙ is.counts.order ∙ sym (ap ordered (candidates_others number tasks idle)); due = due };
   roster = record {
     few = omega (arith, length-filter_least (is_other number) tasks, is.roster.few);
     short = All-filter (is_other number) (λ (t : Task). t.params.bw ≤ 2 ^ 26) tasks is.roster.short;
     numbered = AllPairs-filter (λ a b. a.number ≢ b.number) (is_other number) tasks is.roster.numbered;
   };
+  homed = subst (λ (v : ScheduleView). AreHomed v.places (filter (is_other number) tasks)) (sym ready) (All-filter (is_other number) (λ (t : Task). with_last_cpu queue.schedule.places t ≡ t) tasks is.homed);
 }
 
 -- what was done to the task before does not show in the others

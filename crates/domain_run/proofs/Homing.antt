@@ -1,5 +1,5 @@
 -- The numbers of those who stand, and the CPUs to which they belong, one CPU after another.
-use Rattle.std.proofs.Common.{◌≡◌, ◌≢◌, ℕ, zero, suc, ◌+◌, ◌<◌, ◌≤◌, Bool, true, false, cond, eqb, Option, Some, None, List, [], ◌∷◌, ◌++◌, length, take, get_or, map, refl, sym, ap, subst, ◌∙◌, arith, inl, inr, eq-eqb}
+use Rattle.std.proofs.Common.{◌≡◌, ◌≢◌, ℕ, zero, suc, ◌+◌, ◌<◌, Bool, true, false, cond, eqb, Option, Some, None, List, [], ◌∷◌, ◌++◌, length, take, get_or, map, refl, sym, ap, subst, ◌∙◌, arith, inl, inr, eq-eqb}
 use Rattle.std.specs.Prelude.{ℤ, pos, All, AllPairs, position, slice_index_or, option_map, IfSome, replicate}
 use Rattle.std.proofs.lemmas.Bool.{cases_eq, ne_eqb, lt-ltb}
 use Rattle.std.proofs.lemmas.List.{take_more, get_or-take, length-take-le, append-nil, get_or_default}
@@ -8,12 +8,12 @@ use Rattle.std.proofs.lemmas.List.Sums.{position_or_len_is}
 use Rattle.std.proofs.lemmas.Option.{slice_get-get_or}
 use Rattle.edf_pick.specs.Places.{Places, is_task}
 use Rattle.domain_run.specs.declared.task.Task.{Task}
-use Rattle.domain_run.specs.Parts.{with_cpu, with_last_cpu}
+use Rattle.domain_run.specs.Parts.{with_last_cpu}
 use Rattle.domain_run.specs.Calls.{of_number}
 use Rattle.domain_run.specs.Jump.{running_numbers}
 use Rattle.domain_run.specs.Sound.{occupant, IsApart}
 use Rattle.domain_run.specs.private.Paying.{ran_until, index_of, paid_at, paid, MayPay, MayPayIf}
-use Rattle.domain_run.proofs.Placing.{position_at, there, homed_number}
+use Rattle.domain_run.proofs.Placing.{homed_number}
 use Rattle.domain_run.proofs.Staying.{first_at, first_is}
 use Rattle.domain_run.proofs.Runners.{standing_occupies}
 
@@ -52,47 +52,9 @@ map_same f g tasks same = λ i. map (λ t. same t i) tasks
 
 -- ---- HOMES
 
-pub apart_take : (places : Places) (k : ℕ) → k ≤ length places → IsApart places → IsApart (take k places)
-apart_take places k h apart = record {
-  once = λ i j n a b. apart.once i j n (whole i n a) (whole j n b);
-}
-  where
-    whole : (i n : ℕ) → occupant (take k places) i ≡ Some n → occupant places i ≡ Some n
-    whole i n e =
-        let len : length (take k places) ≡ k = length-take-le k places h in
-        let inside : i < k = omega (arith, there (take k places) i n e, len) in
-        sym (get_or-take k places i None inside) ∙ e
-
 -- a map of homes keeps the numbers
 pub homed_keeps : (places : Places) (t : Task) → (with_last_cpu places t).number ≡ t.number
 homed_keeps places t = homed_number (position (is_task t.number) places) t
-
-again : (o : Option ℕ) (cpu : ℕ) (t : Task) → with_cpu (Some cpu) (with_cpu o t) ≡ with_cpu (Some cpu) t
-again None cpu t = refl
-again (Some k) cpu t = refl
-
--- the next CPU is idle
-pub homed_idle : (places : Places) (cpu : ℕ) (t : Task) → cpu < length places → occupant places cpu ≡ None → with_last_cpu (take (cpu + 1) places) t ≡ with_last_cpu (take cpu places) t
-homed_idle places cpu t h idle =
-    ap (λ (ps : Places). with_last_cpu ps t) (take_more places cpu None h)
-    ∙ ap (λ o. with_cpu o t) (position_push_no (is_task t.number) (take cpu places) (occupant places cpu) (ap (is_task t.number) idle))
-
--- on the next CPU stands a task
-pub homed_next : (places : Places) (cpu n : ℕ) (t : Task) → cpu < length places → IsApart places → occupant places cpu ≡ Some n → of_number n (with_cpu (Some cpu)) (with_last_cpu (take cpu places) t) ≡ with_last_cpu (take (cpu + 1) places) t
-homed_next places cpu n t h apart at =
-    elim (cases_eq t.number n) [
-      | inl same ↦
-          let len : length (take (cpu + 1) places) ≡ cpu + 1 = length-take-le (cpu + 1) places (omega (arith, h)) in
-          let here : occupant (take (cpu + 1) places) cpu ≡ Some t.number = get_or-take (cpu + 1) places cpu None (omega arith) ∙ at ∙ ap (λ m. Some m) (sym same) in
-          let found = position_at (take (cpu + 1) places) cpu t.number (apart_take places (cpu + 1) (omega (arith, h)) apart) here in
-          ap (λ b. cond b (with_cpu (Some cpu) (with_last_cpu (take cpu places) t)) (with_last_cpu (take cpu places) t)) (eq-eqb (with_last_cpu (take cpu places) t).number n (homed_keeps (take cpu places) t ∙ same))
-          ∙ again (position (is_task t.number) (take cpu places)) cpu t
-          ∙ sym (ap (λ o. with_cpu o t) found)
-      | inr other ↦
-          let another : is_task t.number (occupant places cpu) ≡ false = ap (is_task t.number) at ∙ ne_eqb n t.number (λ e. other (sym e)) in
-          ap (λ b. cond b (with_cpu (Some cpu) (with_last_cpu (take cpu places) t)) (with_last_cpu (take cpu places) t)) (ne_eqb (with_last_cpu (take cpu places) t).number n (λ e. other (sym (homed_keeps (take cpu places) t) ∙ e)))
-          ∙ sym (ap (λ (ps : Places). with_last_cpu ps t) (take_more places cpu None h) ∙ ap (λ o. with_cpu o t) (position_push_no (is_task t.number) (take cpu places) (occupant places cpu) another))
-    ]
 
 -- ---- WHO STANDS
 

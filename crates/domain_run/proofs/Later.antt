@@ -6,6 +6,7 @@ use Rattle.std.proofs.lemmas.Bool.{cases_eq, cases_lt}
 use Rattle.std.proofs.lemmas.List.{get_or_default, get_or_past, get_or-map, get_or-set_other, length-map, length-set}
 use Rattle.std.proofs.Math.Nat.{mul-le-mul_left}
 use Rattle.domain_run.specs.declared.task.Task.{Task}
+use Rattle.domain_run.specs.declared.run_queue.RunQueue.{RunQueue}
 use Rattle.domain_run.specs.declared.seats.Seat.{Seat}
 use Rattle.domain_run.specs.private.Paying.{ran_until}
 use Rattle.domain_run.specs.private.Seats.{SeatsView, end_of, seat_by, left_if, left, IsAhead}
@@ -329,7 +330,7 @@ pub record Facts (old : RosterView) (time k cpu p : ℕ) (seat : Seat) (x : Task
   pub fin : IsFinishing time k seat x
 
 -- the task there, as it is stored then, is as it was seen before
-pub facts_of : (old mid : RosterView) (time k cpu p : ℕ) (seat : Seat) (x : Task) (n1 n2 : ℕ) (s1 s2 : SeatsView) (items1 items2 : List Task)
+pub facts_of : (old mid : RosterView) (time k cpu p : ℕ) (seat : Seat) (x : Task) (n1 n2 : RunQueue) (s1 s2 : SeatsView) (items1 items2 : List Task)
     → mid ≡ record old { seats = set old.seats cpu None }
     → roster_view n1 s1 items1 ≡ old → AllWait s1.seats items1
     → roster_view n2 s2 items2 ≡ mid

@@ -26,6 +26,8 @@ pub mod Making
 pub mod Finding
 pub mod Homing
 pub mod AtHome
+pub mod Homes
+pub mod Choosing
 pub mod Moving
 pub mod Charged
 pub mod Due

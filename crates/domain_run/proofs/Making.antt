@@ -2,7 +2,7 @@
 use Rattle.std.proofs.Common.{◌≡◌, ℕ, ◌^◌, ◌<◌, ◌≤◌, List, length, get_or, set, refl, sym, ap, subst, ◌∙◌}
 use Rattle.domain_run.specs.declared.task.Task.{Task}
 use Rattle.domain_run.specs.declared.change.Change.{Change}
-use Rattle.domain_run.specs.declared.change.Change.TheVariants.{Replenish, Settle, Unblock, Home, Run, Regrade, Release, End, Depart}
+use Rattle.domain_run.specs.declared.change.Change.TheVariants.{Replenish, Settle, Unblock, Run, Regrade, Release, End, Depart}
 use Rattle.domain_run.specs.declared.run_queue.RunQueue.{RunQueue}
 use Rattle.domain_run.specs.Parts.{replenish_due, settled, unblocked}
 use Rattle.domain_run.specs.private.RunQueue.{standing_of, IsCounted, MayTurn, HasTurned}
@@ -18,12 +18,11 @@ made_fit : (cpus time : ℕ) (change : Change) (t : Task) → Fits cpus change �
 made_fit cpus time Replenish t fits short home = same_fit cpus t (replenish_due time t) (same_replenished time t) short home
 made_fit cpus time Settle t fits short home = same_fit cpus t (settled time t) (same_settled time t) short home
 made_fit cpus time Unblock t fits short home = same_fit cpus t (unblocked time t) (same_unblocked time t) short home
-made_fit cpus time (Home cpu) t fits short home = record { number = refl; short = short; home = fits }
 made_fit cpus time (Run ticks left) t fits short home = same_fit cpus t (after_change time (Run ticks left) t) (same_ran_until time ticks left t) short home
-made_fit cpus time (Regrade params) t fits short home = record { number = refl; short = fits; home = home }
-made_fit cpus time Release t fits short home = record { number = refl; short = short; home = home }
+made_fit cpus time (Regrade params) t fits short home = record { number = refl; short = fits; home = home; cpu = refl }
+made_fit cpus time Release t fits short home = record { number = refl; short = short; home = home; cpu = refl }
 made_fit cpus time End t fits short home = same_fit cpus t (after_change time End t) (ended_same time t) short home
-made_fit cpus time Depart t fits short home = record { number = refl; short = short; home = home }
+made_fit cpus time Depart t fits short home = record { number = refl; short = short; home = home; cpu = refl }
 
 pub place_fit : (cpus : ℕ) (queue : RunQueue) (tasks : List Task) (p time : ℕ) (change : Change) (d : Task) → p < length tasks → Fits cpus change → IsCounted cpus queue tasks → IsFit cpus (get_or tasks p d) (after_change time change (get_or tasks p d))
 place_fit cpus queue tasks p time change d h fits is = made_fit cpus time change (get_or tasks p d) fits (is.roster.short p d h) (home_at cpus queue tasks p d h is)

@@ -1,39 +1,32 @@
--- Parts 4 and 5, one CPU after another: on some the occupant has changed, on the others it has not.
-use Rattle.std.proofs.Common.{◌≡◌, ℕ, zero, suc, ◌+◌, ◌-◌, ◌<◌, ◌≤◌, Bool, true, false, cond, eqb, Option, Some, None, List, [], ◌∷◌, ◌++◌, length, take, drop, get_or, map, refl, sym, ap, subst, ◌∙◌, arith}
-use Rattle.std.specs.Prelude.{find, position}
-use Rattle.std.proofs.lemmas.Bool.{eqb-true}
-use Rattle.std.proofs.lemmas.List.{drop_more, append_assoc, append-nil, ext_get_or, take_all}
-use Rattle.std.proofs.Math.Seq.{drop-length}
-use Rattle.edf_pick.specs.Places.{Places, is_task}
+-- Parts 4 and 5, by the CPUs that a choice gave to another one.
+use Rattle.std.proofs.Common.{◌≡◌, ℕ, zero, suc, ◌+◌, ◌<◌, Bool, true, false, cond, eqb, Option, Some, None, List, [], ◌∷◌, length, get_or, map, refl, sym, ap, ◌∙◌, arith, inl, inr, eq-eqb}
+use Rattle.std.specs.Prelude.{All, find, position}
+use Rattle.std.proofs.lemmas.Bool.{cases_eq, ne_eqb}
+use Rattle.std.proofs.lemmas.List.Elements.{All-cons, All-nil}
+use Rattle.edf_pick.specs.declared.candidate.Candidate.{Candidate}
+use Rattle.edf_pick.specs.declared.moves.Moved.{Moved}
+use Rattle.edf_pick.specs.Changes.{home_on, homed}
+use Rattle.edf_pick.specs.Moves.{moved_from, same_occupant as moved_same}
+use Rattle.edf_pick.specs.Places.{Places, AreSingle, is_task}
+use Rattle.edf_pick.specs.Schedule.{IsAtHome, homed_on, homed_by as homed_all}
+use Rattle.edf_pick.proofs.Moving.{same_is}
+use Rattle.edf_pick.proofs.Resting.{all_homes}
 use Rattle.domain_run.specs.declared.task.Task.{Task}
 use Rattle.domain_run.specs.declared.task.Condition.{Condition}
 use Rattle.domain_run.specs.declared.switch.Switch.{Switch}
 use Rattle.domain_run.specs.Parts.{with_cpu, with_last_cpu}
-use Rattle.domain_run.specs.Sound.{occupant, IsApart}
+use Rattle.domain_run.specs.Sound.{occupant}
 use Rattle.domain_run.specs.Switches.{same_occupant, left_by, state_of, switches_from}
-use Rattle.domain_run.specs.private.Moves.{HasStayed, HasChanged, AreUnchanged, switch_at}
+use Rattle.domain_run.specs.Tick.{candidate_of}
+use Rattle.domain_run.specs.private.Choosing.{AreWithin, homed_by, switch_of}
 use Rattle.domain_run.specs.private.Roster.{homed_here}
 use Rattle.domain_run.specs.private.RunQueue.{AreHomed}
-use Rattle.domain_run.proofs.AtHome.{homed_step, homed_kept}
-use Rattle.domain_run.proofs.Homing.{map_steps, homed_keeps}
+use Rattle.domain_run.proofs.Homes.{is_at_home}
+use Rattle.domain_run.proofs.Homing.{homed_keeps}
 use Rattle.domain_run.proofs.Jumping.{map_alike}
-use Rattle.domain_run.proofs.Staying.{map_itself}
 
-pub same_is : (p q : Option ℕ) → same_occupant p q ≡ true → p ≡ q
-same_is None None e = refl
-same_is None (Some n) e = absurd cc
-same_is (Some m) None e = absurd cc
-same_is (Some m) (Some n) e = ap (λ k. Some k) (eqb-true m n e)
+-- ---- the state in which an occupant leaves does not depend on where the tasks belong
 
--- a step at a time
-steps_by : (P : ℕ → Type 0) (a n : ℕ) → ((k : ℕ) → a ≤ k → k < a + n → P k → P (k + 1)) → P a → P (a + n)
-steps_by P a zero step p = subst P (omega arith) p
-steps_by P a (suc n) step p = subst P (omega arith) (step (a + n) (omega arith) (omega arith) (steps_by P a n (λ k from h. step k from (omega (arith, h))) p))
-
-pub steps : (P : ℕ → Type 0) (a b : ℕ) → a ≤ b → ((k : ℕ) → a ≤ k → k < b → P k → P (k + 1)) → P a → P b
-steps P a b h step p = subst P (omega (arith, h)) (steps_by P a (b - a) (λ k from less. step k from (omega (arith, less, h))) p)
-
--- the state in which an occupant leaves does not depend on where the tasks belong
 condition_at : (o : Option ℕ) (t : Task) → (with_cpu o t).condition ≡ t.condition
 condition_at None t = refl
 condition_at (Some cpu) t = refl
@@ -50,62 +43,103 @@ left_homed places n (t ∷ tasks) =
     ] in
     ap (λ m. left_by (cond (eqb m n) (Some h) (find (λ t. eqb t.number n) rest))) (homed_keeps places t) ∙ here (eqb t.number n)
 
-state_homed : (places : Places) (first tasks : List Task) (o : Option ℕ) → tasks ≡ map (with_last_cpu places) first → state_of tasks o ≡ state_of first o
+pub state_homed : (places : Places) (first tasks : List Task) (o : Option ℕ) → tasks ≡ map (with_last_cpu places) first → state_of tasks o ≡ state_of first o
 state_homed places first tasks None is = refl
 state_homed places first tasks (Some n) is = ap (λ (ts : List Task). left_by (find (λ t. eqb t.number n) ts)) is ∙ left_homed places n first
 
--- the CPUs below one are done
-pub record AreMoved (time : ℕ) (first : List Task) (before places : Places) (start : List Switch) (tasks : List Task) (switches : List Switch) (cpu : ℕ) : Type 0 where
-  pub written : tasks ≡ map (with_last_cpu (take cpu places)) first
-  pub added : switches ++ switches_from time first cpu (drop cpu before) (drop cpu places) ≡ start ++ switches_from time first 0 before places
+-- ---- THE SWITCHES
 
-module _ (time : ℕ) (first : List Task) (before places : Places) (start : List Switch) (wide : length before ≡ length places) (stood : IsApart before) (apart : IsApart places) (homed : AreHomed before first) where
-  pub none_moved : AreMoved time first before places start first start 0
-  none_moved = record { written = sym (map_itself (with_last_cpu []) first (λ k d h. refl)); added = refl }
+same_both : (p q : Option ℕ) → same_occupant p q ≡ moved_same p q
+same_both None None = refl
+same_both None (Some n) = refl
+same_both (Some m) None = refl
+same_both (Some m) (Some n) = refl
 
-  from_here : (cpu : ℕ) (b : Bool) → cpu < length places → same_occupant (occupant before cpu) (occupant places cpu) ≡ b
-      → switches_from time first cpu (drop cpu before) (drop cpu places)
-      ≡ cond b (switches_from time first (cpu + 1) (drop (cpu + 1) before) (drop (cpu + 1) places))
-      (switch_at time first cpu (occupant before cpu) (occupant places cpu) ∷ switches_from time first (cpu + 1) (drop (cpu + 1) before) (drop (cpu + 1) places))
-  from_here cpu b h same =
-      let more = switches_from time first (cpu + 1) (drop (cpu + 1) before) (drop (cpu + 1) places) in
-      ap (λ (ps : Places). switches_from time first cpu ps (drop cpu places)) (drop_more before cpu None (omega (arith, h, wide)))
-      ∙ ap (λ (ps : Places). switches_from time first cpu (occupant before cpu ∷ drop (cpu + 1) before) ps) (drop_more places cpu None h)
-      ∙ ap (λ c. cond c more (switch_at time first cpu (occupant before cpu) (occupant places cpu) ∷ more)) same
+pub switched : (time : ℕ) (first tasks : List Task) (places : Places) → ((o : Option ℕ) → state_of tasks o ≡ state_of first o)
+    → (k : ℕ) (before after : Places) → ((i : ℕ) → get_or after i None ≡ get_or places (k + i) None)
+    → map (switch_of time tasks places) (moved_from k before after) ≡ switches_from time first k before after
+switched time first tasks places same k [] after at = refl
+switched time first tasks places same k (b ∷ before) [] at = refl
+switched time first tasks places same k (b ∷ before) (a ∷ after) at =
+    let f = switch_of time tasks places in
+    let m : Moved = record { cpu = k; before = b } in
+    let s : Switch = record { time = time; prev = b; next = a; cpu = k; state = state_of first b } in
+    let rest = moved_from (k + 1) before after in
+    let more = switches_from time first (k + 1) before after in
+    let back : map f rest ≡ more = switched time first tasks places same (k + 1) before after (λ i. at (suc i) ∙ ap (λ (n : ℕ). get_or places n None) (shift i)) in
+    let here : occupant places k ≡ a = sym (at zero ∙ ap (λ (n : ℕ). get_or places n None) none) in
+    let one : f m ≡ s = λ i. record { time = time; prev = b; next = here i; cpu = k; state = same b i } in
+    elim (moved_same b a) as (λ t. map f (cond t rest (m ∷ rest)) ≡ cond t more (s ∷ more)) [ true ↦ back | false ↦ (λ i. one i ∷ back i) ]
+    ∙ sym (ap (λ t. cond t more (s ∷ more)) (same_both b a))
+  where
+    shift : (i : ℕ) → k + suc i ≡ (k + 1) + i
+    shift i = omega arith
 
-  stayed : (tasks : List Task) (switches : List Switch) (cpu : ℕ) → cpu < length places → HasStayed before places cpu → AreMoved time first before places start tasks switches cpu → AreMoved time first before places start tasks switches (cpu + 1)
-  stayed tasks switches cpu h same m = record {
-    written = m.written ∙ map_alike (with_last_cpu (take cpu places)) (with_last_cpu (take (cpu + 1) places)) first (λ k d inside. homed_kept before places cpu (get_or first k d) h stood apart (same_is (occupant before cpu) (occupant places cpu) same) (homed k d inside));
-    added = ap (λ (ss : List Switch). switches ++ ss) (sym (from_here cpu true h same)) ∙ m.added;
-  }
+    none : k + zero ≡ k
+    none = omega arith
 
-  pub all_stayed : (tasks : List Task) (switches : List Switch) (from upto : ℕ) → from ≤ upto → upto ≤ length places → AreUnchanged before places from upto → AreMoved time first before places start tasks switches from → AreMoved time first before places start tasks switches upto
-  all_stayed tasks switches from upto h most same m = steps (AreMoved time first before places start tasks switches) from upto h (λ k above below was. stayed tasks switches k (omega (arith, below, most)) (same k above below) was) m
+-- their CPUs
+pub moved_within : (k : ℕ) (before after : Places) → AreWithin (k + length before) (moved_from k before after)
+moved_within k [] after = All-nil _
+moved_within k (b ∷ before) [] = All-nil _
+moved_within k (b ∷ before) (a ∷ after) =
+    let P : Moved → Type 0 = λ m. m.cpu < k + length (b ∷ before) in
+    let m : Moved = record { cpu = k; before = b } in
+    let rest = moved_from (k + 1) before after in
+    let back : All P rest = λ i d h. let less = moved_within (k + 1) before after i d h in omega (arith, less) in
+    elim (moved_same b a) as (λ t. All P (cond t rest (m ∷ rest))) [ true ↦ back | false ↦ All-cons P m rest (omega arith) back ]
 
-  pub moved : (tasks : List Task) (switches : List Switch) (cpu : ℕ) → cpu < length places → HasChanged before places cpu → AreMoved time first before places start tasks switches cpu
-      → (now : List Task) (added : List Switch) → now ≡ map (homed_here (occupant places cpu) cpu) tasks → added ≡ switches ++ switch_at time tasks cpu (occupant before cpu) (occupant places cpu) ∷ []
-      → AreMoved time first before places start now added (cpu + 1)
-  moved tasks switches cpu h other m now added tasks_are added_are =
-      let more = switches_from time first (cpu + 1) (drop (cpu + 1) before) (drop (cpu + 1) places) in
-      let s = switch_at time tasks cpu (occupant before cpu) (occupant places cpu) in
-      let one : s ∷ more ≡ switches_from time first cpu (drop cpu before) (drop cpu places) =
-      ap (λ state. record { time = time; prev = occupant before cpu; next = occupant places cpu; cpu = cpu; state = state } ∷ more) (state_homed (take cpu places) first tasks (occupant before cpu) m.written) ∙ sym (from_here cpu false h other) in
-      record {
-        written = tasks_are ∙ map_steps (homed_here (occupant places cpu) cpu) (with_last_cpu (take cpu places)) (with_last_cpu (take (cpu + 1) places)) first tasks m.written (λ k d inside. homed_step places cpu (get_or first k d) h apart);
-        added = ap (λ (ss : List Switch). ss ++ more) added_are ∙ append_assoc switches (s ∷ []) more ∙ ap (λ (ss : List Switch). switches ++ ss) one ∙ m.added;
-      }
+-- ---- THE HOMES, as those of the ready tasks
+
+same_number : (m n : ℕ) → eqb m n ≡ eqb n m
+same_number m n = elim (cases_eq m n) [
+  | inl same ↦ eq-eqb m n same ∙ sym (eq-eqb n m (sym same))
+  | inr other ↦ ne_eqb m n other ∙ sym (ne_eqb n m (λ e. other (sym e)))
+]
+
+here_is : (o : Option ℕ) (cpu : ℕ) (t : Task) → homed_here o cpu t ≡ record t { cpu = (cond (is_task t.number o) (record (candidate_of t) { home = cpu }) (candidate_of t)).home }
+here_is None cpu t = refl
+here_is (Some n) cpu t =
+    ap (λ b. cond b (record t { cpu = cpu }) t) (same_number t.number n)
+    ∙ elim (eqb n t.number) as (λ b. cond b (record t { cpu = cpu }) t ≡ record t { cpu = (cond b (record (candidate_of t) { home = cpu }) (candidate_of t)).home }) [ true ↦ refl | false ↦ refl ]
+
+on_is : (places : Places) (cpu : ℕ) (c : Candidate) → record c { home = (homed_on places cpu c).home } ≡ homed_on places cpu c
+on_is places cpu c = elim (is_task c.number (occupant places cpu)) as (λ b. record c { home = (cond b (record c { home = cpu }) c).home } ≡ cond b (record c { home = cpu }) c) [ true ↦ refl | false ↦ refl ]
+
+all_is : (places : Places) (moves : List Moved) (t : Task) → homed_by places moves t ≡ record t { cpu = (homed_all places moves (candidate_of t)).home }
+all_is places [] t = refl
+all_is places (m ∷ moves) t =
+    let h : ℕ = (homed_on places m.cpu (candidate_of t)).home in
+    ap (homed_by places moves) (here_is (occupant places m.cpu) m.cpu t)
+    ∙ all_is places moves (record t { cpu = h })
+    ∙ ap (λ (c : Candidate). record t { cpu = (homed_all places moves c).home }) (on_is places m.cpu (candidate_of t))
+
+last_is : (places : Places) (t : Task) → with_last_cpu places t ≡ record t { cpu = (homed places (candidate_of t)).home }
+last_is places t = elim (position (is_task t.number) places) as (λ o. with_cpu o t ≡ record t { cpu = (home_on (candidate_of t) o).home }) [ None ↦ refl | Some cpu ↦ refl ]
+
+-- each task belongs to its CPU where those of the CPUs that another one has do
+pub homed_moves : (before after : Places) (tasks : List Task) → length after ≡ length before → AreSingle before → AreSingle after → AreHomed before tasks → map (homed_by after (moved_from 0 before after)) tasks ≡ map (with_last_cpu after) tasks
+homed_moves before after tasks len was single homes = map_alike (homed_by after (moved_from 0 before after)) (with_last_cpu after) tasks (λ k d h. one (get_or tasks k d) (homes k d h))
+  where
+    one : (t : Task) → with_last_cpu before t ≡ t → homed_by after (moved_from 0 before after) t ≡ with_last_cpu after t
+    one t home =
+        let c = candidate_of t in
+        let alone : All (IsAtHome before) (c ∷ []) = All-cons (IsAtHome before) c [] (is_at_home before t home) (All-nil _) in
+        let is : homed_all after (moved_from 0 before after) c ≡ homed after c = ap (λ (xs : List Candidate). get_or xs 0 c) (all_homes before after len was single (c ∷ []) alone) in
+        all_is after (moved_from 0 before after) t ∙ ap (λ (x : Candidate). record t { cpu = x.home }) is ∙ sym (last_is after t)
 
 -- no CPU has another occupant
-pub none_changed : (before places : Places) → length before ≡ length places → AreUnchanged before places 0 (length places) → before ≡ places
-none_changed before places wide same = ext_get_or None before places wide (λ i h. same_is (occupant before i) (occupant places i) (same i (omega arith) (omega (arith, h, wide))))
-
--- all are done
-pub all_moved : (time : ℕ) (first : List Task) (before places : Places) (start : List Switch) (tasks : List Task) (switches : List Switch) (cpu : ℕ) → length before ≡ length places → cpu ≡ length places → AreMoved time first before places start tasks switches cpu
-    → (tasks ≡ map (with_last_cpu places) first) × (switches ≡ start ++ switches_from time first 0 before places)
-all_moved time first before places start tasks switches cpu wide e m = (
-  m.written ∙ ap (λ (ps : Places). map (with_last_cpu ps) first) (take_all cpu places (omega (arith, e))),
-  sym (append-nil switches) ∙ ap (λ (ss : List Switch). switches ++ ss) (sym none) ∙ m.added,
-)
-  where
-    none : switches_from time first cpu (drop cpu before) (drop cpu places) ≡ []
-    none = ap (λ (ps : Places). switches_from time first cpu ps (drop cpu places)) (ap (λ (n : ℕ). drop n before) (e ∙ sym wide) ∙ drop-length before)
+pub none_moved : (k : ℕ) (before after : Places) → length after ≡ length before → moved_from k before after ≡ [] → after ≡ before
+none_moved k [] [] len none = refl
+none_moved k [] (a ∷ after) len none = absurd (omega (arith, len))
+none_moved k (b ∷ before) [] len none = absurd (omega (arith, len))
+none_moved k (b ∷ before) (a ∷ after) len none =
+    let m : Moved = record { cpu = k; before = b } in
+    let rest = moved_from (k + 1) before after in
+    elim (moved_same b a) as (λ t. moved_same b a ≡ t → cond t rest (m ∷ rest) ≡ [] → a ∷ after ≡ b ∷ before) [
+      | true ↦ λ same e.
+          let first : a ≡ b = sym (same_is b a same) in
+          let more = none_moved (k + 1) before after (omega (arith, len)) e in
+          λ i. first i ∷ more i
+      | false ↦ λ same e. absurd cc
+    ] refl none

@@ -241,12 +241,19 @@ rated_at upto seats items number p rate b x read at rates =
 
 -- ---- the roster, where a seat changes
 
-abbrev pub roster_view : ℕ → SeatsView → List Task → RosterView
-roster_view cpus s tasks = record { cpus = cpus; clock = s.upto; seats = s.seats; tasks = owed_all s tasks }
+abbrev pub roster_view : RunQueue → SeatsView → List Task → RosterView
+roster_view queue s tasks = record {
+  cpus = length queue.accounts.all;
+  clock = s.upto;
+  seats = s.seats;
+  places = queue.schedule.places;
+  moves = queue.schedule.moves;
+  tasks = owed_all s tasks;
+}
 
-pub view_again : (cpus cpu : ℕ) (o : Option Seat) (s v : SeatsView) (items after : List Task) (r : RosterView) → roster_view cpus s items ≡ r → v ≡ record s { seats = set s.seats cpu o } → owed_all v after ≡ owed_all s items → roster_view cpus v after ≡ record r { seats = set r.seats cpu o }
-view_again cpus cpu o s v items after r view are same =
-    (λ i. record (roster_view cpus s items) { clock = (are i).upto; seats = (are i).seats; tasks = same i })
+pub view_again : (queue : RunQueue) (cpu : ℕ) (o : Option Seat) (s v : SeatsView) (items after : List Task) (r : RosterView) → roster_view queue s items ≡ r → v ≡ record s { seats = set s.seats cpu o } → owed_all v after ≡ owed_all s items → roster_view queue v after ≡ record r { seats = set r.seats cpu o }
+view_again queue cpu o s v items after r view are same =
+    (λ i. record (roster_view queue s items) { clock = (are i).upto; seats = (are i).seats; tasks = same i })
     ∙ ap (λ (x : RosterView). record x { seats = set x.seats cpu o }) view
 
 pub kept_again : (queue : RunQueue) (s v : SeatsView) (items after : List Task) (capacity : ℕ) → IsKept queue s items capacity → owed_all v after ≡ owed_all s items → AllWait v.seats after → length v.seats ≡ length s.seats → IsKept queue v after capacity

@@ -13,7 +13,8 @@ use Rattle.grub_rules.specs.Accounts.{AreAccounts}
 use Rattle.edf_pick.specs.Order.{ordered}
 use Rattle.domain_run.specs.declared.run_queue.RunQueue.{RunQueue}
 use Rattle.domain_run.specs.Conditions.{is_ready, is_throttled, is_leaving}
-use Rattle.domain_run.specs.Parts.{is_listed}
+use Rattle.domain_run.specs.Parts.{is_listed, with_last_cpu}
+use Rattle.domain_run.proofs.Homes.{still_homed, homed_map}
 use Rattle.domain_run.specs.Calls.{is_other}
 use Rattle.domain_run.specs.Jump.{asks_at}
 use Rattle.domain_run.specs.private.Index.{IsAt, IsAbsent}
@@ -147,6 +148,7 @@ module _ (f : Task → Task) (same : (t : Task) → Alike t (f t)) where
           short = λ k d h. let inside : k < length tasks = omega (arith, h, len) in subst (λ (t : Task). t.params.bw ≤ 2 ^ 26) (sym (get_or-map f tasks k d d inside)) (subst (λ (n : ℕ). n ≤ 2 ^ 26) (sym (ap (λ (p : ParamsView). p.bw) (same (get_or tasks k d)).params)) (is.roster.short k d inside));
           numbered = numbered_like tasks is.roster.numbered;
         };
+        homed = homed_map queue.schedule.places f tasks (λ t. (same t).number) (λ t. (same t).cpu) is.homed;
       }
 
   pub counted_unlike : (cpus : ℕ) (queue : RunQueue) (tasks : List Task) → IsCounted cpus queue (map f tasks) → IsCounted cpus queue tasks
@@ -164,6 +166,7 @@ module _ (f : Task → Task) (same : (t : Task) → Alike t (f t)) where
           short = λ k d h. subst (λ (n : ℕ). n ≤ 2 ^ 26) (ap (λ (t : Task). t.params.bw) (get_or-map f tasks k d (f d) h) ∙ ap (λ (p : ParamsView). p.bw) (same (get_or tasks k d)).params) (is.roster.short k (f d) (omega (arith, h, len)));
           numbered = numbered_unlike tasks is.roster.numbered;
         };
+        homed = λ k d h. still_homed queue.schedule.places (f (get_or tasks k d)) (get_or tasks k d) (sym (same (get_or tasks k d)).number) (sym (same (get_or tasks k d)).cpu) (subst (λ (t : Task). with_last_cpu queue.schedule.places t ≡ t) (get_or-map f tasks k d (f d) h) (is.homed k (f d) (omega (arith, h, len))));
       }
 
   pub idle_unlike : (number : ℕ) (tasks : List Task) → All (λ t. t.number ≡ number → is_ready t.condition ≡ false) (map f tasks) → All (λ t. t.number ≡ number → is_ready t.condition ≡ false) tasks

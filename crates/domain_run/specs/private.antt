@@ -9,4 +9,4 @@ pub mod Progress
 pub mod Tournament
 pub mod Seats
 pub mod Waiting
-pub mod Moves
+pub mod Choosing

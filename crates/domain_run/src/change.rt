@@ -21,8 +21,6 @@ pub(crate) enum Change {
     Settle,
     /// Part 3: it asks its script where its time of blocking is over.
     Unblock,
-    /// Part 4: it belongs to a CPU.
-    Home { cpu: usize },
     /// Part 6 of so many ticks at once, which leave so much of its budget, in 1/2^20 us.
     Run { ticks: u64, left: i128 },
     /// It has new parameters.
@@ -44,7 +42,6 @@ fn does_nothing(task: &Task, time: u64, change: &Change) -> bool
         Change::Replenish => !task.condition.is_throttled(),
         Change::Settle => !parts::has_come(time, task.zero_lag),
         Change::Unblock => !task.condition.is_over(time),
-        Change::Home { cpu } => task.cpu == *cpu,
         _ => false,
     }
 }
@@ -78,7 +75,6 @@ fn act(task: &mut Task, time: u64, change: &Change)
         Change::Replenish => parts::replenish_due(task, time),
         Change::Settle => parts::settle(task, time),
         Change::Unblock => parts::unblock(task, time),
-        Change::Home { cpu } => task.cpu = *cpu,
         Change::Run { ticks, left } => parts::run_until(task, time, *ticks, *left),
         Change::Regrade { params } => calls::regrade(task, params),
         Change::Release => calls::release(task, time),

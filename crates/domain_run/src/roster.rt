@@ -8,18 +8,21 @@
 ghost use Rattle.std.specs.Prelude.{◌≡◌, ◌≢◌, ◌==◌, ◌<◌, ◌≤◌, ◌^◌, ◌-◌, ◌&&◌, ◌++◌, ◌∷◌, [], not, min, All, AllPairs, IfOk, IfSome, IfNone, false, find, map, filter, length, option_map, None, replicate, slice_get, slice_index_or};
 ghost use Rattle.domain_run.specs.declared.task.Task.{Task};
 ghost use Rattle.domain_run.specs.Conditions.{is_ready, is_leaving};
-ghost use Rattle.domain_run.specs.Parts.{is_listed};
-ghost use Rattle.domain_run.specs.Sound.{IsSound};
+ghost use Rattle.domain_run.specs.Parts.{is_listed, with_last_cpu};
+ghost use Rattle.domain_run.specs.Sound.{IsSound, IsApart};
 ghost use Rattle.domain_run.specs.Tick as tick;
 ghost use Rattle.domain_run.specs.Calls.{of_number, is_other};
 ghost use Rattle.domain_run.specs.private.Index.{IsAt, IsAbsent};
 ghost use Rattle.domain_run.specs.Views.{view_of};
 ghost use Rattle.domain_run.specs.private.Roster.{after_change, MayMake, Fits, IsSeenAs, runner_in};
+ghost use Rattle.domain_run.specs.private.RunQueue.{AreHomed};
 ghost use Rattle.domain_run.specs.private.Waiting.{left_of, seat_of};
 ghost use Rattle.domain_run.specs.private.Timers.{IsStep, AreNotDue, due_of, least};
-ghost use Rattle.edf_pick.specs.Order.{ordered};
+ghost use Rattle.edf_pick.specs.Moves.{moved_from};
+ghost use Rattle.edf_pick.specs.Places.{placed};
 ghost use Rattle.grub_rules.specs.Sums as sums;
 
+mod choosing;
 mod lending;
 mod listing;
 mod passing;
@@ -32,7 +35,7 @@ use crate::run_queue::RunQueue;
 use crate::running::Running;
 use crate::seats::Seats;
 use crate::task::{Task, TaskView};
-use edf_pick::Queue;
+use edf_pick::Moved;
 use no_memory::NoMemory;
 use std::alloc::Global;
 use std::marker::Model;
@@ -60,6 +63,8 @@ impl Model for Roster {
       cpus = length r.queue.accounts.all;
       clock = r.seats.upto;
       seats = r.seats.seats;
+      places = r.queue.schedule.places;
+      moves = r.queue.schedule.moves;
       tasks = owed_all r.seats r.tasks.items;
     } };
 
@@ -69,9 +74,16 @@ impl Model for Roster {
 impl Roster {
     /// Of no tasks, with room for 256. No other call takes memory.
     pub(crate) fn open(alloc: Global, cpus: usize) -> Result<Roster, NoMemory>
-        requires { cpus ≤ 64 }
-        ensures { IfOk result (λ roster. roster
-            ≡ record { cpus = cpus; clock = 0; seats = replicate cpus None; tasks = [] }) }
+        requires some { 0 < cpus }
+        requires few { cpus ≤ 64 }
+        ensures { IfOk result (λ roster. roster ≡ record {
+          cpus = cpus;
+          clock = 0;
+          seats = replicate cpus None;
+          places = replicate cpus None;
+          moves = [];
+          tasks = [];
+        }) }
     {
         Ok(Roster {
             tasks: Vec::with_capacity(alloc, 256)?,
@@ -200,12 +212,28 @@ impl Roster {
         self.queue.accounts.uinact(cpu)
     }
 
-    /// The ready tasks in the order of the choice.
-    pub(crate) fn ready(&self) -> &Queue
-        ensures ready { result.now ≡ ordered (tick.candidates self.now.tasks) }
-        ensures numbered { AllPairs (λ a b. a.number ≢ b.number) self.now.tasks }
+    /// Who stands on each CPU, from CPU 0 on.
+    pub(crate) fn occupants(&self) -> &[Option<u32>]
+        ensures occupants { result.now ≡ self.now.places }
+        ensures few { length self.now.places ≤ 64 }
+        ensures homed { AreHomed self.now.places self.now.tasks }
     {
-        &self.queue.ready
+        self.queue.schedule.occupants()
+    }
+
+    /// Who stands on a CPU, if anyone does.
+    #[inline(always)]
+    pub(crate) fn occupant(&self, cpu: usize) -> Option<u32>
+        ensures { result ≡ slice_index_or self.now.places cpu None }
+    {
+        choosing::occupant_of(self.queue.schedule.occupants(), cpu)
+    }
+
+    /// The CPUs that the last choice gave to another one, in their order.
+    pub(crate) fn moves(&self) -> &[Moved]
+        ensures { result.now ≡ self.now.moves }
+    {
+        self.queue.schedule.moves()
     }
 
     /// The first place, from this one on, whose task is due at a time; where there is none, how
@@ -248,6 +276,7 @@ impl Roster {
         ensures step { IsStep (after_change time change.now) place self.old.tasks self.new.tasks }
         ensures sound { All (IsSound time) self.new.tasks }
         ensures clock { self.new.clock ≡ self.old.clock }
+        ensures places { self.new.places ≡ self.old.places }
         ensures seats { (d : Task) → self.new.seats
             ≡ left_of (slice_index_or self.new.tasks place d)
             (left_of (slice_index_or self.old.tasks place d) self.old.seats) }
@@ -269,12 +298,36 @@ impl Roster {
         requires sound { All (IsSound time) self.old.tasks }
         requires may { All (λ t. t.number ≡ number → MayMake time change.now t) self.old.tasks }
         ensures cpus { self.new.cpus ≡ self.old.cpus }
+        ensures places { self.new.places ≡ self.old.places }
         ensures tasks { self.new.tasks ≡ map (of_number number (after_change time change.now)) self.old.tasks }
         ensures sound { All (IsSound time) self.new.tasks }
     {
         if let Some(place) = self.place(number) {
             self.turn(place, time, change);
         }
+    }
+
+    /// The choice of a tick and its placement, by what has changed since the last one. Who stands on
+    /// a CPU then belongs to it.
+    pub(crate) fn choose(&mut self)
+        requires wide { length self.old.places ≡ self.old.cpus }
+        requires apart { IsApart self.old.places }
+        ensures cpus { self.new.cpus ≡ self.old.cpus }
+        ensures places { self.new.places
+            ≡ placed (length self.old.places) (tick.candidates self.old.tasks) self.old.places }
+        ensures moves { self.new.moves ≡ moved_from 0 self.old.places self.new.places }
+        ensures tasks { self.new.tasks ≡ map (with_last_cpu self.new.places) self.old.tasks }
+        ensures wide { length self.new.places ≡ length self.old.places }
+        ensures apart { IsApart self.new.places }
+    {
+        self.queue.schedule.pick();
+        choosing::home_all(
+            &mut self.tasks,
+            &mut self.queue.accounts,
+            &mut self.seats,
+            &self.index,
+            &self.queue.schedule,
+        );
     }
 
     /// One task more, which is not ready. Where its number is, is noted.
@@ -284,7 +337,9 @@ impl Roster {
         requires home { task.cpu < self.old.cpus }
         requires short { task.params.bw ≤ 2 ^ 26 }
         requires absent { IsAbsent self.old.tasks task.number }
+        requires homed { with_last_cpu self.old.places task ≡ task }
         ensures cpus { self.new.cpus ≡ self.old.cpus }
+        ensures places { self.new.places ≡ self.old.places }
         ensures tasks { self.new.tasks ≡ self.old.tasks ++ task ∷ [] }
     {
         self.index.note(task.number, self.tasks.len());
@@ -295,6 +350,7 @@ impl Roster {
     /// Tasks that have left go off the list.
     pub(crate) fn drop_left(&mut self)
         ensures cpus { self.new.cpus ≡ self.old.cpus }
+        ensures places { self.new.places ≡ self.old.places }
         ensures tasks { self.new.tasks ≡ filter is_listed self.old.tasks }
     {
         listing::drop_left(&mut self.tasks, &mut self.queue, &mut self.index);
@@ -304,6 +360,7 @@ impl Roster {
     pub(crate) fn take_off(&mut self, number: u32, time: u64)
         requires sound { All (IsSound time) self.old.tasks }
         ensures cpus { self.new.cpus ≡ self.old.cpus }
+        ensures places { self.new.places ≡ self.old.places }
         ensures tasks { self.new.tasks ≡ filter (is_other number) self.old.tasks }
     {
         self.turn_number(number, time, &Change::Depart);

@@ -1,48 +1,71 @@
 //! What a domain keeps of its tasks beside their list: the running sums of their bandwidth, the
-//! ready ones in the order of the choice, and when each is due. So a tick neither sums nor sorts,
-//! and looks at those alone that are due.
+//! ready ones in the order of the choice with who stands on each CPU, and when each is due. So a tick
+//! neither sums nor sorts, and looks at those alone that are due or have changed.
 
-ghost use Rattle.std.specs.Prelude.{◌≡◌, ◌<◌, [], length, IfOk, IfSome, false};
-ghost use Rattle.edf_pick.specs.Order.{has_candidate};
+ghost use Rattle.std.specs.Prelude.{◌≡◌, ◌≢◌, ◌<◌, ◌≤◌, [], None, length, replicate, All, IfOk, IfSome};
+ghost use Rattle.edf_pick.specs.Schedule.{IsAtHome};
 ghost use Rattle.domain_run.specs.private.RunQueue as spec;
 
 use crate::standing::Standing;
 use crate::timers::Timers;
-use edf_pick::{Candidate, Queue};
+use edf_pick::{Candidate, Schedule};
 use grub_rules::Accounts;
 use no_memory::NoMemory;
 use std::alloc::Global;
 
-/// The running sums, the ordered queue and the timers of a domain.
+/// The running sums, the schedule and the timers of a domain.
 #[derive(Drop)]
 pub(crate) struct RunQueue {
     pub(crate) accounts: Accounts,
-    pub(crate) ready: Queue,
+    pub(crate) schedule: Schedule,
     pub(crate) timers: Timers,
 }
 
-fn replace(queue: &mut Queue, before: Option<Candidate>, after: Option<Candidate>)
-    requires room { length (spec.without_ready before queue.old) < 256 }
-    requires absent { IfSome after
-        (λ c. has_candidate c (spec.without_ready before queue.old) ≡ false) }
-    ensures { queue.new ≡ spec.with_ready after (spec.without_ready before queue.old) }
+fn take_out(schedule: &mut Schedule, before: Option<Candidate>)
+    ensures { schedule.new
+        ≡ record schedule.old { queue = spec.without_ready before schedule.old.queue } }
 {
     if let Some(c) = before {
-        queue.remove(&c);
+        schedule.remove(&c);
     }
+}
+
+fn take_in(schedule: &mut Schedule, after: Option<Candidate>)
+    requires room { length schedule.old.queue < 256 }
+    requires numbered { IfSome after (λ c. All (λ a. a.number ≢ c.number) schedule.old.queue) }
+    requires homed { IfSome after (λ c. IsAtHome schedule.old.places c) }
+    ensures { schedule.new ≡ record schedule.old { queue = spec.with_ready after schedule.old.queue } }
+{
     if let Some(c) = after {
-        queue.insert(c);
+        schedule.insert(c);
     }
+}
+
+fn replace(schedule: &mut Schedule, before: Option<Candidate>, after: Option<Candidate>)
+    requires room { length (spec.without_ready before schedule.old.queue) < 256 }
+    requires numbered { IfSome after
+        (λ c. All (λ a. a.number ≢ c.number) (spec.without_ready before schedule.old.queue)) }
+    requires homed { IfSome after (λ c. IsAtHome schedule.old.places c) }
+    ensures { schedule.new ≡ record schedule.old {
+      queue = spec.with_ready after (spec.without_ready before schedule.old.queue);
+    } }
+{
+    take_out(schedule, before);
+    take_in(schedule, after);
 }
 
 impl RunQueue {
     /// Of no tasks. No other call takes memory.
     pub(crate) fn open(alloc: Global, cpus: usize) -> Result<RunQueue, NoMemory>
-        ensures { IfOk result (λ queue. spec.IsCounted cpus queue []) }
+        requires some { 0 < cpus }
+        requires few { cpus ≤ 64 }
+        ensures counted { IfOk result (λ queue. spec.IsCounted cpus queue []) }
+        ensures places { IfOk result (λ queue. queue.schedule.places ≡ replicate cpus None) }
+        ensures moves { IfOk result (λ queue. queue.schedule.moves ≡ []) }
     {
         Ok(RunQueue {
             accounts: Accounts::open(alloc, cpus)?,
-            ready: Queue::open(alloc)?,
+            schedule: Schedule::open(alloc, cpus)?,
             timers: Timers::open(alloc)?,
         })
     }
@@ -55,7 +78,7 @@ impl RunQueue {
     {
         self.accounts.track(&before.share, &after.share);
         if before.ready != after.ready {
-            replace(&mut self.ready, before.ready, after.ready);
+            replace(&mut self.schedule, before.ready, after.ready);
         }
         if before.due != after.due {
             self.timers.set(place, after.due);

@@ -1,6 +1,6 @@
 //! A root domain: the state between two ticks, and what changes it.
 
-ghost use Rattle.std.specs.Prelude.{◌≡◌, ◌<◌, ◌≤◌, ◌^◌, OnOk, IfOk, None, length, vec_len, vec_capacity, IsTrue, IfErr};
+ghost use Rattle.std.specs.Prelude.{◌≡◌, ◌<◌, ◌≤◌, OnOk, IfOk, length, IsTrue, IfErr};
 ghost use Rattle.domain_run.specs.declared.call.Call.TheVariants as Call;
 ghost use Rattle.domain_run.specs.declared.call.Reply.TheVariants as Reply;
 ghost use Rattle.domain_run.specs.Domain.{IsCpus, IsLimit, opened};
@@ -29,9 +29,8 @@ use crate::script::Script;
 use crate::switch::Switch;
 use crate::task::TaskView;
 use attr_check::Params;
-use edf_pick::Placement;
 use no_memory::NoMemory;
-use std::alloc::{AllocError, Global};
+use std::alloc::Global;
 use std::marker::Model;
 
 /// A root domain of 1 to 64 CPUs: its tasks, who stands on each CPU, and the switches so far.
@@ -42,18 +41,14 @@ pub struct State {
     time: u64,
     roster: Roster,
     used: Numbers,
-    // Who runs on each CPU.
-    curr: Placement,
     switches: Vec<Switch>,
     // Who stands on the CPUs, one after another, where that is listed: a leap needs no list.
     running: Vec<u32>,
     is_listed: bool,
-    // Room for a tick; between two ticks it means nothing.
-    before: Vec<Option<u32>>,
 }
 
 impl Model for State {
-    ghost use Rattle.std.specs.Prelude.{vec_len, vec_capacity};
+    ghost use Rattle.std.specs.Prelude.{vec_capacity};
     ghost use Rattle.domain_run.specs.Domain.{Domain};
     ghost use Rattle.domain_run.specs.private.RunQueue.{IsState};
 
@@ -65,7 +60,7 @@ impl Model for State {
       time = s.time;
       tasks = s.roster.tasks;
       used = s.used;
-      curr = s.curr;
+      curr = s.roster.places;
       switches = s.switches.items;
     } };
 
@@ -78,23 +73,10 @@ impl Model for State {
           used =
               s.used;
           curr =
-              s.curr;
+              s.roster.places;
           switches =
               s.switches.items;
-        }) s.roster.cpus s.is_listed s.running.items (vec_len s.before) (vec_capacity s.before)
-        (vec_capacity s.running) };
-}
-
-// A place for each CPU, with room for no more.
-fn nobody(alloc: Global, cpus: usize) -> Result<Vec<Option<u32>>, AllocError>
-    ensures len { IfOk result (λ places. vec_len places ≡ cpus) }
-    ensures room { IfOk result (λ places. vec_capacity places ≡ cpus) }
-{
-    let mut places = Vec::with_capacity(alloc, cpus)?;
-    for _ in 0..cpus {
-        places.push_reserved(None);
-    }
-    Ok(places)
+        }) s.roster.cpus s.is_listed s.running.items (vec_capacity s.running) };
 }
 
 impl State {
@@ -113,11 +95,9 @@ impl State {
             time: 0,
             roster: Roster::open(alloc, cpus)?,
             used: Numbers::open(alloc)?,
-            curr: Placement::open(alloc, cpus)?,
             switches: Vec::new(alloc),
             running: Vec::with_capacity(alloc, cpus)?,
             is_listed: true,
-            before: nobody(alloc, cpus)?,
         })
     }
 

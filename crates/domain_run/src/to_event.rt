@@ -13,59 +13,57 @@ ghost use Rattle.domain_run.specs.private.Waiting.{MaySitOn};
 use crate::roster::Roster;
 
 /// Who stands on each CPU sits there at its rate, and nobody else sits.
-fn seat_all(roster: &mut Roster, places: &[Option<u32>], limit: u64)
-    requires wide { length places.now ≡ roster.old.cpus }
+fn seat_all(roster: &mut Roster, limit: u64)
+    requires wide { length roster.old.places ≡ roster.old.cpus }
     requires cpus { (0 < roster.old.cpus) × (roster.old.cpus ≤ 64) }
     requires limit { IsLimit limit }
     requires within { sum_of roster.old.tasks ≤ cap roster.old.cpus limit }
     requires homes { All (λ t. t.cpu < roster.old.cpus) roster.old.tasks }
-    requires may { MaySitOn places.now roster.old.tasks }
+    requires may { MaySitOn roster.old.places roster.old.tasks }
     ensures cpus { roster.new.cpus ≡ roster.old.cpus }
+    ensures places { roster.new.places ≡ roster.old.places }
     ensures clock { roster.new.clock ≡ roster.old.clock }
     ensures tasks { roster.new.tasks ≡ roster.old.tasks }
-    ensures right { All (IsSeated places.now roster.old.cpus limit roster.old.tasks roster.new.seats)
+    ensures homed { AreHomed roster.old.places roster.old.tasks }
+    ensures right { All (IsSeated roster.old.places roster.old.cpus limit roster.old.tasks roster.new.seats)
         roster.new.tasks }
 {
-    let mut cpu = roster.next_wrong(places, 0, limit);
-    while cpu < places.len() {
-        roster.seat_on(cpu, places[cpu], limit);
-        cpu = roster.next_wrong(places, cpu + 1, limit);
+    let cpus = roster.occupants().len();
+    let mut cpu = roster.next_wrong(0, limit);
+    while cpu < cpus {
+        let occupant = roster.occupant(cpu);
+        roster.seat_on(cpu, occupant, limit);
+        cpu = roster.next_wrong(cpu + 1, limit);
     }
 }
 
 /// Of at most so many ticks from the tick under way on as many as pass before a running task ends
 /// its work or its budget, and that one: every task that stands on a CPU has run in each of them, at
 /// its rate. `time` is the end of the tick under way.
-pub(crate) fn leap(
-    roster: &mut Roster,
-    places: &[Option<u32>],
-    limit: u64,
-    most: u64,
-    time: u64,
-) -> u64
-    requires wide { length places.now ≡ roster.old.cpus }
+pub(crate) fn leap(roster: &mut Roster, limit: u64, most: u64, time: u64) -> u64
+    requires wide { length roster.old.places ≡ roster.old.cpus }
     requires cpus { (0 < roster.old.cpus) × (roster.old.cpus ≤ 64) }
     requires limit { IsLimit limit }
     requires within { sum_of roster.old.tasks ≤ cap roster.old.cpus limit }
     requires homes { All (λ t. t.cpu < roster.old.cpus) roster.old.tasks }
-    requires may { MaySitOn places.now roster.old.tasks }
-    requires apart { IsApart places.now }
-    requires homed { AreHomed places.now roster.old.tasks }
+    requires may { MaySitOn roster.old.places roster.old.tasks }
+    requires apart { IsApart roster.old.places }
     requires some { 0 < most }
     requires early { time + most ≤ 2 ^ 42 + 1 }
     requires sound { All (IsSound time) roster.old.tasks }
     ensures cpus { roster.new.cpus ≡ roster.old.cpus }
+    ensures places { roster.new.places ≡ roster.old.places }
     ensures some { 0 < result }
     ensures most { result ≤ most }
-    ensures lasts { All (LastsIf result places.now roster.old.cpus limit roster.old.tasks)
+    ensures lasts { All (LastsIf result roster.old.places roster.old.cpus limit roster.old.tasks)
         roster.old.tasks }
     ensures tasks { roster.new.tasks ≡ map
-        (leapt (time + (result - 1)) result places.now roster.old.cpus limit roster.old.tasks)
+        (leapt (time + (result - 1)) result roster.old.places roster.old.cpus limit roster.old.tasks)
         roster.old.tasks }
     ensures sound { All (IsSound (time + (result - 1))) roster.new.tasks }
 {
     roster.wind_back();
-    seat_all(roster, places, limit);
+    seat_all(roster, limit);
     let ticks = roster.ticks_to_end(most);
     roster.pass(ticks, time + (ticks - 1));
     ticks

@@ -22,7 +22,7 @@ before_tie a b e h =
     or_right (ltb a.deadline b.deadline) (eqb a.deadline b.deadline && ltb a.number b.number)
     (and_from (eqb a.deadline b.deadline) (ltb a.number b.number) (eq-eqb a.deadline b.deadline e) (lt-ltb a.number b.number h))
 
-same_tells : (a b : Candidate) → is_same a b ≡ true → (a.deadline ≡ b.deadline) × (a.number ≡ b.number)
+pub same_tells : (a b : Candidate) → is_same a b ≡ true → (a.deadline ≡ b.deadline) × (a.number ≡ b.number)
 same_tells a b h = let p = and_parts (eqb a.deadline b.deadline) (eqb a.number b.number) h in (eqb-true a.deadline b.deadline p.0, eqb-true a.number b.number p.1)
 
 pub before_both : (a b c : Candidate) → is_before a b ≡ true → is_before b c ≡ true → is_before a c ≡ true

@@ -22,10 +22,10 @@ use Rattle.edf_pick.proofs.Picked.{map_same, rank_place, place_at}
 abbrev pub IsNumbered : List Candidate → Type 0
 IsNumbered xs = AllPairs (λ a b. a.number ≢ b.number) xs
 
-numbered_first : (c : Candidate) (xs : List Candidate) → IsNumbered (c ∷ xs) → All (λ b. c.number ≢ b.number) xs
+pub numbered_first : (c : Candidate) (xs : List Candidate) → IsNumbered (c ∷ xs) → All (λ b. c.number ≢ b.number) xs
 numbered_first c xs numbered k d h = numbered 0 (suc k) d (omega arith) (omega arith)
 
-numbered_rest : (c : Candidate) (xs : List Candidate) → IsNumbered (c ∷ xs) → IsNumbered xs
+pub numbered_rest : (c : Candidate) (xs : List Candidate) → IsNumbered (c ∷ xs) → IsNumbered xs
 numbered_rest c xs numbered i j d h k = numbered (suc i) (suc j) d (omega arith) (omega arith)
 
 -- tasks seen as candidates keep their numbers
@@ -81,10 +81,10 @@ there c (x ∷ xs) ys = or_right (is_same x c) (has_candidate c (xs ++ c ∷ ys)
 pub ordered_there : (c : Candidate) (xs ys : List Candidate) → has_candidate c (ordered (xs ++ c ∷ ys)) ≡ true
 ordered_there c xs ys = has_ordered c (xs ++ c ∷ ys) ∙ there c xs ys
 
-with_later : (a c : Candidate) (queue : List Candidate) → is_before a c ≡ true → with_candidate c (a ∷ queue) ≡ a ∷ with_candidate c queue
+pub with_later : (a c : Candidate) (queue : List Candidate) → is_before a c ≡ true → with_candidate c (a ∷ queue) ≡ a ∷ with_candidate c queue
 with_later a c queue h = cond-true (is_before a c) (a ∷ with_candidate c queue) (c ∷ a ∷ queue) h
 
-with_here : (a c : Candidate) (queue : List Candidate) → is_before a c ≡ false → with_candidate c (a ∷ queue) ≡ c ∷ a ∷ queue
+pub with_here : (a c : Candidate) (queue : List Candidate) → is_before a c ≡ false → with_candidate c (a ∷ queue) ≡ c ∷ a ∷ queue
 with_here a c queue h = cond-false (is_before a c) (a ∷ with_candidate c queue) (c ∷ a ∷ queue) h
 
 behind : (a : Candidate) (xs ys : List Candidate) → xs ≡ ys → a ∷ xs ≡ a ∷ ys

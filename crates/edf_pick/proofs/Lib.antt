@@ -1,6 +1,14 @@
 pub mod Before
 pub mod CallerLemmas
+pub mod Following
+pub mod Homing
+pub mod Listing
 pub mod Marked
+pub mod Moving
 pub mod Picked
+pub mod Renewed
+pub mod Resting
 pub mod Rising
+pub mod Scheduling
+pub mod Standing
 pub mod Words

@@ -2,19 +2,25 @@
 use Rattle.std.proofs.Common.{◌≡◌, ◌≢◌, ◌<◌, ◌≤◌, ℕ, zero, suc, Bool, true, false, cond, eqb, ltb, ◌||◌, ◌⊎◌, Option, Some, None, List, [], ◌∷◌, length, take, map, get_or, set, replicate, refl, sym, ap, ◌∙◌, subst, arith, inl, inr, eq-eqb, eqb-true, ◌+◌, zero-add}
 use mathlib.Core.Path.{fun_ext}
 use Rattle.std.specs.Prelude.{All, filter, not, is_none, position, slice_get, count_by, sum_by}
+use Rattle.std.specs.Int.{bit_at}
 use Rattle.std.specs.List.{list_any, position_or_len}
 use Rattle.std.proofs.lemmas.Bool.{cases_eq, cases_lt, ne_eqb, cond-true, ltb-true, lt-ltb, le-ltb, or_left, or_right}
 use Rattle.std.proofs.lemmas.List.Sums.{passes_at_first, position_or_len_is, sum_by-cons}
 use Rattle.std.proofs.lemmas.Option.{slice_get-get_or, slice_get_past}
+use Rattle.std.proofs.lemmas.Nat.Bits.{bit_at-lt}
 use Rattle.edf_pick.specs.declared.candidate.Candidate.{Candidate}
+use Rattle.edf_pick.specs.declared.changes.Gone.{Gone}
 use Rattle.edf_pick.specs.Order.{IsRising}
-use Rattle.edf_pick.specs.Places.{Places, taken, AreSingle, is_task, stands, is_free, seat_of, put, seated, placed}
-use Rattle.edf_pick.specs.private.First.{staying, is_home, moves, marked, seated_all}
+use Rattle.edf_pick.specs.Places.{Places, taken, AreTaken, AreSingle, is_task, stands, is_free, seat_of, put, seated, placed}
+use Rattle.edf_pick.specs.private.First.{staying, AreStaying, is_home, AreHomes, moves, AreMovers, AreLeaving, marked, seated_all}
 use Rattle.edf_pick.proofs.Picked.{picked}
 
 -- what is read past the end
 abbrev pub nobody : Candidate
 nobody = record { deadline = 0; number = 0; home = 0 }
+
+abbrev pub no_one : Gone
+no_one = record { cpu = 0; number = 0 }
 
 -- MARKED
 marked_same : (f g : ℕ → ℕ) (xs : List Candidate) → ((i : ℕ) → f i ≡ g i) → marked f xs ≡ marked g xs
@@ -97,7 +103,7 @@ free_position places cpu e =
     subst (λ i. is_free (slice_get places i) ≡ true) s.1 (ap is_free (slice_get-get_or places k None h) ∙ free)
 
 -- a task is seated where nobody stands
-seat_free : (places : Places) (c : Candidate) (cpu : ℕ) → seat_of places c ≡ Some cpu → is_free (slice_get places cpu) ≡ true
+pub seat_free : (places : Places) (c : Candidate) (cpu : ℕ) → seat_of places c ≡ Some cpu → is_free (slice_get places cpu) ≡ true
 seat_free places c cpu e = by_home (is_free (slice_get places c.home)) refl e
   where
     by_home : (b : Bool) → is_free (slice_get places c.home) ≡ b → cond b (Some c.home) (position (λ o. is_none o) places) ≡ Some cpu → is_free (slice_get places cpu) ≡ true
@@ -127,7 +133,7 @@ stays_put n m (o ∷ places) (suc cpu) free h =
       | false ↦ λ e. stays_put n m places cpu free e
     ] h
 
-stays_seated : (n : ℕ) (places : Places) (c : Candidate) → stands n places ≡ true → stands n (seated places c) ≡ true
+pub stays_seated : (n : ℕ) (places : Places) (c : Candidate) → stands n places ≡ true → stands n (seated places c) ≡ true
 stays_seated n places c h =
     elim (stands c.number places) as (λ b. stands n (cond b places (put places c.number (seat_of places c))) ≡ true) [
       | true ↦ h
@@ -145,7 +151,7 @@ stands_kept f n (Some k ∷ places) zero at same =
     or_left (is_task n (f (Some k))) (stands n (map f places)) (ap (λ (j : ℕ). is_task n (f (Some j))) (eqb-true k n at) ∙ ap (λ (o : Option ℕ). is_task n o) same ∙ eq-eqb n n refl)
 stands_kept f n (o ∷ places) (suc cpu) at same = or_right (is_task n (f o)) (stands n (map f places)) (stands_kept f n places cpu at same)
 
-any_at : (p : Candidate → Bool) (xs : List Candidate) (k : ℕ) (d : Candidate) → k < length xs → p (get_or xs k d) ≡ true → list_any p xs ≡ true
+pub any_at : (p : Candidate → Bool) (xs : List Candidate) (k : ℕ) (d : Candidate) → k < length xs → p (get_or xs k d) ≡ true → list_any p xs ≡ true
 any_at p [] k d h e = absurd (omega arith)
 any_at p (x ∷ xs) zero d h e = or_left (p x) (list_any p xs) e
 any_at p (x ∷ xs) (suc k) d h e = or_right (p x) (list_any p xs) (any_at p xs k d (omega arith) e)
@@ -184,7 +190,7 @@ kept_all chosen (o ∷ old) (x ∷ new) len same =
     ap (λ (y : Option ℕ). y ∷ new) (same 0) ∙ ap (λ (ys : Places). staying chosen o ∷ ys) (kept_all chosen old new (omega arith) (λ cpu. same (suc cpu)))
 
 -- ONE LOOK FOR EACH TASK
-task_is : (n : ℕ) (o : Option ℕ) → is_task n o ≡ true → o ≡ Some n
+pub task_is : (n : ℕ) (o : Option ℕ) → is_task n o ≡ true → o ≡ Some n
 task_is n None at = absurd cc
 task_is n (Some k) at = ap (λ (j : ℕ). Some j) (eqb-true k n at)
 
@@ -259,9 +265,10 @@ not_true : (b : Bool) → not b ≡ false → b ≡ true
 not_true true e = refl
 not_true false e = absurd cc
 
-pub staying_movers : (chosen : List Candidate) (places : Places) (f homes : ℕ → ℕ) (cpu : ℕ) → AreSingle places → All (λ c. is_home places c ≡ true → homes c.home ≡ 1) chosen
-    → ((i : ℕ) → f i ≡ moves places (slice_get chosen i)) → homes cpu ≡ 0 → staying (marked f chosen) (get_or places cpu None) ≡ staying chosen (get_or places cpu None)
-staying_movers chosen places f homes cpu single whole movers bare = by_occupant (get_or places cpu None) refl
+-- where no chosen task is at home
+pub staying_movers : (chosen : List Candidate) (places : Places) (f : ℕ → ℕ) (cpu : ℕ) → AreSingle places → All (λ c. is_home places c ≡ true → c.home ≢ cpu) chosen
+    → ((i : ℕ) → f i ≡ moves places (slice_get chosen i)) → staying (marked f chosen) (get_or places cpu None) ≡ staying chosen (get_or places cpu None)
+staying_movers chosen places f cpu single apart movers = by_occupant (get_or places cpu None) refl
   where
     by_occupant : (o : Option ℕ) → get_or places cpu None ≡ o → staying (marked f chosen) o ≡ staying chosen o
     by_occupant None at = refl
@@ -272,19 +279,46 @@ staying_movers chosen places f homes cpu single whole movers bare = by_occupant 
         let c = get_or chosen k d in
         let home : is_home places c ≡ true = not_true (is_home places c) e in
         let stands_there : get_or places c.home None ≡ Some c.number = task_is c.number (get_or places c.home None) home in
-        ne_eqb c.number n (λ same.
-        let one : c.home ≡ cpu = single c.home cpu n (stands_there ∙ ap (λ (j : ℕ). Some j) same) at in
-        let both : homes cpu ≡ 1 = ap homes (sym one) ∙ whole k d h home in
-        omega arith) in
+        ne_eqb c.number n (λ same. apart k d h home (single c.home cpu n (stands_there ∙ ap (λ (j : ℕ). Some j) same) at)) in
         ap (λ (b : Bool). cond b (Some n) None) (ap (list_any p) (marked_movers places f chosen movers) ∙ sym (any_away p away chosen none))
 
+-- who stands somewhere stands on one of the CPUs
+pub occupied : (places : Places) (cpu n : ℕ) → get_or places cpu None ≡ Some n → cpu < length places
+occupied [] cpu n on = absurd cc
+occupied (o ∷ places) zero n on = omega arith
+occupied (o ∷ places) (suc cpu) n on = omega (arith, occupied places cpu n on)
+
+-- what a walk over all chosen tasks has marked
+pub walked_leaving : (chosen : List Candidate) (places : Places) (words homes movers left : ℕ) → AreSingle places → AreTaken places words → AreStaying chosen places homes → AreHomes chosen places homes → AreMovers chosen places movers
+    → ((i : ℕ) → bit_at left i ≡ 1 → bit_at words i ≡ 1) → ((i : ℕ) → bit_at left i ≡ 1 → bit_at homes i ≡ 0) → ((i : ℕ) → bit_at left i ≡ 0 → bit_at homes i ≡ 0 → bit_at words i ≡ 0)
+    → AreLeaving chosen places movers left
+walked_leaving chosen places words homes movers left single takes stays whole are here only bare = record {
+  within = λ cpu e. by_occupant cpu (get_or places cpu None) refl (sym (takes cpu) ∙ here cpu e);
+  only = λ cpu e. staying_movers chosen places (bit_at movers) cpu single
+      (λ k d h home at. let mark : bit_at homes cpu ≡ 1 = ap (bit_at homes) (sym at) ∙ whole k d h home in let none : bit_at homes cpu ≡ 0 = only cpu e in omega arith) are;
+  others = λ cpu e. elim (cases_eq (bit_at homes cpu) 1) [
+    | inl mark ↦ stays cpu mark
+    | inr other ↦
+        let none : taken (get_or places cpu None) ≡ 0 = sym (takes cpu) ∙ bare cpu e (omega (arith, other, bit_at-lt homes cpu)) in
+        ap (staying chosen) (nobody_there (get_or places cpu None) none) ∙ sym (nobody_there (get_or places cpu None) none)
+  ];
+}
+  where
+    by_occupant : (cpu : ℕ) (o : Option ℕ) → get_or places cpu None ≡ o → taken (get_or places cpu None) ≡ 1 → cpu < length places
+    by_occupant cpu None at e = absurd (let none : taken None ≡ 1 = ap taken (sym at) ∙ e in omega arith)
+    by_occupant cpu (Some n) at e = occupied places cpu n at
+
+    nobody_there : (o : Option ℕ) → taken o ≡ 0 → o ≡ None
+    nobody_there None e = refl
+    nobody_there (Some n) e = absurd (omega arith)
+
 -- NOBODY STANDS TWICE
-mapped : (f : Option ℕ → Option ℕ) → f None ≡ None → (places : Places) (cpu : ℕ) → get_or (map f places) cpu None ≡ f (get_or places cpu None)
+pub mapped : (f : Option ℕ → Option ℕ) → f None ≡ None → (places : Places) (cpu : ℕ) → get_or (map f places) cpu None ≡ f (get_or places cpu None)
 mapped f none [] cpu = sym none
 mapped f none (o ∷ places) zero = refl
 mapped f none (o ∷ places) (suc cpu) = mapped f none places cpu
 
-staying_same : (chosen : List Candidate) (o : Option ℕ) (n : ℕ) → staying chosen o ≡ Some n → o ≡ Some n
+pub staying_same : (chosen : List Candidate) (o : Option ℕ) (n : ℕ) → staying chosen o ≡ Some n → o ≡ Some n
 staying_same chosen None n e = absurd cc
 staying_same chosen (Some m) n e = by_test (list_any (λ c. eqb c.number m) chosen) e
   where
@@ -297,13 +331,13 @@ single_kept chosen places single a b n ea eb =
     single a b n (staying_same chosen (get_or places a None) n (sym (mapped (staying chosen) refl places a) ∙ ea))
     (staying_same chosen (get_or places b None) n (sym (mapped (staying chosen) refl places b) ∙ eb))
 
-stands_here : (n : ℕ) (places : Places) (cpu : ℕ) → get_or places cpu None ≡ Some n → stands n places ≡ true
+pub stands_here : (n : ℕ) (places : Places) (cpu : ℕ) → get_or places cpu None ≡ Some n → stands n places ≡ true
 stands_here n [] cpu at = absurd cc
 stands_here n (o ∷ places) zero at = or_left (is_task n o) (stands n places) (ap (λ (x : Option ℕ). is_task n x) at ∙ eq-eqb n n refl)
 stands_here n (o ∷ places) (suc cpu) at = or_right (is_task n o) (stands n places) (stands_here n places cpu at)
 
 -- who stands on a CPU once a task is put on one
-put_at : (places : Places) (cpu m a n : ℕ) → get_or (set places cpu (Some m)) a None ≡ Some n → ((a ≡ cpu) × (m ≡ n)) ⊎ (get_or places a None ≡ Some n)
+pub put_at : (places : Places) (cpu m a n : ℕ) → get_or (set places cpu (Some m)) a None ≡ Some n → ((a ≡ cpu) × (m ≡ n)) ⊎ (get_or places a None ≡ Some n)
 put_at [] cpu m a n e = inr e
 put_at (o ∷ places) zero m zero n e = inl (refl, cc)
 put_at (o ∷ places) zero m (suc a) n e = inr e
@@ -327,7 +361,7 @@ single_put places cpu m single absent a b n ea eb =
       ]
     ]
 
-single_seated : (places : Places) (c : Candidate) → AreSingle places → AreSingle (seated places c)
+pub single_seated : (places : Places) (c : Candidate) → AreSingle places → AreSingle (seated places c)
 single_seated places c single =
     elim (stands c.number places) as (λ b. stands c.number places ≡ b → AreSingle (cond b places (put places c.number (seat_of places c)))) [
       | true ↦ λ e. single
@@ -352,3 +386,63 @@ pub none_stands : (n : ℕ) (places : Places) → ((cpu : ℕ) → 0 ≡ taken (
 none_stands n [] none = refl
 none_stands n (None ∷ places) none = none_stands n places (λ cpu. none (suc cpu))
 none_stands n (Some k ∷ places) none = absurd (let no = none 0 in omega arith)
+
+-- WHO STAYS WHERE
+-- who stands on a CPU is not moved by the seating of others
+put_stays : (places : Places) (cpu at m n : ℕ) → is_free (slice_get places at) ≡ true → get_or places cpu None ≡ Some n → get_or (set places at (Some m)) cpu None ≡ Some n
+put_stays [] cpu at m n free on = on
+put_stays (None ∷ places) zero zero m n free on = absurd cc
+put_stays (Some k ∷ places) cpu zero m n free on = absurd cc
+put_stays (o ∷ places) zero (suc at) m n free on = on
+put_stays (None ∷ places) (suc cpu) zero m n free on = on
+put_stays (o ∷ places) (suc cpu) (suc at) m n free on = put_stays places cpu at m n free on
+
+seated_stays : (places : Places) (c : Candidate) (cpu n : ℕ) → get_or places cpu None ≡ Some n → get_or (seated places c) cpu None ≡ Some n
+seated_stays places c cpu n on =
+    elim (stands c.number places) as (λ b. get_or (cond b places (put places c.number (seat_of places c))) cpu None ≡ Some n) [
+      | true ↦ on
+      | false ↦ by_seat (seat_of places c) refl
+    ]
+  where
+    by_seat : (o : Option ℕ) → seat_of places c ≡ o → get_or (put places c.number o) cpu None ≡ Some n
+    by_seat None e = on
+    by_seat (Some at) e = put_stays places cpu at c.number n (seat_free places c at e) on
+
+pub all_stay : (chosen : List Candidate) (places : Places) (cpu n : ℕ) → get_or places cpu None ≡ Some n → get_or (seated_all chosen places) cpu None ≡ Some n
+all_stay [] places cpu n on = on
+all_stay (c ∷ chosen) places cpu n on = all_stay chosen (seated places c) cpu n (seated_stays places c cpu n on)
+
+-- where nobody goes and nobody comes, the same one stands
+pub unchanged : (chosen movers : List Candidate) (old mid new : Places) (cpu : ℕ) → mid ≡ map (staying chosen) old → new ≡ seated_all movers mid
+    → (taken (get_or mid cpu None) ≡ 0 → taken (get_or old cpu None) ≡ 0) → (taken (get_or mid cpu None) ≡ 0 → taken (get_or new cpu None) ≡ 0) → get_or old cpu None ≡ get_or new cpu None
+unchanged chosen movers old mid new cpu mid_is new_is went came = by_occupant (get_or mid cpu None) refl
+  where
+    idle : (o : Option ℕ) → taken o ≡ 0 → o ≡ None
+    idle None e = refl
+    idle (Some n) e = absurd (omega arith)
+
+    by_occupant : (o : Option ℕ) → get_or mid cpu None ≡ o → get_or old cpu None ≡ get_or new cpu None
+    by_occupant None on =
+        let none : taken (get_or mid cpu None) ≡ 0 = ap taken on in
+        idle (get_or old cpu None) (went none) ∙ sym (idle (get_or new cpu None) (came none))
+    by_occupant (Some n) on =
+        let stood : get_or old cpu None ≡ Some n = staying_same chosen (get_or old cpu None) n (sym (mapped (staying chosen) refl old cpu) ∙ ap (λ (ps : Places). get_or ps cpu None) (sym mid_is) ∙ on) in
+        stood ∙ sym (ap (λ (ps : Places). get_or ps cpu None) new_is ∙ all_stay movers mid cpu n on)
+
+-- THE OTHERS STAND WHERE THEY STOOD
+stands_put : (n m : ℕ) (places : Places) (cpu : ℕ) → n ≢ m → is_free (slice_get places cpu) ≡ true → stands n (set places cpu (Some m)) ≡ stands n places
+stands_put n m [] cpu other free = refl
+stands_put n m (None ∷ places) zero other free = ap (λ (b : Bool). b || stands n places) (ne_eqb m n (λ e. other (sym e)))
+stands_put n m (Some k ∷ places) zero other free = absurd cc
+stands_put n m (o ∷ places) (suc cpu) other free = ap (λ (b : Bool). is_task n o || b) (stands_put n m places cpu other free)
+
+pub stands_seated : (n : ℕ) (places : Places) (c : Candidate) → n ≢ c.number → stands n (seated places c) ≡ stands n places
+stands_seated n places c other =
+    elim (stands c.number places) as (λ b. stands n (cond b places (put places c.number (seat_of places c))) ≡ stands n places) [
+      | true ↦ refl
+      | false ↦ by_seat (seat_of places c) refl
+    ]
+  where
+    by_seat : (o : Option ℕ) → seat_of places c ≡ o → stands n (put places c.number o) ≡ stands n places
+    by_seat None e = refl
+    by_seat (Some cpu) e = stands_put n c.number places cpu other (seat_free places c cpu e)

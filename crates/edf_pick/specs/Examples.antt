@@ -1,6 +1,8 @@
 -- Worked rows of the choice and the placement.
-use Rattle.std.specs.Prelude.{ℕ, ◌≡◌, [], ◌∷◌, Some, None, refl}
+use Rattle.std.specs.Prelude.{ℕ, ◌≡◌, [], ◌∷◌, map, false, Some, None, refl}
 use Rattle.edf_pick.specs.declared.candidate.Candidate.{Candidate}
+use Rattle.edf_pick.specs.Changes.{homed, unchanged}
+use Rattle.edf_pick.specs.Moves.{moved_from}
 use Rattle.edf_pick.specs.Order.{without_candidate, ordered}
 use Rattle.edf_pick.specs.Places.{placed}
 
@@ -40,3 +42,19 @@ in_order = refl
 taken_out : without_candidate (ready 8 1 3) (ready 5 7 1 ∷ ready 8 1 0 ∷ ready 8 2 0 ∷ [])
     ≡ ready 5 7 1 ∷ ready 8 2 0 ∷ []
 taken_out = refl
+
+-- the CPUs that another one has, in their order, and who stood there before: task 4 has gone from
+-- CPU 1, and task 2 has come to CPU 2, which was idle
+two_moved : moved_from 0 (Some 1 ∷ Some 4 ∷ None ∷ []) (Some 1 ∷ None ∷ Some 2 ∷ [])
+    ≡ record { cpu = 1; before = Some 4 } ∷ record { cpu = 2; before = None } ∷ []
+two_moved = refl
+
+-- who stands belongs to that CPU, and who stands nowhere to the one that it had
+each_home : map (homed (None ∷ Some 2 ∷ [])) (ready 5 2 0 ∷ ready 8 1 0 ∷ [])
+    ≡ ready 5 2 1 ∷ ready 8 1 0 ∷ []
+each_home = refl
+
+-- after a choice of two the cut is the second task
+cut_of_two : unchanged 2 (ready 5 7 1 ∷ ready 8 1 0 ∷ ready 8 2 0 ∷ [])
+    ≡ record { cut = Some (ready 8 1 0); fresh = []; gone = []; many = false }
+cut_of_two = refl

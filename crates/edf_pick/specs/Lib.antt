@@ -1,5 +1,8 @@
 pub mod Choice
 pub mod Places
 pub mod Order
+pub mod Changes
+pub mod Moves
+pub mod Schedule
 pub mod private
 pub mod Examples

@@ -6,18 +6,27 @@
 //! (`specs/Choice.antt` and `specs/Places.antt` by counting, `specs/Order.antt` for the queue). To
 //! the crate above it promises that the occupants of the CPUs are exactly those, for a list in any
 //! order too (`proofs/CallerLemmas.antt`), and that neither a queue nor a placement grows: their
-//! types keep the room that they were opened with.
+//! types keep the room that they were opened with. [`Schedule`] is both as one, and chooses by what
+//! has changed since the last choice (`specs/Changes.antt`, `specs/Schedule.antt`): it looks at that
+//! alone, and lists the CPUs that another one has (`specs/Moves.antt`).
 #![tactic(auto)]
 
 mod candidate;
+mod changes;
+mod listed;
 mod marks;
+mod moves;
 mod order;
 mod picking;
 mod placement;
 mod queue;
+mod schedule;
 mod seats;
 
 pub use candidate::Candidate;
+pub use changes::{Changes, Gone};
+pub use moves::{Moved, Moves};
 pub use placement::{Placement, pick};
 pub use queue::Queue;
+pub use schedule::Schedule;
 pub use seats::stands;

@@ -1,6 +1,6 @@
 //! The order of the choice: an earlier deadline first, ties by number.
 
-ghost use Rattle.std.specs.Prelude.{◌≡◌, ◌<◌, ◌≤◌, length, is_some, IfSome, IfNone};
+ghost use Rattle.std.specs.Prelude.{◌≡◌, ◌<◌, ◌≤◌, ◌==◌, length, is_some, IfSome, IfNone};
 ghost use Rattle.std.specs.List.{prefix_len, remove};
 ghost use Rattle.edf_pick.specs.Choice as choice;
 ghost use Rattle.edf_pick.specs.Order as order;
@@ -33,6 +33,8 @@ pub(crate) fn find(queue: &[Candidate], c: &Candidate) -> Option<usize>
     requires { order.IsRising queue.now }
     ensures there { is_some result ≡ order.has_candidate c.now queue.now }
     ensures inside { IfSome result (λ place. place < length queue.now) }
+    ensures place { IfSome result (λ place.
+        place ≡ prefix_len (λ a. choice.is_before a c.now) queue.now) }
     ensures nowhere { IfNone result (order.without_candidate c.now queue.now ≡ queue.now) }
     ensures at { IfSome result (λ place. order.without_candidate c.now queue.now ≡ remove queue.now place) }
 {

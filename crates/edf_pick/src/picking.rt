@@ -1,15 +1,18 @@
 //! The choice and the placement, read off a queue: its first tasks are the chosen ones.
 
-ghost use Rattle.std.specs.Prelude.{ℕ, ◌≡◌, ◌==◌, ◌<◌, ◌≤◌, map, take, vec_len, vec_capacity, length, None, slice_index_or, slice_set};
+ghost use Rattle.std.specs.Prelude.{ℕ, ◌≡◌, ◌≢◌, ◌==◌, ◌<◌, ◌≤◌, false, AllPairs, IsTrue, map, take, vec_len, vec_capacity, length, None, slice_index_or, slice_set};
 ghost use Rattle.std.specs.Int.{bit_at};
 ghost use Rattle.std.specs.List.{list_any};
 ghost use Rattle.edf_pick.specs.private.First as spec;
+ghost use Rattle.edf_pick.specs.Changes.{IsListed};
 ghost use Rattle.edf_pick.specs.Order.{IsRising};
 ghost use Rattle.edf_pick.specs.Places.{AreSingle, AreTaken, placed};
 
 use crate::candidate::Candidate;
-use crate::marks::{beyond, first, with, without};
-use crate::seats::{is_at_home, seat};
+use crate::changes::Gone;
+use crate::listed::words_of;
+use crate::marks::{beyond, both, first, is_apart, with, without};
+use crate::seats::{is_at_home, seat, start};
 
 fn first_of(queue: &[Candidate], cpus: usize) -> &[Candidate]
     ensures { result.now ≡ take cpus queue.now }
@@ -111,13 +114,17 @@ fn keep_at(
     vacate(places, cpu, taken)
 }
 
-// A look only at the CPUs where somebody stands who is not at home and chosen.
-fn keep(places: &mut Vec<Option<u32>>, chosen: &[Candidate], parts: Parts, taken: u64) -> u64
+// A look only at the marked CPUs.
+fn keep(
+    places: &mut Vec<Option<u32>>,
+    chosen: &[Candidate],
+    left: u64,
+    movers: u64,
+    taken: u64,
+) -> u64
     requires few { vec_len places.old ≤ 64 }
-    requires single { AreSingle places.old.items }
-    requires staying { spec.AreStaying chosen.now places.old.items parts.homes }
-    requires homes { spec.AreHomes chosen.now places.old.items parts.homes }
-    requires movers { spec.AreMovers chosen.now places.old.items parts.movers }
+    requires movers { (i : ℕ) → bit_at movers i ≡ 1 → i < length chosen.now }
+    requires leaving { spec.AreLeaving chosen.now places.old.items movers left }
     requires taken { AreTaken places.old.items taken }
     ensures places { places.new.items ≡ map (spec.staying chosen.now) places.old.items }
     ensures len { vec_len places.new ≡ vec_len places.old }
@@ -125,11 +132,11 @@ fn keep(places: &mut Vec<Option<u32>>, chosen: &[Candidate], parts: Parts, taken
     ensures taken { AreTaken places.new.items result }
 {
     let mut marks = taken;
-    let mut left = beyond(taken, parts.homes);
-    'cpus: while left != 0 {
-        let cpu = first(left);
-        left = without(left, cpu);
-        marks = keep_at(places, chosen, parts.movers, cpu, marks);
+    let mut ahead = left;
+    'cpus: while ahead != 0 {
+        let cpu = first(ahead);
+        ahead = without(ahead, cpu);
+        marks = keep_at(places, chosen, movers, cpu, marks);
     }
     marks
 }
@@ -155,7 +162,99 @@ fn seat_marked(places: &mut Vec<Option<u32>>, chosen: &[Candidate], movers: u64,
     marks
 }
 
-pub(crate) fn pick_from(places: &mut Vec<Option<u32>>, queue: &[Candidate], taken: &mut u64)
+// As `seat_marked`, where the movers stand nowhere.
+fn start_marked(places: &mut Vec<Option<u32>>, chosen: &[Candidate], movers: u64, taken: u64) -> u64
+    requires few { vec_len places.old ≤ 64 }
+    requires within { (i : ℕ) → bit_at movers i ≡ 1 → i < length chosen.now }
+    requires numbered { AllPairs (λ a b. a.number ≢ b.number) chosen.now }
+    requires away { spec.AreAway chosen.now places.old.items movers }
+    requires taken { AreTaken places.old.items taken }
+    ensures places { places.new.items ≡ spec.seated_all (spec.marked (bit_at movers) chosen.now)
+        places.old.items }
+    ensures len { vec_len places.new ≡ vec_len places.old }
+    ensures room { vec_capacity places.new ≡ vec_capacity places.old }
+    ensures taken { AreTaken places.new.items result }
+{
+    let mut marks = taken;
+    let mut left = movers;
+    'tasks: while left != 0 {
+        let i = first(left);
+        left = without(left, i);
+        marks = start(places, &chosen[i], marks);
+    }
+    marks
+}
+
+fn seat_movers(
+    places: &mut Vec<Option<u32>>,
+    chosen: &[Candidate],
+    movers: u64,
+    is_away: bool,
+    taken: u64,
+) -> u64
+    requires few { vec_len places.old ≤ 64 }
+    requires within { (i : ℕ) → bit_at movers i ≡ 1 → i < length chosen.now }
+    requires numbered { IsTrue is_away → AllPairs (λ a b. a.number ≢ b.number) chosen.now }
+    requires away { IsTrue is_away → spec.AreAway chosen.now places.old.items movers }
+    requires taken { AreTaken places.old.items taken }
+    ensures places { places.new.items ≡ spec.seated_all (spec.marked (bit_at movers) chosen.now)
+        places.old.items }
+    ensures len { vec_len places.new ≡ vec_len places.old }
+    ensures room { vec_capacity places.new ≡ vec_capacity places.old }
+    ensures taken { AreTaken places.new.items result }
+{
+    if is_away {
+        return start_marked(places, chosen, movers, taken);
+    }
+    seat_marked(places, chosen, movers, taken)
+}
+
+// Who goes, by the marks of the CPUs, and then the movers. Marks of the CPUs that another one has.
+fn move_on(
+    places: &mut Vec<Option<u32>>,
+    chosen: &[Candidate],
+    left: u64,
+    movers: u64,
+    is_listed: bool,
+    taken: &mut u64,
+) -> u64
+    requires few { vec_len places.old ≤ 64 }
+    requires single { AreSingle places.old.items }
+    requires movers { spec.AreMovers chosen.now places.old.items movers }
+    requires leaving { spec.AreLeaving chosen.now places.old.items movers left }
+    requires apart { IsTrue is_listed → spec.AreApart chosen.now places.old.items movers left }
+    requires taken { AreTaken places.old.items taken.old }
+    ensures places { places.new.items ≡ spec.seated_all (spec.marked (bit_at movers) chosen.now)
+        (map (spec.staying chosen.now) places.old.items) }
+    ensures len { vec_len places.new ≡ vec_len places.old }
+    ensures room { vec_capacity places.new ≡ vec_capacity places.old }
+    ensures taken { AreTaken places.new.items taken.new }
+    ensures single { AreSingle places.new.items }
+    ensures changed { (cpu : ℕ) → bit_at result cpu ≡ 0
+        → slice_index_or places.old.items cpu None ≡ slice_index_or places.new.items cpu None }
+{
+    let stood = *taken;
+    let kept = keep(places, chosen, left, movers, stood);
+    let is_away = is_listed && is_apart(left, kept);
+    let now = seat_movers(places, chosen, movers, is_away, kept);
+    *taken = now;
+    both(beyond(stood, kept), beyond(now, kept))
+}
+
+/// What a choice did, as words of marks.
+#[derive(Clone, Copy)]
+pub(crate) struct Outcome {
+    /// The CPUs that may have another one.
+    pub(crate) changed: u64,
+    /// The places in the queue of the chosen tasks that did not stand at home.
+    pub(crate) movers: u64,
+}
+
+pub(crate) fn pick_from(
+    places: &mut Vec<Option<u32>>,
+    queue: &[Candidate],
+    taken: &mut u64,
+) -> Outcome
     requires rising { IsRising queue.now }
     requires few { vec_len places.old ≤ 64 }
     requires taken { AreTaken places.old.items taken.old }
@@ -165,9 +264,47 @@ pub(crate) fn pick_from(places: &mut Vec<Option<u32>>, queue: &[Candidate], take
     ensures room { vec_capacity places.new ≡ vec_capacity places.old }
     ensures taken { AreTaken places.new.items taken.new }
     ensures single { AreSingle places.new.items }
+    ensures movers { spec.AreMovers (take (vec_len places.old) queue.now) places.old.items result.movers }
+    ensures changed { (cpu : ℕ) → bit_at result.changed cpu ≡ 0
+        → slice_index_or places.old.items cpu None ≡ slice_index_or places.new.items cpu None }
 {
     let chosen = first_of(queue, places.len());
     let parts = parts_of(places, chosen);
-    let marks = keep(places, chosen, parts, *taken);
-    *taken = seat_marked(places, chosen, parts.movers, marks);
+    let left = beyond(*taken, parts.homes);
+    let changed = move_on(places, chosen, left, parts.movers, false, taken);
+    let movers = parts.movers;
+    Outcome { changed, movers }
+}
+
+/// As `pick_from`, where it is known what has changed since the last choice: a look at that alone.
+pub(crate) fn pick_listed(
+    places: &mut Vec<Option<u32>>,
+    queue: &[Candidate],
+    cut: &Option<Candidate>,
+    fresh: &[Candidate],
+    gone: &[Gone],
+    taken: &mut u64,
+) -> Outcome
+    requires rising { IsRising queue.now }
+    requires numbered { AllPairs (λ a b. a.number ≢ b.number) queue.now }
+    requires few { vec_len places.old ≤ 64 }
+    requires taken { AreTaken places.old.items taken.old }
+    requires single { AreSingle places.old.items }
+    requires listed { IsListed queue.now places.old.items
+        (record { cut = cut.now; fresh = fresh.now; gone = gone.now; many = false }) }
+    ensures places { places.new.items ≡ placed (vec_len places.old) queue.now places.old.items }
+    ensures len { vec_len places.new ≡ vec_len places.old }
+    ensures room { vec_capacity places.new ≡ vec_capacity places.old }
+    ensures taken { AreTaken places.new.items taken.new }
+    ensures single { AreSingle places.new.items }
+    ensures movers { spec.AreMovers (take (vec_len places.old) queue.now) places.old.items result.movers }
+    ensures changed { (cpu : ℕ) → bit_at result.changed cpu ≡ 0
+        → slice_index_or places.old.items cpu None ≡ slice_index_or places.new.items cpu None }
+{
+    let words = words_of(places, queue, cut, fresh, gone);
+    let left = beyond(words.left, words.homes);
+    let chosen = first_of(queue, places.len());
+    let changed = move_on(places, chosen, left, words.movers, true, taken);
+    let movers = words.movers;
+    Outcome { changed, movers }
 }

@@ -1,9 +1,15 @@
 //! Who stands on each CPU, and how that moves on by one tick.
 
-ghost use Rattle.std.specs.Prelude.{◌≡◌, ◌<◌, ◌≤◌, IfOk, None, length, replicate, vec_len, vec_capacity};
-ghost use Rattle.edf_pick.specs.Places.{placed};
+ghost use Rattle.std.specs.Prelude.{◌≡◌, ◌≢◌, ◌<◌, ◌≤◌, AllPairs, false, IfOk, None, length, replicate, take, vec_len, vec_capacity};
+ghost use Rattle.edf_pick.specs.Changes.{IsListed};
+ghost use Rattle.edf_pick.specs.Moves.{moved_from};
+ghost use Rattle.edf_pick.specs.Places.{AreSingle, placed};
+ghost use Rattle.edf_pick.specs.private.First.{AreMovers};
 
-use crate::picking::pick_from;
+use crate::candidate::Candidate;
+use crate::changes::Gone;
+use crate::moves::Moves;
+use crate::picking::{pick_from, pick_listed};
 use crate::queue::Queue;
 use std::alloc::{AllocError, Global};
 use std::marker::Model;
@@ -11,11 +17,12 @@ use std::marker::Model;
 /// Who stands on each of the 1 to 64 CPUs of a root domain: the number of a task, or nobody where
 /// the CPU is idle. Contracts see it as the list of its occupants. A placement with room for more
 /// or fewer than its CPUs, or where a task stands twice, cannot be built. Beside the list it keeps
-/// a word with a mark for each CPU on which somebody stands.
+/// a word with a mark for each CPU on which somebody stands, and a copy of the list.
 #[derive(Drop)]
 pub struct Placement {
     occupants: Vec<Option<u32>>,
     taken: u64,
+    before: Vec<Option<u32>>,
 }
 
 impl Model for Placement {
@@ -26,7 +33,8 @@ impl Model for Placement {
 
     ghost view = { λ p. p.occupants.items };
 
-    ghost invariant = { λ p. IsPlaces p.occupants.items (vec_capacity p.occupants) p.taken };
+    ghost invariant = { λ p. IsPlaces p.occupants.items p.before.items
+        (vec_capacity p.occupants) (vec_capacity p.before) p.taken };
 }
 
 // So many idle CPUs, with room for no more.
@@ -52,6 +60,7 @@ impl Placement {
         Ok(Placement {
             occupants: idle(alloc, cpus)?,
             taken: 0,
+            before: idle(alloc, cpus)?,
         })
     }
 
@@ -74,5 +83,54 @@ pub fn pick(placement: &mut Placement, queue: &Queue)
     ensures { placement.new ≡ placed (length placement.old) queue.now placement.old }
 {
     let tasks = queue.as_slice();
-    pick_from(&mut placement.occupants, tasks, &mut placement.taken);
+    let _ = pick_from(&mut placement.occupants, tasks, &mut placement.taken);
+    placement
+        .before
+        .copy_from_slice(placement.occupants.as_slice());
+}
+
+/// As `pick`, and lists the CPUs that another one has. Answers the places in the queue of the chosen
+/// tasks that did not stand at home, as a word of marks.
+pub(crate) fn pick_by_walk(placement: &mut Placement, queue: &Queue, moves: &mut Moves) -> u64
+    ensures places { placement.new ≡ placed (length placement.old) queue.now placement.old }
+    ensures moves { moves.new ≡ moved_from 0 placement.old placement.new }
+    ensures len { length placement.new ≡ length placement.old }
+    ensures some { 0 < length placement.old }
+    ensures movers { AreMovers (take (length placement.old) queue.now) placement.old result }
+    ensures single { AreSingle placement.old }
+    ensures still { AreSingle placement.new }
+{
+    let tasks = queue.as_slice();
+    let outcome = pick_from(&mut placement.occupants, tasks, &mut placement.taken);
+    let occupants = placement.occupants.as_slice();
+    moves.list(&mut placement.before, occupants, outcome.changed);
+    outcome.movers
+}
+
+/// As `pick_by_walk`, where it is known what has changed since the last choice.
+pub(crate) fn pick_by_list(
+    placement: &mut Placement,
+    queue: &Queue,
+    cut: &Option<Candidate>,
+    fresh: &[Candidate],
+    gone: &[Gone],
+    moves: &mut Moves,
+) -> u64
+    requires numbered { AllPairs (λ a b. a.number ≢ b.number) queue.now }
+    requires listed { IsListed queue.now placement.old
+        (record { cut = cut.now; fresh = fresh.now; gone = gone.now; many = false }) }
+    ensures places { placement.new ≡ placed (length placement.old) queue.now placement.old }
+    ensures moves { moves.new ≡ moved_from 0 placement.old placement.new }
+    ensures len { length placement.new ≡ length placement.old }
+    ensures some { 0 < length placement.old }
+    ensures movers { AreMovers (take (length placement.old) queue.now) placement.old result }
+    ensures single { AreSingle placement.old }
+    ensures still { AreSingle placement.new }
+{
+    let tasks = queue.as_slice();
+    let places = &mut placement.occupants;
+    let outcome = pick_listed(places, tasks, cut, fresh, gone, &mut placement.taken);
+    let occupants = placement.occupants.as_slice();
+    moves.list(&mut placement.before, occupants, outcome.changed);
+    outcome.movers
 }

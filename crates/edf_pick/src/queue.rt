@@ -1,6 +1,7 @@
 //! The ready tasks in the order of the choice.
 
-ghost use Rattle.std.specs.Prelude.{◌≡◌, ◌<◌, ◌≤◌, ◌==◌, false, [], length, IfOk};
+ghost use Rattle.std.specs.Prelude.{◌≡◌, ◌<◌, ◌≤◌, ◌==◌, true, false, [], length, is_some, slice_index_or, slice_set, Contains, IfOk, IfSome};
+ghost use Rattle.edf_pick.specs.declared.candidate.Candidate.{Candidate};
 ghost use Rattle.edf_pick.specs.Order as order;
 
 use crate::candidate::Candidate;
@@ -91,10 +92,30 @@ impl Queue {
         ensures removed { self.new ≡ order.without_candidate c.now self.old }
         ensures there { result ≡ order.has_candidate c.now self.old }
     {
+        self.take(c).is_some()
+    }
+
+    /// As `remove`, and answers the task that was there.
+    pub(crate) fn take(&mut self, c: &Candidate) -> Option<Candidate>
+        ensures removed { self.new ≡ order.without_candidate c.now self.old }
+        ensures there { is_some result ≡ order.has_candidate c.now self.old }
+        ensures entry { IfSome result (λ a. Contains self.old a) }
+        ensures same { IfSome result (λ a. order.is_same a c.now ≡ true) }
+    {
         let Some(place) = find(&self.tasks, c) else {
-            return false;
+            return None;
         };
+        let entry = self.tasks[place];
         self.tasks.remove(place);
-        true
+        Some(entry)
+    }
+
+    /// The task at this place belongs to this CPU from now on. No other task is touched.
+    pub(crate) fn rehome(&mut self, place: usize, cpu: usize)
+        requires { place < length self.old }
+        ensures { (d : Candidate) → self.new
+            ≡ slice_set self.old place (record (slice_index_or self.old place d) { home = cpu }) }
+    {
+        self.tasks[place].home = cpu;
     }
 }

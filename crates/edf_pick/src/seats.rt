@@ -1,7 +1,7 @@
 //! A seat for a task: it stays where it stands, else it goes to the CPU to which it belongs where
 //! that is free, else to the lowest free one.
 
-ghost use Rattle.std.specs.Prelude.{◌≡◌, ◌<◌, ◌≤◌, vec_len, vec_capacity, count_by, is_none, slice_get, slice_set, position, Some, length};
+ghost use Rattle.std.specs.Prelude.{◌≡◌, ◌<◌, ◌≤◌, vec_len, vec_capacity, count_by, is_none, slice_get, slice_index_or, slice_set, position, false, None, Some, length};
 ghost use Rattle.edf_pick.specs.Places as spec;
 ghost use Rattle.edf_pick.specs.private.First.{is_home};
 
@@ -31,11 +31,18 @@ pub fn stands(number: u32, places: &[Option<u32>]) -> bool
     times(number, places) != 0
 }
 
+/// Whether a task stands on this CPU.
+pub(crate) fn is_on(places: &[Option<u32>], cpu: usize, number: u32) -> bool
+    ensures { result ≡ spec.is_task number (slice_index_or places.now cpu None) }
+{
+    cpu < places.len() && is_task(number, &places[cpu])
+}
+
 /// Whether a task stands on the CPU to which it belongs.
 pub(crate) fn is_at_home(places: &[Option<u32>], c: &Candidate) -> bool
     ensures { result ≡ is_home places.now c.now }
 {
-    c.home < places.len() && is_task(c.number, &places[c.home])
+    is_on(places, c.home, c.number)
 }
 
 fn is_free(places: &[Option<u32>], cpu: usize) -> bool
@@ -92,7 +99,26 @@ fn has_seat(places: &[Option<u32>], number: u32, taken: u64) -> bool
     stands(number, places)
 }
 
-/// `taken` has a mark for each CPU on which somebody stands, and so has the answer.
+/// A seat for a task that stands nowhere. `taken` has a mark for each CPU on which somebody stands,
+/// and so has the answer.
+pub(crate) fn start(places: &mut Vec<Option<u32>>, c: &Candidate, taken: u64) -> u64
+    requires few { vec_len places.old ≤ 64 }
+    requires away { spec.stands c.now.number places.old.items ≡ false }
+    requires taken { spec.AreTaken places.old.items taken }
+    ensures places { places.new.items ≡ spec.seated places.old.items c.now }
+    ensures len { vec_len places.new ≡ vec_len places.old }
+    ensures room { vec_capacity places.new ≡ vec_capacity places.old }
+    ensures taken { spec.AreTaken places.new.items result }
+{
+    if let Some(cpu) = seat_of(places, c, taken)
+        && cpu < places.len()
+    {
+        return occupy(places, cpu, c.number, taken);
+    }
+    taken
+}
+
+/// A seat for a task, as `start`, if it stands nowhere.
 pub(crate) fn seat(places: &mut Vec<Option<u32>>, c: &Candidate, taken: u64) -> u64
     requires few { vec_len places.old ≤ 64 }
     requires taken { spec.AreTaken places.old.items taken }
@@ -104,10 +130,5 @@ pub(crate) fn seat(places: &mut Vec<Option<u32>>, c: &Candidate, taken: u64) -> 
     if has_seat(places, c.number, taken) {
         return taken;
     }
-    if let Some(cpu) = seat_of(places, c, taken)
-        && cpu < places.len()
-    {
-        return occupy(places, cpu, c.number, taken);
-    }
-    taken
+    start(places, c, taken)
 }

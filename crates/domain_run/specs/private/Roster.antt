@@ -4,7 +4,7 @@ use Rattle.std.specs.Prelude.{ℕ, ℤ, pos, neg_ℤ, ◌*◌, ◌<◌, ◌≤�
 use Rattle.domain_run.specs.declared.task.Condition.TheVariants.{Leaving}
 use Rattle.domain_run.specs.declared.task.Task.{Task}
 use Rattle.domain_run.specs.declared.change.Change.{Change}
-use Rattle.domain_run.specs.declared.change.Change.TheVariants.{Replenish, Settle, Unblock, Home, Run, Regrade, Release, End, Depart}
+use Rattle.domain_run.specs.declared.change.Change.TheVariants.{Replenish, Settle, Unblock, Run, Regrade, Release, End, Depart}
 use Rattle.domain_run.specs.declared.run_queue.RunQueue.{RunQueue}
 use Rattle.domain_run.specs.declared.standing.Standing.{Standing}
 use Rattle.domain_run.specs.Conditions.{is_ready, is_waiting}
@@ -21,15 +21,19 @@ use Rattle.grub_rules.specs.Rate as reclaiming
 use Rattle.domain_run.specs.Tick.{shares, sum_of}
 use Rattle.domain_run.specs.private.Seats.{SeatsView}
 use Rattle.domain_run.specs.private.Waiting.{owed_all, AllWait, runner_of, seat_of, IsRight, Lasts}
+use Rattle.edf_pick.specs.declared.moves.Moved.{Moved}
 use Rattle.edf_pick.specs.Places.{Places, stands}
 use Rattle.domain_run.specs.Sound.{occupant}
 
--- the listed tasks of a domain of so many CPUs, each charged up to now, and who sits on each CPU
+-- the listed tasks of a domain of so many CPUs, each charged up to now, who stands and who sits on
+-- each CPU, and which CPUs the last choice gave to another one
 pub record RosterView : Type 0 where
   pub cpus : ℕ
   -- the time up to which who sits has run
   pub clock : ℕ
   pub seats : List (Option Seat)
+  pub places : Places
+  pub moves : List Moved
   pub tasks : List Task
 
 -- what a roster keeps: its run queue counts its list, each seat has its task's charges, there is a
@@ -55,7 +59,6 @@ abbrev pub after_change : ℕ → Change → Task → Task
 after_change time Replenish t = replenish_due time t
 after_change time Settle t = settled time t
 after_change time Unblock t = unblocked time t
-after_change time (Home cpu) t = with_cpu (Some cpu) t
 after_change time (Run ticks left) t = ran_until time ticks left t
 after_change time (Regrade params) t = regraded params t
 after_change time Release t = released time t
@@ -76,7 +79,6 @@ abbrev pub MayMake : ℕ → Change → Task → Type 0
 MayMake time Replenish t = time < 2 ^ 42
 MayMake time Settle t = Unit {0}
 MayMake time Unblock t = time < 2 ^ 42
-MayMake time (Home cpu) t = Unit {0}
 MayMake time (Run ticks left) t = MayRun time ticks left t
 MayMake time (Regrade params) t = Unit {0}
 MayMake time Release t = IsTrue (is_waiting t.condition) × (time ≤ 2 ^ 42)
@@ -88,7 +90,6 @@ abbrev pub Fits : ℕ → Change → Type 0
 Fits cpus Replenish = Unit {0}
 Fits cpus Settle = Unit {0}
 Fits cpus Unblock = Unit {0}
-Fits cpus (Home cpu) = cpu < cpus
 Fits cpus (Run ticks left) = Unit {0}
 Fits cpus (Regrade params) = params.bw ≤ 2 ^ 26
 Fits cpus Release = Unit {0}

@@ -1,8 +1,9 @@
 -- What a domain keeps of its tasks beside their list, for the code's own contracts.
-use Rattle.std.specs.Prelude.{ℕ, ◌+◌, ◌-◌, ◌<◌, ◌≤◌, ◌^◌, ◌≡◌, ◌≢◌, ◌⊎◌, Bool, true, false, if◌then◌else◌, List, [], ◌∷◌, length, map, slice_set, All, AllPairs, Option, Some, None, IfSome}
+use Rattle.std.specs.Prelude.{ℕ, ◌+◌, ◌-◌, ◌<◌, ◌≤◌, ◌^◌, ◌≡◌, ◌≢◌, ◌⊎◌, Bool, true, if◌then◌else◌, List, [], ◌∷◌, length, map, slice_set, All, AllPairs, Option, Some, None, IfSome}
 use Rattle.grub_rules.specs.Accounts.{AreAccounts, Holds, Exchanges}
 use Rattle.edf_pick.specs.declared.candidate.Candidate.{Candidate}
-use Rattle.edf_pick.specs.Order.{ordered, has_candidate, with_candidate, without_candidate}
+use Rattle.edf_pick.specs.Order.{ordered, with_candidate, without_candidate}
+use Rattle.edf_pick.specs.Schedule.{IsAtHome}
 use Rattle.domain_run.specs.declared.task.Task.{Task}
 use Rattle.domain_run.specs.declared.standing.Standing.{Standing}
 use Rattle.domain_run.specs.declared.run_queue.RunQueue.{RunQueue}
@@ -23,11 +24,11 @@ ready_of t = if is_ready t.condition then Some (candidate_of t) else None
 abbrev pub standing_of : Task → Standing
 standing_of t = record { share = share_of t; ready = ready_of t; due = due_of t }
 
--- THE INVARIANT: the sums are those of the list, the queue has its ready tasks in order, and the
+-- THE INVARIANT: the sums are those of the list, the schedule has its ready tasks in order, and the
 -- timers tell when each is due
 pub record Counts (queue : RunQueue) (tasks : List Task) : Type 0 where
   pub sums : AreAccounts queue.accounts (shares tasks)
-  pub order : queue.ready ≡ ordered (candidates tasks)
+  pub order : queue.schedule.queue ≡ ordered (candidates tasks)
   pub due : queue.timers ≡ map due_of tasks
 
 -- what a list of tasks keeps so that the sums fit, and the queue has each task once
@@ -36,11 +37,16 @@ pub record IsRoster (tasks : List Task) : Type 0 where
   pub short : All (λ t. t.params.bw ≤ 2 ^ 26) tasks
   pub numbered : AllPairs (λ a b. a.number ≢ b.number) tasks
 
--- a run queue of so many CPUs counts this list
+-- who stands on a CPU belongs to it
+abbrev pub AreHomed : Places → List Task → Type 0
+AreHomed places tasks = All (λ t. with_last_cpu places t ≡ t) tasks
+
+-- a run queue of so many CPUs counts this list, and who stands on a CPU belongs to it
 pub record IsCounted (cpus : ℕ) (queue : RunQueue) (tasks : List Task) : Type 0 where
   pub wide : length queue.accounts.all ≡ cpus
   pub counts : Counts queue tasks
   pub roster : IsRoster tasks
+  pub homed : AreHomed queue.schedule.places tasks
 
 -- a queue with and without a task that is ready, or is not
 abbrev pub with_ready : Option Candidate → List Candidate → List Candidate
@@ -57,30 +63,26 @@ pub record MayTurn (place : ℕ) (queue : RunQueue) (before after : Standing) : 
   pub held : Holds queue.accounts before.share
   pub home : after.share.cpu < length queue.accounts.all
   pub fits : queue.accounts.total - before.share.bw + after.share.bw < 2 ^ 64
-  pub room : length (without_ready before.ready queue.ready) < 256
-  pub absent : IfSome after.ready
-      (λ c. has_candidate c (without_ready before.ready queue.ready) ≡ false)
+  pub room : length (without_ready before.ready queue.schedule.queue) < 256
+  pub numbered : IfSome after.ready
+      (λ c. All (λ a. a.number ≢ c.number) (without_ready before.ready queue.schedule.queue))
+  pub homed : IfSome after.ready (λ c. IsAtHome queue.schedule.places c)
 
 -- it has
 pub record HasTurned (place : ℕ) (before after : Standing) (old new : RunQueue) : Type 0 where
   pub sums : Exchanges old.accounts new.accounts (before.share ∷ []) (after.share ∷ [])
-  pub order : ((before.ready ≡ after.ready) × (new.ready ≡ old.ready))
-      ⊎ (new.ready ≡ with_ready after.ready (without_ready before.ready old.ready))
+  pub order : ((before.ready ≡ after.ready) × (new.schedule.queue ≡ old.schedule.queue))
+      ⊎ (new.schedule.queue
+      ≡ with_ready after.ready (without_ready before.ready old.schedule.queue))
+  pub places : new.schedule.places ≡ old.schedule.places
   pub due : ((before.due ≡ after.due) × (new.timers ≡ old.timers))
       ⊎ (new.timers ≡ slice_set old.timers place after.due)
 
--- who stands on a CPU belongs to it
-abbrev pub AreHomed : Places → List Task → Type 0
-AreHomed places tasks = All (λ t. with_last_cpu places t ≡ t) tasks
-
 -- what a state keeps: a domain, whose CPUs its roster has too, who stands on its CPUs, where that is
--- listed, a place for each CPU, and for both lists the room for so many that they were opened with, so they take no more
+-- listed, and for that list the room for so many that it was opened with, so it takes no more
 pub record IsState (d : Domain) (cpus : ℕ) (is_listed : Bool) (running : List ℕ)
-    (before before_capacity running_capacity : ℕ) : Type 0 where
+    (running_capacity : ℕ) : Type 0 where
   pub domain : IsDomain d
   pub wide : cpus ≡ d.cpus
-  pub homed : AreHomed d.curr d.tasks
   pub running_is : is_listed ≡ true → running ≡ running_numbers d.curr
-  pub before_len : before ≡ d.cpus
-  pub before_room : before_capacity ≡ d.cpus
   pub running_room : running_capacity ≡ d.cpus

@@ -4,7 +4,7 @@ use Rattle.std.specs.List.{flat_map}
 use Rattle.edf_pick.specs.Places.{Places}
 use Rattle.domain_run.specs.declared.task.Task.{Task}
 use Rattle.domain_run.specs.declared.change.Change.{Change}
-use Rattle.domain_run.specs.declared.change.Change.TheVariants.{Replenish, Settle, Unblock, Home, Run, Regrade, Release, End, Depart}
+use Rattle.domain_run.specs.declared.change.Change.TheVariants.{Replenish, Settle, Unblock, Run, Regrade, Release, End, Depart}
 use Rattle.domain_run.specs.declared.happened.What.{What}
 use Rattle.domain_run.specs.declared.happened.What.TheVariants.{JobEnds, NextReleased, Spent, Replenished, Released, WokenSpent}
 use Rattle.domain_run.specs.declared.happened.Happened.{Happened}
@@ -27,7 +27,6 @@ abbrev pub told_by_change : ℕ → Change → Task → List Happened
 told_by_change time Replenish t = told_by_replenishment time t
 told_by_change time Settle t = []
 told_by_change time Unblock t = told_by_unblocking time t
-told_by_change time (Home cpu) t = []
 told_by_change time (Run ticks left) t = told_until time ticks left t
 told_by_change time (Regrade params) t = []
 told_by_change time Release t = []
@@ -71,7 +70,6 @@ abbrev pub is_late_in : ℕ → Change → Task → Bool
 is_late_in time Replenish t = false
 is_late_in time Settle t = false
 is_late_in time Unblock t = false
-is_late_in time (Home cpu) t = false
 is_late_in time (Run ticks left) t = (t.work - ticks == 0) && passes_late_timer t.cursor time
 is_late_in time (Regrade params) t = false
 is_late_in time Release t = false
@@ -100,7 +98,6 @@ told_behind time Unblock before t = record nothing {
   second = told_if (is_over time before.condition && is_throttled t.condition) time t
       (WokenSpent (due t));
 }
-told_behind time (Home cpu) before t = nothing
 told_behind time (Run ticks left) before t = record {
   first = told_if (not (is_contending t.condition) || before.is_late) time t JobEnds;
   second = told_if (is_contending t.condition && before.is_late) time t

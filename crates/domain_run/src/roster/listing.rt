@@ -26,9 +26,11 @@ pub(super) fn push_task(tasks: &mut Vec<Task>, queue: &mut RunQueue, task: Task)
     requires home { task.cpu < length queue.old.accounts.all }
     requires short { task.params.bw ≤ 2 ^ 26 }
     requires absent { IsAbsent tasks.old.items task.number }
+    requires homed { parts_spec.with_last_cpu queue.old.schedule.places task ≡ task }
     requires counted { IsCounted (length queue.old.accounts.all) queue.old tasks.old.items }
     ensures tasks { tasks.new.items ≡ tasks.old.items ++ task ∷ [] }
     ensures counted { IsCounted (length queue.old.accounts.all) queue.new tasks.new.items }
+    ensures schedule { queue.new.schedule ≡ queue.old.schedule }
     ensures room { vec_capacity tasks.new ≡ vec_capacity tasks.old }
 {
     queue.accounts.join(&share_of(&task));
@@ -77,6 +79,7 @@ pub(super) fn drop_left(tasks: &mut Vec<Task>, queue: &mut RunQueue, index: &mut
     requires { IsCounted (length queue.old.accounts.all) queue.old tasks.old.items }
     ensures tasks { tasks.new.items ≡ filter parts_spec.is_listed tasks.old.items }
     ensures counted { IsCounted (length queue.old.accounts.all) queue.new tasks.new.items }
+    ensures schedule { queue.new.schedule ≡ queue.old.schedule }
     ensures few { vec_len tasks.new ≤ vec_len tasks.old }
     ensures room { vec_capacity tasks.new ≡ vec_capacity tasks.old }
 {
@@ -122,6 +125,7 @@ pub(super) fn drop_number(
     requires counted { IsCounted (length queue.old.accounts.all) queue.old tasks.old.items }
     ensures tasks { tasks.new.items ≡ filter (is_other number) tasks.old.items }
     ensures counted { IsCounted (length queue.old.accounts.all) queue.new tasks.new.items }
+    ensures schedule { queue.new.schedule ≡ queue.old.schedule }
     ensures room { vec_capacity tasks.new ≡ vec_capacity tasks.old }
 {
     part_number(&mut queue.accounts, tasks, number);

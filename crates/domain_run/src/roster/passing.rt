@@ -68,6 +68,7 @@ impl Roster {
         requires ends { IfSome (slice_index_or self.old.seats cpu None) (λ s. self.old.clock + ticks ≤ s.end) }
         requires sound { All (IsSound time) self.old.tasks }
         ensures cpus { self.new.cpus ≡ self.old.cpus }
+        ensures places { self.new.places ≡ self.old.places }
         ensures clock { self.new.clock ≡ self.old.clock }
         ensures seats { self.new.seats ≡ slice_set self.old.seats cpu None }
         ensures tasks { map (spec.passed time ticks self.new.seats) self.new.tasks
@@ -97,6 +98,7 @@ impl Roster {
         requires ends { (cpu : ℕ) → IfSome (slice_index_or self.old.seats cpu None) (λ s. self.old.clock + ticks ≤ s.end) }
         requires sound { All (IsSound time) self.old.tasks }
         ensures cpus { self.new.cpus ≡ self.old.cpus }
+        ensures places { self.new.places ≡ self.old.places }
         ensures tasks { self.new.tasks ≡ map (spec.passed time ticks self.old.seats) self.old.tasks }
         ensures sound { All (IsSound time) self.new.tasks }
     {

@@ -128,6 +128,7 @@ impl Roster {
         requires rated { All (λ t. t.number ≡ number → rate ≡ spec.rate_by basis t) self.old.tasks }
         requires may { All (λ t. t.number ≡ number → (t.cpu ≡ cpu) × spec.MaySit t) self.old.tasks }
         ensures cpus { self.new.cpus ≡ self.old.cpus }
+        ensures places { self.new.places ≡ self.old.places }
         ensures clock { self.new.clock ≡ self.old.clock }
         ensures tasks { self.new.tasks ≡ self.old.tasks }
         ensures others { (d : ℕ) → d ≢ cpu
@@ -198,13 +199,14 @@ impl Roster {
     /// The first CPU, from this one on, where someone is to sit down or to leave; where there is
     /// none, how many CPUs there are.
     #[inline(always)]
-    pub(crate) fn next_wrong(&self, places: &[Option<u32>], from: usize, limit: u64) -> usize
-        requires wide { length places.now ≡ self.now.cpus }
-        requires from { from ≤ length places.now }
+    pub(crate) fn next_wrong(&self, from: usize, limit: u64) -> usize
+        requires wide { length self.now.places ≡ self.now.cpus }
+        requires from { from ≤ length self.now.places }
         ensures from { from ≤ result }
-        ensures most { result ≤ length places.now }
-        ensures right { AreSeatedFrom places.now self.now limit from result }
+        ensures most { result ≤ length self.now.places }
+        ensures right { AreSeatedFrom self.now.places self.now limit from result }
     {
+        let places = self.occupants();
         let mut cpu = from;
         while cpu < places.len() && self.is_right(cpu, places[cpu], limit) {
             cpu += 1;
@@ -245,6 +247,7 @@ impl Roster {
         requires may { All (λ t. t.number ≡ number → (t.cpu ≡ cpu) × spec.MaySit t) self.old.tasks }
         requires basis { basis ≡ basis_in self.old.cpus limit self.old.tasks cpu }
         ensures cpus { self.new.cpus ≡ self.old.cpus }
+        ensures places { self.new.places ≡ self.old.places }
         ensures clock { self.new.clock ≡ self.old.clock }
         ensures tasks { self.new.tasks ≡ self.old.tasks }
         ensures others { (d : ℕ) → d ≢ cpu
@@ -266,6 +269,7 @@ impl Roster {
         requires within { sum_of self.old.tasks ≤ cap self.old.cpus limit }
         requires may { All (λ t. t.number ≡ number → (t.cpu ≡ cpu) × spec.MaySit t) self.old.tasks }
         ensures cpus { self.new.cpus ≡ self.old.cpus }
+        ensures places { self.new.places ≡ self.old.places }
         ensures clock { self.new.clock ≡ self.old.clock }
         ensures tasks { self.new.tasks ≡ self.old.tasks }
         ensures others { (d : ℕ) → d ≢ cpu
@@ -287,6 +291,7 @@ impl Roster {
         requires may { IfSome occupant
             (λ n. All (λ t. t.number ≡ n → (t.cpu ≡ cpu) × spec.MaySit t) self.old.tasks) }
         ensures cpus { self.new.cpus ≡ self.old.cpus }
+        ensures places { self.new.places ≡ self.old.places }
         ensures clock { self.new.clock ≡ self.old.clock }
         ensures tasks { self.new.tasks ≡ self.old.tasks }
         ensures others { (d : ℕ) → d ≢ cpu
@@ -303,6 +308,7 @@ impl Roster {
     /// Nobody sits any more.
     fn vacate_all(&mut self)
         ensures cpus { self.new.cpus ≡ self.old.cpus }
+        ensures places { self.new.places ≡ self.old.places }
         ensures tasks { self.new.tasks ≡ self.old.tasks }
         ensures nobody { (cpu : ℕ) → slice_index_or self.new.seats cpu None ≡ None }
     {
@@ -314,6 +320,7 @@ impl Roster {
     /// Where the clock of the seats has come far, everyone is charged, and it begins anew.
     pub(crate) fn wind_back(&mut self)
         ensures cpus { self.new.cpus ≡ self.old.cpus }
+        ensures places { self.new.places ≡ self.old.places }
         ensures tasks { self.new.tasks ≡ self.old.tasks }
         ensures early { self.new.clock ≤ 2 ^ 61 }
     {

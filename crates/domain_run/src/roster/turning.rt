@@ -63,7 +63,7 @@ fn turn_settled(task: &mut Task, queue: &mut RunQueue, place: usize, time: u64, 
 
 /// A task sits on a CPU no more; on one of them it does not sit as it is.
 #[inline(always)]
-fn leave_other(seats: &mut Seats, left: usize, cpu: usize, number: u32)
+pub(super) fn leave_other(seats: &mut Seats, left: usize, cpu: usize, number: u32)
     requires left { seats_spec.seat_by number (slice_index_or seats.old.seats left None) ≡ None }
     ensures { seats.new ≡ record seats.old { seats = seats_spec.left cpu number seats.old.seats } }
 {
@@ -136,6 +136,7 @@ pub(super) fn turn_task(
         ≡ waiting.left_of (slice_index_or (waiting.owed_all seats.new tasks.new.items) place d)
         (waiting.left_of (slice_index_or (waiting.owed_all seats.old tasks.old.items) place d)
         seats.old.seats) }
+    ensures places { queue.new.schedule.places ≡ queue.old.schedule.places }
     ensures clock { seats.new.upto ≡ seats.old.upto }
     ensures wide { length seats.new.seats ≡ length seats.old.seats }
     ensures room { vec_capacity tasks.new ≡ vec_capacity tasks.old }

@@ -28,14 +28,7 @@ impl State {
     {
         self.switches.try_reserve(self.cpus)?;
         log.make_room(9 * self.roster.len() + 192)?;
-        let changed = sweep::begin(
-            self.time,
-            &mut self.roster,
-            &mut self.curr,
-            &mut self.switches,
-            &mut self.before,
-            log,
-        );
+        let changed = sweep::begin(self.time, &mut self.roster, &mut self.switches, log);
         self.is_listed = are_still_listed(self.is_listed, changed);
         self.time += 1;
         Ok(())
@@ -45,7 +38,7 @@ impl State {
     fn list_running(&mut self)
         ensures { self.new ≡ self.old }
     {
-        relist(&mut self.running, self.is_listed, self.curr.occupants());
+        relist(&mut self.running, self.is_listed, self.roster.occupants());
         self.is_listed = true;
     }
 
@@ -97,7 +90,7 @@ impl State {
         ensures short { IfSome result (λ r. r.uinact ≤ 2 ^ 26) }
         ensures high { IfSome result (λ r. r.left ≤ℤ pos (2 ^ 52)) }
     {
-        let places = self.curr.occupants();
+        let places = self.roster.occupants();
         let Some(number) = standing_at(&self.running, self.is_listed, places, i) else {
             return None;
         };
@@ -145,7 +138,7 @@ impl State {
         ensures quiet { (d : Domain) → self.old ≡ jump.under_way d
             → told_by_ticks ticks d ≡ told_by_beginning d ++ told_by_last_end ticks d }
     {
-        relist(&mut self.running, self.is_listed, self.curr.occupants());
+        relist(&mut self.running, self.is_listed, self.roster.occupants());
         self.is_listed = true;
         let time = self.time + (ticks - 1);
         sweep::pay_all(&mut self.roster, &self.running, budgets, ticks, time, log);

@@ -23,13 +23,7 @@ impl State {
         ensures most { result ≤ most }
         ensures domain { (d : Domain) → self.old ≡ jump.under_way d → self.new ≡ tick.ticks result d }
     {
-        let ticks = to_event::leap(
-            &mut self.roster,
-            self.curr.occupants(),
-            self.limit,
-            most,
-            self.time,
-        );
+        let ticks = to_event::leap(&mut self.roster, self.limit, most, self.time);
         self.time += ticks - 1;
         ticks
     }

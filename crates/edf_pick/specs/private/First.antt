@@ -1,9 +1,9 @@
 -- The placement, where the chosen tasks stand in a list of their own, in the order of the choice.
-use Rattle.std.specs.Prelude.{ℕ, suc, ◌≡◌, ◌==◌, All, IsTrue, Bool, if◌then◌else◌, List, [], ◌∷◌, fold, slice_get, slice_index_or, Option, Some, None}
+use Rattle.std.specs.Prelude.{ℕ, suc, ◌≡◌, ◌==◌, ◌≢◌, ◌<◌, length, false, All, AllPairs, IsTrue, Bool, if◌then◌else◌, List, [], ◌∷◌, fold, slice_get, slice_index_or, Option, Some, None}
 use Rattle.std.specs.Int.{bit_at}
 use Rattle.std.specs.List.{list_any}
 use Rattle.edf_pick.specs.declared.candidate.Candidate.{Candidate}
-use Rattle.edf_pick.specs.Places.{Places, is_task, seated}
+use Rattle.edf_pick.specs.Places.{Places, is_task, stands, seated}
 
 -- an occupant that is chosen stays
 abbrev pub staying : List Candidate → Option ℕ → Option ℕ
@@ -39,6 +39,33 @@ marked mark [] = []
 marked mark (c ∷ chosen) =
     if mark 0 == 1 then c ∷ marked (λ i. mark (suc i)) chosen else marked (λ i. mark (suc i)) chosen
 
+-- marked are the CPUs from which somebody goes, and no CPU where a chosen task is at home; who stands
+-- on a marked CPU stays only as a mover
+pub record AreLeaving (chosen : List Candidate) (places : Places) (movers marks : ℕ) : Type 0 where
+  pub within : (cpu : ℕ) → bit_at marks cpu ≡ 1 → cpu < length places
+  pub only : (cpu : ℕ) → bit_at marks cpu ≡ 1
+      → staying (marked (bit_at movers) chosen) (slice_index_or places cpu None)
+      ≡ staying chosen (slice_index_or places cpu None)
+  pub others : (cpu : ℕ) → bit_at marks cpu ≡ 0
+      → staying chosen (slice_index_or places cpu None) ≡ slice_index_or places cpu None
+
+-- no two chosen tasks have one number, and a mover that stands does so on a marked CPU
+pub record AreApart (chosen : List Candidate) (places : Places) (movers marks : ℕ) : Type 0 where
+  pub numbered : AllPairs (λ a b. a.number ≢ b.number) chosen
+  pub standing : (i cpu : ℕ) (c : Candidate) → bit_at movers i ≡ 1 → slice_get chosen i ≡ Some c
+      → slice_index_or places cpu None ≡ Some c.number → bit_at marks cpu ≡ 1
+
+-- the marked tasks stand nowhere
+abbrev pub AreAway : List Candidate → Places → ℕ → Type 0
+AreAway chosen places movers =
+    (i : ℕ) (c : Candidate) → bit_at movers i ≡ 1 → slice_get chosen i ≡ Some c
+    → stands c.number places ≡ false
+
 -- the chosen tasks, seated one after another
 abbrev pub seated_all : List Candidate → Places → Places
 seated_all chosen places = fold seated places chosen
+
+-- room for 256 of two kinds
+pub record HasRoomFor256 (fresh gone : ℕ) : Type 0 where
+  pub come : fresh ≡ 256
+  pub went : gone ≡ 256

@@ -1,102 +1,81 @@
-use Rattle.std.proofs.Common.{List, [], ℕ, length, sym, ap, ◌∙◌, arith, map, subst}
+use Rattle.std.proofs.Common.{◌≡◌, Bool, true, false, not, eqb, eqb-true, refl, List, [], ◌∷◌, ◌++◌, ℕ, ◌≤◌, None, get_or, length, sym, ap, ◌∙◌, arith, map, subst}
+use Rattle.edf_pick.specs.declared.moves.Moved.{Moved}
+use Rattle.edf_pick.specs.Moves.{moved_from}
 use Rattle.edf_pick.specs.Places.{Places, placed}
+use Rattle.edf_pick.proofs.Moving.{moved_length}
+use Rattle.domain_run.specs.declared.switch.Switch.{Switch}
 use Rattle.domain_run.specs.declared.task.Task.{Task}
-use Rattle.domain_run.specs.Tick.{candidates}
-use Rattle.domain_run.proofs.Counting.{placed_counted, placed_seating}
-use Rattle.domain_run.specs.Parts.{with_last_cpu}
-use Rattle.domain_run.specs.Sound.{IsApart}
-use Rattle.domain_run.specs.private.RunQueue.{AreHomed}
-use Rattle.domain_run.proofs.AtHome.{homed_prepared, homed_placed}
-use Rattle.std.proofs.lemmas.List.{length-append}
-use Rattle.domain_run.specs.declared.happened.Happened.{Happened}
 use Rattle.domain_run.specs.Domain.{Domain}
-use Rattle.domain_run.specs.Log.{kept}
+use Rattle.domain_run.specs.Sound.{IsApart}
+use Rattle.domain_run.specs.Switches.{switches_from}
+use Rattle.domain_run.specs.Tick.{candidates}
+use Rattle.domain_run.specs.private.Choosing.{AreWithin, switch_of}
 use Rattle.domain_run.specs.private.Telling.{told_of_parts, GoHome}
 use Rattle.domain_run.proofs.Logging.{tells_home}
+use Rattle.domain_run.proofs.Moving.{state_homed, switched, moved_within, none_moved}
 use Rattle.domain_run.proofs.ToldRising.{beginning_apart}
 use Rattle.domain_run.proofs.sweep.begin.Goals as goal
+use Rattle.domain_run.proofs.sweep.begin.Goals.{After-choose}
 
-pub move_all-changed-requires-clause-same : goal.move_all-changed-requires-clause-same
-move_all-changed-requires-clause-same c =
-    let before = c.args.places.now in
-    let wide = (placed_seating c.ready.result.now c.wake_all.new.roster.tasks before c.pick.new.placement c.ready.ensures.ready c.ready.ensures.numbered c.requires.apart c.pick.ensures).wide in
-    let len : Places → ℕ = λ ps. length ps in
-    ap len (c.deref.ensures.value ∙ c.copy_places.ensures.places ∙ c.occupants.ensures.occupants) ∙ sym (ap len c.occupants-2.ensures.occupants ∙ wide)
+pub choose-requires-clause-wide : goal.choose-requires-clause-wide
+choose-requires-clause-wide c = ap (λ (ps : Places). length ps) c.wake_all.ensures.places ∙ c.requires.cpus ∙ sym c.wake_all.ensures.cpus
 
-pub move_all-changed-requires-clause-wide : goal.move_all-changed-requires-clause-wide
-move_all-changed-requires-clause-wide c =
-    let before = c.args.places.now in
-    let wide = (placed_seating c.ready.result.now c.wake_all.new.roster.tasks before c.pick.new.placement c.ready.ensures.ready c.ready.ensures.numbered c.requires.apart c.pick.ensures).wide in
-    let len : Places → ℕ = λ ps. length ps in
-    ap len c.occupants-2.ensures.occupants ∙ wide ∙ c.requires.cpus ∙ sym c.wake_all.ensures.cpus
+pub choose-requires-clause-apart : goal.choose-requires-clause-apart
+choose-requires-clause-apart c = subst IsApart (sym c.wake_all.ensures.places) c.requires.apart
 
-pub move_all-changed-requires-clause-apart : goal.move_all-changed-requires-clause-apart
-move_all-changed-requires-clause-apart c =
-    let before = c.args.places.now in
-    let seating = placed_seating c.ready.result.now c.wake_all.new.roster.tasks before c.pick.new.placement c.ready.ensures.ready c.ready.ensures.numbered c.requires.apart c.pick.ensures in
-    rw c.occupants-2.ensures.occupants seating.apart
+-- the CPUs that another one has, from those before
+moves_are : (c : After-choose) → c.choose.new.self.moves ≡ moved_from 0 c.args.roster.now.places c.choose.new.self.places
+moves_are c = c.choose.ensures.moves ∙ ap (λ (ps : Places). moved_from 0 ps c.choose.new.self.places) c.wake_all.ensures.places
 
-pub move_all-changed-requires-clause-stood : goal.move_all-changed-requires-clause-stood
-move_all-changed-requires-clause-stood c = subst IsApart (sym (c.deref.ensures.value ∙ c.copy_places.ensures.places ∙ c.occupants.ensures.occupants)) c.requires.apart
+pub add_switches-requires-clause-narrow : goal.add_switches-requires-clause-narrow
+add_switches-requires-clause-narrow c =
+    let before = c.args.roster.now.places in
+    let few : length before ≤ 64 = omega (arith, c.requires.cpus, c.requires.narrow) in
+    subst (AreWithin 64) (sym (moves_are (goal.at.add_switches-requires-clause-narrow c).After-choose))
+    (λ k d h. let less = moved_within 0 before c.choose.new.self.places k d h in omega (arith, less, few))
 
-pub move_all-changed-requires-clause-homed : goal.move_all-changed-requires-clause-homed
-move_all-changed-requires-clause-homed c =
-    let before = c.args.places.now in
-    let tasks = c.wake_all.new.roster.tasks in
-    let all : AreHomed before tasks = subst (AreHomed before) (sym c.wake_all.ensures.tasks) (homed_prepared before c.args.time c.args.roster.now.tasks c.requires.homed) in
-    subst (λ (ps : Places). AreHomed ps tasks) (sym (c.deref.ensures.value ∙ c.copy_places.ensures.places ∙ c.occupants.ensures.occupants)) all
+pub add_switches-requires-clause-room : goal.add_switches-requires-clause-room
+add_switches-requires-clause-room c =
+    let before = c.args.roster.now.places in
+    let are = moves_are (goal.at.add_switches-requires-clause-room c).After-choose in
+    omega (arith, c.requires.room, ap (λ (ms : List Moved). length ms) are, moved_length 0 before c.choose.new.self.places)
 
 pub returns-clause-places : goal.returns-clause-places
 returns-clause-places c =
-    let before = c.args.places.now in
-    c.pick.ensures
-    ∙ placed_counted (length before) c.ready.result.now c.wake_all.new.roster.tasks before c.ready.ensures.ready c.ready.ensures.numbered
-    ∙ ap (λ (ts : List Task). placed (length before) (candidates ts) before) c.wake_all.ensures.tasks
+    c.choose.ensures.places
+    ∙ (λ i. placed (length (c.wake_all.ensures.places i)) (candidates (c.wake_all.ensures.tasks i)) (c.wake_all.ensures.places i))
+
+pub returns-clause-switches : goal.returns-clause-switches
+returns-clause-switches c =
+    let before = c.args.roster.now.places in
+    let after = c.choose.new.self.places in
+    let first = c.wake_all.new.roster.tasks in
+    let tasks = c.choose.new.self.tasks in
+    let time = c.args.time in
+    let start = c.args.switches.now.items in
+    let are = moves_are (goal.at.returns-clause-switches c).After-choose in
+    c.add_switches.ensures.switches
+    ∙ ap (λ (ss : List Switch). start ++ ss)
+    (ap (λ (ms : List Moved). map (switch_of time tasks after) ms) are
+    ∙ switched time first tasks after (λ o. state_homed after first tasks o c.choose.ensures.tasks) 0 before after (λ i. ap (λ (n : ℕ). get_or after n None) (omega arith))
+    ∙ ap (λ (ts : List Task). switches_from time ts 0 before after) c.wake_all.ensures.tasks)
 
 pub returns-clause-none : goal.returns-clause-none
 returns-clause-none c none =
-    sym c.occupants-2.ensures.occupants ∙ sym (c.move_all-changed.ensures.none none) ∙ (c.deref.ensures.value ∙ c.copy_places.ensures.places ∙ c.occupants.ensures.occupants)
+    let before = c.args.roster.now.places in
+    let after = c.choose.new.self.places in
+    let are = moves_are (goal.at.returns-clause-none c).After-choose in
+    let len : length after ≡ length before = c.choose.ensures.wide ∙ ap (λ (ps : Places). length ps) c.wake_all.ensures.places in
+    let test : eqb (length c.moves.result.now) 0 ≡ true = sym c.is_empty.ensures ∙ negated c.is_empty.result none in
+    none_moved 0 before after len (sym are ∙ sym c.moves.ensures ∙ empty_is c.moves.result.now (eqb-true (length c.moves.result.now) 0 test))
+  where
+    negated : (b : Bool) → not b ≡ false → b ≡ true
+    negated true e = refl
+    negated false e = absurd cc
 
-pub returns-clause-homed : goal.returns-clause-homed
-returns-clause-homed c =
-    let places = c.pick.new.placement in
-    let tasks = c.wake_all.new.roster.tasks in
-    subst (AreHomed places) (sym (c.move_all-changed.ensures.tasks ∙ ap (λ (ps : Places). map (with_last_cpu ps) tasks) c.occupants-2.ensures.occupants)) (homed_placed places tasks)
-
-pub go_home-requires-clause-from : goal.go_home-requires-clause-from
-go_home-requires-clause-from c =
-    let log = c.args.log.now in
-    let told = told_of_parts c.args.time c.args.roster.now.tasks in
-    let len : List Happened → ℕ = λ hs. length hs in
-    omega (arith, c.len-from.ensures, ap len c.wake_all.ensures.told.happened, length-append log.happened (kept log told))
-
-pub go_home-requires-clause-narrow : goal.go_home-requires-clause-narrow
-go_home-requires-clause-narrow c =
-    let before = c.args.places.now in
-    let seating = placed_seating c.ready.result.now c.wake_all.new.roster.tasks before c.pick.new.placement c.ready.ensures.ready c.ready.ensures.numbered c.requires.apart c.pick.ensures in
-    let len : Places → ℕ = λ ps. length ps in
-    omega (arith, ap len c.occupants-3.ensures.occupants, seating.wide, c.requires.cpus, c.requires.narrow)
-
-pub go_home-requires-clause-wide : goal.go_home-requires-clause-wide
-go_home-requires-clause-wide c =
-    let before = c.args.places.now in
-    let wide = (placed_seating c.ready.result.now c.wake_all.new.roster.tasks before c.pick.new.placement c.ready.ensures.ready c.ready.ensures.numbered c.requires.apart c.pick.ensures).wide in
-    let len : Places → ℕ = λ ps. length ps in
-    ap len c.occupants-3.ensures.occupants ∙ wide ∙ c.requires.cpus ∙ sym (c.move_all-changed.ensures.cpus ∙ c.wake_all.ensures.cpus)
-
-pub go_home-requires-clause-apart : goal.go_home-requires-clause-apart
-go_home-requires-clause-apart c =
-    let before = c.args.places.now in
-    let seating = placed_seating c.ready.result.now c.wake_all.new.roster.tasks before c.pick.new.placement c.ready.ensures.ready c.ready.ensures.numbered c.requires.apart c.pick.ensures in
-    rw c.occupants-3.ensures.occupants seating.apart
-
-pub go_home-requires-clause-homed : goal.go_home-requires-clause-homed
-go_home-requires-clause-homed c =
-    let places = c.pick.new.placement in
-    let tasks = c.wake_all.new.roster.tasks in
-    let after = c.move_all-changed.new.roster.tasks in
-    let all : AreHomed places after = subst (AreHomed places) (sym (c.move_all-changed.ensures.tasks ∙ ap (λ (ps : Places). map (with_last_cpu ps) tasks) c.occupants-2.ensures.occupants)) (homed_placed places tasks) in
-    subst (λ (ps : Places). AreHomed ps after) (sym c.occupants-3.ensures.occupants) all
+    empty_is : (ms : List Moved) → length ms ≡ 0 → ms ≡ []
+    empty_is [] e = refl
+    empty_is (m ∷ ms) e = absurd (omega (arith, e))
 
 -- what the parts told, on the CPUs before the placement, is put in the order of those behind it
 pub returns-clause-told : goal.returns-clause-told
@@ -106,12 +85,9 @@ returns-clause-told c =
     let log = c.args.log.now in
     let woken = c.wake_all.new.log in
     let after = c.go_home.new.self in
-    let places : Places = c.pick.new.placement in
+    let places : Places = c.choose.new.self.places in
     let d : Domain = record { cpus = 0; limit = 0; time = time; tasks = tasks; used = []; curr = places; switches = [] } in
     let homes : GoHome places (length log.happened) woken.happened after.happened =
     subst (λ (n : ℕ). GoHome places n woken.happened after.happened) c.len-from.ensures
-    (subst (λ (ps : Places). GoHome ps c.len-from.result woken.happened after.happened) c.occupants-3.ensures.occupants c.go_home.ensures.home) in
+    (subst (λ (ps : Places). GoHome ps c.len-from.result woken.happened after.happened) c.occupants.ensures.occupants c.go_home.ensures.home) in
     tells_home places (told_of_parts time tasks) log woken after (beginning_apart d c.requires.numbered) c.wake_all.ensures.told c.go_home.ensures.wanted homes
-
-pub returns-clause-log : goal.returns-clause-log
-returns-clause-log c = omega (arith, c.wake_all.ensures.room, c.go_home.ensures.room)

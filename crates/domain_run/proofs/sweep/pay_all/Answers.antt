@@ -29,6 +29,7 @@ loop-i-init c =
     let log = c.args.log.now in
     record {
       cpus = refl;
+      places = refl;
       written = sym (map_itself (paid c.args.time [] c.args.ticks c.args.budgets.now) c.args.roster.now.tasks (λ k d h. refl));
       sound = c.requires.sound;
       told = record {
@@ -82,6 +83,7 @@ loop-i-preserved c =
           (λ k d h. paid_next c.args.time ns l.i c.args.ticks c.args.budgets.now (get_or first k d) c.requires.apart c.loop-i-test.true (same_paid c.args.time (take l.i ns) c.args.ticks c.args.budgets.now (get_or first k d)).number);
       sound = c.turn_number.ensures.sound;
       cpus = c.turn_number.ensures.cpus ∙ l.invariant.cpus;
+      places = c.turn_number.ensures.places ∙ l.invariant.places;
       told = record {
         tail = tail ++ G value_of;
         is = tells_more tail (G value_of) c.args.log.now l.log c.turn_number.new.log l.invariant.told.is (subst (λ (z : ℤ). Tells l.log (G z) c.turn_number.new.log) value c.turn_number.ensures.told);

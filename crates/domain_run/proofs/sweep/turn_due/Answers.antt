@@ -18,6 +18,7 @@ loop-place-init c =
     let none : [] ≡ flat_map f (take next.result tasks) = told_by c.args.time f g tasks tasks 0 next.result c.requires.quiet (omega arith) next.ensures.most refl refl next.ensures.others in
     record {
       cpus = refl;
+      places = refl;
       written = step_by c.args.time g tasks tasks 0 next.result c.requires.part.passes (omega arith) next.ensures.most refl next.ensures.others refl;
       len = refl;
       within = next.ensures.most;
@@ -46,6 +47,7 @@ loop-place-preserved c =
     let by : flat_map tell (take (l.place + 1) first) ≡ flat_map tell (take next.result first) = told_by c.args.time tell f first now (l.place + 1) next.result c.requires.quiet next.ensures.from within same written next.ensures.others in
     record {
       cpus = s.ensures.cpus ∙ l.invariant.cpus;
+      places = s.ensures.places ∙ l.invariant.places;
       written = step_by c.args.time f first now (l.place + 1) next.result c.requires.part.passes next.ensures.from within same next.ensures.others written;
       len = same;
       within = within;

@@ -9,6 +9,7 @@ use Rattle.domain_run.proofs.sweep.turn_due.Given as goal
 abbrev pub invariant-loop-place : goal.invariant-loop-place
 invariant-loop-place l = record {
   cpus : l.roster.cpus ≡ l.fn.roster.cpus;
+  places : l.roster.places ≡ l.fn.roster.places;
   written : l.roster.tasks ≡ map (after_change l.time l.change) (take l.place l.fn.roster.tasks) ++ drop l.place l.fn.roster.tasks;
   len : length l.roster.tasks ≡ length l.fn.roster.tasks;
   within : l.place ≤ length l.fn.roster.tasks;

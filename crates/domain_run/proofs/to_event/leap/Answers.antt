@@ -2,7 +2,9 @@ use Rattle.std.proofs.Common.{◌≡◌, ◌+◌, ◌-◌, ℕ, List, map, sym, 
 use Rattle.std.specs.Prelude.{All, IfSome}
 use Rattle.domain_run.specs.declared.task.Task.{Task}
 use Rattle.domain_run.specs.Sound.{IsSound}
+use Rattle.edf_pick.specs.Places.{Places}
 use Rattle.domain_run.specs.private.Roster.{IsSeated}
+use Rattle.domain_run.specs.private.RunQueue.{AreHomed}
 use Rattle.domain_run.specs.private.Waiting.{seat_of, Lasts, passed}
 use Rattle.domain_run.proofs.Leaping.{leapt_all, lasts_all}
 use Rattle.domain_run.proofs.Paying.{sound_later}
@@ -11,15 +13,21 @@ use Rattle.domain_run.proofs.to_event.leap.Goals as goal
 tasks_are : (c : goal.After-pass) → c.seat_all.new.roster.tasks ≡ c.args.roster.now.tasks
 tasks_are c = c.seat_all.ensures.tasks ∙ c.wind_back.ensures.tasks
 
-right_are : (c : goal.After-pass) → All (IsSeated c.args.places.now c.args.roster.now.cpus c.args.limit c.args.roster.now.tasks c.seat_all.new.roster.seats) c.args.roster.now.tasks
+right_are : (c : goal.After-pass) → All (IsSeated c.args.roster.now.places c.args.roster.now.cpus c.args.limit c.args.roster.now.tasks c.seat_all.new.roster.seats) c.args.roster.now.tasks
 right_are c =
-    let places = c.args.places.now in
+    let places = c.args.roster.now.places in
     let old = c.args.roster.now in
     let mid = c.wind_back.new.self in
     let seats = c.seat_all.new.roster.seats in
     subst (λ (ts : List Task). All (IsSeated places old.cpus c.args.limit old.tasks seats) ts) (tasks_are c)
     (subst (λ (ts : List Task). All (IsSeated places old.cpus c.args.limit ts seats) c.seat_all.new.roster.tasks) c.wind_back.ensures.tasks
-    (subst (λ (n : ℕ). All (IsSeated places n c.args.limit mid.tasks seats) c.seat_all.new.roster.tasks) c.wind_back.ensures.cpus c.seat_all.ensures.right))
+    (subst (λ (n : ℕ). All (IsSeated places n c.args.limit mid.tasks seats) c.seat_all.new.roster.tasks) c.wind_back.ensures.cpus
+    (subst (λ (ps : Places). All (IsSeated ps mid.cpus c.args.limit mid.tasks seats) c.seat_all.new.roster.tasks) c.wind_back.ensures.places c.seat_all.ensures.right)))
+
+homed_are : (c : goal.After-pass) → AreHomed c.args.roster.now.places c.args.roster.now.tasks
+homed_are c =
+    subst (λ (ps : Places). AreHomed ps c.args.roster.now.tasks) c.wind_back.ensures.places
+    (subst (λ (ts : List Task). AreHomed c.wind_back.new.self.places ts) c.wind_back.ensures.tasks c.seat_all.ensures.homed)
 
 pub pass-requires-clause-clock : goal.pass-requires-clause-clock
 pass-requires-clause-clock c = omega (arith, c.seat_all.ensures.clock, c.wind_back.ensures.early, c.ticks_to_end-ticks.ensures.most, c.requires.early)
@@ -36,7 +44,7 @@ returns-clause-lasts c =
     let old = c.args.roster.now in
     let k = c.ticks_to_end-ticks.result in
     let seats = c.seat_all.new.roster.seats in
-    lasts_all k c.args.places.now old.cpus c.args.limit old.tasks seats c.requires.apart c.requires.homed (right_are c)
+    lasts_all k c.args.roster.now.places old.cpus c.args.limit old.tasks seats c.requires.apart (homed_are c) (right_are c)
     (subst (λ (ts : List Task). All (λ t. IfSome (seat_of seats t) (λ s. Lasts k s.rate t)) ts) (tasks_are c) c.ticks_to_end-ticks.ensures.lasts)
 
 pub returns-clause-tasks : goal.returns-clause-tasks
@@ -47,4 +55,4 @@ returns-clause-tasks c =
     let seats = c.seat_all.new.roster.seats in
     c.pass.ensures.tasks
     ∙ ap (λ (ts : List Task). map (passed end k seats) ts) (tasks_are c)
-    ∙ leapt_all end k c.args.places.now old.cpus c.args.limit old.tasks seats c.requires.apart c.requires.homed (right_are c)
+    ∙ leapt_all end k c.args.roster.now.places old.cpus c.args.limit old.tasks seats c.requires.apart (homed_are c) (right_are c)

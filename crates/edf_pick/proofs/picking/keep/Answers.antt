@@ -5,7 +5,7 @@ use Rattle.std.proofs.lemmas.List.{get_or-set_same, get_or-set_other}
 use Rattle.std.proofs.lemmas.Nat.Bits.{bit_at-zero}
 use Rattle.edf_pick.specs.Places.{Places}
 use Rattle.edf_pick.specs.private.First.{staying, marked}
-use Rattle.edf_pick.proofs.Marked.{kept_all, staying_movers}
+use Rattle.edf_pick.proofs.Marked.{kept_all}
 use Rattle.edf_pick.proofs.picking.keep.Goals as goal
 
 pub cpus-preserved : goal.cpus-preserved
@@ -17,32 +17,29 @@ cpus-preserved c =
     let i = c.first-cpu.result in
     let inv = c.cpus.invariant in
     let mark = c.first-cpu.ensures.marked in
-    let left = bit_at c.without-left.result in
-    let movers = marked (bit_at c.args.parts.movers) chosen in
+    let left = bit_at c.without-ahead.result in
+    let movers = marked (bit_at c.args.movers) chosen in
     let v = staying movers (get_or now i None) in
-    let inside : i < length now = omega (arith, inv.inside i mark, inv.len) in
-    let value : v ≡ staying chosen (get_or old i None) =
-    ap (staying movers) (inv.ahead i mark)
-    ∙ staying_movers chosen old (bit_at c.args.parts.movers) (bit_at c.args.parts.homes) i c.requires.single c.requires.homes c.requires.movers (inv.only i mark) in
+    let inside : i < length now = omega (arith, c.requires.leaving.within i (inv.inside i mark), inv.len) in
+    let value : v ≡ staying chosen (get_or old i None) = ap (staying movers) (inv.before i mark) ∙ c.requires.leaving.only i (inv.inside i mark) in
     let here : get_or new i None ≡ v = ap (λ (ps : Places). get_or ps i None) c.keep_at-marks.ensures.places ∙ get_or-set_same now i v None inside in
     let there : (k : ℕ) → k ≢ i → get_or new k None ≡ get_or now k None = λ k apart. ap (λ (ps : Places). get_or ps k None) c.keep_at-marks.ensures.places ∙ get_or-set_other now i k v None apart in
-    let before : (k : ℕ) → left k ≡ 1 → k ≢ i = λ k e same. let both : left k ≡ 0 = ap left same ∙ c.without-left.ensures.bare in omega arith in
-    let still : (k : ℕ) → left k ≡ 1 → bit_at c.cpus.left k ≡ 1 = λ k e. sym (c.without-left.ensures.others k (before k e)) ∙ e in
+    let before : (k : ℕ) → left k ≡ 1 → k ≢ i = λ k e same. let both : left k ≡ 0 = ap left same ∙ c.without-ahead.ensures.bare in omega arith in
+    let still : (k : ℕ) → left k ≡ 1 → bit_at c.cpus.ahead k ≡ 1 = λ k e. sym (c.without-ahead.ensures.others k (before k e)) ∙ e in
     record {
       len = c.keep_at-marks.ensures.len ∙ inv.len;
       room = c.keep_at-marks.ensures.room ∙ inv.room;
       inside = λ k e. inv.inside k (still k e);
-      only = λ k e. inv.only k (still k e);
-      ahead = λ k e. there k (before k e) ∙ inv.ahead k (still k e);
+      before = λ k e. there k (before k e) ∙ inv.before k (still k e);
       kept = λ k e. elim (cases_eq k i) [
         | inl same ↦ ap (λ (j : ℕ). get_or new j None) same ∙ here ∙ value ∙ sym (ap (λ (j : ℕ). staying chosen (get_or old j None)) same)
-        | inr apart ↦ there k apart ∙ inv.kept k (sym (c.without-left.ensures.others k apart) ∙ e)
+        | inr apart ↦ there k apart ∙ inv.kept k (sym (c.without-ahead.ensures.others k apart) ∙ e)
       ];
       taken = c.keep_at-marks.ensures.taken;
     }
 
 pub returns-clause-places : goal.returns-clause-places
 returns-clause-places c =
-    let done : c.cpus.left ≡ 0 = omega arith in
+    let done : c.cpus.ahead ≡ 0 = omega arith in
     kept_all c.args.chosen.now c.args.places.now.items c.cpus.places.items (omega (arith, c.cpus.invariant.len))
     (λ cpu. c.cpus.invariant.kept cpu (ap (λ (m : ℕ). bit_at m cpu) done ∙ bit_at-zero cpu))

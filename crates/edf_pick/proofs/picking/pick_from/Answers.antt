@@ -1,11 +1,23 @@
-use Rattle.std.proofs.Common.{◌≡◌, ◌∙◌, ℕ, List, map, take, vec_len, ap, sym, subst}
+use Rattle.std.proofs.Common.{◌≡◌, ◌∙◌, ℕ, List, map, take, vec_len, ap, subst}
 use Rattle.std.specs.Prelude.{slice_get}
 use Rattle.std.specs.Int.{bit_at}
 use Rattle.edf_pick.specs.declared.candidate.Candidate.{Candidate}
-use Rattle.edf_pick.specs.Places.{Places, AreSingle}
-use Rattle.edf_pick.specs.private.First.{staying, moves, marked, seated_all}
-use Rattle.edf_pick.proofs.Marked.{moved, single_kept, single_all}
+use Rattle.edf_pick.specs.Places.{Places}
+use Rattle.edf_pick.specs.private.First.{staying, moves, marked, seated_all, AreStaying, AreHomes, AreMovers}
+use Rattle.edf_pick.proofs.Marked.{moved, walked_leaving}
 use Rattle.edf_pick.proofs.picking.pick_from.Goals as goal
+
+pub move_on-changed-requires-clause-leaving : goal.move_on-changed-requires-clause-leaving
+move_on-changed-requires-clause-leaving c =
+    let before = c.args.places.now.items in
+    let chosen = c.first_of-chosen.result.now in
+    let parts = c.parts_of-parts in
+    let left = c.beyond-left in
+    walked_leaving chosen before c.args.taken.now parts.result.homes parts.result.movers left.result c.requires.single c.requires.taken
+    (subst (λ (ps : Places). AreStaying chosen ps parts.result.homes) c.deref.ensures.value parts.ensures.staying)
+    (subst (λ (ps : Places). AreHomes chosen ps parts.result.homes) c.deref.ensures.value parts.ensures.homes)
+    (subst (λ (ps : Places). AreMovers chosen ps parts.result.movers) c.deref.ensures.value parts.ensures.movers)
+    left.ensures.here left.ensures.only left.ensures.bare
 
 pub returns-clause-places : goal.returns-clause-places
 returns-clause-places c =
@@ -18,13 +30,15 @@ returns-clause-places c =
     let movers : (i : ℕ) → mark i ≡ moves before (slice_get (take cpus queue) i) = λ i.
     c.parts_of-parts.ensures.movers i ∙ ap (λ (ps : Places). moves ps (slice_get chosen i)) c.deref.ensures.value
     ∙ ap (λ (xs : List Candidate). moves before (slice_get xs i)) first in
-    c.seat_marked.ensures.places ∙ ap (λ (ps : Places). seated_all (marked mark chosen) ps) c.keep-marks.ensures.places
-    ∙ ap (λ (xs : List Candidate). seated_all (marked mark xs) (map (staying xs) before)) first ∙ moved cpus queue before mark c.requires.rising movers
+    c.move_on-changed.ensures.places ∙ ap (λ (xs : List Candidate). seated_all (marked mark xs) (map (staying xs) before)) first
+    ∙ moved cpus queue before mark c.requires.rising movers
 
-pub returns-clause-single : goal.returns-clause-single
-returns-clause-single c =
+pub returns-clause-movers : goal.returns-clause-movers
+returns-clause-movers c i =
+    let queue = c.args.queue.now in
+    let before = c.args.places.now.items in
+    let cpus = vec_len c.args.places.now in
     let chosen = c.first_of-chosen.result.now in
-    let kept : AreSingle c.keep-marks.new.places.items =
-    subst (λ (ps : Places). AreSingle ps) (sym c.keep-marks.ensures.places) (single_kept chosen c.args.places.now.items c.requires.single) in
-    subst (λ (ps : Places). AreSingle ps) (sym c.seat_marked.ensures.places)
-    (single_all (marked (bit_at c.parts_of-parts.result.movers) chosen) c.keep-marks.new.places.items kept)
+    let first : chosen ≡ take cpus queue = c.first_of-chosen.ensures ∙ ap (λ (k : ℕ). take k queue) c.len.ensures in
+    c.parts_of-parts.ensures.movers i ∙ ap (λ (ps : Places). moves ps (slice_get chosen i)) c.deref.ensures.value
+    ∙ ap (λ (xs : List Candidate). moves before (slice_get xs i)) first

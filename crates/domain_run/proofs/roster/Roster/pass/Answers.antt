@@ -26,6 +26,7 @@ loop-cpu-preserved c =
     let behind = subst (λ (xs : List (Option Seat)). AreLater (map end_of xs) (c.upto.result + c.args.ticks) (l.cpu + 1) next.result) (view ∙ seats) next.ensures.others in
     record {
       cpus = c.finish_at.ensures.cpus ∙ l.invariant.cpus;
+      places = c.finish_at.ensures.places ∙ l.invariant.places;
       clock = c.finish_at.ensures.clock ∙ l.invariant.clock;
       end = l.invariant.end;
       within = let most = next.ensures.most in omega (arith, most, ap (λ (xs : List (Option Seat)). length xs) view);

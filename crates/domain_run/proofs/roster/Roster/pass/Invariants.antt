@@ -9,6 +9,7 @@ use Rattle.domain_run.proofs.roster.Roster.pass.Given as goal
 abbrev pub invariant-loop-cpu : goal.invariant-loop-cpu
 invariant-loop-cpu l = record {
   cpus : l.self.cpus ≡ l.fn.self.cpus;
+  places : l.self.places ≡ l.fn.self.places;
   clock : l.self.clock ≡ l.fn.self.clock;
   end : l.end ≡ l.fn.self.clock + l.ticks;
   within : l.cpu ≤ length l.self.seats;

@@ -29,5 +29,5 @@ returns-in-None c =
     let seat = c.in-Some.seat in
     let absent = absent_unlike f same seat.number s.tasks.items (subst (λ (r : RosterView). IsAbsent r.tasks seat.number) (sym c.self.view_is) c.in-None.ensures.absent) in
     let there = sym c.in-Some.ensures.seat in
-    view_again (length s.queue.accounts.all) c.args.cpu None s.seats c.set.new.self s.tasks.items s.tasks.items c.args.self.now c.self.view_is c.set.ensures
+    view_again s.queue c.args.cpu None s.seats c.set.new.self s.tasks.items s.tasks.items c.args.self.now c.self.view_is c.set.ensures
     (ap (λ (v : SeatsView). owed_all v s.tasks.items) c.set.ensures ∙ lost_view s.seats.upto c.args.cpu s.seats.seats s.tasks.items seat there absent)

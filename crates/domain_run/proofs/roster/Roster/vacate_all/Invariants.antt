@@ -4,6 +4,7 @@ use Rattle.domain_run.proofs.roster.Roster.vacate_all.Given as goal
 abbrev pub invariant-loop-cpu : goal.invariant-loop-cpu
 invariant-loop-cpu l = record {
   cpus : l.self.cpus ≡ l.fn.self.cpus;
+  places : l.self.places ≡ l.fn.self.places;
   tasks : l.self.tasks ≡ l.fn.self.tasks;
   long : length l.self.seats ≡ length l.fn.self.seats;
   nobody : (cpu : ℕ) → cpu < l.cpu → get_or l.self.seats cpu None ≡ None;

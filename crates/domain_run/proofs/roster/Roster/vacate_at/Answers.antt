@@ -61,5 +61,5 @@ returns c =
     let numbered = numbered_unlike f same s.tasks.items c.self.invariant.counted.roster.numbered in
     let is : y ≡ charged_on c.args.cpu s.seats.upto seat x = c.charge_on.ensures ∙ ap (λ (n : ℕ). charged_on c.args.cpu n seat x) c.upto.ensures.upto in
     let are = c.set.ensures in
-    view_again (length s.queue.accounts.all) c.args.cpu None s.seats c.set.new.self s.tasks.items (set s.tasks.items p y) c.args.self.now c.self.view_is are
+    view_again s.queue c.args.cpu None s.seats c.set.new.self s.tasks.items (set s.tasks.items p y) c.args.self.now c.self.view_is are
     (ap (λ (v : SeatsView). owed_all v (set s.tasks.items p y)) are ∙ ap (λ (t : Task). map (owed s.seats.upto (set s.seats.seats c.args.cpu None)) (set s.tasks.items p t)) is ∙ vacated_view s.seats.upto c.args.cpu s.seats.seats s.tasks.items seat there p x inside read number numbered)

@@ -24,7 +24,7 @@ pub returns-clause-counted : goal.returns-clause-counted
 returns-clause-counted c =
     let tasks = c.args.tasks.now.items in
     let queue = c.args.queue.now in
-    let new : RunQueue = record { accounts = c.part_left.new.accounts; ready = queue.ready; timers = c.set_timers.new.timers } in
+    let new : RunQueue = record { accounts = c.part_left.new.accounts; schedule = queue.schedule; timers = c.set_timers.new.timers } in
     let sums : AreAccounts new.accounts (shares (filter is_listed tasks)) = subst (λ (ts : List Task). AreAccounts new.accounts (shares (filter is_listed ts))) c.deref.ensures.value c.part_left.ensures.sums in
     let left : c.retain.new.self.items ≡ filter is_listed tasks = filter_same _ _ _ (λ x b f' k. search rules) _ _ c.retain.ensures.filtered in
     subst (IsCounted (length queue.accounts.all) new) (sym left) (counted_listed (length queue.accounts.all) queue new tasks c.part_left.ensures.wide refl (c.set_timers.ensures ∙ ap (map due_of) (c.deref-2.ensures.value ∙ left)) sums c.requires)

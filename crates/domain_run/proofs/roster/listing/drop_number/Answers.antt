@@ -22,7 +22,7 @@ returns-clause-counted c =
     let tasks = c.args.tasks.now.items in
     let queue = c.args.queue.now in
     let number = c.args.number in
-    let new : RunQueue = record { accounts = c.part_number.new.accounts; ready = queue.ready; timers = c.set_timers.new.timers } in
+    let new : RunQueue = record { accounts = c.part_number.new.accounts; schedule = queue.schedule; timers = c.set_timers.new.timers } in
     let sums : AreAccounts new.accounts (shares (filter (is_other number) tasks)) = subst (λ (ts : List Task). AreAccounts new.accounts (shares (filter (is_other number) ts))) c.deref.ensures.value c.part_number.ensures.sums in
     let left : c.retain.new.self.items ≡ filter (is_other number) tasks = filter_same _ _ _ (λ x b f' k. search rules) _ _ c.retain.ensures.filtered in
     subst (IsCounted (length queue.accounts.all) new) (sym left) (counted_others (length queue.accounts.all) queue new number tasks c.part_number.ensures.wide refl (c.set_timers.ensures ∙ ap (map due_of) (c.deref-2.ensures.value ∙ left)) sums c.requires.idle c.requires.counted)

@@ -1,7 +1,10 @@
 use Rattle.std.proofs.Common.{◌≡◌, ℕ, ◌++◌, ◌∷◌, [], refl, sym, ap, subst, ◌∙◌, arith, length}
+use Rattle.std.proofs.lemmas.List.Elements.{All-push}
 use Rattle.grub_rules.specs.declared.share.Share.{Share}
 use Rattle.grub_rules.specs.Accounts.{Exchanges}
+use Rattle.domain_run.specs.declared.task.Task.{Task}
 use Rattle.domain_run.specs.declared.run_queue.RunQueue.{RunQueue}
+use Rattle.domain_run.specs.Parts.{with_last_cpu}
 use Rattle.domain_run.specs.private.RunQueue.{IsCounted}
 use Rattle.domain_run.proofs.Counting.{total_short, counts_push, roster_push}
 use Rattle.domain_run.proofs.roster.listing.push_task.Goals as goal
@@ -16,9 +19,10 @@ returns-clause-counted c =
     let tasks = c.args.tasks.now.items in
     let queue = c.args.queue.now in
     let t = c.args.task in
-    let new : RunQueue = record { accounts = c.join.new.self; ready = queue.ready; timers = c.push.new.self } in
+    let new : RunQueue = record { accounts = c.join.new.self; schedule = queue.schedule; timers = c.push.new.self } in
     subst (IsCounted (length queue.accounts.all) new) (sym c.push_reserved.ensures.items) (record {
       wide = c.join.ensures.cpus;
       counts = counts_push queue new tasks t c.requires.idle refl (c.push.ensures ∙ ap (λ (n : ℕ). queue.timers ++ n ∷ []) c.due_of.ensures) c.requires.home (subst (λ x. Exchanges queue.accounts new.accounts [] (x ∷ [])) c.share_of.ensures c.join.ensures) c.requires.counted.counts;
       roster = roster_push tasks t c.requires.few c.requires.short c.requires.absent c.requires.counted.roster;
+      homed = All-push (λ (u : Task). with_last_cpu queue.schedule.places u ≡ u) tasks t c.requires.counted.homed c.requires.homed;
     })

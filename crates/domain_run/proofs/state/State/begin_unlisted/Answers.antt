@@ -16,35 +16,32 @@ begin-changed-requires-clause-cpus c = c.self.invariant.domain.steady.wide ∙ s
 pub invariant_of-self-2 : goal.invariant_of-self-2
 invariant_of-self-2 c =
     let s = c.self.inside in
-    let d : Domain = record { cpus = s.cpus; limit = s.limit; time = s.time; tasks = s.roster.tasks; used = s.used; curr = s.curr; switches = s.switches.items } in
+    let d : Domain = record { cpus = s.cpus; limit = s.limit; time = s.time; tasks = s.roster.tasks; used = s.used; curr = s.roster.places; switches = s.switches.items } in
     let b = c.begin-changed.new in
-    let m = middle d b.roster.tasks b.places b.switches.items c.self.invariant.domain c.begin-changed.ensures.prepared c.begin-changed.ensures.tasks c.begin-changed.ensures.places (c.begin-changed.ensures.switches ∙ rw c.try_reserve.ensures.items refl) in
+    let m = middle d b.roster.tasks b.roster.places b.switches.items c.self.invariant.domain c.begin-changed.ensures.prepared c.begin-changed.ensures.tasks c.begin-changed.ensures.places (c.begin-changed.ensures.switches ∙ rw c.try_reserve.ensures.items refl) in
     let early : d.time < 2 ^ 42 = subst (λ (x : Domain). x.time < 2 ^ 42) (sym c.self.view_is) c.requires in
     let is = under_way_is d c.self.invariant.domain early c.begin-changed.ensures.prepared in
     record {
       domain = subst IsDomain (sym (ap (λ (x : Domain). record x { time = d.time + 1 }) m.begun_is)) is.0;
       wide = c.begin-changed.ensures.cpus ∙ c.self.invariant.wide;
-      before_len = c.begin-changed.ensures.before_len ∙ c.self.invariant.before_len;
-      homed = c.begin-changed.ensures.homed;
       running_is = λ listed.
           let still = c.are_still_listed-self-inside.ensures listed in
           c.self.invariant.running_is still.0 ∙ ap running_numbers (sym (c.begin-changed.ensures.none still.1));
-      before_room = c.begin-changed.ensures.before_room ∙ c.self.invariant.before_room;
       running_room = c.self.invariant.running_room;
     }
 
 pub returns-clause-ok : goal.returns-clause-ok
 returns-clause-ok c =
     let s = c.self.inside in
-    let d : Domain = record { cpus = s.cpus; limit = s.limit; time = s.time; tasks = s.roster.tasks; used = s.used; curr = s.curr; switches = s.switches.items } in
+    let d : Domain = record { cpus = s.cpus; limit = s.limit; time = s.time; tasks = s.roster.tasks; used = s.used; curr = s.roster.places; switches = s.switches.items } in
     let b = c.begin-changed.new in
-    let m = middle d b.roster.tasks b.places b.switches.items c.self.invariant.domain c.begin-changed.ensures.prepared c.begin-changed.ensures.tasks c.begin-changed.ensures.places (c.begin-changed.ensures.switches ∙ rw c.try_reserve.ensures.items refl) in
+    let m = middle d b.roster.tasks b.roster.places b.switches.items c.self.invariant.domain c.begin-changed.ensures.prepared c.begin-changed.ensures.tasks c.begin-changed.ensures.places (c.begin-changed.ensures.switches ∙ rw c.try_reserve.ensures.items refl) in
     ap (λ (x : Domain). record x { time = d.time + 1 }) m.begun_is ∙ ap under_way c.self.view_is
 
 pub returns-clause-begun : goal.returns-clause-begun
 returns-clause-begun c =
     let s = c.self.inside in
-    let d : Domain = record { cpus = s.cpus; limit = s.limit; time = s.time; tasks = s.roster.tasks; used = s.used; curr = s.curr; switches = s.switches.items } in
+    let d : Domain = record { cpus = s.cpus; limit = s.limit; time = s.time; tasks = s.roster.tasks; used = s.used; curr = s.roster.places; switches = s.switches.items } in
     let early : d.time < 2 ^ 42 = subst (λ (x : Domain). x.time < 2 ^ 42) (sym c.self.view_is) c.requires in
     let placed : IsPlacement (under_way d) = (under_way_is d c.self.invariant.domain early c.begin-changed.ensures.prepared).1 in
     let same = returns-clause-ok c in
@@ -59,10 +56,10 @@ begin-changed-requires-clause-log c wanted = omega (arith, c.in_ok-make_room.ens
 pub returns-clause-told : goal.returns-clause-told
 returns-clause-told c =
     let s = c.self.inside in
-    let d : Domain = record { cpus = s.cpus; limit = s.limit; time = s.time; tasks = s.roster.tasks; used = s.used; curr = s.curr; switches = s.switches.items } in
+    let d : Domain = record { cpus = s.cpus; limit = s.limit; time = s.time; tasks = s.roster.tasks; used = s.used; curr = s.roster.places; switches = s.switches.items } in
     let b = c.begin-changed.new in
-    let m = middle d b.roster.tasks b.places b.switches.items c.self.invariant.domain c.begin-changed.ensures.prepared c.begin-changed.ensures.tasks c.begin-changed.ensures.places (c.begin-changed.ensures.switches ∙ rw c.try_reserve.ensures.items refl) in
-    let home : told_at_home b.places d.time d.tasks ≡ told_by_beginning d = ap (λ (x : Domain). told_at_home x.curr d.time d.tasks) m.begun_is in
+    let m = middle d b.roster.tasks b.roster.places b.switches.items c.self.invariant.domain c.begin-changed.ensures.prepared c.begin-changed.ensures.tasks c.begin-changed.ensures.places (c.begin-changed.ensures.switches ∙ rw c.try_reserve.ensures.items refl) in
+    let home : told_at_home b.roster.places d.time d.tasks ≡ told_by_beginning d = ap (λ (x : Domain). told_at_home x.curr d.time d.tasks) m.begun_is in
     let told : Tells c.make_room.new.self (told_by_beginning d) c.begin-changed.new.log = subst (λ hs. Tells c.make_room.new.self hs c.begin-changed.new.log) home c.begin-changed.ensures.told in
     let all = tells_more [] (told_by_beginning d) c.args.log.now c.make_room.new.self c.begin-changed.new.log c.make_room.ensures.told told in
     subst (λ (x : Domain). Tells c.args.log.now (told_by_beginning x) c.begin-changed.new.log) c.self.view_is all

@@ -1,20 +1,18 @@
-use Rattle.std.proofs.Common.{◌≡◌, refl, sym, subst, ap, ◌∙◌, List}
-use Rattle.domain_run.specs.declared.task.Task.{Task}
+use Rattle.std.proofs.Common.{◌≡◌, sym, subst, ap, ◌∙◌}
 use Rattle.std.specs.Prelude.{None}
 use Rattle.domain_run.specs.declared.call.Reply.TheVariants.{Changed}
 use Rattle.domain_run.specs.Domain.{Domain}
-use Rattle.domain_run.specs.Calls.{of_number, regrade_reply, task_of, changed, regraded}
+use Rattle.domain_run.specs.Calls.{regrade_reply, task_of, changed, regraded}
+use Rattle.domain_run.specs.Jump.{running_numbers}
 use Rattle.domain_run.specs.Sound.{IsDomain}
-use Rattle.domain_run.specs.private.RunQueue.{AreHomed}
-use Rattle.domain_run.proofs.AtHome.{homed_map}
-use Rattle.domain_run.proofs.Changing.{one_change, regrade_keeps}
+use Rattle.domain_run.proofs.Changing.{regrade_keeps}
 use Rattle.domain_run.proofs.state.State.change.Goals as goal
 
 abbrev before : goal.After-turn_number → Domain
-before c = let s = c.self.inside in record { cpus = s.cpus; limit = s.limit; time = s.time; tasks = s.roster.tasks; used = s.used; curr = s.curr; switches = s.switches.items }
+before c = let s = c.self.inside in record { cpus = s.cpus; limit = s.limit; time = s.time; tasks = s.roster.tasks; used = s.used; curr = s.roster.places; switches = s.switches.items }
 
-after_is : (c : goal.After-turn_number) → record (before c) { tasks = c.turn_number.new.self.tasks } ≡ changed (before c) c.args.number (regraded c.args.params.now)
-after_is c = ap (λ (ts : List Task). record (before c) { tasks = ts }) c.turn_number.ensures.tasks
+after_is : (c : goal.After-turn_number) → record (before c) { tasks = c.turn_number.new.self.tasks; curr = c.turn_number.new.self.places } ≡ changed (before c) c.args.number (regraded c.args.params.now)
+after_is c = λ i. record (before c) { tasks = c.turn_number.ensures.tasks i; curr = c.turn_number.ensures.places i }
 
 pub turn_number-requires-clause-may : goal.turn_number-requires-clause-may
 turn_number-requires-clause-may c k d h same = tt
@@ -23,11 +21,6 @@ pub invariant_of-self : goal.invariant_of-self
 invariant_of-self c = record {
   domain = subst IsDomain (sym (after_is c)) (regrade_keeps (before c) c.args.number c.args.params.now c.self.invariant.domain (subst (λ (e : Domain). regrade_reply e c.args.params.now None (task_of e c.args.number) ≡ Changed) (sym c.self.view_is) c.requires) (rw (← c.turn_number.ensures.tasks) c.turn_number.ensures.sound));
   wide = c.turn_number.ensures.cpus ∙ c.self.invariant.wide;
-  before_len = c.self.invariant.before_len;
-  homed =
-      let is = one_change c.args.number (regraded c.args.params.now) (record { number = λ t. refl; cpu = λ t. refl }) in
-      subst (AreHomed c.self.inside.curr) (sym c.turn_number.ensures.tasks) (homed_map c.self.inside.curr (of_number c.args.number (regraded c.args.params.now)) c.self.inside.roster.tasks is.number is.cpu c.self.invariant.homed);
-  running_is = c.self.invariant.running_is;
-  before_room = c.self.invariant.before_room;
+  running_is = λ listed. c.self.invariant.running_is listed ∙ ap running_numbers (sym c.turn_number.ensures.places);
   running_room = c.self.invariant.running_room;
 }

@@ -6,8 +6,6 @@ use Rattle.domain_run.specs.Domain.{Domain}
 use Rattle.domain_run.specs.Jump.{under_way, ticks_to_event, AreCharged}
 use Rattle.domain_run.specs.Sound.{IsDomain, IsPlacement}
 use Rattle.domain_run.specs.private.Paying.{paid}
-use Rattle.domain_run.specs.private.RunQueue.{AreHomed}
-use Rattle.domain_run.proofs.AtHome.{homed_map}
 use Rattle.domain_run.proofs.Paying.{sound_later, may_pay, later_is, same_paid, paid_is}
 use Rattle.domain_run.specs.Happened.{told_by_last_end}
 use Rattle.domain_run.specs.Log.{Tells}
@@ -30,52 +28,48 @@ pay_all-requires-clause-sound c =
 pub pay_all-requires-clause-may : goal.pay_all-requires-clause-may
 pay_all-requires-clause-may c =
     let s = c.self.inside in
-    let d : Domain = record { cpus = s.cpus; limit = s.limit; time = s.time; tasks = s.roster.tasks; used = s.used; curr = s.curr; switches = s.switches.items } in
+    let d : Domain = record { cpus = s.cpus; limit = s.limit; time = s.time; tasks = s.roster.tasks; used = s.used; curr = s.roster.places; switches = s.switches.items } in
     let charged : AreCharged d c.args.ticks c.args.budgets.now = subst (λ (x : Domain). AreCharged x c.args.ticks c.args.budgets.now) (sym c.self.view_is) c.requires.charged in
     let placed : IsPlacement d = subst IsPlacement (sym c.self.view_is) c.requires.begun.placed in
     rw (c.deref.ensures.value, c.relist.ensures.running, c.occupants.ensures.occupants) (may_pay d c.args.ticks c.args.budgets.now c.self.invariant.domain.steady placed c.requires.some charged)
 
 pub pay_all-requires-clause-apart : goal.pay_all-requires-clause-apart
-pay_all-requires-clause-apart c = rw (c.deref.ensures.value, c.relist.ensures.running, c.occupants.ensures.occupants) (standing_distinct c.self.inside.curr c.self.invariant.domain.steady.apart)
+pay_all-requires-clause-apart c = rw (c.deref.ensures.value, c.relist.ensures.running, c.occupants.ensures.occupants) (standing_distinct c.self.inside.roster.places c.self.invariant.domain.steady.apart)
 
 pub pay_all-requires-clause-many : goal.pay_all-requires-clause-many
 pay_all-requires-clause-many c =
     let s = c.self.inside in
-    let d : Domain = record { cpus = s.cpus; limit = s.limit; time = s.time; tasks = s.roster.tasks; used = s.used; curr = s.curr; switches = s.switches.items } in
+    let d : Domain = record { cpus = s.cpus; limit = s.limit; time = s.time; tasks = s.roster.tasks; used = s.used; curr = s.roster.places; switches = s.switches.items } in
     let charged : AreCharged d c.args.ticks c.args.budgets.now = subst (λ (x : Domain). AreCharged x c.args.ticks c.args.budgets.now) (sym c.self.view_is) c.requires.charged in
     charged.many ∙ sym (ap (λ (ns : List ℕ). length ns) (c.deref.ensures.value ∙ c.relist.ensures.running ∙ ap running_numbers c.occupants.ensures.occupants))
 
 pub invariant_of-self : goal.invariant_of-self
 invariant_of-self c =
     let s = c.self.inside in
-    let d : Domain = record { cpus = s.cpus; limit = s.limit; time = s.time; tasks = s.roster.tasks; used = s.used; curr = s.curr; switches = s.switches.items } in
+    let d : Domain = record { cpus = s.cpus; limit = s.limit; time = s.time; tasks = s.roster.tasks; used = s.used; curr = s.roster.places; switches = s.switches.items } in
     let end : ℕ = s.time + (c.args.ticks - 1) in
-    let tasks_are : c.pay_all.new.roster.tasks ≡ map (paid end (running_numbers s.curr) c.args.ticks c.args.budgets.now) s.roster.tasks = c.pay_all.ensures.tasks ∙ ap (λ (ns : List ℕ). map (paid end ns c.args.ticks c.args.budgets.now) s.roster.tasks) (c.deref.ensures.value ∙ c.relist.ensures.running ∙ ap running_numbers c.occupants.ensures.occupants) in
+    let tasks_are : c.pay_all.new.roster.tasks ≡ map (paid end (running_numbers s.roster.places) c.args.ticks c.args.budgets.now) s.roster.tasks = c.pay_all.ensures.tasks ∙ ap (λ (ns : List ℕ). map (paid end ns c.args.ticks c.args.budgets.now) s.roster.tasks) (c.deref.ensures.value ∙ c.relist.ensures.running ∙ ap running_numbers c.occupants.ensures.occupants) in
     let same_time : c.self.inside.time ≡ c.args.self.now.time = ap (λ (x : Domain). x.time) c.self.view_is in
     let early : end ≤ 2 ^ 42 = omega (arith, same_time, c.requires.early, c.requires.some) in
     record {
-      domain = later_is d (paid end (running_numbers c.self.inside.curr) c.args.ticks c.args.budgets.now) end c.pay_all.new.roster.tasks c.self.invariant.domain (same_paid end (running_numbers c.self.inside.curr) c.args.ticks c.args.budgets.now) (omega arith) early tasks_are c.pay_all.ensures.sound;
+      domain = subst (λ (ps : Places). IsDomain (record d { time = end; tasks = c.pay_all.new.roster.tasks; curr = ps })) (sym c.pay_all.ensures.places) (later_is d (paid end (running_numbers c.self.inside.roster.places) c.args.ticks c.args.budgets.now) end c.pay_all.new.roster.tasks c.self.invariant.domain (same_paid end (running_numbers c.self.inside.roster.places) c.args.ticks c.args.budgets.now) (omega arith) early tasks_are c.pay_all.ensures.sound);
       wide = c.pay_all.ensures.cpus ∙ c.self.invariant.wide;
-      before_len = c.self.invariant.before_len;
-      homed =
-          let same = same_paid end (running_numbers s.curr) c.args.ticks c.args.budgets.now in
-          subst (AreHomed s.curr) (sym tasks_are) (homed_map s.curr (paid end (running_numbers s.curr) c.args.ticks c.args.budgets.now) s.roster.tasks (λ t. (same t).number) (λ t. (same t).cpu) c.self.invariant.homed);
-      running_is = λ listed. c.relist.ensures.running ∙ ap running_numbers c.occupants.ensures.occupants;
-      before_room = c.self.invariant.before_room;
+      running_is = λ listed. c.relist.ensures.running ∙ ap running_numbers c.occupants.ensures.occupants ∙ ap running_numbers (sym c.pay_all.ensures.places);
       running_room = c.relist.ensures.room ∙ c.self.invariant.running_room;
     }
 
 pub returns-clause-domain : goal.returns-clause-domain
 returns-clause-domain c e is =
     let s = c.self.inside in
-    let d : Domain = record { cpus = s.cpus; limit = s.limit; time = s.time; tasks = s.roster.tasks; used = s.used; curr = s.curr; switches = s.switches.items } in
+    let d : Domain = record { cpus = s.cpus; limit = s.limit; time = s.time; tasks = s.roster.tasks; used = s.used; curr = s.roster.places; switches = s.switches.items } in
     let end : ℕ = s.time + (c.args.ticks - 1) in
-    let tasks_are : c.pay_all.new.roster.tasks ≡ map (paid end (running_numbers s.curr) c.args.ticks c.args.budgets.now) s.roster.tasks = c.pay_all.ensures.tasks ∙ ap (λ (ns : List ℕ). map (paid end ns c.args.ticks c.args.budgets.now) s.roster.tasks) (c.deref.ensures.value ∙ c.relist.ensures.running ∙ ap running_numbers c.occupants.ensures.occupants) in
+    let tasks_are : c.pay_all.new.roster.tasks ≡ map (paid end (running_numbers s.roster.places) c.args.ticks c.args.budgets.now) s.roster.tasks = c.pay_all.ensures.tasks ∙ ap (λ (ns : List ℕ). map (paid end ns c.args.ticks c.args.budgets.now) s.roster.tasks) (c.deref.ensures.value ∙ c.relist.ensures.running ∙ ap running_numbers c.occupants.ensures.occupants) in
     let k = c.args.ticks in
     let budgets = c.args.budgets.now in
     let same : d ≡ under_way e = c.self.view_is ∙ is in
     let tasks : c.pay_all.new.roster.tasks ≡ map (paid end (running_numbers (under_way e).curr) k budgets) (under_way e).tasks = tasks_are ∙ ap (λ (x : Domain). map (paid end (running_numbers x.curr) k budgets) x.tasks) same in
-    ap (λ (x : Domain). record x { time = end; tasks = c.pay_all.new.roster.tasks }) same
+    ap (λ (ps : Places). record d { time = end; tasks = c.pay_all.new.roster.tasks; curr = ps }) c.pay_all.ensures.places
+    ∙ ap (λ (x : Domain). record x { time = end; tasks = c.pay_all.new.roster.tasks }) same
     ∙ paid_is e k budgets end c.pay_all.new.roster.tasks (subst (λ (x : Domain). IsDomain x) same c.self.invariant.domain).steady (subst IsPlacement is c.requires.begun.placed) c.requires.some (subst (λ (x : Domain). k ≤ ticks_to_event x) is c.requires.quiet) (subst (λ (x : Domain). AreCharged x k budgets) is c.requires.charged) (ap (λ (x : Domain). x.time + (k - 1)) same) tasks
 
 pub pay_all-requires-clause-narrow : goal.pay_all-requires-clause-narrow
@@ -86,13 +80,13 @@ pay_all-requires-clause-numbered c = c.self.invariant.domain.steady.numbered
 
 pub pay_all-requires-clause-room : goal.pay_all-requires-clause-room
 pay_all-requires-clause-room c wanted =
-    let few : length (running_numbers c.self.inside.curr) ≤ 64 = standing_short _ c.self.invariant.domain.steady in
+    let few : length (running_numbers c.self.inside.roster.places) ≤ 64 = standing_short _ c.self.invariant.domain.steady in
     omega (arith, c.requires.room wanted, few, ap (λ (ns : List ℕ). length ns) (c.deref.ensures.value ∙ c.relist.ensures.running ∙ ap running_numbers c.occupants.ensures.occupants))
 
 pub returns-clause-told : goal.returns-clause-told
 returns-clause-told c e is =
     let s = c.self.inside in
-    let d : Domain = record { cpus = s.cpus; limit = s.limit; time = s.time; tasks = s.roster.tasks; used = s.used; curr = s.curr; switches = s.switches.items } in
+    let d : Domain = record { cpus = s.cpus; limit = s.limit; time = s.time; tasks = s.roster.tasks; used = s.used; curr = s.roster.places; switches = s.switches.items } in
     let end : ℕ = s.time + (c.args.ticks - 1) in
     let k = c.args.ticks in
     let budgets = c.args.budgets.now in
@@ -106,7 +100,7 @@ returns-clause-told c e is =
 pub returns-clause-quiet : goal.returns-clause-quiet
 returns-clause-quiet c e is =
     let s = c.self.inside in
-    let d : Domain = record { cpus = s.cpus; limit = s.limit; time = s.time; tasks = s.roster.tasks; used = s.used; curr = s.curr; switches = s.switches.items } in
+    let d : Domain = record { cpus = s.cpus; limit = s.limit; time = s.time; tasks = s.roster.tasks; used = s.used; curr = s.roster.places; switches = s.switches.items } in
     let k = c.args.ticks in
     let budgets = c.args.budgets.now in
     let same : d ≡ under_way e = c.self.view_is ∙ is in

@@ -6,15 +6,12 @@ use Rattle.domain_run.proofs.Passing.{forgets_keeps}
 use Rattle.domain_run.proofs.state.State.forget_switches.Goals as goal
 
 abbrev before : goal.After-clear → Domain
-before c = let s = c.self.inside in record { cpus = s.cpus; limit = s.limit; time = s.time; tasks = s.roster.tasks; used = s.used; curr = s.curr; switches = s.switches.items }
+before c = let s = c.self.inside in record { cpus = s.cpus; limit = s.limit; time = s.time; tasks = s.roster.tasks; used = s.used; curr = s.roster.places; switches = s.switches.items }
 
 pub invariant_of-self : goal.invariant_of-self
 invariant_of-self c = record {
   domain = subst IsDomain (sym (ap (λ (xs : List Switch). record (before c) { switches = xs }) c.clear.ensures.items)) (forgets_keeps (before c) c.self.invariant.domain);
   wide = c.self.invariant.wide;
-  homed = c.self.invariant.homed;
   running_is = c.self.invariant.running_is;
-  before_len = c.self.invariant.before_len;
-  before_room = c.self.invariant.before_room;
   running_room = c.self.invariant.running_room;
 }

@@ -15,9 +15,6 @@ invariant_of-self c =
     record {
       domain = i.domain;
       wide = i.wide;
-      before_len = i.before_len;
-      homed = i.homed;
       running_is = λ listed. c.relist.ensures.running ∙ ap running_numbers c.occupants.ensures.occupants;
-      before_room = i.before_room;
       running_room = c.relist.ensures.room ∙ i.running_room;
     }

@@ -1,5 +1,4 @@
 use Rattle.std.proofs.Common.{ap, sym}
-use Rattle.std.proofs.lemmas.List.Elements.{All-nil}
 use Rattle.domain_run.specs.private.Roster.{RosterView}
 use Rattle.domain_run.proofs.Homing.{standing_opened}
 use Rattle.domain_run.proofs.Opening.{opened_is}
@@ -7,11 +6,8 @@ use Rattle.domain_run.proofs.state.State.open.Goals as goal
 
 pub invariant_of-result : goal.invariant_of-result
 invariant_of-result c = record {
-  domain = rw (c.in_ok-open.ensures, c.in_ok-open-2.ensures, c.in_ok-open-3.ensures, c.new.ensures.items) (opened_is c.args.cpus c.args.limit c.requires.cpus.0 c.requires.cpus.1 c.requires.limit.0 c.requires.limit.1);
+  domain = rw (c.in_ok-open.ensures, c.in_ok-open-2.ensures, c.new.ensures.items) (opened_is c.args.cpus c.args.limit c.requires.cpus.0 c.requires.cpus.1 c.requires.limit.0 c.requires.limit.1);
   wide = ap (λ (r : RosterView). r.cpus) c.in_ok-open.ensures;
-  homed = rw c.in_ok-open.ensures (All-nil _);
-  running_is = λ listed. rw (c.in_ok-with_capacity.ensures.items, c.in_ok-open-3.ensures) (sym (standing_opened c.args.cpus));
-  before_len = c.in_ok-nobody.ensures.len;
-  before_room = c.in_ok-nobody.ensures.room;
+  running_is = λ listed. rw (c.in_ok-with_capacity.ensures.items, c.in_ok-open.ensures) (sym (standing_opened c.args.cpus));
   running_room = c.in_ok-with_capacity.ensures.exact;
 }

@@ -1,21 +1,18 @@
-use Rattle.std.proofs.Common.{◌≡◌, ◌<◌, ℕ, ◌+◌, ◌-◌, ◌≤◌, ◌^◌, length, map, sym, ap, ◌∙◌, subst, arith}
+use Rattle.std.proofs.Common.{◌≡◌, ◌<◌, ℕ, ◌+◌, ◌-◌, ◌≤◌, ◌^◌, map, sym, ap, ◌∙◌, subst, arith}
 use Rattle.std.specs.Prelude.{All}
 use Rattle.edf_pick.specs.Places.{Places}
 use Rattle.domain_run.specs.Domain.{Domain}
-use Rattle.domain_run.specs.Jump.{under_way, ticks_to_event}
-use Rattle.domain_run.specs.Sound.{IsPlacement, IsApart}
+use Rattle.domain_run.specs.Jump.{under_way, ticks_to_event, running_numbers}
+use Rattle.domain_run.specs.Sound.{IsDomain, IsPlacement}
 use Rattle.domain_run.specs.Tick.{sum_of}
 use Rattle.domain_run.specs.private.Roster.{leapt, LastsIf}
-use Rattle.domain_run.specs.private.RunQueue.{AreHomed}
-use Rattle.domain_run.specs.private.Waiting.{MaySitOn}
 use Rattle.attr_check.specs.Ratio.{cap}
-use Rattle.domain_run.proofs.AtHome.{homed_map}
 use Rattle.domain_run.proofs.Leapt.{may_sit_on, same_leapt, leap_is}
 use Rattle.domain_run.proofs.Paying.{later_is}
 use Rattle.domain_run.proofs.state.State.run.Goals as goal
 
 pub leap-ticks-requires-clause-wide : goal.leap-ticks-requires-clause-wide
-leap-ticks-requires-clause-wide c = ap (λ (ps : Places). length ps) c.occupants.ensures.occupants ∙ c.self.invariant.domain.steady.wide ∙ sym c.self.invariant.wide
+leap-ticks-requires-clause-wide c = c.self.invariant.domain.steady.wide ∙ sym c.self.invariant.wide
 
 pub leap-ticks-requires-clause-cpus : goal.leap-ticks-requires-clause-cpus
 leap-ticks-requires-clause-cpus c = subst (λ n. (0 < n) × (n ≤ 64)) (sym c.self.invariant.wide) c.self.invariant.domain.steady.cpus
@@ -32,15 +29,12 @@ leap-ticks-requires-clause-homes c = subst (λ n. All (λ t. t.cpu < n) c.self.i
 pub leap-ticks-requires-clause-may : goal.leap-ticks-requires-clause-may
 leap-ticks-requires-clause-may c =
     let s = c.self.inside in
-    let d : Domain = record { cpus = s.cpus; limit = s.limit; time = s.time; tasks = s.roster.tasks; used = s.used; curr = s.curr; switches = s.switches.items } in
+    let d : Domain = record { cpus = s.cpus; limit = s.limit; time = s.time; tasks = s.roster.tasks; used = s.used; curr = s.roster.places; switches = s.switches.items } in
     let placed : IsPlacement d = subst IsPlacement (sym c.self.view_is) c.requires.begun.placed in
-    subst (λ (ps : Places). MaySitOn ps s.roster.tasks) (sym c.occupants.ensures.occupants) (may_sit_on d c.self.invariant.domain.steady placed)
+    may_sit_on d c.self.invariant.domain.steady placed
 
 pub leap-ticks-requires-clause-apart : goal.leap-ticks-requires-clause-apart
-leap-ticks-requires-clause-apart c = subst IsApart (sym c.occupants.ensures.occupants) c.self.invariant.domain.steady.apart
-
-pub leap-ticks-requires-clause-homed : goal.leap-ticks-requires-clause-homed
-leap-ticks-requires-clause-homed c = subst (λ (ps : Places). AreHomed ps c.self.inside.roster.tasks) (sym c.occupants.ensures.occupants) c.self.invariant.homed
+leap-ticks-requires-clause-apart c = c.self.invariant.domain.steady.apart
 
 pub leap-ticks-requires-clause-sound : goal.leap-ticks-requires-clause-sound
 leap-ticks-requires-clause-sound c = c.self.invariant.domain.steady.sound
@@ -49,45 +43,41 @@ pub leap-ticks-requires-clause-early : goal.leap-ticks-requires-clause-early
 leap-ticks-requires-clause-early c = omega (arith, c.requires.early, ap (λ (x : Domain). x.time) c.self.view_is)
 
 -- the tasks behind the leap
-tasks_are : (c : goal.After-self-1) → let s = c.self.inside in let k = c.leap-ticks.result in c.leap-ticks.new.roster.tasks ≡ map (leapt (s.time + (k - 1)) k s.curr s.cpus s.limit s.roster.tasks) s.roster.tasks
+tasks_are : (c : goal.After-self-1) → let s = c.self.inside in let k = c.leap-ticks.result in c.leap-ticks.new.roster.tasks ≡ map (leapt (s.time + (k - 1)) k s.roster.places s.cpus s.limit s.roster.tasks) s.roster.tasks
 tasks_are c =
     let s = c.self.inside in
     let k = c.leap-ticks.result in
     c.leap-ticks.ensures.tasks
-    ∙ ap (λ (ps : Places). map (leapt (s.time + (k - 1)) k ps s.roster.cpus s.limit s.roster.tasks) s.roster.tasks) c.occupants.ensures.occupants
-    ∙ ap (λ n. map (leapt (s.time + (k - 1)) k s.curr n s.limit s.roster.tasks) s.roster.tasks) c.self.invariant.wide
+    ∙ ap (λ n. map (leapt (s.time + (k - 1)) k s.roster.places n s.limit s.roster.tasks) s.roster.tasks) c.self.invariant.wide
 
 pub invariant_of-self : goal.invariant_of-self
 invariant_of-self c =
     let s = c.self.inside in
-    let d : Domain = record { cpus = s.cpus; limit = s.limit; time = s.time; tasks = s.roster.tasks; used = s.used; curr = s.curr; switches = s.switches.items } in
+    let d : Domain = record { cpus = s.cpus; limit = s.limit; time = s.time; tasks = s.roster.tasks; used = s.used; curr = s.roster.places; switches = s.switches.items } in
     let k = c.leap-ticks.result in
     let end : ℕ = s.time + (k - 1) in
-    let f = leapt end k s.curr s.cpus s.limit s.roster.tasks in
-    let same = same_leapt end k s.curr s.cpus s.limit s.roster.tasks in
+    let f = leapt end k s.roster.places s.cpus s.limit s.roster.tasks in
+    let same = same_leapt end k s.roster.places s.cpus s.limit s.roster.tasks in
     let same_time : s.time ≡ c.args.self.now.time = ap (λ (x : Domain). x.time) c.self.view_is in
     let early : end ≤ 2 ^ 42 = omega (arith, same_time, c.requires.early, c.leap-ticks.ensures.some, c.leap-ticks.ensures.most) in
     record {
-      domain = later_is d f end c.leap-ticks.new.roster.tasks c.self.invariant.domain same (omega arith) early (tasks_are c) c.leap-ticks.ensures.sound;
+      domain = subst (λ (ps : Places). IsDomain (record d { time = end; tasks = c.leap-ticks.new.roster.tasks; curr = ps })) (sym c.leap-ticks.ensures.places) (later_is d f end c.leap-ticks.new.roster.tasks c.self.invariant.domain same (omega arith) early (tasks_are c) c.leap-ticks.ensures.sound);
       wide = c.leap-ticks.ensures.cpus ∙ c.self.invariant.wide;
-      before_len = c.self.invariant.before_len;
-      homed = subst (AreHomed s.curr) (sym (tasks_are c)) (homed_map s.curr f s.roster.tasks (λ t. (same t).number) (λ t. (same t).cpu) c.self.invariant.homed);
-      running_is = c.self.invariant.running_is;
-      before_room = c.self.invariant.before_room;
+      running_is = λ listed. c.self.invariant.running_is listed ∙ ap running_numbers (sym c.leap-ticks.ensures.places);
       running_room = c.self.invariant.running_room;
     }
 
 pub returns-clause-domain : goal.returns-clause-domain
 returns-clause-domain c e is =
     let s = c.self.inside in
-    let d : Domain = record { cpus = s.cpus; limit = s.limit; time = s.time; tasks = s.roster.tasks; used = s.used; curr = s.curr; switches = s.switches.items } in
+    let d : Domain = record { cpus = s.cpus; limit = s.limit; time = s.time; tasks = s.roster.tasks; used = s.used; curr = s.roster.places; switches = s.switches.items } in
     let k = c.leap-ticks.result in
     let end : ℕ = s.time + (k - 1) in
     let same : d ≡ under_way e = c.self.view_is ∙ is in
     let tasks = tasks_are c ∙ ap (λ (x : Domain). map (leapt end k x.curr x.cpus x.limit x.tasks) x.tasks) same in
-    let lasts1 = subst (λ (ps : Places). All (LastsIf k ps s.roster.cpus s.limit s.roster.tasks) s.roster.tasks) c.occupants.ensures.occupants c.leap-ticks.ensures.lasts in
-    let lasts2 = subst (λ n. All (LastsIf k s.curr n s.limit s.roster.tasks) s.roster.tasks) c.self.invariant.wide lasts1 in
+    let lasts2 = subst (λ n. All (LastsIf k s.roster.places n s.limit s.roster.tasks) s.roster.tasks) c.self.invariant.wide c.leap-ticks.ensures.lasts in
     let lasts = subst (λ (x : Domain). All (LastsIf k x.curr x.cpus x.limit x.tasks) x.tasks) same lasts2 in
     let quiet = subst (λ (x : Domain). c.args.most ≤ ticks_to_event x) is c.requires.quiet in
-    ap (λ (x : Domain). record x { time = end; tasks = c.leap-ticks.new.roster.tasks }) same
+    ap (λ (ps : Places). record d { time = end; tasks = c.leap-ticks.new.roster.tasks; curr = ps }) c.leap-ticks.ensures.places
+    ∙ ap (λ (x : Domain). record x { time = end; tasks = c.leap-ticks.new.roster.tasks }) same
     ∙ leap_is e k end c.leap-ticks.new.roster.tasks c.leap-ticks.ensures.some (omega (arith, quiet, c.leap-ticks.ensures.most)) (ap (λ (x : Domain). x.time + (k - 1)) same) lasts tasks

@@ -1,0 +1,189 @@
+-- The choice: the order of the tasks once they belong to their CPUs, and one task that starts.
+use Rattle.std.proofs.Common.{◌≡◌, ◌≢◌, ℕ, ◌+◌, ◌<◌, ◌≤◌, ◌^◌, true, false, cond, Option, Some, None, List, [], ◌∷◌, length, take, get_or, set, map, refl, sym, ap, subst, ◌∙◌, arith}
+use Rattle.std.specs.Prelude.{All, AllPairs, position, filter}
+use Rattle.std.proofs.lemmas.List.{length-map, set-get_or}
+use Rattle.std.proofs.lemmas.List.Sums.{fold_more}
+use Rattle.grub_rules.specs.Accounts.{AccountsView, AreAccounts, Exchanges, Holds}
+use Rattle.grub_rules.proofs.CallerLemmas.{held_at, turned_at}
+use Rattle.edf_pick.specs.declared.candidate.Candidate.{Candidate}
+use Rattle.edf_pick.specs.declared.moves.Moved.{Moved}
+use Rattle.edf_pick.specs.Changes.{home_on, homed}
+use Rattle.edf_pick.specs.Choice.{is_before}
+use Rattle.edf_pick.specs.Order.{with_candidate, ordered}
+use Rattle.edf_pick.specs.Places.{Places, is_task}
+use Rattle.domain_run.specs.declared.task.Task.{Task}
+use Rattle.domain_run.specs.declared.task.Condition.{Condition}
+use Rattle.domain_run.specs.declared.run_queue.RunQueue.{RunQueue}
+use Rattle.domain_run.specs.Conditions.{is_ready}
+use Rattle.domain_run.specs.Parts.{with_cpu, with_last_cpu}
+use Rattle.domain_run.specs.Tick.{share_of, shares, candidate_of, candidates}
+use Rattle.domain_run.specs.Sound.{occupant}
+use Rattle.domain_run.specs.private.Choosing.{AreCounted, homed_by}
+use Rattle.domain_run.specs.private.Index.{IsAt}
+use Rattle.domain_run.specs.private.Roster.{homed_here}
+use Rattle.domain_run.specs.private.RunQueue.{IsRoster, IsCounted}
+use Rattle.domain_run.specs.private.Seats.{SeatsView, left}
+use Rattle.domain_run.specs.private.Timers.{due_of}
+use Rattle.domain_run.specs.private.Waiting.{owed, owed_all, WaitsIf, AllWait}
+use Rattle.domain_run.proofs.AtHome.{homed_placed}
+use Rattle.domain_run.proofs.Counting.{roster_set, total_short}
+use Rattle.domain_run.proofs.Finding.{map_at}
+use Rattle.domain_run.proofs.Homing.{map_steps}
+use Rattle.domain_run.proofs.Staying.{map_itself}
+use Rattle.domain_run.proofs.Waiting.{alike_owed, numbered_unlike, read_owed, left_twice, length_left, turned_owed, turned_waits}
+
+-- ---- THE ORDER
+
+before_homed : (places : Places) (a c : Candidate) → is_before (homed places a) (homed places c) ≡ is_before a c
+before_homed places a c =
+    elim (position (is_task a.number) places) as (λ o. is_before (home_on a o) (homed places c) ≡ is_before a c) [
+      | None ↦ elim (position (is_task c.number) places) as (λ o. is_before a (home_on c o) ≡ is_before a c) [ None ↦ refl | Some k ↦ refl ]
+      | Some j ↦ elim (position (is_task c.number) places) as (λ o. is_before (record a { home = j }) (home_on c o) ≡ is_before a c) [ None ↦ refl | Some k ↦ refl ]
+    ]
+
+with_homed : (places : Places) (c : Candidate) (queue : List Candidate) → with_candidate (homed places c) (map (homed places) queue) ≡ map (homed places) (with_candidate c queue)
+with_homed places c [] = refl
+with_homed places c (a ∷ queue) =
+    let f = homed places in
+    let more = with_candidate (f c) (map f queue) in
+    ap (λ b. cond b (f a ∷ more) (f c ∷ f a ∷ map f queue)) (before_homed places a c)
+    ∙ elim (is_before a c) as (λ b. cond b (f a ∷ more) (f c ∷ f a ∷ map f queue) ≡ map f (cond b (a ∷ with_candidate c queue) (c ∷ a ∷ queue))) [
+      | true ↦ ap (λ (xs : List Candidate). f a ∷ xs) (with_homed places c queue)
+      | false ↦ refl
+    ]
+
+ordered_homed : (places : Places) (cs : List Candidate) → ordered (map (homed places) cs) ≡ map (homed places) (ordered cs)
+ordered_homed places [] = refl
+ordered_homed places (c ∷ cs) = ap (with_candidate (homed places c)) (ordered_homed places cs) ∙ with_homed places c (ordered cs)
+
+condition_at : (o : Option ℕ) (t : Task) → (with_cpu o t).condition ≡ t.condition
+condition_at None t = refl
+condition_at (Some cpu) t = refl
+
+candidates_homed : (places : Places) (tasks : List Task) → candidates (map (with_last_cpu places) tasks) ≡ map (homed places) (candidates tasks)
+candidates_homed places [] = refl
+candidates_homed places (t ∷ tasks) =
+    let h = with_last_cpu places t in
+    let o = position (is_task t.number) places in
+    let now = filter (λ (x : Task). is_ready x.condition) (map (with_last_cpu places) tasks) in
+    let was = filter (λ (x : Task). is_ready x.condition) tasks in
+    let more : map candidate_of now ≡ map (homed places) (map candidate_of was) = candidates_homed places tasks in
+    let one : candidate_of h ≡ homed places (candidate_of t) = elim o as (λ o. candidate_of (with_cpu o t) ≡ home_on (candidate_of t) o) [ None ↦ refl | Some cpu ↦ refl ] in
+    ap (λ (c : Condition). map candidate_of (cond (is_ready c) (h ∷ now) now)) (condition_at o t)
+    ∙ elim (is_ready t.condition) as (λ b. map candidate_of (cond b (h ∷ now) now) ≡ map (homed places) (map candidate_of (cond b (t ∷ was) was))) [
+      | true ↦ (λ i. one i ∷ more i)
+      | false ↦ more
+    ]
+
+-- the order of the tasks with the CPUs on which they stand
+order_homed : (places : Places) (queue : List Candidate) (tasks : List Task) → queue ≡ ordered (candidates tasks) → map (homed places) queue ≡ ordered (candidates (map (with_last_cpu places) tasks))
+order_homed places queue tasks is =
+    ap (map (homed places)) is ∙ sym (ordered_homed places (candidates tasks)) ∙ sym (ap ordered (candidates_homed places tasks))
+
+dues_homed : (places : Places) (tasks : List Task) → map due_of (map (with_last_cpu places) tasks) ≡ map due_of tasks
+dues_homed places [] = refl
+dues_homed places (t ∷ tasks) =
+    let one : due_of (with_last_cpu places t) ≡ due_of t = elim (position (is_task t.number) places) as (λ o. due_of (with_cpu o t) ≡ due_of t) [ None ↦ refl | Some cpu ↦ refl ] in
+    let more = dues_homed places tasks in
+    λ i. one i ∷ more i
+
+-- what a run queue counts once all belong to their CPUs
+pub counted_homed : (cpus : ℕ) (old new : RunQueue) (was : SeatsView) (seats : SeatsView) (before items : List Task)
+    → IsCounted cpus old (owed_all was before)
+    → length new.accounts.all ≡ length old.accounts.all → AreCounted new.accounts seats items
+    → new.schedule.queue ≡ map (homed new.schedule.places) old.schedule.queue → new.timers ≡ old.timers
+    → owed_all seats items ≡ map (with_last_cpu new.schedule.places) (owed_all was before)
+    → IsCounted cpus new (owed_all seats items)
+counted_homed cpus old new was seats before items is wide counts queue timers tasks =
+    let places = new.schedule.places in
+    record {
+      wide = wide ∙ is.wide;
+      counts = record {
+        sums = counts.sums;
+        order = queue ∙ order_homed places old.schedule.queue (owed_all was before) is.counts.order ∙ sym (ap (λ (ts : List Task). ordered (candidates ts)) tasks);
+        due = timers ∙ is.counts.due ∙ sym (dues_homed places (owed_all was before)) ∙ sym (ap (λ (ts : List Task). map due_of ts) tasks);
+      };
+      roster = counts.roster;
+      homed = subst (λ (ts : List Task). All (λ t. with_last_cpu places t ≡ t) ts) (sym tasks) (homed_placed places (owed_all was before));
+    }
+
+-- ---- ONE TASK THAT STARTS
+
+module _ (accounts : AccountsView) (s : SeatsView) (tasks : List Task) (p : ℕ) (x : Task) (h : p < length tasks) (read : x ≡ get_or tasks p x) (counts : AreCounted accounts s tasks) where
+  abbrev seen : Task
+  seen = owed s.upto s.seats x
+
+  within : p < length (owed_all s tasks)
+  within = let many : length (map (owed s.upto s.seats) tasks) ≡ length tasks = simp length-map in omega (arith, h, many)
+
+  read_seen : seen ≡ get_or (owed_all s tasks) p seen
+  read_seen = read_owed s.upto s.seats tasks p x h read
+
+  pub start_waits : WaitsIf s.seats x
+  start_waits = subst (WaitsIf s.seats) (sym read) (counts.waits p x h)
+
+  pub start_held : Holds accounts (share_of (owed s.upto s.seats x))
+  start_held = subst (λ (t : Task). Holds accounts (share_of t)) (sym read_seen) (held_at share_of accounts (owed_all s tasks) p seen within counts.sums)
+
+  pub start_fits : accounts.total + (owed s.upto s.seats x).params.bw < 2 ^ 64
+  start_fits =
+      let short : seen.params.bw ≤ 2 ^ 26 = subst (λ (t : Task). t.params.bw ≤ 2 ^ 26) (sym read_seen) (counts.roster.short p seen within) in
+      omega (arith, short, counts.sums.total, total_short (owed_all s tasks) counts.roster)
+
+  module _ (cpu : ℕ) (new : AccountsView) (after : SeatsView) (y : Task) (there : cpu < length accounts.all) (is : y ≡ with_cpu (Some cpu) (owed s.upto s.seats x)) (are : after ≡ record s { seats = left cpu x.number (left x.cpu x.number s.seats) }) where
+    same : y.number ≡ x.number
+    same = ap (λ (t : Task). t.number) is ∙ (alike_owed s.upto s.seats x).number
+
+    left_are : after ≡ record s { seats = left_twice x y s.seats }
+    left_are = are ∙ ap (λ (c : ℕ). record s { seats = left c x.number (left x.cpu x.number s.seats) }) (sym (ap (λ (t : Task). t.cpu) is))
+
+    numbered : AllPairs (λ a b. a.number ≢ b.number) tasks
+    numbered = numbered_unlike (owed s.upto s.seats) (alike_owed s.upto s.seats) tasks counts.roster.numbered
+
+    view_is : owed_all after (set tasks p y) ≡ set (owed_all s tasks) p y
+    view_is = ap (λ (v : SeatsView). owed_all v (set tasks p y)) left_are ∙ turned_owed s.upto s.seats tasks p x y h read numbered same
+
+    pub started_counts : Exchanges accounts new (share_of (owed s.upto s.seats x) ∷ []) (share_of y ∷ []) → AreCounted new after (set tasks p y)
+    started_counts exchanges = record {
+      sums = subst (λ (ts : List Task). AreAccounts new (shares ts)) (sym view_is)
+          (turned_at share_of accounts new (owed_all s tasks) p seen y within
+          (subst (λ (t : Task). t.cpu < length accounts.all) (sym is) there)
+          (subst (λ (t : Task). Exchanges accounts new (share_of t ∷ []) (share_of y ∷ [])) read_seen exchanges) counts.sums);
+      roster =
+          let short : seen.params.bw ≤ 2 ^ 26 = subst (λ (t : Task). t.params.bw ≤ 2 ^ 26) (sym read_seen) (counts.roster.short p seen within) in
+          subst IsRoster (sym view_is) (roster_set (owed_all s tasks) p seen y (ap (λ (t : Task). t.number) is ∙ ap (λ (t : Task). t.number) read_seen) (subst (λ (t : Task). t.params.bw ≤ 2 ^ 26) (sym is) short) counts.roster);
+      waits = subst (λ (v : SeatsView). AllWait v.seats (set tasks p y)) (sym left_are) (turned_waits s.upto s.seats tasks p x y h read numbered same counts.waits);
+    }
+
+    pub started_tasks : (number : ℕ) → IsAt (owed_all s tasks) number p → owed_all after (set tasks p y) ≡ map (homed_here (Some number) cpu) (owed_all s tasks)
+    started_tasks number at =
+        view_is ∙ ap (λ (t : Task). set (owed_all s tasks) p t) (is ∙ ap (with_cpu (Some cpu)) read_seen)
+        ∙ sym (map_at (with_cpu (Some cpu)) number (owed_all s tasks) p seen counts.roster.numbered at)
+
+    pub started_clock : after.upto ≡ s.upto
+    started_clock = ap (λ (v : SeatsView). v.upto) are
+
+    pub started_wide : length after.seats ≡ length s.seats
+    started_wide = ap (λ (v : SeatsView). length v.seats) are ∙ length_left cpu x.number (left x.cpu x.number s.seats) ∙ length_left x.cpu x.number s.seats
+
+  -- where it belongs to the CPU already, nothing is to be done
+  pub stays_tasks : (cpu number : ℕ) → x.cpu ≡ cpu → IsAt (owed_all s tasks) number p → owed_all s tasks ≡ map (homed_here (Some number) cpu) (owed_all s tasks)
+  stays_tasks cpu number here at =
+      let home : with_cpu (Some cpu) (get_or (owed_all s tasks) p seen) ≡ get_or (owed_all s tasks) p seen =
+      ap (with_cpu (Some cpu)) (sym read_seen) ∙ ap (λ (c : ℕ). record seen { cpu = c }) (sym here ∙ sym (alike_owed s.upto s.seats x).cpu) ∙ read_seen in
+      sym (map_at (with_cpu (Some cpu)) number (owed_all s tasks) p seen counts.roster.numbered at ∙ ap (λ (t : Task). set (owed_all s tasks) p t) home ∙ set-get_or (owed_all s tasks) p seen)
+
+-- ---- ONE CPU AFTER ANOTHER
+
+abbrev pub nobody : Moved
+nobody = record { cpu = 0; before = None }
+
+pub homed_none : (places : Places) (tasks : List Task) → map (homed_by places []) tasks ≡ tasks
+homed_none places tasks = map_itself (homed_by places []) tasks (λ k d h. refl)
+
+pub homed_more : (places : Places) (moves : List Moved) (first now : List Task) (i : ℕ) (d : Moved) (o : Option ℕ) → i < length moves → now ≡ map (homed_by places (take i moves)) first → o ≡ occupant places (get_or moves i d).cpu
+    → map (homed_here o (get_or moves i d).cpu) now ≡ map (homed_by places (take (i + 1) moves)) first
+homed_more places moves first now i d o h was is =
+    ap (λ (x : Option ℕ). map (homed_here x (get_or moves i d).cpu) now) is
+    ∙ map_steps (homed_here (occupant places (get_or moves i d).cpu) (get_or moves i d).cpu) (homed_by places (take i moves)) (homed_by places (take (i + 1) moves)) first now was
+    (λ k e l. sym (fold_more (λ (u : Task) (m : Moved). homed_here (occupant places m.cpu) m.cpu u) (get_or first k e) moves i d h))

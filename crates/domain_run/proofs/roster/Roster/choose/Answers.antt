@@ -1,0 +1,85 @@
+use Rattle.std.proofs.Common.{◌≡◌, ℕ, List, length, map, sym, ap, subst, ◌∙◌, refl, arith}
+use Rattle.edf_pick.specs.declared.moves.Moved.{Moved}
+use Rattle.edf_pick.specs.Places.{placed}
+use Rattle.domain_run.specs.declared.run_queue.RunQueue.{RunQueue}
+use Rattle.domain_run.specs.Parts.{with_last_cpu}
+use Rattle.domain_run.specs.Sound.{IsApart}
+use Rattle.domain_run.specs.Tick.{candidates}
+use Rattle.domain_run.specs.private.Choosing.{AreWithin, homed_by}
+use Rattle.domain_run.specs.private.Roster.{RosterView}
+use Rattle.domain_run.specs.private.RunQueue.{IsCounted}
+use Rattle.domain_run.specs.private.Waiting.{owed_all}
+use Rattle.domain_run.proofs.Choosing.{counted_homed}
+use Rattle.domain_run.proofs.Counting.{placed_counted, placed_seating}
+use Rattle.domain_run.proofs.Moving.{moved_within, homed_moves}
+use Rattle.domain_run.proofs.Seating.{IsSeating}
+use Rattle.domain_run.proofs.roster.Roster.choose.Goals as goal
+use Rattle.domain_run.proofs.roster.Roster.choose.Goals.{After-home_all}
+
+stood : (c : After-home_all) → IsApart c.self.inside.queue.schedule.places
+stood c = subst (λ (r : RosterView). IsApart r.places) (sym c.self.view_is) c.requires.apart
+
+-- who stands is placed
+seating : (c : After-home_all) → IsSeating (candidates (owed_all c.self.inside.seats c.self.inside.tasks.items)) (length c.self.inside.queue.schedule.places) c.pick.new.self.places
+seating c =
+    let s = c.self.inside in
+    placed_seating s.queue.schedule.queue (owed_all s.seats s.tasks.items) s.queue.schedule.places c.pick.new.self.places c.self.invariant.counted.counts.order c.self.invariant.counted.roster.numbered (stood c) c.pick.ensures.places
+
+pub home_all-requires-clause-there : goal.home_all-requires-clause-there
+home_all-requires-clause-there c =
+    let s = c.self.inside in
+    let before = s.queue.schedule.places in
+    let wide : length before ≡ length s.queue.accounts.all = subst (λ (r : RosterView). length r.places ≡ r.cpus) (sym c.self.view_is) c.requires.wide in
+    subst (AreWithin (length s.queue.accounts.all)) (sym c.pick.ensures.moves)
+    (λ k d h. let less = moved_within 0 before c.pick.new.self.places k d h in omega (arith, less, wide))
+
+pub home_all-requires-clause-counts : goal.home_all-requires-clause-counts
+home_all-requires-clause-counts c =
+    let i = c.self.invariant in
+    record { sums = i.counted.counts.sums; roster = i.counted.roster; waits = i.waits }
+
+-- the tasks then
+homes : (c : After-home_all) → owed_all c.home_all.new.seats c.home_all.new.tasks.items ≡ map (with_last_cpu c.pick.new.self.places) (owed_all c.self.inside.seats c.self.inside.tasks.items)
+homes c =
+    let s = c.self.inside in
+    let before = s.queue.schedule.places in
+    let after = c.pick.new.self.places in
+    let tasks = owed_all s.seats s.tasks.items in
+    c.home_all.ensures.tasks
+    ∙ ap (λ (ms : List Moved). map (homed_by after ms) tasks) c.pick.ensures.moves
+    ∙ homed_moves before after tasks (seating c).wide (stood c).once (seating c).apart.once c.self.invariant.counted.homed
+
+pub invariant_of-self : goal.invariant_of-self
+invariant_of-self c =
+    let s = c.self.inside in
+    let a = (goal.at.invariant_of-self c).After-home_all in
+    let new : RunQueue = record { accounts = c.home_all.new.accounts; schedule = c.pick.new.self; timers = s.queue.timers } in
+    let all = c.home_all.ensures in
+    let counted = counted_homed (length s.queue.accounts.all) s.queue new s.seats c.home_all.new.seats s.tasks.items c.home_all.new.tasks.items c.self.invariant.counted all.wide all.counts
+    (c.pick.ensures.queue) refl (homes a) in
+    record {
+      counted = subst (λ (n : ℕ). IsCounted n new (owed_all c.home_all.new.seats c.home_all.new.tasks.items)) (sym all.wide) counted;
+      waits = all.counts.waits;
+      wide = all.seats ∙ c.self.invariant.wide ∙ sym all.wide;
+      room = all.room ∙ c.self.invariant.room;
+    }
+
+pub returns-clause-places : goal.returns-clause-places
+returns-clause-places c =
+    let s = c.self.inside in
+    let before = s.queue.schedule.places in
+    let tasks = owed_all s.seats s.tasks.items in
+    c.pick.ensures.places
+    ∙ placed_counted (length before) s.queue.schedule.queue tasks before c.self.invariant.counted.counts.order c.self.invariant.counted.roster.numbered
+    ∙ ap (λ (r : RosterView). placed (length r.places) (candidates r.tasks) r.places) c.self.view_is
+
+pub returns-clause-tasks : goal.returns-clause-tasks
+returns-clause-tasks c =
+    homes (goal.at.returns-clause-tasks c).After-home_all ∙ ap (λ (r : RosterView). map (with_last_cpu c.pick.new.self.places) r.tasks) c.self.view_is
+
+pub returns-clause-wide : goal.returns-clause-wide
+returns-clause-wide c =
+    (seating (goal.at.returns-clause-wide c).After-home_all).wide ∙ ap (λ (r : RosterView). length r.places) c.self.view_is
+
+pub returns-clause-apart : goal.returns-clause-apart
+returns-clause-apart c = (seating (goal.at.returns-clause-apart c).After-home_all).apart

@@ -1,0 +1,37 @@
+use Rattle.std.proofs.Common.{length, sym, subst, refl, ◌∙◌, arith}
+use Rattle.domain_run.specs.private.Choosing.{AreWithin}
+use Rattle.domain_run.specs.private.Waiting.{owed_all}
+use Rattle.domain_run.proofs.Choosing.{nobody, homed_more, homed_none}
+use Rattle.domain_run.proofs.roster.choosing.home_all.Goals as goal
+
+pub loop-i-init : goal.loop-i-init
+loop-i-init c = record {
+  wide = refl;
+  counts = c.requires.counts;
+  written = sym (homed_none c.occupants-places.result.now (owed_all c.args.seats.now c.args.tasks.now.items));
+  clock = refl;
+  long = refl;
+  room = refl;
+}
+
+pub home_on-requires-clause-there : goal.home_on-requires-clause-there
+home_on-requires-clause-there c =
+    let within = subst (AreWithin (length c.args.accounts.now.all)) (sym c.moves-moves.ensures) c.requires.there in
+    let less = within c.loop-i.i nobody (omega arith) in
+    omega (arith, less, c.loop-i.invariant.wide)
+
+pub home_on-requires-clause-counts : goal.home_on-requires-clause-counts
+home_on-requires-clause-counts c = c.loop-i.invariant.counts
+
+pub loop-i-preserved : goal.loop-i-preserved
+loop-i-preserved c =
+    let l = c.loop-i in
+    let e = c.home_on.ensures in
+    record {
+      wide = e.wide ∙ l.invariant.wide;
+      counts = e.counts;
+      written = e.tasks ∙ homed_more c.occupants-places.result.now c.moves-moves.result.now (owed_all c.args.seats.now c.args.tasks.now.items) (owed_all l.seats l.tasks.items) l.i nobody c.occupant_of.result (omega arith) l.invariant.written c.occupant_of.ensures;
+      clock = e.clock ∙ l.invariant.clock;
+      long = e.seats ∙ l.invariant.long;
+      room = e.room ∙ l.invariant.room;
+    }

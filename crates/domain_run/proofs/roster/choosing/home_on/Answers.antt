@@ -1,0 +1,79 @@
+use Rattle.std.proofs.Common.{None, Some, List, map, sym, ap, subst, refl, ◌∙◌}
+use Rattle.domain_run.specs.declared.task.Task.{Task}
+use Rattle.domain_run.specs.Parts.{with_cpu}
+use Rattle.domain_run.specs.private.Index.{IsAt, IsAbsent}
+use Rattle.domain_run.specs.private.Roster.{homed_here}
+use Rattle.domain_run.specs.private.Waiting.{owed, owed_all}
+use Rattle.domain_run.proofs.Choosing.{start_waits, start_held, start_fits, started_counts, started_tasks, started_clock, started_wide, stays_tasks}
+use Rattle.domain_run.proofs.Finding.{map_others}
+use Rattle.domain_run.proofs.Staying.{map_itself}
+use Rattle.domain_run.proofs.Waiting.{alike_owed, at_like, absent_like}
+use Rattle.domain_run.proofs.roster.choosing.home_on.Goals as goal
+
+pub returns-in_default-clause-tasks : goal.returns-in_default-clause-tasks
+returns-in_default-clause-tasks c =
+    let tasks = owed_all c.args.seats.now c.args.tasks.now.items in
+    sym (ap (λ o. map (homed_here o c.args.cpu) tasks) c.in_default.is ∙ map_itself (homed_here None c.args.cpu) tasks (λ k d h. refl))
+
+pub returns-in_default-place-clause-tasks : goal.returns-in_default-place-clause-tasks
+returns-in_default-place-clause-tasks c =
+    let s = c.args.seats.now in
+    let items = c.args.tasks.now.items in
+    let n = c.in-Some.number in
+    let absent = absent_like (owed s.upto s.seats) (alike_owed s.upto s.seats) n items (subst (λ (ts : List Task). IsAbsent ts n) c.deref.ensures.value c.in_default-place.ensures.absent) in
+    sym (ap (λ o. map (homed_here o c.args.cpu) (owed_all s items)) c.in-Some.is ∙ map_others (with_cpu (Some c.args.cpu)) n (owed_all s items) absent)
+
+pub returns-then-index-cpu-clause-tasks : goal.returns-then-index-cpu-clause-tasks
+returns-then-index-cpu-clause-tasks c =
+    let s = c.args.seats.now in
+    let items = c.args.tasks.now.items in
+    let n = c.in-Some.number in
+    let p = c.in-Some-place.place in
+    let at = subst (λ (ts : List Task). IsAt ts n p) c.deref.ensures.value c.in-Some-place.ensures.there in
+    stays_tasks c.args.accounts.now s items p c.index.result.now at.within c.index.ensures c.requires.counts c.args.cpu n c.if-index-cpu.true
+    (at_like (owed s.upto s.seats) (alike_owed s.upto s.seats) n p items at)
+    ∙ ap (λ o. map (homed_here o c.args.cpu) (owed_all s items)) (sym c.in-Some.is)
+
+pub start-requires-clause-waits : goal.start-requires-clause-waits
+start-requires-clause-waits c =
+    let at = subst (λ (ts : List Task). IsAt ts c.in-Some.number c.in-Some-place.place) c.deref.ensures.value c.in-Some-place.ensures.there in
+    start_waits c.args.accounts.now c.args.seats.now c.args.tasks.now.items c.in-Some-place.place c.index_mut.result.now at.within c.index_mut.ensures.value c.requires.counts
+
+pub start-requires-clause-held : goal.start-requires-clause-held
+start-requires-clause-held c =
+    let at = subst (λ (ts : List Task). IsAt ts c.in-Some.number c.in-Some-place.place) c.deref.ensures.value c.in-Some-place.ensures.there in
+    start_held c.args.accounts.now c.args.seats.now c.args.tasks.now.items c.in-Some-place.place c.index_mut.result.now at.within c.index_mut.ensures.value c.requires.counts
+
+pub start-requires-clause-fits : goal.start-requires-clause-fits
+start-requires-clause-fits c =
+    let at = subst (λ (ts : List Task). IsAt ts c.in-Some.number c.in-Some-place.place) c.deref.ensures.value c.in-Some-place.ensures.there in
+    start_fits c.args.accounts.now c.args.seats.now c.args.tasks.now.items c.in-Some-place.place c.index_mut.result.now at.within c.index_mut.ensures.value c.requires.counts
+
+pub returns-clause-counts : goal.returns-clause-counts
+returns-clause-counts c =
+    let at = subst (λ (ts : List Task). IsAt ts c.in-Some.number c.in-Some-place.place) c.deref.ensures.value c.in-Some-place.ensures.there in
+    started_counts c.args.accounts.now c.args.seats.now c.args.tasks.now.items c.in-Some-place.place c.index_mut.result.now at.within c.index_mut.ensures.value c.requires.counts
+    c.args.cpu c.start.new.accounts c.start.new.seats c.start.new.task c.requires.there c.start.ensures.task c.start.ensures.seats c.start.ensures.sums
+
+pub returns-clause-tasks : goal.returns-clause-tasks
+returns-clause-tasks c =
+    let s = c.args.seats.now in
+    let items = c.args.tasks.now.items in
+    let n = c.in-Some.number in
+    let p = c.in-Some-place.place in
+    let at = subst (λ (ts : List Task). IsAt ts n p) c.deref.ensures.value c.in-Some-place.ensures.there in
+    started_tasks c.args.accounts.now s items p c.index_mut.result.now at.within c.index_mut.ensures.value c.requires.counts
+    c.args.cpu c.start.new.accounts c.start.new.seats c.start.new.task c.requires.there c.start.ensures.task c.start.ensures.seats n (at_like (owed s.upto s.seats) (alike_owed s.upto s.seats) n p items at)
+    ∙ ap (λ o. map (homed_here o c.args.cpu) (owed_all s items)) (sym c.in-Some.is)
+
+pub returns-clause-clock : goal.returns-clause-clock
+returns-clause-clock c =
+    let at = subst (λ (ts : List Task). IsAt ts c.in-Some.number c.in-Some-place.place) c.deref.ensures.value c.in-Some-place.ensures.there in
+    started_clock c.args.accounts.now c.args.seats.now c.args.tasks.now.items c.in-Some-place.place c.index_mut.result.now at.within c.index_mut.ensures.value c.requires.counts
+    c.args.cpu c.start.new.accounts c.start.new.seats c.start.new.task c.requires.there c.start.ensures.task c.start.ensures.seats
+
+pub returns-clause-seats : goal.returns-clause-seats
+returns-clause-seats c =
+    let at = subst (λ (ts : List Task). IsAt ts c.in-Some.number c.in-Some-place.place) c.deref.ensures.value c.in-Some-place.ensures.there in
+    started_wide c.args.accounts.now c.args.seats.now c.args.tasks.now.items c.in-Some-place.place c.index_mut.result.now at.within c.index_mut.ensures.value c.requires.counts
+    c.args.cpu c.start.new.accounts c.start.new.seats c.start.new.task c.requires.there c.start.ensures.task c.start.ensures.seats

@@ -1,0 +1,41 @@
+-- Who starts on a CPU belongs to it, and the switches, by the CPUs that a choice gave to another one, for
+-- the code's own contracts.
+use Rattle.std.specs.Prelude.{ℕ, ◌<◌, List, fold, All}
+use Rattle.grub_rules.specs.Accounts.{AccountsView, AreAccounts}
+use Rattle.edf_pick.specs.declared.moves.Moved.{Moved}
+use Rattle.edf_pick.specs.Places.{Places}
+use Rattle.domain_run.specs.declared.task.Task.{Task}
+use Rattle.domain_run.specs.declared.switch.Switch.{Switch}
+use Rattle.domain_run.specs.Sound.{occupant}
+use Rattle.domain_run.specs.Switches.{state_of}
+use Rattle.domain_run.specs.Tick.{shares}
+use Rattle.domain_run.specs.private.Roster.{homed_here}
+use Rattle.domain_run.specs.private.RunQueue.{IsRoster}
+use Rattle.domain_run.specs.private.Seats.{SeatsView}
+use Rattle.domain_run.specs.private.Waiting.{owed_all, AllWait}
+
+-- of so many CPUs
+abbrev pub AreWithin : ℕ → List Moved → Type 0
+AreWithin cpus moves = All (λ m. m.cpu < cpus) moves
+
+-- what is kept of the tasks beside the schedule: the sums are those of the list, and each seat has its
+-- task's charges
+pub record AreCounted (accounts : AccountsView) (seats : SeatsView) (tasks : List Task) : Type 0 where
+  pub sums : AreAccounts accounts (shares (owed_all seats tasks))
+  pub roster : IsRoster (owed_all seats tasks)
+  pub waits : AllWait seats.seats tasks
+
+-- who stands on one of these CPUs belongs to it
+abbrev pub homed_by : Places → List Moved → Task → Task
+homed_by places moves t = fold (λ (u : Task) m. homed_here (occupant places m.cpu) m.cpu u) t moves
+
+-- the switch of a CPU that another one has
+abbrev pub switch_of : ℕ → List Task → Places → Moved → Switch
+switch_of time tasks places m =
+    record {
+      time = time;
+      prev = m.before;
+      next = occupant places m.cpu;
+      cpu = m.cpu;
+      state = state_of tasks m.before;
+    }

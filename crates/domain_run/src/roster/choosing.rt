@@ -1,0 +1,130 @@
+//! Who starts on a CPU belongs to it from then on. The schedule has it so already.
+
+ghost use Rattle.std.specs.Prelude.{◌≡◌, ◌<◌, ◌+◌, ◌^◌, ◌∷◌, [], None, Some, map, length, slice_index_or, vec_capacity};
+ghost use Rattle.grub_rules.specs.Accounts.{Exchanges, Holds};
+ghost use Rattle.domain_run.specs.Parts.{with_cpu};
+ghost use Rattle.domain_run.specs.Tick as tick_spec;
+ghost use Rattle.domain_run.specs.private.Choosing as spec;
+ghost use Rattle.domain_run.specs.private.Roster.{homed_here};
+ghost use Rattle.domain_run.specs.private.Seats as seats_spec;
+ghost use Rattle.domain_run.specs.private.Waiting as waiting;
+
+use crate::index::Index;
+use crate::roster::turning::{leave_other, settle};
+use crate::seats::Seats;
+use crate::standing::share_of;
+use crate::task::Task;
+use edf_pick::Schedule;
+use grub_rules::Accounts;
+
+/// Who stands on a CPU, if anyone does.
+#[inline(always)]
+pub(super) fn occupant_of(places: &[Option<u32>], cpu: usize) -> Option<u32>
+    ensures { result ≡ slice_index_or places.now cpu None }
+{
+    if cpu < places.len() {
+        return places[cpu];
+    }
+    None
+}
+
+// A task belongs to a CPU.
+#[inline(always)]
+fn home(task: &mut Task, accounts: &mut Accounts, cpu: usize)
+    requires held { Holds accounts.old (tick_spec.share_of task.old) }
+    requires there { cpu < length accounts.old.all }
+    requires fits { accounts.old.total + task.old.params.bw < 2 ^ 64 }
+    ensures task { task.new ≡ with_cpu (Some cpu) task.old }
+    ensures sums { Exchanges accounts.old accounts.new
+        (tick_spec.share_of task.old ∷ []) (tick_spec.share_of task.new ∷ []) }
+{
+    if task.cpu == cpu {
+        return;
+    }
+    let before = share_of(task);
+    task.cpu = cpu;
+    accounts.track(&before, &share_of(task));
+}
+
+// A task that starts on a CPU is charged what it owes, belongs to the CPU, and sits nowhere.
+#[inline(always)]
+fn start(task: &mut Task, accounts: &mut Accounts, seats: &mut Seats, cpu: usize)
+    requires waits { waiting.WaitsIf seats.old.seats task.old }
+    requires held { Holds accounts.old
+        (tick_spec.share_of (waiting.owed seats.old.upto seats.old.seats task.old)) }
+    requires there { cpu < length accounts.old.all }
+    requires fits { accounts.old.total
+        + (waiting.owed seats.old.upto seats.old.seats task.old).params.bw < 2 ^ 64 }
+    ensures task { task.new
+        ≡ with_cpu (Some cpu) (waiting.owed seats.old.upto seats.old.seats task.old) }
+    ensures sums { Exchanges accounts.old accounts.new
+        (tick_spec.share_of (waiting.owed seats.old.upto seats.old.seats task.old) ∷ [])
+        (tick_spec.share_of task.new ∷ []) }
+    ensures seats { seats.new ≡ record seats.old {
+      seats = seats_spec.left cpu task.old.number
+          (seats_spec.left task.old.cpu task.old.number seats.old.seats);
+    } }
+{
+    let (number, before) = (task.number, task.cpu);
+    settle(task, seats);
+    home(task, accounts, cpu);
+    leave_other(seats, before, cpu, number);
+}
+
+// The task that stands on a CPU, if one does and is listed, belongs to it.
+fn home_on(
+    tasks: &mut Vec<Task>,
+    accounts: &mut Accounts,
+    seats: &mut Seats,
+    index: &Index,
+    occupant: Option<u32>,
+    cpu: usize,
+)
+    requires there { cpu < length accounts.old.all }
+    requires counts { spec.AreCounted accounts.old seats.old tasks.old.items }
+    ensures wide { length accounts.new.all ≡ length accounts.old.all }
+    ensures counts { spec.AreCounted accounts.new seats.new tasks.new.items }
+    ensures tasks { waiting.owed_all seats.new tasks.new.items
+        ≡ map (homed_here occupant cpu) (waiting.owed_all seats.old tasks.old.items) }
+    ensures clock { seats.new.upto ≡ seats.old.upto }
+    ensures seats { length seats.new.seats ≡ length seats.old.seats }
+    ensures room { vec_capacity tasks.new ≡ vec_capacity tasks.old }
+{
+    let Some(number) = occupant else {
+        return;
+    };
+    let Some(place) = index.place(tasks, number) else {
+        return;
+    };
+    if tasks[place].cpu == cpu {
+        return;
+    }
+    start(&mut tasks[place], accounts, seats, cpu);
+}
+
+/// Each task to which the last choice gave a CPU belongs to it.
+pub(super) fn home_all(
+    tasks: &mut Vec<Task>,
+    accounts: &mut Accounts,
+    seats: &mut Seats,
+    index: &Index,
+    schedule: &Schedule,
+)
+    requires there { spec.AreWithin (length accounts.old.all) schedule.now.moves }
+    requires counts { spec.AreCounted accounts.old seats.old tasks.old.items }
+    ensures wide { length accounts.new.all ≡ length accounts.old.all }
+    ensures counts { spec.AreCounted accounts.new seats.new tasks.new.items }
+    ensures tasks { waiting.owed_all seats.new tasks.new.items
+        ≡ map (spec.homed_by schedule.now.places schedule.now.moves)
+        (waiting.owed_all seats.old tasks.old.items) }
+    ensures clock { seats.new.upto ≡ seats.old.upto }
+    ensures seats { length seats.new.seats ≡ length seats.old.seats }
+    ensures room { vec_capacity tasks.new ≡ vec_capacity tasks.old }
+{
+    let places = schedule.occupants();
+    let moves = schedule.moves();
+    for i in 0..moves.len() {
+        let cpu = moves[i].cpu;
+        home_on(tasks, accounts, seats, index, occupant_of(places, cpu), cpu);
+    }
+}

@@ -1,0 +1,70 @@
+use Rattle.std.proofs.Common.{◌≡◌, ◌∙◌, ℕ, List, false, length, map, take, vec_len, ap, sym, subst, arith}
+use Rattle.std.specs.Int.{bit_at}
+use Rattle.edf_pick.specs.declared.candidate.Candidate.{Candidate}
+use Rattle.edf_pick.specs.Changes.{ChangesView}
+use Rattle.edf_pick.specs.Places.{placed}
+use Rattle.edf_pick.specs.private.First.{staying, marked, seated_all, AreMovers}
+use Rattle.edf_pick.proofs.Listing.{first_movers, chosen_movers, chosen_leaving, chosen_apart}
+use Rattle.edf_pick.proofs.Marked.{moved}
+use Rattle.edf_pick.proofs.picking.pick_listed.Goals as goal
+
+pub move_on-changed-requires-clause-movers : goal.move_on-changed-requires-clause-movers
+move_on-changed-requires-clause-movers c =
+    let queue = c.args.queue.now in
+    let before = c.args.places.now.items in
+    let chosen = c.first_of-chosen.result.now in
+    let words = c.words_of-words in
+    let changes : ChangesView = record { cut = c.args.cut.now; fresh = c.args.fresh.now; gone = c.args.gone.now; many = false } in
+    let sized : vec_len c.args.places.now ≡ length before = omega arith in
+    let first : chosen ≡ take (length before) queue = c.first_of-chosen.ensures ∙ ap (λ (k : ℕ). take k queue) (c.len.ensures ∙ sized) in
+    chosen_movers queue chosen before c.deref.result.now changes words.result c.deref.ensures.value first c.requires.numbered c.requires.single c.requires.listed words.ensures
+
+pub move_on-changed-requires-clause-leaving : goal.move_on-changed-requires-clause-leaving
+move_on-changed-requires-clause-leaving c =
+    let queue = c.args.queue.now in
+    let before = c.args.places.now.items in
+    let chosen = c.first_of-chosen.result.now in
+    let words = c.words_of-words in
+    let changes : ChangesView = record { cut = c.args.cut.now; fresh = c.args.fresh.now; gone = c.args.gone.now; many = false } in
+    let sized : vec_len c.args.places.now ≡ length before = omega arith in
+    let first : chosen ≡ take (length before) queue = c.first_of-chosen.ensures ∙ ap (λ (k : ℕ). take k queue) (c.len.ensures ∙ sized) in
+    let left = c.beyond-left in
+    chosen_leaving queue chosen before c.deref.result.now changes words.result c.deref.ensures.value first c.requires.numbered c.requires.single c.requires.listed words.ensures left.result left.ensures.here left.ensures.only left.ensures.bare
+
+pub move_on-changed-requires-clause-apart : goal.move_on-changed-requires-clause-apart
+move_on-changed-requires-clause-apart c = λ _.
+    let queue = c.args.queue.now in
+    let before = c.args.places.now.items in
+    let chosen = c.first_of-chosen.result.now in
+    let words = c.words_of-words in
+    let changes : ChangesView = record { cut = c.args.cut.now; fresh = c.args.fresh.now; gone = c.args.gone.now; many = false } in
+    let sized : vec_len c.args.places.now ≡ length before = omega arith in
+    let first : chosen ≡ take (length before) queue = c.first_of-chosen.ensures ∙ ap (λ (k : ℕ). take k queue) (c.len.ensures ∙ sized) in
+    let left = c.beyond-left in
+    chosen_apart queue chosen before c.deref.result.now changes words.result c.deref.ensures.value first c.requires.numbered c.requires.single c.requires.listed words.ensures left.result left.ensures.bare
+
+pub returns-clause-places : goal.returns-clause-places
+returns-clause-places c =
+    let queue = c.args.queue.now in
+    let before = c.args.places.now.items in
+    let chosen = c.first_of-chosen.result.now in
+    let words = c.words_of-words in
+    let changes : ChangesView = record { cut = c.args.cut.now; fresh = c.args.fresh.now; gone = c.args.gone.now; many = false } in
+    let sized : vec_len c.args.places.now ≡ length before = omega arith in
+    let first : chosen ≡ take (length before) queue = c.first_of-chosen.ensures ∙ ap (λ (k : ℕ). take k queue) (c.len.ensures ∙ sized) in
+    let mark = bit_at words.result.movers in
+    c.move_on-changed.ensures.places ∙ ap (λ (xs : List Candidate). seated_all (marked mark xs) (map (staying xs) before)) first
+    ∙ moved (length before) queue before mark c.requires.rising
+    (first_movers queue chosen before c.deref.result.now changes words.result c.deref.ensures.value first c.requires.numbered c.requires.single c.requires.listed words.ensures) ∙ ap (λ (k : ℕ). placed k queue before) (sym sized)
+
+pub returns-clause-movers : goal.returns-clause-movers
+returns-clause-movers c =
+    let queue = c.args.queue.now in
+    let before = c.args.places.now.items in
+    let chosen = c.first_of-chosen.result.now in
+    let words = c.words_of-words in
+    let changes : ChangesView = record { cut = c.args.cut.now; fresh = c.args.fresh.now; gone = c.args.gone.now; many = false } in
+    let sized : vec_len c.args.places.now ≡ length before = omega arith in
+    let first : chosen ≡ take (length before) queue = c.first_of-chosen.ensures ∙ ap (λ (k : ℕ). take k queue) (c.len.ensures ∙ sized) in
+    subst (λ (k : ℕ). AreMovers (take k queue) before words.result.movers) (sym sized)
+    (first_movers queue chosen before c.deref.result.now changes words.result c.deref.ensures.value first c.requires.numbered c.requires.single c.requires.listed words.ensures)

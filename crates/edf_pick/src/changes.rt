@@ -1,0 +1,175 @@
+//! What has come into a queue and gone out of it since the last choice.
+
+ghost use Rattle.std.specs.Prelude.{◌≡◌, ◌≢◌, ◌<◌, true, length, map, take, slice_get, IfOk, List, All, AllPairs};
+ghost use Rattle.edf_pick.specs.declared.candidate.Candidate.{Candidate};
+ghost use Rattle.edf_pick.specs.Changes as spec;
+ghost use Rattle.edf_pick.specs.Moves.{moved_from};
+ghost use Rattle.edf_pick.specs.Order.{is_same, with_candidate, without_candidate};
+ghost use Rattle.edf_pick.specs.Places.{AreSingle, Places, placed};
+ghost use Rattle.edf_pick.specs.private.First.{AreMovers};
+
+use crate::candidate::Candidate;
+use crate::moves::Moves;
+use crate::placement::{Placement, pick_by_list, pick_by_walk};
+use crate::queue::Queue;
+use std::alloc::{AllocError, Global};
+use std::marker::Model;
+
+/// A task that went out of a queue, and the CPU to which it belonged.
+#[derive(Clone, Copy, Debug, PartialEq, Eq)]
+pub struct Gone {
+    /// The CPU to which it belonged.
+    pub cpu: usize,
+    /// Its number.
+    pub number: u32,
+}
+
+/// As many are listed of either kind.
+const MOST: usize = 256;
+
+/// On fewer CPUs than these nothing is listed: a walk over their tasks is less.
+const FEW: usize = 8;
+
+/// What has come into a queue and gone out of it since the last choice, and how far that went.
+/// Changes with other room than for 256 of either kind cannot be built: past them they tell only
+/// that there were too many.
+#[derive(Drop)]
+pub struct Changes {
+    cut: Option<Candidate>,
+    fresh: Vec<Candidate>,
+    gone: Vec<Gone>,
+    many: bool,
+}
+
+impl Model for Changes {
+    ghost use Rattle.std.specs.Prelude.{vec_capacity};
+    ghost use Rattle.edf_pick.specs.Changes.{ChangesView};
+    ghost use Rattle.edf_pick.specs.private.First.{HasRoomFor256};
+
+    ghost Value = { ChangesView };
+
+    ghost view = { λ c. record {
+      cut = c.cut;
+      fresh = c.fresh.items;
+      gone = c.gone.items;
+      many = c.many;
+    } };
+
+    ghost invariant = { λ c. HasRoomFor256 (vec_capacity c.fresh) (vec_capacity c.gone) };
+}
+
+impl Changes {
+    /// Too many to be listed: the first choice looks at all. No other call takes memory. `Err` where
+    /// the room was refused.
+    pub fn open(alloc: Global) -> Result<Changes, AllocError>
+        ensures { IfOk result (λ changes. changes.many ≡ true) }
+    {
+        Ok(Changes {
+            cut: None,
+            fresh: Vec::with_capacity(alloc, MOST)?,
+            gone: Vec::with_capacity(alloc, MOST)?,
+            many: true,
+        })
+    }
+
+    /// A task has come into the queue.
+    pub fn come(&mut self, c: &Candidate)
+        ensures follows { (queue : List Candidate) (places : Places)
+            → spec.Follows queue places self.old
+            → spec.Follows (with_candidate c.now queue) places self.new }
+    {
+        if self.many {
+            return;
+        }
+        if self.fresh.len() < MOST {
+            self.fresh.push_reserved(*c);
+        } else {
+            self.many = true;
+        }
+    }
+
+    /// A task has gone out of the queue.
+    pub fn go(&mut self, c: &Candidate)
+        ensures follows { (queue : List Candidate) (places : Places)
+            → All (λ a. is_same a c.now ≡ true → a.home ≡ c.now.home) queue
+            → All (λ a. a.number ≡ c.now.number → is_same a c.now ≡ true) queue
+            → spec.Follows queue places self.old
+            → spec.Follows (without_candidate c.now queue) places self.new }
+    {
+        if self.many {
+            return;
+        }
+        if self.gone.len() < MOST {
+            self.gone.push_reserved(Gone {
+                cpu: c.home,
+                number: c.number,
+            });
+        } else {
+            self.many = true;
+        }
+    }
+}
+
+fn task_at(queue: &[Candidate], k: usize) -> Option<Candidate>
+    ensures { result ≡ slice_get queue.now k }
+{
+    if k < queue.len() {
+        return Some(queue[k]);
+    }
+    None
+}
+
+// Nothing has changed since the choice of so many.
+fn renew(changes: &mut Changes, queue: &[Candidate], cpus: usize)
+    requires { 0 < cpus }
+    ensures { changes.new ≡ spec.unchanged cpus queue.now }
+{
+    changes.cut = task_at(queue, cpus - 1);
+    changes.fresh.clear();
+    changes.gone.clear();
+    changes.many = false;
+}
+
+// Whether a walk over all chosen tasks is less than a look at each change: a look costs as much as
+// about eight steps of a walk.
+fn is_long(changes: &Changes, chosen: usize) -> bool
+    ensures { changes.now.many ≡ true → result ≡ true }
+{
+    changes.many || 8 * changes.fresh.len() + changes.gone.len() >= chosen
+}
+
+/// As [`crate::pick`], by what has changed since the last choice: where that is listed and little, it
+/// looks at that alone, and else at all. It lists the CPUs that another one has then. Nothing has
+/// changed since in the queue in which each task that stands belongs to the CPU on which it stands.
+/// Answers the places in the queue of the chosen tasks that did not stand at home, as a word of marks.
+/// Takes no memory.
+pub(crate) fn pick_changed(
+    placement: &mut Placement,
+    queue: &Queue,
+    changes: &mut Changes,
+    moves: &mut Moves,
+) -> u64
+    requires numbered { AllPairs (λ a b. a.number ≢ b.number) queue.now }
+    requires follows { spec.Follows queue.now placement.old changes.old }
+    ensures places { placement.new ≡ placed (length placement.old) queue.now placement.old }
+    ensures moves { moves.new ≡ moved_from 0 placement.old placement.new }
+    ensures len { length placement.new ≡ length placement.old }
+    ensures movers { AreMovers (take (length placement.old) queue.now) placement.old result }
+    ensures single { AreSingle placement.old }
+    ensures still { AreSingle placement.new }
+    ensures follows { spec.Follows (map (spec.homed placement.new) queue.now) placement.new changes.new }
+{
+    let cpus = placement.occupants().len();
+    let movers = if is_long(changes, cpus.min(queue.len())) {
+        pick_by_walk(placement, queue, moves)
+    } else {
+        let (cut, fresh, gone) = (&changes.cut, &changes.fresh, &changes.gone);
+        pick_by_list(placement, queue, cut, fresh, gone, moves)
+    };
+    if cpus < FEW {
+        changes.many = true;
+        return movers;
+    }
+    renew(changes, queue.as_slice(), cpus);
+    movers
+}

@@ -1,0 +1,164 @@
+//! The ready tasks of a root domain and who stands on its CPUs, as one.
+
+ghost use Rattle.std.specs.Prelude.{ℕ, ◌≡◌, ◌≢◌, ◌<◌, ◌≤◌, [], None, Some, length, map, position, replicate, slice_get, All, IfOk};
+ghost use Rattle.std.specs.Int.{bit_at};
+ghost use Rattle.edf_pick.specs.declared.candidate.Candidate.{Candidate};
+ghost use Rattle.edf_pick.specs.Changes.{homed};
+ghost use Rattle.edf_pick.specs.Moves.{moved_from};
+ghost use Rattle.edf_pick.specs.Order as order;
+ghost use Rattle.edf_pick.specs.Places.{AreSingle, is_task, placed};
+ghost use Rattle.edf_pick.specs.Schedule as spec;
+
+use crate::candidate::Candidate;
+use crate::changes::{Changes, pick_changed};
+use crate::marks::{first, without};
+use crate::moves::{Moved, Moves};
+use crate::placement::Placement;
+use crate::queue::Queue;
+use crate::seats::is_at_home;
+use std::alloc::{AllocError, Global};
+use std::marker::Model;
+
+/// The ready tasks of a root domain in the order of the choice, who stands on each of its CPUs, and
+/// what has changed among the tasks since the last choice. One where two tasks have one number, where
+/// a task stands away from home, or where a change is not told, cannot be built.
+#[derive(Drop)]
+pub struct Schedule {
+    queue: Queue,
+    placement: Placement,
+    changes: Changes,
+    moves: Moves,
+}
+
+impl Model for Schedule {
+    ghost use Rattle.edf_pick.specs.Schedule.{ScheduleView, IsSchedule};
+
+    ghost Value = { ScheduleView };
+
+    ghost view = { λ s. record { queue = s.queue; places = s.placement; moves = s.moves } };
+
+    ghost invariant = { λ s. IsSchedule s.queue s.placement s.changes };
+}
+
+impl Schedule {
+    /// No tasks, and 1 to 64 idle CPUs. No other call takes memory. `Err` where the room was refused.
+    pub fn open(alloc: Global, cpus: usize) -> Result<Schedule, AllocError>
+        requires some { 0 < cpus }
+        requires few { cpus ≤ 64 }
+        ensures { IfOk result
+            (λ s. s ≡ record { queue = []; places = replicate cpus None; moves = [] }) }
+    {
+        Ok(Schedule {
+            queue: Queue::open(alloc)?,
+            placement: Placement::open(alloc, cpus)?,
+            changes: Changes::open(alloc)?,
+            moves: Moves::open(alloc)?,
+        })
+    }
+
+    /// The ready tasks.
+    pub fn queue(&self) -> &Queue
+        ensures { result.now ≡ self.now.queue }
+    {
+        &self.queue
+    }
+
+    /// Who stands on each CPU, from CPU 0 on.
+    pub fn occupants(&self) -> &[Option<u32>]
+        ensures occupants { result.now ≡ self.now.places }
+        ensures some { 0 < length self.now.places }
+        ensures few { length self.now.places ≤ 64 }
+    {
+        self.placement.occupants()
+    }
+
+    /// The CPUs that the last choice gave to another one, in their order.
+    pub fn moves(&self) -> &[Moved]
+        ensures { result.now ≡ self.now.moves }
+    {
+        self.moves.as_slice()
+    }
+
+    /// Takes in a task of a number that no task has; if it stands on a CPU, then on the one to which
+    /// it belongs.
+    pub fn insert(&mut self, c: Candidate)
+        requires few { length self.old.queue < 256 }
+        requires numbered { All (λ a. a.number ≢ c.number) self.old.queue }
+        requires homed { spec.IsAtHome self.old.places c }
+        ensures { self.new ≡ record self.old { queue = order.with_candidate c self.old.queue } }
+    {
+        self.changes.come(&c);
+        self.queue.insert(c);
+    }
+
+    /// Takes out the task of the deadline and the number of `c`, and answers whether it was there.
+    /// Where it is not there nothing changes.
+    pub fn remove(&mut self, c: &Candidate) -> bool
+        ensures removed { self.new
+            ≡ record self.old { queue = order.without_candidate c.now self.old.queue } }
+        ensures there { result ≡ order.has_candidate c.now self.old.queue }
+    {
+        let Some(entry) = self.queue.take(c) else {
+            return false;
+        };
+        self.changes.go(&entry);
+        true
+    }
+
+    /// The choice of the next tick and its placement, as [`crate::pick`], by what has changed since the
+    /// last one: see [`crate::pick_changed`]. Each task that stands then belongs to its CPU.
+    pub fn pick(&mut self)
+        ensures places { self.new.places
+            ≡ placed (length self.old.places) self.old.queue self.old.places }
+        ensures queue { self.new.queue ≡ map (homed self.new.places) self.old.queue }
+        ensures moves { self.new.moves ≡ moved_from 0 self.old.places self.new.places }
+    {
+        // For the prover alone: a look at the queue brings what its type keeps.
+        let _ = self.queue.as_slice();
+        let movers = pick_changed(
+            &mut self.placement,
+            &self.queue,
+            &mut self.changes,
+            &mut self.moves,
+        );
+        home_movers(&mut self.queue, self.placement.occupants(), movers);
+    }
+}
+
+// The CPU on which a task stands, if it stands on one.
+fn cpu_among(places: &[Option<u32>], number: u32) -> Option<usize>
+    ensures { result ≡ position (is_task number) places.now }
+{
+    places.iter().position(|occupant| *occupant == Some(number))
+}
+
+// Where a task belongs: to the CPU on which it stands, if it stands on one.
+fn home_of(places: &[Option<u32>], c: &Candidate) -> usize
+    requires { AreSingle places.now }
+    ensures { result ≡ (homed places.now c.now).home }
+{
+    if is_at_home(places, c) {
+        return c.home;
+    }
+    match cpu_among(places, c.number) {
+        Some(cpu) => cpu,
+        None => c.home,
+    }
+}
+
+// The tasks at the marked places of the queue belong to the CPUs on which they stand.
+fn home_movers(queue: &mut Queue, places: &[Option<u32>], movers: u64)
+    requires single { AreSingle places.now }
+    requires within { (i : ℕ) → bit_at movers i ≡ 1 → i < length queue.old }
+    requires others { (i : ℕ) (c : Candidate) → bit_at movers i ≡ 0
+        → slice_get queue.old i ≡ Some c → homed places.now c ≡ c }
+    ensures { queue.new ≡ map (homed places.now) queue.old }
+{
+    let mut left = movers;
+    'tasks: while left != 0 {
+        let i = first(left);
+        left = without(left, i);
+        let home = home_of(places, &queue.as_slice()[i]);
+        queue.rehome(i, home);
+    }
+}
