@@ -78,17 +78,27 @@ fn admit_all(
     gone
 }
 
+// Makes the admissions of ADMISSIONS in a book of three entries: whether the memory was gone at each,
+// and what the book ends with.
+fn admitted_without_memory(
+    rt: &impl Abort,
+    alloc: Global,
+    replies: &mut Vec<Reply>,
+) -> Result<(bool, (u64, u64, usize)), Fail> {
+    let ready = all_ready(rt, alloc, ADMISSIONS)?;
+    let mut blocks = Vec::with_capacity(alloc, 4416)?;
+    let mut desk = opened(rt, alloc, 1048576, 3)?;
+    let gone = admit_all(rt, alloc, &mut desk, ready, replies, &mut blocks);
+    blocks.clear();
+    Ok((gone, end(alloc, desk)))
+}
+
 // An admission that is prepared takes no memory more, whatever it is answered: by the word, by the
 // list of tasks, by a history that is full.
 #[test]
 fn no_memory_after_prepare(rt: HostRuntime) -> Result<(), Fail> {
-    let ready = all_ready(&rt, rt.alloc(), ADMISSIONS)?;
     let mut replies = Vec::with_capacity(rt.alloc(), 6)?;
-    let mut blocks = Vec::with_capacity(rt.alloc(), 4416)?;
-    let mut desk = opened(&rt, rt.alloc(), 1048576, 3)?;
-    let gone = admit_all(&rt, rt.alloc(), &mut desk, ready, &mut replies, &mut blocks);
-    blocks.clear();
-    let ends = end(rt.alloc(), desk);
+    let (gone, ends) = admitted_without_memory(&rt, rt.alloc(), &mut replies)?;
     println!(rt; "memory is gone: {gone}")?;
     let (granted, busy) = (Reply::Admitted, Reply::Busy { seen: 524288 });
     assert_eq!(rt;
