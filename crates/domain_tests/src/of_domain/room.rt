@@ -8,8 +8,8 @@ use std::test::Fail;
 /// Each call once, with its answer; task 1 waits. The room for switches is what it was. The state's
 /// other room is kept by its types.
 ///
-/// All that takes memory is made before the calls, in 20 requests, and one request is made behind
-/// them. So with the 21st refused (`rt try --test --fail-alloc 21`) the last assertion fails, since
+/// All that takes memory is made before the calls, in 23 requests, and one request is made behind
+/// them. So with the 24th refused (`rt try --test --fail-alloc 24`) the last assertion fails, since
 /// that is the one behind: the calls asked for none.
 #[test]
 fn calls_take_no_memory(rt: HostRuntime) -> Result<(), Fail> {

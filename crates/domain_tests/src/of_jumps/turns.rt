@@ -165,7 +165,7 @@ fn pieces_of_each_step(rt: HostRuntime) -> Result<(), Fail> {
 }
 
 /// A tick of an empty domain takes room for switches once. With the growth after that refused (`rt
-/// try --test --fail-alloc 15`) this fails at its assertion, since that growth is the one behind:
+/// try --test --fail-alloc 18`) this fails at its assertion, since that growth is the one behind:
 /// one worker asked for none.
 #[test]
 fn one_worker_takes_no_memory(rt: HostRuntime) -> Result<(), Fail> {
