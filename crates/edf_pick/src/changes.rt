@@ -120,6 +120,7 @@ fn task_at(queue: &[Candidate], k: usize) -> Option<Candidate>
 }
 
 // Nothing has changed since the choice of so many.
+#[inline(always)]
 fn renew(changes: &mut Changes, queue: &[Candidate], cpus: usize)
     requires { 0 < cpus }
     ensures { changes.new ≡ spec.unchanged cpus queue.now }
@@ -143,6 +144,7 @@ fn is_long(changes: &Changes, chosen: usize) -> bool
 /// changed since in the queue in which each task that stands belongs to the CPU on which it stands.
 /// Answers the places in the queue of the chosen tasks that did not stand at home, as a word of marks.
 /// Takes no memory.
+#[inline(always)]
 pub(crate) fn pick_changed(
     placement: &mut Placement,
     queue: &Queue,

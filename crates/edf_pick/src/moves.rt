@@ -82,6 +82,7 @@ fn is_same(a: Option<u32>, b: Option<u32>) -> bool
     }
 }
 
+#[inline(always)]
 fn list_one(
     before: &mut Vec<Option<u32>>,
     occupants: &[Option<u32>],
@@ -110,6 +111,7 @@ fn list_one(
     }
 }
 
+#[inline(always)]
 fn list_all(
     before: &mut Vec<Option<u32>>,
     occupants: &[Option<u32>],

@@ -55,6 +55,7 @@ struct Parts {
 }
 
 // One look for each chosen task.
+#[inline(always)]
 fn parts_of(places: &[Option<u32>], chosen: &[Candidate]) -> Parts
     requires cpus { length places.now ≤ 64 }
     requires few { length chosen.now ≤ 64 }
@@ -90,6 +91,7 @@ fn vacate(places: &mut Vec<Option<u32>>, cpu: usize, taken: u64) -> u64
 }
 
 // Who stands on a CPU that is no home of a chosen task stays only as a mover.
+#[inline(always)]
 fn keep_at(
     places: &mut Vec<Option<u32>>,
     chosen: &[Candidate],
@@ -115,6 +117,7 @@ fn keep_at(
 }
 
 // A look only at the marked CPUs.
+#[inline(always)]
 fn keep(
     places: &mut Vec<Option<u32>>,
     chosen: &[Candidate],
@@ -142,6 +145,7 @@ fn keep(
 }
 
 // The movers, in their order: each other chosen task stands already.
+#[inline(always)]
 fn seat_marked(places: &mut Vec<Option<u32>>, chosen: &[Candidate], movers: u64, taken: u64) -> u64
     requires few { vec_len places.old ≤ 64 }
     requires within { (i : ℕ) → bit_at movers i ≡ 1 → i < length chosen.now }
@@ -185,6 +189,7 @@ fn start_marked(places: &mut Vec<Option<u32>>, chosen: &[Candidate], movers: u64
     marks
 }
 
+#[inline(always)]
 fn seat_movers(
     places: &mut Vec<Option<u32>>,
     chosen: &[Candidate],
@@ -210,6 +215,7 @@ fn seat_movers(
 }
 
 // Who goes, by the marks of the CPUs, and then the movers. Marks of the CPUs that another one has.
+#[inline(always)]
 fn move_on(
     places: &mut Vec<Option<u32>>,
     chosen: &[Candidate],

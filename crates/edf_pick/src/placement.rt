@@ -91,6 +91,7 @@ pub fn pick(placement: &mut Placement, queue: &Queue)
 
 /// As `pick`, and lists the CPUs that another one has. Answers the places in the queue of the chosen
 /// tasks that did not stand at home, as a word of marks.
+#[inline(always)]
 pub(crate) fn pick_by_walk(placement: &mut Placement, queue: &Queue, moves: &mut Moves) -> u64
     ensures places { placement.new ≡ placed (length placement.old) queue.now placement.old }
     ensures moves { moves.new ≡ moved_from 0 placement.old placement.new }

@@ -147,6 +147,7 @@ fn home_of(places: &[Option<u32>], c: &Candidate) -> usize
 }
 
 // The tasks at the marked places of the queue belong to the CPUs on which they stand.
+#[inline(always)]
 fn home_movers(queue: &mut Queue, places: &[Option<u32>], movers: u64)
     requires single { AreSingle places.now }
     requires within { (i : ℕ) → bit_at movers i ≡ 1 → i < length queue.old }

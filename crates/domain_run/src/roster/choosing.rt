@@ -72,6 +72,7 @@ fn start(task: &mut Task, accounts: &mut Accounts, seats: &mut Seats, cpu: usize
 }
 
 // The task that stands on a CPU, if one does and is listed, belongs to it.
+#[inline(always)]
 fn home_on(
     tasks: &mut Vec<Task>,
     accounts: &mut Accounts,
@@ -103,6 +104,7 @@ fn home_on(
 }
 
 /// Each task to which the last choice gave a CPU belongs to it.
+#[inline(always)]
 pub(super) fn home_all(
     tasks: &mut Vec<Task>,
     accounts: &mut Accounts,
