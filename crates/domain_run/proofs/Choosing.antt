@@ -160,6 +160,9 @@ module _ (accounts : AccountsView) (s : SeatsView) (tasks : List Task) (p : ℕ)
         view_is ∙ ap (λ (t : Task). set (owed_all s tasks) p t) (is ∙ ap (with_cpu (Some cpu)) read_seen)
         ∙ sym (map_at (with_cpu (Some cpu)) number (owed_all s tasks) p seen counts.roster.numbered at)
 
+    pub started_view : owed_all after (set tasks p y) ≡ set (owed_all s tasks) p y
+    started_view = view_is
+
     pub started_clock : after.upto ≡ s.upto
     started_clock = ap (λ (v : SeatsView). v.upto) are
 

@@ -1,7 +1,8 @@
 -- From one event to the next: who stands sits, and has run in all of the ticks between.
 use Rattle.std.proofs.Common.{◌≡◌, ◌≢◌, ◌⊎◌, ℕ, zero, suc, ◌+◌, ◌*◌, ◌<◌, ◌≤◌, Bool, true, false, cond, ◌||◌, eq-eqb, Option, Some, None, List, [], ◌∷◌, map, get_or, refl, sym, ap, ◌∙◌, subst, arith, inl, inr}
-use Rattle.std.specs.Prelude.{pos, ◌-ℤ◌, All, IfSome, IsTrue, is_none}
-use Rattle.std.proofs.lemmas.Bool.{cases_eq, cases_lt}
+use Rattle.std.specs.Prelude.{pos, ◌-ℤ◌, All, IfSome}
+use Rattle.std.specs.Int.{bit_at}
+use Rattle.std.proofs.lemmas.Bool.{cases_eq}
 use Rattle.std.proofs.lemmas.List.Folds.{Any-from_list_any}
 use Rattle.edf_pick.specs.Places.{Places, is_task, stands}
 use Rattle.domain_run.specs.declared.task.Task.{Task}
@@ -10,7 +11,7 @@ use Rattle.domain_run.specs.Parts.{with_cpu, with_last_cpu}
 use Rattle.domain_run.specs.Sound.{occupant, IsApart}
 use Rattle.domain_run.specs.private.Paying.{ran_until}
 use Rattle.domain_run.specs.private.Seats.{seat_by}
-use Rattle.domain_run.specs.private.Roster.{RosterView, rate_in, IsSeated, AreSeatedFrom, leapt, LastsIf}
+use Rattle.domain_run.specs.private.Roster.{rate_in, IsSeated, leapt, LastsIf}
 use Rattle.domain_run.specs.private.Waiting.{seat_of, IsAtRate, IsRight, Lasts, passed_by, passed}
 use Rattle.domain_run.proofs.Placing.{position_at, stands_at}
 use Rattle.domain_run.proofs.Jumping.{map_alike}
@@ -63,62 +64,18 @@ lasts_all k places cpus limit tasks seats apart homed right lasts i d h stand =
 
 -- ---- one CPU after another
 
-pub right_next : (places : Places) (cpus limit i : ℕ) (tasks : List Task) (old new : List (Option Seat))
-    → All (λ t. t.cpu < i → IsSeated places cpus limit tasks old t) tasks
+-- on the CPUs without a mark those who stand sit rightly, and on one more
+pub right_next : (places : Places) (cpus limit i left then : ℕ) (tasks : List Task) (old new : List (Option Seat))
+    → ((j : ℕ) → j ≢ i → bit_at then j ≡ bit_at left j)
+    → All (λ t. bit_at left t.cpu ≡ 0 → IsSeated places cpus limit tasks old t) tasks
     → ((d : ℕ) → d ≢ i → get_or new d None ≡ get_or old d None)
     → All (λ t. t.cpu ≡ i → IsRight (occupant places i) t.number (rate_in cpus limit tasks t) (seat_of new t)) tasks
-    → All (λ t. t.cpu < i + 1 → IsSeated places cpus limit tasks new t) tasks
-right_next places cpus limit i tasks old new before others here k d h less =
+    → All (λ t. bit_at then t.cpu ≡ 0 → IsSeated places cpus limit tasks new t) tasks
+right_next places cpus limit i left then tasks old new same before others here k d h bare =
     let t = get_or tasks k d in
     let rate = rate_in cpus limit tasks t in
     elim (cases_eq t.cpu i) [
       | inl e ↦ subst (λ c. IsRight (occupant places c) t.number rate (seat_of new t)) (sym e) (here k d h e)
       | inr other ↦
-          let is : t.cpu < i = below (cases_lt t.cpu i) other less in
-          subst (λ o. IsRight (occupant places t.cpu) t.number rate o) (sym (ap (seat_by t.number) (others t.cpu other))) (before k d h is)
+          subst (λ o. IsRight (occupant places t.cpu) t.number rate o) (sym (ap (seat_by t.number) (others t.cpu other))) (before k d h (sym (same t.cpu other) ∙ bare))
     ]
-  where
-    below : {a b : ℕ} → (a < b) ⊎ (b ≤ a) → (a ≡ b → ⊥) → a < b + 1 → a < b
-    below (inl l) ne h = l
-    below (inr m) ne h = absurd (ne (omega (arith, m, h)))
-
--- ---- from one CPU on up to another
-
-pub right_none : (places : Places) (r : RosterView) (limit from : ℕ) → AreSeatedFrom places r limit from from
-right_none places r limit from k d h above below = absurd (omega (arith, above, below))
-
-pub right_more : (places : Places) (r : RosterView) (limit from i : ℕ)
-    → AreSeatedFrom places r limit from i
-    → All (λ t. t.cpu ≡ i → IsRight (occupant places i) t.number (rate_in r.cpus limit r.tasks t) (seat_of r.seats t)) r.tasks
-    → AreSeatedFrom places r limit from (i + 1)
-right_more places r limit from i before here k d h above below =
-    let t = get_or r.tasks k d in
-    let rate = rate_in r.cpus limit r.tasks t in
-    elim (cases_eq t.cpu i) [
-      | inl e ↦ subst (λ c. IsRight (occupant places c) t.number rate (seat_of r.seats t)) (sym e) (here k d h e)
-      | inr other ↦ before k d h above (under (cases_lt t.cpu i) other below)
-    ]
-  where
-    under : {a b : ℕ} → (a < b) ⊎ (b ≤ a) → (a ≡ b → ⊥) → a < b + 1 → a < b
-    under (inl l) ne h = l
-    under (inr m) ne h = absurd (ne (omega (arith, m, h)))
-
-none_is : (o : Option Seat) → IsTrue (is_none o) → o ≡ None
-none_is None is = refl
-none_is (Some s) is = absurd cc
-
--- nobody stands on a CPU, and nobody sits there
-pub free_right : (cpu limit : ℕ) (r : RosterView) → IsTrue (is_none (get_or r.seats cpu None)) → All (λ t. t.cpu ≡ cpu → IsRight None t.number (rate_in r.cpus limit r.tasks t) (seat_of r.seats t)) r.tasks
-free_right cpu limit r free k d h e =
-    let t = get_or r.tasks k d in
-    ap (λ c. seat_by t.number (get_or r.seats c None)) e ∙ ap (seat_by t.number) (none_is (get_or r.seats cpu None) free)
-
--- those below one CPU, and those from there on
-pub right_both : (places : Places) (cpus limit from upto : ℕ) (tasks : List Task) (seats : List (Option Seat))
-    → All (λ t. t.cpu < from → IsSeated places cpus limit tasks seats t) tasks
-    → All (λ t. from ≤ t.cpu → t.cpu < upto → IsSeated places cpus limit tasks seats t) tasks
-    → All (λ t. t.cpu < upto → IsSeated places cpus limit tasks seats t) tasks
-right_both places cpus limit from upto tasks seats low high k d h below = elim (cases_lt (get_or tasks k d).cpu from) [
-  | inl less ↦ low k d h less
-  | inr above ↦ high k d h above below
-]

@@ -52,5 +52,6 @@ pub mod Bare
 pub mod Turning
 pub mod Seatings
 pub mod Later
+pub mod Doubting
 pub mod Leaping
 pub mod Leapt

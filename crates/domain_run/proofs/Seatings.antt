@@ -13,6 +13,8 @@ use Rattle.domain_run.specs.private.Seats.{SeatsView, seat_by, left}
 use Rattle.domain_run.specs.private.Waiting.{seat_of, slid_for, owed_by, owed, owed_all, Waits, WaitsIf, AllWait, MaySit, IsAtRate, IsRight, charged_on, rate_by, IsRatedBy}
 use Rattle.domain_run.specs.declared.run_queue.RunQueue.{RunQueue}
 use Rattle.domain_run.specs.private.RunQueue.{IsCounted}
+use Rattle.domain_run.specs.declared.doubts.Doubts.{Doubts}
+use Rattle.domain_run.specs.private.Doubts.{AreSettled}
 use Rattle.domain_run.specs.private.Roster.{RosterView, IsKept}
 use Rattle.domain_run.specs.private.Index.{IsAt, IsAbsent}
 use Rattle.domain_run.proofs.Jumping.{map_alike}
@@ -256,11 +258,12 @@ view_again queue cpu o s v items after r view are same =
     (λ i. record (roster_view queue s items) { clock = (are i).upto; seats = (are i).seats; tasks = same i })
     ∙ ap (λ (x : RosterView). record x { seats = set x.seats cpu o }) view
 
-pub kept_again : (queue : RunQueue) (s v : SeatsView) (items after : List Task) (capacity : ℕ) → IsKept queue s items capacity → owed_all v after ≡ owed_all s items → AllWait v.seats after → length v.seats ≡ length s.seats → IsKept queue v after capacity
-kept_again queue s v items after capacity is same waits long = record {
+pub kept_again : (queue : RunQueue) (s v : SeatsView) (items after : List Task) (capacity : ℕ) (d e : Doubts) → IsKept queue s items capacity d → owed_all v after ≡ owed_all s items → AllWait v.seats after → length v.seats ≡ length s.seats → AreSettled e (length queue.accounts.all) queue.schedule.places v.seats (owed_all v after) → IsKept queue v after capacity e
+kept_again queue s v items after capacity d e is same waits long settled = record {
   counted = subst (IsCounted (length queue.accounts.all) queue) (sym same) is.counted;
   waits = waits;
   wide = long ∙ is.wide;
+  settled = settled;
   room = is.room;
 }
 

@@ -4,6 +4,7 @@ pub mod Paying
 pub mod Index
 pub mod Timers
 pub mod Roster
+pub mod Doubts
 pub mod Telling
 pub mod Progress
 pub mod Tournament

@@ -11,6 +11,7 @@ mod calls;
 mod change;
 mod charging;
 mod cursor;
+mod doubts;
 mod happened;
 mod index;
 mod log;

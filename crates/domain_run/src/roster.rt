@@ -30,6 +30,7 @@ mod seating;
 mod turning;
 
 use crate::change::Change;
+use crate::doubts::Doubts;
 use crate::index::Index;
 use crate::run_queue::RunQueue;
 use crate::running::Running;
@@ -50,6 +51,8 @@ pub(crate) struct Roster {
     queue: RunQueue,
     // Where the tasks of the list are, by their numbers.
     index: Index,
+    // Of which CPUs it is not known that who stands there sits there rightly.
+    doubts: Doubts,
 }
 
 impl Model for Roster {
@@ -68,7 +71,7 @@ impl Model for Roster {
       tasks = owed_all r.seats r.tasks.items;
     } };
 
-    ghost invariant = { λ r. IsKept r.queue r.seats r.tasks.items (vec_capacity r.tasks) };
+    ghost invariant = { λ r. IsKept r.queue r.seats r.tasks.items (vec_capacity r.tasks) r.doubts };
 }
 
 impl Roster {
@@ -90,6 +93,7 @@ impl Roster {
             seats: Seats::open(alloc, cpus)?,
             queue: RunQueue::open(alloc, cpus)?,
             index: Index::open(alloc)?,
+            doubts: Doubts::all(),
         })
     }
 
@@ -281,6 +285,7 @@ impl Roster {
             ≡ left_of (slice_index_or self.new.tasks place d)
             (left_of (slice_index_or self.old.tasks place d) self.old.seats) }
     {
+        let cpu = self.tasks[place].cpu;
         turning::turn_task(
             &mut self.tasks,
             &mut self.queue,
@@ -289,6 +294,7 @@ impl Roster {
             time,
             change,
         );
+        self.doubts.mark(cpu);
     }
 
     /// Changes the task of a number, where it is listed.
@@ -327,6 +333,7 @@ impl Roster {
             &mut self.seats,
             &self.index,
             &self.queue.schedule,
+            &mut self.doubts,
         );
     }
 
@@ -343,6 +350,7 @@ impl Roster {
         ensures tasks { self.new.tasks ≡ self.old.tasks ++ task ∷ [] }
     {
         self.index.note(task.number, self.tasks.len());
+        self.doubts.mark(task.cpu);
         self.seats.leave(task.cpu, task.number);
         listing::push_task(&mut self.tasks, &mut self.queue, task);
     }
@@ -353,7 +361,9 @@ impl Roster {
         ensures places { self.new.places ≡ self.old.places }
         ensures tasks { self.new.tasks ≡ filter is_listed self.old.tasks }
     {
-        listing::drop_left(&mut self.tasks, &mut self.queue, &mut self.index);
+        if listing::drop_left(&mut self.tasks, &mut self.queue, &mut self.index) {
+            self.doubts.mark_all();
+        }
     }
 
     /// The task of a number goes off the list at once.
@@ -365,5 +375,6 @@ impl Roster {
     {
         self.turn_number(number, time, &Change::Depart);
         listing::drop_number(&mut self.tasks, &mut self.queue, &mut self.index, number);
+        self.doubts.mark_all();
     }
 }

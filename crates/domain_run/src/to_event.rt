@@ -10,9 +10,12 @@ ghost use Rattle.domain_run.specs.private.Roster.{IsSeated, LastsIf, leapt};
 ghost use Rattle.domain_run.specs.private.RunQueue.{AreHomed};
 ghost use Rattle.domain_run.specs.private.Waiting.{MaySitOn};
 
+use crate::doubts::first_marked;
 use crate::roster::Roster;
+use edf_pick::marks::without;
 
-/// Who stands on each CPU sits there at its rate, and nobody else sits.
+/// Who stands on each CPU sits there at its rate, and nobody else sits. A look at those alone that are
+/// in doubt.
 fn seat_all(roster: &mut Roster, limit: u64)
     requires wide { length roster.old.places ≡ roster.old.cpus }
     requires cpus { (0 < roster.old.cpus) × (roster.old.cpus ≤ 64) }
@@ -29,11 +32,12 @@ fn seat_all(roster: &mut Roster, limit: u64)
         roster.new.tasks }
 {
     let cpus = roster.occupants().len();
-    let mut cpu = roster.next_wrong(0, limit);
+    let mut left = roster.doubtful(limit);
+    let mut cpu = first_marked(left);
     while cpu < cpus {
-        let occupant = roster.occupant(cpu);
-        roster.seat_on(cpu, occupant, limit);
-        cpu = roster.next_wrong(cpu + 1, limit);
+        roster.seat_rightly(cpu, limit);
+        left = without(left, cpu);
+        cpu = first_marked(left);
     }
 }
 

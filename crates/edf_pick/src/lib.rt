@@ -14,7 +14,7 @@
 mod candidate;
 mod changes;
 mod listed;
-mod marks;
+pub mod marks;
 mod moves;
 mod order;
 mod picking;

@@ -4,7 +4,7 @@ ghost use Rattle.std.specs.Prelude.{ℕ, ◌≡◌, ◌≢◌, ◌<◌, ◌≤�
 ghost use Rattle.std.specs.Int.{bit_at};
 
 /// With a mark at this place.
-pub(crate) fn with(marks: u64, place: usize) -> u64
+pub fn with(marks: u64, place: usize) -> u64
     requires { place < 64 }
     ensures marked { bit_at result place ≡ 1 }
     ensures others { (i : ℕ) → i ≢ place → bit_at result i ≡ bit_at marks i }
@@ -13,7 +13,7 @@ pub(crate) fn with(marks: u64, place: usize) -> u64
 }
 
 /// Without the mark at this place.
-pub(crate) fn without(marks: u64, place: usize) -> u64
+pub fn without(marks: u64, place: usize) -> u64
     requires { place < 64 }
     ensures bare { bit_at result place ≡ 0 }
     ensures others { (i : ℕ) → i ≢ place → bit_at result i ≡ bit_at marks i }
@@ -47,7 +47,7 @@ pub(crate) fn is_apart(a: u64, b: u64) -> bool
 }
 
 /// The first place with a mark.
-pub(crate) fn first(marks: u64) -> usize
+pub fn first(marks: u64) -> usize
     requires { 0 < marks }
     ensures within { result < 64 }
     ensures marked { bit_at marks result ≡ 1 }

@@ -19,6 +19,8 @@ use Rattle.domain_run.specs.declared.running.Running.{Running}
 use Rattle.grub_rules.specs.Sums.{uinact}
 use Rattle.grub_rules.specs.Rate as reclaiming
 use Rattle.domain_run.specs.Tick.{shares, sum_of}
+use Rattle.domain_run.specs.declared.doubts.Doubts.{Doubts}
+use Rattle.domain_run.specs.private.Doubts.{AreSettled}
 use Rattle.domain_run.specs.private.Seats.{SeatsView}
 use Rattle.domain_run.specs.private.Waiting.{owed_all, AllWait, runner_of, seat_of, IsRight, Lasts}
 use Rattle.edf_pick.specs.declared.moves.Moved.{Moved}
@@ -36,12 +38,16 @@ pub record RosterView : Type 0 where
   pub moves : List Moved
   pub tasks : List Task
 
--- what a roster keeps: its run queue counts its list, each seat has its task's charges, there is a
--- place for each CPU, and the room for 256 tasks that it was opened with, so it takes no more
-pub record IsKept (queue : RunQueue) (seats : SeatsView) (tasks : List Task) (capacity : ℕ) : Type 0 where
+-- what a roster keeps: its run queue counts its list, each seat has its task's charges, who stands on
+-- a CPU that is not in doubt sits there rightly, there is a place for each CPU, and the room for 256
+-- tasks that it was opened with, so it takes no more
+pub record IsKept (queue : RunQueue) (seats : SeatsView) (tasks : List Task) (capacity : ℕ)
+    (doubts : Doubts) : Type 0 where
   pub counted : IsCounted (length queue.accounts.all) queue (owed_all seats tasks)
   pub waits : AllWait seats.seats tasks
   pub wide : length seats.seats ≡ length queue.accounts.all
+  pub settled : AreSettled doubts (length queue.accounts.all) queue.schedule.places seats.seats
+      (owed_all seats tasks)
   pub room : capacity ≡ 256
 
 -- a task of the list that is seen but for what is left of its budget and its work
@@ -135,11 +141,6 @@ basis_in cpus limit tasks cpu =
 abbrev pub IsSeated : Places → ℕ → ℕ → List Task → List (Option Seat) → Task → Type 0
 IsSeated places cpus limit tasks seats t =
     IsRight (occupant places t.cpu) t.number (rate_in cpus limit tasks t) (seat_of seats t)
-
--- those of the CPUs from one up to another have it
-abbrev pub AreSeatedFrom : Places → RosterView → ℕ → ℕ → ℕ → Type 0
-AreSeatedFrom places r limit from upto =
-    All (λ t. from ≤ t.cpu → t.cpu < upto → IsSeated places r.cpus limit r.tasks r.seats t) r.tasks
 
 -- a task after so many ticks, up to a time: where it stands on a CPU it has run in each
 abbrev pub leapt : ℕ → ℕ → Places → ℕ → ℕ → List Task → Task → Task

@@ -1,14 +1,17 @@
 //! Who starts on a CPU belongs to it from then on. The schedule has it so already.
 
-ghost use Rattle.std.specs.Prelude.{◌≡◌, ◌<◌, ◌+◌, ◌^◌, ◌∷◌, [], None, Some, map, length, slice_index_or, vec_capacity};
+ghost use Rattle.std.specs.Prelude.{◌≡◌, ◌<◌, ◌+◌, ◌^◌, ◌∷◌, [], All, None, Some, map, length, slice_index_or, vec_capacity};
+ghost use Rattle.std.specs.Int.{bit_at};
 ghost use Rattle.grub_rules.specs.Accounts.{Exchanges, Holds};
 ghost use Rattle.domain_run.specs.Parts.{with_cpu};
 ghost use Rattle.domain_run.specs.Tick as tick_spec;
 ghost use Rattle.domain_run.specs.private.Choosing as spec;
+ghost use Rattle.domain_run.specs.private.Doubts.{IsMarked};
 ghost use Rattle.domain_run.specs.private.Roster.{homed_here};
 ghost use Rattle.domain_run.specs.private.Seats as seats_spec;
 ghost use Rattle.domain_run.specs.private.Waiting as waiting;
 
+use crate::doubts::Doubts;
 use crate::index::Index;
 use crate::roster::turning::{leave_other, settle};
 use crate::seats::Seats;
@@ -80,6 +83,7 @@ fn home_on(
     index: &Index,
     occupant: Option<u32>,
     cpu: usize,
+    doubts: &mut Doubts,
 )
     requires there { cpu < length accounts.old.all }
     requires counts { spec.AreCounted accounts.old seats.old tasks.old.items }
@@ -89,8 +93,14 @@ fn home_on(
         ≡ map (homed_here occupant cpu) (waiting.owed_all seats.old tasks.old.items) }
     ensures clock { seats.new.upto ≡ seats.old.upto }
     ensures seats { length seats.new.seats ≡ length seats.old.seats }
+    ensures marked { IsMarked doubts.old.cpus doubts.new.cpus seats.old.seats seats.new.seats
+        (waiting.owed_all seats.old tasks.old.items) (waiting.owed_all seats.new tasks.new.items) }
+    ensures here { cpu < 64 → bit_at doubts.new.cpus cpu ≡ 1 }
+    ensures sum { doubts.new.sum ≡ doubts.old.sum }
+    ensures limit { doubts.new.limit ≡ doubts.old.limit }
     ensures room { vec_capacity tasks.new ≡ vec_capacity tasks.old }
 {
+    doubts.mark(cpu);
     let Some(number) = occupant else {
         return;
     };
@@ -100,6 +110,7 @@ fn home_on(
     if tasks[place].cpu == cpu {
         return;
     }
+    doubts.mark(tasks[place].cpu);
     start(&mut tasks[place], accounts, seats, cpu);
 }
 
@@ -111,6 +122,7 @@ pub(super) fn home_all(
     seats: &mut Seats,
     index: &Index,
     schedule: &Schedule,
+    doubts: &mut Doubts,
 )
     requires there { spec.AreWithin (length accounts.old.all) schedule.now.moves }
     requires counts { spec.AreCounted accounts.old seats.old tasks.old.items }
@@ -121,12 +133,18 @@ pub(super) fn home_all(
         (waiting.owed_all seats.old tasks.old.items) }
     ensures clock { seats.new.upto ≡ seats.old.upto }
     ensures seats { length seats.new.seats ≡ length seats.old.seats }
+    ensures marked { IsMarked doubts.old.cpus doubts.new.cpus seats.old.seats seats.new.seats
+        (waiting.owed_all seats.old tasks.old.items) (waiting.owed_all seats.new tasks.new.items) }
+    ensures moved { All (λ m. m.cpu < 64 → bit_at doubts.new.cpus m.cpu ≡ 1) schedule.now.moves }
+    ensures sum { doubts.new.sum ≡ doubts.old.sum }
+    ensures limit { doubts.new.limit ≡ doubts.old.limit }
     ensures room { vec_capacity tasks.new ≡ vec_capacity tasks.old }
 {
     let places = schedule.occupants();
     let moves = schedule.moves();
     for i in 0..moves.len() {
         let cpu = moves[i].cpu;
-        home_on(tasks, accounts, seats, index, occupant_of(places, cpu), cpu);
+        let occupant = occupant_of(places, cpu);
+        home_on(tasks, accounts, seats, index, occupant, cpu, doubts);
     }
 }

@@ -74,23 +74,25 @@ fn set_timers(timers: &mut Timers, tasks: &[Task], from: usize)
 }
 
 /// Tasks that have left go off the list. They are due at once, so those before the first that is
-/// due stay as they are, and cost nothing but a look.
-pub(super) fn drop_left(tasks: &mut Vec<Task>, queue: &mut RunQueue, index: &mut Index)
+/// due stay as they are, and cost nothing but a look. Whether one may have gone.
+pub(super) fn drop_left(tasks: &mut Vec<Task>, queue: &mut RunQueue, index: &mut Index) -> bool
     requires { IsCounted (length queue.old.accounts.all) queue.old tasks.old.items }
     ensures tasks { tasks.new.items ≡ filter parts_spec.is_listed tasks.old.items }
     ensures counted { IsCounted (length queue.old.accounts.all) queue.new tasks.new.items }
+    ensures none { result ≡ false → tasks.new.items ≡ tasks.old.items }
     ensures schedule { queue.new.schedule ≡ queue.old.schedule }
     ensures few { vec_len tasks.new ≤ vec_len tasks.old }
     ensures room { vec_capacity tasks.new ≡ vec_capacity tasks.old }
 {
     if !queue.timers.may_be_due(0) {
-        return;
+        return false;
     }
     let first = queue.timers.next_due(0, 0);
     part_left(&mut queue.accounts, tasks);
     tasks.retain(|task| parts::is_listed(task));
     set_timers(&mut queue.timers, tasks, first);
     note_left(index, tasks, first);
+    true
 }
 
 // Whether a task has another number.

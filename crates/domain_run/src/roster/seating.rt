@@ -1,11 +1,13 @@
 //! Who sits on which CPU: nobody is charged by it, as callers see it.
 
 ghost use Rattle.std.specs.Prelude.{◌≡◌, ◌≢◌, ◌<◌, ◌≤◌, ◌^◌, ◌*◌, ◌-◌, ℕ, All, IfSome, IsTrue, None, Some, length, pos, slice_index_or, slice_set};
+ghost use Rattle.std.specs.Int.{bit_at};
 ghost use Rattle.attr_check.specs.Ratio.{cap};
 ghost use Rattle.domain_run.specs.Domain.{IsLimit};
 ghost use Rattle.domain_run.specs.Tick.{sum_of};
 ghost use Rattle.domain_run.specs.private.Index.{IsAt};
-ghost use Rattle.domain_run.specs.private.Roster.{rate_in, basis_in, AreSeatedFrom};
+ghost use Rattle.domain_run.specs.private.Doubts.{IsSettled};
+ghost use Rattle.domain_run.specs.private.Roster.{rate_in, basis_in, IsSeated};
 ghost use Rattle.domain_run.specs.private.Seats.{IsAhead, seat_by};
 ghost use Rattle.domain_run.specs.private.Waiting as spec;
 
@@ -92,6 +94,7 @@ impl Roster {
     {
         charge_on(&mut self.tasks[place], cpu, seat, self.seats.upto());
         self.seats.set(cpu, None);
+        self.doubts.mark(cpu);
     }
 
     /// Nobody sits on a CPU any more; who did is charged.
@@ -103,7 +106,10 @@ impl Roster {
             return;
         };
         match self.place(seat.number) {
-            None => self.seats.set(cpu, None),
+            None => {
+                self.seats.set(cpu, None);
+                self.doubts.mark(cpu);
+            }
             Some(place) => self.vacate_at(cpu, place, seat),
         }
     }
@@ -139,6 +145,7 @@ impl Roster {
         if let Some(place) = self.place(number) {
             let seat = seat_for(&self.tasks[place], self.seats.upto(), rate, basis);
             self.seats.set(cpu, Some(seat));
+            self.doubts.mark(cpu);
         }
     }
 
@@ -174,8 +181,8 @@ impl Roster {
     #[inline(always)]
     fn sits_rightly(&self, cpu: usize, number: u32, limit: u64) -> bool
         requires there { cpu < self.now.cpus }
-        ensures { IsTrue result → All (λ t. t.cpu ≡ cpu → spec.IsRight (Some number) t.number
-            (rate_in self.now.cpus limit self.now.tasks t) (spec.seat_of self.now.seats t)) self.now.tasks }
+        ensures { IsTrue result → IsSettled (Some number) (basis_in self.now.cpus limit self.now.tasks cpu)
+            (slice_index_or self.now.seats cpu None) }
     {
         match self.seats.seat_of(cpu, number) {
             None => false,
@@ -187,8 +194,8 @@ impl Roster {
     #[inline(always)]
     fn is_right(&self, cpu: usize, occupant: Option<u32>, limit: u64) -> bool
         requires there { cpu < self.now.cpus }
-        ensures { IsTrue result → All (λ t. t.cpu ≡ cpu → spec.IsRight occupant t.number
-            (rate_in self.now.cpus limit self.now.tasks t) (spec.seat_of self.now.seats t)) self.now.tasks }
+        ensures { IsTrue result → IsSettled occupant (basis_in self.now.cpus limit self.now.tasks cpu)
+            (slice_index_or self.now.seats cpu None) }
     {
         match occupant {
             None => self.seats.is_free(cpu),
@@ -196,22 +203,34 @@ impl Roster {
         }
     }
 
-    /// The first CPU, from this one on, where someone is to sit down or to leave; where there is
-    /// none, how many CPUs there are.
+    /// Marks of the CPUs that are in doubt: on each other one who stands there, if anyone does, sits
+    /// there at its rate, and nobody else does.
     #[inline(always)]
-    pub(crate) fn next_wrong(&self, from: usize, limit: u64) -> usize
-        requires wide { length self.now.places ≡ self.now.cpus }
-        requires from { from ≤ length self.now.places }
-        ensures from { from ≤ result }
-        ensures most { result ≤ length self.now.places }
-        ensures right { AreSeatedFrom self.now.places self.now limit from result }
+    pub(crate) fn doubtful(&mut self, limit: u64) -> u64
+        requires few { self.old.cpus ≤ 64 }
+        ensures roster { self.new ≡ self.old }
+        ensures others { All (λ t. bit_at result t.cpu ≡ 0
+            → IsSeated self.old.places self.old.cpus limit self.old.tasks self.old.seats t) self.old.tasks }
     {
-        let places = self.occupants();
-        let mut cpu = from;
-        while cpu < places.len() && self.is_right(cpu, places[cpu], limit) {
-            cpu += 1;
+        let sum = self.sum();
+        self.doubts.renew(sum, limit);
+        self.doubts.cpus
+    }
+
+    /// A CPU, where who stands sits rightly, is in doubt no more, if what it was looked at for is noted.
+    #[inline(always)]
+    fn trust(&mut self, cpu: usize, limit: u64)
+        requires few { cpu < 64 }
+        requires settled { IsSettled (slice_index_or self.old.places cpu None)
+            (basis_in self.old.cpus limit self.old.tasks cpu) (slice_index_or self.old.seats cpu None) }
+        ensures roster { self.new ≡ self.old }
+        ensures right { All (λ t. t.cpu ≡ cpu
+            → spec.IsRight (slice_index_or self.old.places cpu None) t.number
+            (rate_in self.old.cpus limit self.old.tasks t) (spec.seat_of self.old.seats t)) self.old.tasks }
+    {
+        if self.doubts.is_for(self.sum(), limit) {
+            self.doubts.clear(cpu);
         }
-        cpu
     }
 
     /// The rate of the task of a number; one where none is listed.
@@ -283,7 +302,7 @@ impl Roster {
 
     /// Who stands on a CPU, if anyone does, sits there at its rate, and nobody else does.
     #[inline(always)]
-    pub(crate) fn seat_on(&mut self, cpu: usize, occupant: Option<u32>, limit: u64)
+    fn seat_on(&mut self, cpu: usize, occupant: Option<u32>, limit: u64)
         requires there { cpu < self.old.cpus }
         requires cpus { (0 < self.old.cpus) × (self.old.cpus ≤ 64) }
         requires limit { IsLimit limit }
@@ -303,6 +322,33 @@ impl Roster {
             None => self.leave_free(cpu),
             Some(number) => self.seat_at(cpu, number, limit),
         }
+    }
+
+    /// As `seat_on` for who stands on a CPU, where mostly the seat is right.
+    #[inline(always)]
+    pub(crate) fn seat_rightly(&mut self, cpu: usize, limit: u64)
+        requires there { cpu < self.old.cpus }
+        requires cpus { (0 < self.old.cpus) × (self.old.cpus ≤ 64) }
+        requires limit { IsLimit limit }
+        requires within { sum_of self.old.tasks ≤ cap self.old.cpus limit }
+        requires may { IfSome (slice_index_or self.old.places cpu None)
+            (λ n. All (λ t. t.number ≡ n → (t.cpu ≡ cpu) × spec.MaySit t) self.old.tasks) }
+        ensures cpus { self.new.cpus ≡ self.old.cpus }
+        ensures places { self.new.places ≡ self.old.places }
+        ensures clock { self.new.clock ≡ self.old.clock }
+        ensures tasks { self.new.tasks ≡ self.old.tasks }
+        ensures others { (d : ℕ) → d ≢ cpu
+            → slice_index_or self.new.seats d None ≡ slice_index_or self.old.seats d None }
+        ensures right { All (λ t. t.cpu ≡ cpu
+            → spec.IsRight (slice_index_or self.old.places cpu None) t.number
+            (rate_in self.old.cpus limit self.old.tasks t) (spec.seat_of self.new.seats t)) self.new.tasks }
+    {
+        let occupant = self.occupant(cpu);
+        if self.is_right(cpu, occupant, limit) {
+            self.trust(cpu, limit);
+            return;
+        }
+        self.seat_on(cpu, occupant, limit);
     }
 
     /// Nobody sits any more.

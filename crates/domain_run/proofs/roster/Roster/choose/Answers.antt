@@ -1,15 +1,20 @@
-use Rattle.std.proofs.Common.{◌≡◌, ℕ, List, length, map, sym, ap, subst, ◌∙◌, refl, arith}
+use Rattle.std.specs.Int.{bit_at}
+use Rattle.std.specs.Prelude.{All}
+use Rattle.std.proofs.Common.{◌≡◌, ◌<◌, ℕ, List, length, map, sym, ap, subst, ◌∙◌, refl, arith}
 use Rattle.edf_pick.specs.declared.moves.Moved.{Moved}
+use Rattle.edf_pick.specs.Moves.{moved_from}
 use Rattle.edf_pick.specs.Places.{placed}
 use Rattle.domain_run.specs.declared.run_queue.RunQueue.{RunQueue}
 use Rattle.domain_run.specs.Parts.{with_last_cpu}
 use Rattle.domain_run.specs.Sound.{IsApart}
 use Rattle.domain_run.specs.Tick.{candidates}
 use Rattle.domain_run.specs.private.Choosing.{AreWithin, homed_by}
+use Rattle.domain_run.specs.private.Doubts.{AreSettled}
 use Rattle.domain_run.specs.private.Roster.{RosterView}
 use Rattle.domain_run.specs.private.RunQueue.{IsCounted}
 use Rattle.domain_run.specs.private.Waiting.{owed_all}
 use Rattle.domain_run.proofs.Choosing.{counted_homed}
+use Rattle.domain_run.proofs.Doubting.{settled_again, still_first, moved_apart}
 use Rattle.domain_run.proofs.Counting.{placed_counted, placed_seating}
 use Rattle.domain_run.proofs.Moving.{moved_within, homed_moves}
 use Rattle.domain_run.proofs.Seating.{IsSeating}
@@ -61,6 +66,12 @@ invariant_of-self c =
       counted = subst (λ (n : ℕ). IsCounted n new (owed_all c.home_all.new.seats c.home_all.new.tasks.items)) (sym all.wide) counted;
       waits = all.counts.waits;
       wide = all.seats ∙ c.self.invariant.wide ∙ sym all.wide;
+      settled = subst (λ (n : ℕ). AreSettled c.home_all.new.doubts n c.pick.new.self.places c.home_all.new.seats.seats (owed_all c.home_all.new.seats c.home_all.new.tasks.items)) (sym all.wide)
+          (settled_again s.doubts c.home_all.new.doubts (length s.queue.accounts.all) s.queue.schedule.places c.pick.new.self.places s.seats.seats c.home_all.new.seats.seats (owed_all s.seats s.tasks.items) (owed_all c.home_all.new.seats c.home_all.new.tasks.items)
+          all.sum all.limit all.marked
+          (λ cpu few bare. still_first s.queue.schedule.places c.pick.new.self.places cpu (seating a).wide
+          (moved_apart c.home_all.new.doubts.cpus cpu (moved_from 0 s.queue.schedule.places c.pick.new.self.places) (subst (λ (ms : List Moved). All (λ m. m.cpu < 64 → bit_at c.home_all.new.doubts.cpus m.cpu ≡ 1) ms) c.pick.ensures.moves all.moved) few bare))
+          c.self.invariant.settled);
       room = all.room ∙ c.self.invariant.room;
     }
 

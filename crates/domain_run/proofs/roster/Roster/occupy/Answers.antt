@@ -8,6 +8,7 @@ use Rattle.domain_run.specs.private.Seats.{SeatsView}
 use Rattle.domain_run.specs.private.Waiting.{owed, owed_all, seat_of, AllWait, Waits, MaySit, IsRight, rate_by}
 use Rattle.domain_run.proofs.Placing.{one_index}
 use Rattle.domain_run.proofs.Waiting.{alike_owed, numbered_unlike}
+use Rattle.domain_run.proofs.Doubting.{set_settled}
 use Rattle.domain_run.proofs.Seatings.{taken_view, taken_waits, taken_right, kept_again, inside_at, number_at, may_at, rated_at}
 use Rattle.domain_run.proofs.roster.Roster.occupy.Goals as goal
 
@@ -42,14 +43,15 @@ invariant_of-self c =
     let since : seat.since ≡ s.seats.upto = c.seat_for-seat.ensures.since ∙ c.upto.ensures.upto in
     let inside = inside_at s.seats.upto s.seats.seats s.tasks.items c.args.number p x c.index.ensures at in
     let numbered = numbered_unlike (owed s.seats.upto s.seats.seats) (alike_owed s.seats.upto s.seats.seats) s.tasks.items c.self.invariant.counted.roster.numbered in
-    kept_again s.queue s.seats c.set.new.self s.tasks.items s.tasks.items _ c.self.invariant
-    (ap (λ (v : SeatsView). owed_all v s.tasks.items) c.set.ensures ∙ taken_view s.seats.upto c.args.cpu s.seats.seats seat free there since s.tasks.items)
+    let view = ap (λ (v : SeatsView). owed_all v s.tasks.items) c.set.ensures ∙ taken_view s.seats.upto c.args.cpu s.seats.seats seat free there since s.tasks.items in
+    kept_again s.queue s.seats c.set.new.self s.tasks.items s.tasks.items _ s.doubts c.mark.new.self c.self.invariant view
     (subst (λ (v : SeatsView). AllWait v.seats s.tasks.items) (sym c.set.ensures) (taken_waits s.seats.upto c.args.cpu s.seats.seats seat free there since s.tasks.items
     (λ k d h e n.
     let k_is : k ≡ p = one_index s.tasks.items k p d d numbered h inside (n ∙ c.seat_for-seat.ensures.number ∙ ap (λ (t : Task). t.number) (c.index.ensures ∙ get_or_default s.tasks.items p x d inside)) in
     subst (Waits seat) (c.index.ensures ∙ get_or_default s.tasks.items p x d inside ∙ ap (λ i. get_or s.tasks.items i d) (sym k_is)) c.seat_for-seat.ensures.waits)
     c.self.invariant.waits))
     (ap (λ (v : SeatsView). length v.seats) c.set.ensures ∙ length-set s.seats.seats c.args.cpu (Some seat))
+    (set_settled s.doubts c.mark.new.self (length s.queue.accounts.all) s.queue.schedule.places s.seats c.set.new.self s.tasks.items s.tasks.items c.args.cpu (Some seat) c.set.ensures view c.mark.ensures.marked c.mark.ensures.bare c.mark.ensures.sum c.mark.ensures.limit c.self.invariant.settled)
 
 pub returns-in-Some-clause-tasks : goal.returns-in-Some-clause-tasks
 returns-in-Some-clause-tasks c =

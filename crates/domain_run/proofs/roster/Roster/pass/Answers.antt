@@ -10,6 +10,7 @@ use Rattle.domain_run.specs.private.Timers.{AreLater}
 use Rattle.domain_run.specs.private.Waiting.{owed, owed_all, seat_of, AllWait, passed}
 use Rattle.domain_run.proofs.Waiting.{alike_owed, counted_like, counted_unlike}
 use Rattle.domain_run.proofs.Later.{later_next, ends_next, strict_ends, pass_view, pass_sound}
+use Rattle.domain_run.proofs.Doubting.{clock_settled}
 use Rattle.domain_run.proofs.roster.Roster.pass.Goals as goal
 
 pub loop-cpu-preserved : goal.loop-cpu-preserved
@@ -70,6 +71,7 @@ invariant_of-self c =
       counted = counted_like (owed v.upto v.seats) (alike_owed v.upto v.seats) (length s.queue.accounts.all) s.queue s.tasks.items counted;
       waits = subst (λ (x : SeatsView). AllWait x.seats s.tasks.items) (sym c.pass.ensures.passed) c.self-2.invariant.waits;
       wide = ap (λ (x : SeatsView). length x.seats) c.pass.ensures.passed ∙ c.self-2.invariant.wide;
+      settled = clock_settled s.doubts (length s.queue.accounts.all) s.queue.schedule.places s.seats v s.tasks.items (ap (λ (x : SeatsView). x.seats) c.pass.ensures.passed) c.self-2.invariant.settled;
       room = c.self-2.invariant.room;
     }
 

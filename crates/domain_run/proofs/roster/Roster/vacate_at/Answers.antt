@@ -6,6 +6,7 @@ use Rattle.domain_run.specs.private.Roster.{RosterView}
 use Rattle.domain_run.specs.private.Seats.{SeatsView}
 use Rattle.domain_run.specs.private.Waiting.{owed, owed_all, AllWait, charged_on}
 use Rattle.domain_run.proofs.Waiting.{alike_owed, numbered_unlike}
+use Rattle.domain_run.proofs.Doubting.{set_settled}
 use Rattle.domain_run.proofs.Seatings.{charge_waits, vacated_view, vacated_waits, view_again, kept_again, inside_at, number_at}
 use Rattle.domain_run.proofs.roster.Roster.vacate_at.Goals as goal
 
@@ -39,10 +40,11 @@ invariant_of-self c =
     let numbered = numbered_unlike f same s.tasks.items c.self.invariant.counted.roster.numbered in
     let is : y ≡ charged_on c.args.cpu s.seats.upto seat x = c.charge_on.ensures ∙ ap (λ (n : ℕ). charged_on c.args.cpu n seat x) c.upto.ensures.upto in
     let are = c.set.ensures in
-    kept_again s.queue s.seats c.set.new.self s.tasks.items (set s.tasks.items p y) _ c.self.invariant
-    (ap (λ (v : SeatsView). owed_all v (set s.tasks.items p y)) are ∙ ap (λ (t : Task). map (owed s.seats.upto (set s.seats.seats c.args.cpu None)) (set s.tasks.items p t)) is ∙ vacated_view s.seats.upto c.args.cpu s.seats.seats s.tasks.items seat there p x inside read number numbered)
+    let view = ap (λ (v : SeatsView). owed_all v (set s.tasks.items p y)) are ∙ ap (λ (t : Task). map (owed s.seats.upto (set s.seats.seats c.args.cpu None)) (set s.tasks.items p t)) is ∙ vacated_view s.seats.upto c.args.cpu s.seats.seats s.tasks.items seat there p x inside read number numbered in
+    kept_again s.queue s.seats c.set.new.self s.tasks.items (set s.tasks.items p y) _ s.doubts c.mark.new.self c.self.invariant view
     (subst (λ (v : SeatsView). AllWait v.seats (set s.tasks.items p y)) (sym are) (subst (λ (t : Task). AllWait (set s.seats.seats c.args.cpu None) (set s.tasks.items p t)) (sym is) (vacated_waits s.seats.upto c.args.cpu s.seats.seats s.tasks.items seat there p x inside read number numbered c.self.invariant.waits)))
     (ap (λ (v : SeatsView). length v.seats) are ∙ length-set s.seats.seats c.args.cpu None)
+    (set_settled s.doubts c.mark.new.self (length s.queue.accounts.all) s.queue.schedule.places s.seats c.set.new.self s.tasks.items (set s.tasks.items p y) c.args.cpu None are view c.mark.ensures.marked c.mark.ensures.bare c.mark.ensures.sum c.mark.ensures.limit c.self.invariant.settled)
 
 pub returns : goal.returns
 returns c =

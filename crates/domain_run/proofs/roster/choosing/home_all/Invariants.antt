@@ -1,4 +1,7 @@
-use Rattle.std.proofs.Common.{◌≡◌, length, map, take}
+use Rattle.std.proofs.Common.{◌≡◌, ◌<◌, ℕ, length, map, take, get_or}
+use Rattle.std.specs.Int.{bit_at}
+use Rattle.edf_pick.specs.declared.moves.Moved.{Moved}
+use Rattle.domain_run.specs.private.Doubts.{IsMarked}
 use Rattle.std.specs.Prelude.{vec_capacity}
 use Rattle.domain_run.specs.private.Choosing.{AreCounted, homed_by}
 use Rattle.domain_run.specs.private.Waiting.{owed_all}
@@ -11,5 +14,9 @@ invariant-loop-i l = record {
   written : owed_all l.seats l.tasks.items ≡ map (homed_by l.places (take l.i l.moves)) (owed_all l.fn.seats l.fn.tasks.items);
   clock : l.seats.upto ≡ l.fn.seats.upto;
   long : length l.seats.seats ≡ length l.fn.seats.seats;
+  marked : IsMarked l.fn.doubts.cpus l.doubts.cpus l.fn.seats.seats l.seats.seats (owed_all l.fn.seats l.fn.tasks.items) (owed_all l.seats l.tasks.items);
+  moved : (j : ℕ) (d : Moved) → j < l.i → (get_or l.moves j d).cpu < 64 → bit_at l.doubts.cpus (get_or l.moves j d).cpu ≡ 1;
+  sum : l.doubts.sum ≡ l.fn.doubts.sum;
+  limit : l.doubts.limit ≡ l.fn.doubts.limit;
   room : vec_capacity l.tasks ≡ vec_capacity l.fn.tasks;
 }

@@ -1,10 +1,13 @@
-use Rattle.std.proofs.Common.{None, Some, List, map, sym, ap, subst, refl, ◌∙◌}
+use Rattle.std.proofs.Common.{◌≡◌, ◌<◌, None, Some, List, map, sym, ap, subst, refl, ◌∙◌}
+use Rattle.std.specs.Int.{bit_at}
+use Rattle.std.proofs.lemmas.List.{get_or_default}
 use Rattle.domain_run.specs.declared.task.Task.{Task}
 use Rattle.domain_run.specs.Parts.{with_cpu}
 use Rattle.domain_run.specs.private.Index.{IsAt, IsAbsent}
 use Rattle.domain_run.specs.private.Roster.{homed_here}
 use Rattle.domain_run.specs.private.Waiting.{owed, owed_all}
-use Rattle.domain_run.proofs.Choosing.{start_waits, start_held, start_fits, started_counts, started_tasks, started_clock, started_wide, stays_tasks}
+use Rattle.domain_run.proofs.Choosing.{start_waits, start_held, start_fits, started_counts, started_tasks, started_view, started_clock, started_wide, stays_tasks}
+use Rattle.domain_run.proofs.Doubting.{start_marked, kept_mark}
 use Rattle.domain_run.proofs.Finding.{map_others}
 use Rattle.domain_run.proofs.Staying.{map_itself}
 use Rattle.domain_run.proofs.Waiting.{alike_owed, at_like, absent_like}
@@ -77,3 +80,18 @@ returns-clause-seats c =
     let at = subst (λ (ts : List Task). IsAt ts c.in-Some.number c.in-Some-place.place) c.deref.ensures.value c.in-Some-place.ensures.there in
     started_wide c.args.accounts.now c.args.seats.now c.args.tasks.now.items c.in-Some-place.place c.index_mut.result.now at.within c.index_mut.ensures.value c.requires.counts
     c.args.cpu c.start.new.accounts c.start.new.seats c.start.new.task c.requires.there c.start.ensures.task c.start.ensures.seats
+
+pub returns-clause-marked : goal.returns-clause-marked
+returns-clause-marked c =
+    let s = c.args.seats.now in
+    let items = c.args.tasks.now.items in
+    let p = c.in-Some-place.place in
+    let at = subst (λ (ts : List Task). IsAt ts c.in-Some.number p) c.deref.ensures.value c.in-Some-place.ensures.there in
+    let x = c.index_mut.result.now in
+    let same : c.index-2.result.now ≡ x = c.index-2.ensures ∙ get_or_default items p c.index-2.result.now x at.within ∙ sym c.index_mut.ensures.value in
+    let one = c.mark.ensures in
+    let two = c.mark-2.ensures in
+    start_marked c.args.doubts.now.cpus c.mark-2.new.self.cpus c.args.cpu s c.start.new.seats items p x c.start.new.task at.within c.index_mut.ensures.value c.start.ensures.task c.start.ensures.seats
+    (started_view c.args.accounts.now s items p x at.within c.index_mut.ensures.value c.requires.counts c.args.cpu c.start.new.accounts c.start.new.seats c.start.new.task c.requires.there c.start.ensures.task c.start.ensures.seats)
+    (subst (λ (t : Task). t.cpu < 64 → bit_at c.mark-2.new.self.cpus t.cpu ≡ 1) same two.marked)
+    (kept_mark c.mark.new.self.cpus c.mark-2.new.self.cpus c.args.cpu two.bare one.marked) (λ i e. one.bare i (two.bare i e))

@@ -9,7 +9,7 @@ use Rattle.edf_pick.proofs.schedule.Schedule.pick.Goals as goal
 use Rattle.edf_pick.proofs.schedule.Schedule.pick.Goals.{After-home_movers}
 
 rested : (c : After-home_movers) → c.home_movers.new.queue ≡ map (homed c.pick_changed-movers.new.placement) c.self.inside.queue
-rested c = c.home_movers.ensures ∙ ap (λ (ps : Places). map (homed ps) c.self.inside.queue) c.occupants.ensures.occupants
+rested c = c.home_movers.ensures ∙ ap (λ (ps : Places). map (homed ps) c.self.inside.queue) c.occupants-places.ensures.occupants
 
 pub invariant_of-self : goal.invariant_of-self
 invariant_of-self c =
@@ -30,6 +30,6 @@ home_movers-requires-clause-others c i x bare at =
     let before = c.self.inside.placement in
     let after = c.pick_changed-movers.new.placement in
     let e = c.pick_changed-movers.ensures in
-    let some : 0 < length before = omega (arith, c.occupants.ensures.some, e.len) in
-    ap (λ (ps : Places). homed ps x) c.occupants.ensures.occupants
+    let some : 0 < length before = omega (arith, c.occupants-places.ensures.some, e.len) in
+    ap (λ (ps : Places). homed ps x) c.occupants-places.ensures.occupants
     ∙ others_homed queue before after c.pick_changed-movers.result e.places e.len some c.as_slice.ensures.rising c.self.invariant.numbered e.single e.still c.self.invariant.homed e.movers i x bare at

@@ -1,0 +1,34 @@
+use Rattle.std.proofs.Common.{◌≡◌, ◌≤◌, ℕ, length, sym, ap, subst, ◌∙◌}
+use Rattle.std.specs.Prelude.{All}
+use Rattle.std.specs.Int.{bit_at}
+use Rattle.domain_run.specs.Tick.{sum_of}
+use Rattle.domain_run.specs.private.Roster.{RosterView, IsSeated}
+use Rattle.domain_run.specs.private.Waiting.{owed_all}
+use Rattle.domain_run.proofs.Counting.{home_at}
+use Rattle.domain_run.proofs.Doubting.{renew_settled, seated_all}
+use Rattle.domain_run.proofs.roster.Roster.doubtful.Goals as goal
+
+pub invariant_of-self : goal.invariant_of-self
+invariant_of-self c =
+    let s = c.self.inside in
+    let i = c.self.invariant in
+    record {
+      counted = i.counted;
+      waits = i.waits;
+      wide = i.wide;
+      settled = renew_settled s.doubts c.renew.new.self (length s.queue.accounts.all) s.queue.schedule.places s.seats.seats (owed_all s.seats s.tasks.items) c.sum-sum.result c.args.limit c.renew.ensures.bare c.renew.ensures.sum c.renew.ensures.limit i.settled;
+      room = i.room;
+    }
+
+pub returns-clause-others : goal.returns-clause-others
+returns-clause-others c =
+    let s = c.self.inside in
+    let i = c.self.invariant in
+    let d = c.renew.new.self in
+    let w = length s.queue.accounts.all in
+    let tasks = owed_all s.seats s.tasks.items in
+    let settled = renew_settled s.doubts d w s.queue.schedule.places s.seats.seats tasks c.sum-sum.result c.args.limit c.renew.ensures.bare c.renew.ensures.sum c.renew.ensures.limit i.settled in
+    let few : w ≤ 64 = subst (λ (r : RosterView). r.cpus ≤ 64) (sym c.self.view_is) c.requires.few in
+    let sum : d.sum ≡ sum_of tasks = c.renew.ensures.sum ∙ c.sum-sum.ensures ∙ ap (λ (r : RosterView). sum_of r.tasks) (sym c.self.view_is) in
+    subst (λ (r : RosterView). All (λ t. bit_at d.cpus t.cpu ≡ 0 → IsSeated r.places r.cpus c.args.limit r.tasks r.seats t) r.tasks) c.self.view_is
+    (seated_all d w c.args.limit s.queue.schedule.places s.seats s.tasks.items few sum c.renew.ensures.limit (λ k x h. home_at w s.queue tasks k x h i.counted) i.waits settled)

@@ -1,0 +1,41 @@
+-- Which CPUs have seats that are known to be right, for the code's own contracts.
+use Rattle.std.specs.Prelude.{ℕ, ◌<◌, ◌≡◌, List, slice_index_or, Option, Some, None, IfSome, IsSomeAnd}
+use Rattle.std.specs.Int.{bit_at}
+use Rattle.grub_rules.specs.Sums.{uinact}
+use Rattle.edf_pick.specs.Places.{Places}
+use Rattle.domain_run.specs.declared.doubts.Doubts.{Doubts}
+use Rattle.domain_run.specs.declared.seats.Seat.{Seat}
+use Rattle.domain_run.specs.declared.seats.Basis.{Basis}
+use Rattle.domain_run.specs.declared.task.Task.{Task}
+use Rattle.domain_run.specs.Sound.{occupant}
+use Rattle.domain_run.specs.Tick.{shares}
+
+-- who stands on a CPU sits there, at a rate that was worked out on this basis if on any, and nobody
+-- else does
+abbrev pub IsSettled : Option ℕ → Basis → Option Seat → Type 0
+IsSettled None basis o = o ≡ None
+IsSettled (Some n) basis o = IsSomeAnd o (λ s. (s.number ≡ n) × IfSome s.basis (λ b. b ≡ basis))
+
+-- what the rates of the tasks of a CPU depend on, with the sum and the limit that are noted
+abbrev pub noted_basis : Doubts → ℕ → List Task → ℕ → Basis
+noted_basis d cpus tasks cpu = record {
+  uinact = uinact cpu (shares tasks);
+  sum = d.sum;
+  cpus = cpus;
+  limit = d.limit;
+}
+
+-- so it is on each CPU that is not in doubt
+abbrev pub AreSettled : Doubts → ℕ → Places → List (Option Seat) → List Task → Type 0
+AreSettled d cpus places seats tasks =
+    (cpu : ℕ) → cpu < 64 → bit_at d.cpus cpu ≡ 0
+    → IsSettled (occupant places cpu) (noted_basis d cpus tasks cpu) (slice_index_or seats cpu None)
+
+-- a word of marks has none that the one before did not have bare, and on a CPU without one neither
+-- the seat nor the inactive bandwidth has changed
+pub record IsMarked (old new : ℕ) (before after : List (Option Seat)) (was now : List Task) : Type 0 where
+  pub bare : (cpu : ℕ) → bit_at new cpu ≡ 0 → bit_at old cpu ≡ 0
+  pub seats : (cpu : ℕ) → cpu < 64 → bit_at new cpu ≡ 0
+      → slice_index_or after cpu None ≡ slice_index_or before cpu None
+  pub sums : (cpu : ℕ) → cpu < 64 → bit_at new cpu ≡ 0
+      → uinact cpu (shares now) ≡ uinact cpu (shares was)

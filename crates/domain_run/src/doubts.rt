@@ -1,0 +1,102 @@
+//! Which CPUs have seats that are known to be right. What happens touches few CPUs, so a leap looks at
+//! those alone.
+
+ghost use Rattle.std.specs.Prelude.{ℕ, ◌≡◌, ◌≢◌, ◌<◌, ◌≤◌, IsTrue};
+ghost use Rattle.std.specs.Int.{bit_at};
+
+use edf_pick::marks::{with, without};
+
+/// Which CPUs are in doubt: who stands there may not sit there rightly. The others are right for a sum
+/// of bandwidth and a limit, which are noted.
+#[derive(Clone, Copy, Debug, PartialEq, Eq)]
+pub(crate) struct Doubts {
+    /// A word with a mark for each CPU that is in doubt.
+    pub(crate) cpus: u64,
+    /// The bandwidth of all listed tasks, in 1/2^20 of a CPU.
+    pub(crate) sum: u64,
+    /// In 1/2^20 of a CPU.
+    pub(crate) limit: u64,
+}
+
+/// The first place with a mark; 64 where there is none.
+#[inline(always)]
+pub(crate) fn first_marked(marks: u64) -> usize
+    ensures within { result ≤ 64 }
+    ensures marked { result < 64 → bit_at marks result ≡ 1 }
+    ensures lowest { (i : ℕ) → i < result → bit_at marks i ≡ 0 }
+{
+    if marks == 0 {
+        return 64;
+    }
+    edf_pick::marks::first(marks)
+}
+
+impl Doubts {
+    /// Each CPU is in doubt.
+    pub(crate) fn all() -> Doubts
+        ensures { (i : ℕ) → i < 64 → bit_at result.cpus i ≡ 1 }
+    {
+        Doubts {
+            cpus: u64::MAX,
+            sum: 0,
+            limit: 0,
+        }
+    }
+
+    /// Each CPU is in doubt again.
+    pub(crate) fn mark_all(&mut self)
+        ensures marked { (i : ℕ) → i < 64 → bit_at self.new.cpus i ≡ 1 }
+        ensures sum { self.new.sum ≡ self.old.sum }
+        ensures limit { self.new.limit ≡ self.old.limit }
+    {
+        self.cpus = u64::MAX;
+    }
+
+    /// A CPU is in doubt; one that no domain has is not marked.
+    #[inline(always)]
+    pub(crate) fn mark(&mut self, cpu: usize)
+        ensures marked { cpu < 64 → bit_at self.new.cpus cpu ≡ 1 }
+        ensures others { (i : ℕ) → i ≢ cpu → bit_at self.new.cpus i ≡ bit_at self.old.cpus i }
+        ensures bare { (i : ℕ) → bit_at self.new.cpus i ≡ 0 → bit_at self.old.cpus i ≡ 0 }
+        ensures sum { self.new.sum ≡ self.old.sum }
+        ensures limit { self.new.limit ≡ self.old.limit }
+    {
+        if cpu < 64 {
+            self.cpus = with(self.cpus, cpu);
+        }
+    }
+
+    /// A CPU is in doubt no more.
+    #[inline(always)]
+    pub(crate) fn clear(&mut self, cpu: usize)
+        requires { cpu < 64 }
+        ensures others { (i : ℕ) → i ≢ cpu → bit_at self.new.cpus i ≡ bit_at self.old.cpus i }
+        ensures sum { self.new.sum ≡ self.old.sum }
+        ensures limit { self.new.limit ≡ self.old.limit }
+    {
+        self.cpus = without(self.cpus, cpu);
+    }
+
+    /// Whether this sum and this limit are noted.
+    #[inline(always)]
+    pub(crate) fn is_for(&self, sum: u64, limit: u64) -> bool
+        ensures { IsTrue result → (self.now.sum ≡ sum) × (self.now.limit ≡ limit) }
+    {
+        self.sum == sum && self.limit == limit
+    }
+
+    /// Another sum or another limit is noted: then each CPU is in doubt.
+    #[inline(always)]
+    pub(crate) fn renew(&mut self, sum: u64, limit: u64)
+        ensures bare { (i : ℕ) → i < 64 → bit_at self.new.cpus i ≡ 0
+            → (bit_at self.old.cpus i ≡ 0) × (self.old.sum ≡ sum) × (self.old.limit ≡ limit) }
+        ensures sum { self.new.sum ≡ sum }
+        ensures limit { self.new.limit ≡ limit }
+    {
+        if !self.is_for(sum, limit) {
+            self.cpus = u64::MAX;
+            self.sum = sum;
+            self.limit = limit;
+        }
+    }
+}

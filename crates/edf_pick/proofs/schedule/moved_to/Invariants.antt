@@ -1,0 +1,1 @@
+use Rattle.edf_pick.proofs.schedule.moved_to.Given as goal
