@@ -3,6 +3,7 @@ pub mod CallerLemmas
 pub mod Following
 pub mod Homing
 pub mod Listing
+pub mod AtHome
 pub mod Marked
 pub mod Moving
 pub mod Picked

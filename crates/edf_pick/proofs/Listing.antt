@@ -13,7 +13,7 @@ use Rattle.edf_pick.specs.Changes.{ChangesView, is_within, stands_home, IsListed
 use Rattle.edf_pick.specs.Choice.{is_before}
 use Rattle.edf_pick.specs.Order.{IsRising}
 use Rattle.edf_pick.specs.Places.{Places, taken, AreTaken, AreSingle, is_task, stands, seated}
-use Rattle.edf_pick.specs.private.First.{staying, is_home, moves, AreMovers, AreLeaving, AreApart, AreAway}
+use Rattle.edf_pick.specs.private.First.{staying, is_home, moves, AreMovers, AreLeaving, AreAway}
 use Rattle.edf_pick.specs.private.Listed.{Grows, IsLooked, HomeAt, AreSound, AreWords}
 use Rattle.edf_pick.proofs.Before.{before_both}
 use Rattle.edf_pick.proofs.Marked.{nobody, task_is, staying_movers, any_at, occupied, mapped, staying_same, stands_seated}
@@ -130,21 +130,6 @@ away_still chosen old new i k x before after h numbered away is marked bare othe
     let apart : k ≢ i = λ same. let both : after k ≡ 0 = ap after same ∙ bare in omega arith in
     let other : x.number ≢ c.number = λ same. apart (same_place chosen k i x c numbered at at_c same) in
     ap (stands x.number) is ∙ stands_seated x.number old c other ∙ away k x (sym (others k apart) ∙ e) at
-
--- where all go who stand on marked CPUs, no mover stands
-pub all_away : (chosen : List Candidate) (old mid : Places) (movers left kept : ℕ) → AreApart chosen old movers left → mid ≡ map (staying chosen) old → AreTaken mid kept → ((i : ℕ) → bit_at left i ≡ 1 → bit_at kept i ≡ 0)
-    → AreAway chosen mid movers
-all_away chosen old mid movers left kept apart is taken_is none i c mark at =
-    elim (cases_Bool (stands c.number mid)) [
-      | inl there ↦
-          let w = stands_where c.number mid there in
-          let on_mid : get_or (map (staying chosen) old) w.0 None ≡ Some c.number = ap (λ (ps : Places). get_or ps w.0 None) (sym is) ∙ w.1 in
-          let on : get_or old w.0 None ≡ Some c.number = staying_same chosen (get_or old w.0 None) c.number (sym (mapped (staying chosen) refl old w.0) ∙ on_mid) in
-          let bit : bit_at kept w.0 ≡ 0 = none w.0 (apart.standing i w.0 c mark at on) in
-          let one : bit_at kept w.0 ≡ 1 = taken_is w.0 ∙ ap taken w.1 in
-          absurd (omega arith)
-      | inr absent ↦ absent
-    ]
 
 module _ (queue : List Candidate) (places : Places) (changes : ChangesView) (words : Words)
     (numbered : AllPairs (λ x y. x.number ≢ y.number) queue) (single : AreSingle places)
@@ -266,62 +251,6 @@ module _ (queue : List Candidate) (places : Places) (changes : ChangesView) (wor
                 | inr other ↦ let none : bit_at words.left cpu ≡ 0 = bare cpu e (omega (arith, other, bit_at-lt words.homes cpu)) in omega arith
               ])
 
-  pub listed_apart : (marks : ℕ) → ((i : ℕ) → bit_at marks i ≡ 0 → bit_at words.homes i ≡ 0 → bit_at words.left i ≡ 0) → AreApart (take (length places) queue) places words.movers marks
-  listed_apart marks bare = record {
-    numbered = λ i j d h k.
-        let list = take (length places) queue in
-        let at_i : slice_get list i ≡ Some (get_or list i d) = slice_get-get_or list i d (omega (arith, h, k)) in
-        let at_j : slice_get list j ≡ Some (get_or list j d) = slice_get-get_or list j d k in
-        λ same. let one : i ≡ j = same_place queue i j (get_or list i d) (get_or list j d) numbered (whole i (get_or list i d) at_i) (whole j (get_or list j d) at_j) same in omega arith;
-    standing = λ i cpu c mark at on. elim (cases_eq (bit_at marks cpu) 1) [
-      | inl e ↦ e
-      | inr other ↦ absurd (
-          let list = take (length places) queue in
-          let none : bit_at marks cpu ≡ 0 = omega (arith, other, bit_at-lt marks cpu) in
-          let here : slice_get queue i ≡ Some c = whole i c at in
-          let away : is_home places c ≡ false = not_home c (sym (ap (moves places) at) ∙ sym (listed_movers i) ∙ mark) in
-          elim (cases_eq (bit_at words.homes cpu) 1) [
-            | inl home ↦
-                let h = are.sound.homes cpu home in
-                let both : Some c.number ≡ Some h.2.0.number = sym on ∙ on_home h.0 cpu h.2 in
-                let same : c.number ≡ h.2.0.number = cc in
-                let place_is : i ≡ h.0 = same_place queue i h.0 c h.2.0 numbered here h.2.1 same in
-                let one : Some c ≡ Some h.2.0 = sym here ∙ ap (slice_get queue) place_is ∙ h.2.1 in
-                let task_same : c ≡ h.2.0 = cc in
-                let clash : true ≡ false = sym h.2.3 ∙ ap (is_home places) (sym task_same) ∙ away in cc
-            | inr bare_home ↦
-                let left : bit_at words.left cpu ≡ 0 = bare cpu none (omega (arith, bare_home, bit_at-lt words.homes cpu)) in
-                elim (listed.held cpu c.number on) [
-                  | inl (k, x, h, e, (number, home, why)) ↦
-                      let at_x : slice_get queue k ≡ Some x = slice_get-get_or queue k x h ∙ ap (λ (y : Candidate). Some y) e in
-                      let place_is : i ≡ k = same_place queue i k c x numbered here at_x (sym number) in
-                      let one : Some c ≡ Some x = sym here ∙ ap (slice_get queue) place_is ∙ at_x in
-                      let task_same : c ≡ x = cc in
-                      let is : is_home places c ≡ true =
-                      ap (λ (p : ℕ). is_task c.number (get_or places p None)) (ap (λ (y : Candidate). y.home) task_same ∙ home) ∙ ap (is_task c.number) on ∙ eq-eqb c.number c.number refl in
-                      let clash : true ≡ false = sym is ∙ away in cc
-                  | inr (j, h, e) ↦
-                      let mark_left : bit_at words.left cpu ≡ 1 = subst (λ (g : Gone). get_or places g.cpu None ≡ Some g.number → bit_at words.left g.cpu ≡ 1) e (are.went j (record { cpu = cpu; number = c.number }) h) on in
-                      omega arith
-                ]
-          ])
-    ];
-  }
-    where
-      whole : (i : ℕ) (c : Candidate) → slice_get (take (length places) queue) i ≡ Some c → slice_get queue i ≡ Some c
-      whole i c at =
-          elim (cases_lt i (length places)) [
-            | inl l ↦ sym (take_get queue (length places) i l) ∙ at
-            | inr l ↦ absurd (let none : None ≡ Some c = sym (take_past queue (length places) i l) ∙ at in cc)
-          ]
-
-      not_home : (c : Candidate) → moves places (Some c) ≡ 1 → is_home places c ≡ false
-      not_home c e =
-          elim (cases_Bool (is_home places c)) [
-            | inl home ↦ absurd (let none : moves places (Some c) ≡ 0 = ap (λ (b : Bool). cond b 0 1) home in omega (arith, none, e))
-            | inr away ↦ away
-          ]
-
 -- of the list that is walked, which is that of the places, and of the list of the chosen tasks
 module _ (queue chosen : List Candidate) (places seen : Places) (changes : ChangesView) (words : Words)
     (same : seen ≡ places) (first : chosen ≡ take (length places) queue)
@@ -340,7 +269,3 @@ module _ (queue chosen : List Candidate) (places seen : Places) (changes : Chang
       → ((i : ℕ) → bit_at marks i ≡ 0 → bit_at words.homes i ≡ 0 → bit_at words.left i ≡ 0) → AreLeaving chosen places words.movers marks
   chosen_leaving marks here only bare =
       subst (λ (xs : List Candidate). AreLeaving xs places words.movers marks) (sym first) (listed_leaving queue places changes words numbered single listed words_here marks here only bare)
-
-  pub chosen_apart : (marks : ℕ) → ((i : ℕ) → bit_at marks i ≡ 0 → bit_at words.homes i ≡ 0 → bit_at words.left i ≡ 0) → AreApart chosen places words.movers marks
-  chosen_apart marks bare =
-      subst (λ (xs : List Candidate). AreApart xs places words.movers marks) (sym first) (listed_apart queue places changes words numbered single listed words_here marks bare)

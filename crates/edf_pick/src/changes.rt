@@ -7,6 +7,7 @@ ghost use Rattle.edf_pick.specs.Moves.{moved_from};
 ghost use Rattle.edf_pick.specs.Order.{is_same, with_candidate, without_candidate};
 ghost use Rattle.edf_pick.specs.Places.{AreSingle, Places, placed};
 ghost use Rattle.edf_pick.specs.private.First.{AreMovers};
+ghost use Rattle.edf_pick.specs.Schedule.{IsAtHome};
 
 use crate::candidate::Candidate;
 use crate::moves::Moves;
@@ -152,6 +153,7 @@ pub(crate) fn pick_changed(
     moves: &mut Moves,
 ) -> u64
     requires numbered { AllPairs (λ a b. a.number ≢ b.number) queue.now }
+    requires homed { All (IsAtHome placement.old) queue.now }
     requires follows { spec.Follows queue.now placement.old changes.old }
     ensures places { placement.new ≡ placed (length placement.old) queue.now placement.old }
     ensures moves { moves.new ≡ moved_from 0 placement.old placement.new }

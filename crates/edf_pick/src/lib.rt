@@ -11,6 +11,7 @@
 //! alone, and lists the CPUs that another one has (`specs/Moves.antt`).
 #![tactic(auto)]
 
+mod at_home;
 mod candidate;
 mod changes;
 mod listed;

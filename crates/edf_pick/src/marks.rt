@@ -1,6 +1,6 @@
 //! A word with a mark, a set bit, for each of 64 places.
 
-ghost use Rattle.std.specs.Prelude.{ℕ, ◌≡◌, ◌≢◌, ◌<◌, ◌≤◌, true};
+ghost use Rattle.std.specs.Prelude.{ℕ, ◌≡◌, ◌≢◌, ◌<◌, ◌≤◌};
 ghost use Rattle.std.specs.Int.{bit_at};
 
 /// With a mark at this place.
@@ -37,13 +37,6 @@ pub(crate) fn both(a: u64, b: u64) -> u64
     ensures second { (i : ℕ) → bit_at result i ≡ 0 → bit_at b i ≡ 0 }
 {
     a | b
-}
-
-/// Whether no place has a mark in both words.
-pub(crate) fn is_apart(a: u64, b: u64) -> bool
-    ensures { result ≡ true → (i : ℕ) → bit_at a i ≡ 1 → bit_at b i ≡ 0 }
-{
-    a & b == 0
 }
 
 /// The first place with a mark.

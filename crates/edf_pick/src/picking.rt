@@ -1,20 +1,17 @@
 //! The choice and the placement, read off a queue: its first tasks are the chosen ones.
 
-ghost use Rattle.std.specs.Prelude.{ℕ, ◌≡◌, ◌≢◌, ◌==◌, ◌<◌, ◌≤◌, false, AllPairs, IsTrue, map, take, vec_len, vec_capacity, length, None, slice_index_or, slice_set};
+ghost use Rattle.std.specs.Prelude.{ℕ, ◌≡◌, ◌==◌, ◌<◌, ◌≤◌, map, take, vec_len, vec_capacity, length, None, slice_index_or, slice_set};
 ghost use Rattle.std.specs.Int.{bit_at};
 ghost use Rattle.std.specs.List.{list_any};
 ghost use Rattle.edf_pick.specs.private.First as spec;
-ghost use Rattle.edf_pick.specs.Changes.{IsListed};
 ghost use Rattle.edf_pick.specs.Order.{IsRising};
 ghost use Rattle.edf_pick.specs.Places.{AreSingle, AreTaken, placed};
 
 use crate::candidate::Candidate;
-use crate::changes::Gone;
-use crate::listed::words_of;
-use crate::marks::{beyond, both, first, is_apart, with, without};
-use crate::seats::{is_at_home, seat, start};
+use crate::marks::{beyond, both, first, with, without};
+use crate::seats::{is_at_home, seat};
 
-fn first_of(queue: &[Candidate], cpus: usize) -> &[Candidate]
+pub(crate) fn first_of(queue: &[Candidate], cpus: usize) -> &[Candidate]
     ensures { result.now ≡ take cpus queue.now }
 {
     &queue[..cpus.min(queue.len())]
@@ -49,14 +46,14 @@ fn staying(chosen: &[Candidate], movers: u64, occupant: Option<u32>) -> Option<u
 // The chosen tasks in two parts, as words of marks: those that stand on the CPU to which they
 // belong, which are nearly all, by their CPUs, and the movers, by their places in the choice.
 #[derive(Clone, Copy)]
-struct Parts {
-    homes: u64,
-    movers: u64,
+pub(crate) struct Parts {
+    pub(crate) homes: u64,
+    pub(crate) movers: u64,
 }
 
 // One look for each chosen task.
 #[inline(always)]
-fn parts_of(places: &[Option<u32>], chosen: &[Candidate]) -> Parts
+pub(crate) fn parts_of(places: &[Option<u32>], chosen: &[Candidate]) -> Parts
     requires cpus { length places.now ≤ 64 }
     requires few { length chosen.now ≤ 64 }
     ensures staying { spec.AreStaying chosen.now places.now result.homes }
@@ -77,7 +74,7 @@ fn parts_of(places: &[Option<u32>], chosen: &[Candidate]) -> Parts
 }
 
 // Nobody stands on this CPU any more.
-fn vacate(places: &mut Vec<Option<u32>>, cpu: usize, taken: u64) -> u64
+pub(crate) fn vacate(places: &mut Vec<Option<u32>>, cpu: usize, taken: u64) -> u64
     requires within { cpu < vec_len places.old }
     requires few { vec_len places.old ≤ 64 }
     requires taken { AreTaken places.old.items taken }
@@ -166,54 +163,6 @@ fn seat_marked(places: &mut Vec<Option<u32>>, chosen: &[Candidate], movers: u64,
     marks
 }
 
-// As `seat_marked`, where the movers stand nowhere.
-fn start_marked(places: &mut Vec<Option<u32>>, chosen: &[Candidate], movers: u64, taken: u64) -> u64
-    requires few { vec_len places.old ≤ 64 }
-    requires within { (i : ℕ) → bit_at movers i ≡ 1 → i < length chosen.now }
-    requires numbered { AllPairs (λ a b. a.number ≢ b.number) chosen.now }
-    requires away { spec.AreAway chosen.now places.old.items movers }
-    requires taken { AreTaken places.old.items taken }
-    ensures places { places.new.items ≡ spec.seated_all (spec.marked (bit_at movers) chosen.now)
-        places.old.items }
-    ensures len { vec_len places.new ≡ vec_len places.old }
-    ensures room { vec_capacity places.new ≡ vec_capacity places.old }
-    ensures taken { AreTaken places.new.items result }
-{
-    let mut marks = taken;
-    let mut left = movers;
-    'tasks: while left != 0 {
-        let i = first(left);
-        left = without(left, i);
-        marks = start(places, &chosen[i], marks);
-    }
-    marks
-}
-
-#[inline(always)]
-fn seat_movers(
-    places: &mut Vec<Option<u32>>,
-    chosen: &[Candidate],
-    movers: u64,
-    is_away: bool,
-    taken: u64,
-) -> u64
-    requires few { vec_len places.old ≤ 64 }
-    requires within { (i : ℕ) → bit_at movers i ≡ 1 → i < length chosen.now }
-    requires numbered { IsTrue is_away → AllPairs (λ a b. a.number ≢ b.number) chosen.now }
-    requires away { IsTrue is_away → spec.AreAway chosen.now places.old.items movers }
-    requires taken { AreTaken places.old.items taken }
-    ensures places { places.new.items ≡ spec.seated_all (spec.marked (bit_at movers) chosen.now)
-        places.old.items }
-    ensures len { vec_len places.new ≡ vec_len places.old }
-    ensures room { vec_capacity places.new ≡ vec_capacity places.old }
-    ensures taken { AreTaken places.new.items result }
-{
-    if is_away {
-        return start_marked(places, chosen, movers, taken);
-    }
-    seat_marked(places, chosen, movers, taken)
-}
-
 // Who goes, by the marks of the CPUs, and then the movers. Marks of the CPUs that another one has.
 #[inline(always)]
 fn move_on(
@@ -221,14 +170,12 @@ fn move_on(
     chosen: &[Candidate],
     left: u64,
     movers: u64,
-    is_listed: bool,
     taken: &mut u64,
 ) -> u64
     requires few { vec_len places.old ≤ 64 }
     requires single { AreSingle places.old.items }
     requires movers { spec.AreMovers chosen.now places.old.items movers }
     requires leaving { spec.AreLeaving chosen.now places.old.items movers left }
-    requires apart { IsTrue is_listed → spec.AreApart chosen.now places.old.items movers left }
     requires taken { AreTaken places.old.items taken.old }
     ensures places { places.new.items ≡ spec.seated_all (spec.marked (bit_at movers) chosen.now)
         (map (spec.staying chosen.now) places.old.items) }
@@ -241,8 +188,7 @@ fn move_on(
 {
     let stood = *taken;
     let kept = keep(places, chosen, left, movers, stood);
-    let is_away = is_listed && is_apart(left, kept);
-    let now = seat_movers(places, chosen, movers, is_away, kept);
+    let now = seat_marked(places, chosen, movers, kept);
     *taken = now;
     both(beyond(stood, kept), beyond(now, kept))
 }
@@ -277,40 +223,7 @@ pub(crate) fn pick_from(
     let chosen = first_of(queue, places.len());
     let parts = parts_of(places, chosen);
     let left = beyond(*taken, parts.homes);
-    let changed = move_on(places, chosen, left, parts.movers, false, taken);
+    let changed = move_on(places, chosen, left, parts.movers, taken);
     let movers = parts.movers;
-    Outcome { changed, movers }
-}
-
-/// As `pick_from`, where it is known what has changed since the last choice: a look at that alone.
-pub(crate) fn pick_listed(
-    places: &mut Vec<Option<u32>>,
-    queue: &[Candidate],
-    cut: &Option<Candidate>,
-    fresh: &[Candidate],
-    gone: &[Gone],
-    taken: &mut u64,
-) -> Outcome
-    requires rising { IsRising queue.now }
-    requires numbered { AllPairs (λ a b. a.number ≢ b.number) queue.now }
-    requires few { vec_len places.old ≤ 64 }
-    requires taken { AreTaken places.old.items taken.old }
-    requires single { AreSingle places.old.items }
-    requires listed { IsListed queue.now places.old.items
-        (record { cut = cut.now; fresh = fresh.now; gone = gone.now; many = false }) }
-    ensures places { places.new.items ≡ placed (vec_len places.old) queue.now places.old.items }
-    ensures len { vec_len places.new ≡ vec_len places.old }
-    ensures room { vec_capacity places.new ≡ vec_capacity places.old }
-    ensures taken { AreTaken places.new.items taken.new }
-    ensures single { AreSingle places.new.items }
-    ensures movers { spec.AreMovers (take (vec_len places.old) queue.now) places.old.items result.movers }
-    ensures changed { (cpu : ℕ) → bit_at result.changed cpu ≡ 0
-        → slice_index_or places.old.items cpu None ≡ slice_index_or places.new.items cpu None }
-{
-    let words = words_of(places, queue, cut, fresh, gone);
-    let left = beyond(words.left, words.homes);
-    let chosen = first_of(queue, places.len());
-    let changed = move_on(places, chosen, left, words.movers, true, taken);
-    let movers = words.movers;
     Outcome { changed, movers }
 }

@@ -1,15 +1,17 @@
 //! Who stands on each CPU, and how that moves on by one tick.
 
-ghost use Rattle.std.specs.Prelude.{◌≡◌, ◌≢◌, ◌<◌, ◌≤◌, AllPairs, false, IfOk, None, length, replicate, take, vec_len, vec_capacity};
+ghost use Rattle.std.specs.Prelude.{◌≡◌, ◌≢◌, ◌<◌, ◌≤◌, All, AllPairs, false, IfOk, None, length, replicate, take, vec_len, vec_capacity};
 ghost use Rattle.edf_pick.specs.Changes.{IsListed};
 ghost use Rattle.edf_pick.specs.Moves.{moved_from};
 ghost use Rattle.edf_pick.specs.Places.{AreSingle, placed};
+ghost use Rattle.edf_pick.specs.Schedule.{IsAtHome};
 ghost use Rattle.edf_pick.specs.private.First.{AreMovers};
 
+use crate::at_home::{pick_at_home, pick_listed};
 use crate::candidate::Candidate;
 use crate::changes::Gone;
 use crate::moves::Moves;
-use crate::picking::{pick_from, pick_listed};
+use crate::picking::pick_from;
 use crate::queue::Queue;
 use std::alloc::{AllocError, Global};
 use std::marker::Model;
@@ -89,10 +91,12 @@ pub fn pick(placement: &mut Placement, queue: &Queue)
         .copy_from_slice(placement.occupants.as_slice());
 }
 
-/// As `pick`, and lists the CPUs that another one has. Answers the places in the queue of the chosen
+/// As `pick`, where each task that stands belongs to its CPU, and lists the CPUs that another one has. Answers the places in the queue of the chosen
 /// tasks that did not stand at home, as a word of marks.
 #[inline(always)]
 pub(crate) fn pick_by_walk(placement: &mut Placement, queue: &Queue, moves: &mut Moves) -> u64
+    requires numbered { AllPairs (λ a b. a.number ≢ b.number) queue.now }
+    requires homed { All (IsAtHome placement.old) queue.now }
     ensures places { placement.new ≡ placed (length placement.old) queue.now placement.old }
     ensures moves { moves.new ≡ moved_from 0 placement.old placement.new }
     ensures len { length placement.new ≡ length placement.old }
@@ -102,7 +106,7 @@ pub(crate) fn pick_by_walk(placement: &mut Placement, queue: &Queue, moves: &mut
     ensures still { AreSingle placement.new }
 {
     let tasks = queue.as_slice();
-    let outcome = pick_from(&mut placement.occupants, tasks, &mut placement.taken);
+    let outcome = pick_at_home(&mut placement.occupants, tasks, &mut placement.taken);
     let occupants = placement.occupants.as_slice();
     moves.list(&mut placement.before, occupants, outcome.changed);
     outcome.movers
@@ -118,6 +122,7 @@ pub(crate) fn pick_by_list(
     moves: &mut Moves,
 ) -> u64
     requires numbered { AllPairs (λ a b. a.number ≢ b.number) queue.now }
+    requires homed { All (IsAtHome placement.old) queue.now }
     requires listed { IsListed queue.now placement.old
         (record { cut = cut.now; fresh = fresh.now; gone = gone.now; many = false }) }
     ensures places { placement.new ≡ placed (length placement.old) queue.now placement.old }

@@ -49,12 +49,6 @@ pub record AreLeaving (chosen : List Candidate) (places : Places) (movers marks 
   pub others : (cpu : ℕ) → bit_at marks cpu ≡ 0
       → staying chosen (slice_index_or places cpu None) ≡ slice_index_or places cpu None
 
--- no two chosen tasks have one number, and a mover that stands does so on a marked CPU
-pub record AreApart (chosen : List Candidate) (places : Places) (movers marks : ℕ) : Type 0 where
-  pub numbered : AllPairs (λ a b. a.number ≢ b.number) chosen
-  pub standing : (i cpu : ℕ) (c : Candidate) → bit_at movers i ≡ 1 → slice_get chosen i ≡ Some c
-      → slice_index_or places cpu None ≡ Some c.number → bit_at marks cpu ≡ 1
-
 -- the marked tasks stand nowhere
 abbrev pub AreAway : List Candidate → Places → ℕ → Type 0
 AreAway chosen places movers =

@@ -8,7 +8,7 @@ use Rattle.edf_pick.specs.Places.{Places}
 use Rattle.edf_pick.specs.private.First.{marked, seated_all}
 use Rattle.edf_pick.proofs.Marked.{nobody, marked_first, marked_none}
 use Rattle.edf_pick.proofs.Listing.{away_still}
-use Rattle.edf_pick.proofs.picking.start_marked.Goals as goal
+use Rattle.edf_pick.proofs.at_home.start_marked.Goals as goal
 
 pub tasks-preserved : goal.tasks-preserved
 tasks-preserved c =

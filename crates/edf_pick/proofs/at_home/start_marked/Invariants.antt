@@ -3,7 +3,7 @@ use Rattle.std.specs.Prelude.{vec_capacity}
 use Rattle.std.specs.Int.{bit_at}
 use Rattle.edf_pick.specs.private.First.{AreAway, marked, seated_all}
 use Rattle.edf_pick.specs.Places.{AreTaken}
-use Rattle.edf_pick.proofs.picking.start_marked.Given as goal
+use Rattle.edf_pick.proofs.at_home.start_marked.Given as goal
 
 abbrev pub invariant-tasks : goal.invariant-tasks
 invariant-tasks l = record {

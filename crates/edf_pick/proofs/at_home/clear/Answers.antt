@@ -1,0 +1,47 @@
+use Rattle.std.proofs.Common.{◌≡◌, ◌≢◌, ◌∙◌, ◌<◌, ℕ, None, get_or, length, refl, sym, ap, inl, inr, arith}
+use Rattle.std.specs.Int.{bit_at}
+use Rattle.std.proofs.lemmas.Bool.{cases_eq}
+use Rattle.std.proofs.lemmas.List.{get_or-set_same, get_or-set_other}
+use Rattle.std.proofs.lemmas.Nat.Bits.{bit_at-zero}
+use Rattle.edf_pick.specs.Places.{Places}
+use Rattle.edf_pick.proofs.at_home.clear.Goals as goal
+
+pub cpus-init : goal.cpus-init
+cpus-init c = record {
+  inside = λ k e. e;
+  gone = λ k e bare. absurd (omega (arith, e, bare));
+  others = λ k e. refl;
+  len = refl;
+  room = refl;
+  taken = c.requires.taken;
+}
+
+pub cpus-preserved : goal.cpus-preserved
+cpus-preserved c =
+    let now = c.cpus.places.items in
+    let new = c.vacate-marks.new.places.items in
+    let i = c.first-cpu.result in
+    let inv = c.cpus.invariant in
+    let mark = c.first-cpu.ensures.marked in
+    let left = bit_at c.without-ahead.result in
+    let inside : i < length now = omega (arith, c.requires.within i (inv.inside i mark), inv.len) in
+    let here : get_or new i None ≡ None = ap (λ (ps : Places). get_or ps i None) c.vacate-marks.ensures.places ∙ get_or-set_same now i None None inside in
+    let there : (k : ℕ) → k ≢ i → get_or new k None ≡ get_or now k None = λ k apart. ap (λ (ps : Places). get_or ps k None) c.vacate-marks.ensures.places ∙ get_or-set_other now i k None None apart in
+    let before : (k : ℕ) → left k ≡ 1 → k ≢ i = λ k e same. let both : left k ≡ 0 = ap left same ∙ c.without-ahead.ensures.bare in omega arith in
+    let still : (k : ℕ) → left k ≡ 1 → bit_at c.cpus.ahead k ≡ 1 = λ k e. sym (c.without-ahead.ensures.others k (before k e)) ∙ e in
+    record {
+      len = c.vacate-marks.ensures.len ∙ inv.len;
+      room = c.vacate-marks.ensures.room ∙ inv.room;
+      inside = λ k e. inv.inside k (still k e);
+      gone = λ k e bare. elim (cases_eq k i) [
+        | inl same ↦ ap (λ (j : ℕ). get_or new j None) same ∙ here
+        | inr apart ↦ there k apart ∙ inv.gone k e (sym (c.without-ahead.ensures.others k apart) ∙ bare)
+      ];
+      others = λ k e. there k (λ same. let one = inv.inside i mark in let zero : bit_at c.args.left i ≡ 0 = ap (bit_at c.args.left) (sym same) ∙ e in absurd (omega (arith, one, zero))) ∙ inv.others k e;
+      taken = c.vacate-marks.ensures.taken;
+    }
+
+pub returns-clause-gone : goal.returns-clause-gone
+returns-clause-gone c =
+    let done : c.cpus.ahead ≡ 0 = omega arith in
+    λ cpu e. c.cpus.invariant.gone cpu e (ap (λ (m : ℕ). bit_at m cpu) done ∙ bit_at-zero cpu)
