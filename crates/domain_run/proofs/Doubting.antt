@@ -1,11 +1,10 @@
 -- Which CPUs are in doubt: on the others who stands sits rightly.
 use Rattle.std.proofs.Common.{◌≡◌, ◌≢◌, ℕ, zero, suc, ◌+◌, ◌-◌, ◌<◌, ◌≤◌, Bool, true, false, cond, eqb, eq-eqb, ◌&&◌, ◌++◌, Option, Some, None, List, [], ◌∷◌, length, map, get_or, set, refl, sym, ap, ◌∙◌, subst, arith, inl, inr}
-use Rattle.std.specs.Prelude.{All, IfSome, IsSomeAnd, IsTrue, is_none, filter, sum_by}
+use Rattle.std.specs.Prelude.{All, IsTrue, is_none, filter, sum_by}
 use Rattle.std.specs.Int.{bit_at}
 use Rattle.std.proofs.lemmas.Bool.{cases_eq, cases_lt, ne_eqb}
 use Rattle.std.proofs.lemmas.Nat.Bits.{bit_at-lt}
 use Rattle.std.proofs.lemmas.List.{get_or-map, get_or_default, get_or-set_other, get_or-set_same, map-set, length-map, length-set}
-use Rattle.std.proofs.lemmas.List.Elements.{filter-append}
 use Rattle.grub_rules.specs.declared.share.Share.{Share}
 use Rattle.grub_rules.specs.Sums.{uinact}
 use Rattle.edf_pick.specs.declared.moves.Moved.{Moved}
@@ -287,9 +286,9 @@ push_settled d e w places s v items after t is more marked bare sum limit are =
     (subst (AreSettled e w places (left t.cpu t.number s.seats)) (sym more)
     (settled_again d e w places places s.seats (left t.cpu t.number s.seats) (owed_all s items) (owed_all s items ++ t ∷ []) sum limit
     (record {
-    bare = bare;
-    seats = λ i h q. left_elsewhere t.cpu t.number i s.seats (apart e.cpus t.cpu i marked h q);
-    sums = λ i h q. uinact_one i (owed_all s items) t (λ z. apart e.cpus t.cpu i marked h q (sym z));
+      bare = bare;
+      seats = λ i h q. left_elsewhere t.cpu t.number i s.seats (apart e.cpus t.cpu i marked h q);
+      sums = λ i h q. uinact_one i (owed_all s items) t (λ z. apart e.cpus t.cpu i marked h q (sym z));
     })
     (λ i h q. refl) are))
 

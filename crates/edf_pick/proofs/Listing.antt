@@ -1,9 +1,9 @@
 -- Looks at the tasks of a queue.
-use Rattle.std.proofs.Common.{◌≡◌, ◌<◌, ◌≤◌, ℕ, Bool, true, false, Option, Some, None, List, length, take, map, cond, eqb, get_or, refl, sym, ap, ◌∙◌, subst, arith, inl, inr, eq-eqb, zero, suc, ◌∷◌, [], ◌≢◌}
+use Rattle.std.proofs.Common.{◌≡◌, ◌<◌, ◌≤◌, ℕ, Bool, true, false, Option, Some, None, List, length, take, cond, eqb, get_or, refl, sym, ap, ◌∙◌, subst, arith, inl, inr, eq-eqb, zero, suc, ◌∷◌, [], ◌≢◌}
 use Rattle.std.specs.Prelude.{◌⊎◌, AllPairs, Contains, not, slice_get}
 use Rattle.std.specs.Int.{bit_at}
 use Rattle.std.specs.List.{list_any}
-use Rattle.std.proofs.lemmas.Bool.{cases_Bool, cases_eq, cases_lt}
+use Rattle.std.proofs.lemmas.Bool.{cases_eq, cases_lt}
 use Rattle.std.proofs.lemmas.Option.{slice_get-get_or, slice_get_past}
 use Rattle.std.proofs.lemmas.Nat.Bits.{bit_at-zero, bit_at-lt}
 use Rattle.edf_pick.specs.declared.candidate.Candidate.{Candidate}
@@ -12,13 +12,12 @@ use Rattle.edf_pick.specs.declared.listed.Words.{Words}
 use Rattle.edf_pick.specs.Changes.{ChangesView, is_within, stands_home, IsListed}
 use Rattle.edf_pick.specs.Choice.{is_before}
 use Rattle.edf_pick.specs.Order.{IsRising}
-use Rattle.edf_pick.specs.Places.{Places, taken, AreTaken, AreSingle, is_task, stands, seated}
-use Rattle.edf_pick.specs.private.First.{staying, is_home, moves, AreMovers, AreLeaving, AreAway}
+use Rattle.edf_pick.specs.Places.{Places, AreSingle, is_task, stands, seated}
+use Rattle.edf_pick.specs.private.First.{staying, is_home, moves, AreMovers, AreLeaving}
 use Rattle.edf_pick.specs.private.Listed.{Grows, IsLooked, HomeAt, AreSound, AreWords}
 use Rattle.edf_pick.proofs.Before.{before_both}
-use Rattle.edf_pick.proofs.Marked.{nobody, task_is, staying_movers, any_at, occupied, mapped, staying_same, stands_seated}
+use Rattle.edf_pick.proofs.Marked.{nobody, task_is, staying_movers, any_at, occupied, stands_seated}
 use Rattle.edf_pick.proofs.Picked.{place_at}
-use Rattle.edf_pick.proofs.Standing.{stands_where}
 use Rattle.edf_pick.proofs.Rising.{place}
 
 -- MARKS

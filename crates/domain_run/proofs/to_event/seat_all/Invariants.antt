@@ -1,4 +1,4 @@
-use Rattle.std.proofs.Common.{◌≡◌, ◌<◌, ◌≤◌, ◌-◌, ℕ, All}
+use Rattle.std.proofs.Common.{◌≡◌, ◌<◌, ℕ, All}
 use Rattle.std.specs.Int.{bit_at}
 use Rattle.domain_run.specs.private.Roster.{IsSeated}
 use Rattle.domain_run.proofs.to_event.seat_all.Given as goal

@@ -1,7 +1,7 @@
-use Rattle.std.proofs.Common.{◌≡◌, ◌∙◌, map, ap, sym, subst, arith}
+use Rattle.std.proofs.Common.{◌∙◌, ap, sym, subst, arith}
 use Rattle.std.specs.Int.{bit_at}
 use Rattle.edf_pick.specs.Places.{Places, AreSingle}
-use Rattle.edf_pick.specs.private.First.{staying, marked, seated_all}
+use Rattle.edf_pick.specs.private.First.{marked, seated_all}
 use Rattle.edf_pick.proofs.Marked.{single_kept, single_all, unchanged}
 use Rattle.edf_pick.proofs.AtHome.{left_kept, still_away}
 use Rattle.edf_pick.proofs.at_home.move_away.Goals as goal

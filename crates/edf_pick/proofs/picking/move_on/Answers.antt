@@ -1,4 +1,4 @@
-use Rattle.std.proofs.Common.{◌≡◌, ◌∙◌, ap, sym, subst}
+use Rattle.std.proofs.Common.{◌∙◌, ap, sym, subst}
 use Rattle.std.specs.Int.{bit_at}
 use Rattle.edf_pick.specs.Places.{Places, AreSingle}
 use Rattle.edf_pick.specs.private.First.{marked, seated_all}

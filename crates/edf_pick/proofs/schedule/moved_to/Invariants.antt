@@ -1,1 +1,0 @@
-use Rattle.edf_pick.proofs.schedule.moved_to.Given as goal

@@ -1,6 +1,5 @@
-use Rattle.std.proofs.Common.{◌≡◌, Option, None, get_or, sym, ap, ◌∙◌, subst}
+use Rattle.std.proofs.Common.{None, get_or, sym, ap, ◌∙◌, subst}
 use Rattle.std.specs.Prelude.{IsTrue, is_none}
-use Rattle.domain_run.specs.declared.seats.Seat.{Seat}
 use Rattle.domain_run.specs.private.Doubts.{IsSettled}
 use Rattle.domain_run.specs.private.Roster.{RosterView, basis_in}
 use Rattle.domain_run.proofs.Doubting.{none_is}

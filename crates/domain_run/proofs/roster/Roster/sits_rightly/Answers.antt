@@ -1,5 +1,4 @@
-use Rattle.std.proofs.Common.{◌≡◌, ℕ, Option, Some, None, List, get_or, sym, ap, subst, ◌∙◌}
-use Rattle.domain_run.specs.declared.seats.Seat.{Seat}
+use Rattle.std.proofs.Common.{◌≡◌, Some, None, get_or, sym, ap, subst, ◌∙◌}
 use Rattle.domain_run.specs.private.Doubts.{IsSettled}
 use Rattle.domain_run.specs.private.Roster.{RosterView, basis_in}
 use Rattle.domain_run.proofs.Waiting.{sits}
