@@ -5,6 +5,7 @@ pub mod Homing
 pub mod Listing
 pub mod Marked
 pub mod Moving
+pub mod OneCpu
 pub mod Picked
 pub mod Renewed
 pub mod Resting
