@@ -12,7 +12,6 @@ use Rattle.edf_pick.specs.Changes.{home_on, homed}
 use Rattle.edf_pick.specs.Choice.{is_before}
 use Rattle.edf_pick.specs.Order.{IsRising, IsQueue}
 use Rattle.edf_pick.specs.Places.{Places, AreSingle, is_task, stands, placed}
-use Rattle.edf_pick.specs.Schedule.{IsAtHome}
 use Rattle.edf_pick.specs.private.First.{staying, is_home, moves, AreMovers}
 use Rattle.edf_pick.proofs.Listing.{inside, read, take_get}
 use Rattle.edf_pick.proofs.Marked.{any_at, mapped, occupied, stands_here, all_stay}
@@ -63,7 +62,7 @@ module _ (queue : List Candidate) (p cpu : ℕ) (h : p < length queue) (d : Cand
 
 module _ (queue : List Candidate) (before after : Places) (movers : ℕ) (is : after ≡ placed (length before) queue before) (len : length after ≡ length before) (some : 0 < length before)
     (rising : IsRising queue) (numbered : AllPairs (λ a b. a.number ≢ b.number) queue) (was : AreSingle before) (single : AreSingle after)
-    (homes : All (IsAtHome before) queue) (words : AreMovers (take (length before) queue) before movers) where
+    (words : AreMovers (take (length before) queue) before movers) where
   -- who stood at home and is chosen stays there
   stays_home : (i : ℕ) (c : Candidate) → i < length before → slice_get queue i ≡ Some c → get_or before c.home None ≡ Some c.number → get_or after c.home None ≡ Some c.number
   stays_home i c less at on =
@@ -105,6 +104,15 @@ module _ (queue : List Candidate) (before after : Places) (movers : ℕ) (is : a
             ap (home_on c) (on_position after c.home c.number single home)
         | inr absent ↦ ap (home_on c) (no_position after c.number absent)
       ]
+
+-- the same, as a choice finds the queue and the number of its CPUs
+pub picked_homed : (queue tasks : List Candidate) (before after : Places) (cpus movers : ℕ) → tasks ≡ queue → cpus ≡ length before → after ≡ placed cpus tasks before → length after ≡ cpus → 0 < length before
+    → IsRising queue → AllPairs (λ a b. a.number ≢ b.number) queue → AreSingle before → AreSingle after → AreMovers (take cpus tasks) before movers
+    → (i : ℕ) (c : Candidate) → bit_at movers i ≡ 0 → slice_get queue i ≡ Some c → homed after c ≡ c
+picked_homed queue tasks before after cpus movers same many is len some rising numbered was single words =
+    others_homed queue before after movers
+    (is ∙ ap (λ (xs : List Candidate). placed cpus xs before) same ∙ ap (λ (k : ℕ). placed k queue before) many) (len ∙ many) some rising numbered was single
+    (subst (λ (k : ℕ). AreMovers (take k queue) before movers) many (subst (λ (xs : List Candidate). AreMovers (take cpus xs) before movers) same words))
 
 -- ---- ONE AFTER ANOTHER
 

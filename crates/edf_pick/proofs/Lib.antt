@@ -6,6 +6,7 @@ pub mod Listing
 pub mod AtHome
 pub mod Marked
 pub mod Moving
+pub mod OneCpu
 pub mod Picked
 pub mod Renewed
 pub mod Resting

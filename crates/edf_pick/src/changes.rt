@@ -1,18 +1,19 @@
 //! What has come into a queue and gone out of it since the last choice.
 
-ghost use Rattle.std.specs.Prelude.{◌≡◌, ◌≢◌, ◌<◌, true, length, map, take, slice_get, IfOk, List, All, AllPairs};
+ghost use Rattle.std.specs.Prelude.{ℕ, ◌≡◌, ◌≢◌, ◌<◌, true, length, map, slice_get, IfOk, List, All, AllPairs, Some};
+ghost use Rattle.std.specs.Int.{bit_at};
 ghost use Rattle.edf_pick.specs.declared.candidate.Candidate.{Candidate};
 ghost use Rattle.edf_pick.specs.Changes as spec;
 ghost use Rattle.edf_pick.specs.Moves.{moved_from};
 ghost use Rattle.edf_pick.specs.Order.{is_same, with_candidate, without_candidate};
 ghost use Rattle.edf_pick.specs.Places.{AreSingle, Places, placed};
-ghost use Rattle.edf_pick.specs.private.First.{AreMovers};
 ghost use Rattle.edf_pick.specs.Schedule.{IsAtHome};
 
 use crate::candidate::Candidate;
 use crate::moves::Moves;
 use crate::placement::{Placement, pick_by_list, pick_by_walk};
 use crate::queue::Queue;
+use crate::single::pick_one;
 use std::alloc::{AllocError, Global};
 use std::marker::Model;
 
@@ -28,7 +29,8 @@ pub struct Gone {
 /// As many are listed of either kind.
 const MOST: usize = 256;
 
-/// On fewer CPUs than these nothing is listed: a walk over their tasks is less.
+/// On fewer CPUs than these nothing is listed: a walk over their tasks is less, and on one CPU a look
+/// at the first.
 const FEW: usize = 8;
 
 /// What has come into a queue and gone out of it since the last choice, and how far that went.
@@ -143,8 +145,8 @@ fn is_long(changes: &Changes, chosen: usize) -> bool
 /// As [`crate::pick`], by what has changed since the last choice: where that is listed and little, it
 /// looks at that alone, and else at all. It lists the CPUs that another one has then. Nothing has
 /// changed since in the queue in which each task that stands belongs to the CPU on which it stands.
-/// Answers the places in the queue of the chosen tasks that did not stand at home, as a word of marks.
-/// Takes no memory.
+/// Answers places in the queue, as a word of marks: each task at another place belongs to the CPU on
+/// which it stands now, if it stands on one. Takes no memory.
 #[inline(always)]
 pub(crate) fn pick_changed(
     placement: &mut Placement,
@@ -158,13 +160,17 @@ pub(crate) fn pick_changed(
     ensures places { placement.new ≡ placed (length placement.old) queue.now placement.old }
     ensures moves { moves.new ≡ moved_from 0 placement.old placement.new }
     ensures len { length placement.new ≡ length placement.old }
-    ensures movers { AreMovers (take (length placement.old) queue.now) placement.old result }
+    ensures within { (i : ℕ) → bit_at result i ≡ 1 → i < length queue.now }
+    ensures others { (i : ℕ) (c : Candidate) → bit_at result i ≡ 0
+        → slice_get queue.now i ≡ Some c → spec.homed placement.new c ≡ c }
     ensures single { AreSingle placement.old }
     ensures still { AreSingle placement.new }
     ensures follows { spec.Follows (map (spec.homed placement.new) queue.now) placement.new changes.new }
 {
     let cpus = placement.occupants().len();
-    let movers = if is_long(changes, cpus.min(queue.len())) {
+    let movers = if cpus == 1 {
+        pick_one(placement, queue, moves)
+    } else if is_long(changes, cpus.min(queue.len())) {
         pick_by_walk(placement, queue, moves)
     } else {
         let (cut, fresh, gone) = (&changes.cut, &changes.fresh, &changes.gone);

@@ -23,6 +23,7 @@ mod placement;
 mod queue;
 mod schedule;
 mod seats;
+mod single;
 
 pub use candidate::Candidate;
 pub use changes::{Changes, Gone};

@@ -1,6 +1,6 @@
 //! Which CPUs another one has after a choice.
 
-ghost use Rattle.std.specs.Prelude.{ℕ, ◌≡◌, ◌≤◌, ◌<◌, ◌++◌, [], None, false, IfOk, length, slice_index_or, slice_set, vec_len, vec_capacity};
+ghost use Rattle.std.specs.Prelude.{ℕ, ◌≡◌, ◌≤◌, ◌<◌, ◌++◌, ◌∷◌, [], None, false, IfOk, length, slice_index_or, slice_set, vec_len, vec_capacity};
 ghost use Rattle.std.specs.Int.{bit_at};
 ghost use Rattle.edf_pick.specs.Moves as spec;
 
@@ -52,6 +52,23 @@ impl Moves {
         self.list.as_slice()
     }
 
+    /// None.
+    #[inline(always)]
+    pub(crate) fn clear(&mut self)
+        ensures { self.new ≡ [] }
+    {
+        self.list.clear();
+    }
+
+    /// The first CPU alone, where this one stood before.
+    #[inline(always)]
+    pub(crate) fn list_first(&mut self, before: Option<u32>)
+        ensures { self.new ≡ record { cpu = 0; before = before } ∷ [] }
+    {
+        self.list.clear();
+        self.list.push_reserved(Moved { cpu: 0, before });
+    }
+
     /// Lists the CPUs whose occupants differ from those before, which are among the marked ones, and
     /// brings those before up to date.
     pub(crate) fn list(
@@ -72,7 +89,8 @@ impl Moves {
     }
 }
 
-fn is_same(a: Option<u32>, b: Option<u32>) -> bool
+/// Whether two occupants are one task, or both nobody.
+pub(crate) fn is_same(a: Option<u32>, b: Option<u32>) -> bool
     ensures { result ≡ spec.same_occupant a b }
 {
     match (a, b) {

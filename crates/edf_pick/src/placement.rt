@@ -1,11 +1,12 @@
 //! Who stands on each CPU, and how that moves on by one tick.
 
-ghost use Rattle.std.specs.Prelude.{◌≡◌, ◌≢◌, ◌<◌, ◌≤◌, All, AllPairs, false, IfOk, None, length, replicate, take, vec_len, vec_capacity};
-ghost use Rattle.edf_pick.specs.Changes.{IsListed};
+ghost use Rattle.std.specs.Prelude.{ℕ, ◌≡◌, ◌≢◌, ◌<◌, ◌≤◌, ◌∷◌, [], All, AllPairs, false, IfOk, None, Some, length, replicate, slice_get, vec_len, vec_capacity};
+ghost use Rattle.std.specs.Int.{bit_at};
+ghost use Rattle.edf_pick.specs.declared.candidate.Candidate.{Candidate};
+ghost use Rattle.edf_pick.specs.Changes.{IsListed, homed};
 ghost use Rattle.edf_pick.specs.Moves.{moved_from};
-ghost use Rattle.edf_pick.specs.Places.{AreSingle, placed};
+ghost use Rattle.edf_pick.specs.Places.{AreSingle, AreTaken, placed};
 ghost use Rattle.edf_pick.specs.Schedule.{IsAtHome};
-ghost use Rattle.edf_pick.specs.private.First.{AreMovers};
 
 use crate::at_home::{pick_at_home, pick_listed};
 use crate::candidate::Candidate;
@@ -52,6 +53,16 @@ fn idle(alloc: Global, cpus: usize) -> Result<Vec<Option<u32>>, AllocError>
     Ok(places)
 }
 
+// The marks of one CPU, where this one stands or nobody.
+fn mark_of(stands: Option<u32>) -> u64
+    ensures { AreTaken (stands ∷ []) result }
+{
+    match stands {
+        Some(_) => 1,
+        None => 0,
+    }
+}
+
 impl Placement {
     /// 1 to 64 idle CPUs. No other call takes memory. `Err` where their room was refused.
     pub fn open(alloc: Global, cpus: usize) -> Result<Placement, AllocError>
@@ -64,6 +75,17 @@ impl Placement {
             taken: 0,
             before: idle(alloc, cpus)?,
         })
+    }
+
+    /// The only CPU has this one from now on, or nobody.
+    #[inline(always)]
+    pub(crate) fn give(&mut self, stands: Option<u32>)
+        requires { length self.old ≡ 1 }
+        ensures { self.new ≡ stands ∷ [] }
+    {
+        self.occupants[0] = stands;
+        self.before[0] = stands;
+        self.taken = mark_of(stands);
     }
 
     /// Who stands on each CPU, from CPU 0 on.
@@ -91,8 +113,9 @@ pub fn pick(placement: &mut Placement, queue: &Queue)
         .copy_from_slice(placement.occupants.as_slice());
 }
 
-/// As `pick`, where each task that stands belongs to its CPU, and lists the CPUs that another one has. Answers the places in the queue of the chosen
-/// tasks that did not stand at home, as a word of marks.
+/// As `pick`, where each task that stands belongs to its CPU, and lists the CPUs that another one has.
+/// Answers places in the queue, as a word of marks: each task at another place belongs to the CPU on
+/// which it stands now, if it stands on one.
 #[inline(always)]
 pub(crate) fn pick_by_walk(placement: &mut Placement, queue: &Queue, moves: &mut Moves) -> u64
     requires numbered { AllPairs (λ a b. a.number ≢ b.number) queue.now }
@@ -101,7 +124,9 @@ pub(crate) fn pick_by_walk(placement: &mut Placement, queue: &Queue, moves: &mut
     ensures moves { moves.new ≡ moved_from 0 placement.old placement.new }
     ensures len { length placement.new ≡ length placement.old }
     ensures some { 0 < length placement.old }
-    ensures movers { AreMovers (take (length placement.old) queue.now) placement.old result }
+    ensures within { (i : ℕ) → bit_at result i ≡ 1 → i < length queue.now }
+    ensures others { (i : ℕ) (c : Candidate) → bit_at result i ≡ 0
+        → slice_get queue.now i ≡ Some c → homed placement.new c ≡ c }
     ensures single { AreSingle placement.old }
     ensures still { AreSingle placement.new }
 {
@@ -129,7 +154,9 @@ pub(crate) fn pick_by_list(
     ensures moves { moves.new ≡ moved_from 0 placement.old placement.new }
     ensures len { length placement.new ≡ length placement.old }
     ensures some { 0 < length placement.old }
-    ensures movers { AreMovers (take (length placement.old) queue.now) placement.old result }
+    ensures within { (i : ℕ) → bit_at result i ≡ 1 → i < length queue.now }
+    ensures others { (i : ℕ) (c : Candidate) → bit_at result i ≡ 0
+        → slice_get queue.now i ≡ Some c → homed placement.new c ≡ c }
     ensures single { AreSingle placement.old }
     ensures still { AreSingle placement.new }
 {

@@ -1,9 +1,8 @@
-use Rattle.std.proofs.Common.{◌≡◌, ◌<◌, ◌∙◌, List, map, ap, sym, subst, arith, length}
+use Rattle.std.proofs.Common.{◌≡◌, ◌∙◌, List, map, ap, sym, subst}
 use Rattle.edf_pick.specs.declared.candidate.Candidate.{Candidate}
 use Rattle.edf_pick.specs.Changes.{homed}
 use Rattle.edf_pick.specs.Places.{Places}
 use Rattle.edf_pick.specs.Schedule.{ScheduleView, IsSchedule}
-use Rattle.edf_pick.proofs.Homing.{others_homed}
 use Rattle.edf_pick.proofs.Resting.{picked_schedule}
 use Rattle.edf_pick.proofs.schedule.Schedule.pick.Goals as goal
 use Rattle.edf_pick.proofs.schedule.Schedule.pick.Goals.{After-home_movers}
@@ -23,13 +22,3 @@ invariant_of-self c =
 pub returns-clause-queue : goal.returns-clause-queue
 returns-clause-queue c =
     rested (goal.at.returns-clause-queue c).After-home_movers ∙ ap (λ (xs : List Candidate). map (homed c.pick_changed-movers.new.placement) xs) (ap (λ (v : ScheduleView). v.queue) c.self.view_is)
-
-pub home_movers-requires-clause-others : goal.home_movers-requires-clause-others
-home_movers-requires-clause-others c i x bare at =
-    let queue = c.self.inside.queue in
-    let before = c.self.inside.placement in
-    let after = c.pick_changed-movers.new.placement in
-    let e = c.pick_changed-movers.ensures in
-    let some : 0 < length before = omega (arith, c.occupants-places.ensures.some, e.len) in
-    ap (λ (ps : Places). homed ps x) c.occupants-places.ensures.occupants
-    ∙ others_homed queue before after c.pick_changed-movers.result e.places e.len some c.as_slice.ensures.rising c.self.invariant.numbered e.single e.still c.self.invariant.homed e.movers i x bare at
