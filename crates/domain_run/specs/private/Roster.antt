@@ -107,6 +107,10 @@ pub record IsPart (time : ℕ) (change : Change) : Type 0 where
   pub may : (t : Task) → MayMake time change t
   pub passes : (t : Task) → time < due_of t → after_change time change t ≡ t
 
+-- parts 1 and 2 of one task
+abbrev pub served : ℕ → Task → Task
+served time t = settled time (replenish_due time t)
+
 -- the task that stands on a CPU, if one does, belongs to it
 abbrev pub homed_here : Option ℕ → ℕ → Task → Task
 homed_here None cpu t = t
