@@ -73,8 +73,9 @@ fn set_timers(timers: &mut Timers, tasks: &[Task], from: usize)
     }
 }
 
-/// Tasks that have left go off the list. They are due at once, so those before the first that is
-/// due stay as they are, and cost nothing but a look.
+/// Tasks that have left go off the list. They are due at once, so where none is, it costs nothing
+/// but a look.
+#[inline(always)]
 pub(super) fn drop_left(tasks: &mut Vec<Task>, queue: &mut RunQueue, index: &mut Index)
     requires { IsCounted (length queue.old.accounts.all) queue.old tasks.old.items }
     ensures tasks { tasks.new.items ≡ filter parts_spec.is_listed tasks.old.items }
@@ -86,6 +87,19 @@ pub(super) fn drop_left(tasks: &mut Vec<Task>, queue: &mut RunQueue, index: &mut
     if !queue.timers.may_be_due(0) {
         return;
     }
+    drop_due(tasks, queue, index);
+}
+
+// Tasks that have left go off the list. Those before the first that is due at once stay as they are.
+#[inline(never)]
+fn drop_due(tasks: &mut Vec<Task>, queue: &mut RunQueue, index: &mut Index)
+    requires { IsCounted (length queue.old.accounts.all) queue.old tasks.old.items }
+    ensures tasks { tasks.new.items ≡ filter parts_spec.is_listed tasks.old.items }
+    ensures counted { IsCounted (length queue.old.accounts.all) queue.new tasks.new.items }
+    ensures schedule { queue.new.schedule ≡ queue.old.schedule }
+    ensures few { vec_len tasks.new ≤ vec_len tasks.old }
+    ensures room { vec_capacity tasks.new ≡ vec_capacity tasks.old }
+{
     let first = queue.timers.next_due(0, 0);
     part_left(&mut queue.accounts, tasks);
     tasks.retain(|task| parts::is_listed(task));
