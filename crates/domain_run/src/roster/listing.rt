@@ -59,17 +59,17 @@ fn note_left(index: &mut Index, tasks: &[Task], from: usize) {
     }
 }
 
-// When each task of a list is due, where that is known of those before a place.
+// When each task of a list is due, where that is known of those before a place, and there were as
+// many before, or more. So a time that stays at its place costs nothing but a look.
 fn set_timers(timers: &mut Timers, tasks: &[Task], from: usize)
-    requires few { length tasks.now ≤ 256 }
-    requires within { from ≤ length timers.old }
+    requires fewer { length tasks.now ≤ length timers.old }
     requires there { from ≤ length tasks.now }
     requires known { take from timers.old ≡ map timers_spec.due_of (take from tasks.now) }
     ensures { timers.new ≡ map timers_spec.due_of tasks.now }
 {
-    timers.keep(from);
+    timers.keep(tasks.len());
     for place in from..tasks.len() {
-        timers.push(due_of(&tasks[place]));
+        timers.set(place, due_of(&tasks[place]));
     }
 }
 
