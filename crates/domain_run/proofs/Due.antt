@@ -113,10 +113,10 @@ step_none tasks p f still = record { is = λ d. sym (ap (set tasks p) (still d) 
 pub step_then : (f g : Task → Task) (tasks mid new : List Task) (p : ℕ) → p < length tasks → IsStep f p tasks mid → IsStep g p mid new → IsStep (λ t. g (f t)) p tasks new
 step_then f g tasks mid new p h one two = record {
   is = λ d.
-    two.is d
-    ∙ (λ i. set (one.is d i) p (g (get_or (one.is d i) p d)))
-    ∙ ap (λ t. set (set tasks p (f (get_or tasks p d))) p (g t)) (get_or-set_same tasks p (f (get_or tasks p d)) d h)
-    ∙ set-set tasks p (f (get_or tasks p d)) (g (f (get_or tasks p d)));
+      two.is d
+      ∙ (λ i. set (one.is d i) p (g (get_or (one.is d i) p d)))
+      ∙ ap (λ t. set (set tasks p (f (get_or tasks p d))) p (g t)) (get_or-set_same tasks p (f (get_or tasks p d)) d h)
+      ∙ set-set tasks p (f (get_or tasks p d)) (g (f (get_or tasks p d)));
 }
 
 -- ---- ALL PLACES one after another
