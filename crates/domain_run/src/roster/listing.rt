@@ -128,7 +128,7 @@ fn part_number(accounts: &mut Accounts, tasks: &[Task], number: u32)
     }
 }
 
-/// The task of a number, which is not ready, goes off the list.
+/// The task of a number, which is not ready, goes off the list. Those before it stay as they are.
 pub(super) fn drop_number(
     tasks: &mut Vec<Task>,
     queue: &mut RunQueue,
@@ -142,8 +142,11 @@ pub(super) fn drop_number(
     ensures schedule { queue.new.schedule ≡ queue.old.schedule }
     ensures room { vec_capacity tasks.new ≡ vec_capacity tasks.old }
 {
+    let Some(place) = index.place(tasks, number) else {
+        return;
+    };
     part_number(&mut queue.accounts, tasks, number);
     tasks.retain(|task| is_other(task, number));
-    set_timers(&mut queue.timers, tasks, 0);
-    note_left(index, tasks, 0);
+    set_timers(&mut queue.timers, tasks, place);
+    note_left(index, tasks, place);
 }
