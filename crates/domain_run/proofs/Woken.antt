@@ -1,5 +1,5 @@
 -- Parts 1 to 3 of each task of a list in one walk, from which those that have left go off.
-use Rattle.std.proofs.Common.{◌≡◌, ◌≢◌, ℕ, zero, suc, ◌+◌, ◌-◌, ◌<◌, ◌≤◌, Bool, true, false, cond, not, List, [], ◌∷◌, ◌++◌, length, map, get_or, set, take, drop, refl, sym, ap, ◌∙◌, subst, arith, eq-eqb}
+use Rattle.std.proofs.Common.{◌≡◌, ◌≢◌, ℕ, zero, suc, ◌+◌, ◌-◌, ◌<◌, ◌≤◌, true, false, cond, not, List, [], ◌∷◌, ◌++◌, length, map, get_or, take, drop, refl, sym, ap, ◌∙◌, subst, arith, eq-eqb}
 use Rattle.std.specs.Prelude.{All, AllPairs, filter}
 use Rattle.std.proofs.Math.Seq.{get_or-append_seam}
 use Rattle.std.proofs.lemmas.Bool.{ne_eqb}
@@ -59,18 +59,18 @@ others_at (x ∷ xs) (suc p) n numbered h is =
 pub woken_still : (time : ℕ) (now : List Task) (p : ℕ) → p < length now → ((d : Task) → time < due_of (get_or now p d)) → IsWoken time p now now (p + 1)
 woken_still time now p h later = record {
   tasks = λ d.
-    sym (ap (λ ts. take p now ++ (ts ++ drop (p + 1) now)) (alone time (get_or now p d) (later d))
-    ∙ sym (set_at now p (get_or now p d) h)
-    ∙ set-get_or now p d);
+      sym (ap (λ ts. take p now ++ (ts ++ drop (p + 1) now)) (alone time (get_or now p d) (later d))
+      ∙ sym (set_at now p (get_or now p d) h)
+      ∙ set-get_or now p d);
   next = λ d. sym (ap (λ (ts : List Task). p + length ts) (alone time (get_or now p d) (later d)));
 }
 
 pub woken_stays : (time : ℕ) (old new : List Task) (p : ℕ) → p < length old → IsStep (λ t. unblocked time (served time t)) p old new → ((d : Task) → is_listed (served time (get_or old p d)) ≡ true) → IsWoken time p old new (p + 1)
 woken_stays time old new p h step listed = record {
   tasks = λ d.
-    step.is d
-    ∙ set_at old p (unblocked time (served time (get_or old p d))) h
-    ∙ sym (ap (λ ts. take p old ++ (ts ++ drop (p + 1) old)) (kept time (get_or old p d) (listed d)));
+      step.is d
+      ∙ set_at old p (unblocked time (served time (get_or old p d))) h
+      ∙ sym (ap (λ ts. take p old ++ (ts ++ drop (p + 1) old)) (kept time (get_or old p d) (listed d)));
   next = λ d. sym (ap (λ (ts : List Task). p + length ts) (kept time (get_or old p d) (listed d)));
 }
 
@@ -82,12 +82,12 @@ pub woken_goes : (time : ℕ) (old mid new : List Task) (p n : ℕ) → p < leng
     → ((d : Task) → n ≡ (get_or mid p d).number) → ((d : Task) → is_listed (get_or mid p d) ≡ false) → new ≡ filter (is_other n) mid → IsWoken time p old new p
 woken_goes time old mid new p n h within step numbered is left filtered = record {
   tasks = λ d.
-    let x = served time (get_or old p d) in
-    filtered
-    ∙ others_at mid p n numbered within is
-    ∙ ap (λ (ts : List Task). take p ts ++ drop (p + 1) ts) (step.is d)
-    ∙ (λ i. take-set old p x i ++ drop-set-lt (p + 1) old p x (omega arith) i)
-    ∙ sym (ap (λ ts. take p old ++ (ts ++ drop (p + 1) old)) (none d));
+      let x = served time (get_or old p d) in
+      filtered
+      ∙ others_at mid p n numbered within is
+      ∙ ap (λ (ts : List Task). take p ts ++ drop (p + 1) ts) (step.is d)
+      ∙ (λ i. take-set old p x i ++ drop-set-lt (p + 1) old p x (omega arith) i)
+      ∙ sym (ap (λ ts. take p old ++ (ts ++ drop (p + 1) old)) (none d));
   next = λ d. sym (ap (λ (ts : List Task). p + length ts) (none d) ∙ omega arith);
 }
   where

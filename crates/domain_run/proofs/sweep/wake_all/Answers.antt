@@ -1,8 +1,7 @@
-use Rattle.std.proofs.Common.{sym, subst, ◌∙◌}
+use Rattle.std.proofs.Common.{sym, subst}
 use Rattle.domain_run.specs.Log.{Tells}
-use Rattle.domain_run.specs.private.Telling.{told_of_parts}
 use Rattle.domain_run.proofs.Due.{none_due, still_each}
-use Rattle.domain_run.proofs.Logging.{tells_none, tells_silent}
+use Rattle.domain_run.proofs.Logging.{tells_none}
 use Rattle.domain_run.proofs.ToldTicks.{parts_still}
 use Rattle.domain_run.proofs.sweep.wake_all.Goals as goal
 

@@ -1,4 +1,4 @@
-use Rattle.std.proofs.Common.{◌≡◌, ℕ, ◌<◌, ◌≤◌, take, arith, rules, refl, sym, ap, ◌∙◌, length, map, subst, List}
+use Rattle.std.proofs.Common.{◌≡◌, ℕ, ◌≤◌, take, arith, rules, refl, sym, ap, ◌∙◌, length, map, subst, List}
 use Rattle.std.specs.Prelude.{filter}
 use Rattle.grub_rules.specs.Accounts.{AreAccounts}
 use Rattle.domain_run.specs.declared.task.Task.{Task}
