@@ -2,7 +2,7 @@
 use Rattle.std.proofs.Common.{◌≡◌, ℕ, zero, suc, ◌+◌, ◌-◌, ◌^◌, ◌<◌, ◌≤◌, min, true, false, cond, ◌&&◌, Option, Some, None, List, [], ◌∷◌, ◌++◌, length, map, get_or, set, take, drop, length-append, refl, sym, ap, subst, ◌∙◌, arith}
 use Rattle.std.specs.Prelude.{All, filter}
 use Rattle.std.proofs.lemmas.Bool.{lt-leb}
-use Rattle.std.proofs.lemmas.List.{get_or-map, get_or_default, set-get_or, length-set, length-map, length-take, length-drop}
+use Rattle.std.proofs.lemmas.List.{get_or-map, get_or_default, get_or-set_same, set-get_or, set-set, length-set, length-map, length-take, length-drop}
 use Rattle.std.proofs.lemmas.List.Elements.{All-cons, All-weaker}
 use Rattle.std.proofs.lemmas.List.Edits.{map_over_more}
 use Rattle.domain_run.specs.declared.task.Task.{Task}
@@ -108,6 +108,16 @@ step_is tasks p x y f h read is = record { is = λ d. ap (set tasks p) (is ∙ a
 -- where it is not, nothing is to be done
 pub step_none : (tasks : List Task) (p : ℕ) (f : Task → Task) → ((d : Task) → f (get_or tasks p d) ≡ get_or tasks p d) → IsStep f p tasks tasks
 step_none tasks p f still = record { is = λ d. sym (ap (set tasks p) (still d) ∙ set-get_or tasks p d) }
+
+-- two changes of it, one behind the other
+pub step_then : (f g : Task → Task) (tasks mid new : List Task) (p : ℕ) → p < length tasks → IsStep f p tasks mid → IsStep g p mid new → IsStep (λ t. g (f t)) p tasks new
+step_then f g tasks mid new p h one two = record {
+  is = λ d.
+      two.is d
+      ∙ (λ i. set (one.is d i) p (g (get_or (one.is d i) p d)))
+      ∙ ap (λ t. set (set tasks p (f (get_or tasks p d))) p (g t)) (get_or-set_same tasks p (f (get_or tasks p d)) d h)
+      ∙ set-set tasks p (f (get_or tasks p d)) (g (f (get_or tasks p d)));
+}
 
 -- ---- ALL PLACES one after another
 

@@ -1,11 +1,15 @@
 -- The tasks before a place that stay where those behind it go.
-use Rattle.std.proofs.Common.{◌≡◌, ℕ, zero, suc, ◌<◌, ◌≤◌, true, Bool, cond, List, [], ◌∷◌, length, map, get_or, take, refl, sym, ap, ◌∙◌, subst, arith}
-use Rattle.std.specs.Prelude.{filter}
+use Rattle.std.proofs.Common.{◌≡◌, ℕ, zero, suc, ◌<◌, ◌≤◌, true, Bool, cond, not, ◌≢◌, List, [], ◌∷◌, length, map, get_or, take, refl, sym, ap, ◌∙◌, subst, arith}
+use Rattle.std.specs.Prelude.{AllPairs, filter}
+use Rattle.std.proofs.lemmas.Bool.{ne_eqb}
 use Rattle.std.proofs.lemmas.List.{length-map, length-take, take-map, get_or-map}
 use Rattle.domain_run.specs.declared.task.Task.{Task}
+use Rattle.domain_run.specs.Calls.{is_other}
 use Rattle.domain_run.specs.Parts.{is_listed}
+use Rattle.domain_run.specs.private.Index.{IsAt, IsAbsent}
 use Rattle.domain_run.specs.private.Timers.{due_of, AreLater}
 use Rattle.domain_run.proofs.Due.{still_at}
+use Rattle.domain_run.proofs.Jumping.{filter_whole}
 
 front_stays : {X : Type 0} (p : X → Bool) (xs : List X) (n : ℕ) → ((k : ℕ) (d : X) → k < n → k < length xs → p (get_or xs k d) ≡ true) → take n (filter p xs) ≡ take n xs
 front_stays p [] n each = refl
@@ -13,6 +17,11 @@ front_stays p (x ∷ xs) zero each = refl
 front_stays p (x ∷ xs) (suc n) each =
     ap (λ b. take (suc n) (cond b (x ∷ filter p xs) (filter p xs))) (each zero x (omega arith) (omega arith))
     ∙ ap (λ ys. x ∷ ys) (front_stays p xs n (λ k d before within. each (suc k) d (omega (arith, before)) (omega (arith, within))))
+
+front_many : {X : Type 0} (p : X → Bool) (xs : List X) (n : ℕ) → n ≤ length xs → take n (filter p xs) ≡ take n xs → n ≤ length (filter p xs)
+front_many p xs n within front =
+    let same = ap (λ ys. length ys) front in
+    omega (arith, within, same, length-take n xs, length-take n (filter p xs))
 
 -- those before the first that is due are listed, so they stay
 pub front_listed : (tasks : List Task) (n : ℕ) → AreLater (map due_of tasks) 0 0 n → take n (filter is_listed tasks) ≡ take n tasks
@@ -25,10 +34,24 @@ front_listed tasks n later = front_stays is_listed tasks n (λ k d before within
 
 -- as many are left
 pub front_long : (tasks : List Task) (n : ℕ) → n ≤ length tasks → AreLater (map due_of tasks) 0 0 n → n ≤ length (filter is_listed tasks)
-front_long tasks n within later =
-    let same = ap length (front_listed tasks n later) in
-    omega (arith, within, same, length-take n tasks, length-take n (filter is_listed tasks))
+front_long tasks n within later = front_many is_listed tasks n within (front_listed tasks n later)
 
 -- what is known of those before it
 pub front_known : (tasks : List Task) (n : ℕ) → AreLater (map due_of tasks) 0 0 n → take n (map due_of tasks) ≡ map due_of (take n (filter is_listed tasks))
 front_known tasks n later = take-map due_of n tasks ∙ ap (map due_of) (sym (front_listed tasks n later))
+
+-- those before the task of a number have other numbers, so they stay where that goes
+others_front : (tasks : List Task) (number p : ℕ) → AllPairs (λ a b. a.number ≢ b.number) tasks → IsAt tasks number p → take p (filter (is_other number) tasks) ≡ take p tasks
+others_front tasks number p numbered at = front_stays (is_other number) tasks p (λ k d before within. ap not (ne_eqb (get_or tasks k d).number number (λ e. numbered k p d before at.within (e ∙ sym (at.is d)))))
+
+pub others_long : (tasks : List Task) (number p : ℕ) → AllPairs (λ a b. a.number ≢ b.number) tasks → IsAt tasks number p → p ≤ length (filter (is_other number) tasks)
+others_long tasks number p numbered at =
+    let within : p < length tasks = at.within in
+    front_many (is_other number) tasks p (omega (arith, within)) (others_front tasks number p numbered at)
+
+pub others_known : (tasks : List Task) (number p : ℕ) → AllPairs (λ a b. a.number ≢ b.number) tasks → IsAt tasks number p → take p (map due_of tasks) ≡ map due_of (take p (filter (is_other number) tasks))
+others_known tasks number p numbered at = take-map due_of p tasks ∙ ap (map due_of) (sym (others_front tasks number p numbered at))
+
+-- where the number is not listed, all of them stay
+pub others_all : (tasks : List Task) (number : ℕ) → IsAbsent tasks number → filter (is_other number) tasks ≡ tasks
+others_all tasks number absent = filter_whole (is_other number) tasks (λ k d within. ap not (ne_eqb (get_or tasks k d).number number (absent k d within)))

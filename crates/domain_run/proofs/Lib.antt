@@ -50,6 +50,7 @@ pub mod SeatTimes
 pub mod Waiting
 pub mod Bare
 pub mod Turning
+pub mod Woken
 pub mod Seatings
 pub mod Later
 pub mod Doubting

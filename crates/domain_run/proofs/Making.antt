@@ -6,7 +6,8 @@ use Rattle.domain_run.specs.declared.change.Change.TheVariants.{Replenish, Settl
 use Rattle.domain_run.specs.declared.run_queue.RunQueue.{RunQueue}
 use Rattle.domain_run.specs.Parts.{replenish_due, settled, unblocked}
 use Rattle.domain_run.specs.private.RunQueue.{standing_of, IsCounted, MayTurn, HasTurned}
-use Rattle.domain_run.specs.private.Roster.{after_change, Fits, IsPart}
+use Rattle.domain_run.specs.private.Roster.{after_change, served, Fits, IsPart}
+use Rattle.domain_run.specs.private.Timers.{due_of}
 use Rattle.domain_run.proofs.Keeping.{same_replenished, same_settled, same_unblocked}
 use Rattle.domain_run.proofs.Counting.{IsFit, same_fit, home_at, ended_same, may_turn, turned}
 use Rattle.domain_run.proofs.Paying.{same_ran_until}
@@ -45,6 +46,9 @@ replenish_part time early = record { fits = λ cpus. tt; may = λ t. early; pass
 
 pub settle_part : (time : ℕ) → IsPart time Settle
 settle_part time = record { fits = λ cpus. tt; may = λ t. tt; passes = λ t h. rw (still_at time t h).lag refl }
+
+pub served_passes : (time : ℕ) (t : Task) → time < due_of t → served time t ≡ t
+served_passes time t h = rw (still_at time t h).due (rw (still_at time t h).lag refl)
 
 pub unblock_part : (time : ℕ) → time < 2 ^ 42 → IsPart time Unblock
 unblock_part time early = record { fits = λ cpus. tt; may = λ t. early; passes = λ t h. rw (still_at time t h).over refl }

@@ -131,6 +131,7 @@ fn all_home(told: &mut [Happened], places: &[Option<u32>], roster: &Roster)
 }
 
 // Each on the CPU where its task stands, if it stands on one, and in its order by those.
+#[inline(never)]
 fn all_home_in_order(told: &mut [Happened], places: &[Option<u32>], roster: &Roster)
     requires narrow { length places.now ≤ 64 }
     requires wide { length places.now ≡ roster.now.cpus }
@@ -250,6 +251,7 @@ impl Log {
 
     /// What was told from this place on is told on the CPUs where its tasks stand now, those that
     /// stand on one, and is put in its order by those.
+    #[inline(always)]
     pub(crate) fn go_home(&mut self, from: usize, places: &[Option<u32>], roster: &Roster)
         requires from { from ≤ length self.old.happened }
         requires narrow { length places.now ≤ 64 }

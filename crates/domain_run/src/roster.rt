@@ -5,7 +5,7 @@
 //! A task that sits is not charged tick by tick. What callers see is the list with each task charged
 //! up to now, whatever is still owed in it.
 
-ghost use Rattle.std.specs.Prelude.{◌≡◌, ◌≢◌, ◌==◌, ◌<◌, ◌≤◌, ◌^◌, ◌-◌, ◌&&◌, ◌++◌, ◌∷◌, [], not, min, All, AllPairs, IfOk, IfSome, IfNone, false, find, map, filter, length, option_map, None, replicate, slice_get, slice_index_or};
+ghost use Rattle.std.specs.Prelude.{◌≡◌, ◌≢◌, ◌==◌, ◌<◌, ◌≤◌, ◌^◌, ◌-◌, ◌&&◌, ◌++◌, ◌∷◌, [], not, min, All, AllPairs, IfOk, IfSome, IfNone, true, false, find, map, filter, length, option_map, None, replicate, slice_get, slice_index_or};
 ghost use Rattle.domain_run.specs.declared.task.Task.{Task};
 ghost use Rattle.domain_run.specs.Conditions.{is_ready, is_leaving};
 ghost use Rattle.domain_run.specs.Parts.{is_listed, with_last_cpu};
@@ -32,6 +32,7 @@ mod turning;
 use crate::change::Change;
 use crate::doubts::Doubts;
 use crate::index::Index;
+use crate::parts;
 use crate::run_queue::RunQueue;
 use crate::running::Running;
 use crate::seats::Seats;
@@ -133,6 +134,25 @@ impl Roster {
         ensures home { result.now.cpu < self.now.cpus }
     {
         &self.tasks[place]
+    }
+
+    /// The number of the task at a place, where it has left.
+    #[inline(always)]
+    pub(crate) fn left_at(&self, place: usize) -> Option<u32>
+        requires { place < length self.now.tasks }
+        ensures number { IfSome result
+            (λ n. (d : Task) → n ≡ (slice_index_or self.now.tasks place d).number) }
+        ensures left { IfSome result
+            (λ n. (d : Task) → is_listed (slice_index_or self.now.tasks place d) ≡ false) }
+        ensures stays { IfNone result
+            ((d : Task) → is_listed (slice_index_or self.now.tasks place d) ≡ true) }
+        ensures numbered { AllPairs (λ a b. a.number ≢ b.number) self.now.tasks }
+    {
+        let task = &self.tasks[place];
+        if parts::is_listed(task) {
+            return None;
+        }
+        Some(task.number)
     }
 
     /// The place of the task of a number, where it is listed.

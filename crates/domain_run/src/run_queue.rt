@@ -2,14 +2,15 @@
 //! ready ones in the order of the choice with who stands on each CPU, and when each is due. So a tick
 //! neither sums nor sorts, and looks at those alone that are due or have changed.
 
-ghost use Rattle.std.specs.Prelude.{◌≡◌, ◌≢◌, ◌<◌, ◌≤◌, [], None, length, replicate, All, IfOk, IfSome};
+ghost use Rattle.std.specs.Prelude.{◌≡◌, ◌≢◌, ◌<◌, ◌≤◌, ◌+◌, ◌-◌, ◌^◌, ◌∷◌, [], None, length, replicate, All, IfOk, IfSome};
 ghost use Rattle.edf_pick.specs.Schedule.{IsAtHome};
+ghost use Rattle.grub_rules.specs.Accounts.{Holds, Exchanges};
 ghost use Rattle.domain_run.specs.private.RunQueue as spec;
 
 use crate::standing::Standing;
 use crate::timers::Timers;
 use edf_pick::{Candidate, Schedule};
-use grub_rules::Accounts;
+use grub_rules::{Accounts, Share};
 use no_memory::NoMemory;
 use std::alloc::Global;
 
@@ -19,6 +20,20 @@ pub(crate) struct RunQueue {
     pub(crate) accounts: Accounts,
     pub(crate) schedule: Schedule,
     pub(crate) timers: Timers,
+}
+
+// The sums are told of a share that has changed. Mostly it has not, which a look tells.
+#[inline(always)]
+fn track(accounts: &mut Accounts, before: &Share, after: &Share)
+    requires held { Holds accounts.old before.now }
+    requires home { after.now.cpu < length accounts.old.all }
+    requires fits { accounts.old.total - before.now.bw + after.now.bw < 2 ^ 64 }
+    ensures { Exchanges accounts.old accounts.new (before.now ∷ []) (after.now ∷ []) }
+{
+    if before == after {
+        return;
+    }
+    accounts.track(before, after);
 }
 
 fn take_out(schedule: &mut Schedule, before: Option<Candidate>)
@@ -76,7 +91,7 @@ impl RunQueue {
         requires { spec.MayTurn place self.old before after }
         ensures { spec.HasTurned place before after self.old self.new }
     {
-        self.accounts.track(&before.share, &after.share);
+        track(&mut self.accounts, &before.share, &after.share);
         if before.ready != after.ready {
             replace(&mut self.schedule, before.ready, after.ready);
         }

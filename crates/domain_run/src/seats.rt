@@ -185,6 +185,7 @@ impl Seats {
     }
 
     /// A task sits on a CPU no more.
+    #[inline(always)]
     pub(crate) fn leave(&mut self, cpu: usize, number: u32)
         ensures { self.new ≡ record self.old { seats = spec.left cpu number self.old.seats } }
     {
@@ -204,6 +205,7 @@ impl Seats {
 
     /// The first CPU, from this one on, whose seat ends up to a time; where there is none, how many
     /// CPUs there are.
+    #[inline(always)]
     pub(crate) fn next_ended(&self, from: usize, time: u64) -> usize
         requires { from ≤ length self.now.seats }
         ensures from { from ≤ result }

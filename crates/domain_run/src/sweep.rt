@@ -4,6 +4,7 @@ ghost use Rattle.std.specs.Prelude.{IsTrue, ◌≡◌, ◌≢◌, ◌<◌, ◌�
 ghost use Rattle.std.specs.List.{flat_map};
 ghost use Rattle.domain_run.specs.declared.task.Task.{Task};
 ghost use Rattle.domain_run.specs.Calls.{of_number};
+ghost use Rattle.domain_run.specs.Happened.{told_by_replenishment};
 ghost use Rattle.domain_run.specs.Log.{HasRoom, Tells};
 ghost use Rattle.domain_run.specs.Parts as parts_spec;
 ghost use Rattle.edf_pick.specs.Places as places_spec;
@@ -12,7 +13,7 @@ ghost use Rattle.domain_run.specs.Switches as switches_spec;
 ghost use Rattle.domain_run.specs.Tick as tick_spec;
 ghost use Rattle.domain_run.specs.private.Paying.{MayPayIf, paid};
 ghost use Rattle.domain_run.specs.private.Choosing.{AreWithin, switch_of};
-ghost use Rattle.domain_run.specs.private.Roster.{after_change, IsPart, Fits, MayMake};
+ghost use Rattle.domain_run.specs.private.Roster.{after_change, served, IsPart, IsWoken, Fits, MayMake};
 ghost use Rattle.domain_run.specs.private.Timers.{IsStep};
 ghost use Rattle.domain_run.specs.private.Telling as telling_spec;
 
@@ -79,6 +80,48 @@ fn turn_number(roster: &mut Roster, number: u32, time: u64, change: &Change, log
     }
 }
 
+/// Parts 1 and 2 of the task at a place, one behind the other.
+#[inline(always)]
+fn serve(roster: &mut Roster, place: usize, time: u64, log: &mut Log)
+    requires there { place < length roster.old.tasks }
+    requires early { time < 2 ^ 42 }
+    requires narrow { roster.old.cpus ≤ 64 }
+    requires sound { All (IsSound time) roster.old.tasks }
+    requires room { HasRoom 6 log.old }
+    ensures cpus { roster.new.cpus ≡ roster.old.cpus }
+    ensures places { roster.new.places ≡ roster.old.places }
+    ensures step { IsStep (served time) place roster.old.tasks roster.new.tasks }
+    ensures sound { All (IsSound time) roster.new.tasks }
+    ensures told { (d : Task) → Tells log.old
+        (told_by_replenishment time (slice_index_or roster.old.tasks place d)) log.new }
+    ensures room { log.old.room ≤ log.new.room + 6 }
+{
+    turn(roster, place, time, &Change::Replenish, log);
+    turn(roster, place, time, &Change::Settle, log);
+}
+
+/// Parts 1 and 2, in one walk. It goes from one task that is due to the next.
+#[inline(always)]
+fn serve_due(roster: &mut Roster, time: u64, log: &mut Log)
+    requires early { time < 2 ^ 42 }
+    requires narrow { roster.old.cpus ≤ 64 }
+    requires sound { All (IsSound time) roster.old.tasks }
+    requires room { HasRoom (6 * length roster.old.tasks) log.old }
+    ensures cpus { roster.new.cpus ≡ roster.old.cpus }
+    ensures places { roster.new.places ≡ roster.old.places }
+    ensures tasks { roster.new.tasks ≡ map (served time) roster.old.tasks }
+    ensures sound { All (IsSound time) roster.new.tasks }
+    ensures told { Tells log.old
+        (flat_map (told_by_replenishment time) roster.old.tasks) log.new }
+    ensures room { log.old.room ≤ log.new.room + 6 * length roster.old.tasks }
+{
+    let mut place = roster.next_due(0, time);
+    while place < roster.len() {
+        serve(roster, place, time, log);
+        place = roster.next_due(place + 1, time);
+    }
+}
+
 /// One of parts 1 to 3. It goes from one task that is due to the next.
 #[inline(always)]
 fn turn_due(roster: &mut Roster, time: u64, change: &Change, log: &mut Log)
@@ -103,6 +146,65 @@ fn turn_due(roster: &mut Roster, time: u64, change: &Change, log: &mut Log)
     }
 }
 
+/// Parts 1 to 3, of which a log is told.
+fn wake_told(roster: &mut Roster, time: u64, log: &mut Log)
+    requires early { time < 2 ^ 42 }
+    requires narrow { roster.old.cpus ≤ 64 }
+    requires sound { All (IsSound time) roster.old.tasks }
+    requires room { HasRoom (9 * length roster.old.tasks) log.old }
+    ensures cpus { roster.new.cpus ≡ roster.old.cpus }
+    ensures places { roster.new.places ≡ roster.old.places }
+    ensures tasks { roster.new.tasks ≡ tick_spec.prepared time roster.old.tasks }
+    ensures sound { All (IsSound time) roster.new.tasks }
+    ensures told { Tells log.old (telling_spec.told_of_parts time roster.old.tasks) log.new }
+    ensures room { log.old.room ≤ log.new.room + 9 * length roster.old.tasks }
+{
+    serve_due(roster, time, log);
+    roster.drop_left();
+    turn_due(roster, time, &Change::Unblock, log);
+}
+
+/// Parts 1 to 3 of the task at a place, of which no log is told. Where it goes on then: behind the
+/// task, or there, where that has left.
+#[inline(always)]
+fn wake_at(roster: &mut Roster, place: usize, time: u64) -> usize
+    requires there { place < length roster.old.tasks }
+    requires few { place < 256 }
+    requires early { time < 2 ^ 42 }
+    requires sound { All (IsSound time) roster.old.tasks }
+    ensures cpus { roster.new.cpus ≡ roster.old.cpus }
+    ensures places { roster.new.places ≡ roster.old.places }
+    ensures woken { IsWoken time place roster.old.tasks roster.new.tasks result }
+    ensures sound { All (IsSound time) roster.new.tasks }
+{
+    roster.turn(place, time, &Change::Replenish);
+    roster.turn(place, time, &Change::Settle);
+    if let Some(number) = roster.left_at(place) {
+        roster.take_off(number, time);
+        return place;
+    }
+    roster.turn(place, time, &Change::Unblock);
+    place + 1
+}
+
+/// Parts 1 to 3, of which no log is told, in one walk. It goes from one task that is due to the
+/// next.
+#[inline(always)]
+fn wake_due(roster: &mut Roster, time: u64)
+    requires early { time < 2 ^ 42 }
+    requires sound { All (IsSound time) roster.old.tasks }
+    ensures cpus { roster.new.cpus ≡ roster.old.cpus }
+    ensures places { roster.new.places ≡ roster.old.places }
+    ensures tasks { roster.new.tasks ≡ tick_spec.prepared time roster.old.tasks }
+    ensures sound { All (IsSound time) roster.new.tasks }
+{
+    let mut place = roster.next_due(0, time);
+    while place < roster.len() {
+        let next = wake_at(roster, place, time);
+        place = roster.next_due(next, time);
+    }
+}
+
 /// Parts 1 to 3. Mostly no task is due, and then they have nothing to do.
 fn wake_all(roster: &mut Roster, time: u64, log: &mut Log)
     requires early { time < 2 ^ 42 }
@@ -119,10 +221,11 @@ fn wake_all(roster: &mut Roster, time: u64, log: &mut Log)
     if !roster.may_be_due(time) {
         return;
     }
-    turn_due(roster, time, &Change::Replenish, log);
-    turn_due(roster, time, &Change::Settle, log);
-    roster.drop_left();
-    turn_due(roster, time, &Change::Unblock, log);
+    if log.is_wanted() {
+        wake_told(roster, time, log);
+    } else {
+        wake_due(roster, time);
+    }
 }
 
 /// Part 5: the state in which an occupant leaves its CPU.

@@ -1,6 +1,6 @@
 -- The list of tasks with what is kept beside it, and what changes one task of it, for the code's
 -- own contracts.
-use Rattle.std.specs.Prelude.{ℕ, ℤ, pos, neg_ℤ, ◌*◌, ◌<◌, ◌≤◌, ◌^◌, ◌≤ℤ◌, ◌-ℤ◌, ◌≡◌, true, if◌then◌else◌, List, length, Option, Some, None, IsTrue}
+use Rattle.std.specs.Prelude.{ℕ, ℤ, pos, neg_ℤ, ◌*◌, ◌+◌, ◌<◌, ◌≤◌, ◌^◌, ◌≤ℤ◌, ◌-ℤ◌, ◌≡◌, true, if◌then◌else◌, All, List, [], ◌∷◌, ◌++◌, length, take, drop, slice_index_or, Option, Some, None, IsTrue}
 use Rattle.domain_run.specs.declared.task.Condition.TheVariants.{Leaving}
 use Rattle.domain_run.specs.declared.task.Task.{Task}
 use Rattle.domain_run.specs.declared.change.Change.{Change}
@@ -18,7 +18,7 @@ use Rattle.domain_run.specs.declared.seats.Basis.{Basis}
 use Rattle.domain_run.specs.declared.running.Running.{Running}
 use Rattle.grub_rules.specs.Sums.{uinact}
 use Rattle.grub_rules.specs.Rate as reclaiming
-use Rattle.domain_run.specs.Tick.{shares, sum_of}
+use Rattle.domain_run.specs.Tick.{shares, sum_of, prepared}
 use Rattle.domain_run.specs.declared.doubts.Doubts.{Doubts}
 use Rattle.domain_run.specs.private.Doubts.{AreSettled}
 use Rattle.domain_run.specs.private.Seats.{SeatsView}
@@ -112,6 +112,17 @@ pub record IsPart (time : ℕ) (change : Change) : Type 0 where
   pub fits : (cpus : ℕ) → Fits cpus change
   pub may : (t : Task) → MayMake time change t
   pub passes : (t : Task) → time < due_of t → after_change time change t ≡ t
+
+-- parts 1 and 2 of one task
+abbrev pub served : ℕ → Task → Task
+served time t = settled time (replenish_due time t)
+
+-- parts 1 to 3 of the task at a place, and the place behind what is left there: none, where it has
+-- left
+pub record IsWoken (time place : ℕ) (old new : List Task) (behind : ℕ) : Type 0 where
+  pub tasks : (d : Task) → new
+      ≡ take place old ++ (prepared time (slice_index_or old place d ∷ []) ++ drop (place + 1) old)
+  pub next : (d : Task) → behind ≡ place + length (prepared time (slice_index_or old place d ∷ []))
 
 -- the task that stands on a CPU, if one does, belongs to it
 abbrev pub homed_here : Option ℕ → ℕ → Task → Task

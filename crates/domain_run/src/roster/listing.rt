@@ -59,22 +59,23 @@ fn note_left(index: &mut Index, tasks: &[Task], from: usize) {
     }
 }
 
-// When each task of a list is due, where that is known of those before a place.
+// When each task of a list is due, where that is known of those before a place, and there were as
+// many before, or more. So a time that stays at its place costs nothing but a look.
 fn set_timers(timers: &mut Timers, tasks: &[Task], from: usize)
-    requires few { length tasks.now ≤ 256 }
-    requires within { from ≤ length timers.old }
+    requires fewer { length tasks.now ≤ length timers.old }
     requires there { from ≤ length tasks.now }
     requires known { take from timers.old ≡ map timers_spec.due_of (take from tasks.now) }
     ensures { timers.new ≡ map timers_spec.due_of tasks.now }
 {
-    timers.keep(from);
+    timers.keep(tasks.len());
     for place in from..tasks.len() {
-        timers.push(due_of(&tasks[place]));
+        timers.set(place, due_of(&tasks[place]));
     }
 }
 
-/// Tasks that have left go off the list. They are due at once, so those before the first that is
-/// due stay as they are, and cost nothing but a look. Whether one may have gone.
+/// Tasks that have left go off the list. They are due at once, so where none is, it costs nothing
+/// but a look. Whether one may have gone.
+#[inline(always)]
 pub(super) fn drop_left(tasks: &mut Vec<Task>, queue: &mut RunQueue, index: &mut Index) -> bool
     requires { IsCounted (length queue.old.accounts.all) queue.old tasks.old.items }
     ensures tasks { tasks.new.items ≡ filter parts_spec.is_listed tasks.old.items }
@@ -87,12 +88,25 @@ pub(super) fn drop_left(tasks: &mut Vec<Task>, queue: &mut RunQueue, index: &mut
     if !queue.timers.may_be_due(0) {
         return false;
     }
+    drop_due(tasks, queue, index);
+    true
+}
+
+// Tasks that have left go off the list. Those before the first that is due at once stay as they are.
+#[inline(never)]
+fn drop_due(tasks: &mut Vec<Task>, queue: &mut RunQueue, index: &mut Index)
+    requires { IsCounted (length queue.old.accounts.all) queue.old tasks.old.items }
+    ensures tasks { tasks.new.items ≡ filter parts_spec.is_listed tasks.old.items }
+    ensures counted { IsCounted (length queue.old.accounts.all) queue.new tasks.new.items }
+    ensures schedule { queue.new.schedule ≡ queue.old.schedule }
+    ensures few { vec_len tasks.new ≤ vec_len tasks.old }
+    ensures room { vec_capacity tasks.new ≡ vec_capacity tasks.old }
+{
     let first = queue.timers.next_due(0, 0);
     part_left(&mut queue.accounts, tasks);
     tasks.retain(|task| parts::is_listed(task));
     set_timers(&mut queue.timers, tasks, first);
     note_left(index, tasks, first);
-    true
 }
 
 // Whether a task has another number.
@@ -116,7 +130,7 @@ fn part_number(accounts: &mut Accounts, tasks: &[Task], number: u32)
     }
 }
 
-/// The task of a number, which is not ready, goes off the list.
+/// The task of a number, which is not ready, goes off the list. Those before it stay as they are.
 pub(super) fn drop_number(
     tasks: &mut Vec<Task>,
     queue: &mut RunQueue,
@@ -130,8 +144,11 @@ pub(super) fn drop_number(
     ensures schedule { queue.new.schedule ≡ queue.old.schedule }
     ensures room { vec_capacity tasks.new ≡ vec_capacity tasks.old }
 {
+    let Some(place) = index.place(tasks, number) else {
+        return;
+    };
     part_number(&mut queue.accounts, tasks, number);
     tasks.retain(|task| is_other(task, number));
-    set_timers(&mut queue.timers, tasks, 0);
-    note_left(index, tasks, 0);
+    set_timers(&mut queue.timers, tasks, place);
+    note_left(index, tasks, place);
 }
