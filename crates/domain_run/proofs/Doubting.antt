@@ -1,6 +1,6 @@
 -- Which CPUs are in doubt: on the others who stands sits rightly.
 use Rattle.std.proofs.Common.{◌≡◌, ◌≢◌, ℕ, zero, suc, ◌+◌, ◌-◌, ◌<◌, ◌≤◌, Bool, true, false, cond, eqb, eq-eqb, ◌&&◌, ◌++◌, Option, Some, None, List, [], ◌∷◌, length, map, get_or, set, refl, sym, ap, ◌∙◌, subst, arith, inl, inr}
-use Rattle.std.specs.Prelude.{All, IsTrue, is_none, filter, sum_by}
+use Rattle.std.specs.Prelude.{◌⊎◌, IfSome, All, IsTrue, is_none, filter, sum_by}
 use Rattle.std.specs.Int.{bit_at}
 use Rattle.std.proofs.lemmas.Bool.{cases_eq, cases_lt, ne_eqb}
 use Rattle.std.proofs.lemmas.Nat.Bits.{bit_at-lt}
@@ -18,7 +18,7 @@ use Rattle.domain_run.specs.declared.task.Task.{Task}
 use Rattle.domain_run.specs.Parts.{with_cpu}
 use Rattle.domain_run.specs.Sound.{occupant}
 use Rattle.domain_run.specs.Tick.{share_of, shares, sum_of}
-use Rattle.domain_run.specs.private.Doubts.{IsSettled, noted_basis, AreSettled, IsMarked}
+use Rattle.domain_run.specs.private.Doubts.{IsSettled, IsFree, noted_basis, AreSettled, IsMarked}
 use Rattle.domain_run.specs.private.Roster.{rate_in, basis_in, IsSeated}
 use Rattle.domain_run.specs.private.Seats.{SeatsView, seat_by, left_if, left}
 use Rattle.domain_run.specs.private.Timers.{IsStep}
@@ -133,15 +133,33 @@ start_marked a b cpu s after tasks p x y h read is are view one two bare =
 -- ---- WHO IS SETTLED
 
 pub settled_again : (d e : Doubts) (w : ℕ) (places now : Places) (seats after : List (Option Seat)) (tasks then : List Task)
-    → e.sum ≡ d.sum → e.limit ≡ d.limit → IsMarked d.cpus e.cpus seats after tasks then
+    → e.rated ≡ d.rated → e.sum ≡ d.sum → e.limit ≡ d.limit → IsMarked d.cpus e.cpus seats after tasks then
     → ((cpu : ℕ) → cpu < 64 → bit_at e.cpus cpu ≡ 0 → occupant now cpu ≡ occupant places cpu)
     → AreSettled d w places seats tasks → AreSettled e w now after then
-settled_again d e w places now seats after tasks then sum limit marks same are cpu few bare =
+settled_again d e w places now seats after tasks then rated sum limit marks same are cpu few bare =
     let was = are cpu few (marks.bare cpu bare) in
-    let basis : noted_basis d w tasks cpu ≡ noted_basis e w then cpu = λ i. record { uinact = (sym (marks.sums cpu few bare)) i; sum = (sym sum) i; cpus = w; limit = (sym limit) i } in
-    subst (λ o. IsSettled o (noted_basis e w then cpu) (get_or after cpu None)) (sym (same cpu few bare))
-    (subst (λ o. IsSettled (occupant places cpu) (noted_basis e w then cpu) o) (sym (marks.seats cpu few bare))
-    (subst (λ (b : Basis). IsSettled (occupant places cpu) b (get_or seats cpu None)) basis was))
+    let seat = sym (marks.seats cpu few bare) in
+    let basis : noted_basis d w tasks cpu ≡ noted_basis e w then cpu = λ i. record { uinact = (sym (marks.sums cpu few bare)) i; sum = (sym sum) i; cpus = w; limit = (sym limit) i } in (
+      subst (λ o. IsSettled o (noted_basis e w then cpu) (get_or after cpu None)) (sym (same cpu few bare))
+      (subst (IsSettled (occupant places cpu) (noted_basis e w then cpu)) seat
+      (subst (λ (b : Basis). IsSettled (occupant places cpu) b (get_or seats cpu None)) basis was.0)),
+      subst (IsFree (bit_at e.rated cpu)) seat (subst (λ (n : ℕ). IsFree (bit_at n cpu) (get_or seats cpu None)) (sym rated) was.1),
+    )
+
+-- a seat that keeps nothing is right on each basis
+free_settled : (o : Option ℕ) (a b : Basis) (x : Option Seat) → IsSettled o a x → IfSome x (λ s. s.basis ≡ None) → IsSettled o b x
+free_settled None a b x is free = is
+free_settled (Some n) a b None is free = absurd is
+free_settled (Some n) a b (Some s) is free = (is.0, subst (λ k. IfSome k (λ x. x ≡ b)) (sym free) tt)
+
+-- where those are in doubt whose seats keep something, neither the tasks nor the sums matter
+pub rated_settled : (d e : Doubts) (w v : ℕ) (places : Places) (seats : List (Option Seat)) (tasks then : List Task)
+    → ((i : ℕ) → bit_at e.cpus i ≡ 0 → bit_at d.cpus i ≡ 0) → ((i : ℕ) → bit_at e.cpus i ≡ 0 → bit_at d.rated i ≡ 0) → e.rated ≡ d.rated
+    → AreSettled d w places seats tasks → AreSettled e v places seats then
+rated_settled d e w v places seats tasks then bare free rated are cpu few none =
+    let was = are cpu few (bare cpu none) in
+    let nothing = was.1 (free cpu none) in
+    (free_settled (occupant places cpu) (noted_basis d w tasks cpu) (noted_basis e v then cpu) (get_or seats cpu None) was.0 nothing, λ z. nothing)
 
 pub none_is : (o : Option Seat) → IsTrue (is_none o) → o ≡ None
 none_is None is = refl
@@ -180,25 +198,43 @@ noted_same d e w tasks cpu sum limit = λ i. record { uinact = uinact cpu (share
 pub noted_now : (d : Doubts) (w limit : ℕ) (tasks : List Task) (cpu : ℕ) → d.sum ≡ sum_of tasks → d.limit ≡ limit → noted_basis d w tasks cpu ≡ basis_in w limit tasks cpu
 noted_now d w limit tasks cpu sum lim = λ i. record { uinact = uinact cpu (shares tasks); sum = sum i; cpus = w; limit = lim i }
 
--- another sum or another limit is noted, and then each CPU is marked
+-- another sum or another limit is noted, and then those are marked whose seats keep something
 pub renew_settled : (d e : Doubts) (w : ℕ) (places : Places) (seats : List (Option Seat)) (tasks : List Task) (sum limit : ℕ)
-    → ((i : ℕ) → i < 64 → bit_at e.cpus i ≡ 0 → (bit_at d.cpus i ≡ 0) × (d.sum ≡ sum) × (d.limit ≡ limit)) → e.sum ≡ sum → e.limit ≡ limit
+    → ((i : ℕ) → bit_at e.cpus i ≡ 0 → bit_at d.cpus i ≡ 0) → ((i : ℕ) → bit_at e.cpus i ≡ 0 → (bit_at d.rated i ≡ 0) ⊎ ((d.sum ≡ sum) × (d.limit ≡ limit)))
+    → e.rated ≡ d.rated → e.sum ≡ sum → e.limit ≡ limit
     → AreSettled d w places seats tasks → AreSettled e w places seats tasks
-renew_settled d e w places seats tasks sum limit bare sum_is limit_is are cpu few none =
-    let b = bare cpu few none in
-    subst (λ (x : Basis). IsSettled (occupant places cpu) x (get_or seats cpu None)) (noted_same d e w tasks cpu (sum_is ∙ sym b.1) (limit_is ∙ sym b.2)) (are cpu few b.0)
+renew_settled d e w places seats tasks sum limit bare free rated sum_is limit_is are cpu few none =
+    let was = are cpu few (bare cpu none) in (
+      elim (free cpu none) [
+        | inl nothing ↦ free_settled (occupant places cpu) (noted_basis d w tasks cpu) (noted_basis e w tasks cpu) (get_or seats cpu None) was.0 (was.1 nothing)
+        | inr same ↦ subst (λ (x : Basis). IsSettled (occupant places cpu) x (get_or seats cpu None)) (noted_same d e w tasks cpu (sum_is ∙ sym same.0) (limit_is ∙ sym same.1)) was.0
+      ],
+      subst (λ (n : ℕ). IsFree (bit_at n cpu) (get_or seats cpu None)) (sym rated) was.1,
+    )
 
 -- one CPU is in doubt no more
-pub trust_settled : (d e : Doubts) (w limit cpu : ℕ) (places : Places) (seats : List (Option Seat)) (tasks : List Task)
-    → ((i : ℕ) → i ≢ cpu → bit_at e.cpus i ≡ bit_at d.cpus i) → e.sum ≡ d.sum → e.limit ≡ d.limit → d.sum ≡ sum_of tasks → d.limit ≡ limit
+pub trust_settled : (d e : Doubts) (w limit cpu : ℕ) (places : Places) (seats : List (Option Seat)) (tasks : List Task) (is_rated : Bool)
+    → ((i : ℕ) → i ≢ cpu → bit_at e.cpus i ≡ bit_at d.cpus i) → ((i : ℕ) → i ≢ cpu → bit_at e.rated i ≡ bit_at d.rated i)
+    → (IsTrue is_rated → bit_at e.rated cpu ≡ 1) → (is_rated ≡ false → IfSome (get_or seats cpu None) (λ s. s.basis ≡ None))
+    → e.sum ≡ d.sum → e.limit ≡ d.limit → d.sum ≡ sum_of tasks → d.limit ≡ limit
     → IsSettled (occupant places cpu) (basis_in w limit tasks cpu) (get_or seats cpu None)
     → AreSettled d w places seats tasks → AreSettled e w places seats tasks
-trust_settled d e w limit cpu places seats tasks others sum limit_same sum_is limit_is here are i few bare = elim (cases_eq i cpu) [
+trust_settled d e w limit cpu places seats tasks is_rated others elsewhere marked free sum limit_same sum_is limit_is here are i few bare = elim (cases_eq i cpu) [
   | inl same ↦
-      subst (λ (n : ℕ). IsSettled (occupant places n) (noted_basis e w tasks n) (get_or seats n None)) (sym same)
-      (subst (λ (x : Basis). IsSettled (occupant places cpu) x (get_or seats cpu None)) (sym (noted_now e w limit tasks cpu (sum ∙ sum_is) (limit_same ∙ limit_is))) here)
-  | inr other ↦ subst (λ (x : Basis). IsSettled (occupant places i) x (get_or seats i None)) (noted_same d e w tasks i sum limit_same) (are i few (sym (others i other) ∙ bare))
+      subst (λ (n : ℕ). IsSettled (occupant places n) (noted_basis e w tasks n) (get_or seats n None) × IsFree (bit_at e.rated n) (get_or seats n None)) (sym same) (
+        subst (λ (x : Basis). IsSettled (occupant places cpu) x (get_or seats cpu None)) (sym (noted_now e w limit tasks cpu (sum ∙ sum_is) (limit_same ∙ limit_is))) here,
+        λ none. by_rate is_rated refl none,
+      )
+  | inr other ↦
+      let was = are i few (sym (others i other) ∙ bare) in (
+        subst (λ (x : Basis). IsSettled (occupant places i) x (get_or seats i None)) (noted_same d e w tasks i sum limit_same) was.0,
+        subst (λ (n : ℕ). IsFree n (get_or seats i None)) (sym (elsewhere i other)) was.1,
+      )
 ]
+  where
+    by_rate : (b : Bool) → is_rated ≡ b → bit_at e.rated cpu ≡ 0 → IfSome (get_or seats cpu None) (λ s. s.basis ≡ None)
+    by_rate true same none = let one = marked same in absurd (omega (arith, one, none))
+    by_rate false same none = free same
 
 -- the tasks of the CPUs that are not in doubt sit rightly
 pub seated_all : (d : Doubts) (w limit : ℕ) (places : Places) (s : SeatsView) (items : List Task) → w ≤ 64 → d.sum ≡ sum_of (owed_all s items) → d.limit ≡ limit
@@ -209,7 +245,7 @@ seated_all d w limit places s items narrow sum limit_is homes waits are k x h ba
     let cpu : ℕ = (get_or tasks k x).cpu in
     let few : cpu < 64 = let home = homes k x h in omega (arith, home, narrow) in
     let here : IsSettled (occupant places cpu) (basis_in w limit tasks cpu) (get_or s.seats cpu None) =
-    subst (λ (b : Basis). IsSettled (occupant places cpu) b (get_or s.seats cpu None)) (noted_now d w limit tasks cpu sum limit_is) (are cpu few bare) in
+    subst (λ (b : Basis). IsSettled (occupant places cpu) b (get_or s.seats cpu None)) (noted_now d w limit tasks cpu sum limit_is) (are cpu few bare).0 in
     settled_right w limit s.upto cpu (occupant places cpu) s.seats items here waits k x h refl
 
 -- ---- WHO STANDS on a CPU that no choice has given away
@@ -266,25 +302,25 @@ marked_clock a s v items same = record {
 }
 
 pub clock_settled : (d : Doubts) (w : ℕ) (places : Places) (s v : SeatsView) (items : List Task) → v.seats ≡ s.seats → AreSettled d w places s.seats (owed_all s items) → AreSettled d w places v.seats (owed_all v items)
-clock_settled d w places s v items same are = settled_again d d w places places s.seats v.seats (owed_all s items) (owed_all v items) refl refl (marked_clock d.cpus s v items same) (λ i h e. refl) are
+clock_settled d w places s v items same are = settled_again d d w places places s.seats v.seats (owed_all s items) (owed_all v items) refl refl refl (marked_clock d.cpus s v items same) (λ i h e. refl) are
 
 -- another seat for a CPU, which is marked
 pub set_settled : (d e : Doubts) (w : ℕ) (places : Places) (s v : SeatsView) (items after : List Task) (cpu : ℕ) (o : Option Seat) → v ≡ record s { seats = set s.seats cpu o } → owed_all v after ≡ owed_all s items
-    → (cpu < 64 → bit_at e.cpus cpu ≡ 1) → ((i : ℕ) → bit_at e.cpus i ≡ 0 → bit_at d.cpus i ≡ 0) → e.sum ≡ d.sum → e.limit ≡ d.limit
+    → (cpu < 64 → bit_at e.cpus cpu ≡ 1) → ((i : ℕ) → bit_at e.cpus i ≡ 0 → bit_at d.cpus i ≡ 0) → e.rated ≡ d.rated → e.sum ≡ d.sum → e.limit ≡ d.limit
     → AreSettled d w places s.seats (owed_all s items) → AreSettled e w places v.seats (owed_all v after)
-set_settled d e w places s v items after cpu o is same marked bare sum limit are =
+set_settled d e w places s v items after cpu o is same marked bare rated sum limit are =
     subst (λ (x : SeatsView). AreSettled e w places x.seats (owed_all v after)) (sym is)
-    (settled_again d e w places places s.seats (set s.seats cpu o) (owed_all s items) (owed_all v after) sum limit
+    (settled_again d e w places places s.seats (set s.seats cpu o) (owed_all s items) (owed_all v after) rated sum limit
     (marked_set d.cpus e.cpus cpu o s.seats (owed_all s items) (owed_all v after) marked bare same) (λ i h q. refl) are)
 
 -- one task more
 pub push_settled : (d e : Doubts) (w : ℕ) (places : Places) (s v : SeatsView) (items after : List Task) (t : Task) → v ≡ record s { seats = left t.cpu t.number s.seats } → owed_all v after ≡ owed_all s items ++ t ∷ []
-    → (t.cpu < 64 → bit_at e.cpus t.cpu ≡ 1) → ((i : ℕ) → bit_at e.cpus i ≡ 0 → bit_at d.cpus i ≡ 0) → e.sum ≡ d.sum → e.limit ≡ d.limit
+    → (t.cpu < 64 → bit_at e.cpus t.cpu ≡ 1) → ((i : ℕ) → bit_at e.cpus i ≡ 0 → bit_at d.cpus i ≡ 0) → e.rated ≡ d.rated → e.sum ≡ d.sum → e.limit ≡ d.limit
     → AreSettled d w places s.seats (owed_all s items) → AreSettled e w places v.seats (owed_all v after)
-push_settled d e w places s v items after t is more marked bare sum limit are =
+push_settled d e w places s v items after t is more marked bare rated sum limit are =
     subst (λ (x : SeatsView). AreSettled e w places x.seats (owed_all v after)) (sym is)
     (subst (AreSettled e w places (left t.cpu t.number s.seats)) (sym more)
-    (settled_again d e w places places s.seats (left t.cpu t.number s.seats) (owed_all s items) (owed_all s items ++ t ∷ []) sum limit
+    (settled_again d e w places places s.seats (left t.cpu t.number s.seats) (owed_all s items) (owed_all s items ++ t ∷ []) rated sum limit
     (record {
       bare = bare;
       seats = λ i h q. left_elsewhere t.cpu t.number i s.seats (apart e.cpus t.cpu i marked h q);
@@ -295,9 +331,9 @@ push_settled d e w places s v items after t is more marked bare sum limit are =
 -- a task at a place of the list has changed, and has no seat on its CPU
 pub turn_settled : (d e : Doubts) (w : ℕ) (places : Places) (seats after : List (Option Seat)) (tasks now : List Task) (p cpu : ℕ) (f : Task → Task) (x : Task) → p < length tasks → x ≡ get_or tasks p x → x.cpu ≡ cpu → (f x).cpu ≡ x.cpu
     → IsStep f p tasks now → ((t : Task) → after ≡ left_of (get_or now p t) (left_of (get_or tasks p t) seats))
-    → (cpu < 64 → bit_at e.cpus cpu ≡ 1) → ((i : ℕ) → bit_at e.cpus i ≡ 0 → bit_at d.cpus i ≡ 0) → e.sum ≡ d.sum → e.limit ≡ d.limit
+    → (cpu < 64 → bit_at e.cpus cpu ≡ 1) → ((i : ℕ) → bit_at e.cpus i ≡ 0 → bit_at d.cpus i ≡ 0) → e.rated ≡ d.rated → e.sum ≡ d.sum → e.limit ≡ d.limit
     → AreSettled d w places seats tasks → AreSettled e w places after now
-turn_settled d e w places seats after tasks now p cpu f x h read home stays step left_are marked bare sum limit are =
+turn_settled d e w places seats after tasks now p cpu f x h read home stays step left_are marked bare rated sum limit are =
     let y = f x in
     let now_is : now ≡ set tasks p y = step.is x ∙ ap (λ (t : Task). set tasks p (f t)) (sym read) in
     let many : length now ≡ length tasks = ap (λ (ts : List Task). length ts) now_is ∙ length-set tasks p y in
@@ -305,7 +341,7 @@ turn_settled d e w places seats after tasks now p cpu f x h read home stays step
     let seats_are : after ≡ left y.cpu y.number (left x.cpu x.number seats) = left_are x ∙ (λ i. left_of (there i) (left_of ((sym read) i) seats)) in
     subst (λ (xs : List (Option Seat)). AreSettled e w places xs now) (sym seats_are)
     (subst (AreSettled e w places (left y.cpu y.number (left x.cpu x.number seats))) (sym now_is)
-    (settled_again d e w places places seats (left y.cpu y.number (left x.cpu x.number seats)) tasks (set tasks p y) sum limit
+    (settled_again d e w places places seats (left y.cpu y.number (left x.cpu x.number seats)) tasks (set tasks p y) rated sum limit
     (marked_at d.cpus e.cpus x.cpu y.cpu y.number x.number seats tasks p x y h read refl refl
     (subst (λ (c : ℕ). c < 64 → bit_at e.cpus c ≡ 1) (sym home) marked)
     (subst (λ (c : ℕ). c < 64 → bit_at e.cpus c ≡ 1) (sym (stays ∙ home)) marked) bare)

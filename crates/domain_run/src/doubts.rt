@@ -1,10 +1,10 @@
 //! Which CPUs have seats that are known to be right. What happens touches few CPUs, so a leap looks at
 //! those alone.
 
-ghost use Rattle.std.specs.Prelude.{ℕ, ◌≡◌, ◌≢◌, ◌<◌, ◌≤◌, IsTrue};
+ghost use Rattle.std.specs.Prelude.{ℕ, ◌≡◌, ◌≢◌, ◌⊎◌, ◌<◌, ◌≤◌, IsTrue};
 ghost use Rattle.std.specs.Int.{bit_at};
 
-use edf_pick::marks::{with, without};
+use edf_pick::marks::{both, with, without};
 
 /// Which CPUs are in doubt: who stands there may not sit there rightly. The others are right for a sum
 /// of bandwidth and a limit, which are noted.
@@ -12,6 +12,9 @@ use edf_pick::marks::{with, without};
 pub(crate) struct Doubts {
     /// A word with a mark for each CPU that is in doubt.
     pub(crate) cpus: u64,
+    /// A word with a mark for each other CPU whose seat keeps what its rate was worked out from. On
+    /// those without a mark the rate is right for each sum and limit.
+    pub(crate) rated: u64,
     /// The bandwidth of all listed tasks, in 1/2^20 of a CPU.
     pub(crate) sum: u64,
     /// In 1/2^20 of a CPU.
@@ -38,18 +41,21 @@ impl Doubts {
     {
         Doubts {
             cpus: u64::MAX,
+            rated: 0,
             sum: 0,
             limit: 0,
         }
     }
 
-    /// Each CPU is in doubt again.
-    pub(crate) fn mark_all(&mut self)
-        ensures marked { (i : ℕ) → i < 64 → bit_at self.new.cpus i ≡ 1 }
+    /// Each CPU whose seat keeps what its rate was worked out from is in doubt again.
+    pub(crate) fn mark_rated(&mut self)
+        ensures bare { (i : ℕ) → bit_at self.new.cpus i ≡ 0 → bit_at self.old.cpus i ≡ 0 }
+        ensures free { (i : ℕ) → bit_at self.new.cpus i ≡ 0 → bit_at self.old.rated i ≡ 0 }
+        ensures rated { self.new.rated ≡ self.old.rated }
         ensures sum { self.new.sum ≡ self.old.sum }
         ensures limit { self.new.limit ≡ self.old.limit }
     {
-        self.cpus = u64::MAX;
+        self.cpus = both(self.cpus, self.rated);
     }
 
     /// A CPU is in doubt; one that no domain has is not marked.
@@ -58,6 +64,7 @@ impl Doubts {
         ensures marked { cpu < 64 → bit_at self.new.cpus cpu ≡ 1 }
         ensures others { (i : ℕ) → i ≢ cpu → bit_at self.new.cpus i ≡ bit_at self.old.cpus i }
         ensures bare { (i : ℕ) → bit_at self.new.cpus i ≡ 0 → bit_at self.old.cpus i ≡ 0 }
+        ensures rated { self.new.rated ≡ self.old.rated }
         ensures sum { self.new.sum ≡ self.old.sum }
         ensures limit { self.new.limit ≡ self.old.limit }
     {
@@ -66,15 +73,22 @@ impl Doubts {
         }
     }
 
-    /// A CPU is in doubt no more.
+    /// A CPU is in doubt no more. Its seat may keep what its rate was worked out from, or does not.
     #[inline(always)]
-    pub(crate) fn clear(&mut self, cpu: usize)
+    pub(crate) fn clear(&mut self, cpu: usize, is_rated: bool)
         requires { cpu < 64 }
         ensures others { (i : ℕ) → i ≢ cpu → bit_at self.new.cpus i ≡ bit_at self.old.cpus i }
+        ensures elsewhere { (i : ℕ) → i ≢ cpu → bit_at self.new.rated i ≡ bit_at self.old.rated i }
+        ensures here { IsTrue is_rated → bit_at self.new.rated cpu ≡ 1 }
         ensures sum { self.new.sum ≡ self.old.sum }
         ensures limit { self.new.limit ≡ self.old.limit }
     {
         self.cpus = without(self.cpus, cpu);
+        self.rated = if is_rated {
+            with(self.rated, cpu)
+        } else {
+            without(self.rated, cpu)
+        };
     }
 
     /// Whether this sum and this limit are noted.
@@ -85,16 +99,19 @@ impl Doubts {
         self.sum == sum && self.limit == limit
     }
 
-    /// Another sum or another limit is noted: then each CPU is in doubt.
+    /// Another sum or another limit is noted: then each CPU whose seat keeps what its rate was worked
+    /// out from is in doubt.
     #[inline(always)]
     pub(crate) fn renew(&mut self, sum: u64, limit: u64)
-        ensures bare { (i : ℕ) → i < 64 → bit_at self.new.cpus i ≡ 0
-            → (bit_at self.old.cpus i ≡ 0) × (self.old.sum ≡ sum) × (self.old.limit ≡ limit) }
+        ensures bare { (i : ℕ) → bit_at self.new.cpus i ≡ 0 → bit_at self.old.cpus i ≡ 0 }
+        ensures free { (i : ℕ) → bit_at self.new.cpus i ≡ 0
+            → (bit_at self.old.rated i ≡ 0) ⊎ ((self.old.sum ≡ sum) × (self.old.limit ≡ limit)) }
+        ensures rated { self.new.rated ≡ self.old.rated }
         ensures sum { self.new.sum ≡ sum }
         ensures limit { self.new.limit ≡ limit }
     {
         if !self.is_for(sum, limit) {
-            self.cpus = u64::MAX;
+            self.mark_rated();
             self.sum = sum;
             self.limit = limit;
         }

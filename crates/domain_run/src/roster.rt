@@ -382,7 +382,7 @@ impl Roster {
         ensures tasks { self.new.tasks ≡ filter is_listed self.old.tasks }
     {
         if listing::drop_left(&mut self.tasks, &mut self.queue, &mut self.index) {
-            self.doubts.mark_all();
+            self.doubts.mark_rated();
         }
     }
 
@@ -395,6 +395,6 @@ impl Roster {
     {
         self.turn_number(number, time, &Change::Depart);
         listing::drop_number(&mut self.tasks, &mut self.queue, &mut self.index, number);
-        self.doubts.mark_all();
+        self.doubts.mark_rated();
     }
 }

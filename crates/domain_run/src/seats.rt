@@ -2,7 +2,7 @@
 //! seat tells since when it has not been charged and at which rate it runs, so that time goes on for
 //! all of them at once.
 
-ghost use Rattle.std.specs.Prelude.{ℕ, IsTrue, is_none, ◌≡◌, ◌<◌, ◌≤◌, ◌+◌, ◌^◌, All, IfOk, IfSome, None, length, map, replicate, slice_index_or, slice_set, vec_capacity};
+ghost use Rattle.std.specs.Prelude.{ℕ, false, IsTrue, is_none, ◌≡◌, ◌<◌, ◌≤◌, ◌+◌, ◌^◌, All, IfOk, IfSome, None, length, map, replicate, slice_index_or, slice_set, vec_capacity};
 ghost use Rattle.domain_run.specs.private.Seats as spec;
 ghost use Rattle.domain_run.specs.private.Timers.{AreLater, least};
 
@@ -159,6 +159,19 @@ impl Seats {
         ensures { result ≡ is_none (slice_index_or self.now.seats cpu None) }
     {
         self.seats[cpu].is_none()
+    }
+
+    /// Whether somebody sits on a CPU whose seat keeps what its rate was worked out from.
+    #[inline(always)]
+    pub(crate) fn is_rated(&self, cpu: usize) -> bool
+        requires { cpu < length self.now.seats }
+        ensures { result ≡ false
+            → IfSome (slice_index_or self.now.seats cpu None) (λ s. s.basis ≡ None) }
+    {
+        match self.seats[cpu] {
+            None => false,
+            Some(seat) => seat.basis.is_some(),
+        }
     }
 
     /// The seat of a task on a CPU, where it sits there.

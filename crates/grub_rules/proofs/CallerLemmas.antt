@@ -129,6 +129,11 @@ pub joined_last : {X : Type 0} (share : X → Share) (old new : AccountsView) (i
 joined_last share old new items y home change was =
     subst (AreAccounts new) (sym (map-append share items (y ∷ []))) (joined old new (share y) (map share items) [] change home (subst (AreAccounts old) (sym (append-nil (map share items))) was))
 
+-- A TASK AT A PLACE that goes off the list
+pub parted_at : {X : Type 0} (share : X → Share) (old new : AccountsView) (items : List X) (i : ℕ) (d : X) → i < length items → Exchanges old new (share (get_or items i d) ∷ []) [] → AreAccounts old (map share items) → AreAccounts new (map share (take i items ++ drop (i + 1) items))
+parted_at share old new items i d h change was =
+    subst (AreAccounts new) (sym (map-append share (take i items) (drop (i + 1) items))) (parted old new (share (get_or items i d)) (map share (take i items)) (map share (drop (i + 1) items)) change (subst (AreAccounts old) (shares_at share items i d h) was))
+
 -- A LOOP THAT PARTS WITH TASKS, before `retain` takes them off the list: of those that it has passed the sums count the ones
 -- that stay, and of the others all
 abbrev pub still_counted : {X : Type 0} → (X → Share) → (X → Bool) → List X → ℕ → List Share

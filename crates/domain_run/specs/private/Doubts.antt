@@ -25,11 +25,16 @@ noted_basis d cpus tasks cpu = record {
   limit = d.limit;
 }
 
+-- without a mark a seat keeps nothing of what its rate was worked out from
+abbrev pub IsFree : ℕ → Option Seat → Type 0
+IsFree mark o = mark ≡ 0 → IfSome o (λ s. s.basis ≡ None)
+
 -- so it is on each CPU that is not in doubt
 abbrev pub AreSettled : Doubts → ℕ → Places → List (Option Seat) → List Task → Type 0
 AreSettled d cpus places seats tasks =
     (cpu : ℕ) → cpu < 64 → bit_at d.cpus cpu ≡ 0
     → IsSettled (occupant places cpu) (noted_basis d cpus tasks cpu) (slice_index_or seats cpu None)
+    × IsFree (bit_at d.rated cpu) (slice_index_or seats cpu None)
 
 -- a word of marks has none that the one before did not have bare, and on a CPU without one neither
 -- the seat nor the inactive bandwidth has changed

@@ -96,6 +96,7 @@ fn home_on(
     ensures marked { IsMarked doubts.old.cpus doubts.new.cpus seats.old.seats seats.new.seats
         (waiting.owed_all seats.old tasks.old.items) (waiting.owed_all seats.new tasks.new.items) }
     ensures here { cpu < 64 → bit_at doubts.new.cpus cpu ≡ 1 }
+    ensures rated { doubts.new.rated ≡ doubts.old.rated }
     ensures sum { doubts.new.sum ≡ doubts.old.sum }
     ensures limit { doubts.new.limit ≡ doubts.old.limit }
     ensures room { vec_capacity tasks.new ≡ vec_capacity tasks.old }
@@ -136,6 +137,7 @@ pub(super) fn home_all(
     ensures marked { IsMarked doubts.old.cpus doubts.new.cpus seats.old.seats seats.new.seats
         (waiting.owed_all seats.old tasks.old.items) (waiting.owed_all seats.new tasks.new.items) }
     ensures moved { All (λ m. m.cpu < 64 → bit_at doubts.new.cpus m.cpu ≡ 1) schedule.now.moves }
+    ensures rated { doubts.new.rated ≡ doubts.old.rated }
     ensures sum { doubts.new.sum ≡ doubts.old.sum }
     ensures limit { doubts.new.limit ≡ doubts.old.limit }
     ensures room { vec_capacity tasks.new ≡ vec_capacity tasks.old }

@@ -109,27 +109,6 @@ fn drop_due(tasks: &mut Vec<Task>, queue: &mut RunQueue, index: &mut Index)
     note_left(index, tasks, first);
 }
 
-// Whether a task has another number.
-fn is_other(task: &Task, number: u32) -> bool
-    ensures { result ≡ is_other number task.now }
-{
-    task.number != number
-}
-
-// The bandwidth of the task of a number goes back.
-fn part_number(accounts: &mut Accounts, tasks: &[Task], number: u32)
-    requires { AreAccounts accounts.old (tick_spec.shares tasks.now) }
-    ensures sums { AreAccounts accounts.new
-        (tick_spec.shares (filter (is_other number) tasks.now)) }
-    ensures wide { length accounts.new.all ≡ length accounts.old.all }
-{
-    for task in tasks {
-        if !is_other(task, number) {
-            accounts.part(&share_of(task));
-        }
-    }
-}
-
 /// The task of a number, which is not ready, goes off the list. Those before it stay as they are.
 pub(super) fn drop_number(
     tasks: &mut Vec<Task>,
@@ -147,8 +126,8 @@ pub(super) fn drop_number(
     let Some(place) = index.place(tasks, number) else {
         return;
     };
-    part_number(&mut queue.accounts, tasks, number);
-    tasks.retain(|task| is_other(task, number));
+    queue.accounts.part(&share_of(&tasks[place]));
+    tasks.remove(place);
     set_timers(&mut queue.timers, tasks, place);
     note_left(index, tasks, place);
 }

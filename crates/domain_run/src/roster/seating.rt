@@ -220,6 +220,7 @@ impl Roster {
     /// A CPU, where who stands sits rightly, is in doubt no more, if what it was looked at for is noted.
     #[inline(always)]
     fn trust(&mut self, cpu: usize, limit: u64)
+        requires there { cpu < self.old.cpus }
         requires few { cpu < 64 }
         requires settled { IsSettled (slice_index_or self.old.places cpu None)
             (basis_in self.old.cpus limit self.old.tasks cpu) (slice_index_or self.old.seats cpu None) }
@@ -229,7 +230,8 @@ impl Roster {
             (rate_in self.old.cpus limit self.old.tasks t) (spec.seat_of self.old.seats t)) self.old.tasks }
     {
         if self.doubts.is_for(self.sum(), limit) {
-            self.doubts.clear(cpu);
+            let is_rated = self.seats.is_rated(cpu);
+            self.doubts.clear(cpu, is_rated);
         }
     }
 

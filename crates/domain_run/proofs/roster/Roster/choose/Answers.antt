@@ -68,7 +68,7 @@ invariant_of-self c =
       wide = all.seats ∙ c.self.invariant.wide ∙ sym all.wide;
       settled = subst (λ (n : ℕ). AreSettled c.home_all.new.doubts n c.pick.new.self.places c.home_all.new.seats.seats (owed_all c.home_all.new.seats c.home_all.new.tasks.items)) (sym all.wide)
           (settled_again s.doubts c.home_all.new.doubts (length s.queue.accounts.all) s.queue.schedule.places c.pick.new.self.places s.seats.seats c.home_all.new.seats.seats (owed_all s.seats s.tasks.items) (owed_all c.home_all.new.seats c.home_all.new.tasks.items)
-          all.sum all.limit all.marked
+          all.rated all.sum all.limit all.marked
           (λ cpu few bare. still_first s.queue.schedule.places c.pick.new.self.places cpu (seating a).wide
           (moved_apart c.home_all.new.doubts.cpus cpu (moved_from 0 s.queue.schedule.places c.pick.new.self.places) (subst (λ (ms : List Moved). All (λ m. m.cpu < 64 → bit_at c.home_all.new.doubts.cpus m.cpu ≡ 1) ms) c.pick.ensures.moves all.moved) few bare))
           c.self.invariant.settled);

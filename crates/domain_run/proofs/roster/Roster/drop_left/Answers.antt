@@ -8,7 +8,7 @@ use Rattle.domain_run.specs.private.Doubts.{AreSettled}
 use Rattle.domain_run.specs.private.Roster.{RosterView}
 use Rattle.domain_run.specs.private.RunQueue.{IsCounted}
 use Rattle.domain_run.specs.private.Waiting.{owed, AllWait, WaitsIf}
-use Rattle.domain_run.proofs.Doubting.{settled_none}
+use Rattle.domain_run.proofs.Doubting.{rated_settled}
 use Rattle.domain_run.proofs.Waiting.{alike_owed, counted_like, counted_unlike, listed_alike, filter_alike}
 use Rattle.domain_run.proofs.roster.Roster.drop_left.Goals as goal
 
@@ -28,7 +28,8 @@ invariant_of-self c =
       counted = subst (λ (n : ℕ). IsCounted n queue (map f items)) (sym counted.wide) (counted_like f (alike_owed s.seats.upto s.seats.seats) (length s.queue.accounts.all) queue items counted);
       waits = subst (AllWait s.seats.seats) (sym c.drop_left.ensures.tasks) (All-filter is_listed (WaitsIf s.seats.seats) s.tasks.items c.self.invariant.waits);
       wide = c.self.invariant.wide ∙ sym counted.wide;
-      settled = settled_none c.mark_all.new.self (length queue.accounts.all) queue.schedule.places s.seats.seats (map f items) c.mark_all.ensures.marked;
+      settled = subst (λ (x : ScheduleView). AreSettled c.mark_rated.new.self (length queue.accounts.all) x.places s.seats.seats (map f items)) (sym c.drop_left.ensures.schedule)
+          (rated_settled s.doubts c.mark_rated.new.self (length s.queue.accounts.all) (length queue.accounts.all) s.queue.schedule.places s.seats.seats (map f s.tasks.items) (map f items) c.mark_rated.ensures.bare c.mark_rated.ensures.free c.mark_rated.ensures.rated c.self.invariant.settled);
       room = c.drop_left.ensures.room ∙ c.self.invariant.room;
     }
 

@@ -51,7 +51,7 @@ invariant_of-self c =
     subst (Waits seat) (c.index.ensures ∙ get_or_default s.tasks.items p x d inside ∙ ap (λ i. get_or s.tasks.items i d) (sym k_is)) c.seat_for-seat.ensures.waits)
     c.self.invariant.waits))
     (ap (λ (v : SeatsView). length v.seats) c.set.ensures ∙ length-set s.seats.seats c.args.cpu (Some seat))
-    (set_settled s.doubts c.mark.new.self (length s.queue.accounts.all) s.queue.schedule.places s.seats c.set.new.self s.tasks.items s.tasks.items c.args.cpu (Some seat) c.set.ensures view c.mark.ensures.marked c.mark.ensures.bare c.mark.ensures.sum c.mark.ensures.limit c.self.invariant.settled)
+    (set_settled s.doubts c.mark.new.self (length s.queue.accounts.all) s.queue.schedule.places s.seats c.set.new.self s.tasks.items s.tasks.items c.args.cpu (Some seat) c.set.ensures view c.mark.ensures.marked c.mark.ensures.bare c.mark.ensures.rated c.mark.ensures.sum c.mark.ensures.limit c.self.invariant.settled)
 
 pub returns-in-Some-clause-tasks : goal.returns-in-Some-clause-tasks
 returns-in-Some-clause-tasks c =

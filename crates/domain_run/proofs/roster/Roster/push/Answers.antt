@@ -61,6 +61,6 @@ invariant_of-self c =
       wide = ap (λ (v : SeatsView). length v.seats) c.leave.ensures ∙ length_left t.cpu t.number s.seats.seats ∙ c.self.invariant.wide ∙ sym counted.wide;
       settled = subst (λ (ps : Places). AreSettled c.mark.new.self (length queue.accounts.all) ps seats.seats (owed_all seats items)) (sym (ap (λ (x : ScheduleView). x.places) c.push_task.ensures.schedule))
           (subst (λ (n : ℕ). AreSettled c.mark.new.self n s.queue.schedule.places seats.seats (owed_all seats items)) (sym counted.wide)
-          (push_settled s.doubts c.mark.new.self (length s.queue.accounts.all) s.queue.schedule.places s.seats seats s.tasks.items items t c.leave.ensures tasks c.mark.ensures.marked c.mark.ensures.bare c.mark.ensures.sum c.mark.ensures.limit c.self.invariant.settled));
+          (push_settled s.doubts c.mark.new.self (length s.queue.accounts.all) s.queue.schedule.places s.seats seats s.tasks.items items t c.leave.ensures tasks c.mark.ensures.marked c.mark.ensures.bare c.mark.ensures.rated c.mark.ensures.sum c.mark.ensures.limit c.self.invariant.settled));
       room = c.push_task.ensures.room ∙ c.self.invariant.room;
     }

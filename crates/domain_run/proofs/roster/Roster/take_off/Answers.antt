@@ -1,14 +1,16 @@
 use Rattle.std.proofs.Common.{ℕ, refl, sym, ap, subst, ◌∙◌, List, length, map}
 use Rattle.std.specs.Prelude.{filter}
 use Rattle.std.proofs.lemmas.List.Elements.{All-filter}
+use Rattle.edf_pick.specs.Schedule.{ScheduleView}
 use Rattle.domain_run.specs.declared.task.Task.{Task}
+use Rattle.domain_run.specs.private.Doubts.{AreSettled}
 use Rattle.domain_run.specs.Calls.{is_other}
 use Rattle.domain_run.specs.private.Roster.{RosterView, quit}
 use Rattle.domain_run.specs.private.RunQueue.{IsCounted}
 use Rattle.domain_run.specs.private.Waiting.{owed, AllWait, WaitsIf}
 use Rattle.domain_run.proofs.Departing.{IsIdle, others_of, quit_idle}
 use Rattle.domain_run.proofs.Waiting.{alike_owed, counted_like, counted_unlike, idle_unlike, other_alike, filter_alike}
-use Rattle.domain_run.proofs.Doubting.{settled_none}
+use Rattle.domain_run.proofs.Doubting.{rated_settled}
 use Rattle.domain_run.proofs.roster.Roster.take_off.Goals as goal
 
 pub turn_number-requires-clause-may : goal.turn_number-requires-clause-may
@@ -36,7 +38,8 @@ invariant_of-self c =
       counted = subst (λ (n : ℕ). IsCounted n queue (map f items)) (sym counted.wide) (counted_like f (alike_owed s.seats.upto s.seats.seats) (length s.queue.accounts.all) queue items counted);
       waits = subst (AllWait s.seats.seats) (sym c.drop_number.ensures.tasks) (All-filter (is_other c.args.number) (WaitsIf s.seats.seats) s.tasks.items c.self.invariant.waits);
       wide = c.self.invariant.wide ∙ sym counted.wide;
-      settled = settled_none c.mark_all.new.self (length queue.accounts.all) queue.schedule.places s.seats.seats (map f items) c.mark_all.ensures.marked;
+      settled = subst (λ (x : ScheduleView). AreSettled c.mark_rated.new.self (length queue.accounts.all) x.places s.seats.seats (map f items)) (sym c.drop_number.ensures.schedule)
+          (rated_settled s.doubts c.mark_rated.new.self (length s.queue.accounts.all) (length queue.accounts.all) s.queue.schedule.places s.seats.seats (map f s.tasks.items) (map f items) c.mark_rated.ensures.bare c.mark_rated.ensures.free c.mark_rated.ensures.rated c.self.invariant.settled);
       room = c.drop_number.ensures.room ∙ c.self.invariant.room;
     }
 

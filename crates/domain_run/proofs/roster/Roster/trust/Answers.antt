@@ -1,4 +1,4 @@
-use Rattle.std.proofs.Common.{◌≡◌, None, length, get_or, sym, ap, subst, ◌∙◌}
+use Rattle.std.proofs.Common.{◌≡◌, ◌<◌, arith, None, length, get_or, sym, ap, subst, ◌∙◌}
 use Rattle.std.specs.Prelude.{All}
 use Rattle.domain_run.specs.Tick.{sum_of}
 use Rattle.domain_run.specs.private.Doubts.{IsSettled}
@@ -6,6 +6,9 @@ use Rattle.domain_run.specs.private.Roster.{RosterView, basis_in, rate_in}
 use Rattle.domain_run.specs.private.Waiting.{owed_all, seat_of, IsRight}
 use Rattle.domain_run.proofs.Doubting.{trust_settled, settled_right}
 use Rattle.domain_run.proofs.roster.Roster.trust.Goals as goal
+
+pub is_rated-is_rated-requires : goal.is_rated-is_rated-requires
+is_rated-is_rated-requires c = let h = subst (λ (r : RosterView). c.args.cpu < r.cpus) (sym c.self.view_is) c.requires.there in omega (arith, h, c.self.invariant.wide)
 
 pub invariant_of-self : goal.invariant_of-self
 invariant_of-self c =
@@ -19,7 +22,7 @@ invariant_of-self c =
       counted = i.counted;
       waits = i.waits;
       wide = i.wide;
-      settled = trust_settled s.doubts c.clear.new.self w c.args.limit c.args.cpu s.queue.schedule.places s.seats.seats tasks c.clear.ensures.others c.clear.ensures.sum c.clear.ensures.limit (same.0 ∙ c.sum.ensures ∙ ap (λ (r : RosterView). sum_of r.tasks) (sym c.self.view_is)) same.1 here i.settled;
+      settled = trust_settled s.doubts c.clear.new.self w c.args.limit c.args.cpu s.queue.schedule.places s.seats.seats tasks c.is_rated-is_rated.result c.clear.ensures.others c.clear.ensures.elsewhere c.clear.ensures.here c.is_rated-is_rated.ensures c.clear.ensures.sum c.clear.ensures.limit (same.0 ∙ c.sum.ensures ∙ ap (λ (r : RosterView). sum_of r.tasks) (sym c.self.view_is)) same.1 here i.settled;
       room = i.room;
     }
 

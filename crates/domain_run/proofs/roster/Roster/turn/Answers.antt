@@ -37,6 +37,6 @@ invariant_of-self c =
       settled = subst (λ (n : ℕ). AreSettled d n queue.schedule.places seats.seats (owed_all seats items)) (sym e.counted.wide)
           (subst (λ (ps : Places). AreSettled d w ps seats.seats (owed_all seats items)) (sym e.places)
           (turn_settled s.doubts d w s.queue.schedule.places s.seats.seats seats.seats tasks (owed_all seats items) p c.index.result.now.cpu (after_change c.args.time c.args.change.now) x inside read home stays
-          e.step e.seats c.mark.ensures.marked c.mark.ensures.bare c.mark.ensures.sum c.mark.ensures.limit c.self.invariant.settled));
+          e.step e.seats c.mark.ensures.marked c.mark.ensures.bare c.mark.ensures.rated c.mark.ensures.sum c.mark.ensures.limit c.self.invariant.settled));
       room = e.room ∙ c.self.invariant.room;
     }

@@ -21,7 +21,7 @@ invariant_of-self c =
     kept_again s.queue s.seats c.set.new.self s.tasks.items s.tasks.items _ s.doubts c.mark.new.self c.self.invariant same
     (subst (λ (v : SeatsView). AllWait v.seats s.tasks.items) (sym c.set.ensures) (lost_waits s.seats.upto c.args.cpu s.seats.seats s.tasks.items seat there absent c.self.invariant.waits))
     (ap (λ (v : SeatsView). length v.seats) c.set.ensures ∙ length-set s.seats.seats c.args.cpu None)
-    (set_settled s.doubts c.mark.new.self (length s.queue.accounts.all) s.queue.schedule.places s.seats c.set.new.self s.tasks.items s.tasks.items c.args.cpu None c.set.ensures same c.mark.ensures.marked c.mark.ensures.bare c.mark.ensures.sum c.mark.ensures.limit c.self.invariant.settled)
+    (set_settled s.doubts c.mark.new.self (length s.queue.accounts.all) s.queue.schedule.places s.seats c.set.new.self s.tasks.items s.tasks.items c.args.cpu None c.set.ensures same c.mark.ensures.marked c.mark.ensures.bare c.mark.ensures.rated c.mark.ensures.sum c.mark.ensures.limit c.self.invariant.settled)
 
 pub returns-in-None : goal.returns-in-None
 returns-in-None c =

@@ -44,7 +44,7 @@ invariant_of-self c =
     kept_again s.queue s.seats c.set.new.self s.tasks.items (set s.tasks.items p y) _ s.doubts c.mark.new.self c.self.invariant view
     (subst (λ (v : SeatsView). AllWait v.seats (set s.tasks.items p y)) (sym are) (subst (λ (t : Task). AllWait (set s.seats.seats c.args.cpu None) (set s.tasks.items p t)) (sym is) (vacated_waits s.seats.upto c.args.cpu s.seats.seats s.tasks.items seat there p x inside read number numbered c.self.invariant.waits)))
     (ap (λ (v : SeatsView). length v.seats) are ∙ length-set s.seats.seats c.args.cpu None)
-    (set_settled s.doubts c.mark.new.self (length s.queue.accounts.all) s.queue.schedule.places s.seats c.set.new.self s.tasks.items (set s.tasks.items p y) c.args.cpu None are view c.mark.ensures.marked c.mark.ensures.bare c.mark.ensures.sum c.mark.ensures.limit c.self.invariant.settled)
+    (set_settled s.doubts c.mark.new.self (length s.queue.accounts.all) s.queue.schedule.places s.seats c.set.new.self s.tasks.items (set s.tasks.items p y) c.args.cpu None are view c.mark.ensures.marked c.mark.ensures.bare c.mark.ensures.rated c.mark.ensures.sum c.mark.ensures.limit c.self.invariant.settled)
 
 pub returns : goal.returns
 returns c =
