@@ -1,6 +1,6 @@
 //! The ready tasks of a root domain and who stands on its CPUs, as one.
 
-ghost use Rattle.std.specs.Prelude.{ℕ, ◌≡◌, ◌≢◌, ◌<◌, ◌≤◌, [], None, Some, length, map, position, replicate, slice_get, All, IfOk};
+ghost use Rattle.std.specs.Prelude.{ℕ, ◌≡◌, ◌≢◌, ◌<◌, ◌≤◌, [], true, false, None, Some, length, map, replicate, slice_get, slice_index_or, All, IfNone, IfOk, IfSome};
 ghost use Rattle.std.specs.Int.{bit_at};
 ghost use Rattle.edf_pick.specs.declared.candidate.Candidate.{Candidate};
 ghost use Rattle.edf_pick.specs.Changes.{homed};
@@ -15,7 +15,7 @@ use crate::marks::{first, without};
 use crate::moves::{Moved, Moves};
 use crate::placement::Placement;
 use crate::queue::Queue;
-use crate::seats::is_at_home;
+use crate::seats::{is_at_home, is_on};
 use std::alloc::{AllocError, Global};
 use std::marker::Model;
 
@@ -121,26 +121,37 @@ impl Schedule {
             &mut self.changes,
             &mut self.moves,
         );
-        home_movers(&mut self.queue, self.placement.occupants(), movers);
+        let (places, moves) = (self.placement.occupants(), self.moves.as_slice());
+        home_movers(&mut self.queue, places, moves, movers);
     }
 }
 
-// The CPU on which a task stands, if it stands on one.
-fn cpu_among(places: &[Option<u32>], number: u32) -> Option<usize>
-    ensures { result ≡ position (is_task number) places.now }
+// The CPU on which a task stands, if another one stood there before.
+fn cpu_among(places: &[Option<u32>], moves: &[Moved], number: u32) -> Option<usize>
+    ensures on { IfSome result (λ cpu. is_task number (slice_index_or places.now cpu None) ≡ true) }
+    ensures elsewhere { IfNone result
+        (All (λ m. is_task number (slice_index_or places.now m.cpu None) ≡ false) moves.now) }
 {
-    places.iter().position(|occupant| *occupant == Some(number))
+    for i in 0..moves.len() {
+        let cpu = moves[i].cpu;
+        if is_on(places, cpu, number) {
+            return Some(cpu);
+        }
+    }
+    None
 }
 
-// Where a task belongs: to the CPU on which it stands, if it stands on one.
-fn home_of(places: &[Option<u32>], c: &Candidate) -> usize
-    requires { AreSingle places.now }
+// Where a task belongs: to the CPU on which it stands, if it stands on one. Beside its home only the
+// CPUs are looked at that another one has: who has stayed is at home.
+fn home_of(places: &[Option<u32>], moves: &[Moved], c: &Candidate) -> usize
+    requires single { AreSingle places.now }
+    requires listed { spec.homed_by places.now moves.now c.now ≡ homed places.now c.now }
     ensures { result ≡ (homed places.now c.now).home }
 {
     if is_at_home(places, c) {
         return c.home;
     }
-    match cpu_among(places, c.number) {
+    match cpu_among(places, moves, c.number) {
         Some(cpu) => cpu,
         None => c.home,
     }
@@ -148,8 +159,9 @@ fn home_of(places: &[Option<u32>], c: &Candidate) -> usize
 
 // The tasks at the marked places of the queue belong to the CPUs on which they stand.
 #[inline(always)]
-fn home_movers(queue: &mut Queue, places: &[Option<u32>], movers: u64)
+fn home_movers(queue: &mut Queue, places: &[Option<u32>], moves: &[Moved], movers: u64)
     requires single { AreSingle places.now }
+    requires listed { All (λ c. spec.homed_by places.now moves.now c ≡ homed places.now c) queue.old }
     requires within { (i : ℕ) → bit_at movers i ≡ 1 → i < length queue.old }
     requires others { (i : ℕ) (c : Candidate) → bit_at movers i ≡ 0
         → slice_get queue.old i ≡ Some c → homed places.now c ≡ c }
@@ -159,7 +171,7 @@ fn home_movers(queue: &mut Queue, places: &[Option<u32>], movers: u64)
     'tasks: while left != 0 {
         let i = first(left);
         left = without(left, i);
-        let home = home_of(places, &queue.as_slice()[i]);
+        let home = home_of(places, moves, &queue.as_slice()[i]);
         queue.rehome(i, home);
     }
 }
