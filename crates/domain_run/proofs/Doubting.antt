@@ -141,8 +141,8 @@ settled_again d e w places now seats after tasks then rated sum limit marks same
     let seat = sym (marks.seats cpu few bare) in
     let basis : noted_basis d w tasks cpu ≡ noted_basis e w then cpu = λ i. record { uinact = (sym (marks.sums cpu few bare)) i; sum = (sym sum) i; cpus = w; limit = (sym limit) i } in (
       subst (λ o. IsSettled o (noted_basis e w then cpu) (get_or after cpu None)) (sym (same cpu few bare))
-      (subst (IsSettled (occupant places cpu) (noted_basis e w then cpu)) seat
-      (subst (λ (b : Basis). IsSettled (occupant places cpu) b (get_or seats cpu None)) basis was.0)),
+          (subst (IsSettled (occupant places cpu) (noted_basis e w then cpu)) seat
+          (subst (λ (b : Basis). IsSettled (occupant places cpu) b (get_or seats cpu None)) basis was.0)),
       subst (IsFree (bit_at e.rated cpu)) seat (subst (λ (n : ℕ). IsFree (bit_at n cpu) (get_or seats cpu None)) (sym rated) was.1),
     )
 

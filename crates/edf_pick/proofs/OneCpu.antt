@@ -13,17 +13,13 @@ use Rattle.edf_pick.proofs.Picked.{picked}
 use Rattle.edf_pick.proofs.Renewed.{on_position}
 use Rattle.edf_pick.proofs.Resting.{no_position}
 
--- what is read past the end
-abbrev pub nobody : Candidate
-nobody = record { deadline = 0; number = 0; home = 0 }
-
 -- WHO STANDS THERE
-pub only_place : (places : Places) → length places ≡ 1 → places ≡ get_or places 0 None ∷ []
+only_place : (places : Places) → length places ≡ 1 → places ≡ get_or places 0 None ∷ []
 only_place [] one = absurd (omega (arith, one))
 only_place (o ∷ []) one = refl
 only_place (o ∷ p ∷ places) one = absurd (omega (arith, one))
 
-pub single_one : (places : Places) → length places ≡ 1 → AreSingle places
+single_one : (places : Places) → length places ≡ 1 → AreSingle places
 single_one [] one a b n at there = absurd (omega (arith, one))
 single_one (o ∷ p ∷ places) one a b n at there = absurd (omega (arith, one))
 single_one (o ∷ []) one zero zero n at there = refl

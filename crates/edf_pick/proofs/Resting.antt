@@ -35,6 +35,13 @@ nowhere [] n cpu e = refl
 nowhere (o ∷ places) n zero e = (or_parts (is_task n o) (stands n places) e).0
 nowhere (o ∷ places) n (suc cpu) e = nowhere places n cpu (or_parts (is_task n o) (stands n places) e).1
 
+-- nor who stands on none of these CPUs
+pub by_none : (places : Places) (moves : List Moved) (c : Candidate) → All (λ m. is_task c.number (get_or places m.cpu None) ≡ false) moves → homed_by places moves c ≡ c
+by_none places [] c none = refl
+by_none places (m ∷ moves) c none =
+    ap (λ (a : Candidate). homed_by places moves a) (off places m.cpu c (none 0 m (omega arith)))
+    ∙ by_none places moves c (λ k d h. none (suc k) d (omega (arith, h)))
+
 by_nowhere : (places : Places) (moves : List Moved) (c : Candidate) → stands c.number places ≡ false → homed_by places moves c ≡ c
 by_nowhere places [] c e = refl
 by_nowhere places (m ∷ moves) c e = ap (λ (a : Candidate). homed_by places moves a) (off places m.cpu c (nowhere places c.number m.cpu e)) ∙ by_nowhere places moves c e
@@ -95,7 +102,7 @@ listed k (suc i) (b ∷ before) (a ∷ after) len h differs =
 
 -- THE WHOLE
 module _ (before after : Places) (len : length after ≡ length before) (was : AreSingle before) (single : AreSingle after) where
-  homes_of : (c : Candidate) → IsAtHome before c → homed_by after (moved_from 0 before after) c ≡ homed after c
+  pub homes_of : (c : Candidate) → IsAtHome before c → homed_by after (moved_from 0 before after) c ≡ homed after c
   homes_of c home =
       elim (cases_Bool (stands c.number after)) [
         | inl there ↦

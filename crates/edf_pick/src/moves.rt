@@ -52,7 +52,7 @@ impl Moves {
         self.list.as_slice()
     }
 
-    /// None.
+    /// None is listed any more.
     #[inline(always)]
     pub(crate) fn clear(&mut self)
         ensures { self.new ≡ [] }

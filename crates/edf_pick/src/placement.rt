@@ -123,7 +123,6 @@ pub(crate) fn pick_by_walk(placement: &mut Placement, queue: &Queue, moves: &mut
     ensures places { placement.new ≡ placed (length placement.old) queue.now placement.old }
     ensures moves { moves.new ≡ moved_from 0 placement.old placement.new }
     ensures len { length placement.new ≡ length placement.old }
-    ensures some { 0 < length placement.old }
     ensures within { (i : ℕ) → bit_at result i ≡ 1 → i < length queue.now }
     ensures others { (i : ℕ) (c : Candidate) → bit_at result i ≡ 0
         → slice_get queue.now i ≡ Some c → homed placement.new c ≡ c }
@@ -153,7 +152,6 @@ pub(crate) fn pick_by_list(
     ensures places { placement.new ≡ placed (length placement.old) queue.now placement.old }
     ensures moves { moves.new ≡ moved_from 0 placement.old placement.new }
     ensures len { length placement.new ≡ length placement.old }
-    ensures some { 0 < length placement.old }
     ensures within { (i : ℕ) → bit_at result i ≡ 1 → i < length queue.now }
     ensures others { (i : ℕ) (c : Candidate) → bit_at result i ≡ 0
         → slice_get queue.now i ≡ Some c → homed placement.new c ≡ c }

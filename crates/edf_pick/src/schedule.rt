@@ -1,6 +1,6 @@
 //! The ready tasks of a root domain and who stands on its CPUs, as one.
 
-ghost use Rattle.std.specs.Prelude.{ℕ, ◌≡◌, ◌≢◌, ◌<◌, ◌≤◌, [], None, Some, length, map, position, replicate, slice_get, slice_index_or, All, IfOk, IfSome};
+ghost use Rattle.std.specs.Prelude.{ℕ, ◌≡◌, ◌≢◌, ◌<◌, ◌≤◌, [], true, false, None, Some, length, map, replicate, slice_get, slice_index_or, All, IfNone, IfOk, IfSome};
 ghost use Rattle.std.specs.Int.{bit_at};
 ghost use Rattle.edf_pick.specs.declared.candidate.Candidate.{Candidate};
 ghost use Rattle.edf_pick.specs.Changes.{homed};
@@ -121,15 +121,16 @@ impl Schedule {
             &mut self.changes,
             &mut self.moves,
         );
-        let places = self.placement.occupants();
-        home_movers(&mut self.queue, places, self.moves.as_slice(), movers);
+        let (places, moves) = (self.placement.occupants(), self.moves.as_slice());
+        home_movers(&mut self.queue, places, moves, movers);
     }
 }
 
-// The CPU on which a task stands, where that is one that a choice has given away.
-#[inline(always)]
-fn moved_to(places: &[Option<u32>], moves: &[Moved], number: u32) -> Option<usize>
-    ensures { IfSome result (λ cpu. slice_index_or places.now cpu None ≡ Some number) }
+// The CPU on which a task stands, if another one stood there before.
+fn cpu_among(places: &[Option<u32>], moves: &[Moved], number: u32) -> Option<usize>
+    ensures on { IfSome result (λ cpu. is_task number (slice_index_or places.now cpu None) ≡ true) }
+    ensures elsewhere { IfNone result
+        (All (λ m. is_task number (slice_index_or places.now m.cpu None) ≡ false) moves.now) }
 {
     for i in 0..moves.len() {
         let cpu = moves[i].cpu;
@@ -140,22 +141,11 @@ fn moved_to(places: &[Option<u32>], moves: &[Moved], number: u32) -> Option<usiz
     None
 }
 
-// The CPU on which a task stands, if it stands on one.
-#[inline(always)]
-fn cpu_among(places: &[Option<u32>], moves: &[Moved], number: u32) -> Option<usize>
-    requires { AreSingle places.now }
-    ensures { result ≡ position (is_task number) places.now }
-{
-    match moved_to(places, moves, number) {
-        Some(cpu) => Some(cpu),
-        None => places.iter().position(|occupant| *occupant == Some(number)),
-    }
-}
-
-// Where a task belongs: to the CPU on which it stands, if it stands on one.
-#[inline(always)]
+// Where a task belongs: to the CPU on which it stands, if it stands on one. Beside its home only the
+// CPUs are looked at that another one has: who has stayed is at home.
 fn home_of(places: &[Option<u32>], moves: &[Moved], c: &Candidate) -> usize
-    requires { AreSingle places.now }
+    requires single { AreSingle places.now }
+    requires listed { spec.homed_by places.now moves.now c.now ≡ homed places.now c.now }
     ensures { result ≡ (homed places.now c.now).home }
 {
     if is_at_home(places, c) {
@@ -167,11 +157,11 @@ fn home_of(places: &[Option<u32>], moves: &[Moved], c: &Candidate) -> usize
     }
 }
 
-// The tasks at the marked places of the queue belong to the CPUs on which they stand: mostly one that
-// a choice has given away.
+// The tasks at the marked places of the queue belong to the CPUs on which they stand.
 #[inline(always)]
 fn home_movers(queue: &mut Queue, places: &[Option<u32>], moves: &[Moved], movers: u64)
     requires single { AreSingle places.now }
+    requires listed { All (λ c. spec.homed_by places.now moves.now c ≡ homed places.now c) queue.old }
     requires within { (i : ℕ) → bit_at movers i ≡ 1 → i < length queue.old }
     requires others { (i : ℕ) (c : Candidate) → bit_at movers i ≡ 0
         → slice_get queue.old i ≡ Some c → homed places.now c ≡ c }

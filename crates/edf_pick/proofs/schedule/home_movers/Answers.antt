@@ -2,6 +2,7 @@ use Rattle.std.proofs.Common.{◌≡◌, ◌<◌, List, length, get_or, ap, sym,
 use Rattle.std.proofs.lemmas.List.{get_or_default}
 use Rattle.edf_pick.specs.declared.candidate.Candidate.{Candidate}
 use Rattle.edf_pick.specs.Changes.{homed}
+use Rattle.edf_pick.specs.Schedule.{homed_by}
 use Rattle.edf_pick.proofs.Homing.{AreHomedBut, none_homed, one_homed, all_homed}
 use Rattle.edf_pick.proofs.schedule.home_movers.Goals as goal
 
@@ -23,6 +24,16 @@ tasks-preserved c =
     ∙ ap (λ (xs : List Candidate). (homed c.args.places.now (get_or xs i x)).home) c.as_slice.ensures.tasks in
     subst (λ (xs : List Candidate). AreHomedBut c.args.places.now c.args.movers c.without-left.result c.args.queue.now xs) (sym (c.rehome.ensures x))
     (one_homed c.args.places.now c.args.movers l.left c.without-left.result c.args.queue.now l.queue i c.home_of-home.result x l.invariant on within c.without-left.ensures.bare c.without-left.ensures.others homes)
+
+pub home_of-home-requires-clause-listed : goal.home_of-home-requires-clause-listed
+home_of-home-requires-clause-listed c =
+    let l = c.tasks in
+    let i = c.first-i.result in
+    let on = c.first-i.ensures.marked in
+    let within : i < length c.args.queue.now = c.requires.within i (l.invariant.among i on) in
+    let x : Candidate = record { deadline = 0; number = 0; home = 0 } in
+    let is : get_or c.as_slice.result.now i x ≡ get_or c.args.queue.now i x = ap (λ (xs : List Candidate). get_or xs i x) c.as_slice.ensures.tasks ∙ l.invariant.ahead i x within on in
+    subst (λ (y : Candidate). homed_by c.args.places.now c.args.moves.now y ≡ homed c.args.places.now y) (sym is) (c.requires.listed i x within)
 
 pub returns : goal.returns
 returns c = all_homed c.args.places.now c.args.movers c.tasks.left c.args.queue.now c.tasks.queue c.tasks.invariant (omega arith) c.requires.others

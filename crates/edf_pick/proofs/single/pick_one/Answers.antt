@@ -3,7 +3,8 @@ use Rattle.std.specs.Prelude.{◌≢◌, AllPairs, slice_get, Some}
 use Rattle.edf_pick.specs.declared.candidate.Candidate.{Candidate}
 use Rattle.edf_pick.specs.Changes.{homed}
 use Rattle.edf_pick.specs.Places.{Places}
-use Rattle.edf_pick.proofs.OneCpu.{nobody, placed_first, placed_nobody, others_there}
+use Rattle.edf_pick.proofs.Marked.{nobody}
+use Rattle.edf_pick.proofs.OneCpu.{placed_first, placed_nobody, others_there}
 use Rattle.edf_pick.proofs.single.pick_one.Goals as goal
 
 pub returns-then-is_empty-clause-places : goal.returns-then-is_empty-clause-places
