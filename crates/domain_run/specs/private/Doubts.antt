@@ -25,7 +25,7 @@ noted_basis d cpus tasks cpu = record {
   limit = d.limit;
 }
 
--- without a mark a seat keeps nothing of what its rate was worked out from
+-- where its CPU has no mark, a seat keeps nothing of what its rate was worked out from
 abbrev pub IsFree : ℕ → Option Seat → Type 0
 IsFree mark o = mark ≡ 0 → IfSome o (λ s. s.basis ≡ None)
 
@@ -36,8 +36,8 @@ AreSettled d cpus places seats tasks =
     → IsSettled (occupant places cpu) (noted_basis d cpus tasks cpu) (slice_index_or seats cpu None)
     × IsFree (bit_at d.rated cpu) (slice_index_or seats cpu None)
 
--- a word of marks has none that the one before did not have bare, and on a CPU without one neither
--- the seat nor the inactive bandwidth has changed
+-- marks have come, and none has gone; on a CPU without one neither the seat nor the inactive
+-- bandwidth has changed
 pub record IsMarked (old new : ℕ) (before after : List (Option Seat)) (was now : List Task) : Type 0 where
   pub bare : (cpu : ℕ) → bit_at new cpu ≡ 0 → bit_at old cpu ≡ 0
   pub seats : (cpu : ℕ) → cpu < 64 → bit_at new cpu ≡ 0

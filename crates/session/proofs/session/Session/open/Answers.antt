@@ -6,7 +6,7 @@ use Rattle.session.specs.SessionId.{SessionId}
 use Rattle.session.specs.private.Parts.{AreParts}
 use Rattle.session.proofs.session.Session.open.Goals as goal
 
--- the parts are those of this session
+-- what keeps parts of an id keeps them of one that is the same
 theirs : (id i v : SessionId) (books : List BookView) (hands : List (Option Hand)) (pool : List BlankView) → id ≡ v → i ≡ v → AreParts i books hands pool → AreParts id books hands pool
 theirs id i v books hands pool is view parts = subst (λ (k : SessionId). AreParts k books hands pool) (view ∙ sym is) parts
 
