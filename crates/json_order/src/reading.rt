@@ -1,9 +1,10 @@
-ghost use Rattle.std.specs.Prelude.{◌≡◌, ◌≢◌, Some, None, IfOk, IfErr, IfSome, IfNone};
+ghost use Rattle.std.specs.Prelude.{◌≡◌, ◌≢◌, [], Some, None, IfOk, OnOk, IfErr, IfSome, IfNone};
 ghost use Rattle.json_order.specs.declared.fault.JsonKind.TheVariants.{End, Memory};
 ghost use Rattle.json_order.specs.Fault.{strict, Spells, IsFault};
 ghost use Rattle.json_order.specs.Json.{Json};
-ghost use Rattle.json_order.specs.private.Machine.{ended};
-ghost use Rattle.json_order.specs.private.Places.{place_of, frames_of};
+ghost use Rattle.json_order.specs.private.AtOnce.{Stands};
+ghost use Rattle.json_order.specs.private.Machine.{start, ended};
+ghost use Rattle.json_order.specs.private.Places.{place_of, frames_of, state_of};
 ghost use Rattle.json_order.specs.Seen.{json_of};
 
 use crate::fault::{JsonFault, JsonKind};
@@ -85,23 +86,24 @@ fn value_at_end(place: Place, stack: &Vec<Frame>) -> Option<Tree>
     }
 }
 
-/// Reads a text in UTF-8.
-fn read_text(alloc: Global, text: &str) -> Result<Tree, JsonFault>
-    ensures found { IfOk result (λ tree. Spells strict text.now (json_of tree)) }
-    ensures only { IfOk result (λ tree. (value : Json) → Spells strict text.now value → value
-        ≡ json_of tree) }
+/// Reads a text in UTF-8 from its start to its end: the place and the stack there. Both are lent, so
+/// that a fault has nothing to let go of.
+#[inline(always)]
+fn read_through(
+    alloc: Global,
+    text: &str,
+    place: &mut Place,
+    stack: &mut Vec<Frame>,
+) -> Result<(), JsonFault>
+    requires start { state_of place.old stack.old.items ≡ start }
+    ensures ok { OnOk result (Stands text.now (state_of place.new stack.new.items) []) }
     ensures fault { IfErr result (λ fault. IsFault text.now fault.kind fault.at) }
 {
-    let mut stack = match Vec::with_capacity(alloc, DEPTH + 1) {
-        Ok(stack) => stack,
-        Err(_) => return Err(fault_at(JsonKind::Memory, 0)),
-    };
-    let mut place = Place::Value;
     let mut chars = text.chars();
     while let Some(c) = chars.next() {
         let rest = chars.as_str();
-        match turn(alloc, &mut place, &mut stack, c) {
-            Ok(()) => match take_run(&mut place, rest) {
+        match turn(alloc, place, stack, c) {
+            Ok(()) => match take_run(place, rest) {
                 Ok(after) => chars = after.chars(),
                 Err(kind) => return Err(fault_at(kind, 0)),
             },
@@ -110,6 +112,26 @@ fn read_text(alloc: Global, text: &str) -> Result<Tree, JsonFault>
                 return Err(fault_at(kind, at));
             }
         }
+    }
+    Ok(())
+}
+
+/// Reads a text in UTF-8.
+fn read_text(alloc: Global, text: &str) -> Result<Tree, JsonFault>
+    ensures found { IfOk result (λ tree. Spells strict text.now (json_of tree)) }
+    ensures only { IfOk result (λ tree. (value : Json) → Spells strict text.now value → value
+        ≡ json_of tree) }
+    ensures fault { IfErr result (λ fault. IsFault text.now fault.kind fault.at) }
+{
+    let Ok(mut stack) = Vec::with_capacity(alloc, DEPTH + 1) else {
+        return Err(fault_at(JsonKind::Memory, 0));
+    };
+    let mut place = Place::Value;
+    if let Err(fault) = read_through(alloc, text, &mut place, &mut stack) {
+        // One call each lets go of them.
+        drop(place);
+        drop(stack);
+        return Err(fault);
     }
     match value_at_end(place, &stack) {
         Some(tree) => Ok(tree),

@@ -3,7 +3,7 @@ use Rattle.std.proofs.Common.{length}
 use Rattle.json_order.specs.private.AtOnce.{Stands}
 use Rattle.json_order.specs.private.Machine.{IsFinePlace}
 use Rattle.json_order.specs.private.Places.{place_of, state_of}
-use Rattle.json_order.proofs.reading.read_text.Given as goal
+use Rattle.json_order.proofs.reading.read_through.Given as goal
 
 abbrev pub invariant-loop-c : goal.invariant-loop-c
 invariant-loop-c l = record {
