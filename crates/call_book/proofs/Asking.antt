@@ -1,6 +1,8 @@
 -- The tickets of a book, where one of them asks for another bandwidth.
-use Rattle.std.proofs.Common.{◌≡◌, ℕ, suc, ◌+◌, List, ◌∷◌, ◌++◌, length, sym, ap, ◌∙◌, subst, arith, length-append, Option}
-use Rattle.std.specs.Prelude.{All}
+use Rattle.std.proofs.Common.{◌≡◌, ℕ, suc, ◌+◌, ◌≤◌, List, ◌∷◌, ◌++◌, length, sym, ap, ◌∙◌, subst, arith, length-append, Option}
+use Rattle.std.specs.Prelude.{All, take, drop}
+use Rattle.std.proofs.Math.Seq.{take-append_seam, drop-append_seam}
+use Rattle.std.proofs.lemmas.List.{length-take-le}
 use Rattle.std.proofs.lemmas.List.{get_or_append_left, get_or-append-add}
 use Rattle.std.proofs.lemmas.List.Elements.{All-cons, All-append}
 use Rattle.bw_gate.specs.Pieces.{GateId}
@@ -31,3 +33,10 @@ asked_length number bw old new word asked =
     let x : Held = record { number = number; ticket = asked.was } in
     let y : Held = record { number = number; ticket = asked.becomes } in
     ap length asked.new_tickets ∙ length-append asked.before (y ∷ asked.behind) ∙ sym (length-append asked.before (x ∷ asked.behind)) ∙ ap length (sym asked.old_tickets)
+
+-- an item that is put in where one was taken out
+pub put_back : {X : Type 0} (i : ℕ) (xs ys : List X) (y : X) → i ≤ length xs → take i (take i xs ++ ys) ++ y ∷ drop i (take i xs ++ ys) ≡ take i xs ++ y ∷ ys
+put_back {X} i xs ys y within =
+    let at : length (take i xs) ≡ i = length-take-le i xs within in
+    subst (λ (n : ℕ). take n (take i xs ++ ys) ++ y ∷ drop n (take i xs ++ ys) ≡ take i xs ++ y ∷ ys) at
+    (ap (λ (zs : List X). zs ++ y ∷ drop (length (take i xs)) (take i xs ++ ys)) (take-append_seam (take i xs) ys) ∙ ap (λ (zs : List X). take i xs ++ y ∷ zs) (drop-append_seam (take i xs) ys))

@@ -17,7 +17,7 @@ use Rattle.domain_run.proofs.CallerLemmas.{ticks_of, call_time, call_cpus, call_
 use Rattle.call_book.specs.declared.section.Entry.{Entry}
 use Rattle.call_book.specs.declared.book.stock.Held.{Held}
 use Rattle.call_book.specs.Pieces.{held_key, HoldsTickets}
-use Rattle.call_book.specs.Book.{BookView, AdmissionView, admission, calls_of, state_of, entry_by, with_entry, EntersAlone, HasItsLimit}
+use Rattle.call_book.specs.Book.{BookView, AdmissionView, admission, calls_of, state_of, entry_by, with_entry, Enters, EntersAlone, HasItsLimit}
 use Rattle.call_book.specs.BookAnswers.{IsBusy}
 use Rattle.call_book.specs.private.Ledger.{LedgerView}
 use Rattle.call_book.specs.private.Stock.{StockView}
@@ -146,6 +146,19 @@ enters_alone b cpus limit workers left l grown s state p q call reply view is ro
       blanks = refl;
     } in
     subst (λ (x : BookView). EntersAlone x (book_of cpus limit workers left grown s) p q call reply) view whole
+
+-- what a call that is entered says, where pieces come or go
+pub enters : (b : BookView) (cpus limit workers : ℕ) (left : Option ℕ) (l grown : LedgerView) (s t : StockView) (state : Domain) (p q : PassView Entry) (call : Call) (reply : Reply) → book_of cpus limit workers left l s ≡ b → IsBook (book_of cpus limit workers left l s) state → length l.history < l.room
+    → grown ≡ record l { history = l.history ++ entry_by p call reply ∷ [] } → t ≡ record s { tickets = t.tickets; blanks = t.blanks } → q ≡ with_entry p call reply → reply_to state call ≡ reply → Enters b (book_of cpus limit workers left grown t) p q call reply
+enters b cpus limit workers left l grown s t state p q call reply view is room more pieces made says =
+    let longer : LedgerView = record l { history = l.history ++ entry_by p call reply ∷ [] } in
+    let whole : Enters (book_of cpus limit workers left l s) (book_of cpus limit workers left grown t) p q call reply = record {
+      free = room;
+      lawful = sym says ∙ ap (λ (d : Domain). reply_to d call) is.run;
+      book = ap (λ (x : LedgerView). book_of cpus limit workers left x t) more ∙ ap (λ (x : StockView). book_of cpus limit workers left longer (record x { tickets = t.tickets; blanks = t.blanks })) pieces;
+      pass = made;
+    } in
+    subst (λ (x : BookView). Enters x (book_of cpus limit workers left grown t) p q call reply) view whole
 
 pub busy_answer : (b : BookView) (cpus limit workers : ℕ) (left : Option ℕ) (l grown : LedgerView) (s : StockView) (state next : Domain) (p q : PassView Entry) (a : AdmissionView) (ticket : TicketView) (seen : ℕ) (call : Call) → book_of cpus limit workers left l s ≡ b → IsBook (book_of cpus limit workers left l s) state
     → length l.history < l.room → grown ≡ record l { history = l.history ++ entry_by p call (Reply.Busy seen) ∷ [] } → q ≡ with_entry p call (Reply.Busy seen) → Says state next a (Reply.Busy seen) → call ≡ admission a → LacksRoomFor state a.params.bw seen

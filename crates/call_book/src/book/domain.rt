@@ -222,8 +222,12 @@ impl Domain {
             ≡ Some (record { spine = r.0.spine; client = k + 1; entries = [] })) }
     {
         let (ledger, passes) = Ledger::open(alloc, clients, history)?;
-        let state = State::open(alloc, cpus, limit)?;
         let stock = Stock::open(alloc, gate, domain)?;
+        // The state is made last: it is large, and nothing that is large is let go of here.
+        let Ok(state) = State::open(alloc, cpus, limit) else {
+            stock.destroy();
+            return Err(NoMemory);
+        };
         let book = Domain {
             cpus,
             limit,

@@ -79,15 +79,37 @@ pub fn prepare(
           script = script.now;
         }) }
 {
+    let (own_name, own_script) = copies_of(alloc, name, script)?;
+    // Each is let go of by one call, not written out with all that is inside.
+    let Ok((entry_name, entry_script)) = copies_of(alloc, name, script) else {
+        drop(own_name);
+        drop(own_script);
+        return Err(NoMemory);
+    };
     Ok(Prepared {
         number,
         params,
         delay,
-        name: copy_of_name(alloc, name)?,
-        script: copy_of_script(alloc, script)?,
-        entry_name: copy_of_name(alloc, name)?,
-        entry_script: copy_of_script(alloc, script)?,
+        name: own_name,
+        script: own_script,
+        entry_name,
+        entry_script,
     })
+}
+
+/// A copy of the name, and then one of the script.
+fn copies_of(alloc: Global, name: &Name, script: &Script) -> Result<(Name, Script), NoMemory>
+    ensures name { IfOk result (λ p. p.0 ≡ name.now) }
+    ensures script { IfOk result (λ p. p.1 ≡ script.now) }
+{
+    let name = copy_of_name(alloc, name)?;
+    match copy_of_script(alloc, script) {
+        Ok(script) => Ok((name, script)),
+        Err(NoMemory) => {
+            drop(name);
+            Err(NoMemory)
+        }
+    }
 }
 
 fn copy_of_name(alloc: Global, name: &Name) -> Result<Name, NoMemory>

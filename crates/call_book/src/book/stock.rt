@@ -73,6 +73,23 @@ impl Stock {
         })
     }
 
+    /// Lets go of a stock without pieces.
+    pub(crate) fn destroy(self)
+        requires tickets { self.tickets ≡ [] }
+        requires blanks { self.blanks ≡ [] }
+    {
+        let Stock {
+            gate: _,
+            domain: _,
+            held,
+            blanks,
+            home,
+        } = self;
+        held.destroy_empty();
+        blanks.destroy_empty();
+        home.destroy_empty();
+    }
+
     /// Which of the gate's domains it is.
     pub(crate) fn domain(&self) -> usize
         ensures { result ≡ self.now.domain }

@@ -1,7 +1,15 @@
-use Rattle.std.proofs.Common.{◌≡◌, [], ◌∷◌, ◌++◌, length, ap, ◌∙◌}
+use Rattle.std.proofs.Common.{◌≡◌, ℕ, List, [], ◌∷◌, ◌++◌, length, sym, ap, subst, ◌∙◌}
+use Rattle.std.specs.Prelude.{IfNone, IfSome}
+use Rattle.std.specs.Option.{option_to_list}
+use Rattle.bw_gate.specs.Pieces.{BlankView}
+use Rattle.domain_run.specs.declared.call.Call.{Call}
+use Rattle.domain_run.specs.declared.call.Reply.TheVariants as Reply
+use Rattle.domain_run.specs.Calls.{reply_to}
 use Rattle.call_book.specs.declared.book.stock.Held.{Held}
+use Rattle.call_book.specs.Book.{BookView, Enters}
+use Rattle.call_book.specs.private.Kept.{book_of}
 use Rattle.call_book.specs.private.Stock.{StockView}
-use Rattle.call_book.proofs.Growing.{has_room, moved, admitted_grows, busy_grows, busy_answer}
+use Rattle.call_book.proofs.Growing.{has_room, moved, enters, admitted_grows, busy_grows, busy_answer}
 use Rattle.call_book.proofs.book.domain.Domain.admit.Goals as goal
 
 pub invariant_of-self : goal.invariant_of-self
@@ -27,3 +35,26 @@ returns-in-Busy c =
     let says = c.in-Busy.ensures in
     let free = has_room c.is_full.result (length inside.ledger.history) inside.ledger.room c.is_full.ensures.full c.if-is_full.false c.is_full.ensures.history.within in
     busy_answer c.args.self.now inside.cpus inside.limit inside.workers.count inside.left inside.ledger c.enter-in-Busy.new.self inside.stock inside.state c.list.new.state c.args.pass.now c.enter-in-Busy.new.pass c.args.prepared c.args.ticket c.in-Busy.seen c.in-Busy.call c.self.view_is c.self.invariant free c.enter-in-Busy.ensures.ledger c.enter-in-Busy.ensures.pass says.0 says.2.same says.1
+
+pub returns-in-Listed : goal.returns-in-Listed
+returns-in-Listed c =
+    let inside = c.self.inside in
+    let says = c.in-Listed.ensures in
+    let spared = c.spare-blank.new.self in
+    let t = c.hold.new.self in
+    let h : Held = record { number = c.in-Listed.number; ticket = c.args.ticket } in
+    let pieces : t ≡ record inside.stock { tickets = t.tickets; blanks = t.blanks } = moved inside.stock spared t h c.spare-blank.ensures.stock c.hold.ensures in
+    let held : t.tickets ≡ inside.stock.tickets ++ h ∷ [] = ap (λ (s : StockView). s.tickets) c.hold.ensures ∙ ap (λ (s : StockView). s.tickets ++ h ∷ []) c.spare-blank.ensures.stock in
+    let blanks : spared.blanks ≡ t.blanks = sym (ap (λ (s : StockView). s.blanks) c.hold.ensures) in
+    let view = c.self.view_is in
+    let free = has_room c.is_full.result (length inside.ledger.history) inside.ledger.room c.is_full.ensures.full c.if-is_full.false c.is_full.ensures.history.within in
+    let reply : reply_to inside.state c.in-Listed.call ≡ Reply.Admitted = ap (reply_to inside.state) says.2.same ∙ says.0.reply in
+    let entered = enters c.args.self.now inside.cpus inside.limit inside.workers.count inside.left inside.ledger c.enter.new.self inside.stock t inside.state c.args.pass.now c.enter.new.pass c.in-Listed.call Reply.Admitted view c.self.invariant free c.enter.ensures.ledger pieces c.enter.ensures.pass reply in
+    let blank = c.spare-blank.result in
+    record {
+      entered = subst (λ (k : Call). Enters c.args.self.now (book_of inside.cpus inside.limit inside.workers.count inside.left c.enter.new.self t) c.args.pass.now c.enter.new.pass k Reply.Admitted) says.2.same entered;
+      tickets = held ∙ ap (λ (n : ℕ). inside.stock.tickets ++ record { number = n; ticket = c.args.ticket } ∷ []) says.1 ∙ ap (λ (b : BookView). b.tickets ++ record { number = c.args.prepared.number; ticket = c.args.ticket } ∷ []) view;
+      handed = sym (ap (λ (b : BookView). b.blanks) view) ∙ c.spare-blank.ensures.blank ∙ ap (λ (bs : List BlankView). bs ++ option_to_list blank) blanks;
+      none = subst (λ (b : BookView). IfNone blank (b.blanks ≡ [])) view c.spare-blank.ensures.none;
+      own = subst (λ (b : BookView). IfSome blank (λ x. x.gate ≡ b.gate)) view c.spare-blank.ensures.own;
+    }
