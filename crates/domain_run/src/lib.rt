@@ -6,6 +6,7 @@
 //! tick and from call to call exactly as they say.
 #![tactic(auto)]
 
+mod buffered;
 mod call;
 mod calls;
 mod change;
@@ -34,6 +35,7 @@ mod timers;
 mod to_event;
 mod tournament;
 
+pub use buffered::Buffered;
 pub use call::{Call, Refused, Reply};
 pub use cursor::Cursor;
 pub use happened::{Happened, What};

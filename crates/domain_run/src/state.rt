@@ -76,13 +76,14 @@ impl Model for State {
               s.roster.places;
           switches =
               s.switches.items;
-        }) s.roster.cpus s.is_listed s.running.items (vec_capacity s.running) };
+        }) s.roster.cpus s.is_listed s.running.items (vec_capacity s.running) (vec_capacity s.switches) };
 }
 
 impl State {
     /// An empty domain of 1 to 64 CPUs that may give away `limit` of each, 10485 to 1048576 in
-    /// 1/2^20. Room for 256 tasks and for the numbers ever admitted is made here; after it only
-    /// [`State::tick`], [`State::begin`] and [`State::begin_told`] take memory. `Err` where a growth was refused.
+    /// 1/2^20. Room for 256 tasks, for the numbers ever admitted and for the switches of one event is
+    /// made here; after it only [`State::tick`], [`State::begin`], [`State::begin_told`] and
+    /// [`State::leap`] take memory. `Err` where a growth was refused.
     pub fn open(alloc: Global, cpus: u32, limit: u64) -> Result<State, NoMemory>
         requires cpus { IsCpus cpus }
         requires limit { IsLimit limit }
@@ -95,7 +96,7 @@ impl State {
             time: 0,
             roster: Roster::open(alloc, cpus)?,
             used: Numbers::open(alloc)?,
-            switches: Vec::new(alloc),
+            switches: Vec::with_capacity(alloc, cpus)?,
             running: Vec::with_capacity(alloc, cpus)?,
             is_listed: true,
         })

@@ -300,6 +300,7 @@ pub(crate) fn begin(
     ensures switches { switches.new.items ≡ switches.old.items
         ++ switches_spec.switches_from time
         (tick_spec.prepared time roster.old.tasks) 0 roster.old.places roster.new.places }
+    ensures room { vec_capacity switches.new ≡ vec_capacity switches.old }
     ensures none { result ≡ false → roster.new.places ≡ roster.old.places }
     ensures told { Tells log.old (telling_spec.told_at_home roster.new.places time roster.old.tasks)
         log.new }

@@ -79,10 +79,12 @@ pub record HasTurned (place : ℕ) (before after : Standing) (old new : RunQueue
       ⊎ (new.timers ≡ slice_set old.timers place after.due)
 
 -- what a state keeps: a domain, whose CPUs its roster has too, who stands on its CPUs, where that is
--- listed, and for that list the room for so many that it was opened with, so it takes no more
+-- listed, and for that list the room for so many that it was opened with, so it takes no more. Its
+-- switches have the room of one event's at least, so where none waits there is room for an event
 pub record IsState (d : Domain) (cpus : ℕ) (is_listed : Bool) (running : List ℕ)
-    (running_capacity : ℕ) : Type 0 where
+    (running_capacity switch_capacity : ℕ) : Type 0 where
   pub domain : IsDomain d
   pub wide : cpus ≡ d.cpus
   pub running_is : is_listed ≡ true → running ≡ running_numbers d.curr
   pub running_room : running_capacity ≡ d.cpus
+  pub switch_room : d.cpus ≤ switch_capacity

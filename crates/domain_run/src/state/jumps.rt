@@ -1,12 +1,12 @@
 //! Many ticks at once: a tick begins, and so many end as pass before something else is to be done.
 
-ghost use Rattle.std.specs.Prelude.{◌≡◌, ◌++◌, [], false, ◌<◌, ◌≤◌, ◌^◌, ◌+◌, ◌<ℤ◌, ◌≤ℤ◌, ◌↔◌, pos, OnOk, OnErr, IfSome, IsTrue, is_some, length};
+ghost use Rattle.std.specs.Prelude.{◌≡◌, ◌++◌, [], true, false, ◌*◌, ◌<◌, ◌≤◌, ◌^◌, ◌+◌, ◌<ℤ◌, ◌≤ℤ◌, ◌↔◌, pos, OnOk, OnErr, IfSome, IsTrue, is_some, length};
 ghost use Rattle.domain_run.specs.Domain.{Domain};
 ghost use Rattle.domain_run.specs.Tick as tick;
 ghost use Rattle.domain_run.specs.Jump as jump;
 ghost use Rattle.domain_run.specs.Sound.{IsDomain};
 ghost use Rattle.domain_run.specs.Happened.{told_by_beginning, told_by_last_end, told_by_ticks};
-ghost use Rattle.domain_run.specs.Log.{Tells, HasRoomToEnd};
+ghost use Rattle.domain_run.specs.Log.{Tells, HasRoom, HasRoomToEnd};
 
 use super::State;
 use crate::log::Log;
@@ -15,6 +15,31 @@ use crate::sweep;
 use no_memory::NoMemory;
 
 impl State {
+    /// As [`State::begin_told`], in the room that is there: whether there was any for a switch of each
+    /// CPU beside those so far. Where there is none, nothing has changed, and nothing is told. There is
+    /// where no switch waits. Who stands on the CPUs is not listed where that has changed. Takes no
+    /// memory.
+    pub(super) fn begin_in_room(&mut self, log: &mut Log) -> bool
+        requires early { self.old.time < 2 ^ 42 }
+        requires log { HasRoom (9 * length self.old.tasks + 192) log.old }
+        ensures some { self.old.switches ≡ [] → result ≡ true }
+        ensures ok { result ≡ true → self.new ≡ jump.under_way self.old }
+        ensures begun { result ≡ true → jump.IsUnderWay self.new }
+        ensures full { result ≡ false → self.new ≡ self.old }
+        ensures domain { IsDomain self.old }
+        ensures told { result ≡ true → Tells log.old (told_by_beginning self.old) log.new }
+        ensures room { result ≡ true → HasRoomToEnd log.new }
+        ensures untold { result ≡ false → log.new ≡ log.old }
+    {
+        if self.switches.capacity() - self.switches.len() < self.cpus {
+            return false;
+        }
+        let changed = sweep::begin(self.time, &mut self.roster, &mut self.switches, log);
+        self.is_listed = are_still_listed(self.is_listed, changed);
+        self.time += 1;
+        true
+    }
+
     /// As [`State::begin_told`], but who stands on the CPUs is not listed where that has changed.
     pub(super) fn begin_unlisted(&mut self, log: &mut Log) -> Result<(), NoMemory>
         requires { self.old.time < 2 ^ 42 }
@@ -28,10 +53,12 @@ impl State {
     {
         self.switches.try_reserve(self.cpus)?;
         log.make_room(9 * self.roster.len() + 192)?;
-        let changed = sweep::begin(self.time, &mut self.roster, &mut self.switches, log);
-        self.is_listed = are_still_listed(self.is_listed, changed);
-        self.time += 1;
-        Ok(())
+        if self.begin_in_room(log) {
+            Ok(())
+        } else {
+            // Never: the room is there.
+            Err(NoMemory)
+        }
     }
 
     /// Who stands on the CPUs is listed.

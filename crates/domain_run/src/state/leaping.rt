@@ -1,6 +1,6 @@
 //! From event to event in one call.
 
-ghost use Rattle.std.specs.Prelude.{◌≡◌, ◌<◌, ◌≤◌, ◌^◌, ◌+◌, IfOk, OnErr};
+ghost use Rattle.std.specs.Prelude.{◌≡◌, [], ◌<◌, ◌≤◌, ◌^◌, ◌+◌, IfOk, OnErr};
 ghost use Rattle.domain_run.specs.Domain.{Domain};
 ghost use Rattle.domain_run.specs.Jump as jump;
 ghost use Rattle.domain_run.specs.Keys.{AreKept};
@@ -26,6 +26,25 @@ impl State {
         let ticks = to_event::leap(&mut self.roster, self.limit, most, self.time);
         self.time += ticks - 1;
         ticks
+    }
+
+    /// As [`State::leap`], in the room that is there. Where there is none for a switch of each CPU
+    /// beside those so far, nothing has changed: it answers 0 then. There is where no switch waits.
+    /// Takes no memory.
+    pub(crate) fn leap_in_room(&mut self, most: u64) -> u64
+        requires some { 0 < most }
+        requires early { self.old.time + most ≤ 2 ^ 42 }
+        ensures some { self.old.switches ≡ [] → 0 < result }
+        ensures most { result ≤ most }
+        ensures ticks { self.new ≡ tick.ticks result self.old }
+        ensures keys { AreKept self.old.tasks self.new.tasks }
+    {
+        let mut log = self.silent();
+        if !self.begin_in_room(&mut log) {
+            return 0;
+        }
+        let most = most.min(self.quiet());
+        self.run(most)
     }
 
     /// Goes on to the next event, by at most so many ticks, and answers how many they were: the

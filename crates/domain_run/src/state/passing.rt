@@ -1,9 +1,10 @@
-//! A state forgets its switches.
+//! A state forgets its switches, and has room for more.
 
-ghost use Rattle.std.specs.Prelude.{◌≡◌};
+ghost use Rattle.std.specs.Prelude.{◌≡◌, ◌≤◌};
 ghost use Rattle.domain_run.specs.Passing.{without_switches};
 
 use super::State;
+use no_memory::NoMemory;
 
 impl State {
     /// Forgets the switches so far, and keeps their room. Nothing else changes: no rule reads them,
@@ -12,5 +13,15 @@ impl State {
         ensures { self.new ≡ without_switches self.old }
     {
         self.switches.clear();
+    }
+
+    /// Room for so many switches more, and for those of an event beside them. `Err` where a growth
+    /// was refused; nothing has changed, either way.
+    pub(crate) fn make_room(&mut self, more: usize) -> Result<(), NoMemory>
+        requires { more ≤ 65536 }
+        ensures { self.new ≡ self.old }
+    {
+        self.switches.try_reserve(more + self.cpus)?;
+        Ok(())
     }
 }

@@ -21,4 +21,5 @@ invariant_of-self c = record {
   wide = c.turn_number.ensures.cpus ∙ c.self.invariant.wide;
   running_is = λ listed. c.self.invariant.running_is listed ∙ ap running_numbers (sym c.turn_number.ensures.places);
   running_room = c.self.invariant.running_room;
+  switch_room = c.self.invariant.switch_room;
 }

@@ -56,6 +56,7 @@ invariant_of-self c =
       wide = c.pay_all.ensures.cpus ∙ c.self.invariant.wide;
       running_is = λ listed. c.relist.ensures.running ∙ ap running_numbers c.occupants.ensures.occupants ∙ ap running_numbers (sym c.pay_all.ensures.places);
       running_room = c.relist.ensures.room ∙ c.self.invariant.running_room;
+      switch_room = c.self.invariant.switch_room;
     }
 
 pub returns-clause-domain : goal.returns-clause-domain

@@ -14,4 +14,5 @@ invariant_of-self c = record {
   wide = c.self.invariant.wide;
   running_is = c.self.invariant.running_is;
   running_room = c.self.invariant.running_room;
+  switch_room = rw c.clear.ensures.capacity c.self.invariant.switch_room;
 }

@@ -72,6 +72,7 @@ invariant_of-self c = record {
   wide = c.push.ensures.cpus ∙ c.self.invariant.wide;
   running_is = λ listed. c.self.invariant.running_is listed ∙ ap running_numbers (sym c.push.ensures.places);
   running_room = c.self.invariant.running_room;
+  switch_room = c.self.invariant.switch_room;
 }
 
 pub returns : goal.returns

@@ -17,4 +17,5 @@ invariant_of-self c =
       wide = i.wide;
       running_is = λ listed. c.relist.ensures.running ∙ ap running_numbers c.occupants.ensures.occupants;
       running_room = c.relist.ensures.room ∙ i.running_room;
+      switch_room = i.switch_room;
     }

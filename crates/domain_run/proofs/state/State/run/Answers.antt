@@ -65,6 +65,7 @@ invariant_of-self c =
       wide = c.leap-ticks.ensures.cpus ∙ c.self.invariant.wide;
       running_is = λ listed. c.self.invariant.running_is listed ∙ ap running_numbers (sym c.leap-ticks.ensures.places);
       running_room = c.self.invariant.running_room;
+      switch_room = c.self.invariant.switch_room;
     }
 
 pub returns-clause-domain : goal.returns-clause-domain

@@ -1,4 +1,4 @@
-use Rattle.std.proofs.Common.{◌≡◌, ◌+◌, ◌<◌, ◌^◌, [], refl, sym, ap, ◌∙◌, subst, arith}
+use Rattle.std.proofs.Common.{◌≡◌, ◌+◌, ◌<◌, ◌^◌, length, sym, ap, ◌∙◌, subst, arith}
 use Rattle.domain_run.specs.Domain.{Domain}
 use Rattle.domain_run.specs.Jump.{under_way, running_numbers}
 use Rattle.domain_run.specs.Sound.{IsDomain, IsPlacement}
@@ -7,19 +7,18 @@ use Rattle.domain_run.proofs.Paying.{under_way_is}
 use Rattle.domain_run.specs.Happened.{told_by_beginning}
 use Rattle.domain_run.specs.Log.{Tells}
 use Rattle.domain_run.specs.private.Telling.{told_at_home}
-use Rattle.domain_run.proofs.Logging.{tells_more}
-use Rattle.domain_run.proofs.state.State.begin_unlisted.Goals as goal
+use Rattle.domain_run.proofs.state.State.begin_in_room.Goals as goal
 
 pub begin-changed-requires-clause-cpus : goal.begin-changed-requires-clause-cpus
 begin-changed-requires-clause-cpus c = c.self.invariant.domain.steady.wide ∙ sym c.self.invariant.wide
 
-pub invariant_of-self-2 : goal.invariant_of-self-2
-invariant_of-self-2 c =
+pub invariant_of-self : goal.invariant_of-self
+invariant_of-self c =
     let s = c.self.inside in
     let d : Domain = record { cpus = s.cpus; limit = s.limit; time = s.time; tasks = s.roster.tasks; used = s.used; curr = s.roster.places; switches = s.switches.items } in
     let b = c.begin-changed.new in
-    let m = middle d b.roster.tasks b.roster.places b.switches.items c.self.invariant.domain c.begin-changed.ensures.prepared c.begin-changed.ensures.tasks c.begin-changed.ensures.places (c.begin-changed.ensures.switches ∙ rw c.try_reserve.ensures.items refl) in
-    let early : d.time < 2 ^ 42 = subst (λ (x : Domain). x.time < 2 ^ 42) (sym c.self.view_is) c.requires in
+    let m = middle d b.roster.tasks b.roster.places b.switches.items c.self.invariant.domain c.begin-changed.ensures.prepared c.begin-changed.ensures.tasks c.begin-changed.ensures.places c.begin-changed.ensures.switches in
+    let early : d.time < 2 ^ 42 = subst (λ (x : Domain). x.time < 2 ^ 42) (sym c.self.view_is) c.requires.early in
     let is = under_way_is d c.self.invariant.domain early c.begin-changed.ensures.prepared in
     record {
       domain = subst IsDomain (sym (ap (λ (x : Domain). record x { time = d.time + 1 }) m.begun_is)) is.0;
@@ -28,45 +27,44 @@ invariant_of-self-2 c =
           let still = c.are_still_listed-self-inside.ensures listed in
           c.self.invariant.running_is still.0 ∙ ap running_numbers (sym (c.begin-changed.ensures.none still.1));
       running_room = c.self.invariant.running_room;
+      switch_room = rw c.begin-changed.ensures.room c.self.invariant.switch_room;
     }
 
 pub returns-clause-ok : goal.returns-clause-ok
-returns-clause-ok c =
+returns-clause-ok c made =
     let s = c.self.inside in
     let d : Domain = record { cpus = s.cpus; limit = s.limit; time = s.time; tasks = s.roster.tasks; used = s.used; curr = s.roster.places; switches = s.switches.items } in
     let b = c.begin-changed.new in
-    let m = middle d b.roster.tasks b.roster.places b.switches.items c.self.invariant.domain c.begin-changed.ensures.prepared c.begin-changed.ensures.tasks c.begin-changed.ensures.places (c.begin-changed.ensures.switches ∙ rw c.try_reserve.ensures.items refl) in
+    let m = middle d b.roster.tasks b.roster.places b.switches.items c.self.invariant.domain c.begin-changed.ensures.prepared c.begin-changed.ensures.tasks c.begin-changed.ensures.places c.begin-changed.ensures.switches in
     ap (λ (x : Domain). record x { time = d.time + 1 }) m.begun_is ∙ ap under_way c.self.view_is
 
 pub returns-clause-begun : goal.returns-clause-begun
-returns-clause-begun c =
+returns-clause-begun c made =
     let s = c.self.inside in
     let d : Domain = record { cpus = s.cpus; limit = s.limit; time = s.time; tasks = s.roster.tasks; used = s.used; curr = s.roster.places; switches = s.switches.items } in
-    let early : d.time < 2 ^ 42 = subst (λ (x : Domain). x.time < 2 ^ 42) (sym c.self.view_is) c.requires in
+    let early : d.time < 2 ^ 42 = subst (λ (x : Domain). x.time < 2 ^ 42) (sym c.self.view_is) c.requires.early in
     let placed : IsPlacement (under_way d) = (under_way_is d c.self.invariant.domain early c.begin-changed.ensures.prepared).1 in
-    let same = returns-clause-ok c in
+    let same = returns-clause-ok c made in
     record { before = c.args.self.now; begun = same; placed = subst IsPlacement (sym (same ∙ ap under_way (sym c.self.view_is))) placed }
 
 pub begin-changed-requires-clause-narrow : goal.begin-changed-requires-clause-narrow
 begin-changed-requires-clause-narrow c = omega (arith, c.self.invariant.domain.steady.cpus.1, c.self.invariant.wide)
 
 pub begin-changed-requires-clause-log : goal.begin-changed-requires-clause-log
-begin-changed-requires-clause-log c wanted = omega (arith, c.in_ok-make_room.ensures.ok wanted, c.len.ensures.len)
+begin-changed-requires-clause-log c wanted = omega (arith, c.requires.log wanted, ap (λ (x : Domain). length x.tasks) c.self.view_is)
 
 pub returns-clause-told : goal.returns-clause-told
-returns-clause-told c =
+returns-clause-told c made =
     let s = c.self.inside in
     let d : Domain = record { cpus = s.cpus; limit = s.limit; time = s.time; tasks = s.roster.tasks; used = s.used; curr = s.roster.places; switches = s.switches.items } in
     let b = c.begin-changed.new in
-    let m = middle d b.roster.tasks b.roster.places b.switches.items c.self.invariant.domain c.begin-changed.ensures.prepared c.begin-changed.ensures.tasks c.begin-changed.ensures.places (c.begin-changed.ensures.switches ∙ rw c.try_reserve.ensures.items refl) in
+    let m = middle d b.roster.tasks b.roster.places b.switches.items c.self.invariant.domain c.begin-changed.ensures.prepared c.begin-changed.ensures.tasks c.begin-changed.ensures.places c.begin-changed.ensures.switches in
     let home : told_at_home b.roster.places d.time d.tasks ≡ told_by_beginning d = ap (λ (x : Domain). told_at_home x.curr d.time d.tasks) m.begun_is in
-    let told : Tells c.make_room.new.self (told_by_beginning d) c.begin-changed.new.log = subst (λ hs. Tells c.make_room.new.self hs c.begin-changed.new.log) home c.begin-changed.ensures.told in
-    let all = tells_more [] (told_by_beginning d) c.args.log.now c.make_room.new.self c.begin-changed.new.log c.make_room.ensures.told told in
-    subst (λ (x : Domain). Tells c.args.log.now (told_by_beginning x) c.begin-changed.new.log) c.self.view_is all
+    subst (λ hs. Tells c.args.log.now hs b.log) (home ∙ ap told_by_beginning c.self.view_is) c.begin-changed.ensures.told
 
 pub returns-clause-room : goal.returns-clause-room
-returns-clause-room c wanted =
-    omega (arith, c.in_ok-make_room.ensures.ok (sym c.begin-changed.ensures.told.wanted ∙ wanted), c.begin-changed.ensures.log, c.len.ensures.len)
+returns-clause-room c made wanted =
+    omega (arith, c.requires.log (sym c.begin-changed.ensures.told.wanted ∙ wanted), c.begin-changed.ensures.log, ap (λ (x : Domain). length x.tasks) c.self.view_is)
 
 pub begin-changed-requires-clause-numbered : goal.begin-changed-requires-clause-numbered
 begin-changed-requires-clause-numbered c = c.self.invariant.domain.steady.numbered

@@ -1,0 +1,174 @@
+//! A domain that goes on without memory: its switches wait in a buffer until they are taken.
+
+ghost use Rattle.std.specs.Prelude.{◌≡◌, [], ◌<◌, ◌≤◌, ◌^◌, ◌+◌, IfOk, IfErr, IfNone, OnOk, IsTrue};
+ghost use Rattle.domain_run.specs.declared.call.Call.TheVariants as Call;
+ghost use Rattle.domain_run.specs.declared.call.Reply.TheVariants as Reply;
+ghost use Rattle.domain_run.specs.Calls as calls;
+ghost use Rattle.domain_run.specs.Busy.{IfBusy, LacksRoomFor, LacksRoomToChange, IsAboveLimit};
+ghost use Rattle.domain_run.specs.Domain.{IsLimit};
+ghost use Rattle.domain_run.specs.Keys.{AreKept};
+ghost use Rattle.domain_run.specs.Passing.{without_switches};
+ghost use Rattle.domain_run.specs.Sound.{IsDomain};
+ghost use Rattle.domain_run.specs.Tick as tick;
+
+use crate::call::{Refused, Reply};
+use crate::name::Name;
+use crate::script::Script;
+use crate::state::State;
+use crate::switch::Switch;
+use attr_check::Params;
+use no_memory::NoMemory;
+use std::marker::Model;
+
+/// So many switches wait at least before an advance stops; each is 32 bytes, so a buffer has some
+/// 128 kB.
+const PIECE: usize = 4096;
+
+/// A domain whose switches wait in a buffer, of which the room is made once. No call on it takes
+/// memory, so none can be refused for want of it: an advance stops where the buffer is full, and goes
+/// on once the switches that wait were taken and are forgotten. In contracts it is its domain, whose
+/// switches are those that wait.
+#[derive(Drop)]
+pub struct Buffered {
+    state: State,
+}
+
+impl Model for Buffered {
+    ghost use Rattle.domain_run.specs.Domain.{Domain};
+
+    ghost Value = { Domain };
+
+    ghost view = { λ b. b.state };
+}
+
+impl Buffered {
+    /// A domain with a buffer for its switches, those so far among them. `Err` where the room was
+    /// refused.
+    pub fn of(mut state: State) -> Result<Buffered, NoMemory>
+        ensures { IfOk result (λ b. b ≡ state) }
+    {
+        state.make_room(PIECE)?;
+        Ok(Buffered { state })
+    }
+
+    /// The domain, to be looked at.
+    pub fn state(&self) -> &State
+        ensures state { result.now ≡ self.now }
+        ensures domain { IsDomain self.now }
+    {
+        let state = &self.state;
+        // For the prover alone: a look at a state brings what every domain keeps.
+        let _ = state.now();
+        state
+    }
+
+    /// The switches that wait. They rise strictly by time and then by CPU, are before now and on the
+    /// domain's CPUs, and name only tasks that were admitted.
+    pub fn switches(&self) -> &[Switch]
+        ensures switches { result.now ≡ self.now.switches }
+        ensures domain { IsDomain self.now }
+    {
+        self.state.switches()
+    }
+
+    /// Forgets the switches that wait: the buffer is free again. Nothing else changes.
+    pub fn forget_switches(&mut self)
+        ensures { self.new ≡ without_switches self.old }
+    {
+        self.state.forget_switches();
+    }
+
+    /// Goes on from event to event, by at most so many ticks, and answers how many they were: the
+    /// domain and its switches are exactly those of so many single ticks. It stops early where the
+    /// buffer has no room for the switches of one more event; where no switch waits, at least one tick
+    /// is made. Time stays within 2^42 us. Tasks that have left may go off the list; nobody comes, and
+    /// the others keep number, bandwidth and order.
+    pub fn advance(&mut self, n: u64) -> u64
+        requires { self.old.time + n ≤ 2 ^ 42 }
+        ensures ticks { self.new ≡ tick.ticks result self.old }
+        ensures most { result ≤ n }
+        ensures some { self.old.switches ≡ [] → 0 < n → 0 < result }
+        ensures keys { AreKept self.old.tasks self.new.tasks }
+    {
+        let mut ticks = 0;
+        'events: while ticks < n {
+            let made = self.state.leap_in_room(n - ticks);
+            if made == 0 {
+                break;
+            }
+            ticks += made;
+        }
+        ticks
+    }
+}
+
+/// The calls on a domain between two advances, as those of [`State`].
+impl Buffered {
+    /// As [`State::admit`].
+    pub fn admit(
+        &mut self,
+        number: u32,
+        name: Name,
+        params: Params,
+        delay: u64,
+        script: Script,
+    ) -> Result<(), Refused>
+        requires number { (0 < number) × (number < 65536) }
+        requires delay { delay ≤ 1000000000 }
+        ensures domain { self.new
+            ≡ calls.after_call self.old (Call.Admit number name params delay script) }
+        ensures admitted { OnOk result
+            (calls.reply_to self.old (Call.Admit number name params delay script)
+            ≡ Reply.Admitted) }
+        ensures reply { IfErr result (λ r. r.reply
+            ≡ calls.reply_to self.old (Call.Admit number name params delay script)) }
+        ensures refused { IfErr result (λ r. IsTrue (calls.is_refusal r.reply)) }
+        ensures busy { IfErr result (λ r. IfBusy r.reply (LacksRoomFor self.old params.bw)) }
+        ensures back { IfErr result (λ r. (r.name ≡ name) × (r.script ≡ script)) }
+    {
+        self.state.admit(number, name, params, delay, script)
+    }
+
+    /// As [`State::regrade`].
+    pub fn regrade(&mut self, number: u32, params: Params, word: Option<u64>) -> Reply
+        ensures reply { result ≡ calls.reply_to self.old (Call.Regrade number params word) }
+        ensures domain { self.new ≡ calls.after_call self.old (Call.Regrade number params word) }
+        ensures busy { IfNone word (IfBusy result (LacksRoomToChange self.old number params.bw)) }
+    {
+        self.state.regrade(number, params, word)
+    }
+
+    /// As [`State::wake`].
+    pub fn wake(&mut self, number: u32) -> Reply
+        ensures reply { result ≡ calls.reply_to self.old (Call.Wake number) }
+        ensures domain { self.new ≡ calls.after_call self.old (Call.Wake number) }
+    {
+        self.state.wake(number)
+    }
+
+    /// As [`State::leave`].
+    pub fn leave(&mut self, number: u32) -> Reply
+        ensures reply { result ≡ calls.reply_to self.old (Call.Leave number) }
+        ensures domain { self.new ≡ calls.after_call self.old (Call.Leave number) }
+    {
+        self.state.leave(number)
+    }
+
+    /// As [`State::set_limit`].
+    pub fn set_limit(&mut self, limit: u64, word: Option<u64>) -> Reply
+        requires limit { IsLimit limit }
+        ensures reply { result ≡ calls.reply_to self.old (Call.Limit limit word) }
+        ensures domain { self.new ≡ calls.after_call self.old (Call.Limit limit word) }
+        ensures busy { IfNone word (IfBusy result (IsAboveLimit self.old limit)) }
+    {
+        self.state.set_limit(limit, word)
+    }
+
+    /// As [`State::depart`].
+    pub fn depart(&mut self, number: u32) -> Reply
+        ensures reply { result ≡ calls.reply_to self.old (Call.Depart number) }
+        ensures domain { self.new ≡ calls.after_call self.old (Call.Depart number) }
+    {
+        self.state.depart(number)
+    }
+}
