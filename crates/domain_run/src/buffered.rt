@@ -94,7 +94,7 @@ impl Buffered {
         'events: while ticks < n {
             let made = self.state.leap_in_room(n - ticks);
             if made == 0 {
-                break;
+                return ticks;
             }
             ticks += made;
         }
