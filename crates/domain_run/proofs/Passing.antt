@@ -1,5 +1,5 @@
 -- No rule reads the switches: with more before them, each step does the same.
-use Rattle.std.proofs.Common.{◌≡◌, ℕ, zero, suc, Bool, true, false, List, ◌++◌, refl, ap, ◌∙◌, arith}
+use Rattle.std.proofs.Common.{◌≡◌, ℕ, zero, suc, Bool, true, false, List, [], ◌∷◌, ◌++◌, refl, ap, ◌∙◌, arith}
 use Rattle.std.proofs.lemmas.List.{append_assoc, append-nil}
 use Rattle.std.proofs.lemmas.List.Elements.{All-nil}
 use Rattle.std.specs.Prelude.{if◌then◌else◌}
@@ -12,6 +12,7 @@ use Rattle.domain_run.specs.Sound.{IsDomain}
 use Rattle.domain_run.specs.Switches.{switches_from}
 use Rattle.domain_run.specs.Tick.{candidates, prepared, begun, finished, ticked, ticks}
 use Rattle.domain_run.specs.Calls.{reply_to, is_refusal, granted, after_call}
+use Rattle.domain_run.specs.Run.{after_calls}
 use Rattle.domain_run.specs.Happened.{told_by_tick, told_by_ticks}
 use Rattle.edf_pick.specs.Places.{placed}
 
@@ -50,6 +51,11 @@ after_call_behind past d (Depart number) =
     chosen (is_refusal (reply_to d (Depart number))) past d (granted d (Depart number))
 after_call_behind past d (Arrive number name params script) =
     chosen (is_refusal (reply_to d (Arrive number name params script))) past d (granted d (Arrive number name params script))
+
+-- a run
+pub after_calls_behind : (past : List Switch) (d : Domain) (cs : List Call) → after_calls (behind past d) cs ≡ behind past (after_calls d cs)
+after_calls_behind past d [] = refl
+after_calls_behind past d (c ∷ cs) = ap (λ (e : Domain). after_calls e cs) (after_call_behind past d c) ∙ after_calls_behind past (after_call d c) cs
 
 -- and what is told
 pub told_by_tick_behind : (past : List Switch) (d : Domain) → told_by_tick (behind past d) ≡ told_by_tick d
