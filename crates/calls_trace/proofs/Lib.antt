@@ -1,4 +1,5 @@
 mod Naming
+mod Keeping
 mod Sections
 mod ToldLines
 mod Written
