@@ -8,6 +8,7 @@ mod Ahead
 mod Found
 mod Few
 mod UnderWay
+mod Slices
 mod EventRoom
 mod EventOrder
 mod ToldAhead

@@ -1,12 +1,14 @@
 //! The trace text of runs.
 
-ghost use Rattle.std.specs.Prelude.{◌≡◌, ◌+◌, ◌<◌, ◌≤◌, ◌^◌, ◌++◌, length, is_ok, All, IfErr, OnOk};
+ghost use Rattle.std.specs.Prelude.{◌≡◌, ◌+◌, ◌<◌, ◌≤◌, ◌^◌, ◌++◌, length, is_ok, All, IfErr, IfOk, OnOk};
 ghost use Rattle.std.specs.Io.KnownBytes.{Appends};
 ghost use Rattle.switch_text.specs.Trace.{header, trace_of};
 ghost use Rattle.switch_text.specs.Runs.{views, IsRun};
 ghost use Rattle.counted_io.specs.Sides.{inner_of, faults_of};
 ghost use Rattle.counted_io.specs.Faults.{one_more_unless, TakesFront};
 ghost use Rattle.switch_text.specs.private.Merging.{next_entry, IsPrinted, IsRunAt};
+ghost use Rattle.switch_text.specs.private.Sending.{Sends};
+ghost use Rattle.switch_text.specs.private.Slices.{lines_in};
 ghost use Rattle.switch_text.specs.private.Ready.{AreNobodys, IsSlot, IsTexts};
 
 use crate::batch::{Batch, Front};
@@ -74,6 +76,55 @@ pub(crate) fn stopped_after(written: usize, more: usize) -> WriteFault
     }
 }
 
+fn together(sent: usize, more: usize) -> usize
+    requires { sent + more < 2 ^ 64 }
+    ensures { result ≡ sent + more }
+{
+    sent + more
+}
+
+// The lines of runs, by time and CPU, go out behind what waits, with room for the texts of tasks that
+// holds none yet: how many bytes went out, also where the writer failed. What is left waits.
+#[inline(always)]
+fn send_runs<W: Write>(
+    runs: &[Run<'_>],
+    slots: &mut [Slot],
+    texts: &mut Texts,
+    batch: &mut Batch,
+    writer: &mut Counted<W>,
+) -> Result<usize, usize>
+    requires few { length runs.now ≤ 8 }
+    requires runs { All IsRun runs.now }
+    requires many { length slots.old ≡ 640 }
+    requires empty { AreNobodys slots.old }
+    requires texts { IsTexts texts.old }
+    requires room { length batch.old ≤ 65536 }
+    requires faults { faults_of writer.old < 2 ^ 63 }
+    ensures ok { IfOk result (λ n. Sends
+        (W.contents (inner_of writer.old)) (W.contents (inner_of writer.new))
+        (batch.old ++ lines_in (views runs.now)) n batch.new) }
+    ensures counted { IfOk result (λ n. n + length batch.new < 2 ^ 64) }
+    ensures room { OnOk result (length batch.new ≤ 65536) }
+    ensures err { IfErr result (TakesFront
+        (W.contents (inner_of writer.old)) (W.contents (inner_of writer.new))
+        (batch.old ++ lines_in (views runs.now))) }
+    ensures many { length slots.new ≡ 640 }
+    ensures texts { IsTexts texts.new }
+    ensures faults { faults_of writer.new ≡ one_more_unless (is_ok result) (faults_of writer.old) }
+{
+    let mut sent = 0;
+    let mut places = [0usize; 8];
+    while let Some(next) = earliest(runs, &places) {
+        places[next.index] += 1;
+        match batch.make_room(writer) {
+            Ok(n) => sent += n,
+            Err(n) => return Err(together(sent, n)),
+        }
+        append_line(runs, &next, slots, texts, batch);
+    }
+    Ok(sent)
+}
+
 // The trace text, with room for the texts of tasks that holds none yet.
 #[inline(always)]
 fn write_with<W: Write>(
@@ -96,17 +147,11 @@ fn write_with<W: Write>(
 {
     let mut batch = Batch::new();
     batch.append(header_text());
-    let mut written = 0;
-    let mut places = [0usize; 8];
     let mut texts = no_texts();
-    while let Some(next) = earliest(runs, &places) {
-        places[next.index] += 1;
-        match batch.make_room(writer) {
-            Ok(n) => written += n,
-            Err(n) => return Err(stopped_after(written, n)),
-        }
-        append_line(runs, &next, slots, &mut texts, &mut batch);
-    }
+    let written = match send_runs(runs, slots, &mut texts, &mut batch, writer) {
+        Ok(n) => n,
+        Err(n) => return Err(stopped_after(0, n)),
+    };
     match batch.flush(writer) {
         Ok(_) => Ok(()),
         Err(n) => Err(stopped_after(written, n)),

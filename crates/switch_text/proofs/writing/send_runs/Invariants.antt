@@ -1,14 +1,15 @@
-use Rattle.std.proofs.Common.{length, ◌≡◌, All}
+use Rattle.std.proofs.Common.{length, ◌≡◌, ◌≤◌, All}
 use Rattle.switch_text.specs.Runs.{views}
 use Rattle.switch_text.specs.private.Merging.{left_of}
 use Rattle.switch_text.specs.private.Ready.{IsSlot, IsTexts}
-use Rattle.switch_text.proofs.UnderWay.{IsUnderWay}
+use Rattle.switch_text.specs.private.Slices.{IsSending}
 use Rattle.counted_io.specs.Sides.{inner_of}
-use Rattle.switch_text.proofs.writing.write_with.Given as goal
+use Rattle.switch_text.proofs.writing.send_runs.Given as goal
 
 abbrev pub invariant-loop-next : goal.invariant-loop-next
 invariant-loop-next g l = record {
-  under_way : IsUnderWay (g.W.Write.contents (inner_of l.fn.writer)) (g.W.Write.contents (inner_of l.writer)) (views l.runs) l.places l.written l.batch;
+  sending : IsSending (g.W.Write.contents (inner_of l.fn.writer)) (g.W.Write.contents (inner_of l.writer)) l.fn.batch (views l.runs) l.places l.sent l.batch;
+  room : length l.batch ≤ 65536;
   many : length l.slots ≡ 640;
   slots : All (IsSlot l.runs) l.slots;
   texts : IsTexts l.texts;

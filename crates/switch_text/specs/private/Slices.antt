@@ -1,0 +1,22 @@
+-- The lines of runs, without the header: what goes out behind what waits. The trace text knows nothing
+-- of these words.
+use Rattle.std.specs.Prelude.{ℕ, ◌+◌, ◌*◌, ◌≤◌, List, ◌++◌, length, Option}
+use Rattle.std.specs.List.{flat_map}
+use Rattle.switch_text.specs.Trace.{RunView, entries_of, in_order, lines_of}
+use Rattle.switch_text.specs.private.Merging.{left_of}
+use Rattle.switch_text.specs.private.Sending.{Sends}
+
+abbrev pub lines_in : List RunView → List ℕ
+lines_in runs = lines_of (in_order (flat_map entries_of runs))
+
+-- of each run from its place on
+abbrev pub lines_from : List RunView → List ℕ → List ℕ
+lines_from runs places = lines_of (in_order (left_of runs places))
+
+-- behind a first text the lines of runs go out: so many bytes did, these wait, and the others are
+-- still to be made
+pub record IsSending (before after : Option (List ℕ)) (first : List ℕ) (runs : List RunView)
+    (places : List ℕ) (sent : ℕ) (waiting : List ℕ) : Type 0 where
+  pub sends : Sends before after (first ++ lines_in runs) sent (waiting ++ lines_from runs places)
+  pub bound : sent + length waiting + 512 * length (left_of runs places)
+      ≤ length first + 512 * length (flat_map entries_of runs)
