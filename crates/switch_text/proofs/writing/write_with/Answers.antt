@@ -17,7 +17,8 @@ pub returns-in-Err-clause-err : goal.returns-in-Err-clause-err
 returns-in-Err-clause-err g c =
     let waiting : c.append.new.self ≡ header = rw (c.append.ensures, c.new-batch.ensures) c.header_text.ensures.text in
     let front = TakesFront (g.W.Write.contents (inner_of c.args.writer.now)) (g.W.Write.contents (inner_of c.send_runs.new.writer)) in
-    subst (front (trace_of (views c.args.runs.now))) (sym c.stopped_after.ensures)
+    let same : 0 + c.in-Err.n ≡ c.in-Err.n = omega arith in
+    subst (front (trace_of (views c.args.runs.now))) (sym (c.stopped_after.ensures ∙ same))
     (subst (λ text. front text c.in-Err.n) (trace_is c.append.new.self (views c.args.runs.now) waiting) c.in-Err.ensures.err)
 
 pub stopped_after-requires-in-Err-flush : goal.stopped_after-requires-in-Err-flush
@@ -35,4 +36,4 @@ returns-in-Err-flush-clause-err g c =
     let text = c.append.new.self ++ lines_in (views c.args.runs.now) in
     let front = TakesFront (g.W.Write.contents (inner_of c.args.writer.now)) (g.W.Write.contents (inner_of c.flush.new.writer)) in
     subst (front (trace_of (views c.args.runs.now))) (sym c.stopped_after-in-Err-flush.ensures)
-    (subst (λ t. front t _) (trace_is c.append.new.self (views c.args.runs.now) waiting) (stops_all _ _ _ text c.send_runs.new.batch _ c.in-Err-flush.n c.in-Ok.ensures.ok c.in-Err-flush.ensures.err))
+    (subst (λ t. front t (c.in-Ok.n + c.in-Err-flush.n)) (trace_is c.append.new.self (views c.args.runs.now) waiting) (stops_all _ _ _ text c.send_runs.new.batch c.in-Ok.n c.in-Err-flush.n c.in-Ok.ensures.ok c.in-Err-flush.ensures.err))
