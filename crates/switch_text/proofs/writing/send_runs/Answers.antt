@@ -1,4 +1,4 @@
-use Rattle.std.proofs.Common.{◌≡◌, ◌∙◌, ◌+◌, ◌++◌, subst, sym, refl, arith}
+use Rattle.std.proofs.Common.{◌∙◌, ◌+◌, ◌++◌, subst, sym, refl, arith}
 use Rattle.std.proofs.lemmas.List.{length-map}
 use Rattle.switch_text.specs.Runs.{view_of, views}
 use Rattle.counted_io.specs.Sides.{inner_of}
