@@ -8,7 +8,8 @@ mod Ahead
 mod Found
 mod Few
 mod UnderWay
-mod Slices
+mod Sliced
+mod Slicing
 mod EventRoom
 mod EventOrder
 mod ToldAhead

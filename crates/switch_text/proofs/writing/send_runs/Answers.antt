@@ -4,12 +4,12 @@ use Rattle.switch_text.specs.Runs.{view_of, views}
 use Rattle.counted_io.specs.Sides.{inner_of}
 use Rattle.counted_io.specs.Faults.{TakesFront}
 use Rattle.switch_text.specs.private.Merging.{next_entry, stepped}
-use Rattle.switch_text.specs.private.Slices.{lines_in, IsSending}
+use Rattle.switch_text.specs.private.Sliced.{lines_in, IsSending}
 use Rattle.switch_text.proofs.Few.{few}
 use Rattle.switch_text.proofs.Kept.{nobody_is_slot}
 use Rattle.switch_text.proofs.Found.{in_order-next}
 use Rattle.switch_text.proofs.UnderWay.{sent_within, Sends-more, length_from_append}
-use Rattle.switch_text.proofs.Slices.{IsSending-start, IsSending-next, IsSending-stops, IsSending-ends, sent_fits}
+use Rattle.switch_text.proofs.Sliced.{IsSending-start, IsSending-next, IsSending-stops, IsSending-ends, sent_fits}
 use Rattle.switch_text.proofs.writing.send_runs.Goals as goal
 
 pub loop-next-init : goal.loop-next-init
@@ -65,3 +65,12 @@ returns-clause-ok g c = IsSending-ends _ _ c.args.batch.now (views c.args.runs.n
 
 pub returns-clause-counted : goal.returns-clause-counted
 returns-clause-counted g c = sent_fits _ _ c.args.batch.now (views c.args.runs.now) c.loop-next.places c.loop-next.sent _ c.loop-next.batch c.loop-next.invariant.sending c.requires.room (few c.args.runs.now c.requires.few c.requires.runs) (omega arith)
+
+pub returns-clause-bound : goal.returns-clause-bound
+returns-clause-bound g c = let bound = c.loop-next.invariant.sending.bound in omega (arith, bound)
+
+pub returns-in-Err-clause-stopped : goal.returns-in-Err-clause-stopped
+returns-in-Err-clause-stopped g c =
+    let bound = c.loop-next.invariant.sending.bound in
+    let lt = c.in-Err.ensures.err.some_left in
+    omega (arith, bound, lt, c.together.ensures)

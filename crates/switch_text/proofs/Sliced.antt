@@ -9,7 +9,7 @@ use Rattle.switch_text.specs.Trace.{RunView, Entry, entries_of, in_order, header
 use Rattle.switch_text.specs.private.Merging.{left_of}
 use Rattle.counted_io.specs.Faults.{TakesFront}
 use Rattle.switch_text.specs.private.Sending.{Sends}
-use Rattle.switch_text.specs.private.Slices.{lines_in, lines_from, IsSending}
+use Rattle.switch_text.specs.private.Sliced.{lines_in, lines_from, IsSending}
 use Rattle.switch_text.proofs.Order.{length-in_order}
 use Rattle.switch_text.proofs.UnderWay.{sends_on, length-sent, left_of-start}
 
@@ -52,7 +52,7 @@ stops_all before mid after text left sent n s t =
     }
 
 -- the writer takes the front of what waits, and not all: so it does of that with more behind it
-front_more : (before after : Option (List ℕ)) (text more : List ℕ) (n : ℕ) → TakesFront before after text n → TakesFront before after (text ++ more) n
+pub front_more : (before after : Option (List ℕ)) (text more : List ℕ) (n : ℕ) → TakesFront before after text n → TakesFront before after (text ++ more) n
 front_more before after text more n t =
     let some_left : n < length text = t.some_left in
     let le : n ≤ length text = omega arith in
