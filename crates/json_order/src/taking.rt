@@ -1,4 +1,5 @@
 ghost use Rattle.std.specs.Prelude.{◌≡◌, true, ◌<◌, ◌≤◌, Some, IfOk, IfErr, length, take, slice_index, string_bytes};
+ghost use Rattle.std.specs.Char.{is_ascii_digit};
 ghost use Rattle.std.specs.List.{All};
 ghost use Rattle.json_order.specs.declared.fault.JsonKind.TheVariants.{Memory};
 ghost use Rattle.json_order.specs.Grammar as grammar;
@@ -9,7 +10,7 @@ ghost use Rattle.json_order.specs.private.Machine.{in_number, in_word};
 
 use crate::escape::escape_of;
 use crate::fault::JsonKind;
-use crate::number::part_step;
+use crate::number::{is_in_digits, part_step};
 use crate::place::{Escape, Part, Place};
 use crate::word::Word;
 
@@ -81,6 +82,20 @@ fn take_quoted<'a>(text: &mut String, escape: Escape, rest: &'a str) -> Result<&
     }
 }
 
+/// How many digits stand in front.
+#[inline(always)]
+fn digits_len(bytes: &[u8]) -> usize
+    ensures within { result ≤ length bytes.now }
+    ensures digits { All (λ b. is_ascii_digit b ≡ true) (take result bytes.now) }
+{
+    for (i, byte) in bytes.iter().enumerate() {
+        if !byte.is_ascii_digit() {
+            return i;
+        }
+    }
+    bytes.len()
+}
+
 /// How many bytes in front go on with a number, and how far it is read behind them.
 #[inline(always)]
 fn number_run(bytes: &[u8], part: Part) -> (usize, Part)
@@ -88,13 +103,18 @@ fn number_run(bytes: &[u8], part: Part) -> (usize, Part)
     ensures read { parts_after part (take result.0 bytes.now) ≡ Some result.1 }
 {
     let mut read = part;
-    for (i, byte) in bytes.iter().enumerate() {
-        match part_step(read, char::from(*byte)) {
+    let mut len = 0;
+    'parts: while len < bytes.len() {
+        match part_step(read, char::from(bytes[len])) {
             Some(next) => read = next,
-            None => return (i, read),
+            None => return (len, read),
+        }
+        len += 1;
+        if is_in_digits(read) {
+            len += digits_len(&bytes[len..]);
         }
     }
-    (bytes.len(), read)
+    (len, read)
 }
 
 /// Takes the characters in front that a number goes on with, at once; what stands behind them.
