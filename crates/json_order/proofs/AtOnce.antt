@@ -13,8 +13,8 @@ use Rattle.std.proofs.lemmas.List.Elements.{recursion_from_All, All-from_recursi
 use Rattle.json_order.specs.Json.{Json}
 use Rattle.json_order.specs.Grammar.{is_plain}
 use Rattle.json_order.specs.Fault.{strict}
-use Rattle.json_order.specs.private.Machine.{Entries, Place, Frame, State, state, run_on, run, IsFine, in_string, in_key, in_number, in_word, quote_step, going, part_step}
-use Rattle.json_order.specs.private.AtOnce.{MovesPlain, Takes, TakesQuoted, parts_after, is_in_digits}
+use Rattle.json_order.specs.private.Machine.{Entries, Place, Frame, State, state, run_on, run, IsFine, in_string, in_key, in_number, in_word, step, quote_step, going, part_step}
+use Rattle.json_order.specs.private.AtOnce.{MovesPlain, Takes, Passes, TakesQuoted, parts_after, is_in_digits}
 use Rattle.json_order.specs.declared.fault.JsonKind.{JsonKind}
 use Rattle.json_order.specs.declared.place.Escape.{Escape}
 use Rattle.json_order.specs.declared.place.Escape.TheVariants.{Outside}
@@ -120,6 +120,24 @@ quoted_more a b d e f g before mid after t u = (
   takes_more (in_string a e) (in_string b f) (in_string d g) before mid after t.0 u.0,
   λ es. takes_more (in_key es a e) (in_key es b f) (in_key es d g) before mid after (t.1 es) (u.1 es),
 )
+
+-- FROM STATE TO STATE
+
+pub passes_nothing : (s : State) (before : List ℕ) → Passes s s before before
+passes_nothing s before = ([], refl, refl)
+
+pub passes_takes : (p q : Place) (fs : List Frame) (before after : List ℕ) → Takes p q before after → Passes (state p fs) (state q fs) before after
+passes_takes p q fs before after t = (t.0, t.1, t.2 fs)
+
+pub passes_more : (s t u : State) (before mid after : List ℕ) → Passes s t before mid → Passes t u mid after → Passes s u before after
+passes_more s t u before mid after p q = (
+  p.0 ++ q.0,
+  p.1 ∙ ap (λ x. encode_utf8_all p.0 ++ x) q.1 ∙ sym (append_assoc (encode_utf8_all p.0) (encode_utf8_all q.0) after) ∙ ap (λ x. x ++ after) (sym (encodes-append p.0 q.0)),
+  run_append (Ok s) p.0 q.0 ∙ ap (λ o. run strict o q.0) p.2 ∙ q.2,
+)
+
+pub passes_one : (s t : State) (c : ℕ) (before after : List ℕ) → step strict s c ≡ Ok t → before ≡ encode_utf8 c ++ after → Passes s t before after
+passes_one s t c before after h next = (c ∷ [], next ∙ ap (λ x. x ++ after) (sym (append-nil (encode_utf8 c))), h)
 
 -- one character
 pub quoted_one : (old new : List ℕ) (e f : Escape) (c : ℕ) (before after : List ℕ) → quote_step old e c ≡ Some (going new f) → before ≡ encode_utf8 c ++ after → TakesQuoted old e new f before after
