@@ -1,5 +1,5 @@
 -- A key that is read at once, from its first quote on.
-use Rattle.std.specs.Prelude.{encode_utf8, string_bytes}
+use Rattle.std.specs.Prelude.{encode_utf8}
 use Rattle.std.specs.declared.string.String.{String}
 use Rattle.std.specs.declared.alloc.Global.{Global}
 use Rattle.std.proofs.Common.{ℕ, ◌≡◌, false, List, [], ◌∷◌, ◌++◌, refl, sym, ap, ◌∙◌, subst}

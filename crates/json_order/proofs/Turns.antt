@@ -3,7 +3,7 @@ use Rattle.std.specs.Prelude.{encode_utf8, encode_utf8_all, IsUtf8}
 use Rattle.std.proofs.Common.{ℕ, ◌+◌, ◌≤◌, ◌≡◌, ◌≢◌, List, [], ◌∷◌, ◌++◌, length, refl, sym, ap, ◌∙◌, subst, arith, Ok, Err, append-nil, append_assoc, length-append}
 use Rattle.std.proofs.lemmas.Str.{encodes-append}
 use Rattle.json_order.specs.Fault.{strict, IsFault}
-use Rattle.json_order.specs.private.Machine.{Place, Frame, State, state, step, start, run, IsFinePlace}
+use Rattle.json_order.specs.private.Machine.{State, step, start, run, IsFinePlace}
 use Rattle.json_order.specs.private.AtOnce.{Passes, Stands}
 use Rattle.json_order.specs.private.Places.{Says}
 use Rattle.json_order.specs.declared.fault.JsonKind.{JsonKind}

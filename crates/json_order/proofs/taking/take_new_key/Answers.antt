@@ -1,4 +1,4 @@
-use Rattle.std.proofs.Common.{◌≡◌, sym, ap, ◌∙◌}
+use Rattle.std.proofs.Common.{sym, ap, ◌∙◌}
 use Rattle.json_order.specs.private.Places.{entries_of, frames_of, state_of}
 use Rattle.json_order.proofs.AtOnce.{if_ok}
 use Rattle.json_order.proofs.NewKeys.{first_begun, next_begun}
