@@ -1,23 +1,25 @@
 -- Several characters taken at once: plain ones of a string, and those of a number.
 use Rattle.std.specs.Prelude.{option_and_then, ◌==◌, nat_le, encode_utf8, encode_utf8_all, slice_index}
 use Rattle.std.specs.Str.{IsUtf8, IsAscii, IsCharBoundary}
+use Rattle.std.specs.Char.{is_ascii_digit}
 use Rattle.std.specs.List.{All, AllByRecursion}
-use Rattle.std.proofs.Common.{ℕ, ◌<◌, ◌≤◌, ◌≡◌, inl, inr, Bool, true, false, not, ◌&&◌, List, [], ◌∷◌, ◌++◌, length, take, drop, refl, sym, ap, ◌∙◌, subst, arith, Option, Some, None, Result, Ok, Err, IfOk, append-nil, append_assoc}
+use Rattle.std.proofs.Common.{ℕ, ◌+◌, ◌<◌, ◌≤◌, ◌≡◌, inl, inr, Bool, true, false, not, ◌&&◌, List, [], ◌∷◌, ◌++◌, length, take, drop, refl, sym, ap, ◌∙◌, subst, arith, Option, Some, None, Result, Ok, Err, IfOk, append-nil, append_assoc}
 use Rattle.std.proofs.lemmas.Bool.{cases_lt, eq-eqb}
 use Rattle.std.proofs.lemmas.Bool.Decides.{nat_tests}
 use Rattle.std.proofs.lemmas.Str.{encode_ascii, encodes-append, encodes-IsAscii, IsUtf8-take, IsUtf8-from_ascii, IsCharBoundary-from_take}
 use Rattle.std.proofs.lemmas.Str.Ascii.{IsAscii-from_all}
-use Rattle.std.proofs.lemmas.List.{take-append-drop}
+use Rattle.std.proofs.lemmas.List.{take-append-drop, take-take, drop-take}
 use Rattle.std.proofs.lemmas.List.Elements.{recursion_from_All, All-from_recursion}
 use Rattle.json_order.specs.Json.{Json}
 use Rattle.json_order.specs.Grammar.{is_plain}
 use Rattle.json_order.specs.Fault.{strict}
-use Rattle.json_order.specs.private.Machine.{Entries, Place, Frame, State, state, run_on, run, IsFine, in_string, in_key, in_number, in_word, quote_step, going, part_step}
-use Rattle.json_order.specs.private.AtOnce.{MovesPlain, Takes, TakesQuoted, parts_after}
+use Rattle.json_order.specs.private.Machine.{Entries, Place, Frame, State, state, run_on, run, IsFine, in_string, in_key, in_number, in_word, step, quote_step, going, part_step}
+use Rattle.json_order.specs.private.AtOnce.{MovesPlain, Takes, Passes, TakesQuoted, parts_after, is_in_digits}
 use Rattle.json_order.specs.declared.fault.JsonKind.{JsonKind}
 use Rattle.json_order.specs.declared.place.Escape.{Escape}
 use Rattle.json_order.specs.declared.place.Escape.TheVariants.{Outside}
 use Rattle.json_order.specs.declared.place.Part.{Part}
+use Rattle.json_order.specs.declared.place.Part.TheVariants.{Minus, Zero, Whole, Dot, Fraction, Mark, Sign, Exponent}
 use Rattle.json_order.specs.declared.word.Word.{Word}
 use Rattle.json_order.specs.declared.word.Word.TheVariants.{Null, True, False}
 use Rattle.json_order.specs.private.Places.{letters_from, value_of}
@@ -119,6 +121,24 @@ quoted_more a b d e f g before mid after t u = (
   λ es. takes_more (in_key es a e) (in_key es b f) (in_key es d g) before mid after (t.1 es) (u.1 es),
 )
 
+-- FROM STATE TO STATE
+
+pub passes_nothing : (s : State) (before : List ℕ) → Passes s s before before
+passes_nothing s before = ([], refl, refl)
+
+pub passes_takes : (p q : Place) (fs : List Frame) (before after : List ℕ) → Takes p q before after → Passes (state p fs) (state q fs) before after
+passes_takes p q fs before after t = (t.0, t.1, t.2 fs)
+
+pub passes_more : (s t u : State) (before mid after : List ℕ) → Passes s t before mid → Passes t u mid after → Passes s u before after
+passes_more s t u before mid after p q = (
+  p.0 ++ q.0,
+  p.1 ∙ ap (λ x. encode_utf8_all p.0 ++ x) q.1 ∙ sym (append_assoc (encode_utf8_all p.0) (encode_utf8_all q.0) after) ∙ ap (λ x. x ++ after) (sym (encodes-append p.0 q.0)),
+  run_append (Ok s) p.0 q.0 ∙ ap (λ o. run strict o q.0) p.2 ∙ q.2,
+)
+
+pub passes_one : (s t : State) (c : ℕ) (before after : List ℕ) → step strict s c ≡ Ok t → before ≡ encode_utf8 c ++ after → Passes s t before after
+passes_one s t c before after h next = (c ∷ [], next ∙ ap (λ x. x ++ after) (sym (append-nil (encode_utf8 c))), h)
+
 -- one character
 pub quoted_one : (old new : List ℕ) (e f : Escape) (c : ℕ) (before after : List ℕ) → quote_step old e c ≡ Some (going new f) → before ≡ encode_utf8 c ++ after → TakesQuoted old e new f before after
 quoted_one old new e f c before after h next =
@@ -141,6 +161,40 @@ number_run (c ∷ cs) text p q fs h = go (part_step p c) refl h (λ r e. number_
     go (Some r) e h more =
         rw e (more r h)
         ∙ ap (λ x. Ok (state (in_number x q) fs)) (append_assoc text (c ∷ []) cs)
+
+pub parts_append : (xs ys : List ℕ) (p q r : Part) → parts_after p xs ≡ Some q → parts_after q ys ≡ Some r → parts_after p (xs ++ ys) ≡ Some r
+parts_append [] ys p q r h e = let same : p ≡ q = cc in rw same e
+parts_append (x ∷ xs) ys p q r h e = go (part_step p x) h (λ t g. parts_append xs ys t q r g e)
+  where
+    go : (o : Option Part) → option_and_then (λ t. parts_after t xs) o ≡ Some q → ((t : Part) → parts_after t xs ≡ Some q → parts_after t (xs ++ ys) ≡ Some r) → option_and_then (λ t. parts_after t (xs ++ ys)) o ≡ Some r
+    go None h more = cc
+    go (Some t) h more = more t h
+
+digit_stays : (q : Part) (c : ℕ) → is_in_digits q ≡ true → is_ascii_digit c ≡ true → part_step q c ≡ Some q
+digit_stays Whole c h d = rw d refl
+digit_stays Fraction c h d = rw d refl
+digit_stays Exponent c h d = rw d refl
+digit_stays Minus c h d = cc
+digit_stays Zero c h d = cc
+digit_stays Dot c h d = cc
+digit_stays Mark c h d = cc
+digit_stays Sign c h d = cc
+
+digits_stay : (cs : List ℕ) (q : Part) → is_in_digits q ≡ true → AllByRecursion (λ c. is_ascii_digit c ≡ true) cs → parts_after q cs ≡ Some q
+digits_stay [] q h d = refl
+digits_stay (c ∷ cs) q h d = ap (λ o. option_and_then (λ r. parts_after r cs) o) (digit_stays q c h d.0) ∙ digits_stay cs q h d.1
+
+take_sum : (n m : ℕ) (bytes : List ℕ) → take (n + m) bytes ≡ take n bytes ++ take m (drop n bytes)
+take_sum n m bytes =
+    sym (take-append-drop n (take (n + m) bytes))
+    ∙ ap (λ x. x ++ drop n (take (n + m) bytes)) (take-take n (n + m) bytes (omega arith))
+    ∙ ap (λ x. take n bytes ++ x) (drop-take n m bytes)
+
+-- digits behind a number that goes on with them
+pub parts_digits : (bytes : List ℕ) (n m : ℕ) (p q : Part) → parts_after p (take n bytes) ≡ Some q → is_in_digits q ≡ true → All (λ c. is_ascii_digit c ≡ true) (take m (drop n bytes)) → parts_after p (take (n + m) bytes) ≡ Some q
+parts_digits bytes n m p q h d all =
+    ap (parts_after p) (take_sum n m bytes)
+    ∙ parts_append (take n bytes) (take m (drop n bytes)) p q q h (digits_stay (take m (drop n bytes)) q d (recursion_from_All (λ c. is_ascii_digit c ≡ true) (take m (drop n bytes)) all))
 
 pub parts_more : (cs : List ℕ) (c : ℕ) (p q r : Part) → parts_after p cs ≡ Some q → part_step q c ≡ Some r → parts_after p (cs ++ c ∷ []) ≡ Some r
 parts_more [] c p q r h e = let same : p ≡ q = cc in rw (same, e) refl

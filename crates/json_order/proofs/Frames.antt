@@ -13,7 +13,7 @@ use Rattle.json_order.specs.declared.tree.Tree.{Tree}
 use Rattle.json_order.specs.declared.place.Frame.{Frame as CodeFrame}
 use Rattle.json_order.specs.declared.place.Frame.TheVariants.{List as ListFrame}
 
-frames_push : (fs : List CodeFrame) (f : CodeFrame) → frames_of (fs ++ f ∷ []) ≡ frame_of f ∷ frames_of fs
+pub frames_push : (fs : List CodeFrame) (f : CodeFrame) → frames_of (fs ++ f ∷ []) ≡ frame_of f ∷ frames_of fs
 frames_push fs f = ap reverse (map_push frame_of fs f) ∙ reverse-append (map frame_of fs) (frame_of f ∷ [])
 
 -- the innermost frame by its place

@@ -1,4 +1,5 @@
 ghost use Rattle.std.specs.Prelude.{◌≡◌};
+ghost use Rattle.json_order.specs.private.AtOnce as at_once;
 ghost use Rattle.json_order.specs.private.Machine as machine;
 
 use crate::place::Part;
@@ -38,6 +39,14 @@ pub(crate) fn part_step(part: Part, c: char) -> Option<Part>
         Part::Dot => c.is_ascii_digit().then_some(Part::Fraction),
         Part::Sign | Part::Exponent => c.is_ascii_digit().then_some(Part::Exponent),
     }
+}
+
+/// Digits go on with a number that is read so far, and leave it there.
+#[inline(always)]
+pub(crate) fn is_in_digits(part: Part) -> bool
+    ensures { result ≡ at_once.is_in_digits part }
+{
+    matches!(part, Part::Whole | Part::Fraction | Part::Exponent)
 }
 
 /// A number may end here.

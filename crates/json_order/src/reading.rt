@@ -103,7 +103,7 @@ fn read_through(
     while let Some(c) = chars.next() {
         let rest = chars.as_str();
         match turn(alloc, place, stack, c) {
-            Ok(()) => match take_run(place, rest) {
+            Ok(()) => match take_run(alloc, place, stack, rest) {
                 Ok(after) => chars = after.chars(),
                 Err(kind) => return Err(fault_at(kind, 0)),
             },

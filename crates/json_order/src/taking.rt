@@ -1,17 +1,21 @@
-ghost use Rattle.std.specs.Prelude.{◌≡◌, true, ◌<◌, ◌≤◌, Some, IfOk, IfErr, length, take, slice_index, string_bytes};
+ghost use Rattle.std.specs.Prelude.{◌≡◌, true, ◌<◌, ◌≤◌, [], ◌++◌, Some, IfOk, IfErr, IfSome, length, take, slice_index, string_bytes, encode_utf8};
+ghost use Rattle.std.specs.Char.{is_ascii_digit};
 ghost use Rattle.std.specs.List.{All};
 ghost use Rattle.json_order.specs.declared.fault.JsonKind.TheVariants.{Memory};
 ghost use Rattle.json_order.specs.Grammar as grammar;
-ghost use Rattle.json_order.specs.private.Places.{place_of, letters_from, value_of};
-ghost use Rattle.json_order.specs.private.AtOnce.{Takes, TakesQuoted, MovesPlain, parts_after};
+ghost use Rattle.json_order.specs.private.Places.{place_of, frames_of, state_of, entries_of, letters_from, value_of};
+ghost use Rattle.json_order.specs.private.AtOnce.{Takes, Passes, TakesQuoted, MovesPlain, parts_after};
 ghost use Rattle.json_order.specs.declared.place.Escape.TheVariants.{Outside};
-ghost use Rattle.json_order.specs.private.Machine.{in_number, in_word};
+ghost use Rattle.json_order.specs.private.Machine.{in_key, in_number, in_word, state};
 
 use crate::escape::escape_of;
 use crate::fault::JsonKind;
-use crate::number::part_step;
-use crate::place::{Escape, Part, Place};
+use crate::members::Members;
+use crate::number::{is_in_digits, part_step};
+use crate::place::{Escape, Frame, Part, Place};
 use crate::word::Word;
+use std::alloc::Global;
+use std::mem;
 
 /// A byte that stands for itself in a string: from the space on, and no quote or backslash.
 #[inline(always)]
@@ -81,6 +85,20 @@ fn take_quoted<'a>(text: &mut String, escape: Escape, rest: &'a str) -> Result<&
     }
 }
 
+/// How many digits stand in front.
+#[inline(always)]
+fn digits_len(bytes: &[u8]) -> usize
+    ensures within { result ≤ length bytes.now }
+    ensures digits { All (λ b. is_ascii_digit b ≡ true) (take result bytes.now) }
+{
+    for (i, byte) in bytes.iter().enumerate() {
+        if !byte.is_ascii_digit() {
+            return i;
+        }
+    }
+    bytes.len()
+}
+
 /// How many bytes in front go on with a number, and how far it is read behind them.
 #[inline(always)]
 fn number_run(bytes: &[u8], part: Part) -> (usize, Part)
@@ -88,13 +106,18 @@ fn number_run(bytes: &[u8], part: Part) -> (usize, Part)
     ensures read { parts_after part (take result.0 bytes.now) ≡ Some result.1 }
 {
     let mut read = part;
-    for (i, byte) in bytes.iter().enumerate() {
-        match part_step(read, char::from(*byte)) {
+    let mut len = 0;
+    'parts: while len < bytes.len() {
+        match part_step(read, char::from(bytes[len])) {
             Some(next) => read = next,
-            None => return (i, read),
+            None => return (len, read),
+        }
+        len += 1;
+        if is_in_digits(read) {
+            len += digits_len(&bytes[len..]);
         }
     }
-    (bytes.len(), read)
+    (len, read)
 }
 
 /// Takes the characters in front that a number goes on with, at once; what stands behind them.
@@ -128,10 +151,85 @@ fn take_word<'a>(word: Word, read: &mut usize, rest: &'a str) -> &'a str
     }
 }
 
+/// What stands behind this character, where it stands in front.
+#[inline(always)]
+fn behind_char<'a>(c: char, rest: &'a str) -> Option<&'a str>
+    ensures { IfSome result (λ after. rest.now ≡ encode_utf8 c ++ after.now) }
+{
+    let mut chars = rest.chars();
+    let first = chars.next()?;
+    if first != c {
+        return None;
+    }
+    Some(chars.as_str())
+}
+
+/// What stands behind a closing quote and a colon, where they stand in front.
+#[inline(always)]
+fn behind_colon<'a>(rest: &'a str) -> Option<&'a str>
+    ensures { IfSome result (λ after. rest.now ≡ encode_utf8 34 ++ (encode_utf8 58 ++ after.now)) }
+{
+    behind_char(':', behind_char('"', rest)?)
+}
+
+/// In a key behind these members, behind its first quote: takes its characters at once, and where it
+/// is new, its other quote and its colon too; what stands behind them.
+#[inline(always)]
+fn take_key<'a>(
+    alloc: Global,
+    place: &mut Place,
+    stack: &mut Vec<Frame>,
+    members: Members,
+    rest: &'a str,
+) -> Result<&'a str, JsonKind>
+    ensures ok { IfOk result (λ after. Passes
+        (state (in_key (entries_of members.list.items) [] Outside) (frames_of stack.old.items))
+        (state_of place.new stack.new.items) rest.now after.now) }
+    ensures err { IfErr result (λ k. k ≡ Memory) }
+{
+    let mut text = String::new(alloc);
+    let behind = take_characters(&mut text, rest)?;
+    if let Some(after) = behind_colon(behind) {
+        if !members.has(text.as_str()) {
+            stack.push(Frame::Object(members, text))?;
+            *place = Place::Value;
+            return Ok(after);
+        }
+    }
+    *place = Place::Key(members, text, Escape::Outside);
+    Ok(behind)
+}
+
+/// Where a key may begin, and does: takes its characters at once, and where it is new, its quotes and
+/// its colon; what stands behind them.
+#[inline(always)]
+fn take_new_key<'a>(
+    alloc: Global,
+    place: &mut Place,
+    stack: &mut Vec<Frame>,
+    rest: &'a str,
+) -> Result<&'a str, JsonKind>
+    ensures ok { IfOk result (λ after. Passes (state_of place.old stack.old.items)
+        (state_of place.new stack.new.items) rest.now after.now) }
+    ensures err { IfErr result (λ k. k ≡ Memory) }
+{
+    let Some(quoted) = behind_char('"', rest) else {
+        return Ok(rest);
+    };
+    match mem::replace(place, Place::Value) {
+        Place::FirstKey => take_key(alloc, place, stack, Members::new(alloc), quoted),
+        Place::NextKey(members) => take_key(alloc, place, stack, members, quoted),
+        other => {
+            *place = other;
+            Ok(rest)
+        }
+    }
+}
+
 /// Takes at once the characters in front that a string, a number or a word goes on with; what
 /// stands behind them. On an error the place is left as it may be.
 #[inline(always)]
-pub(crate) fn take_run<'a>(place: &mut Place, rest: &'a str) -> Result<&'a str, JsonKind>
+fn take_inside<'a>(place: &mut Place, rest: &'a str) -> Result<&'a str, JsonKind>
     ensures ok { IfOk result (λ after. Takes (place_of place.old) (place_of place.new)
         rest.now after.now) }
     ensures err { IfErr result (λ k. k ≡ Memory) }
@@ -142,5 +240,24 @@ pub(crate) fn take_run<'a>(place: &mut Place, rest: &'a str) -> Result<&'a str, 
         Place::Number(text, part) => take_number(text, part, rest),
         Place::Word(word, read) => Ok(take_word(*word, read, rest)),
         _ => Ok(rest),
+    }
+}
+
+/// Takes at once a new key that stands in front, or the characters that a string, a number or a word
+/// goes on with; what stands behind them. On an error the place is left as it may be.
+#[inline(always)]
+pub(crate) fn take_run<'a>(
+    alloc: Global,
+    place: &mut Place,
+    stack: &mut Vec<Frame>,
+    rest: &'a str,
+) -> Result<&'a str, JsonKind>
+    ensures ok { IfOk result (λ after. Passes (state_of place.old stack.old.items)
+        (state_of place.new stack.new.items) rest.now after.now) }
+    ensures err { IfErr result (λ k. k ≡ Memory) }
+{
+    match place {
+        Place::FirstKey | Place::NextKey(_) => take_new_key(alloc, place, stack, rest),
+        _ => take_inside(place, rest),
     }
 }

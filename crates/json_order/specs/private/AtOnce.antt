@@ -1,5 +1,5 @@
 -- What the reader takes at once: several characters in front of what is left.
-use Rattle.std.specs.Prelude.{ℕ, ◌≡◌, ◌⊎◌, true, List, [], ◌∷◌, ◌++◌, Option, Some, Ok, option_and_then, encode_utf8_all}
+use Rattle.std.specs.Prelude.{ℕ, ◌≡◌, ◌⊎◌, Bool, true, false, List, [], ◌∷◌, ◌++◌, Option, Some, Ok, option_and_then, encode_utf8_all}
 use Rattle.std.specs.Char.{IsScalar}
 use Rattle.std.specs.Char.Utf16.{surrogate_pair_char}
 use Rattle.std.specs.List.{AllByRecursion}
@@ -7,6 +7,7 @@ use Rattle.json_order.specs.Grammar.{is_plain, is_high_surrogate, is_low_surroga
 use Rattle.json_order.specs.Fault.{strict}
 use Rattle.json_order.specs.private.Machine.{Entries, Place, in_string, in_key, Frame, State, state, start, run, part_step}
 use Rattle.json_order.specs.declared.place.Part.{Part}
+use Rattle.json_order.specs.declared.place.Part.TheVariants.{Minus, Zero, Whole, Dot, Fraction, Mark, Sign, Exponent}
 use Rattle.json_order.specs.declared.place.Escape.{Escape}
 
 -- from one place to the other, over the characters that stand before what is left
@@ -14,6 +15,11 @@ abbrev pub Takes : Place → Place → List ℕ → List ℕ → Type 0
 Takes p q before after =
     (cs : List ℕ) × (before ≡ encode_utf8_all cs ++ after)
     × ((fs : List Frame) → run strict (Ok (state p fs)) cs ≡ Ok (state q fs))
+
+-- from one state to the other, over the characters that stand before what is left
+abbrev pub Passes : State → State → List ℕ → List ℕ → Type 0
+Passes s t before after =
+    (cs : List ℕ) × (before ≡ encode_utf8_all cs ++ after) × (run strict (Ok s) cs ≡ Ok t)
 
 -- plain characters stand before what is left, and have gone into the text
 abbrev pub MovesPlain : List ℕ → List ℕ → List ℕ → List ℕ → Type 0
@@ -32,6 +38,17 @@ TakesQuoted old e new f before after =
 abbrev pub parts_after : Part → List ℕ → Option Part
 parts_after p [] = Some p
 parts_after p (c ∷ cs) = option_and_then (λ q. parts_after q cs) (part_step p c)
+
+-- digits go on with a number that is read so far, and leave it there
+abbrev pub is_in_digits : Part → Bool
+is_in_digits Minus = false
+is_in_digits Zero = false
+is_in_digits Whole = true
+is_in_digits Dot = false
+is_in_digits Fraction = true
+is_in_digits Mark = false
+is_in_digits Sign = false
+is_in_digits Exponent = true
 
 -- the reader stands in this state, behind some characters of the text and before what is left of it
 abbrev pub Stands : List ℕ → State → List ℕ → Type 0

@@ -2,8 +2,8 @@ use Rattle.std.specs.Prelude.{encode_utf8_all}
 use Rattle.std.specs.Str.Iter.{chars_rest}
 use Rattle.std.proofs.Common.{length, refl, sym, ap, subst, arith}
 use Rattle.json_order.specs.private.AtOnce.{Stands}
-use Rattle.json_order.specs.private.Places.{place_of, frames_of, state_of}
-use Rattle.json_order.proofs.Turns.{Told, fault_told, stands_more, stands_taken, stands_fine, left_length}
+use Rattle.json_order.specs.private.Places.{state_of}
+use Rattle.json_order.proofs.Turns.{Told, fault_told, stands_more, stands_passed, stands_fine, left_length}
 use Rattle.json_order.proofs.reading.read_through.Goals as goal
 
 pub returns-in-Err-clause-fault : goal.returns-in-Err-clause-fault
@@ -22,9 +22,9 @@ loop-c-preserved c =
     let u = state_of c.turn.new.place c.turn.new.stack.items in
     let more = stands_more c.args.text.now (chars_rest c.loop-c.chars) (chars_rest c.next.new.self) c.in-Some.c (state_of c.loop-c.place c.loop-c.stack.items) u c.loop-c.invariant.stands c.in-Some.ensures.steps.0 c.in-Ok.ensures.ok in
     let here = subst (λ x. Stands c.args.text.now u x) (sym c.as_str-rest.ensures) more in
-    let taken = stands_taken c.args.text.now c.as_str-rest.result.now c.in-Ok-take_run.after.now (place_of c.turn.new.place) (place_of c.take_run.new.place) (frames_of c.turn.new.stack.items) here c.in-Ok-take_run.ensures.ok in
-    let next = subst (λ x. Stands c.args.text.now (state_of c.take_run.new.place c.turn.new.stack.items) x) (sym c.chars-chars-in-Ok-take_run.ensures.rest) taken in
+    let taken = stands_passed c.args.text.now c.as_str-rest.result.now c.in-Ok-take_run.after.now u (state_of c.take_run.new.place c.take_run.new.stack.items) here c.in-Ok-take_run.ensures.ok in
+    let next = subst (λ x. Stands c.args.text.now (state_of c.take_run.new.place c.take_run.new.stack.items) x) (sym c.chars-chars-in-Ok-take_run.ensures.rest) taken in
     record {
       stands = next;
-      fine = stands_fine c.args.text.now (chars_rest c.chars-chars-in-Ok-take_run.result) (state_of c.take_run.new.place c.turn.new.stack.items) next;
+      fine = stands_fine c.args.text.now (chars_rest c.chars-chars-in-Ok-take_run.result) (state_of c.take_run.new.place c.take_run.new.stack.items) next;
     }

@@ -1,6 +1,6 @@
 use Rattle.json_order.specs.private.Places.{entries_of}
 use Rattle.json_order.proofs.AtOnce.{if_ok}
-use Rattle.json_order.proofs.taking.take_run.Goals as goal
+use Rattle.json_order.proofs.taking.take_inside.Goals as goal
 
 pub returns-in-Key-clause-ok : goal.returns-in-Key-clause-ok
 returns-in-Key-clause-ok c =
