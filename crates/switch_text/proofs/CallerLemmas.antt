@@ -7,6 +7,7 @@ use Rattle.std.proofs.lemmas.Bool.Decides.{nat_tests}
 use Rattle.std.proofs.lemmas.List.Elements.{recursion_from_All}
 use Rattle.domain_run.specs.declared.switch.Switch.{Switch}
 use Rattle.domain_run.specs.declared.switch.PrevState.{PrevState}
+use Rattle.switch_text.specs.Names.{SameNames}
 use Rattle.switch_text.specs.Line.{title_of, comm_of, task_part, prev_part, next_part, line_of}
 use Rattle.switch_text.specs.Trace.{RunView, Entry, entry_of, entries_of, is_earlier, placed_in, in_order, header, lines_of, trace_of}
 use Rattle.domain_run.specs.Switches.{is_before}
@@ -52,11 +53,6 @@ trace_of-one_run r h =
     ap (λ (es : List Entry). header ++ lines_of es) one ∙ ap (λ (xs : List ℕ). header ++ xs) (lines_of-map r r.switches)
 
 -- ---- the names that occur
-
--- two ways to name tasks agree on who leaves and who comes
-pub record SameNames (f g : ℕ → List ℕ) (s : Switch) : Type 0 where
-  pub prev : IfSome s.prev (λ n. f n ≡ g n)
-  pub next : IfSome s.next (λ n. f n ≡ g n)
 
 title_of-same : (f g : ℕ → List ℕ) (task : Option ℕ) → IfSome task (λ n. f n ≡ g n) → title_of f task ≡ title_of g task
 title_of-same f g None h = refl

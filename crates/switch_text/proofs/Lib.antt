@@ -8,7 +8,7 @@ mod Ahead
 mod Found
 mod Few
 mod UnderWay
-mod Slices
+mod Sliced
 mod EventRoom
 mod EventOrder
 mod ToldAhead

@@ -1,5 +1,5 @@
 -- The names of a domain's tasks.
-use Rattle.std.specs.Prelude.{ℕ, ◌<◌, ◌≤◌, ◌^◌, ◌+◌, List, [], length, nat_eq, IfSome}
+use Rattle.std.specs.Prelude.{ℕ, ◌≡◌, ◌<◌, ◌≤◌, ◌^◌, ◌+◌, List, [], length, nat_eq, IfSome}
 use Rattle.std.specs.Option.{option_map_or}
 use Rattle.std.specs.String.{string_bytes}
 use Rattle.std.specs.declared.string.String.{String}
@@ -29,3 +29,8 @@ pub record HasLine (names : Names) (base : ℕ) (s : Switch) : Type 0 where
   pub cpu : base + s.cpu < 512
   pub prev : IfSome s.prev (HasName names)
   pub next : IfSome s.next (HasName names)
+
+-- two ways to name tasks agree on who leaves and who comes
+pub record SameNames (f g : ℕ → List ℕ) (s : Switch) : Type 0 where
+  pub prev : IfSome s.prev (λ n. f n ≡ g n)
+  pub next : IfSome s.next (λ n. f n ≡ g n)

@@ -5,5 +5,5 @@ pub mod Parts
 pub mod Pieces
 pub mod Ready
 pub mod Sending
-pub mod Slices
+pub mod Sliced
 pub mod ToldMerging

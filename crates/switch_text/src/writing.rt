@@ -8,7 +8,7 @@ ghost use Rattle.counted_io.specs.Sides.{inner_of, faults_of};
 ghost use Rattle.counted_io.specs.Faults.{one_more_unless, TakesFront};
 ghost use Rattle.switch_text.specs.private.Merging.{next_entry, IsPrinted, IsRunAt};
 ghost use Rattle.switch_text.specs.private.Sending.{Sends};
-ghost use Rattle.switch_text.specs.private.Slices.{lines_in};
+ghost use Rattle.switch_text.specs.private.Sliced.{lines_in};
 ghost use Rattle.switch_text.specs.private.Ready.{AreNobodys, IsSlot, IsTexts};
 
 use crate::batch::{Batch, Front};

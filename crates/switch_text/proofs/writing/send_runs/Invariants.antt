@@ -2,7 +2,7 @@ use Rattle.std.proofs.Common.{length, ◌≡◌, ◌≤◌, All}
 use Rattle.switch_text.specs.Runs.{views}
 use Rattle.switch_text.specs.private.Merging.{left_of}
 use Rattle.switch_text.specs.private.Ready.{IsSlot, IsTexts}
-use Rattle.switch_text.specs.private.Slices.{IsSending}
+use Rattle.switch_text.specs.private.Sliced.{IsSending}
 use Rattle.counted_io.specs.Sides.{inner_of}
 use Rattle.switch_text.proofs.writing.send_runs.Given as goal
 

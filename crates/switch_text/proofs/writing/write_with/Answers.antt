@@ -3,9 +3,9 @@ use Rattle.switch_text.specs.Trace.{header, trace_of}
 use Rattle.switch_text.specs.Runs.{views}
 use Rattle.counted_io.specs.Sides.{inner_of}
 use Rattle.counted_io.specs.Faults.{TakesFront}
-use Rattle.switch_text.specs.private.Slices.{lines_in}
+use Rattle.switch_text.specs.private.Sliced.{lines_in}
 use Rattle.switch_text.proofs.UnderWay.{length-header}
-use Rattle.switch_text.proofs.Slices.{ends_all, stops_all, trace_is}
+use Rattle.switch_text.proofs.Sliced.{ends_all, stops_all, trace_is}
 use Rattle.switch_text.proofs.writing.write_with.Goals as goal
 
 pub send_runs-requires-clause-room : goal.send_runs-requires-clause-room

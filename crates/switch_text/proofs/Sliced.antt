@@ -9,7 +9,7 @@ use Rattle.switch_text.specs.Trace.{RunView, Entry, entries_of, in_order, header
 use Rattle.switch_text.specs.private.Merging.{left_of}
 use Rattle.counted_io.specs.Faults.{TakesFront}
 use Rattle.switch_text.specs.private.Sending.{Sends}
-use Rattle.switch_text.specs.private.Slices.{lines_in, lines_from, IsSending}
+use Rattle.switch_text.specs.private.Sliced.{lines_in, lines_from, IsSending}
 use Rattle.switch_text.proofs.Order.{length-in_order}
 use Rattle.switch_text.proofs.UnderWay.{sends_on, length-sent, left_of-start}
 
