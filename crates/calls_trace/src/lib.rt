@@ -21,8 +21,10 @@ mod figures;
 mod heard_summary;
 mod named_run;
 mod placed_run;
+mod playing;
 mod replaying;
 mod run_text;
+mod step;
 mod trace;
 mod writing;
 

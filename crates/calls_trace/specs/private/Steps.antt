@@ -1,0 +1,75 @@
+-- The calls of a section that are left.
+use Rattle.std.specs.Prelude.{ℕ, ◌≡◌, ◌<◌, ◌≤◌, List, [], map, reverse}
+use Rattle.std.specs.String.{string_bytes}
+use Rattle.domain_run.specs.declared.call.Call.{Call}
+use Rattle.domain_run.specs.declared.call.Call.TheVariants.{Admit, Regrade, Wake, Leave, Advance, Limit, Depart, Arrive}
+use Rattle.domain_run.specs.Domain.{IsLimit}
+use Rattle.call_book.specs.Limits.{IsNumber}
+use Rattle.calls_trace.specs.declared.step.Step.{Step}
+
+-- the name that a call gives where it is granted
+abbrev pub name_given : Call → List ℕ
+name_given (Admit number name params delay script) = name
+name_given (Regrade number params word) = []
+name_given (Wake number) = []
+name_given (Leave number) = []
+name_given (Advance n) = []
+name_given (Limit limit word) = []
+name_given (Depart number) = []
+name_given (Arrive number name params script) = name
+
+-- whom it admits; 1 where it admits nobody
+abbrev pub number_given : Call → ℕ
+number_given (Admit number name params delay script) = number
+number_given (Regrade number params word) = 1
+number_given (Wake number) = 1
+number_given (Leave number) = 1
+number_given (Advance n) = 1
+number_given (Limit limit word) = 1
+number_given (Depart number) = 1
+number_given (Arrive number name params script) = number
+
+-- from when on; 0 where it admits nobody
+abbrev pub delay_given : Call → ℕ
+delay_given (Admit number name params delay script) = delay
+delay_given (Regrade number params word) = 0
+delay_given (Wake number) = 0
+delay_given (Leave number) = 0
+delay_given (Advance n) = 0
+delay_given (Limit limit word) = 0
+delay_given (Depart number) = 0
+delay_given (Arrive number name params script) = 0
+
+-- the limit that it sets; the least one where it sets none
+abbrev pub limit_given : Call → ℕ
+limit_given (Admit number name params delay script) = 10485
+limit_given (Regrade number params word) = 10485
+limit_given (Wake number) = 10485
+limit_given (Leave number) = 10485
+limit_given (Advance n) = 10485
+limit_given (Limit limit word) = limit
+limit_given (Depart number) = 10485
+limit_given (Arrive number name params script) = 10485
+
+-- how many ticks it makes
+abbrev pub ticks_given : Call → ℕ
+ticks_given (Admit number name params delay script) = 0
+ticks_given (Regrade number params word) = 0
+ticks_given (Wake number) = 0
+ticks_given (Leave number) = 0
+ticks_given (Advance n) = n
+ticks_given (Limit limit word) = 0
+ticks_given (Depart number) = 0
+ticks_given (Arrive number name params script) = 0
+
+-- a call within the limits, with the text of the name that it gives
+pub record IsStep (s : Step) : Type 0 where
+  pub numbered : IsNumber (number_given s.call)
+  pub soon : delay_given s.call ≤ 1000000000
+  pub limited : IsLimit (limit_given s.call)
+  pub short : ticks_given s.call ≤ 60000000
+  pub text : string_bytes s.text ≡ name_given s.call
+
+-- the last one lies first
+abbrev pub calls_left : List Step → List Call
+calls_left steps = map (λ s. s.call) (reverse steps)
