@@ -1,6 +1,6 @@
 -- Laws of the trace text that callers may cite: the trace of one run, that only the names that occur matter, and what it
 -- means that the entries are in order.
-use Rattle.std.proofs.Common.{◌≡◌, ℕ, suc, ◌+◌, Bool, true, false, cond, List, [], ◌∷◌, ◌++◌, map, Option, Some, None, refl, ap, ◌∙◌, append-nil, arith}
+use Rattle.std.proofs.Common.{◌≡◌, ℕ, suc, ◌+◌, Bool, true, false, cond, List, [], ◌∷◌, ◌++◌, map, Option, Some, None, get_or, refl, sym, ap, ◌∙◌, append-nil, arith}
 use Rattle.std.specs.Prelude.{AllPairs, All, IsTrue, IfSome, filter, ◌&&◌, ◌==◌}
 use Rattle.std.specs.List.{AllByRecursion, AllZip, flat_map}
 use Rattle.std.proofs.lemmas.Bool.Decides.{nat_tests}
@@ -10,6 +10,7 @@ use Rattle.domain_run.specs.declared.switch.PrevState.{PrevState}
 use Rattle.switch_text.specs.Names.{SameNames}
 use Rattle.switch_text.specs.Line.{title_of, comm_of, task_part, prev_part, next_part, line_of}
 use Rattle.switch_text.specs.Trace.{RunView, Entry, entry_of, entries_of, is_earlier, placed_in, in_order, header, lines_of, trace_of}
+use Rattle.switch_text.specs.SlicedTrace.{sliced_trace}
 use Rattle.domain_run.specs.Switches.{is_before}
 use Rattle.switch_text.proofs.Order.{AllByRecursion-weaker, AllByRecursion-placed_in, placed_in-first, not_later-from_earlier, not_later_twice}
 
@@ -45,12 +46,20 @@ unfolding lines_of
 lines_of-map r [] = refl
 lines_of-map r (s ∷ ss) = ap (λ (xs : List ℕ). line_of r.names r.base s ++ xs) (lines_of-map r ss)
 
+-- the lines of one run in order are its lines as they stand
+pub lines_of-one_run : (r : RunView) → AllPairs (λ a b. IsTrue (is_before a b)) r.switches → lines_of (in_order (entries_of r ++ [])) ≡ flat_map (line_of r.names r.base) r.switches
+lines_of-one_run r h =
+    let one : in_order (entries_of r ++ []) ≡ entries_of r = ap in_order (append-nil (entries_of r)) ∙ in_order-rising (entries_of r) (IsRising-map r r.switches h) in
+    ap lines_of one ∙ lines_of-map r r.switches
+
 -- the trace of one run is the header and its lines as they stand
 pub trace_of-one_run : (r : RunView) → AllPairs (λ a b. IsTrue (is_before a b)) r.switches → trace_of (r ∷ []) ≡ header ++ flat_map (line_of r.names r.base) r.switches
 unfolding trace_of
-trace_of-one_run r h =
-    let one : in_order (entries_of r ++ []) ≡ entries_of r = ap in_order (append-nil (entries_of r)) ∙ in_order-rising (entries_of r) (IsRising-map r r.switches h) in
-    ap (λ (es : List Entry). header ++ lines_of es) one ∙ ap (λ (xs : List ℕ). header ++ xs) (lines_of-map r r.switches)
+trace_of-one_run r h = ap (λ (xs : List ℕ). header ++ xs) (lines_of-one_run r h)
+
+-- what is written while a run is made is its trace
+pub sliced_trace-is : (r : RunView) → AllPairs (λ a b. IsTrue (is_before a b)) r.switches → sliced_trace r.base r.names r.switches ≡ trace_of (r ∷ [])
+sliced_trace-is r h = sym (trace_of-one_run r h)
 
 -- ---- the names that occur
 
@@ -78,6 +87,22 @@ next_part-same f g cpu task h = rw (comm_of-same f g cpu task h) refl
 pub line_of-same_names : (f g : ℕ → List ℕ) (base : ℕ) (s : Switch) → SameNames f g s → line_of f base s ≡ line_of g base s
 unfolding line_of
 line_of-same_names f g base s h = rw (task_part-same f g s.prev h.prev, prev_part-same f g (base + s.cpu) s.prev s.state h.prev, next_part-same f g (base + s.cpu) s.next h.next) refl
+
+lines_by-recursion : (f g : ℕ → List ℕ) (base : ℕ) (ss : List Switch) → AllByRecursion (SameNames f g) ss → flat_map (line_of f base) ss ≡ flat_map (line_of g base) ss
+lines_by-recursion f g base [] h = refl
+lines_by-recursion f g base (s ∷ ss) h = ap (λ (xs : List ℕ). xs ++ flat_map (line_of f base) ss) (line_of-same_names f g base s h.0) ∙ ap (λ (xs : List ℕ). line_of g base s ++ xs) (lines_by-recursion f g base ss h.1)
+
+-- so do lines
+pub lines_of-same_names : (f g : ℕ → List ℕ) (base : ℕ) (ss : List Switch) → All (SameNames f g) ss → flat_map (line_of f base) ss ≡ flat_map (line_of g base) ss
+lines_of-same_names f g base ss h = lines_by-recursion f g base ss (recursion_from_All (SameNames f g) ss h)
+
+named_alike : (f g : ℕ → List ℕ) (task : Option ℕ) → ((number : ℕ) → f number ≡ g number) → IfSome task (λ n. f n ≡ g n)
+named_alike f g None h = tt
+named_alike f g (Some n) h = h n
+
+-- names that agree at each number agree where they occur
+pub SameNames-everywhere : (f g : ℕ → List ℕ) (ss : List Switch) → ((number : ℕ) → f number ≡ g number) → All (SameNames f g) ss
+SameNames-everywhere f g ss h = λ k d lt. record { prev = named_alike f g (get_or ss k d).prev h; next = named_alike f g (get_or ss k d).next h }
 
 -- two runs with one base and one list of switches, whose names agree where they occur
 pub record SameRun (r q : RunView) : Type 0 where

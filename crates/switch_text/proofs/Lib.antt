@@ -9,6 +9,7 @@ mod Found
 mod Few
 mod UnderWay
 mod Sliced
+mod Slicing
 mod EventRoom
 mod EventOrder
 mod ToldAhead

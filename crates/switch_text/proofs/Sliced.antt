@@ -52,7 +52,7 @@ stops_all before mid after text left sent n s t =
     }
 
 -- the writer takes the front of what waits, and not all: so it does of that with more behind it
-front_more : (before after : Option (List ℕ)) (text more : List ℕ) (n : ℕ) → TakesFront before after text n → TakesFront before after (text ++ more) n
+pub front_more : (before after : Option (List ℕ)) (text more : List ℕ) (n : ℕ) → TakesFront before after text n → TakesFront before after (text ++ more) n
 front_more before after text more n t =
     let some_left : n < length text = t.some_left in
     let le : n ≤ length text = omega arith in

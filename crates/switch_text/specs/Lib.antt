@@ -2,6 +2,7 @@ pub mod Names
 pub mod Line
 pub mod Trace
 pub mod Runs
+pub mod SlicedTrace
 pub mod ToldLine
 pub mod Events
 pub mod Telling

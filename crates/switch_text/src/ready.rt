@@ -145,6 +145,16 @@ pub(crate) fn no_slots() -> [Slot; SLOTS]
     [no_slot(); SLOTS]
 }
 
+/// Takes all texts for nobody's.
+pub(crate) fn clear(slots: &mut [Slot])
+    ensures many { length slots.new ≡ length slots.old }
+    ensures empty { AreNobodys slots.new }
+{
+    for slot in slots.iter_mut() {
+        slot.who = Who::Nobody;
+    }
+}
+
 /// Lets the clock show this second.
 pub(crate) fn set_second(clock: &mut Clock, second: u64)
     requires small { second < 10000000 }

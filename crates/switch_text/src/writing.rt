@@ -1,8 +1,9 @@
 //! The trace text of runs.
 
-ghost use Rattle.std.specs.Prelude.{◌≡◌, ◌+◌, ◌<◌, ◌≤◌, ◌^◌, ◌++◌, length, is_ok, All, IfErr, IfOk, OnOk};
+ghost use Rattle.std.specs.Prelude.{◌≡◌, ◌+◌, ◌*◌, ◌<◌, ◌≤◌, ◌^◌, ◌++◌, length, is_ok, All, IfErr, IfOk, OnOk};
+ghost use Rattle.std.specs.List.{flat_map};
 ghost use Rattle.std.specs.Io.KnownBytes.{Appends};
-ghost use Rattle.switch_text.specs.Trace.{header, trace_of};
+ghost use Rattle.switch_text.specs.Trace.{entries_of, header, trace_of};
 ghost use Rattle.switch_text.specs.Runs.{views, IsRun};
 ghost use Rattle.counted_io.specs.Sides.{inner_of, faults_of};
 ghost use Rattle.counted_io.specs.Faults.{one_more_unless, TakesFront};
@@ -83,10 +84,10 @@ fn together(sent: usize, more: usize) -> usize
     sent + more
 }
 
-// The lines of runs, by time and CPU, go out behind what waits, with room for the texts of tasks that
-// holds none yet: how many bytes went out, also where the writer failed. What is left waits.
+/// The lines of runs, by time and CPU, go out behind what waits, with room for the texts of tasks
+/// that holds none yet: how many bytes went out, also where the writer failed. What is left waits.
 #[inline(always)]
-fn send_runs<W: Write>(
+pub(crate) fn send_runs<W: Write>(
     runs: &[Run<'_>],
     slots: &mut [Slot],
     texts: &mut Texts,
@@ -104,6 +105,10 @@ fn send_runs<W: Write>(
         (W.contents (inner_of writer.old)) (W.contents (inner_of writer.new))
         (batch.old ++ lines_in (views runs.now)) n batch.new) }
     ensures counted { IfOk result (λ n. n + length batch.new < 2 ^ 64) }
+    ensures bound { IfOk result (λ n. n + length batch.new
+        ≤ length batch.old + 512 * length (flat_map entries_of (views runs.now))) }
+    ensures stopped { IfErr result (λ n. n
+        ≤ length batch.old + 512 * length (flat_map entries_of (views runs.now))) }
     ensures room { OnOk result (length batch.new ≤ 65536) }
     ensures err { IfErr result (TakesFront
         (W.contents (inner_of writer.old)) (W.contents (inner_of writer.new))

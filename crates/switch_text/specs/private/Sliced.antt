@@ -2,7 +2,10 @@
 -- of these words.
 use Rattle.std.specs.Prelude.{ℕ, ◌+◌, ◌*◌, ◌≤◌, List, ◌++◌, length, Option}
 use Rattle.std.specs.List.{flat_map}
+use Rattle.domain_run.specs.declared.switch.Switch.{Switch}
+use Rattle.switch_text.specs.Line.{line_of}
 use Rattle.switch_text.specs.Trace.{RunView, entries_of, in_order, lines_of}
+use Rattle.switch_text.specs.SlicedTrace.{sliced_trace}
 use Rattle.switch_text.specs.private.Merging.{left_of}
 use Rattle.switch_text.specs.private.Sending.{Sends}
 
@@ -20,3 +23,15 @@ pub record IsSending (before after : Option (List ℕ)) (first : List ℕ) (runs
   pub sends : Sends before after (first ++ lines_in runs) sent (waiting ++ lines_from runs places)
   pub bound : sent + length waiting + 512 * length (left_of runs places)
       ≤ length first + 512 * length (flat_map entries_of runs)
+
+-- the lines of the switches of one run as they stand
+abbrev pub lines_by : ℕ → (ℕ → List ℕ) → List Switch → List ℕ
+lines_by base names switches = flat_map (line_of names base) switches
+
+-- of the trace of a run so many bytes went out, these wait, and the lines of the rest of its switches
+-- are still to be made
+pub record IsSlicing (before after : Option (List ℕ)) (base : ℕ) (names : ℕ → List ℕ)
+    (all rest : List Switch) (sent : ℕ) (waiting : List ℕ) : Type 0 where
+  pub sends : Sends before after (sliced_trace base names all) sent
+      (waiting ++ lines_by base names rest)
+  pub bound : sent + length waiting + 512 * length rest ≤ 14 + 512 * length all

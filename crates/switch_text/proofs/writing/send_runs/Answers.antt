@@ -65,3 +65,12 @@ returns-clause-ok g c = IsSending-ends _ _ c.args.batch.now (views c.args.runs.n
 
 pub returns-clause-counted : goal.returns-clause-counted
 returns-clause-counted g c = sent_fits _ _ c.args.batch.now (views c.args.runs.now) c.loop-next.places c.loop-next.sent _ c.loop-next.batch c.loop-next.invariant.sending c.requires.room (few c.args.runs.now c.requires.few c.requires.runs) (omega arith)
+
+pub returns-clause-bound : goal.returns-clause-bound
+returns-clause-bound g c = let bound = c.loop-next.invariant.sending.bound in omega (arith, bound)
+
+pub returns-in-Err-clause-stopped : goal.returns-in-Err-clause-stopped
+returns-in-Err-clause-stopped g c =
+    let bound = c.loop-next.invariant.sending.bound in
+    let lt = c.in-Err.ensures.err.some_left in
+    omega (arith, bound, lt, c.together.ensures)

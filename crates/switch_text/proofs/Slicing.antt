@@ -1,0 +1,89 @@
+-- The trace of a run that goes out slice by slice.
+use Rattle.std.proofs.Common.{◌≡◌, ℕ, ◌+◌, ◌*◌, ◌<◌, ◌≤◌, ◌^◌, List, [], ◌∷◌, ◌++◌, length, Option, refl, sym, ap, subst, ◌∙◌, append_assoc, append-nil, arith}
+use Rattle.std.specs.Prelude.{All}
+use Rattle.std.specs.List.{flat_map}
+use Rattle.std.proofs.KnownBytes.{Appends-nil}
+use Rattle.std.proofs.lemmas.List.{length-append, length-map}
+use Rattle.std.proofs.lemmas.Grind.{flat_map-append}
+use Rattle.domain_run.specs.declared.switch.Switch.{Switch}
+use Rattle.counted_io.specs.Faults.{TakesFront}
+use Rattle.switch_text.specs.declared.run.Run.{Run}
+use Rattle.switch_text.specs.Names.{named, SameNames}
+use Rattle.switch_text.specs.Line.{line_of}
+use Rattle.switch_text.specs.Trace.{entry_of, entries_of, header}
+use Rattle.switch_text.specs.Runs.{view_of, views, IsRun}
+use Rattle.switch_text.specs.SlicedTrace.{sliced_trace}
+use Rattle.switch_text.specs.private.Sending.{Sends}
+use Rattle.switch_text.specs.private.Sliced.{lines_in, lines_by, IsSlicing}
+use Rattle.switch_text.proofs.CallerLemmas.{lines_of-one_run, lines_of-same_names, SameNames-everywhere}
+use Rattle.switch_text.proofs.UnderWay.{sends_on, length-header}
+use Rattle.switch_text.proofs.Sliced.{front_more, stops_all}
+
+-- ---- one slice
+
+-- a slice goes out as its lines by the names of the whole run
+pub lines_in-slice : (r : Run) (base : ℕ) (names : ℕ → List ℕ) (ss : List Switch) → IsRun r → r.base ≡ base → r.switches.now ≡ ss → All (SameNames (named r.names.now) names) r.switches.now → lines_in (views (r ∷ [])) ≡ lines_by base names ss
+lines_in-slice r base names ss run is_base are same =
+    lines_of-one_run (view_of r) run.rising ∙ lines_of-same_names (named r.names.now) names r.base r.switches.now same
+    ∙ ap (λ (b : ℕ). lines_by b names r.switches.now) is_base ∙ ap (lines_by base names) are
+
+-- it has as many lines as switches
+pub length-slice : (r : Run) (ss : List Switch) → r.switches.now ≡ ss → length (flat_map entries_of (views (r ∷ []))) ≡ length ss
+length-slice r ss are = ap length (append-nil (entries_of (view_of r))) ∙ length-map r.switches.now (entry_of (view_of r)) ∙ ap length are
+
+-- ---- all slices
+
+lines_by-split : (base base' : ℕ) (names names' : ℕ → List ℕ) (rest hand rest' : List Switch) → rest ≡ hand ++ rest' → base' ≡ base → ((number : ℕ) → names' number ≡ names number)
+    → lines_by base names rest ≡ lines_by base' names' hand ++ lines_by base names rest'
+lines_by-split base base' names names' rest hand rest' split is_base same =
+    let here : lines_by base' names' hand ≡ lines_by base names hand
+    = ap (λ (b : ℕ). lines_by b names' hand) is_base ∙ lines_of-same_names names' names base hand (SameNames-everywhere names' names hand same) in
+    ap (lines_by base names) split ∙ flat_map-append (line_of names base) hand rest' ∙ ap (λ (xs : List ℕ). xs ++ lines_by base names rest') (sym here)
+
+-- at first the header waits
+pub IsSlicing-start : (before : Option (List ℕ)) (base : ℕ) (names : ℕ → List ℕ) (all : List Switch) (waiting : List ℕ) → waiting ≡ header → IsSlicing before before base names all all 0 waiting
+IsSlicing-start before base names all waiting is = record {
+  sends = record {
+    gone = [];
+    taken = Appends-nil before;
+    count = refl;
+    whole = ap (λ (xs : List ℕ). xs ++ lines_by base names all) (sym is);
+  };
+  bound = omega (arith, ap length is, length-header);
+}
+
+-- the lines of the next slice go out behind what waits
+pub IsSlicing-next : (before mid after : Option (List ℕ)) (base base' : ℕ) (names names' : ℕ → List ℕ) (all rest hand rest' : List Switch) (sent n : ℕ) (waiting left : List ℕ) → IsSlicing before mid base names all rest sent waiting
+    → rest ≡ hand ++ rest' → base' ≡ base → ((number : ℕ) → names' number ≡ names number) → Sends mid after (waiting ++ lines_by base' names' hand) n left → n + length left ≤ length waiting + 512 * length hand
+    → IsSlicing before after base names all rest' (sent + n) left
+IsSlicing-next before mid after base base' names names' all rest hand rest' sent n waiting left u split is_base same s short =
+    let text = sliced_trace base names all in
+    let made = lines_by-split base base' names names' rest hand rest' split is_base same in
+    let sends = subst (λ (xs : List ℕ). Sends before mid text sent (waiting ++ xs)) made u.sends in
+    let bound = u.bound in
+    record {
+      sends = sends_on before mid after text waiting (lines_by base' names' hand) (lines_by base names rest') left sent n sends s;
+      bound = omega (arith, ap length split, length-append hand rest', bound, short);
+    }
+
+-- the writer fails in the next slice
+pub IsSlicing-stops : (before mid after : Option (List ℕ)) (base base' : ℕ) (names names' : ℕ → List ℕ) (all rest hand rest' : List Switch) (sent n : ℕ) (waiting : List ℕ) → IsSlicing before mid base names all rest sent waiting
+    → rest ≡ hand ++ rest' → base' ≡ base → ((number : ℕ) → names' number ≡ names number) → TakesFront mid after (waiting ++ lines_by base' names' hand) n → TakesFront before after (sliced_trace base names all) (sent + n)
+IsSlicing-stops before mid after base base' names names' all rest hand rest' sent n waiting u split is_base same t =
+    let here = lines_by base' names' hand in
+    let more = lines_by base names rest' in
+    let whole : (waiting ++ here) ++ more ≡ waiting ++ lines_by base names rest
+    = append_assoc waiting here more ∙ ap (λ (xs : List ℕ). waiting ++ xs) (sym (lines_by-split base base' names names' rest hand rest' split is_base same)) in
+    stops_all before mid after (sliced_trace base names all) (waiting ++ lines_by base names rest) sent n u.sends
+    (subst (λ (xs : List ℕ). TakesFront mid after xs n) whole (front_more mid after (waiting ++ here) more n t))
+
+-- what goes out is counted below 2^64, also where the writer fails in the next slice
+pub sliced_fits : (before after : Option (List ℕ)) (base : ℕ) (names : ℕ → List ℕ) (all rest hand rest' : List Switch) (sent n : ℕ) (waiting : List ℕ) → IsSlicing before after base names all rest sent waiting
+    → rest ≡ hand ++ rest' → length all ≤ 2 ^ 54 → n ≤ length waiting + 512 * length hand → sent + n < 2 ^ 64
+sliced_fits before after base names all rest hand rest' sent n waiting u split few le = let bound = u.bound in omega (arith, ap length split, length-append hand rest', bound, few, le)
+
+-- no slice is left: all that did not go out waits
+pub IsSlicing-ends : (before after : Option (List ℕ)) (base : ℕ) (names : ℕ → List ℕ) (all rest : List Switch) (sent : ℕ) (waiting : List ℕ) → IsSlicing before after base names all rest sent waiting → rest ≡ []
+    → Sends before after (sliced_trace base names all) sent waiting
+IsSlicing-ends before after base names all rest sent waiting u none =
+    subst (λ (xs : List ℕ). Sends before after (sliced_trace base names all) sent xs) (ap (λ (ss : List Switch). waiting ++ lines_by base names ss) none ∙ append-nil waiting) u.sends

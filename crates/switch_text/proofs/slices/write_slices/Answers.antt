@@ -1,0 +1,78 @@
+use Rattle.std.proofs.Common.{◌≡◌, ◌∙◌, length, refl, ap, arith}
+use Rattle.counted_io.specs.Sides.{inner_of}
+use Rattle.switch_text.specs.Trace.{header}
+use Rattle.switch_text.specs.SlicedTrace.{sliced_trace}
+use Rattle.switch_text.proofs.UnderWay.{length-header}
+use Rattle.switch_text.proofs.Sliced.{ends_all, stops_all}
+use Rattle.switch_text.proofs.Slicing.{IsSlicing-start, IsSlicing-next, IsSlicing-stops, IsSlicing-ends, sliced_fits}
+use Rattle.switch_text.proofs.slices.write_slices.Goals as goal
+
+pub loop-slots-init : goal.loop-slots-init
+loop-slots-init g c =
+    let slices = c.args.slices.now in
+    let waiting : c.append.new.self ≡ header = rw (c.append.ensures, c.new-batch.ensures) c.header_text.ensures.text in
+    record {
+      base = refl;
+      names = λ number. refl;
+      slicing = IsSlicing-start (g.W.Write.contents (inner_of c.args.writer.now)) (g.S.Slices.base slices) (g.S.Slices.names slices) (g.S.Slices.rest slices) c.append.new.self waiting;
+      room = omega (arith, ap length waiting, length-header);
+      many = ap length c.as_mut_slice-slots.ensures.value ∙ c.args.room.many;
+      texts = c.no_texts-texts.ensures;
+      faults = refl;
+    }
+
+pub overflow_add-written : goal.overflow_add-written
+overflow_add-written g c =
+    let slices = c.args.slices.now in
+    let bound = c.in-Ok.ensures.bound in
+    omega (
+      arith,
+      sliced_fits _ _ (g.S.Slices.base slices) (g.S.Slices.names slices) (g.S.Slices.rest slices) (g.S.Slices.rest c.loop-slots.slices) (g.S.Slices.at_hand c.go_on.new.self) (g.S.Slices.rest c.go_on.new.self)
+          c.loop-slots.written c.in-Ok.n c.loop-slots.batch c.loop-slots.invariant.slicing c.go_on.ensures.rest c.requires.few (omega (arith, bound)),
+    )
+
+pub loop-slots-preserved : goal.loop-slots-preserved
+loop-slots-preserved g c =
+    let slices = c.args.slices.now in
+    let l = c.loop-slots in
+    let now = c.go_on.new.self in
+    let is_base = c.go_on.ensures.base ∙ l.invariant.base in
+    record {
+      base = is_base;
+      names = λ number. c.go_on.ensures.names number ∙ l.invariant.names number;
+      slicing = IsSlicing-next (g.W.Write.contents (inner_of c.args.writer.now)) (g.W.Write.contents (inner_of l.writer)) (g.W.Write.contents (inner_of c.send_slice.new.writer))
+          (g.S.Slices.base slices) (g.S.Slices.base now) (g.S.Slices.names slices) (g.S.Slices.names now) (g.S.Slices.rest slices) (g.S.Slices.rest l.slices) (g.S.Slices.at_hand now) (g.S.Slices.rest now)
+          l.written c.in-Ok.n l.batch c.send_slice.new.batch l.invariant.slicing c.go_on.ensures.rest is_base (λ number. c.go_on.ensures.names number ∙ l.invariant.names number) c.in-Ok.ensures.ok c.in-Ok.ensures.bound;
+      room = c.in-Ok.ensures.room;
+      many = c.send_slice.ensures.many;
+      texts = c.send_slice.ensures.texts;
+      faults = c.in-Ok.ensures.faults ∙ l.invariant.faults;
+    }
+
+pub returns-in-Err-clause-err : goal.returns-in-Err-clause-err
+returns-in-Err-clause-err g c =
+    let slices = c.args.slices.now in
+    let l = c.loop-slots in
+    let now = c.go_on.new.self in
+    let before = g.W.Write.contents (inner_of c.args.writer.now) in
+    let after = g.W.Write.contents (inner_of c.send_slice.new.writer) in
+    let stops = IsSlicing-stops before (g.W.Write.contents (inner_of l.writer)) after
+    (g.S.Slices.base slices) (g.S.Slices.base now) (g.S.Slices.names slices) (g.S.Slices.names now) (g.S.Slices.rest slices) (g.S.Slices.rest l.slices) (g.S.Slices.at_hand now) (g.S.Slices.rest now)
+    l.written c.in-Err.n l.batch l.invariant.slicing c.go_on.ensures.rest (c.go_on.ensures.base ∙ l.invariant.base) (λ number. c.go_on.ensures.names number ∙ l.invariant.names number) c.in-Err.ensures.err in
+    rw c.stopped_after.ensures stops
+
+pub returns-in-Ok-flush-clause-ok : goal.returns-in-Ok-flush-clause-ok
+returns-in-Ok-flush-clause-ok g c =
+    let slices = c.args.slices.now in
+    let l = c.loop-slots in
+    let text = sliced_trace (g.S.Slices.base slices) (g.S.Slices.names slices) (g.S.Slices.rest slices) in
+    let sends = IsSlicing-ends _ _ (g.S.Slices.base slices) (g.S.Slices.names slices) (g.S.Slices.rest slices) (g.S.Slices.rest l.slices) l.written l.batch l.invariant.slicing (c.go_on.ensures.none c.loop-slots-test.false) in
+    ends_all _ _ _ text l.batch c.flush.new.self l.written c.in-Ok-flush.field-0 sends c.in-Ok-flush.ensures.ok c.in-Ok-flush.ensures.emptied
+
+pub returns-clause-err : goal.returns-clause-err
+returns-clause-err g c =
+    let slices = c.args.slices.now in
+    let l = c.loop-slots in
+    let text = sliced_trace (g.S.Slices.base slices) (g.S.Slices.names slices) (g.S.Slices.rest slices) in
+    let sends = IsSlicing-ends _ _ (g.S.Slices.base slices) (g.S.Slices.names slices) (g.S.Slices.rest slices) (g.S.Slices.rest l.slices) l.written l.batch l.invariant.slicing (c.go_on.ensures.none c.loop-slots-test.false) in
+    rw c.stopped_after-in-Err-flush.ensures (stops_all _ _ _ text l.batch l.written c.in-Err-flush.n sends c.in-Err-flush.ensures.err)

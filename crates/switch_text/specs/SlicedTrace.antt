@@ -1,0 +1,12 @@
+-- The trace text of one run that is written while it is made.
+use Rattle.std.specs.Prelude.{ℕ, List, ◌++◌}
+use Rattle.std.specs.List.{flat_map}
+use Rattle.domain_run.specs.declared.switch.Switch.{Switch}
+use Rattle.switch_text.specs.Line.{line_of}
+use Rattle.switch_text.specs.Trace.{header}
+
+-- of the CPU of the machine that is its CPU 0, the names of its tasks and its switches: the header,
+-- and then their lines as they stand (where they rise by time and CPU it is the trace of that run:
+-- `sliced_trace-is` of the laws for callers)
+abbrev pub sliced_trace : ℕ → (ℕ → List ℕ) → List Switch → List ℕ
+sliced_trace base names switches = header ++ flat_map (line_of names base) switches
