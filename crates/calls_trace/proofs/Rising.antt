@@ -1,8 +1,8 @@
 -- The switches of the whole run of a section rise strictly by time and CPU, and are few: by the rules alone, whoever keeps them.
-use Rattle.std.proofs.Common.{◌≡◌, ℕ, zero, suc, ◌+◌, ◌*◌, ◌^◌, ◌<◌, ◌≤◌, Bool, true, false, cond, ltb, ◌||◌, Option, List, [], ◌∷◌, ◌++◌, length, map, get_or, refl, sym, arith, eq-eqb, length-append}
+use Rattle.std.proofs.Common.{◌≡◌, ℕ, zero, suc, ◌+◌, ◌*◌, ◌^◌, ◌<◌, ◌≤◌, Bool, true, false, cond, ltb, ◌||◌, Option, List, [], ◌∷◌, ◌++◌, length, get_or, refl, sym, arith, eq-eqb, length-append}
 use Rattle.std.specs.Prelude.{All, AllPairs, IsTrue}
 use Rattle.std.proofs.lemmas.Bool.{lt-ltb}
-use Rattle.std.proofs.lemmas.List.Elements.{All-nil, All-cons, All-append, All-weaker, All-head, All-tail}
+use Rattle.std.proofs.lemmas.List.Elements.{All-nil, All-cons, All-append, All-weaker}
 use Rattle.std.proofs.lemmas.List.Kept.{AllPairs-cons}
 use Rattle.domain_run.specs.declared.task.Task.{Task}
 use Rattle.domain_run.specs.declared.switch.Switch.{Switch}
@@ -15,7 +15,6 @@ use Rattle.domain_run.specs.Calls.{reply_to, is_refusal, granted, after_call}
 use Rattle.domain_run.specs.Run.{after_calls}
 use Rattle.domain_run.proofs.Tracing.{AllPairs-append, before_time}
 use Rattle.domain_run.proofs.ToldIn.{HasKnown, has_call, has_opened}
-use Rattle.call_book.specs.declared.section.Entry.{Entry}
 use Rattle.call_book.specs.SectionView.{SectionView}
 use Rattle.call_book.specs.Limits.{IsSection}
 use Rattle.calls_trace.specs.Replay.{calls_of}
