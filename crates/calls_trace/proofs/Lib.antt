@@ -3,7 +3,7 @@ mod Keeping
 mod Sections
 mod ToldLines
 mod Rising
-mod Steps
+mod Ready
 mod Pieces
 mod Played
 mod Written

@@ -19,13 +19,13 @@ mod charting;
 mod counted_run;
 mod fault;
 mod figures;
+mod given_names;
 mod heard_summary;
 mod named_run;
 mod placed_run;
 mod playing;
 mod replaying;
 mod run_text;
-mod step;
 mod trace;
 mod writing;
 

@@ -5,11 +5,11 @@ ghost use Rattle.std.specs.Prelude.{◌≡◌, ◌+◌, ◌*◌, ◌≤◌, ◌^
 ghost use Rattle.indexmap.specs.IndexMap.{spare};
 ghost use Rattle.calls_trace.specs.Replay.{no_names};
 ghost use Rattle.calls_trace.specs.private.Replaying.{AreNamed, Gives};
-ghost use Rattle.calls_trace.specs.private.Steps.{IsStep};
+ghost use Rattle.calls_trace.specs.private.Calls.{IsReady, AreTexts};
 
-use crate::step::{Step, steps_of};
+use crate::given_names::{last_text, texts_given};
 use attr_check::Params;
-use call_book::Section;
+use call_book::{Entry, Section};
 use domain_run::{Buffered, Call, Name, NoMemory, Script, State};
 use indexmap::IndexMap;
 use std::alloc::Global;
@@ -31,11 +31,14 @@ pub(crate) struct Playing {
     /// So many ticks are left of the advance under way.
     left: u64,
     /// The calls behind it, the last one first.
-    steps: Vec<Step>,
+    entries: Vec<Entry>,
+    /// The texts of the names that these give.
+    texts: Vec<String>,
     ghost called: { AreNamed run.domain run.names },
-    ghost stepped: { All IsStep steps.items },
-    ghost room: { length steps.items ≤ spare run.names },
-    ghost early: { run.domain.time + left + length steps.items * 60000000 ≤ 2 ^ 42 },
+    ghost ready: { All (λ e. IsReady e.call) entries.items },
+    ghost spelled: { AreTexts entries.items texts.items },
+    ghost room: { length entries.items ≤ spare run.names },
+    ghost early: { run.domain.time + left + length entries.items * 60000000 ≤ 2 ^ 42 },
 }
 
 impl NamedDomain {
@@ -48,6 +51,7 @@ impl NamedDomain {
     ghost use Rattle.switch_text.specs.Names.{named};
     ghost use Rattle.calls_trace.specs.Replay.{with_name, names_after};
     ghost use Rattle.calls_trace.specs.private.Replaying.{Gives};
+    ghost use Rattle.calls_trace.specs.private.Calls.{name_given};
 
     /// Puts down a name in the room for it.
     fn put(&mut self, number: u32, text: String)
@@ -93,18 +97,18 @@ impl NamedDomain {
     }
 
     /// Makes a call, of an advance no tick; answers how many ticks it has still to make.
-    fn make(&mut self, step: Step) -> u64
-        requires step { IsStep step }
+    fn make(&mut self, call: Call, text: String) -> u64
+        requires call { IsReady call }
+        requires text { string_bytes text ≡ name_given call }
         requires room { 0 < spare self.old.names }
         requires called { AreNamed self.old.domain self.old.names }
-        ensures domain { ticks result self.new.domain ≡ after_call self.old.domain step.call }
+        ensures domain { ticks result self.new.domain ≡ after_call self.old.domain call }
         ensures names { Gives self.new.names
-            (names_after self.old.domain step.call (named self.old.names)) }
+            (names_after self.old.domain call (named self.old.names)) }
         ensures called { AreNamed self.new.domain self.new.names }
         ensures room { spare self.old.names ≤ spare self.new.names + 1 }
         ensures most { result ≤ 60000000 }
     {
-        let Step { call, text } = step;
         match call {
             Call::Admit {
                 number,
@@ -165,15 +169,17 @@ impl Playing {
         let Section {
             cpus,
             limit,
-            entries,
+            mut entries,
         } = section;
-        let steps = steps_of(alloc, entries)?;
-        let names = room_for_names(alloc, steps.len())?;
+        entries.reverse();
+        let texts = texts_given(alloc, &entries)?;
+        let names = room_for_names(alloc, entries.len())?;
         let domain = Buffered::of(State::open(alloc, cpus, limit)?)?;
         Ok(Playing {
             run: NamedDomain { domain, names },
             left: 0,
-            steps,
+            entries,
+            texts,
         })
     }
 
@@ -208,9 +214,10 @@ impl Playing {
         ensures ahead { result ≡ true → work_of self.new < work_of self.old }
         ensures stopped { result ≡ false → work_of self.new ≡ 0 }
     {
-        match self.steps.pop() {
-            Some(step) => {
-                self.left = self.run.make(step);
+        match self.entries.pop() {
+            Some(entry) => {
+                let text = last_text(&mut self.texts);
+                self.left = self.run.make(entry.call, text);
                 true
             }
             None => false,
