@@ -2,6 +2,10 @@ mod Naming
 mod Keeping
 mod Sections
 mod ToldLines
+mod Rising
+mod Ready
+mod Pieces
+mod Played
 mod Written
 mod Charts
 mod Texts

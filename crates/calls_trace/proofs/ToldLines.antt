@@ -44,7 +44,7 @@ time_after d (e ∷ entries) are =
     omega (arith, step, most, rest)
 
 -- a section ends before 2^42 us
-section_time : (s : SectionView) → IsSection s → (domain_of s).time < 2 ^ 42
+pub section_time : (s : SectionView) → IsSection s → (domain_of s).time < 2 ^ 42
 section_time s is =
     let last = time_after (opened s.cpus s.limit) s.entries is.entries in
     omega (arith, last, is.most_entries)

@@ -2,3 +2,5 @@ pub mod Replaying
 pub mod RunTexts
 pub mod Recorded
 pub mod Counting
+pub mod Calls
+pub mod Playing

@@ -10,7 +10,8 @@
 //! were heard as they were made, while their switches were let go (`specs/Heard.antt`); nothing is
 //! run again. To the crate above they promise: `Ok` means that what was written is that text of the
 //! runs of the sections, each on a domain of its own, and nothing else; each fault means what it
-//! says, and where it is no fault of the writer, nothing was written. `proofs/CallerLemmas.antt` has
+//! says, and where it is no fault of the writer, nothing was written. The trace of one section goes
+//! out while its run is made, so its switches are not kept. `proofs/CallerLemmas.antt` has
 //! laws for callers: the calls text of histories is read again, and its replay writes the same trace.
 #![tactic(auto)]
 
@@ -18,9 +19,11 @@ mod charting;
 mod counted_run;
 mod fault;
 mod figures;
+mod given_names;
 mod heard_summary;
 mod named_run;
 mod placed_run;
+mod playing;
 mod replaying;
 mod run_text;
 mod trace;

@@ -35,7 +35,8 @@ pub(crate) struct RunWithNames {
     pub(crate) log: Log,
 }
 
-fn text_of(alloc: Global, name: &Name) -> Result<String, NoMemory>
+/// The text of a name.
+pub(crate) fn text_of(alloc: Global, name: &Name) -> Result<String, NoMemory>
     ensures text { IfOk result (λ text. string_bytes text ≡ name.now) }
     ensures name { IsName name.now }
 {

@@ -1,19 +1,23 @@
 //! The runs of the domains of a machine as one trace, alone or with what happens in them.
 
-ghost use Rattle.std.specs.Prelude.{◌≡◌, ◌<◌, ◌≤◌, ◌^◌, All, IfOk, IfErr, OnOk, length, map};
+ghost use Rattle.std.specs.Prelude.{◌≡◌, ◌<◌, ◌≤◌, ◌^◌, [], ◌∷◌, All, IfOk, IfErr, OnOk, length, map};
 ghost use Rattle.switch_text.specs.Runs as runs;
 ghost use Rattle.switch_text.specs.Telling.{told_view, told_views, IsTold};
 ghost use Rattle.counted_io.specs.Sides.{faults_of, side};
+ghost use Rattle.call_book.specs.Limits.{IsSection};
+ghost use Rattle.calls_trace.specs.Replay.{trace_of_sections};
 ghost use Rattle.calls_trace.specs.Written.{IsWritten, IsUnwritten};
 ghost use Rattle.calls_trace.specs.declared.run_text.RunText.TheVariants as texts;
 ghost use Rattle.calls_trace.specs.private.Replaying.{IsPlaced, view_of, run_in, told_in, heard, text_of_runs};
 
 use crate::fault::TraceFault;
 use crate::placed_run::PlacedRun;
+use crate::playing::Playing;
+use call_book::Section;
 use domain_run::{Happened, Log, NoMemory};
 use std::alloc::Global;
 use std::io::Write;
-use switch_text::{Counted, Run, Told, TraceRoom, write_events_in, write_trace_in};
+use switch_text::{Counted, Run, Told, TraceRoom, write_events_in, write_slices, write_trace_in};
 
 /// A run as it is written.
 fn as_written(placed: &PlacedRun) -> Run<'_>
@@ -109,7 +113,31 @@ pub(crate) fn write_trace_of<W: Write>(
     }
 }
 
-/// The same, and between its lines those of what happens.
+/// Writes the trace of the run of one section, while the run is made. What takes memory is made
+/// before the first byte.
+pub(crate) fn write_played<W: Write>(
+    alloc: Global,
+    section: Section,
+    writer: &mut Counted<W>,
+) -> Result<(), TraceFault>
+    requires section { IsSection section }
+    requires faults { faults_of writer.old < 2 ^ 63 }
+    ensures ok { OnOk result
+        (IsWritten (side W.contents writer.old writer.new) (trace_of_sections (section ∷ []))) }
+    ensures err { IfErr result
+        (IsUnwritten (side W.contents writer.old writer.new) (trace_of_sections (section ∷ []))) }
+{
+    let room = room_in(alloc)?;
+    let mut playing = Playing::open(alloc, section)?;
+    match write_slices(&mut playing, room, writer) {
+        Ok(()) => Ok(()),
+        Err(fault) => Err(TraceFault::Write {
+            written: fault.written,
+        }),
+    }
+}
+
+/// Writes the runs of 1 to 8 domains, and between the lines of their trace those of what happens.
 pub(crate) fn write_events_of<W: Write>(
     alloc: Global,
     placed: &[PlacedRun],

@@ -1,12 +1,13 @@
 //! The last step: the runs of the domains of a machine as the text that is asked for.
 
-ghost use Rattle.std.specs.Prelude.{◌≡◌, ◌<◌, ◌≤◌, ◌^◌, All, IfErr, OnOk, length};
+ghost use Rattle.std.specs.Prelude.{◌≡◌, ◌<◌, ◌≤◌, ◌^◌, [], ◌∷◌, All, IfErr, IfNone, IfSome, OnOk, length};
 ghost use Rattle.counted_io.specs.Sides.{faults_of, side};
 ghost use Rattle.call_book.specs.Limits.{IsSection};
 ghost use Rattle.call_book.specs.Histories.{AreLegal, AreRuns, AreTold};
 ghost use Rattle.reply_text.specs.Replies.{replies_of};
 ghost use Rattle.calls_trace.specs.Answer.{replayed, print_tells};
 ghost use Rattle.calls_trace.specs.Written.{IsWritten, IsUnwritten};
+ghost use Rattle.calls_trace.specs.declared.run_text.RunText.TheVariants as texts;
 ghost use Rattle.calls_trace.specs.private.Replaying.{IsPlaced, text_of_runs};
 ghost use Rattle.calls_trace.specs.private.RunTexts.{tells, text_of_all};
 
@@ -16,7 +17,7 @@ use crate::figures::{write_jobs_of, write_summary_of, write_whole};
 use crate::placed_run::{PlacedRun, place_runs, run_sections};
 use crate::replaying::ReplayPrint;
 use crate::run_text::RunText;
-use crate::trace::{write_events_of, write_trace_of};
+use crate::trace::{write_events_of, write_played, write_trace_of};
 use call_book::Section;
 use domain_run::{Log, State};
 use reply_text::{write_recorded, write_replies};
@@ -48,7 +49,7 @@ fn write_runs<W: Write>(
     }
 }
 
-/// Makes the calls of sections, and writes a text of their runs.
+/// Makes the calls of sections, and then writes a text of their runs.
 fn write_run_of<W: Write>(
     alloc: Global,
     text: RunText,
@@ -65,6 +66,58 @@ fn write_run_of<W: Write>(
 {
     let runs = run_sections(alloc, sections, text.tells())?;
     write_runs(alloc, text, &runs, writer)
+}
+
+/// Takes the section out where it is the only one.
+fn take_only(sections: &mut Vec<Section>) -> Option<Section>
+    ensures only { IfSome result (λ section. sections.old.items ≡ section ∷ []) }
+    ensures others { IfNone result (sections.new.items ≡ sections.old.items) }
+{
+    if sections.len() == 1 {
+        return sections.pop();
+    }
+    None
+}
+
+/// Makes the calls of sections, and writes their trace; that of one section while they are made.
+fn write_trace_made<W: Write>(
+    alloc: Global,
+    mut sections: Vec<Section>,
+    writer: &mut Counted<W>,
+) -> Result<(), TraceFault>
+    requires few { length sections.items ≤ 8 }
+    requires sections { All IsSection sections.items }
+    requires faults { faults_of writer.old < 2 ^ 63 }
+    ensures ok { OnOk result (IsWritten (side W.contents writer.old writer.new)
+        (text_of_all texts.Trace sections.items)) }
+    ensures err { IfErr result (IsUnwritten (side W.contents writer.old writer.new)
+        (text_of_all texts.Trace sections.items)) }
+{
+    match take_only(&mut sections) {
+        Some(section) => write_played(alloc, section, writer),
+        None => write_run_of(alloc, RunText::Trace, sections, writer),
+    }
+}
+
+/// Makes the calls of sections, and writes a text of their runs.
+fn write_made<W: Write>(
+    alloc: Global,
+    text: RunText,
+    sections: Vec<Section>,
+    writer: &mut Counted<W>,
+) -> Result<(), TraceFault>
+    requires few { length sections.items ≤ 8 }
+    requires sections { All IsSection sections.items }
+    requires faults { faults_of writer.old < 2 ^ 63 }
+    ensures ok { OnOk result
+        (IsWritten (side W.contents writer.old writer.new) (text_of_all text sections.items)) }
+    ensures err { IfErr result
+        (IsUnwritten (side W.contents writer.old writer.new) (text_of_all text sections.items)) }
+{
+    match text {
+        RunText::Trace => write_trace_made(alloc, sections, writer),
+        _ => write_run_of(alloc, text, sections, writer),
+    }
 }
 
 /// Writes the calls of sections with their replies, in one piece.
@@ -100,7 +153,7 @@ pub(crate) fn write_sections<W: Write>(
         (IsUnwritten (side W.contents writer.old writer.new) (replayed print sections.items)) }
 {
     match RunText::of(print) {
-        Some(text) => write_run_of(alloc, text, sections, writer),
+        Some(text) => write_made(alloc, text, sections, writer),
         None => write_answered(alloc, sections, writer),
     }
 }

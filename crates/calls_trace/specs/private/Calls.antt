@@ -1,0 +1,80 @@
+-- The calls of a section that are left.
+use Rattle.std.specs.Prelude.{ℕ, ◌≡◌, ◌≤◌, List, [], map, reverse}
+use Rattle.std.specs.String.{string_bytes}
+use Rattle.std.specs.declared.string.String.{String}
+use Rattle.std.specs.Global.{Global}
+use Rattle.domain_run.specs.declared.call.Call.{Call}
+use Rattle.domain_run.specs.declared.call.Call.TheVariants.{Admit, Regrade, Wake, Leave, Advance, Limit, Depart, Arrive}
+use Rattle.domain_run.specs.Domain.{IsLimit}
+use Rattle.call_book.specs.Limits.{IsNumber}
+use Rattle.call_book.specs.declared.section.Entry.{Entry}
+
+-- the name that a call gives where it is granted
+abbrev pub name_given : Call → List ℕ
+name_given (Admit number name params delay script) = name
+name_given (Regrade number params word) = []
+name_given (Wake number) = []
+name_given (Leave number) = []
+name_given (Advance n) = []
+name_given (Limit limit word) = []
+name_given (Depart number) = []
+name_given (Arrive number name params script) = name
+
+-- whom it admits; 1 where it admits nobody
+abbrev pub number_given : Call → ℕ
+number_given (Admit number name params delay script) = number
+number_given (Regrade number params word) = 1
+number_given (Wake number) = 1
+number_given (Leave number) = 1
+number_given (Advance n) = 1
+number_given (Limit limit word) = 1
+number_given (Depart number) = 1
+number_given (Arrive number name params script) = number
+
+-- from when on; 0 where it admits nobody
+abbrev pub delay_given : Call → ℕ
+delay_given (Admit number name params delay script) = delay
+delay_given (Regrade number params word) = 0
+delay_given (Wake number) = 0
+delay_given (Leave number) = 0
+delay_given (Advance n) = 0
+delay_given (Limit limit word) = 0
+delay_given (Depart number) = 0
+delay_given (Arrive number name params script) = 0
+
+-- the limit that it sets; the least one where it sets none
+abbrev pub limit_given : Call → ℕ
+limit_given (Admit number name params delay script) = 10485
+limit_given (Regrade number params word) = 10485
+limit_given (Wake number) = 10485
+limit_given (Leave number) = 10485
+limit_given (Advance n) = 10485
+limit_given (Limit limit word) = limit
+limit_given (Depart number) = 10485
+limit_given (Arrive number name params script) = 10485
+
+-- how many ticks it makes
+abbrev pub ticks_given : Call → ℕ
+ticks_given (Admit number name params delay script) = 0
+ticks_given (Regrade number params word) = 0
+ticks_given (Wake number) = 0
+ticks_given (Leave number) = 0
+ticks_given (Advance n) = n
+ticks_given (Limit limit word) = 0
+ticks_given (Depart number) = 0
+ticks_given (Arrive number name params script) = 0
+
+-- a call within the limits
+pub record IsReady (c : Call) : Type 0 where
+  pub numbered : IsNumber (number_given c)
+  pub soon : delay_given c ≤ 1000000000
+  pub limited : IsLimit (limit_given c)
+  pub short : ticks_given c ≤ 60000000
+
+-- a text for each entry: that of the name that its call gives
+abbrev pub AreTexts : List Entry → List (String Global) → Type 0
+AreTexts entries texts = map string_bytes texts ≡ map (λ e. name_given e.call) entries
+
+-- the last one lies first
+abbrev pub calls_left : List Entry → List Call
+calls_left entries = map (λ e. e.call) (reverse entries)

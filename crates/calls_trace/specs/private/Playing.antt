@@ -1,0 +1,32 @@
+-- The run of a section while it is made.
+use Rattle.std.specs.Prelude.{ℕ, ◌+◌, ◌*◌, List, ◌∷◌, length}
+use Rattle.domain_run.specs.declared.call.Call.{Call}
+use Rattle.domain_run.specs.declared.call.Call.TheVariants.{Advance}
+use Rattle.domain_run.specs.declared.switch.Switch.{Switch}
+use Rattle.domain_run.specs.Domain.{Domain}
+use Rattle.domain_run.specs.Passing.{without_switches}
+use Rattle.domain_run.specs.Run.{after_calls}
+use Rattle.switch_text.specs.Names.{named}
+use Rattle.calls_trace.specs.Replay.{names_of}
+use Rattle.calls_trace.specs.declared.playing.Playing.{Playing}
+use Rattle.calls_trace.specs.private.Calls.{calls_left}
+
+-- the calls that are left: what is left of the advance under way, and those behind it
+abbrev pub left_in : Playing → List Call
+left_in p = Advance p.left ∷ calls_left p.entries.items
+
+-- the domain to which they lead
+abbrev pub end_of : Playing → Domain
+end_of p = after_calls p.run.domain (left_in p)
+
+-- the switches that they make
+abbrev pub rest_of : Playing → List Switch
+rest_of p = (after_calls (without_switches p.run.domain) (left_in p)).switches
+
+-- the names of the whole run
+abbrev pub all_names : Playing → (ℕ → List ℕ)
+all_names p = names_of p.run.domain (left_in p) (named p.run.names)
+
+-- how much is left; an advance has at most 60000000 ticks
+abbrev pub work_of : Playing → ℕ
+work_of p = p.left + length p.entries.items * 60000001

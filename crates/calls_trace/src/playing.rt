@@ -1,0 +1,299 @@
+//! The run of a section, made piece by piece, so that its switches can be written while they are
+//! made.
+
+ghost use Rattle.std.specs.Prelude.{◌≡◌, ◌+◌, ◌*◌, ◌≤◌, ◌^◌, All, IfOk, length};
+ghost use Rattle.indexmap.specs.IndexMap.{spare};
+ghost use Rattle.calls_trace.specs.Replay.{no_names};
+ghost use Rattle.calls_trace.specs.private.Replaying.{AreNamed, Gives};
+ghost use Rattle.calls_trace.specs.private.Calls.{IsReady, AreTexts};
+
+use crate::given_names::{last_text, texts_given};
+use attr_check::Params;
+use call_book::{Entry, Section};
+use domain_run::{Buffered, Call, Name, NoMemory, Script, State};
+use indexmap::IndexMap;
+use std::alloc::Global;
+use switch_text::{Run, Slices};
+
+/// A domain whose calls take no memory, and the names of its tasks by their numbers. Each name that
+/// is put down needs room that was made before.
+#[derive(Drop)]
+pub(crate) struct NamedDomain {
+    domain: Buffered,
+    names: IndexMap<u32, String>,
+}
+
+/// The run of a section while it is made, with the switches at hand that were made last. What takes
+/// memory is made at the opening.
+#[derive(Drop)]
+pub(crate) struct Playing {
+    run: NamedDomain,
+    /// So many ticks are left of the advance under way.
+    left: u64,
+    /// The calls behind it, the last one first.
+    entries: Vec<Entry>,
+    /// The texts of the names that these give.
+    texts: Vec<String>,
+    ghost called: { AreNamed run.domain run.names },
+    ghost ready: { All (λ e. IsReady e.call) entries.items },
+    ghost spelled: { AreTexts entries.items texts.items },
+    ghost room: { length entries.items ≤ spare run.names },
+    ghost early: { run.domain.time + left + length entries.items * 60000000 ≤ 2 ^ 42 },
+}
+
+impl NamedDomain {
+    ghost use Rattle.std.specs.Prelude.{◌<◌};
+    ghost use Rattle.std.specs.String.{string_bytes};
+    ghost use Rattle.domain_run.specs.declared.call.Call.TheVariants as Call;
+    ghost use Rattle.domain_run.specs.Calls.{after_call};
+    ghost use Rattle.domain_run.specs.Tick.{ticks};
+    ghost use Rattle.call_book.specs.Limits.{IsNumber};
+    ghost use Rattle.switch_text.specs.Names.{named};
+    ghost use Rattle.calls_trace.specs.Replay.{with_name, names_after};
+    ghost use Rattle.calls_trace.specs.private.Replaying.{Gives};
+    ghost use Rattle.calls_trace.specs.private.Calls.{name_given};
+
+    /// Puts down a name in the room for it.
+    fn put(&mut self, number: u32, text: String)
+        requires room { 0 < spare self.old.names }
+        ensures domain { self.new.domain ≡ self.old.domain }
+        ensures names { Gives self.new.names
+            (with_name (named self.old.names) number (string_bytes text)) }
+        ensures room { spare self.old.names ≤ spare self.new.names + 1 }
+    {
+        match self.names.insert(number, text) {
+            Ok(_) | Err(_) => {}
+        }
+    }
+
+    /// Admits a task; its name is put down where it is admitted.
+    fn admit(
+        &mut self,
+        number: u32,
+        name: Name,
+        params: Params,
+        delay: u64,
+        script: Script,
+        text: String,
+    )
+        requires number { IsNumber number }
+        requires delay { delay ≤ 1000000000 }
+        requires text { string_bytes text ≡ name }
+        requires room { 0 < spare self.old.names }
+        requires called { AreNamed self.old.domain self.old.names }
+        ensures domain { self.new.domain
+            ≡ after_call self.old.domain (Call.Admit number name params delay script) }
+        ensures names { Gives self.new.names (names_after self.old.domain
+            (Call.Admit number name params delay script) (named self.old.names)) }
+        ensures called { AreNamed self.new.domain self.new.names }
+        ensures room { spare self.old.names ≤ spare self.new.names + 1 }
+    {
+        // For the prover alone: a look at a name brings what every name keeps.
+        let _ = name.as_str();
+        match self.domain.admit(number, name, params, delay, script) {
+            Ok(()) => self.put(number, text),
+            Err(_) => {}
+        }
+    }
+
+    /// Makes a call, of an advance no tick; answers how many ticks it has still to make.
+    fn make(&mut self, call: Call, text: String) -> u64
+        requires call { IsReady call }
+        requires text { string_bytes text ≡ name_given call }
+        requires room { 0 < spare self.old.names }
+        requires called { AreNamed self.old.domain self.old.names }
+        ensures domain { ticks result self.new.domain ≡ after_call self.old.domain call }
+        ensures names { Gives self.new.names
+            (names_after self.old.domain call (named self.old.names)) }
+        ensures called { AreNamed self.new.domain self.new.names }
+        ensures room { spare self.old.names ≤ spare self.new.names + 1 }
+        ensures most { result ≤ 60000000 }
+    {
+        match call {
+            Call::Admit {
+                number,
+                name,
+                params,
+                delay,
+                script,
+            } => self.admit(number, name, params, delay, script, text),
+            Call::Advance { ticks } => return ticks,
+            Call::Regrade {
+                number,
+                params,
+                word,
+            } => {
+                self.domain.regrade(number, params, word);
+            }
+            Call::Wake { number } => {
+                self.domain.wake(number);
+            }
+            Call::Leave { number } => {
+                self.domain.leave(number);
+            }
+            Call::Limit { limit, word } => {
+                self.domain.set_limit(limit, word);
+            }
+            Call::Depart { number } => {
+                self.domain.depart(number);
+            }
+            // As an admission without a delay.
+            Call::Arrive {
+                number,
+                name,
+                params,
+                script,
+            } => self.admit(number, name, params, 0, script, text),
+        }
+        0
+    }
+}
+
+impl Playing {
+    ghost use Rattle.std.specs.Prelude.{◌<◌, ◌++◌, ℕ, [], true, false, IfOk};
+    ghost use Rattle.domain_run.specs.Passing.{without_switches};
+    ghost use Rattle.domain_run.specs.Run.{after_calls};
+    ghost use Rattle.call_book.specs.Limits.{IsSection};
+    ghost use Rattle.switch_text.specs.Names.{named};
+    ghost use Rattle.switch_text.specs.Runs.{IsRun};
+    ghost use Rattle.switch_text.specs.Names.{SameNames};
+    ghost use Rattle.calls_trace.specs.Told.{domain_of, names_in};
+    ghost use Rattle.calls_trace.specs.private.Playing.{left_in, end_of, rest_of, all_names, work_of};
+
+    /// A section of which no call is made yet.
+    pub(crate) fn open(alloc: Global, section: Section) -> Result<Playing, NoMemory>
+        requires { IsSection section }
+        ensures rest { IfOk result (λ p. rest_of p ≡ (domain_of section).switches) }
+        ensures names { IfOk result (λ p. (n : ℕ) → all_names p n ≡ names_in section n) }
+    {
+        let Section {
+            cpus,
+            limit,
+            mut entries,
+        } = section;
+        entries.reverse();
+        let texts = texts_given(alloc, &entries)?;
+        let names = room_for_names(alloc, entries.len())?;
+        let domain = Buffered::of(State::open(alloc, cpus, limit)?)?;
+        Ok(Playing {
+            run: NamedDomain { domain, names },
+            left: 0,
+            entries,
+            texts,
+        })
+    }
+
+    /// Forgets the switches at hand.
+    fn forget(&mut self)
+        ensures end { end_of self.new
+            ≡ after_calls (without_switches self.old.run.domain) (left_in self.old) }
+        ensures names { (n : ℕ) → all_names self.new n ≡ all_names self.old n }
+    {
+        self.run.domain.forget_switches();
+    }
+
+    /// Goes on with the advance under way. `false` where the buffer is full.
+    fn advance(&mut self) -> bool
+        requires { 0 < self.old.left }
+        ensures end { end_of self.new ≡ end_of self.old }
+        ensures names { (n : ℕ) → all_names self.new n ≡ all_names self.old n }
+        ensures ahead { result ≡ true → work_of self.new < work_of self.old }
+        ensures stopped { result ≡ false → self.new.run.domain.switches ≡ []
+            → work_of self.new ≡ 0 }
+    {
+        let made = self.run.domain.advance(self.left);
+        self.left -= made;
+        made > 0
+    }
+
+    /// Begins with the next call. `false` where none is left.
+    fn begin(&mut self) -> bool
+        requires { self.old.left ≡ 0 }
+        ensures end { end_of self.new ≡ end_of self.old }
+        ensures names { (n : ℕ) → all_names self.new n ≡ all_names self.old n }
+        ensures ahead { result ≡ true → work_of self.new < work_of self.old }
+        ensures stopped { result ≡ false → work_of self.new ≡ 0 }
+    {
+        match self.entries.pop() {
+            Some(entry) => {
+                let text = last_text(&mut self.texts);
+                self.left = self.run.make(entry.call, text);
+                true
+            }
+            None => false,
+        }
+    }
+
+    /// Goes on with the advance under way, or else with the next call. `false` where the buffer is
+    /// full or nothing is left.
+    fn play(&mut self) -> bool
+        ensures end { end_of self.new ≡ end_of self.old }
+        ensures names { (n : ℕ) → all_names self.new n ≡ all_names self.old n }
+        ensures ahead { result ≡ true → work_of self.new < work_of self.old }
+        ensures stopped { result ≡ false → self.new.run.domain.switches ≡ []
+            → work_of self.new ≡ 0 }
+    {
+        if self.left > 0 {
+            return self.advance();
+        }
+        self.begin()
+    }
+
+    /// Makes the next switches, and forgets those before. `false` where none are left.
+    pub(crate) fn next_slice(&mut self) -> bool
+        ensures rest { rest_of self.old ≡ self.new.run.domain.switches ++ rest_of self.new }
+        ensures names { (n : ℕ) → all_names self.new n ≡ all_names self.old n }
+        ensures some { result ≡ true → 0 < length self.new.run.domain.switches }
+        ensures none { result ≡ false → rest_of self.old ≡ [] }
+    {
+        self.forget();
+        'pieces: while self.play() {}
+        !self.run.domain.switches().is_empty()
+    }
+
+    /// The switches at hand, as they are written.
+    pub(crate) fn as_written(&self) -> Run<'_>
+        ensures run { IsRun result }
+        ensures base { result.base ≡ 0 }
+        ensures switches { result.switches.now ≡ self.now.run.domain.switches }
+        ensures names { All (SameNames (named result.names.now) (all_names self.now))
+            result.switches.now }
+    {
+        Run {
+            base: 0,
+            names: &self.run.names,
+            switches: self.run.domain.switches(),
+        }
+    }
+}
+
+impl Slices for Playing {
+    ghost use Rattle.calls_trace.specs.private.Playing.{rest_of, all_names};
+
+    ghost base = { λ p. 0 };
+
+    ghost names = { all_names };
+
+    ghost at_hand = { λ p. p.run.domain.switches };
+
+    ghost rest = { rest_of };
+
+    fn go_on(&mut self) -> bool {
+        self.next_slice()
+    }
+
+    fn slice(&self) -> Run<'_> {
+        self.as_written()
+    }
+}
+
+/// Room for so many names.
+fn room_for_names(alloc: Global, n: usize) -> Result<IndexMap<u32, String>, NoMemory>
+    ensures empty { IfOk result (λ names. Gives names no_names) }
+    ensures room { IfOk result (λ names. n ≤ spare names) }
+{
+    match IndexMap::with_capacity(alloc, n) {
+        Ok(names) => Ok(names),
+        Err(_) => Err(NoMemory),
+    }
+}
