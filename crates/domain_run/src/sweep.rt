@@ -49,8 +49,13 @@ fn turn(roster: &mut Roster, place: usize, time: u64, change: &Change, log: &mut
     }
     // It is charged what it owes before it is looked at.
     let cpu = roster.cpu_at(place);
-    roster.vacate(cpu);
-    let before = telling::look(roster.at(place), time, change);
+    roster.leave_free(cpu);
+    let task = roster.at(place);
+    if telling::tells_nothing(task, change) {
+        roster.turn(place, time, change);
+        return;
+    }
+    let before = telling::look(task, time, change);
     roster.turn(place, time, change);
     let told = telling::seen_behind(time, change, before, roster.at(place));
     log.push_all(told);
