@@ -56,6 +56,7 @@ fn take_in(schedule: &mut Schedule, after: Option<Candidate>)
     }
 }
 
+#[inline(never)]
 fn replace(schedule: &mut Schedule, before: Option<Candidate>, after: Option<Candidate>)
     requires room { length (spec.without_ready before schedule.old.queue) < 256 }
     requires numbered { IfSome after
@@ -86,7 +87,7 @@ impl RunQueue {
     }
 
     /// The task at a place of the list stood as `before`, and stands as `after` now.
-    #[inline(never)]
+    #[inline(always)]
     pub(crate) fn turn(&mut self, place: usize, before: Standing, after: Standing)
         requires { spec.MayTurn place self.old before after }
         ensures { spec.HasTurned place before after self.old self.new }

@@ -49,8 +49,13 @@ fn turn(roster: &mut Roster, place: usize, time: u64, change: &Change, log: &mut
     }
     // It is charged what it owes before it is looked at.
     let cpu = roster.cpu_at(place);
-    roster.vacate(cpu);
-    let before = telling::look(roster.at(place), time, change);
+    roster.leave_free(cpu);
+    let task = roster.at(place);
+    if telling::tells_nothing(task, change) {
+        roster.turn(place, time, change);
+        return;
+    }
+    let before = telling::look(task, time, change);
     roster.turn(place, time, change);
     let told = telling::seen_behind(time, change, before, roster.at(place));
     log.push_all(told);
@@ -206,6 +211,7 @@ fn wake_due(roster: &mut Roster, time: u64)
 }
 
 /// Parts 1 to 3. Mostly no task is due, and then they have nothing to do.
+#[inline(always)]
 fn wake_all(roster: &mut Roster, time: u64, log: &mut Log)
     requires early { time < 2 ^ 42 }
     requires narrow { roster.old.cpus ≤ 64 }
@@ -261,6 +267,7 @@ fn add_switch(switches: &mut Vec<Switch>, time: u64, roster: &Roster, moved: &Mo
 }
 
 /// Part 5: there is a switch for each CPU that the last choice gave to another one.
+#[inline(always)]
 fn add_switches(switches: &mut Vec<Switch>, time: u64, roster: &Roster)
     requires narrow { AreWithin 64 roster.now.moves }
     requires room { vec_len switches.old + length roster.now.moves ≤ vec_capacity switches.old }
@@ -277,6 +284,7 @@ fn add_switches(switches: &mut Vec<Switch>, time: u64, roster: &Roster)
 /// Parts 1 to 5: replenishment, zero-lag times, wake-ups, placement and the switches. The log is
 /// told what happens to the tasks, on the CPUs to which they belong then. Whether a CPU may have
 /// another occupant.
+#[inline(always)]
 pub(crate) fn begin(
     time: u64,
     roster: &mut Roster,

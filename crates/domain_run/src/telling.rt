@@ -1,6 +1,6 @@
 //! What a change of one task tells a log.
 
-ghost use Rattle.std.specs.Prelude.{◌≡◌, ◌<◌, ◌^◌, ℕ, ℤ, pos, Bool, IsTrue};
+ghost use Rattle.std.specs.Prelude.{[], ◌≡◌, ◌<◌, ◌^◌, ℕ, ℤ, pos, Bool, IsTrue};
 ghost use Rattle.domain_run.specs.declared.task.Condition.{Condition};
 ghost use Rattle.domain_run.specs.declared.change.Change.TheVariants as Change;
 ghost use Rattle.domain_run.specs.declared.happened.What.TheVariants as What;
@@ -54,6 +54,20 @@ pub(crate) fn look(task: &Task, time: u64, change: &Change) -> Before
         condition: task.condition,
         is_late,
     }
+}
+
+/// Whether a look at a task tells that a change tells nothing: it runs on, with work and budget left.
+#[inline(always)]
+pub(crate) fn tells_nothing(task: &Task, change: &Change) -> bool
+    ensures { (time : ℕ) → IsTrue result → telling.told_by_change time change.now task.now ≡ [] }
+{
+    if let Change::Run { ticks, left } = change
+        && *left > 0
+        && *ticks < task.work
+    {
+        return true;
+    }
+    false
 }
 
 fn told_if(test: bool, time: u64, task: &Task, what: What) -> Option<Happened>

@@ -98,6 +98,7 @@ impl Roster {
     }
 
     /// Nobody sits on a CPU any more; who did is charged.
+    #[inline(never)]
     pub(crate) fn vacate(&mut self, cpu: usize)
         requires { cpu < self.old.cpus }
         ensures { self.new ≡ record self.old { seats = slice_set self.old.seats cpu None } }
@@ -116,7 +117,7 @@ impl Roster {
 
     /// As `vacate`: mostly nobody sits there.
     #[inline(always)]
-    fn leave_free(&mut self, cpu: usize)
+    pub(crate) fn leave_free(&mut self, cpu: usize)
         requires { cpu < self.old.cpus }
         ensures { self.new ≡ record self.old { seats = slice_set self.old.seats cpu None } }
     {

@@ -19,6 +19,7 @@ impl State {
     /// CPU beside those so far. Where there is none, nothing has changed, and nothing is told. There is
     /// where no switch waits. Who stands on the CPUs is not listed where that has changed. Takes no
     /// memory.
+    #[inline(always)]
     pub(super) fn begin_in_room(&mut self, log: &mut Log) -> bool
         requires early { self.old.time < 2 ^ 42 }
         requires log { HasRoom (9 * length self.old.tasks + 192) log.old }
@@ -41,6 +42,7 @@ impl State {
     }
 
     /// As [`State::begin_told`], but who stands on the CPUs is not listed where that has changed.
+    #[inline(always)]
     pub(super) fn begin_unlisted(&mut self, log: &mut Log) -> Result<(), NoMemory>
         requires { self.old.time < 2 ^ 42 }
         ensures ok { OnOk result (self.new ≡ jump.under_way self.old) }
