@@ -13,6 +13,14 @@ use switch_text::Counted;
 const THROTTLED_TASK: &[u8] =
     br#"{"tasks":{"a":{"policy":"SCHED_DEADLINE","dl-runtime":2,"dl-period":5,"loop":1,"run":4}},"global":{"duration":1}}"#;
 
+/// A task that is throttled in each of 5000 periods.
+const LONG: &[u8] =
+    b"dlcalls 1\ndomain 1 1048576\nadmit 1 1 a 2 5 5 - 0 1:1{r100000}\nadvance 1 25000\n";
+
+/// The same, and a domain where nothing happens.
+const LONG_BESIDE_NOTHING: &[u8] =
+    b"dlcalls 1\ndomain 1 1048576\nadmit 1 1 a 2 5 5 - 0 1:1{r100000}\nadvance 1 25000\ndomain 1 1048576\n";
+
 /// A reader or a writer of at most `step` bytes a call, whose call `bad`, counted from 0, fails.
 /// The calls behind it go on where it stopped, so that a fault which is tried again is no fault.
 #[derive(Drop)]
@@ -116,6 +124,38 @@ fn writer_fails_in_each_call(rt: HostRuntime) -> Result<(), Fail> {
             assert_eq!(rt; said.as_str(), wanted.as_str());
             assert_eq!(rt; written.as_slice(), &THROTTLED_TRACE[..call]);
         }
+    }
+    Ok(())
+}
+
+// A trace that goes out while its run is made has the bytes of one that is written behind the run,
+// as that of several domains is: here of the same one beside a domain where nothing happens. It has
+// more switches than wait at once.
+#[test]
+fn trace_in_slices(rt: HostRuntime) -> Result<(), Fail> {
+    let never = (usize::MAX, usize::MAX);
+    let (said, alone) = told(&rt, rt.alloc(), (false, LONG), 1 << 20, never)?;
+    assert_eq!(rt; said.as_str(), "");
+    let texts = (false, LONG_BESIDE_NOTHING);
+    let (said, beside) = told(&rt, rt.alloc(), texts, 1 << 20, never)?;
+    assert_eq!(rt; said.as_str(), "");
+    assert!(rt; alone.len() > 1 << 20);
+    assert!(rt; alone.as_slice() == beside.as_slice());
+    Ok(())
+}
+
+// A writer that fails while the run is made: exactly so many bytes went out, the front of the trace.
+#[test]
+fn writer_fails_between_slices(rt: HostRuntime) -> Result<(), Fail> {
+    let never = (usize::MAX, usize::MAX);
+    let (_, whole) = told(&rt, rt.alloc(), (false, LONG), 1 << 20, never)?;
+    for call in [0, 3, 9] {
+        let faults = (usize::MAX, call);
+        let (said, written) = told(&rt, rt.alloc(), (false, LONG), 1 << 20, faults)?;
+        let wanted = format!(in rt.alloc(); "write failed after {}", written.len())?;
+        assert_eq!(rt; said.as_str(), wanted.as_str());
+        assert!(rt; written.len() < whole.len());
+        assert!(rt; whole.starts_with(&written));
     }
     Ok(())
 }
