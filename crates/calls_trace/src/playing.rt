@@ -184,7 +184,7 @@ impl Playing {
     }
 
     /// Forgets the switches at hand.
-    fn forget(&mut self)
+    fn free_buffer(&mut self)
         ensures end { end_of self.new
             ≡ after_calls (without_switches self.old.run.domain) (left_in self.old) }
         ensures names { (n : ℕ) → all_names self.new n ≡ all_names self.old n }
@@ -246,7 +246,7 @@ impl Playing {
         ensures some { result ≡ true → 0 < length self.new.run.domain.switches }
         ensures none { result ≡ false → rest_of self.old ≡ [] }
     {
-        self.forget();
+        self.free_buffer();
         'pieces: while self.play() {}
         !self.run.domain.switches().is_empty()
     }

@@ -4,7 +4,7 @@ use Rattle.switch_text.specs.Names.{named}
 use Rattle.calls_trace.specs.Replay.{names_of}
 use Rattle.calls_trace.specs.private.Playing.{left_in}
 use Rattle.calls_trace.proofs.Pieces.{names_left}
-use Rattle.calls_trace.proofs.playing.Playing.forget.Goals as goal
+use Rattle.calls_trace.proofs.playing.Playing.free_buffer.Goals as goal
 
 pub returns-clause-names : goal.returns-clause-names
 returns-clause-names c =
