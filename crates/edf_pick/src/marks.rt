@@ -35,6 +35,7 @@ pub(crate) fn beyond(marks: u64, others: u64) -> u64
 pub fn both(a: u64, b: u64) -> u64
     ensures first { (i : ℕ) → bit_at result i ≡ 0 → bit_at a i ≡ 0 }
     ensures second { (i : ℕ) → bit_at result i ≡ 0 → bit_at b i ≡ 0 }
+    ensures only { (i : ℕ) → bit_at a i ≡ 0 → bit_at b i ≡ 0 → bit_at result i ≡ 0 }
 {
     a | b
 }

@@ -7,3 +7,6 @@ returns-clause-first c = λ i e. omega (arith, e, bit_at_or c.args.a c.args.b i)
 
 pub returns-clause-second : goal.returns-clause-second
 returns-clause-second c = λ i e. omega (arith, e, bit_at_or c.args.a c.args.b i)
+
+pub returns-clause-only : goal.returns-clause-only
+returns-clause-only c = λ i bare also. omega (arith, bare, also, bit_at_or c.args.a c.args.b i)
