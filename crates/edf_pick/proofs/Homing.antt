@@ -14,7 +14,7 @@ use Rattle.edf_pick.specs.Order.{IsRising, IsQueue}
 use Rattle.edf_pick.specs.Places.{Places, AreSingle, is_task, stands, placed}
 use Rattle.edf_pick.specs.private.First.{staying, is_home, moves, AreMovers}
 use Rattle.edf_pick.proofs.Listing.{inside, read, take_get}
-use Rattle.edf_pick.proofs.Marked.{any_at, mapped, occupied, stands_here, all_stay}
+use Rattle.edf_pick.proofs.Marked.{any_at, mapped, all_stay}
 use Rattle.edf_pick.proofs.Marked as marked
 use Rattle.edf_pick.proofs.Picked.{picked}
 use Rattle.edf_pick.proofs.Renewed.{on_position, get_map, others_away}

@@ -1,4 +1,4 @@
-//! As "picking", where each task that stands does so on the CPU to which it belongs: then the movers
+//! The choice where each task that stands does so on the CPU to which it belongs: then the movers
 //! stand nowhere, and who stands on a CPU that is no home of a chosen task goes.
 
 ghost use Rattle.std.specs.Prelude.{ℕ, ◌≡◌, ◌≢◌, ◌<◌, ◌≤◌, All, AllPairs, None, false, length, map, take, vec_len, vec_capacity, slice_index_or};
@@ -95,7 +95,7 @@ fn move_away(
     both(beyond(stood, kept), beyond(now, kept))
 }
 
-/// As [`crate::picking::pick_from`], a look at each chosen task.
+/// Moves the occupants on by one choice: a look at each chosen task.
 pub(crate) fn pick_at_home(
     places: &mut Vec<Option<u32>>,
     queue: &[Candidate],

@@ -19,11 +19,11 @@ use std::marker::Model;
 
 /// A task that went out of a queue, and the CPU to which it belonged.
 #[derive(Clone, Copy, Debug, PartialEq, Eq)]
-pub struct Gone {
+pub(crate) struct Gone {
     /// The CPU to which it belonged.
-    pub cpu: usize,
+    pub(crate) cpu: usize,
     /// Its number.
-    pub number: u32,
+    pub(crate) number: u32,
 }
 
 /// As many are listed of either kind.
@@ -37,7 +37,7 @@ const FEW: usize = 8;
 /// Changes with other room than for 256 of either kind cannot be built: past them they tell only
 /// that there were too many.
 #[derive(Drop)]
-pub struct Changes {
+pub(crate) struct Changes {
     cut: Option<Candidate>,
     fresh: Vec<Candidate>,
     gone: Vec<Gone>,
@@ -64,7 +64,7 @@ impl Model for Changes {
 impl Changes {
     /// Too many to be listed: the first choice looks at all. No other call takes memory. `Err` where
     /// the room was refused.
-    pub fn open(alloc: Global) -> Result<Changes, AllocError>
+    pub(crate) fn open(alloc: Global) -> Result<Changes, AllocError>
         ensures { IfOk result (λ changes. changes.many ≡ true) }
     {
         Ok(Changes {
@@ -76,7 +76,7 @@ impl Changes {
     }
 
     /// A task has come into the queue.
-    pub fn come(&mut self, c: &Candidate)
+    pub(crate) fn come(&mut self, c: &Candidate)
         ensures follows { (queue : List Candidate) (places : Places)
             → spec.Follows queue places self.old
             → spec.Follows (with_candidate c.now queue) places self.new }
@@ -92,7 +92,7 @@ impl Changes {
     }
 
     /// A task has gone out of the queue.
-    pub fn go(&mut self, c: &Candidate)
+    pub(crate) fn go(&mut self, c: &Candidate)
         ensures follows { (queue : List Candidate) (places : Places)
             → All (λ a. is_same a c.now ≡ true → a.home ≡ c.now.home) queue
             → All (λ a. a.number ≡ c.now.number → is_same a c.now ≡ true) queue
@@ -142,11 +142,9 @@ fn is_long(changes: &Changes, chosen: usize) -> bool
     changes.many || 8 * changes.fresh.len() + changes.gone.len() >= chosen
 }
 
-/// As [`crate::pick`], by what has changed since the last choice: where that is listed and little, it
-/// looks at that alone, and else at all. It lists the CPUs that another one has then. Nothing has
-/// changed since in the queue in which each task that stands belongs to the CPU on which it stands.
-/// Answers places in the queue, as a word of marks: each task at another place belongs to the CPU on
-/// which it stands now, if it stands on one. Takes no memory.
+/// As [`crate::placement::pick_by_walk`], by what has changed since the last choice: where that is
+/// listed and little, it looks at that alone, and else at all. Nothing has changed since in the queue
+/// in which each task that stands belongs to the CPU on which it stands.
 #[inline(always)]
 pub(crate) fn pick_changed(
     placement: &mut Placement,

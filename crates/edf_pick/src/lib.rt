@@ -1,14 +1,13 @@
 //! Which ready tasks run, and on which CPU: global EDF (sched-deadline.rst, "Main algorithm"; ties
 //! and placement are own).
 //!
-//! [`Queue`] keeps the ready tasks in the order of the choice, and [`pick`] moves the occupants of
-//! the CPUs, a [`Placement`], on by one tick. Both meet the definition "Choice and placement"
-//! (`specs/Choice.antt` and `specs/Places.antt` by counting, `specs/Order.antt` for the queue). To
-//! the crate above it promises that the occupants of the CPUs are exactly those, for a list in any
-//! order too (`proofs/CallerLemmas.antt`), and that neither a queue nor a placement grows: their
-//! types keep the room that they were opened with. [`Schedule`] is both as one, and chooses by what
-//! has changed since the last choice (`specs/Changes.antt`, `specs/Schedule.antt`): it looks at that
-//! alone, and lists the CPUs that another one has (`specs/Moves.antt`).
+//! A [`Schedule`] is the ready tasks in the order of the choice, and who stands on each CPU. Its
+//! choice meets the definition "Choice and placement" (`specs/Choice.antt` and `specs/Places.antt`
+//! by counting, `specs/Order.antt` for the queue), by what has changed since the last one
+//! (`specs/Changes.antt`, `specs/Schedule.antt`): it looks at that alone, and lists the CPUs that
+//! another one has (`specs/Moves.antt`). To the crate above it promises that the occupants of the
+//! CPUs are exactly those, for a list in any order too (`proofs/CallerLemmas.antt`). Its types keep
+//! the room that they were opened with, so it never grows.
 #![tactic(auto)]
 
 mod at_home;
@@ -26,9 +25,5 @@ mod seats;
 mod single;
 
 pub use candidate::Candidate;
-pub use changes::{Changes, Gone};
-pub use moves::{Moved, Moves};
-pub use placement::{Placement, pick};
-pub use queue::Queue;
+pub use moves::Moved;
 pub use schedule::Schedule;
-pub use seats::stands;

@@ -20,7 +20,7 @@ pub struct Moved {
 /// The CPUs that a choice has given to another one, in their order: at most 64. Moves with other
 /// room than for 64 cannot be built. Contracts see them as the list.
 #[derive(Drop)]
-pub struct Moves {
+pub(crate) struct Moves {
     list: Vec<Moved>,
 }
 
@@ -37,7 +37,7 @@ impl Model for Moves {
 
 impl Moves {
     /// None. No other call takes memory. `Err` where the room was refused.
-    pub fn open(alloc: Global) -> Result<Moves, AllocError>
+    pub(crate) fn open(alloc: Global) -> Result<Moves, AllocError>
         ensures { IfOk result (λ moves. moves ≡ []) }
     {
         Ok(Moves {
@@ -46,7 +46,7 @@ impl Moves {
     }
 
     /// Each CPU once, from the first one on.
-    pub fn as_slice(&self) -> &[Moved]
+    pub(crate) fn as_slice(&self) -> &[Moved]
         ensures { result.now ≡ self.now }
     {
         self.list.as_slice()

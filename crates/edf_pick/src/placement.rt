@@ -12,7 +12,6 @@ use crate::at_home::{pick_at_home, pick_listed};
 use crate::candidate::Candidate;
 use crate::changes::Gone;
 use crate::moves::Moves;
-use crate::picking::pick_from;
 use crate::queue::Queue;
 use std::alloc::{AllocError, Global};
 use std::marker::Model;
@@ -22,7 +21,7 @@ use std::marker::Model;
 /// or fewer than its CPUs, or where a task stands twice, cannot be built. Beside the list it keeps
 /// a word with a mark for each CPU on which somebody stands, and a copy of the list.
 #[derive(Drop)]
-pub struct Placement {
+pub(crate) struct Placement {
     occupants: Vec<Option<u32>>,
     taken: u64,
     before: Vec<Option<u32>>,
@@ -65,7 +64,7 @@ fn mark_of(stands: Option<u32>) -> u64
 
 impl Placement {
     /// 1 to 64 idle CPUs. No other call takes memory. `Err` where their room was refused.
-    pub fn open(alloc: Global, cpus: usize) -> Result<Placement, AllocError>
+    pub(crate) fn open(alloc: Global, cpus: usize) -> Result<Placement, AllocError>
         requires some { 0 < cpus }
         requires few { cpus ≤ 64 }
         ensures { IfOk result (λ placement. placement ≡ replicate cpus None) }
@@ -89,7 +88,7 @@ impl Placement {
     }
 
     /// Who stands on each CPU, from CPU 0 on.
-    pub fn occupants(&self) -> &[Option<u32>]
+    pub(crate) fn occupants(&self) -> &[Option<u32>]
         ensures occupants { result.now ≡ self.now }
         ensures some { 0 < length self.now }
         ensures few { length self.now ≤ 64 }
@@ -98,22 +97,10 @@ impl Placement {
     }
 }
 
-/// Moves the occupants of the CPUs on by one tick. As many of the first tasks of the queue are
-/// chosen as there are CPUs (global EDF: sched-deadline.rst, "Main algorithm"; ties and the
-/// placement are own). A chosen task stays where it stands; the others, in the order of the queue,
-/// go to the CPU to which they belong where that is free, else to the lowest free one. Takes no
-/// memory.
-pub fn pick(placement: &mut Placement, queue: &Queue)
-    ensures { placement.new ≡ placed (length placement.old) queue.now placement.old }
-{
-    let tasks = queue.as_slice();
-    let _ = pick_from(&mut placement.occupants, tasks, &mut placement.taken);
-    placement
-        .before
-        .copy_from_slice(placement.occupants.as_slice());
-}
-
-/// As `pick`, where each task that stands belongs to its CPU, and lists the CPUs that another one has.
+/// Moves the occupants of the CPUs on by one tick, where each task that stands belongs to its CPU,
+/// and lists the CPUs that another one has. As many of the first tasks of the queue are chosen as
+/// there are CPUs. A chosen task stays where it stands; the others, in the order of the queue, go to
+/// the CPU to which they belong where that is free, else to the lowest free one. Takes no memory.
 /// Answers places in the queue, as a word of marks: each task at another place belongs to the CPU on
 /// which it stands now, if it stands on one.
 #[inline(always)]

@@ -56,13 +56,6 @@ impl Schedule {
         })
     }
 
-    /// The ready tasks.
-    pub fn queue(&self) -> &Queue
-        ensures { result.now ≡ self.now.queue }
-    {
-        &self.queue
-    }
-
     /// Who stands on each CPU, from CPU 0 on.
     pub fn occupants(&self) -> &[Option<u32>]
         ensures occupants { result.now ≡ self.now.places }
@@ -105,8 +98,12 @@ impl Schedule {
         true
     }
 
-    /// The choice of the next tick and its placement, as [`crate::pick`], by what has changed since the
-    /// last one: see [`crate::pick_changed`]. Each task that stands then belongs to its CPU.
+    /// The choice of the next tick and its placement, by what has changed since the last one. As
+    /// many of the first tasks of the queue are chosen as there are CPUs (global EDF:
+    /// sched-deadline.rst, "Main algorithm"; ties and the placement are own). A chosen task stays
+    /// where it stands; the others, in the order of the queue, go to the CPU to which they belong
+    /// where that is free, else to the lowest free one. Each task that stands then belongs to its
+    /// CPU. Takes no memory.
     pub fn pick(&mut self)
         ensures places { self.new.places
             ≡ placed (length self.old.places) self.old.queue self.old.places }

@@ -1,7 +1,7 @@
 //! A seat for a task: it stays where it stands, else it goes to the CPU to which it belongs where
 //! that is free, else to the lowest free one.
 
-ghost use Rattle.std.specs.Prelude.{◌≡◌, ◌<◌, ◌≤◌, vec_len, vec_capacity, count_by, is_none, slice_get, slice_index_or, slice_set, position, false, None, Some, length};
+ghost use Rattle.std.specs.Prelude.{◌≡◌, ◌<◌, ◌≤◌, vec_len, vec_capacity, is_none, slice_get, slice_index_or, slice_set, position, false, None, Some, length};
 ghost use Rattle.edf_pick.specs.Places as spec;
 ghost use Rattle.edf_pick.specs.private.First.{is_home};
 
@@ -12,23 +12,6 @@ fn is_task(number: u32, occupant: &Option<u32>) -> bool
     ensures { result ≡ spec.is_task number occupant.now }
 {
     matches!(occupant, Some(n) if *n == number)
-}
-
-// All are counted, which goes faster than a look that ends at the first.
-fn times(number: u32, places: &[Option<u32>]) -> usize
-    ensures { result ≡ count_by (spec.is_task number) places.now }
-{
-    places
-        .iter()
-        .filter(|occupant| is_task(number, occupant))
-        .count()
-}
-
-/// Whether a task stands on a CPU.
-pub fn stands(number: u32, places: &[Option<u32>]) -> bool
-    ensures { result ≡ spec.stands number places.now }
-{
-    times(number, places) != 0
 }
 
 /// Whether a task stands on this CPU.
@@ -88,17 +71,6 @@ fn occupy(places: &mut Vec<Option<u32>>, cpu: usize, number: u32, taken: u64) ->
     with(taken, cpu)
 }
 
-// As `stands`; where nobody stands at all, without a look.
-fn has_seat(places: &[Option<u32>], number: u32, taken: u64) -> bool
-    requires { spec.AreTaken places.now taken }
-    ensures { result ≡ spec.stands number places.now }
-{
-    if taken == 0 {
-        return false;
-    }
-    stands(number, places)
-}
-
 /// A seat for a task that stands nowhere. `taken` has a mark for each CPU on which somebody stands,
 /// and so has the answer.
 pub(crate) fn start(places: &mut Vec<Option<u32>>, c: &Candidate, taken: u64) -> u64
@@ -116,19 +88,4 @@ pub(crate) fn start(places: &mut Vec<Option<u32>>, c: &Candidate, taken: u64) ->
         return occupy(places, cpu, c.number, taken);
     }
     taken
-}
-
-/// A seat for a task, as `start`, if it stands nowhere.
-pub(crate) fn seat(places: &mut Vec<Option<u32>>, c: &Candidate, taken: u64) -> u64
-    requires few { vec_len places.old ≤ 64 }
-    requires taken { spec.AreTaken places.old.items taken }
-    ensures places { places.new.items ≡ spec.seated places.old.items c.now }
-    ensures len { vec_len places.new ≡ vec_len places.old }
-    ensures room { vec_capacity places.new ≡ vec_capacity places.old }
-    ensures taken { spec.AreTaken places.new.items result }
-{
-    if has_seat(places, c.number, taken) {
-        return taken;
-    }
-    start(places, c, taken)
 }
