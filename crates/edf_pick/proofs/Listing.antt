@@ -3,7 +3,7 @@ use Rattle.std.proofs.Common.{◌≡◌, ◌<◌, ◌≤◌, ℕ, Bool, true, fa
 use Rattle.std.specs.Prelude.{◌⊎◌, AllPairs, Contains, not, slice_get}
 use Rattle.std.specs.Int.{bit_at}
 use Rattle.std.specs.List.{list_any}
-use Rattle.std.proofs.lemmas.Bool.{cases_eq, cases_lt}
+use Rattle.std.proofs.lemmas.Bool.{both_ways, cases_eq, cases_lt}
 use Rattle.std.proofs.lemmas.Option.{slice_get-get_or, slice_get_past}
 use Rattle.std.proofs.lemmas.Nat.Bits.{bit_at-zero, bit_at-lt}
 use Rattle.edf_pick.specs.declared.candidate.Candidate.{Candidate}
@@ -11,11 +11,11 @@ use Rattle.edf_pick.specs.declared.changes.Gone.{Gone}
 use Rattle.edf_pick.specs.declared.listed.Words.{Words}
 use Rattle.edf_pick.specs.Changes.{ChangesView, is_within, stands_home, IsListed}
 use Rattle.edf_pick.specs.Choice.{is_before}
-use Rattle.edf_pick.specs.Order.{IsRising}
+use Rattle.edf_pick.specs.Order.{IsRising, is_same}
 use Rattle.edf_pick.specs.Places.{Places, AreSingle, is_task, stands, seated}
 use Rattle.edf_pick.specs.private.First.{staying, is_home, moves, AreMovers, AreLeaving}
 use Rattle.edf_pick.specs.private.Listed.{Grows, IsLooked, HomeAt, AreSound, AreWords}
-use Rattle.edf_pick.proofs.Before.{before_both}
+use Rattle.edf_pick.proofs.Before.{before_both, before_differs, differs_reverse}
 use Rattle.edf_pick.proofs.Marked.{nobody, task_is, staying_movers, any_at, occupied, stands_seated}
 use Rattle.edf_pick.proofs.Picked.{place_at}
 use Rattle.edf_pick.proofs.Rising.{place}
@@ -57,6 +57,24 @@ read queue k c d at =
 pub found : (queue : List Candidate) (c : Candidate) (k n : ℕ) → IsRising queue → n ≡ place c queue → slice_get queue k ≡ Some c → n ≡ k
 found queue c k n rising is at =
     is ∙ ap (λ (x : Candidate). place x queue) (sym (read queue k c c at)) ∙ place_at queue k c rising (inside queue k c at)
+
+-- at the place of a task stands no other one
+pub same_found : (queue : List Candidate) (c d : Candidate) (k n : ℕ) → IsRising queue → n < length queue → is_same (get_or queue n d) c ≡ true → slice_get queue k ≡ Some c → n ≡ k
+same_found queue c d k n rising within same at =
+    let here : get_or queue k d ≡ c = read queue k c d at in
+    let there = get_or queue n d in
+    elim (cases_eq n k) [
+      | inl e ↦ e
+      | inr apart ↦ elim (cases_lt n k) [
+        | inl less ↦
+            let before : is_before there c ≡ true = subst (λ (x : Candidate). is_before there x ≡ true) here (rising n k d less (inside queue k c at)) in
+            absurd (both_ways (is_same there c) (before_differs there c before) same)
+        | inr past ↦
+            let less : k < n = omega (arith, apart, past) in
+            let before : is_before c there ≡ true = subst (λ (x : Candidate). is_before x there ≡ true) here (rising k n d less within) in
+            absurd (both_ways (is_same there c) (differs_reverse c there before) same)
+      ]
+    ]
 
 -- THE CUT
 -- behind one that is behind the cut all are

@@ -130,6 +130,7 @@ pub(crate) fn pick_listed(
     queue: &[Candidate],
     cut: &Option<Candidate>,
     fresh: &[Candidate],
+    last: usize,
     gone: &[Gone],
     taken: &mut u64,
 ) -> Outcome
@@ -150,7 +151,7 @@ pub(crate) fn pick_listed(
     ensures changed { (cpu : ℕ) → bit_at result.changed cpu ≡ 0
         → slice_index_or places.old.items cpu None ≡ slice_index_or places.new.items cpu None }
 {
-    let words = words_of(places, queue, cut, fresh, gone);
+    let words = words_of(places, queue, cut, fresh, last, gone);
     let left = beyond(words.left, words.homes);
     let chosen = first_of(queue, places.len());
     let changed = move_away(places, chosen, left, words.movers, taken);

@@ -35,11 +35,13 @@ const FEW: usize = 8;
 
 /// What has come into a queue and gone out of it since the last choice, and how far that went.
 /// Changes with other room than for 256 of either kind cannot be built: past them they tell only
-/// that there were too many.
+/// that there were too many. Beside them they keep the place to which the last one came, which is
+/// only a hint: the choice looks there first, and tests.
 #[derive(Drop)]
 pub(crate) struct Changes {
     cut: Option<Candidate>,
     fresh: Vec<Candidate>,
+    last: usize,
     gone: Vec<Gone>,
     many: bool,
 }
@@ -70,13 +72,14 @@ impl Changes {
         Ok(Changes {
             cut: None,
             fresh: Vec::with_capacity(alloc, MOST)?,
+            last: 0,
             gone: Vec::with_capacity(alloc, MOST)?,
             many: true,
         })
     }
 
-    /// A task has come into the queue.
-    pub(crate) fn come(&mut self, c: &Candidate)
+    /// A task has come into the queue, to this place.
+    pub(crate) fn come(&mut self, c: &Candidate, place: usize)
         ensures follows { (queue : List Candidate) (places : Places)
             → spec.Follows queue places self.old
             → spec.Follows (with_candidate c.now queue) places self.new }
@@ -86,6 +89,7 @@ impl Changes {
         }
         if self.fresh.len() < MOST {
             self.fresh.push_reserved(*c);
+            self.last = place;
         } else {
             self.many = true;
         }
@@ -172,7 +176,7 @@ pub(crate) fn pick_changed(
         pick_by_walk(placement, queue, moves)
     } else {
         let (cut, fresh, gone) = (&changes.cut, &changes.fresh, &changes.gone);
-        pick_by_list(placement, queue, cut, fresh, gone, moves)
+        pick_by_list(placement, queue, cut, fresh, changes.last, gone, moves)
     };
     if cpus < FEW {
         changes.many = true;

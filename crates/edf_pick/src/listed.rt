@@ -10,7 +10,7 @@ ghost use Rattle.edf_pick.specs.private.Listed as spec;
 use crate::candidate::Candidate;
 use crate::changes::Gone;
 use crate::marks::with;
-use crate::order::{is_before, place_of};
+use crate::order::{is_before, place_near};
 use crate::seats::{is_at_home, is_on};
 
 /// Marks of the CPUs where one stands who is perhaps not chosen, of those where a chosen task is at
@@ -75,7 +75,13 @@ fn look_at(places: &[Option<u32>], queue: &[Candidate], k: usize, words: Words) 
     words
 }
 
-fn look_for(places: &[Option<u32>], queue: &[Candidate], c: &Candidate, words: Words) -> Words
+fn look_for(
+    places: &[Option<u32>],
+    queue: &[Candidate],
+    c: &Candidate,
+    near: usize,
+    words: Words,
+) -> Words
     requires few { length places.now ≤ 64 }
     requires rising { IsRising queue.now }
     ensures grows { spec.Grows words result }
@@ -84,18 +90,19 @@ fn look_for(places: &[Option<u32>], queue: &[Candidate], c: &Candidate, words: W
     ensures sound { (gone : List Gone) → spec.AreSound queue.now places.now gone words
         → spec.AreSound queue.now places.now gone result }
 {
-    let k = place_of(queue, c);
+    let k = place_near(queue, c, near);
     if k < queue.len() {
         return look_at(places, queue, k, words);
     }
     words
 }
 
-/// Each task that has come.
+/// Each task that has come; the last of them is perhaps still where it came.
 fn look_for_all(
     places: &[Option<u32>],
     queue: &[Candidate],
     fresh: &[Candidate],
+    last: usize,
     words: Words,
 ) -> Words
     requires few { length places.now ≤ 64 }
@@ -108,7 +115,7 @@ fn look_for_all(
 {
     let mut now = words;
     for i in 0..fresh.len() {
-        now = look_for(places, queue, &fresh[i], now);
+        now = look_for(places, queue, &fresh[i], last, now);
     }
     now
 }
@@ -209,6 +216,7 @@ pub(crate) fn words_of(
     queue: &[Candidate],
     cut: &Option<Candidate>,
     fresh: &[Candidate],
+    last: usize,
     gone: &[Gone],
 ) -> Words
     requires few { length places.now ≤ 64 }
@@ -221,7 +229,7 @@ pub(crate) fn words_of(
         movers: 0,
     };
     let went = test_all_gone(places, gone, none);
-    let came = look_for_all(places, queue, fresh, went);
+    let came = look_for_all(places, queue, fresh, last, went);
     let ahead = look_ahead(places, queue, cut, came);
     look_behind(places, queue, cut, ahead)
 }

@@ -1,6 +1,6 @@
 //! The order of the choice: an earlier deadline first, ties by number.
 
-ghost use Rattle.std.specs.Prelude.{◌≡◌, ◌<◌, ◌≤◌, ◌==◌, length, is_some, IfSome, IfNone};
+ghost use Rattle.std.specs.Prelude.{ℕ, ◌≡◌, ◌<◌, ◌≤◌, ◌==◌, length, slice_get, is_some, Some, IfSome, IfNone};
 ghost use Rattle.std.specs.List.{prefix_len, remove};
 ghost use Rattle.edf_pick.specs.Choice as choice;
 ghost use Rattle.edf_pick.specs.Order as order;
@@ -26,6 +26,17 @@ pub(crate) fn place_of(queue: &[Candidate], c: &Candidate) -> usize
     ensures bound { result ≤ length queue.now }
 {
     queue.partition_point(|a| is_before(a, c))
+}
+
+/// Where a queue has this task, if it has it: by binary search where it is not near at hand.
+pub(crate) fn place_near(queue: &[Candidate], c: &Candidate, near: usize) -> usize
+    requires { order.IsRising queue.now }
+    ensures { (k : ℕ) → slice_get queue.now k ≡ Some c.now → result ≡ k }
+{
+    if near < queue.len() && is_same(&queue[near], c) {
+        return near;
+    }
+    place_of(queue, c)
 }
 
 /// Where a queue has the task of the deadline and the number of `c`, by binary search.

@@ -129,6 +129,7 @@ pub(crate) fn pick_by_list(
     queue: &Queue,
     cut: &Option<Candidate>,
     fresh: &[Candidate],
+    last: usize,
     gone: &[Gone],
     moves: &mut Moves,
 ) -> u64
@@ -147,7 +148,8 @@ pub(crate) fn pick_by_list(
 {
     let tasks = queue.as_slice();
     let places = &mut placement.occupants;
-    let outcome = pick_listed(places, tasks, cut, fresh, gone, &mut placement.taken);
+    let taken = &mut placement.taken;
+    let outcome = pick_listed(places, tasks, cut, fresh, last, gone, taken);
     let occupants = placement.occupants.as_slice();
     moves.list(&mut placement.before, occupants, outcome.changed);
     outcome.movers

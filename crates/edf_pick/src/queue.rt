@@ -61,14 +61,15 @@ impl Queue {
     }
 
     /// Takes in a task whose deadline and number are not there, at its place, found by binary
-    /// search.
-    pub(crate) fn insert(&mut self, c: Candidate)
+    /// search, and answers that.
+    pub(crate) fn insert(&mut self, c: Candidate) -> usize
         requires few { length self.old < 256 }
         requires absent { order.has_candidate c self.old ≡ false }
         ensures { self.new ≡ order.with_candidate c self.old }
     {
         let place = place_of(&self.tasks, &c);
         self.tasks.insert(place, c).unwrap();
+        place
     }
 
     /// Takes out the task of the deadline and the number of `c`, found by binary search, and

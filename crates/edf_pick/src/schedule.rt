@@ -80,8 +80,8 @@ impl Schedule {
         requires homed { spec.IsAtHome self.old.places c }
         ensures { self.new ≡ record self.old { queue = order.with_candidate c self.old.queue } }
     {
-        self.changes.come(&c);
-        self.queue.insert(c);
+        let place = self.queue.insert(c);
+        self.changes.come(&c, place);
     }
 
     /// Takes out the task of the deadline and the number of `c`, and answers whether it was there.
