@@ -1,16 +1,15 @@
 -- The choice where each task that stands does so on the CPU to which it belongs.
-use Rattle.std.proofs.Common.{◌≡◌, ◌≢◌, ℕ, suc, ◌||◌, Bool, true, false, cond, eqb, eqb-true, inl, inr, Option, Some, None, List, [], ◌∷◌, length, take, get_or, map, refl, sym, ap, ◌∙◌, subst, arith}
-use Rattle.std.specs.Prelude.{All, AllPairs, slice_get}
+use Rattle.std.proofs.Common.{◌≡◌, ◌≢◌, ℕ, suc, ◌||◌, Bool, true, false, cond, eqb, eqb-true, inl, inr, Option, Some, None, List, [], ◌∷◌, length, get_or, map, refl, sym, ap, ◌∙◌, subst, arith}
+use Rattle.std.specs.Prelude.{All, slice_get}
 use Rattle.std.specs.Int.{bit_at}
 use Rattle.std.specs.List.{list_any}
-use Rattle.std.proofs.lemmas.Bool.{cases_Bool, cases_eq, cases_lt, ne_eqb}
-use Rattle.std.proofs.lemmas.Option.{slice_get-get_or}
+use Rattle.std.proofs.lemmas.Bool.{cases_Bool, cases_eq, ne_eqb}
 use Rattle.std.proofs.lemmas.Nat.Bits.{bit_at-lt}
 use Rattle.edf_pick.specs.declared.candidate.Candidate.{Candidate}
 use Rattle.edf_pick.specs.Places.{Places, stands}
 use Rattle.edf_pick.specs.Schedule.{IsAtHome}
 use Rattle.edf_pick.specs.private.First.{staying, is_home, moves, marked, AreMovers, AreLeaving, AreAway}
-use Rattle.edf_pick.proofs.Listing.{inside, read, take_get, take_past, same_place}
+use Rattle.edf_pick.proofs.Listing.{inside, read}
 use Rattle.edf_pick.proofs.Marked.{kept_all, stands_here, staying_same, mapped}
 use Rattle.edf_pick.proofs.Standing.{stands_where}
 
@@ -31,21 +30,6 @@ movers_away chosen places movers are homes i c mark at = by_stand (stands c.numb
     by_stand : (b : Bool) → stands c.number places ≡ b → b ≡ false
     by_stand false e = refl
     by_stand true e = let home = one e in absurd (by_home (is_home places c) refl home)
-
--- the first so many of a queue
-first_are : (n : ℕ) (queue : List Candidate) (i : ℕ) (c : Candidate) → slice_get (take n queue) i ≡ Some c → slice_get queue i ≡ Some c
-first_are n queue i c at = elim (cases_lt i n) [
-  | inl h ↦ sym (take_get queue n i h) ∙ at
-  | inr h ↦ let no : None ≡ Some c = sym (take_past queue n i h) ∙ at in absurd cc
-]
-
-pub first_numbered : (n : ℕ) (queue : List Candidate) → AllPairs (λ a b. a.number ≢ b.number) queue → AllPairs (λ a b. a.number ≢ b.number) (take n queue)
-first_numbered n queue numbered i j d h k same =
-    let list = take n queue in
-    let at_i : slice_get list i ≡ Some (get_or list i d) = slice_get-get_or list i d (omega (arith, h, k)) in
-    let at_j : slice_get list j ≡ Some (get_or list j d) = slice_get-get_or list j d k in
-    let one : i ≡ j = same_place queue i j (get_or list i d) (get_or list j d) numbered (first_are n queue i (get_or list i d) at_i) (first_are n queue j (get_or list j d) at_j) same in
-    absurd (omega (arith, one, h))
 
 -- no marked task has a number
 none_marked : (f : ℕ → ℕ) (n : ℕ) (xs : List Candidate) → ((i : ℕ) (c : Candidate) → f i ≡ 1 → slice_get xs i ≡ Some c → c.number ≢ n) → list_any (λ c. eqb c.number n) (marked f xs) ≡ false

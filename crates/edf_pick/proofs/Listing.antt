@@ -268,9 +268,8 @@ module _ (queue : List Candidate) (places : Places) (changes : ChangesView) (wor
                 | inr other ↦ let none : bit_at words.left cpu ≡ 0 = bare cpu e (omega (arith, other, bit_at-lt words.homes cpu)) in omega arith
               ])
 
--- of the list that is walked, which is that of the places, and of the list of the chosen tasks
-module _ (queue chosen : List Candidate) (places seen : Places) (changes : ChangesView) (words : Words)
-    (same : seen ≡ places) (first : chosen ≡ take (length places) queue)
+-- of the list that is walked, which is that of the places
+module _ (queue : List Candidate) (places seen : Places) (changes : ChangesView) (words : Words) (same : seen ≡ places)
     (numbered : AllPairs (λ x y. x.number ≢ y.number) queue) (single : AreSingle places)
     (listed : IsListed queue places changes) (are : AreWords queue seen changes.cut changes.fresh changes.gone words) where
   words_here : AreWords queue places changes.cut changes.fresh changes.gone words
@@ -279,10 +278,6 @@ module _ (queue chosen : List Candidate) (places seen : Places) (changes : Chang
   pub first_movers : AreMovers (take (length places) queue) places words.movers
   first_movers = listed_movers queue places changes words numbered single listed words_here
 
-  pub chosen_movers : AreMovers chosen places words.movers
-  chosen_movers = subst (λ (xs : List Candidate). AreMovers xs places words.movers) (sym first) first_movers
-
-  pub chosen_leaving : (marks : ℕ) → ((i : ℕ) → bit_at marks i ≡ 1 → bit_at words.left i ≡ 1) → ((i : ℕ) → bit_at marks i ≡ 1 → bit_at words.homes i ≡ 0)
-      → ((i : ℕ) → bit_at marks i ≡ 0 → bit_at words.homes i ≡ 0 → bit_at words.left i ≡ 0) → AreLeaving chosen places words.movers marks
-  chosen_leaving marks here only bare =
-      subst (λ (xs : List Candidate). AreLeaving xs places words.movers marks) (sym first) (listed_leaving queue places changes words numbered single listed words_here marks here only bare)
+  pub first_leaving : (marks : ℕ) → ((i : ℕ) → bit_at marks i ≡ 1 → bit_at words.left i ≡ 1) → ((i : ℕ) → bit_at marks i ≡ 1 → bit_at words.homes i ≡ 0)
+      → ((i : ℕ) → bit_at marks i ≡ 0 → bit_at words.homes i ≡ 0 → bit_at words.left i ≡ 0) → AreLeaving (take (length places) queue) places words.movers marks
+  first_leaving = listed_leaving queue places changes words numbered single listed words_here

@@ -1,7 +1,7 @@
 //! The choice where each task that stands does so on the CPU to which it belongs: then the movers
 //! stand nowhere, and who stands on a CPU that is no home of a chosen task goes.
 
-ghost use Rattle.std.specs.Prelude.{ℕ, ◌≡◌, ◌≢◌, ◌<◌, ◌≤◌, All, AllPairs, None, false, length, map, take, vec_len, vec_capacity, slice_index_or};
+ghost use Rattle.std.specs.Prelude.{ℕ, ◌≡◌, ◌≢◌, ◌<◌, ◌≤◌, All, AllPairs, None, false, length, take, vec_len, vec_capacity, slice_index_or};
 ghost use Rattle.std.specs.Int.{bit_at};
 ghost use Rattle.edf_pick.specs.private.First as spec;
 ghost use Rattle.edf_pick.specs.Changes.{IsListed};
@@ -62,37 +62,40 @@ fn start_marked(places: &mut Vec<Option<u32>>, chosen: &[Candidate], movers: u64
     marks
 }
 
-// Who goes, by the marks of the CPUs, and then the movers, who stand nowhere. Marks of the CPUs that
-// another one has.
+// A choice of which the words are known: who goes, by the marks of the CPUs, and then the movers, who
+// stand nowhere, by their places in the queue.
 #[inline(always)]
-fn move_away(
+fn pick_marked(
     places: &mut Vec<Option<u32>>,
-    chosen: &[Candidate],
+    queue: &[Candidate],
     left: u64,
     movers: u64,
     taken: &mut u64,
-) -> u64
+) -> Outcome
+    requires rising { IsRising queue.now }
+    requires numbered { AllPairs (λ a b. a.number ≢ b.number) queue.now }
+    requires homed { All (IsAtHome places.old.items) queue.now }
     requires few { vec_len places.old ≤ 64 }
-    requires single { AreSingle places.old.items }
-    requires numbered { AllPairs (λ a b. a.number ≢ b.number) chosen.now }
-    requires movers { spec.AreMovers chosen.now places.old.items movers }
-    requires leaving { spec.AreLeaving chosen.now places.old.items movers left }
-    requires away { spec.AreAway chosen.now places.old.items movers }
     requires taken { AreTaken places.old.items taken.old }
-    ensures places { places.new.items ≡ spec.seated_all (spec.marked (bit_at movers) chosen.now)
-        (map (spec.staying chosen.now) places.old.items) }
+    requires single { AreSingle places.old.items }
+    requires movers { spec.AreMovers (take (vec_len places.old) queue.now) places.old.items movers }
+    requires leaving { spec.AreLeaving (take (vec_len places.old) queue.now) places.old.items movers left }
+    ensures places { places.new.items ≡ placed (vec_len places.old) queue.now places.old.items }
     ensures len { vec_len places.new ≡ vec_len places.old }
     ensures room { vec_capacity places.new ≡ vec_capacity places.old }
     ensures taken { AreTaken places.new.items taken.new }
     ensures single { AreSingle places.new.items }
-    ensures changed { (cpu : ℕ) → bit_at result cpu ≡ 0
+    ensures movers { result.movers ≡ movers }
+    ensures changed { (cpu : ℕ) → bit_at result.changed cpu ≡ 0
         → slice_index_or places.old.items cpu None ≡ slice_index_or places.new.items cpu None }
 {
+    let chosen = first_of(queue, places.len());
     let stood = *taken;
     let kept = clear(places, left, stood);
     let now = start_marked(places, chosen, movers, kept);
     *taken = now;
-    both(beyond(stood, kept), beyond(now, kept))
+    let changed = both(beyond(stood, kept), beyond(now, kept));
+    Outcome { changed, movers }
 }
 
 /// Moves the occupants on by one choice: a look at each chosen task.
@@ -119,9 +122,7 @@ pub(crate) fn pick_at_home(
     let chosen = first_of(queue, places.len());
     let parts = parts_of(places, chosen);
     let left = beyond(*taken, parts.homes);
-    let changed = move_away(places, chosen, left, parts.movers, taken);
-    let movers = parts.movers;
-    Outcome { changed, movers }
+    pick_marked(places, queue, left, parts.movers, taken)
 }
 
 /// As `pick_at_home`, where it is known what has changed since the last choice: a look at that alone.
@@ -153,8 +154,5 @@ pub(crate) fn pick_listed(
 {
     let words = words_of(places, queue, cut, fresh, last, gone);
     let left = beyond(words.left, words.homes);
-    let chosen = first_of(queue, places.len());
-    let changed = move_away(places, chosen, left, words.movers, taken);
-    let movers = words.movers;
-    Outcome { changed, movers }
+    pick_marked(places, queue, left, words.movers, taken)
 }

@@ -1,0 +1,53 @@
+use Rattle.std.proofs.Common.{◌≡◌, ◌∙◌, ℕ, List, map, take, vec_len, ap, sym, subst, arith}
+use Rattle.std.specs.Int.{bit_at}
+use Rattle.std.proofs.lemmas.List.Elements.{All-take}
+use Rattle.edf_pick.specs.declared.candidate.Candidate.{Candidate}
+use Rattle.edf_pick.specs.Places.{Places, AreSingle}
+use Rattle.edf_pick.specs.Schedule.{IsAtHome}
+use Rattle.edf_pick.specs.private.First.{staying, marked, seated_all, AreAway}
+use Rattle.edf_pick.proofs.Marked.{moved, single_kept, single_all, unchanged}
+use Rattle.edf_pick.proofs.AtHome.{left_kept, movers_away, still_away}
+use Rattle.edf_pick.proofs.at_home.pick_marked.Goals as goal
+use Rattle.edf_pick.proofs.at_home.pick_marked.Goals.{After-clear-kept}
+
+-- the first of the queue, by the length of the list of CPUs
+abbrev first : (c : After-clear-kept) → List Candidate
+first c = take (vec_len c.args.places.now) c.args.queue.now
+
+is_first : (c : After-clear-kept) → c.first_of-chosen.result.now ≡ first c
+is_first c = c.first_of-chosen.ensures ∙ ap (λ (k : ℕ). take k c.args.queue.now) c.len.ensures
+
+away : (c : After-clear-kept) → AreAway (first c) c.args.places.now.items c.args.movers
+away c = movers_away (first c) c.args.places.now.items c.args.movers c.requires.movers (All-take (IsAtHome c.args.places.now.items) (vec_len c.args.places.now) c.args.queue.now c.requires.homed)
+
+kept : (c : After-clear-kept) → c.clear-kept.new.places.items ≡ map (staying (first c)) c.args.places.now.items
+kept c = left_kept (first c) c.args.places.now.items c.clear-kept.new.places.items c.args.movers c.args.left c.requires.leaving (away c) (omega (arith, c.clear-kept.ensures.len)) c.clear-kept.ensures.gone c.clear-kept.ensures.others
+
+started : (c : After-clear-kept) (new : Places) → new ≡ seated_all (marked (bit_at c.args.movers) c.first_of-chosen.result.now) c.clear-kept.new.places.items
+    → new ≡ seated_all (marked (bit_at c.args.movers) (first c)) c.clear-kept.new.places.items
+started c new is = is ∙ ap (λ (xs : List Candidate). seated_all (marked (bit_at c.args.movers) xs) c.clear-kept.new.places.items) (is_first c)
+
+pub start_marked-now-requires-clause-away : goal.start_marked-now-requires-clause-away
+start_marked-now-requires-clause-away c =
+    let k = (goal.at.start_marked-now-requires-clause-away c).After-clear-kept in
+    subst (λ (xs : List Candidate). AreAway xs c.clear-kept.new.places.items c.args.movers) (sym (is_first k))
+    (still_away (first k) c.args.places.now.items c.clear-kept.new.places.items c.args.movers (away k) (kept k))
+
+pub returns-clause-places : goal.returns-clause-places
+returns-clause-places c =
+    let k = (goal.at.returns-clause-places c).After-clear-kept in
+    started k c.start_marked-now.new.places.items c.start_marked-now.ensures.places ∙ ap (λ (ps : Places). seated_all (marked (bit_at c.args.movers) (first k)) ps) (kept k)
+    ∙ moved (vec_len c.args.places.now) c.args.queue.now c.args.places.now.items (bit_at c.args.movers) c.requires.rising c.requires.movers
+
+pub returns-clause-single : goal.returns-clause-single
+returns-clause-single c =
+    let k = (goal.at.returns-clause-single c).After-clear-kept in
+    let single : AreSingle c.clear-kept.new.places.items = subst (λ (ps : Places). AreSingle ps) (sym (kept k)) (single_kept (first k) c.args.places.now.items c.requires.single) in
+    subst (λ (ps : Places). AreSingle ps) (sym (started k c.start_marked-now.new.places.items c.start_marked-now.ensures.places)) (single_all (marked (bit_at c.args.movers) (first k)) c.clear-kept.new.places.items single)
+
+pub returns-clause-changed : goal.returns-clause-changed
+returns-clause-changed c = λ cpu e.
+    let k = (goal.at.returns-clause-changed c).After-clear-kept in
+    unchanged (first k) (marked (bit_at c.args.movers) (first k)) c.args.places.now.items c.clear-kept.new.places.items c.start_marked-now.new.places.items cpu (kept k) (started k c.start_marked-now.new.places.items c.start_marked-now.ensures.places)
+    (λ none. sym (c.requires.taken cpu) ∙ c.beyond.ensures.bare cpu (c.both-changed.ensures.first cpu e) (c.clear-kept.ensures.taken cpu ∙ none))
+    (λ none. sym (c.start_marked-now.ensures.taken cpu) ∙ c.beyond-2.ensures.bare cpu (c.both-changed.ensures.second cpu e) (c.clear-kept.ensures.taken cpu ∙ none))
