@@ -267,17 +267,3 @@ module _ (queue : List Candidate) (places : Places) (changes : ChangesView) (wor
                     let clash : true ≡ false = sym there ∙ out in cc
                 | inr other ↦ let none : bit_at words.left cpu ≡ 0 = bare cpu e (omega (arith, other, bit_at-lt words.homes cpu)) in omega arith
               ])
-
--- of the list that is walked, which is that of the places
-module _ (queue : List Candidate) (places seen : Places) (changes : ChangesView) (words : Words) (same : seen ≡ places)
-    (numbered : AllPairs (λ x y. x.number ≢ y.number) queue) (single : AreSingle places)
-    (listed : IsListed queue places changes) (are : AreWords queue seen changes.cut changes.fresh changes.gone words) where
-  words_here : AreWords queue places changes.cut changes.fresh changes.gone words
-  words_here = subst (λ (ps : Places). AreWords queue ps changes.cut changes.fresh changes.gone words) same are
-
-  pub first_movers : AreMovers (take (length places) queue) places words.movers
-  first_movers = listed_movers queue places changes words numbered single listed words_here
-
-  pub first_leaving : (marks : ℕ) → ((i : ℕ) → bit_at marks i ≡ 1 → bit_at words.left i ≡ 1) → ((i : ℕ) → bit_at marks i ≡ 1 → bit_at words.homes i ≡ 0)
-      → ((i : ℕ) → bit_at marks i ≡ 0 → bit_at words.homes i ≡ 0 → bit_at words.left i ≡ 0) → AreLeaving (take (length places) queue) places words.movers marks
-  first_leaving = listed_leaving queue places changes words numbered single listed words_here

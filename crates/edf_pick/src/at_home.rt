@@ -13,7 +13,7 @@ use crate::candidate::Candidate;
 use crate::changes::Gone;
 use crate::listed::words_of;
 use crate::marks::{beyond, both, first, without};
-use crate::picking::{Outcome, first_of, parts_of, vacate};
+use crate::picking::{first_of, parts_of, vacate};
 use crate::seats::start;
 
 // Nobody stands on the marked CPUs any more.
@@ -62,97 +62,85 @@ fn start_marked(places: &mut Vec<Option<u32>>, chosen: &[Candidate], movers: u64
     marks
 }
 
-// A choice of which the words are known: who goes, by the marks of the CPUs, and then the movers, who
-// stand nowhere, by their places in the queue.
+/// What a choice finds, as words of marks.
+#[derive(Clone, Copy)]
+pub(crate) struct Marks {
+    /// The CPUs from which somebody goes.
+    pub(crate) left: u64,
+    /// The places in the queue of the chosen tasks that do not stand at home.
+    pub(crate) movers: u64,
+}
+
+/// What a choice finds by a look at each chosen task.
 #[inline(always)]
-fn pick_marked(
-    places: &mut Vec<Option<u32>>,
-    queue: &[Candidate],
-    left: u64,
-    movers: u64,
-    taken: &mut u64,
-) -> Outcome
-    requires rising { IsRising queue.now }
-    requires numbered { AllPairs (λ a b. a.number ≢ b.number) queue.now }
-    requires homed { All (IsAtHome places.old.items) queue.now }
-    requires few { vec_len places.old ≤ 64 }
-    requires taken { AreTaken places.old.items taken.old }
-    requires single { AreSingle places.old.items }
-    requires movers { spec.AreMovers (take (vec_len places.old) queue.now) places.old.items movers }
-    requires leaving { spec.AreLeaving (take (vec_len places.old) queue.now) places.old.items movers left }
-    ensures places { places.new.items ≡ placed (vec_len places.old) queue.now places.old.items }
-    ensures len { vec_len places.new ≡ vec_len places.old }
-    ensures room { vec_capacity places.new ≡ vec_capacity places.old }
-    ensures taken { AreTaken places.new.items taken.new }
-    ensures single { AreSingle places.new.items }
-    ensures movers { result.movers ≡ movers }
-    ensures changed { (cpu : ℕ) → bit_at result.changed cpu ≡ 0
-        → slice_index_or places.old.items cpu None ≡ slice_index_or places.new.items cpu None }
+pub(crate) fn marks_of_all(places: &[Option<u32>], queue: &[Candidate], taken: u64) -> Marks
+    requires few { length places.now ≤ 64 }
+    requires taken { AreTaken places.now taken }
+    requires single { AreSingle places.now }
+    ensures movers { spec.AreMovers (take (length places.now) queue.now) places.now result.movers }
+    ensures leaving { spec.AreLeaving (take (length places.now) queue.now) places.now result.movers result.left }
 {
-    let chosen = first_of(queue, places.len());
-    let stood = *taken;
-    let kept = clear(places, left, stood);
-    let now = start_marked(places, chosen, movers, kept);
-    *taken = now;
-    let changed = both(beyond(stood, kept), beyond(now, kept));
-    Outcome { changed, movers }
+    let parts = parts_of(places, first_of(queue, places.len()));
+    let left = beyond(taken, parts.homes);
+    let movers = parts.movers;
+    Marks { left, movers }
 }
 
-/// Moves the occupants on by one choice: a look at each chosen task.
-pub(crate) fn pick_at_home(
-    places: &mut Vec<Option<u32>>,
-    queue: &[Candidate],
-    taken: &mut u64,
-) -> Outcome
-    requires rising { IsRising queue.now }
-    requires numbered { AllPairs (λ a b. a.number ≢ b.number) queue.now }
-    requires homed { All (IsAtHome places.old.items) queue.now }
-    requires few { vec_len places.old ≤ 64 }
-    requires taken { AreTaken places.old.items taken.old }
-    requires single { AreSingle places.old.items }
-    ensures places { places.new.items ≡ placed (vec_len places.old) queue.now places.old.items }
-    ensures len { vec_len places.new ≡ vec_len places.old }
-    ensures room { vec_capacity places.new ≡ vec_capacity places.old }
-    ensures taken { AreTaken places.new.items taken.new }
-    ensures single { AreSingle places.new.items }
-    ensures movers { spec.AreMovers (take (vec_len places.old) queue.now) places.old.items result.movers }
-    ensures changed { (cpu : ℕ) → bit_at result.changed cpu ≡ 0
-        → slice_index_or places.old.items cpu None ≡ slice_index_or places.new.items cpu None }
-{
-    let chosen = first_of(queue, places.len());
-    let parts = parts_of(places, chosen);
-    let left = beyond(*taken, parts.homes);
-    pick_marked(places, queue, left, parts.movers, taken)
-}
-
-/// As `pick_at_home`, where it is known what has changed since the last choice: a look at that alone.
-pub(crate) fn pick_listed(
-    places: &mut Vec<Option<u32>>,
+/// What a choice finds where it is known what has changed since the last one: a look at that alone.
+#[inline(always)]
+pub(crate) fn marks_of_listed(
+    places: &[Option<u32>],
     queue: &[Candidate],
     cut: &Option<Candidate>,
     fresh: &[Candidate],
     last: usize,
     gone: &[Gone],
+) -> Marks
+    requires rising { IsRising queue.now }
+    requires numbered { AllPairs (λ a b. a.number ≢ b.number) queue.now }
+    requires few { length places.now ≤ 64 }
+    requires single { AreSingle places.now }
+    requires listed { IsListed queue.now places.now
+        (record { cut = cut.now; fresh = fresh.now; gone = gone.now; many = false }) }
+    ensures movers { spec.AreMovers (take (length places.now) queue.now) places.now result.movers }
+    ensures leaving { spec.AreLeaving (take (length places.now) queue.now) places.now result.movers result.left }
+{
+    let words = words_of(places, queue, cut, fresh, last, gone);
+    let left = beyond(words.left, words.homes);
+    let movers = words.movers;
+    Marks { left, movers }
+}
+
+/// Moves the occupants on by what a choice has found: who goes, and then the movers, who stand
+/// nowhere. Marks of the CPUs that may have another one.
+#[inline(always)]
+pub(crate) fn pick_marked(
+    places: &mut Vec<Option<u32>>,
+    queue: &[Candidate],
+    marks: Marks,
     taken: &mut u64,
-) -> Outcome
+) -> u64
     requires rising { IsRising queue.now }
     requires numbered { AllPairs (λ a b. a.number ≢ b.number) queue.now }
     requires homed { All (IsAtHome places.old.items) queue.now }
     requires few { vec_len places.old ≤ 64 }
     requires taken { AreTaken places.old.items taken.old }
     requires single { AreSingle places.old.items }
-    requires listed { IsListed queue.now places.old.items
-        (record { cut = cut.now; fresh = fresh.now; gone = gone.now; many = false }) }
+    requires movers { spec.AreMovers (take (vec_len places.old) queue.now) places.old.items marks.movers }
+    requires leaving { spec.AreLeaving (take (vec_len places.old) queue.now) places.old.items
+        marks.movers marks.left }
     ensures places { places.new.items ≡ placed (vec_len places.old) queue.now places.old.items }
     ensures len { vec_len places.new ≡ vec_len places.old }
     ensures room { vec_capacity places.new ≡ vec_capacity places.old }
     ensures taken { AreTaken places.new.items taken.new }
     ensures single { AreSingle places.new.items }
-    ensures movers { spec.AreMovers (take (vec_len places.old) queue.now) places.old.items result.movers }
-    ensures changed { (cpu : ℕ) → bit_at result.changed cpu ≡ 0
+    ensures changed { (cpu : ℕ) → bit_at result cpu ≡ 0
         → slice_index_or places.old.items cpu None ≡ slice_index_or places.new.items cpu None }
 {
-    let words = words_of(places, queue, cut, fresh, last, gone);
-    let left = beyond(words.left, words.homes);
-    pick_marked(places, queue, left, words.movers, taken)
+    let chosen = first_of(queue, places.len());
+    let stood = *taken;
+    let kept = clear(places, marks.left, stood);
+    let now = start_marked(places, chosen, marks.movers, kept);
+    *taken = now;
+    both(beyond(stood, kept), beyond(now, kept))
 }

@@ -9,9 +9,10 @@ ghost use Rattle.edf_pick.specs.Order.{is_same, with_candidate, without_candidat
 ghost use Rattle.edf_pick.specs.Places.{AreSingle, Places, placed};
 ghost use Rattle.edf_pick.specs.Schedule.{IsAtHome};
 
+use crate::at_home::marks_of_listed;
 use crate::candidate::Candidate;
 use crate::moves::Moves;
-use crate::placement::{Placement, pick_by_list, pick_by_walk};
+use crate::placement::{Placement, pick_by_marks};
 use crate::queue::Queue;
 use crate::single::pick_one;
 use std::alloc::{AllocError, Global};
@@ -146,7 +147,7 @@ fn is_long(changes: &Changes, chosen: usize) -> bool
     changes.many || 8 * changes.fresh.len() + changes.gone.len() >= chosen
 }
 
-/// As [`crate::placement::pick_by_walk`], by what has changed since the last choice: where that is
+/// As [`crate::placement::pick_by_marks`], by what has changed since the last choice: where that is
 /// listed and little, it looks at that alone, and else at all. Nothing has changed since in the queue
 /// in which each task that stands belongs to the CPU on which it stands.
 #[inline(always)]
@@ -172,11 +173,16 @@ pub(crate) fn pick_changed(
     let cpus = placement.occupants().len();
     let movers = if cpus == 1 {
         pick_one(placement, queue, moves)
-    } else if is_long(changes, cpus.min(queue.len())) {
-        pick_by_walk(placement, queue, moves)
     } else {
-        let (cut, fresh, gone) = (&changes.cut, &changes.fresh, &changes.gone);
-        pick_by_list(placement, queue, cut, fresh, changes.last, gone, moves)
+        let tasks = queue.as_slice();
+        let marks = if is_long(changes, cpus.min(tasks.len())) {
+            placement.marks_of_all(tasks)
+        } else {
+            let (cut, fresh, gone) = (&changes.cut, &changes.fresh, &changes.gone);
+            marks_of_listed(placement.occupants(), tasks, cut, fresh, changes.last, gone)
+        };
+        pick_by_marks(placement, queue, marks, moves);
+        marks.movers
     };
     if cpus < FEW {
         changes.many = true;

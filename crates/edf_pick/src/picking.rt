@@ -57,12 +57,3 @@ pub(crate) fn vacate(places: &mut Vec<Option<u32>>, cpu: usize, taken: u64) -> u
     places[cpu] = None;
     without(taken, cpu)
 }
-
-/// What a choice did, as words of marks.
-#[derive(Clone, Copy)]
-pub(crate) struct Outcome {
-    /// The CPUs that may have another one.
-    pub(crate) changed: u64,
-    /// The places in the queue of the chosen tasks that did not stand at home.
-    pub(crate) movers: u64,
-}

@@ -1,16 +1,16 @@
 //! Who stands on each CPU, and how that moves on by one tick.
 
-ghost use Rattle.std.specs.Prelude.{ℕ, ◌≡◌, ◌≢◌, ◌<◌, ◌≤◌, ◌∷◌, [], All, AllPairs, false, IfOk, None, Some, length, replicate, slice_get, vec_len, vec_capacity};
+ghost use Rattle.std.specs.Prelude.{ℕ, ◌≡◌, ◌≢◌, ◌<◌, ◌≤◌, ◌∷◌, [], All, AllPairs, IfOk, None, Some, length, replicate, slice_get, take, vec_len, vec_capacity};
 ghost use Rattle.std.specs.Int.{bit_at};
 ghost use Rattle.edf_pick.specs.declared.candidate.Candidate.{Candidate};
-ghost use Rattle.edf_pick.specs.Changes.{IsListed, homed};
+ghost use Rattle.edf_pick.specs.private.First.{AreLeaving, AreMovers};
+ghost use Rattle.edf_pick.specs.Changes.{homed};
 ghost use Rattle.edf_pick.specs.Moves.{moved_from};
 ghost use Rattle.edf_pick.specs.Places.{AreSingle, AreTaken, placed};
 ghost use Rattle.edf_pick.specs.Schedule.{IsAtHome};
 
-use crate::at_home::{pick_at_home, pick_listed};
+use crate::at_home::{Marks, marks_of_all, pick_marked};
 use crate::candidate::Candidate;
-use crate::changes::Gone;
 use crate::moves::Moves;
 use crate::queue::Queue;
 use std::alloc::{AllocError, Global};
@@ -92,65 +92,51 @@ impl Placement {
         ensures occupants { result.now ≡ self.now }
         ensures some { 0 < length self.now }
         ensures few { length self.now ≤ 64 }
+        ensures single { AreSingle self.now }
     {
         self.occupants.as_slice()
     }
+
+    /// What a choice finds by a look at each chosen task.
+    #[inline(always)]
+    pub(crate) fn marks_of_all(&self, queue: &[Candidate]) -> Marks
+        ensures movers { AreMovers (take (length self.now) queue.now) self.now result.movers }
+        ensures leaving { AreLeaving (take (length self.now) queue.now) self.now result.movers result.left }
+        ensures single { AreSingle self.now }
+    {
+        marks_of_all(&self.occupants, queue, self.taken)
+    }
 }
 
-/// Moves the occupants of the CPUs on by one tick, where each task that stands belongs to its CPU,
-/// and lists the CPUs that another one has. As many of the first tasks of the queue are chosen as
-/// there are CPUs. A chosen task stays where it stands; the others, in the order of the queue, go to
-/// the CPU to which they belong where that is free, else to the lowest free one. Takes no memory.
-/// Answers places in the queue, as a word of marks: each task at another place belongs to the CPU on
-/// which it stands now, if it stands on one.
+/// Moves the occupants of the CPUs on by one tick, by what the choice has found, where each task that
+/// stands belongs to its CPU, and lists the CPUs that another one has. As many of the first tasks of
+/// the queue are chosen as there are CPUs. A chosen task stays where it stands; the others, in the
+/// order of the queue, go to the CPU to which they belong where that is free, else to the lowest free
+/// one. Takes no memory. Each task at a place that is not a mover's belongs to the CPU on which it
+/// stands then, if it stands on one.
 #[inline(always)]
-pub(crate) fn pick_by_walk(placement: &mut Placement, queue: &Queue, moves: &mut Moves) -> u64
-    requires numbered { AllPairs (λ a b. a.number ≢ b.number) queue.now }
-    requires homed { All (IsAtHome placement.old) queue.now }
-    ensures places { placement.new ≡ placed (length placement.old) queue.now placement.old }
-    ensures moves { moves.new ≡ moved_from 0 placement.old placement.new }
-    ensures len { length placement.new ≡ length placement.old }
-    ensures within { (i : ℕ) → bit_at result i ≡ 1 → i < length queue.now }
-    ensures others { (i : ℕ) (c : Candidate) → bit_at result i ≡ 0
-        → slice_get queue.now i ≡ Some c → homed placement.new c ≡ c }
-    ensures single { AreSingle placement.old }
-    ensures still { AreSingle placement.new }
-{
-    let tasks = queue.as_slice();
-    let outcome = pick_at_home(&mut placement.occupants, tasks, &mut placement.taken);
-    let occupants = placement.occupants.as_slice();
-    moves.list(&mut placement.before, occupants, outcome.changed);
-    outcome.movers
-}
-
-/// As `pick_by_walk`, where it is known what has changed since the last choice.
-pub(crate) fn pick_by_list(
+pub(crate) fn pick_by_marks(
     placement: &mut Placement,
     queue: &Queue,
-    cut: &Option<Candidate>,
-    fresh: &[Candidate],
-    last: usize,
-    gone: &[Gone],
+    marks: Marks,
     moves: &mut Moves,
-) -> u64
+)
     requires numbered { AllPairs (λ a b. a.number ≢ b.number) queue.now }
     requires homed { All (IsAtHome placement.old) queue.now }
-    requires listed { IsListed queue.now placement.old
-        (record { cut = cut.now; fresh = fresh.now; gone = gone.now; many = false }) }
+    requires movers { AreMovers (take (length placement.old) queue.now) placement.old marks.movers }
+    requires leaving { AreLeaving (take (length placement.old) queue.now) placement.old
+        marks.movers marks.left }
     ensures places { placement.new ≡ placed (length placement.old) queue.now placement.old }
     ensures moves { moves.new ≡ moved_from 0 placement.old placement.new }
     ensures len { length placement.new ≡ length placement.old }
-    ensures within { (i : ℕ) → bit_at result i ≡ 1 → i < length queue.now }
-    ensures others { (i : ℕ) (c : Candidate) → bit_at result i ≡ 0
+    ensures within { (i : ℕ) → bit_at marks.movers i ≡ 1 → i < length queue.now }
+    ensures others { (i : ℕ) (c : Candidate) → bit_at marks.movers i ≡ 0
         → slice_get queue.now i ≡ Some c → homed placement.new c ≡ c }
     ensures single { AreSingle placement.old }
     ensures still { AreSingle placement.new }
 {
     let tasks = queue.as_slice();
-    let places = &mut placement.occupants;
-    let taken = &mut placement.taken;
-    let outcome = pick_listed(places, tasks, cut, fresh, last, gone, taken);
+    let changed = pick_marked(&mut placement.occupants, tasks, marks, &mut placement.taken);
     let occupants = placement.occupants.as_slice();
-    moves.list(&mut placement.before, occupants, outcome.changed);
-    outcome.movers
+    moves.list(&mut placement.before, occupants, changed);
 }

@@ -40,7 +40,7 @@ fn stranger(first: &Candidate) -> u64
     1
 }
 
-/// As [`crate::placement::pick_by_walk`], on one CPU, which takes a few comparisons.
+/// As [`crate::changes::pick_changed`], on one CPU, which takes a few comparisons.
 #[inline(always)]
 pub(crate) fn pick_one(placement: &mut Placement, queue: &Queue, moves: &mut Moves) -> u64
     requires one { length placement.old ≡ 1 }

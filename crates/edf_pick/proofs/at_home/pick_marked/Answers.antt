@@ -17,37 +17,37 @@ first c = take (vec_len c.args.places.now) c.args.queue.now
 is_first : (c : After-clear-kept) → c.first_of-chosen.result.now ≡ first c
 is_first c = c.first_of-chosen.ensures ∙ ap (λ (k : ℕ). take k c.args.queue.now) c.len.ensures
 
-away : (c : After-clear-kept) → AreAway (first c) c.args.places.now.items c.args.movers
-away c = movers_away (first c) c.args.places.now.items c.args.movers c.requires.movers (All-take (IsAtHome c.args.places.now.items) (vec_len c.args.places.now) c.args.queue.now c.requires.homed)
+away : (c : After-clear-kept) → AreAway (first c) c.args.places.now.items c.args.marks.movers
+away c = movers_away (first c) c.args.places.now.items c.args.marks.movers c.requires.movers (All-take (IsAtHome c.args.places.now.items) (vec_len c.args.places.now) c.args.queue.now c.requires.homed)
 
 kept : (c : After-clear-kept) → c.clear-kept.new.places.items ≡ map (staying (first c)) c.args.places.now.items
-kept c = left_kept (first c) c.args.places.now.items c.clear-kept.new.places.items c.args.movers c.args.left c.requires.leaving (away c) (omega (arith, c.clear-kept.ensures.len)) c.clear-kept.ensures.gone c.clear-kept.ensures.others
+kept c = left_kept (first c) c.args.places.now.items c.clear-kept.new.places.items c.args.marks.movers c.args.marks.left c.requires.leaving (away c) (omega (arith, c.clear-kept.ensures.len)) c.clear-kept.ensures.gone c.clear-kept.ensures.others
 
-started : (c : After-clear-kept) (new : Places) → new ≡ seated_all (marked (bit_at c.args.movers) c.first_of-chosen.result.now) c.clear-kept.new.places.items
-    → new ≡ seated_all (marked (bit_at c.args.movers) (first c)) c.clear-kept.new.places.items
-started c new is = is ∙ ap (λ (xs : List Candidate). seated_all (marked (bit_at c.args.movers) xs) c.clear-kept.new.places.items) (is_first c)
+started : (c : After-clear-kept) (new : Places) → new ≡ seated_all (marked (bit_at c.args.marks.movers) c.first_of-chosen.result.now) c.clear-kept.new.places.items
+    → new ≡ seated_all (marked (bit_at c.args.marks.movers) (first c)) c.clear-kept.new.places.items
+started c new is = is ∙ ap (λ (xs : List Candidate). seated_all (marked (bit_at c.args.marks.movers) xs) c.clear-kept.new.places.items) (is_first c)
 
 pub start_marked-now-requires-clause-away : goal.start_marked-now-requires-clause-away
 start_marked-now-requires-clause-away c =
     let k = (goal.at.start_marked-now-requires-clause-away c).After-clear-kept in
-    subst (λ (xs : List Candidate). AreAway xs c.clear-kept.new.places.items c.args.movers) (sym (is_first k))
-    (still_away (first k) c.args.places.now.items c.clear-kept.new.places.items c.args.movers (away k) (kept k))
+    subst (λ (xs : List Candidate). AreAway xs c.clear-kept.new.places.items c.args.marks.movers) (sym (is_first k))
+    (still_away (first k) c.args.places.now.items c.clear-kept.new.places.items c.args.marks.movers (away k) (kept k))
 
 pub returns-clause-places : goal.returns-clause-places
 returns-clause-places c =
     let k = (goal.at.returns-clause-places c).After-clear-kept in
-    started k c.start_marked-now.new.places.items c.start_marked-now.ensures.places ∙ ap (λ (ps : Places). seated_all (marked (bit_at c.args.movers) (first k)) ps) (kept k)
-    ∙ moved (vec_len c.args.places.now) c.args.queue.now c.args.places.now.items (bit_at c.args.movers) c.requires.rising c.requires.movers
+    started k c.start_marked-now.new.places.items c.start_marked-now.ensures.places ∙ ap (λ (ps : Places). seated_all (marked (bit_at c.args.marks.movers) (first k)) ps) (kept k)
+    ∙ moved (vec_len c.args.places.now) c.args.queue.now c.args.places.now.items (bit_at c.args.marks.movers) c.requires.rising c.requires.movers
 
 pub returns-clause-single : goal.returns-clause-single
 returns-clause-single c =
     let k = (goal.at.returns-clause-single c).After-clear-kept in
     let single : AreSingle c.clear-kept.new.places.items = subst (λ (ps : Places). AreSingle ps) (sym (kept k)) (single_kept (first k) c.args.places.now.items c.requires.single) in
-    subst (λ (ps : Places). AreSingle ps) (sym (started k c.start_marked-now.new.places.items c.start_marked-now.ensures.places)) (single_all (marked (bit_at c.args.movers) (first k)) c.clear-kept.new.places.items single)
+    subst (λ (ps : Places). AreSingle ps) (sym (started k c.start_marked-now.new.places.items c.start_marked-now.ensures.places)) (single_all (marked (bit_at c.args.marks.movers) (first k)) c.clear-kept.new.places.items single)
 
 pub returns-clause-changed : goal.returns-clause-changed
 returns-clause-changed c = λ cpu e.
     let k = (goal.at.returns-clause-changed c).After-clear-kept in
-    unchanged (first k) (marked (bit_at c.args.movers) (first k)) c.args.places.now.items c.clear-kept.new.places.items c.start_marked-now.new.places.items cpu (kept k) (started k c.start_marked-now.new.places.items c.start_marked-now.ensures.places)
-    (λ none. sym (c.requires.taken cpu) ∙ c.beyond.ensures.bare cpu (c.both-changed.ensures.first cpu e) (c.clear-kept.ensures.taken cpu ∙ none))
-    (λ none. sym (c.start_marked-now.ensures.taken cpu) ∙ c.beyond-2.ensures.bare cpu (c.both-changed.ensures.second cpu e) (c.clear-kept.ensures.taken cpu ∙ none))
+    unchanged (first k) (marked (bit_at c.args.marks.movers) (first k)) c.args.places.now.items c.clear-kept.new.places.items c.start_marked-now.new.places.items cpu (kept k) (started k c.start_marked-now.new.places.items c.start_marked-now.ensures.places)
+    (λ none. sym (c.requires.taken cpu) ∙ c.beyond.ensures.bare cpu (c.both.ensures.first cpu e) (c.clear-kept.ensures.taken cpu ∙ none))
+    (λ none. sym (c.start_marked-now.ensures.taken cpu) ∙ c.beyond-2.ensures.bare cpu (c.both.ensures.second cpu e) (c.clear-kept.ensures.taken cpu ∙ none))

@@ -3,7 +3,7 @@ use Rattle.edf_pick.specs.Changes.{ChangesView, Follows, homed, unchanged}
 use Rattle.edf_pick.specs.Places.{Places, AreSingle, placed}
 use Rattle.edf_pick.proofs.Renewed.{followed}
 use Rattle.edf_pick.proofs.changes.pick_changed.Goals as goal
-use Rattle.edf_pick.proofs.changes.pick_changed.Goals.{then-cpus-eq1, else-cpus-eq1+then-is_long, else-cpus-eq1+else-is_long}
+use Rattle.edf_pick.proofs.changes.pick_changed.Goals.{then-cpus-eq1, else-cpus-eq1}
 
 pub returns-clause-follows : goal.returns-clause-follows
 returns-clause-follows c =
@@ -14,11 +14,8 @@ returns-clause-follows c =
       | then-cpus-eq1 w ↦
           let e = w.pick_one-movers.ensures in
           (w.placement-is ∙ e.places, ap (λ (ps : Places). length ps) w.placement-is ∙ e.len, e.single)
-      | else-cpus-eq1+then-is_long w ↦
-          let e = w.pick_by_walk.ensures in
-          (w.placement-is ∙ e.places, ap (λ (ps : Places). length ps) w.placement-is ∙ e.len, e.single)
-      | else-cpus-eq1+else-is_long w ↦
-          let e = w.pick_by_list.ensures in
+      | else-cpus-eq1 w ↦
+          let e = w.pick_by_marks.ensures in
           (w.placement-is ∙ e.places, ap (λ (ps : Places). length ps) w.placement-is ∙ e.len, e.single)
     ] in
     let cpus : length c.occupants-cpus.result.now ≡ length after = ap (λ (ps : Places). length ps) c.occupants-cpus.ensures.occupants ∙ sym facts.1 in
@@ -28,3 +25,6 @@ returns-clause-follows c =
     let all : Follows (map (homed after) queue) after (unchanged (length after) queue) =
     followed queue before after facts.0 facts.1 c.occupants-cpus.ensures.some rising c.requires.numbered facts.2 in
     subst (λ (v : ChangesView). Follows (map (homed after) queue) after v) (sym new) all
+
+pub marks_of_listed-marks-requires-clause-single : goal.marks_of_listed-marks-requires-clause-single
+marks_of_listed-marks-requires-clause-single c = subst (λ (ps : Places). AreSingle ps) (sym c.occupants.ensures.occupants) c.occupants-cpus.ensures.single
