@@ -78,7 +78,8 @@ pub(crate) fn marks_of_all(places: &[Option<u32>], queue: &[Candidate], taken: u
     requires taken { AreTaken places.now taken }
     requires single { AreSingle places.now }
     ensures movers { spec.AreMovers (take (length places.now) queue.now) places.now result.movers }
-    ensures leaving { spec.AreLeaving (take (length places.now) queue.now) places.now result.movers result.left }
+    ensures leaving { spec.AreLeaving (take (length places.now) queue.now) places.now
+        result.movers result.left }
 {
     let parts = parts_of(places, first_of(queue, places.len()));
     let left = beyond(taken, parts.homes);
@@ -103,7 +104,8 @@ pub(crate) fn marks_of_listed(
     requires listed { IsListed queue.now places.now
         (record { cut = cut.now; fresh = fresh.now; gone = gone.now; many = false }) }
     ensures movers { spec.AreMovers (take (length places.now) queue.now) places.now result.movers }
-    ensures leaving { spec.AreLeaving (take (length places.now) queue.now) places.now result.movers result.left }
+    ensures leaving { spec.AreLeaving (take (length places.now) queue.now) places.now
+        result.movers result.left }
 {
     let words = words_of(places, queue, cut, fresh, last, gone);
     let left = beyond(words.left, words.homes);
@@ -126,7 +128,8 @@ pub(crate) fn pick_marked(
     requires few { vec_len places.old ≤ 64 }
     requires taken { AreTaken places.old.items taken.old }
     requires single { AreSingle places.old.items }
-    requires movers { spec.AreMovers (take (vec_len places.old) queue.now) places.old.items marks.movers }
+    requires movers { spec.AreMovers (take (vec_len places.old) queue.now) places.old.items
+        marks.movers }
     requires leaving { spec.AreLeaving (take (vec_len places.old) queue.now) places.old.items
         marks.movers marks.left }
     ensures places { places.new.items ≡ placed (vec_len places.old) queue.now places.old.items }

@@ -101,19 +101,20 @@ impl Placement {
     #[inline(always)]
     pub(crate) fn marks_of_all(&self, queue: &[Candidate]) -> Marks
         ensures movers { AreMovers (take (length self.now) queue.now) self.now result.movers }
-        ensures leaving { AreLeaving (take (length self.now) queue.now) self.now result.movers result.left }
+        ensures leaving { AreLeaving (take (length self.now) queue.now) self.now
+            result.movers result.left }
         ensures single { AreSingle self.now }
     {
         marks_of_all(&self.occupants, queue, self.taken)
     }
 }
 
-/// Moves the occupants of the CPUs on by one tick, by what the choice has found, where each task that
-/// stands belongs to its CPU, and lists the CPUs that another one has. As many of the first tasks of
-/// the queue are chosen as there are CPUs. A chosen task stays where it stands; the others, in the
-/// order of the queue, go to the CPU to which they belong where that is free, else to the lowest free
-/// one. Takes no memory. Each task at a place that is not a mover's belongs to the CPU on which it
-/// stands then, if it stands on one.
+/// Moves the occupants of the CPUs on by one tick, by what the choice has found, where each task
+/// that stands belongs to its CPU, and lists the CPUs that another one has. As many of the first
+/// tasks of the queue are chosen as there are CPUs. A chosen task stays where it stands; the others,
+/// in the order of the queue, go to the CPU to which they belong where that is free, else to the
+/// lowest free one. Takes no memory. Each task at a place that is not a mover's belongs to the CPU
+/// on which it stands then, if it stands on one.
 #[inline(always)]
 pub(crate) fn pick_by_marks(
     placement: &mut Placement,
