@@ -148,8 +148,9 @@ fn is_long(changes: &Changes, chosen: usize) -> bool
 }
 
 /// As [`crate::placement::pick_by_marks`], by what has changed since the last choice: where that is
-/// listed and little, it looks at that alone, and else at all. Nothing has changed since in the queue
-/// in which each task that stands belongs to the CPU on which it stands.
+/// listed and little, it looks at that alone, and else at all. Nothing has changed since in the
+/// queue in which each task that stands belongs to the CPU on which it stands. Answers the places
+/// of the movers in the queue, as a word of marks.
 #[inline(always)]
 pub(crate) fn pick_changed(
     placement: &mut Placement,

@@ -1,6 +1,6 @@
 //! The ready tasks in the order of the choice.
 
-ghost use Rattle.std.specs.Prelude.{◌≡◌, ◌<◌, ◌≤◌, true, false, [], length, is_some, slice_index_or, slice_set, Contains, IfOk, IfSome};
+ghost use Rattle.std.specs.Prelude.{◌≡◌, ◌<◌, true, false, [], length, is_some, slice_index_or, slice_set, Contains, IfOk, IfSome};
 ghost use Rattle.edf_pick.specs.declared.candidate.Candidate.{Candidate};
 ghost use Rattle.edf_pick.specs.Order as order;
 
@@ -42,14 +42,6 @@ impl Queue {
         Ok(Queue {
             tasks: Vec::with_capacity(alloc, MOST)?,
         })
-    }
-
-    /// How many tasks there are: at most 256.
-    pub(crate) fn len(&self) -> usize
-        ensures len { result ≡ length self.now }
-        ensures few { result ≤ 256 }
-    {
-        self.tasks.len()
     }
 
     /// The tasks, each before every later one.
