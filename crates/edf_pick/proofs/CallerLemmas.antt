@@ -77,6 +77,10 @@ there : (c : Candidate) (xs ys : List Candidate) → has_candidate c (xs ++ c �
 there c [] ys = or_left (is_same c c) (has_candidate c ys) (same_itself c)
 there c (x ∷ xs) ys = or_right (is_same x c) (has_candidate c (xs ++ c ∷ ys)) (there c xs ys)
 
+-- what `remove` answers
+pub ordered_there : (c : Candidate) (xs ys : List Candidate) → has_candidate c (ordered (xs ++ c ∷ ys)) ≡ true
+ordered_there c xs ys = has_ordered c (xs ++ c ∷ ys) ∙ there c xs ys
+
 pub with_later : (a c : Candidate) (queue : List Candidate) → is_before a c ≡ true → with_candidate c (a ∷ queue) ≡ a ∷ with_candidate c queue
 with_later a c queue h = cond-true (is_before a c) (a ∷ with_candidate c queue) (c ∷ a ∷ queue) h
 
@@ -210,7 +214,7 @@ seated_same xs places (suc r) numbered =
     ap (λ (ps : Places). seated_if ps (ranked (ordered xs) r)) (seated_same xs places r numbered)
     ∙ ap (λ (o : Option Candidate). seated_if (seated_upto xs places r) o) (ranked_same xs r numbered)
 
--- what a choice makes of a queue is what the definition says of any list of its tasks
+-- what `pick` does with a queue is what the definition says of any list of its tasks
 pub placed_ordered : (cpus : ℕ) (xs : List Candidate) (before : Places) → IsNumbered xs → placed cpus (ordered xs) before ≡ placed cpus xs before
 placed_ordered cpus xs before numbered =
     seated_same xs (map (kept cpus (ordered xs)) before) cpus numbered

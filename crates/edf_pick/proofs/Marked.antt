@@ -1,11 +1,11 @@
 -- The chosen tasks at marked places are the movers, and no other chosen task needs a seat.
-use Rattle.std.proofs.Common.{◌≡◌, ◌≢◌, ◌<◌, ◌≤◌, ℕ, zero, suc, Bool, true, false, cond, eqb, ltb, ◌||◌, ◌⊎◌, Option, Some, None, List, [], ◌∷◌, length, take, map, get_or, set, replicate, refl, sym, ap, ◌∙◌, subst, arith, inl, inr, eq-eqb, eqb-true, ◌+◌}
+use Rattle.std.proofs.Common.{◌≡◌, ◌≢◌, ◌<◌, ◌≤◌, ℕ, zero, suc, Bool, true, false, cond, eqb, ltb, ◌||◌, ◌⊎◌, Option, Some, None, List, [], ◌∷◌, length, take, map, get_or, set, replicate, refl, sym, ap, ◌∙◌, subst, arith, inl, inr, eq-eqb, eqb-true, ◌+◌, zero-add}
 use mathlib.Core.Path.{fun_ext}
-use Rattle.std.specs.Prelude.{All, filter, not, is_none, position, slice_get}
+use Rattle.std.specs.Prelude.{All, filter, not, is_none, position, slice_get, count_by, sum_by}
 use Rattle.std.specs.Int.{bit_at}
 use Rattle.std.specs.List.{list_any, position_or_len}
 use Rattle.std.proofs.lemmas.Bool.{cases_eq, cases_lt, ne_eqb, cond-true, ltb-true, lt-ltb, le-ltb, or_left, or_right}
-use Rattle.std.proofs.lemmas.List.Sums.{passes_at_first, position_or_len_is}
+use Rattle.std.proofs.lemmas.List.Sums.{passes_at_first, position_or_len_is, sum_by-cons}
 use Rattle.std.proofs.lemmas.Option.{slice_get-get_or, slice_get_past}
 use Rattle.std.proofs.lemmas.Nat.Bits.{bit_at-lt}
 use Rattle.edf_pick.specs.declared.candidate.Candidate.{Candidate}
@@ -61,6 +61,16 @@ marked_movers places f (x ∷ xs) same =
       | false ↦ ap (λ (ys : List Candidate). x ∷ ys) rest
     ])
 
+-- without one mark
+abbrev pub cleared_mark : (ℕ → ℕ) → ℕ → ℕ → ℕ
+cleared_mark f i j = cond (eqb j i) 0 (f j)
+
+pub cleared_here : (f : ℕ → ℕ) (i : ℕ) → cleared_mark f i i ≡ 0
+cleared_here f i = ap (λ (b : Bool). cond b 0 (f i)) (eq-eqb i i refl)
+
+pub cleared_other : (f : ℕ → ℕ) (i j : ℕ) → j ≢ i → cleared_mark f i j ≡ f j
+cleared_other f i j apart = ap (λ (b : Bool). cond b 0 (f j)) (ne_eqb j i apart)
+
 -- FREE CPUS
 bare_is : (o : Option ℕ) → taken o ≡ 0 → is_none o ≡ true
 bare_is None e = refl
@@ -99,6 +109,18 @@ seat_free places c cpu e = by_home (is_free (slice_get places c.home)) refl e
     by_home : (b : Bool) → is_free (slice_get places c.home) ≡ b → cond b (Some c.home) (position (λ o. is_none o) places) ≡ Some cpu → is_free (slice_get places cpu) ≡ true
     by_home true h e = let same : c.home ≡ cpu = cc in subst (λ i. is_free (slice_get places i) ≡ true) same h
     by_home false h e = free_position places cpu e
+
+-- STANDING
+-- how often a task stands
+pub times_any : (p : Option ℕ → Bool) (places : Places) → not (eqb (count_by p places) 0) ≡ list_any p places
+times_any p [] = refl
+times_any p (o ∷ places) =
+    let one : Option ℕ → ℕ = λ y. cond (p y) 1 0 in
+    ap (λ (n : ℕ). not (eqb n 0)) (sum_by-cons one o places)
+    ∙ (elim (p o) as (λ b. not (eqb (cond b 1 0 + sum_by one places) 0) ≡ (b || list_any p places)) [
+      | true ↦ ap (λ (b : Bool). not b) (ne_eqb (1 + sum_by one places) 0 (λ e. omega arith))
+      | false ↦ ap (λ (n : ℕ). not (eqb n 0)) (zero-add (sum_by one places)) ∙ times_any p places
+    ])
 
 -- who stands is not unseated
 stays_put : (n m : ℕ) (places : Places) (cpu : ℕ) → is_free (slice_get places cpu) ≡ true → stands n places ≡ true → stands n (set places cpu (Some m)) ≡ true
@@ -352,6 +374,11 @@ single_none zero a b n ea eb = absurd cc
 single_none (suc cpus) zero b n ea eb = absurd cc
 single_none (suc cpus) (suc a) zero n ea eb = absurd cc
 single_none (suc cpus) (suc a) (suc b) n ea eb = ap (λ (k : ℕ). suc k) (single_none cpus a b n ea eb)
+
+pub none_stands : (n : ℕ) (places : Places) → ((cpu : ℕ) → 0 ≡ taken (get_or places cpu None)) → stands n places ≡ false
+none_stands n [] none = refl
+none_stands n (None ∷ places) none = none_stands n places (λ cpu. none (suc cpu))
+none_stands n (Some k ∷ places) none = absurd (let no = none 0 in omega arith)
 
 -- WHO STAYS WHERE
 -- who stands on a CPU is not moved by the seating of others

@@ -13,8 +13,8 @@ use crate::candidate::Candidate;
 use crate::changes::Gone;
 use crate::listed::words_of;
 use crate::marks::{beyond, both, first, without};
-use crate::picking::{first_of, parts_of, vacate};
-use crate::seats::start;
+use crate::parts::{first_of, parts_of};
+use crate::seats::{start, vacate};
 
 // Nobody stands on the marked CPUs any more.
 #[inline(always)]

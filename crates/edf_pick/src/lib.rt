@@ -1,13 +1,14 @@
 //! Which ready tasks run, and on which CPU: global EDF (sched-deadline.rst, "Main algorithm"; ties
 //! and placement are own).
 //!
-//! A [`Schedule`] is the ready tasks in the order of the choice, and who stands on each CPU. Its
-//! choice meets the definition "Choice and placement" (`specs/Choice.antt` and `specs/Places.antt`
-//! by counting, `specs/Order.antt` for the queue), by what has changed since the last one
-//! (`specs/Changes.antt`, `specs/Schedule.antt`): it looks at that alone, and lists the CPUs that
-//! another one has (`specs/Moves.antt`). To the crate above it promises that the occupants of the
-//! CPUs are exactly those, for a list in any order too (`proofs/CallerLemmas.antt`). Its types keep
-//! the room that they were opened with, so it never grows.
+//! [`Queue`] keeps the ready tasks in the order of the choice, and [`pick`] moves the occupants of
+//! the CPUs, a [`Placement`], on by one tick. Both meet the definition "Choice and placement"
+//! (`specs/Choice.antt` and `specs/Places.antt` by counting, `specs/Order.antt` for the queue). To
+//! the crate above it promises that the occupants of the CPUs are exactly those, for a list in any
+//! order too (`proofs/CallerLemmas.antt`), and that neither a queue nor a placement grows: their
+//! types keep the room that they were opened with. [`Schedule`] is both as one, and chooses by what
+//! has changed since the last choice (`specs/Changes.antt`, `specs/Schedule.antt`): it looks at that
+//! alone, and lists the CPUs that another one has (`specs/Moves.antt`).
 #![tactic(auto)]
 
 mod at_home;
@@ -17,6 +18,7 @@ mod listed;
 pub mod marks;
 mod moves;
 mod order;
+mod parts;
 mod picking;
 mod placement;
 mod queue;
@@ -26,4 +28,7 @@ mod single;
 
 pub use candidate::Candidate;
 pub use moves::Moved;
+pub use picking::stands;
+pub use placement::{Placement, pick};
+pub use queue::Queue;
 pub use schedule::Schedule;

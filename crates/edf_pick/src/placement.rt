@@ -12,6 +12,7 @@ ghost use Rattle.edf_pick.specs.Schedule.{IsAtHome};
 use crate::at_home::{Marks, marks_of_all, pick_marked};
 use crate::candidate::Candidate;
 use crate::moves::Moves;
+use crate::picking::pick_from;
 use crate::queue::Queue;
 use std::alloc::{AllocError, Global};
 use std::marker::Model;
@@ -21,7 +22,7 @@ use std::marker::Model;
 /// or fewer than its CPUs, or where a task stands twice, cannot be built. Beside the list it keeps
 /// a word with a mark for each CPU on which somebody stands, and a copy of the list.
 #[derive(Drop)]
-pub(crate) struct Placement {
+pub struct Placement {
     occupants: Vec<Option<u32>>,
     taken: u64,
     before: Vec<Option<u32>>,
@@ -64,7 +65,7 @@ fn mark_of(stands: Option<u32>) -> u64
 
 impl Placement {
     /// 1 to 64 idle CPUs. No other call takes memory. `Err` where their room was refused.
-    pub(crate) fn open(alloc: Global, cpus: usize) -> Result<Placement, AllocError>
+    pub fn open(alloc: Global, cpus: usize) -> Result<Placement, AllocError>
         requires some { 0 < cpus }
         requires few { cpus ≤ 64 }
         ensures { IfOk result (λ placement. placement ≡ replicate cpus None) }
@@ -88,7 +89,7 @@ impl Placement {
     }
 
     /// Who stands on each CPU, from CPU 0 on.
-    pub(crate) fn occupants(&self) -> &[Option<u32>]
+    pub fn occupants(&self) -> &[Option<u32>]
         ensures occupants { result.now ≡ self.now }
         ensures some { 0 < length self.now }
         ensures few { length self.now ≤ 64 }
@@ -109,12 +110,25 @@ impl Placement {
     }
 }
 
-/// Moves the occupants of the CPUs on by one tick, by what the choice has found, where each task
-/// that stands belongs to its CPU, and lists the CPUs that another one has. As many of the first
-/// tasks of the queue are chosen as there are CPUs. A chosen task stays where it stands; the others,
-/// in the order of the queue, go to the CPU to which they belong where that is free, else to the
-/// lowest free one. Takes no memory. Each task at a place that is not a mover's belongs to the CPU
-/// on which it stands then, if it stands on one.
+/// Moves the occupants of the CPUs on by one tick. As many of the first tasks of the queue are
+/// chosen as there are CPUs (global EDF: sched-deadline.rst, "Main algorithm"; ties and the
+/// placement are own). A chosen task stays where it stands; the others, in the order of the queue,
+/// go to the CPU to which they belong where that is free, else to the lowest free one. Takes no
+/// memory.
+pub fn pick(placement: &mut Placement, queue: &Queue)
+    ensures { placement.new ≡ placed (length placement.old) queue.now placement.old }
+{
+    let tasks = queue.as_slice();
+    let marks = placement.marks_of_all(tasks);
+    pick_from(&mut placement.occupants, tasks, marks, &mut placement.taken);
+    placement
+        .before
+        .copy_from_slice(placement.occupants.as_slice());
+}
+
+/// As `pick`, by what the choice has found, where each task that stands belongs to its CPU, and
+/// lists the CPUs that another one has. Each task at a place that is not a mover's belongs to the
+/// CPU on which it stands then, if it stands on one.
 #[inline(always)]
 pub(crate) fn pick_by_marks(
     placement: &mut Placement,

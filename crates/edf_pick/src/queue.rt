@@ -1,6 +1,6 @@
 //! The ready tasks in the order of the choice.
 
-ghost use Rattle.std.specs.Prelude.{◌≡◌, ◌<◌, true, false, [], length, is_some, slice_index_or, slice_set, Contains, IfOk, IfSome};
+ghost use Rattle.std.specs.Prelude.{◌≡◌, ◌<◌, ◌≤◌, ◌==◌, true, false, [], length, is_some, slice_index_or, slice_set, Contains, IfOk, IfSome};
 ghost use Rattle.edf_pick.specs.declared.candidate.Candidate.{Candidate};
 ghost use Rattle.edf_pick.specs.Order as order;
 
@@ -17,7 +17,7 @@ const MOST: usize = 256;
 /// of one deadline and number, and a queue in another order, or with other room than for 256,
 /// cannot be built. Contracts see it as the list of its tasks.
 #[derive(Drop)]
-pub(crate) struct Queue {
+pub struct Queue {
     tasks: Vec<Candidate>,
 }
 
@@ -36,7 +36,7 @@ impl Model for Queue {
 impl Queue {
     /// An empty queue with room for 256 tasks: no other call takes memory. `Err` where that room
     /// was refused.
-    pub(crate) fn open(alloc: Global) -> Result<Queue, AllocError>
+    pub fn open(alloc: Global) -> Result<Queue, AllocError>
         ensures { IfOk result (λ queue. queue ≡ []) }
     {
         Ok(Queue {
@@ -44,17 +44,48 @@ impl Queue {
         })
     }
 
+    /// How many tasks there are: at most 256.
+    pub fn len(&self) -> usize
+        ensures len { result ≡ length self.now }
+        ensures few { result ≤ 256 }
+    {
+        self.tasks.len()
+    }
+
+    /// Whether there is none.
+    pub fn is_empty(&self) -> bool
+        ensures { result ≡ (length self.now == 0) }
+    {
+        self.tasks.is_empty()
+    }
+
     /// The tasks, each before every later one.
-    pub(crate) fn as_slice(&self) -> &[Candidate]
+    pub fn as_slice(&self) -> &[Candidate]
         ensures tasks { result.now ≡ self.now }
         ensures rising { order.IsRising self.now }
     {
         self.tasks.as_slice()
     }
 
+    /// Whether the task of this deadline and number is there. Binary search.
+    pub fn contains(&self, c: &Candidate) -> bool
+        ensures { result ≡ order.has_candidate c.now self.now }
+    {
+        find(&self.tasks, c).is_some()
+    }
+
     /// Takes in a task whose deadline and number are not there, at its place, found by binary
-    /// search, and answers that.
-    pub(crate) fn insert(&mut self, c: Candidate) -> usize
+    /// search.
+    pub fn insert(&mut self, c: Candidate)
+        requires few { length self.old < 256 }
+        requires absent { order.has_candidate c self.old ≡ false }
+        ensures { self.new ≡ order.with_candidate c self.old }
+    {
+        let _ = self.put(c);
+    }
+
+    /// As `insert`, and answers the place.
+    pub(crate) fn put(&mut self, c: Candidate) -> usize
         requires few { length self.old < 256 }
         requires absent { order.has_candidate c self.old ≡ false }
         ensures { self.new ≡ order.with_candidate c self.old }
@@ -65,7 +96,16 @@ impl Queue {
     }
 
     /// Takes out the task of the deadline and the number of `c`, found by binary search, and
-    /// answers it. Its home does not matter. Where it is not there nothing changes.
+    /// answers whether it was there. Its home does not matter. Where it is not there nothing
+    /// changes.
+    pub fn remove(&mut self, c: &Candidate) -> bool
+        ensures removed { self.new ≡ order.without_candidate c.now self.old }
+        ensures there { result ≡ order.has_candidate c.now self.old }
+    {
+        self.take(c).is_some()
+    }
+
+    /// As `remove`, and answers the task that was there.
     pub(crate) fn take(&mut self, c: &Candidate) -> Option<Candidate>
         ensures removed { self.new ≡ order.without_candidate c.now self.old }
         ensures there { is_some result ≡ order.has_candidate c.now self.old }

@@ -80,7 +80,7 @@ impl Schedule {
         requires homed { spec.IsAtHome self.old.places c }
         ensures { self.new ≡ record self.old { queue = order.with_candidate c self.old.queue } }
     {
-        let place = self.queue.insert(c);
+        let place = self.queue.put(c);
         self.changes.come(&c, place);
     }
 

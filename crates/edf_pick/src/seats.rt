@@ -6,9 +6,10 @@ ghost use Rattle.edf_pick.specs.Places as spec;
 ghost use Rattle.edf_pick.specs.private.First.{is_home};
 
 use crate::candidate::Candidate;
-use crate::marks::{first_bare, with};
+use crate::marks::{first_bare, with, without};
 
-fn is_task(number: u32, occupant: &Option<u32>) -> bool
+/// Whether this one is the task that stands there.
+pub(crate) fn is_task(number: u32, occupant: &Option<u32>) -> bool
     ensures { result ≡ spec.is_task number occupant.now }
 {
     matches!(occupant, Some(n) if *n == number)
@@ -69,6 +70,20 @@ fn occupy(places: &mut Vec<Option<u32>>, cpu: usize, number: u32, taken: u64) ->
 {
     places[cpu] = Some(number);
     with(taken, cpu)
+}
+
+/// Nobody stands on this CPU any more.
+pub(crate) fn vacate(places: &mut Vec<Option<u32>>, cpu: usize, taken: u64) -> u64
+    requires within { cpu < vec_len places.old }
+    requires few { vec_len places.old ≤ 64 }
+    requires taken { spec.AreTaken places.old.items taken }
+    ensures places { places.new.items ≡ slice_set places.old.items cpu None }
+    ensures len { vec_len places.new ≡ vec_len places.old }
+    ensures room { vec_capacity places.new ≡ vec_capacity places.old }
+    ensures taken { spec.AreTaken places.new.items result }
+{
+    places[cpu] = None;
+    without(taken, cpu)
 }
 
 /// A seat for a task that stands nowhere. `taken` has a mark for each CPU on which somebody stands,

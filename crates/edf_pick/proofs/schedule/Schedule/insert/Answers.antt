@@ -6,8 +6,8 @@ use Rattle.edf_pick.specs.Schedule.{ScheduleView, IsAtHome, IsSchedule}
 use Rattle.edf_pick.proofs.Scheduling.{absent_number, inserted}
 use Rattle.edf_pick.proofs.schedule.Schedule.insert.Goals as goal
 
-pub insert-place-requires-clause-absent : goal.insert-place-requires-clause-absent
-insert-place-requires-clause-absent c =
+pub put-place-requires-clause-absent : goal.put-place-requires-clause-absent
+put-place-requires-clause-absent c =
     let one = c.args.c in
     absent_number one c.self.inside.queue
     (subst (λ (xs : List Candidate). All (λ a. a.number ≢ one.number) xs) (sym (ap (λ (v : ScheduleView). v.queue) c.self.view_is)) c.requires.numbered)
@@ -19,5 +19,5 @@ invariant_of-self c =
     let places = c.self.inside.placement in
     let others = subst (λ (xs : List Candidate). All (λ a. a.number ≢ one.number) xs) (sym (ap (λ (v : ScheduleView). v.queue) c.self.view_is)) c.requires.numbered in
     let home = subst (λ (ps : Places). IsAtHome ps one) (sym (ap (λ (v : ScheduleView). v.places) c.self.view_is)) c.requires.homed in
-    subst (λ (xs : List Candidate). IsSchedule xs places c.come.new.self) (sym c.insert-place.ensures)
+    subst (λ (xs : List Candidate). IsSchedule xs places c.come.new.self) (sym c.put-place.ensures)
     (inserted queue places c.self.inside.changes c.come.new.self one c.self.invariant others home (c.come.ensures.follows queue places c.self.invariant.follows))

@@ -3,7 +3,7 @@ use Rattle.std.specs.Prelude.{slice_get}
 use Rattle.std.specs.Int.{bit_at}
 use Rattle.edf_pick.specs.private.First.{AreStaying, is_home, moves}
 use Rattle.edf_pick.proofs.Marked.{nobody}
-use Rattle.edf_pick.proofs.picking.parts_of.Given as goal
+use Rattle.edf_pick.proofs.parts.parts_of.Given as goal
 
 abbrev pub invariant-loop-i : goal.invariant-loop-i
 invariant-loop-i l = record {

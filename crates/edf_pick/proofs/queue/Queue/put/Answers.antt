@@ -4,8 +4,8 @@ use Rattle.std.specs.List.{insert}
 use Rattle.edf_pick.specs.declared.candidate.Candidate.{Candidate}
 use Rattle.edf_pick.specs.Order.{has_candidate, with_candidate}
 use Rattle.edf_pick.proofs.Rising.{place, insert_place, queue_with}
-use Rattle.edf_pick.proofs.queue.Queue.insert.Goals as goal
-use Rattle.edf_pick.proofs.queue.Queue.insert.Goals.{After-unwrap}
+use Rattle.edf_pick.proofs.queue.Queue.put.Goals as goal
+use Rattle.edf_pick.proofs.queue.Queue.put.Goals.{After-unwrap}
 
 inserted : (c : After-unwrap) → c.insert.new.self.items ≡ with_candidate c.args.c c.self.inside.tasks.items
 inserted c =

@@ -5,8 +5,8 @@ use Rattle.std.proofs.lemmas.List.{get_or_default}
 use Rattle.edf_pick.specs.declared.candidate.Candidate.{Candidate}
 use Rattle.edf_pick.specs.private.First.{is_home}
 use Rattle.edf_pick.proofs.Marked.{nobody, homes_more, homes_seen, seen_more, all_seen}
-use Rattle.edf_pick.proofs.picking.parts_of.Goals as goal
-use Rattle.edf_pick.proofs.picking.parts_of.Goals.{then-is_at_home, else-is_at_home}
+use Rattle.edf_pick.proofs.parts.parts_of.Goals as goal
+use Rattle.edf_pick.proofs.parts.parts_of.Goals.{then-is_at_home, else-is_at_home}
 
 pub loop-i-preserved : goal.loop-i-preserved
 loop-i-preserved c =
