@@ -1,5 +1,5 @@
 -- A change of one task of the list, where charges wait.
-use Rattle.std.proofs.Common.{◌≡◌, ◌≢◌, ℕ, ◌<◌, List, length, map, get_or, set, sym, ap, ◌∙◌, subst, arith}
+use Rattle.std.proofs.Common.{◌≡◌, ◌≢◌, ℕ, ◌<◌, ◌≤◌, List, length, map, get_or, set, sym, ap, ◌∙◌, subst, arith}
 use Rattle.std.specs.Prelude.{All, AllPairs}
 use Rattle.std.proofs.lemmas.List.{length-map}
 use Rattle.std.proofs.lemmas.List.Elements.{All-set}
@@ -13,6 +13,7 @@ use Rattle.domain_run.specs.private.Seats.{SeatsView}
 use Rattle.domain_run.specs.private.Waiting.{owed, owed_all, left_of, WaitsIf, AllWait}
 use Rattle.domain_run.specs.private.Timers.{IsStep}
 use Rattle.domain_run.proofs.Making.{place_fit, place_may, place_counted}
+use Rattle.domain_run.proofs.Counting.{home_at}
 use Rattle.domain_run.proofs.Due.{step_is}
 use Rattle.domain_run.proofs.Waiting.{alike_owed, numbered_unlike, read_owed, left_twice, length_left, turned_owed, turned_waits, seats_seen}
 
@@ -25,6 +26,12 @@ module _ (w time : ℕ) (change : Change) (queue : RunQueue) (s : SeatsView) (ta
 
   read_seen : seen ≡ get_or (owed_all s tasks) p seen
   read_seen = read_owed s.upto s.seats tasks p x h read
+
+  pub home_in : w ≤ 64 → x.cpu < 64
+  home_in narrow =
+      let home = home_at w queue (owed_all s tasks) p seen within counted in
+      let same : (get_or (owed_all s tasks) p seen).cpu ≡ x.cpu = ap (λ (t : Task). t.cpu) (sym read_seen) ∙ (alike_owed s.upto s.seats x).cpu in
+      omega (arith, narrow, home, same)
 
   pub waits_at : AllWait s.seats tasks → WaitsIf s.seats x
   waits_at waits = subst (WaitsIf s.seats) (sym read) (waits p x h)

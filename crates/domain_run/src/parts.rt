@@ -146,12 +146,13 @@ pub(crate) fn unblock(task: &mut Task, time: u64)
 
 /// Part 4: a ready task as the choice sees it.
 pub(crate) fn candidate_of(task: &Task) -> Candidate
+    requires { task.now.cpu < 64 }
     ensures { result ≡ tick_spec.candidate_of task.now }
 {
     Candidate {
         deadline: task.server.deadline.unwrap_or(0),
         number: task.number,
-        home: task.cpu,
+        home: task.cpu as u32,
     }
 }
 

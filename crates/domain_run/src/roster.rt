@@ -305,6 +305,8 @@ impl Roster {
             ≡ left_of (slice_index_or self.new.tasks place d)
             (left_of (slice_index_or self.old.tasks place d) self.old.seats) }
     {
+        // For the prover alone: a look at the seats brings that there are at most 64.
+        let _ = self.seats.len();
         let cpu = self.tasks[place].cpu;
         turning::turn_task(
             &mut self.tasks,

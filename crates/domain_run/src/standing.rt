@@ -1,7 +1,7 @@
 //! How a task stands, for what a domain keeps beside its list: its share of the sums, whether it is
 //! ready, and when it is due.
 
-ghost use Rattle.std.specs.Prelude.{◌≡◌};
+ghost use Rattle.std.specs.Prelude.{◌≡◌, ◌<◌};
 ghost use Rattle.domain_run.specs.Tick as tick_spec;
 ghost use Rattle.domain_run.specs.private.RunQueue as spec;
 ghost use Rattle.domain_run.specs.private.Timers as timers;
@@ -66,13 +66,24 @@ pub(crate) fn due_of(task: &Task) -> u64
     served.min(moment_of(task.condition.asks_at()).min(moment_of(gone)))
 }
 
+fn ready_of(task: &Task) -> Option<Candidate>
+    requires { task.now.cpu < 64 }
+    ensures { result ≡ spec.ready_of task.now }
+{
+    if task.condition.is_ready() {
+        return Some(parts::candidate_of(task));
+    }
+    None
+}
+
 /// How a task stands now.
 pub(crate) fn standing_of(task: &Task) -> Standing
+    requires { task.now.cpu < 64 }
     ensures { result ≡ spec.standing_of task.now }
 {
     Standing {
         share: share_of(task),
-        ready: task.condition.is_ready().then(|| parts::candidate_of(task)),
+        ready: ready_of(task),
         due: due_of(task),
     }
 }

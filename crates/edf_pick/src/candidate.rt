@@ -6,5 +6,5 @@ pub struct Candidate {
     /// Number of the task. The smallest goes first where deadlines are equal.
     pub number: u32,
     /// The CPU to which the task belongs, from 0 on.
-    pub home: usize,
+    pub home: u32,
 }

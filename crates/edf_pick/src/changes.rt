@@ -109,7 +109,7 @@ impl Changes {
         }
         if self.gone.len() < MOST {
             self.gone.push_reserved(Gone {
-                cpu: c.home,
+                cpu: c.home as usize,
                 number: c.number,
             });
         } else {

@@ -50,7 +50,7 @@ fn look_at(places: &[Option<u32>], queue: &[Candidate], k: usize, words: Words) 
     } = words;
     if k < places.len() {
         if is_home {
-            let homes = with(homes, c.home);
+            let homes = with(homes, c.home as usize);
             return Words {
                 left,
                 homes,
@@ -65,7 +65,7 @@ fn look_at(places: &[Option<u32>], queue: &[Candidate], k: usize, words: Words) 
         };
     }
     if is_home {
-        let left = with(left, c.home);
+        let left = with(left, c.home as usize);
         return Words {
             left,
             homes,

@@ -35,7 +35,7 @@ pub(crate) fn parts_of(places: &[Option<u32>], chosen: &[Candidate]) -> Parts
     for i in 0..chosen.len() {
         let c = &chosen[i];
         if is_at_home(places, c) {
-            homes = with(homes, c.home);
+            homes = with(homes, c.home as usize);
         } else {
             movers = with(movers, i);
         }

@@ -121,7 +121,7 @@ impl Queue {
     }
 
     /// The task at this place belongs to this CPU from now on. No other task is touched.
-    pub(crate) fn rehome(&mut self, place: usize, cpu: usize)
+    pub(crate) fn rehome(&mut self, place: usize, cpu: u32)
         requires { place < length self.old }
         ensures { (d : Candidate) → self.new
             ≡ slice_set self.old place (record (slice_index_or self.old place d) { home = cpu }) }

@@ -140,7 +140,8 @@ fn cpu_among(places: &[Option<u32>], moves: &[Moved], number: u32) -> Option<usi
 
 // Where a task belongs: to the CPU on which it stands, if it stands on one. Beside its home only the
 // CPUs are looked at that another one has: who has stayed is at home.
-fn home_of(places: &[Option<u32>], moves: &[Moved], c: &Candidate) -> usize
+fn home_of(places: &[Option<u32>], moves: &[Moved], c: &Candidate) -> u32
+    requires few { length places.now ≤ 64 }
     requires single { AreSingle places.now }
     requires listed { spec.homed_by places.now moves.now c.now ≡ homed places.now c.now }
     ensures { result ≡ (homed places.now c.now).home }
@@ -149,7 +150,7 @@ fn home_of(places: &[Option<u32>], moves: &[Moved], c: &Candidate) -> usize
         return c.home;
     }
     match cpu_among(places, moves, c.number) {
-        Some(cpu) => cpu,
+        Some(cpu) => cpu as u32,
         None => c.home,
     }
 }
@@ -157,6 +158,7 @@ fn home_of(places: &[Option<u32>], moves: &[Moved], c: &Candidate) -> usize
 // The tasks at the marked places of the queue belong to the CPUs on which they stand.
 #[inline(always)]
 fn home_movers(queue: &mut Queue, places: &[Option<u32>], moves: &[Moved], movers: u64)
+    requires few { length places.now ≤ 64 }
     requires single { AreSingle places.now }
     requires listed { All (λ c. spec.homed_by places.now moves.now c ≡ homed places.now c) queue.old }
     requires within { (i : ℕ) → bit_at movers i ≡ 1 → i < length queue.old }

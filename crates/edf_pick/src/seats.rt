@@ -26,7 +26,7 @@ pub(crate) fn is_on(places: &[Option<u32>], cpu: usize, number: u32) -> bool
 pub(crate) fn is_at_home(places: &[Option<u32>], c: &Candidate) -> bool
     ensures { result ≡ is_home places.now c.now }
 {
-    is_on(places, c.home, c.number)
+    is_on(places, c.home as usize, c.number)
 }
 
 fn is_free(places: &[Option<u32>], cpu: usize) -> bool
@@ -52,8 +52,9 @@ fn seat_of(places: &[Option<u32>], c: &Candidate, taken: u64) -> Option<usize>
     requires taken { spec.AreTaken places.now taken }
     ensures { result ≡ spec.seat_of places.now c.now }
 {
-    if is_free(places, c.home) {
-        return Some(c.home);
+    let home = c.home as usize;
+    if is_free(places, home) {
+        return Some(home);
     }
     lowest_free(places, taken)
 }

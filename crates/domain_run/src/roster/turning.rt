@@ -1,7 +1,7 @@
 //! A change of one listed task, of which the run queue is told. Before it changes it is charged what
 //! it owes, and leaves its seat.
 
-ghost use Rattle.std.specs.Prelude.{◌≡◌, ◌<◌, All, IfSome, None, Some, length, slice_index_or, vec_capacity};
+ghost use Rattle.std.specs.Prelude.{◌≡◌, ◌<◌, ◌≤◌, All, IfSome, None, Some, length, slice_index_or, vec_capacity};
 ghost use Rattle.domain_run.specs.declared.task.Task.{Task};
 ghost use Rattle.domain_run.specs.Sound.{IsSound};
 ghost use Rattle.domain_run.specs.private.Roster.{after_change, MayMake, Fits};
@@ -47,6 +47,8 @@ pub(super) fn settle(task: &mut Task, seats: &mut Seats)
 /// Makes a change of a task, and tells the run queue.
 #[inline(always)]
 fn turn_settled(task: &mut Task, queue: &mut RunQueue, place: usize, time: u64, change: &Change)
+    requires narrow { length queue.old.accounts.all ≤ 64 }
+    requires home { task.old.cpu < 64 }
     requires sound { IsSound time task.old }
     requires may { MayMake time change.now task.old }
     requires turns { spec.MayTurn place queue.old (spec.standing_of task.old)
@@ -82,6 +84,8 @@ fn turn_one(
     time: u64,
     change: &Change,
 )
+    requires narrow { length queue.old.accounts.all ≤ 64 }
+    requires home { task.old.cpu < 64 }
     requires waits { waiting.WaitsIf seats.old.seats task.old }
     requires sound { IsSound time (waiting.owed seats.old.upto seats.old.seats task.old) }
     requires may { MayMake time change.now
@@ -117,6 +121,7 @@ pub(super) fn turn_task(
     time: u64,
     change: &Change,
 )
+    requires narrow { length queue.old.accounts.all ≤ 64 }
     requires there { place < length tasks.old.items }
     requires fits { Fits (length queue.old.accounts.all) change.now }
     requires waits { waiting.AllWait seats.old.seats tasks.old.items }
