@@ -10,7 +10,7 @@ use Rattle.switch_text.specs.declared.ready.Slot.{Slot}
 use Rattle.switch_text.specs.Names.{named}
 use Rattle.switch_text.specs.Line.{digits_in, pid_of, prio_of, comm_of, letters_of, task_part, cpu_part, time_part, prev_part, next_part, line_of}
 use Rattle.switch_text.specs.private.Parts.{second_part, event_part, leaving_part, state_part, coming_part}
-use Rattle.switch_text.specs.private.Pieces.{text_of}
+use Rattle.switch_text.specs.private.Pieces.{text_of, short_text_of}
 use Rattle.switch_text.specs.private.Ready.{IsReady, names_at, who_of, AreNobodys, IsFor, IsSlot}
 use Rattle.switch_text.proofs.CallerLemmas.{task_part-same}
 
@@ -79,13 +79,13 @@ line_of-by_parts names base s cpu e =
 -- behind what waited, the line of a switch
 pub line_made : (runs : List Run) (i : ℕ) (run : Run) (s : Switch) (cpu : ℕ) (a b : Slot) (second state batch mid after : List ℕ) → names_at runs i ≡ named run.names.now → cpu ≡ run.base + s.cpu
     → IsReady (names_at runs i) cpu s.prev a → IsReady (names_at runs i) cpu s.next b → second ≡ second_part (s.time / 1000000) → state ≡ state_part s.state
-    → mid ≡ batch ++ (text_of a.head ++ cpu_part cpu ++ second ++ digits_in 6 (s.time % 1000000) ++ event_part ++ text_of a.leaving ++ state) → after ≡ mid ++ text_of b.coming
+    → mid ≡ batch ++ (short_text_of a.head ++ cpu_part cpu ++ second ++ digits_in 6 (s.time % 1000000) ++ event_part ++ text_of a.leaving ++ state) → after ≡ mid ++ text_of b.coming
     → after ≡ batch ++ line_of (named run.names.now) run.base s
 line_made runs i run s cpu a b second state batch mid after named_so at ra rb es et em ea =
     let names = named run.names.now in
     let pa : IsReady names cpu s.prev a = subst (λ (f : ℕ → List ℕ). IsReady f cpu s.prev a) named_so ra in
     let pb : IsReady names cpu s.next b = subst (λ (f : ℕ → List ℕ). IsReady f cpu s.next b) named_so rb in
-    let front = text_of a.head ++ cpu_part cpu ++ second ++ digits_in 6 (s.time % 1000000) ++ event_part ++ text_of a.leaving ++ state in
+    let front = short_text_of a.head ++ cpu_part cpu ++ second ++ digits_in 6 (s.time % 1000000) ++ event_part ++ text_of a.leaving ++ state in
     let same : front ++ text_of b.coming ≡ (task_part names s.prev ++ cpu_part cpu ++ second_part (s.time / 1000000) ++ digits_in 6 (s.time % 1000000) ++ event_part ++ leaving_part names cpu s.prev ++ state_part s.state) ++ coming_part names cpu s.next
     = rw (pa.head, pa.leaving, pb.coming, es, et) refl in
     ea ∙ ap (λ (xs : List ℕ). xs ++ text_of b.coming) em ∙ append_assoc batch front (text_of b.coming) ∙ ap (λ (xs : List ℕ). batch ++ xs) (same ∙ line_of-by_parts names run.base s cpu at)

@@ -8,7 +8,7 @@ ghost use Rattle.switch_text.specs.private.Fronts.{front_text};
 ghost use Rattle.switch_text.specs.private.Sending.{Sends};
 
 use crate::lines::{put_cpu, put_event, put_micros};
-use crate::piece::Piece;
+use crate::piece::{Piece, ShortPiece};
 use counted_io::Counted;
 use std::io::Write;
 use std::marker::Model;
@@ -22,12 +22,12 @@ const LOW: usize = 65152;
 /// A line, up to the name of who comes.
 #[derive(Clone, Copy)]
 pub(crate) struct Front<'a> {
-    pub(crate) head: &'a Piece,
+    pub(crate) head: &'a ShortPiece,
     pub(crate) cpu: u32,
-    pub(crate) second: &'a Piece,
+    pub(crate) second: &'a ShortPiece,
     pub(crate) micros: u64,
     pub(crate) leaving: &'a Piece,
-    pub(crate) state: &'a Piece,
+    pub(crate) state: &'a ShortPiece,
 }
 
 /// Bytes that wait to be written together.

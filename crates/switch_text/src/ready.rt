@@ -4,11 +4,11 @@
 ghost use Rattle.std.specs.Prelude.{ℕ, ◌≡◌, ◌+◌, ◌<◌, ◌≤◌, length, slice_index_or, All, Option, Some, None, IfSome, IsTrue};
 ghost use Rattle.switch_text.specs.Names.{named, HasName};
 ghost use Rattle.switch_text.specs.private.Parts.{state_part};
-ghost use Rattle.switch_text.specs.private.Pieces.{text_of};
+ghost use Rattle.switch_text.specs.private.Pieces.{short_text_of};
 ghost use Rattle.switch_text.specs.private.Ready.{IsReady, names_at, who_of, AreNobodys, IsSlot, IsClock, IsMiddles, IsTexts};
 
 use crate::lines::{pid_for, put_coming, put_leaving, put_second, put_state, put_task};
-use crate::piece::Piece;
+use crate::piece::{Piece, ShortPiece};
 use crate::run::Run;
 use domain_run::PrevState;
 use indexmap::IndexMap;
@@ -36,7 +36,7 @@ pub(crate) enum Who {
 pub(crate) struct Slot {
     pub(crate) who: Who,
     /// In front of a line, where it leaves.
-    pub(crate) head: Piece,
+    pub(crate) head: ShortPiece,
     /// The event's fields where it leaves, up to the state.
     pub(crate) leaving: Piece,
     /// The event's fields where it comes.
@@ -46,17 +46,17 @@ pub(crate) struct Slot {
 /// The texts of the states.
 #[derive(Clone, Copy)]
 pub(crate) struct Middles {
-    pub(crate) running: Piece,
-    pub(crate) preempted: Piece,
-    pub(crate) sleeping: Piece,
-    pub(crate) dead: Piece,
+    pub(crate) running: ShortPiece,
+    pub(crate) preempted: ShortPiece,
+    pub(crate) sleeping: ShortPiece,
+    pub(crate) dead: ShortPiece,
 }
 
 /// A second, and its text.
 #[derive(Clone, Copy)]
 pub(crate) struct Clock {
     pub(crate) second: u64,
-    pub(crate) text: Piece,
+    pub(crate) text: ShortPiece,
 }
 
 /// What is kept beside the texts of tasks.
@@ -89,18 +89,18 @@ fn no_slot() -> Slot
 {
     Slot {
         who: Who::Nobody,
-        head: Piece::empty(),
+        head: ShortPiece::empty(),
         leaving: Piece::empty(),
         coming: Piece::empty(),
     }
 }
 
-fn middle_of(state: PrevState) -> Piece
-    ensures { text_of result ≡ state_part state }
+fn middle_of(state: PrevState) -> ShortPiece
+    ensures { short_text_of result ≡ state_part state }
 {
     let mut text = [0u8; 256];
     let len = put_state(&mut text, 0, state);
-    Piece::of(&text[..len])
+    ShortPiece::of(&text[..len])
 }
 
 fn all_middles() -> Middles
@@ -123,7 +123,7 @@ fn clock_at(second: u64) -> Clock
     let len = put_second(&mut text, 0, second);
     Clock {
         second,
-        text: Piece::of(&text[..len]),
+        text: ShortPiece::of(&text[..len]),
     }
 }
 
@@ -168,9 +168,9 @@ pub(crate) fn set_second(clock: &mut Clock, second: u64)
 }
 
 /// The text of a state.
-pub(crate) fn middle(middles: &Middles, state: PrevState) -> &Piece
+pub(crate) fn middle(middles: &Middles, state: PrevState) -> &ShortPiece
     requires { IsMiddles middles.now }
-    ensures { text_of result.now ≡ state_part state }
+    ensures { short_text_of result.now ≡ state_part state }
 {
     match state {
         PrevState::Running => &middles.running,
@@ -190,7 +190,7 @@ fn make(names: &IndexMap<u32, String>, who: Who, cpu: u32, task: Option<u32>) ->
     let pid = pid_for(task);
     let mut text = [0u8; 256];
     let len = put_task(&mut text, 0, names, task, pid);
-    let head = Piece::of(&text[..len]);
+    let head = ShortPiece::of(&text[..len]);
     let len = put_leaving(&mut text, 0, names, cpu, task, pid);
     let leaving = Piece::of(&text[..len]);
     let len = put_coming(&mut text, 0, names, cpu, task, pid);

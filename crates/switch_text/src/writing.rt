@@ -10,6 +10,9 @@ ghost use Rattle.counted_io.specs.Faults.{one_more_unless, TakesFront};
 ghost use Rattle.switch_text.specs.private.Merging.{next_entry, IsPrinted, IsRunAt};
 ghost use Rattle.switch_text.specs.private.Sending.{Sends};
 ghost use Rattle.switch_text.specs.private.Sliced.{lines_in};
+ghost use Rattle.switch_text.specs.Line.{cpu_part, digits_in};
+ghost use Rattle.switch_text.specs.private.Parts.{event_part, state_part};
+ghost use Rattle.switch_text.specs.private.Pieces.{text_of, short_text_of};
 ghost use Rattle.switch_text.specs.private.Ready.{AreNobodys, IsSlot, IsTexts};
 
 use crate::batch::{Batch, Front};
@@ -18,6 +21,7 @@ use crate::merge::{Next, earliest};
 use crate::ready::{Slot, Texts, TraceRoom, middle, no_slots, no_texts, seat, set_second};
 use crate::run::Run;
 use counted_io::Counted;
+use domain_run::PrevState;
 use std::io::Write;
 
 #[tactic(auto, unfolding(crate::specs::Trace::header))]
@@ -26,6 +30,35 @@ pub(crate) fn header_text() -> &'static [u8]
     ensures short { length result.now ≤ 256 }
 {
     b"# tracer: nop\n"
+}
+
+/// Adds the front of a line, up to the name of who comes, from the texts of who leaves.
+#[inline(always)]
+fn append_leaving(
+    slot: &Slot,
+    cpu: u32,
+    micros: u64,
+    state: PrevState,
+    texts: &Texts,
+    batch: &mut Batch,
+)
+    requires texts { IsTexts texts.now }
+    requires cpu { cpu < 512 }
+    requires micros { micros < 1000000 }
+    requires room { length batch.old ≤ 65152 }
+    ensures text { batch.new ≡ batch.old ++ (short_text_of slot.now.head ++ cpu_part cpu
+        ++ short_text_of texts.now.clock.text ++ digits_in 6 micros ++ event_part
+        ++ text_of slot.now.leaving ++ state_part state) }
+    ensures short { length batch.new ≤ length batch.old + 320 }
+{
+    batch.append_front(&Front {
+        head: &slot.head,
+        cpu,
+        second: &texts.clock.text,
+        micros,
+        leaving: &slot.leaving,
+        state: middle(&texts.middles, state),
+    });
 }
 
 /// Adds the line of the next switch.
@@ -52,20 +85,12 @@ pub(crate) fn append_line(
 {
     let switch = next.switch;
     let cpu = next.run.base + u32::from(switch.cpu);
+    let micros = switch.time % 1_000_000;
     set_second(&mut texts.clock, switch.time / 1_000_000);
     let place = seat(slots, runs, next.index, cpu, switch.prev);
-    let prev = slots[place];
-    batch.append_front(&Front {
-        head: &prev.head,
-        cpu,
-        second: &texts.clock.text,
-        micros: switch.time % 1_000_000,
-        leaving: &prev.leaving,
-        state: middle(&texts.middles, switch.state),
-    });
+    append_leaving(&slots[place], cpu, micros, switch.state, texts, batch);
     let place = seat(slots, runs, next.index, cpu, switch.next);
-    let coming = slots[place].coming;
-    batch.append_end(&coming);
+    batch.append_end(&slots[place].coming);
 }
 
 pub(crate) fn stopped_after(written: usize, more: usize) -> WriteFault

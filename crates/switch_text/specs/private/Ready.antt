@@ -11,11 +11,11 @@ use Rattle.switch_text.specs.declared.ready.Texts.{Texts}
 use Rattle.switch_text.specs.Names.{named}
 use Rattle.switch_text.specs.Line.{task_part}
 use Rattle.switch_text.specs.private.Parts.{second_part, leaving_part, state_part, coming_part}
-use Rattle.switch_text.specs.private.Pieces.{text_of}
+use Rattle.switch_text.specs.private.Pieces.{text_of, short_text_of}
 
 -- the texts of a task, or of an idle CPU
 pub record IsReady (names : ℕ → List ℕ) (cpu : ℕ) (task : Option ℕ) (s : Slot) : Type 0 where
-  pub head : text_of s.head ≡ task_part names task
+  pub head : short_text_of s.head ≡ task_part names task
   pub leaving : text_of s.leaving ≡ leaving_part names cpu task
   pub coming : text_of s.coming ≡ coming_part names cpu task
 
@@ -45,13 +45,13 @@ abbrev pub IsSlot : List Run → Slot → Type 0
 IsSlot runs s = IsFor runs s.who s
 
 abbrev pub IsClock : Clock → Type 0
-IsClock c = text_of c.text ≡ second_part c.second
+IsClock c = short_text_of c.text ≡ second_part c.second
 
 pub record IsMiddles (m : Middles) : Type 0 where
-  pub running : text_of m.running ≡ state_part Running
-  pub preempted : text_of m.preempted ≡ state_part Preempted
-  pub sleeping : text_of m.sleeping ≡ state_part Sleeping
-  pub dead : text_of m.dead ≡ state_part Dead
+  pub running : short_text_of m.running ≡ state_part Running
+  pub preempted : short_text_of m.preempted ≡ state_part Preempted
+  pub sleeping : short_text_of m.sleeping ≡ state_part Sleeping
+  pub dead : short_text_of m.dead ≡ state_part Dead
 
 -- what is kept beside them is right
 pub record IsTexts (t : Texts) : Type 0 where
