@@ -91,9 +91,10 @@ pub(crate) fn put_micros(out: &mut [u8], at: usize, n: u64) -> usize
     ensures place { result ≡ at + 6 }
     ensures text { take result out.new ≡ take at out.old ++ digits_in 6 n }
 {
+    let low = n % 10_000;
     let at = put(out, at, &two_digits(n / 10_000));
-    let at = put(out, at, &two_digits(n / 100 % 100));
-    put(out, at, &two_digits(n % 100))
+    let at = put(out, at, &two_digits(low / 100));
+    put(out, at, &two_digits(low % 100))
 }
 
 pub(crate) fn name_of(names: &IndexMap<u32, String>, number: u32) -> &str

@@ -10,18 +10,20 @@ ghost use Rattle.counted_io.specs.Faults.{one_more_unless, TakesFront};
 ghost use Rattle.switch_text.specs.private.Merging.{next_entry, IsPrinted, IsRunAt};
 ghost use Rattle.switch_text.specs.private.Sending.{Sends};
 ghost use Rattle.switch_text.specs.private.Sliced.{lines_in};
-ghost use Rattle.switch_text.specs.Line.{cpu_part, digits_in};
-ghost use Rattle.switch_text.specs.private.Parts.{event_part, state_part};
+ghost use Rattle.switch_text.specs.Line.{digits_in};
+ghost use Rattle.switch_text.specs.private.Parts.{event_part};
 ghost use Rattle.switch_text.specs.private.Pieces.{text_of, short_text_of};
 ghost use Rattle.switch_text.specs.private.Ready.{AreNobodys, IsSlot, IsTexts};
 
 use crate::batch::{Batch, Front};
 use crate::fault::WriteFault;
 use crate::merge::{Next, earliest};
-use crate::ready::{Slot, Texts, TraceRoom, middle, no_slots, no_texts, seat, set_second};
+use crate::piece::ShortPiece;
+use crate::ready::{
+    Lane, Slot, Texts, TraceRoom, keep_lane, lane_at, middle, no_slots, no_texts, seat,
+};
 use crate::run::Run;
 use counted_io::Counted;
-use domain_run::PrevState;
 use std::io::Write;
 
 #[tactic(auto, unfolding(crate::specs::Trace::header))]
@@ -34,30 +36,20 @@ pub(crate) fn header_text() -> &'static [u8]
 
 /// Adds the front of a line, up to the name of who comes, from the texts of who leaves.
 #[inline(always)]
-fn append_leaving(
-    slot: &Slot,
-    cpu: u32,
-    micros: u64,
-    state: PrevState,
-    texts: &Texts,
-    batch: &mut Batch,
-)
-    requires texts { IsTexts texts.now }
-    requires cpu { cpu < 512 }
+fn append_leaving(slot: &Slot, lane: &Lane, micros: u64, state: &ShortPiece, batch: &mut Batch)
     requires micros { micros < 1000000 }
     requires room { length batch.old ≤ 65152 }
-    ensures text { batch.new ≡ batch.old ++ (short_text_of slot.now.head ++ cpu_part cpu
-        ++ short_text_of texts.now.clock.text ++ digits_in 6 micros ++ event_part
-        ++ text_of slot.now.leaving ++ state_part state) }
+    ensures text { batch.new ≡ batch.old ++ (short_text_of slot.now.head
+        ++ short_text_of lane.now.text ++ digits_in 6 micros ++ event_part
+        ++ text_of slot.now.leaving ++ short_text_of state.now) }
     ensures short { length batch.new ≤ length batch.old + 320 }
 {
     batch.append_front(&Front {
         head: &slot.head,
-        cpu,
-        second: &texts.clock.text,
+        lane: &lane.text,
         micros,
         leaving: &slot.leaving,
-        state: middle(&texts.middles, state),
+        state,
     });
 }
 
@@ -86,9 +78,11 @@ pub(crate) fn append_line(
     let switch = next.switch;
     let cpu = next.run.base + u32::from(switch.cpu);
     let micros = switch.time % 1_000_000;
-    set_second(&mut texts.clock, switch.time / 1_000_000);
+    let kept = keep_lane(&mut texts.lanes, cpu, switch.time / 1_000_000);
     let place = seat(slots, runs, next.index, cpu, switch.prev);
-    append_leaving(&slots[place], cpu, micros, switch.state, texts, batch);
+    let lane = lane_at(&texts.lanes, kept);
+    let state = middle(&texts.middles, switch.state);
+    append_leaving(&slots[place], lane, micros, state, batch);
     let place = seat(slots, runs, next.index, cpu, switch.next);
     batch.append_end(&slots[place].coming);
 }
