@@ -1,5 +1,5 @@
 -- A number with zeros before it, digit by digit.
-use Rattle.std.proofs.Common.{◌≡◌, ℕ, ◌+◌, ◌-◌, ◌/◌, ◌%◌, ◌^◌, ◌<◌, ◌≤◌, List, [], ◌∷◌, ◌++◌, length, replicate, sym, ap, ◌∙◌, append_assoc, inl, inr, arith}
+use Rattle.std.proofs.Common.{◌≡◌, ℕ, zero, suc, ◌+◌, ◌-◌, ◌/◌, ◌%◌, ◌^◌, ◌<◌, ◌≤◌, List, [], ◌∷◌, ◌++◌, length, replicate, get_or, sym, ap, ◌∙◌, append_assoc, inl, inr, arith}
 use Rattle.std.specs.Prelude.{decimal}
 use Rattle.std.proofs.lemmas.Bool.{cases_lt}
 use Rattle.std.proofs.lemmas.Fmt.{decimal_digit, decimal_step}
@@ -63,3 +63,19 @@ length-digits_three n lt = omega (arith, ap length (digits_three n lt), length-a
 -- three pairs that are put down one after another
 pub six_text : (n : ℕ) (a b c : List ℕ) → n < 1000000 → a ≡ digits_in 2 (n / 10000) → b ≡ digits_in 2 (n / 100 % 100) → c ≡ digits_in 2 (n % 100) → a ++ b ++ c ≡ digits_in 6 n
 six_text n a b c lt p q r = rw (p, q, r) (sym (digits_six n lt))
+
+-- ---- the pairs of digits of all numbers below 100, in one table
+
+-- of so many numbers from k on
+unfoldable pub pairs_from : ℕ → ℕ → List (List ℕ)
+pairs_from zero k = []
+pairs_from (suc n) k = ((48 + k / 10) ∷ (48 + k % 10) ∷ []) ∷ pairs_from n (suc k)
+
+pair_in : (n k i : ℕ) (d : List ℕ) → i < n → get_or (pairs_from n k) i d ≡ (48 + (k + i) / 10) ∷ (48 + (k + i) % 10) ∷ []
+unfolding pairs_from
+pair_in zero k i d lt = absurd (omega arith)
+pair_in (suc n) k zero d lt = ap (λ (m : ℕ). (48 + m / 10) ∷ (48 + m % 10) ∷ []) (omega arith)
+pair_in (suc n) k (suc i) d lt = pair_in n (suc k) i d (omega arith) ∙ ap (λ (m : ℕ). (48 + m / 10) ∷ (48 + m % 10) ∷ []) (omega arith)
+
+pub pair_at : (n : ℕ) (d : List ℕ) → n < 100 → get_or (pairs_from 100 0) n d ≡ digits_in 2 n
+pair_at n d lt = pair_in 100 0 n d lt ∙ ap (λ (m : ℕ). (48 + m / 10) ∷ (48 + m % 10) ∷ []) (omega arith) ∙ sym (digits_two n lt)

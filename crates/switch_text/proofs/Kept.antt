@@ -3,6 +3,9 @@ use Rattle.std.proofs.Common.{◌≡◌, ℕ, zero, suc, ◌+◌, ◌/◌, ◌%�
 use Rattle.std.specs.Prelude.{codes, decimal, All}
 use Rattle.std.proofs.lemmas.List.Elements.{All-weaker}
 use Rattle.domain_run.specs.declared.switch.Switch.{Switch}
+use Rattle.domain_run.specs.declared.switch.PrevState.{PrevState}
+use Rattle.domain_run.specs.declared.switch.PrevState.TheVariants.{Running, Preempted, Sleeping, Dead}
+use Rattle.switch_text.specs.declared.piece.ShortPiece.{ShortPiece}
 use Rattle.switch_text.specs.declared.run.Run.{Run}
 use Rattle.switch_text.specs.declared.ready.Who.{Who}
 use Rattle.switch_text.specs.declared.ready.Who.TheVariants.{Nobody}
@@ -10,8 +13,8 @@ use Rattle.switch_text.specs.declared.ready.Slot.{Slot}
 use Rattle.switch_text.specs.Names.{named}
 use Rattle.switch_text.specs.Line.{digits_in, pid_of, prio_of, comm_of, letters_of, task_part, cpu_part, time_part, prev_part, next_part, line_of}
 use Rattle.switch_text.specs.private.Parts.{second_part, event_part, leaving_part, state_part, coming_part}
-use Rattle.switch_text.specs.private.Pieces.{text_of}
-use Rattle.switch_text.specs.private.Ready.{IsReady, names_at, who_of, AreNobodys, IsFor, IsSlot}
+use Rattle.switch_text.specs.private.Pieces.{text_of, short_text_of}
+use Rattle.switch_text.specs.private.Ready.{IsReady, names_at, who_of, AreNobodys, IsFor, IsSlot, nth_state}
 use Rattle.switch_text.proofs.CallerLemmas.{task_part-same}
 
 pub names_at-is : (runs : List Run) (i : ℕ) (r : Run) → i < length runs → r ≡ get_or runs i r → names_at runs i ≡ named r.names.now
@@ -76,16 +79,28 @@ line_of-by_parts names base s cpu e =
     rw (sym e, prev_part-is names s cpu, next_part-is names s cpu, time_part-is s.time)
     (sym (regrouped (task_part names s.prev) (cpu_part cpu) (second_part (s.time / 1000000)) (digits_in 6 (s.time % 1000000)) event_part (leaving_part names cpu s.prev) (letters_of s.state) (codes " ==> next_comm=") (coming_part names cpu s.next)))
 
+-- the CPU and the second are kept as one text
+with_lane : (a b c d e f g h : List ℕ) → (a ++ (b ++ c) ++ d ++ e ++ f ++ g) ++ h ≡ (a ++ b ++ c ++ d ++ e ++ f ++ g) ++ h
+with_lane a b c d e f g h = simp append_assoc
+
 -- behind what waited, the line of a switch
-pub line_made : (runs : List Run) (i : ℕ) (run : Run) (s : Switch) (cpu : ℕ) (a b : Slot) (second state batch mid after : List ℕ) → names_at runs i ≡ named run.names.now → cpu ≡ run.base + s.cpu
-    → IsReady (names_at runs i) cpu s.prev a → IsReady (names_at runs i) cpu s.next b → second ≡ second_part (s.time / 1000000) → state ≡ state_part s.state
-    → mid ≡ batch ++ (text_of a.head ++ cpu_part cpu ++ second ++ digits_in 6 (s.time % 1000000) ++ event_part ++ text_of a.leaving ++ state) → after ≡ mid ++ text_of b.coming
+pub line_made : (runs : List Run) (i : ℕ) (run : Run) (s : Switch) (cpu : ℕ) (a b : Slot) (lane state batch mid after : List ℕ) → names_at runs i ≡ named run.names.now → cpu ≡ run.base + s.cpu
+    → IsReady (names_at runs i) cpu s.prev a → IsReady (names_at runs i) cpu s.next b → lane ≡ cpu_part cpu ++ second_part (s.time / 1000000) → state ≡ state_part s.state
+    → mid ≡ batch ++ (short_text_of a.head ++ lane ++ digits_in 6 (s.time % 1000000) ++ event_part ++ text_of a.leaving ++ state) → after ≡ mid ++ text_of b.coming
     → after ≡ batch ++ line_of (named run.names.now) run.base s
-line_made runs i run s cpu a b second state batch mid after named_so at ra rb es et em ea =
+line_made runs i run s cpu a b lane state batch mid after named_so at ra rb el et em ea =
     let names = named run.names.now in
     let pa : IsReady names cpu s.prev a = subst (λ (f : ℕ → List ℕ). IsReady f cpu s.prev a) named_so ra in
     let pb : IsReady names cpu s.next b = subst (λ (f : ℕ → List ℕ). IsReady f cpu s.next b) named_so rb in
-    let front = text_of a.head ++ cpu_part cpu ++ second ++ digits_in 6 (s.time % 1000000) ++ event_part ++ text_of a.leaving ++ state in
+    let front = short_text_of a.head ++ lane ++ digits_in 6 (s.time % 1000000) ++ event_part ++ text_of a.leaving ++ state in
     let same : front ++ text_of b.coming ≡ (task_part names s.prev ++ cpu_part cpu ++ second_part (s.time / 1000000) ++ digits_in 6 (s.time % 1000000) ++ event_part ++ leaving_part names cpu s.prev ++ state_part s.state) ++ coming_part names cpu s.next
-    = rw (pa.head, pa.leaving, pb.coming, es, et) refl in
+    = rw (pa.head, pa.leaving, pb.coming, el, et) (with_lane (task_part names s.prev) (cpu_part cpu) (second_part (s.time / 1000000)) (digits_in 6 (s.time % 1000000)) event_part (leaving_part names cpu s.prev) (state_part s.state) (coming_part names cpu s.next)) in
     ea ∙ ap (λ (xs : List ℕ). xs ++ text_of b.coming) em ∙ append_assoc batch front (text_of b.coming) ∙ ap (λ (xs : List ℕ). batch ++ xs) (same ∙ line_of-by_parts names run.base s cpu at)
+
+-- the texts of the states, in the order of their places
+pub middles_made : (a b c d : ShortPiece) → short_text_of a ≡ state_part Running → short_text_of b ≡ state_part Preempted → short_text_of c ≡ state_part Sleeping → short_text_of d ≡ state_part Dead
+    → (state : PrevState) (x : ShortPiece) → short_text_of (get_or (a ∷ b ∷ c ∷ d ∷ []) (nth_state state) x) ≡ state_part state
+middles_made a b c d p q r s Running x = p
+middles_made a b c d p q r s Preempted x = q
+middles_made a b c d p q r s Sleeping x = r
+middles_made a b c d p q r s Dead x = s

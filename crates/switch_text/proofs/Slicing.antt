@@ -12,7 +12,7 @@ use Rattle.switch_text.specs.Names.{named, SameNames}
 use Rattle.switch_text.specs.Line.{line_of}
 use Rattle.switch_text.specs.Trace.{entry_of, entries_of, header}
 use Rattle.switch_text.specs.Runs.{view_of, views, IsRun}
-use Rattle.switch_text.specs.SlicedTrace.{sliced_trace}
+use Rattle.switch_text.specs.SlicedTrace.{sliced_trace, IsEndOf}
 use Rattle.switch_text.specs.private.Sending.{Sends}
 use Rattle.switch_text.specs.private.Sliced.{lines_in, lines_by, IsSlicing}
 use Rattle.switch_text.proofs.CallerLemmas.{lines_of-one_run, lines_of-same_names, SameNames-everywhere}
@@ -87,3 +87,7 @@ pub IsSlicing-ends : (before after : Option (List ℕ)) (base : ℕ) (names : �
     → Sends before after (sliced_trace base names all) sent waiting
 IsSlicing-ends before after base names all rest sent waiting u none =
     subst (λ (xs : List ℕ). Sends before after (sliced_trace base names all) sent xs) (ap (λ (ss : List Switch). waiting ++ lines_by base names ss) none ∙ append-nil waiting) u.sends
+
+-- what follows a slice is an end, too
+pub end_of_end : (all rest hand rest' : List Switch) → IsEndOf all rest → rest ≡ hand ++ rest' → IsEndOf all rest'
+end_of_end all rest hand rest' (gone, is) split = (gone ++ hand, is ∙ ap (λ (ss : List Switch). gone ++ ss) split ∙ sym (append_assoc gone hand rest'))

@@ -1,5 +1,5 @@
--- The trace text of one run that is written while it is made.
-use Rattle.std.specs.Prelude.{ℕ, List, ◌++◌}
+-- The trace text of one run that is written while it is made (own).
+use Rattle.std.specs.Prelude.{ℕ, ◌≡◌, List, ◌++◌}
 use Rattle.std.specs.List.{flat_map}
 use Rattle.domain_run.specs.declared.switch.Switch.{Switch}
 use Rattle.switch_text.specs.Line.{line_of}
@@ -10,3 +10,7 @@ use Rattle.switch_text.specs.Trace.{header}
 -- `sliced_trace-is` of the laws for callers)
 abbrev pub sliced_trace : ℕ → (ℕ → List ℕ) → List Switch → List ℕ
 sliced_trace base names switches = header ++ flat_map (line_of names base) switches
+
+-- these are the last of them: others went before
+abbrev pub IsEndOf : List Switch → List Switch → Type 0
+IsEndOf all last = (gone : List Switch) × (all ≡ gone ++ last)

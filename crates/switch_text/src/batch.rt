@@ -7,8 +7,8 @@ ghost use Rattle.switch_text.specs.private.Pieces.{text_of};
 ghost use Rattle.switch_text.specs.private.Fronts.{front_text};
 ghost use Rattle.switch_text.specs.private.Sending.{Sends};
 
-use crate::lines::{put_cpu, put_event, put_micros};
-use crate::piece::Piece;
+use crate::lines::{put_event, put_micros};
+use crate::piece::{Piece, ShortPiece};
 use counted_io::Counted;
 use std::io::Write;
 use std::marker::Model;
@@ -22,12 +22,11 @@ const LOW: usize = 65152;
 /// A line, up to the name of who comes.
 #[derive(Clone, Copy)]
 pub(crate) struct Front<'a> {
-    pub(crate) head: &'a Piece,
-    pub(crate) cpu: u32,
-    pub(crate) second: &'a Piece,
+    pub(crate) head: &'a ShortPiece,
+    pub(crate) lane: &'a ShortPiece,
     pub(crate) micros: u64,
     pub(crate) leaving: &'a Piece,
-    pub(crate) state: &'a Piece,
+    pub(crate) state: &'a ShortPiece,
 }
 
 /// Bytes that wait to be written together.
@@ -121,15 +120,13 @@ impl Batch {
     #[inline(always)]
     pub(crate) fn append_front(&mut self, front: &Front<'_>)
         requires room { length self.old ≤ LOW }
-        requires cpu { front.now.cpu < 512 }
         requires micros { front.now.micros < 1000000 }
         ensures text { self.new ≡ self.old ++ front_text front.now }
         ensures short { length self.new ≤ length self.old + 320 }
     {
         let out = &mut self.bytes;
         let at = front.head.put(out, self.len);
-        let at = put_cpu(out, at, front.cpu);
-        let at = front.second.put(out, at);
+        let at = front.lane.put(out, at);
         let at = put_micros(out, at, front.micros);
         let at = put_event(out, at);
         let at = front.leaving.put(out, at);

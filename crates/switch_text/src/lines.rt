@@ -61,13 +61,26 @@ fn put_left(out: &mut [u8], at: usize, width: usize, text: &[u8]) -> usize
     put_times(out, at, width.saturating_sub(text.len()), b' ')
 }
 
+/// The two digits of each number below 100.
+static PAIRS: [[u8; 2]; 100] = [
+    *b"00", *b"01", *b"02", *b"03", *b"04", *b"05", *b"06", *b"07", *b"08", *b"09", *b"10", *b"11",
+    *b"12", *b"13", *b"14", *b"15", *b"16", *b"17", *b"18", *b"19", *b"20", *b"21", *b"22", *b"23",
+    *b"24", *b"25", *b"26", *b"27", *b"28", *b"29", *b"30", *b"31", *b"32", *b"33", *b"34", *b"35",
+    *b"36", *b"37", *b"38", *b"39", *b"40", *b"41", *b"42", *b"43", *b"44", *b"45", *b"46", *b"47",
+    *b"48", *b"49", *b"50", *b"51", *b"52", *b"53", *b"54", *b"55", *b"56", *b"57", *b"58", *b"59",
+    *b"60", *b"61", *b"62", *b"63", *b"64", *b"65", *b"66", *b"67", *b"68", *b"69", *b"70", *b"71",
+    *b"72", *b"73", *b"74", *b"75", *b"76", *b"77", *b"78", *b"79", *b"80", *b"81", *b"82", *b"83",
+    *b"84", *b"85", *b"86", *b"87", *b"88", *b"89", *b"90", *b"91", *b"92", *b"93", *b"94", *b"95",
+    *b"96", *b"97", *b"98", *b"99",
+];
+
 /// The two digits of a number below 100.
 #[inline(always)]
 pub(crate) fn two_digits(n: u64) -> [u8; 2]
     requires { n < 100 }
     ensures { result ≡ digits_in 2 n }
 {
-    [b'0' + (n / 10) as u8, b'0' + (n % 10) as u8]
+    PAIRS[n as usize]
 }
 
 /// The six digits of a number below a million.
@@ -78,9 +91,10 @@ pub(crate) fn put_micros(out: &mut [u8], at: usize, n: u64) -> usize
     ensures place { result ≡ at + 6 }
     ensures text { take result out.new ≡ take at out.old ++ digits_in 6 n }
 {
+    let low = n % 10_000;
     let at = put(out, at, &two_digits(n / 10_000));
-    let at = put(out, at, &two_digits(n / 100 % 100));
-    put(out, at, &two_digits(n % 100))
+    let at = put(out, at, &two_digits(low / 100));
+    put(out, at, &two_digits(low % 100))
 }
 
 pub(crate) fn name_of(names: &IndexMap<u32, String>, number: u32) -> &str

@@ -49,3 +49,50 @@ impl Piece {
         at + self.len
     }
 }
+
+/// At most 32 bytes, which are copied as those of a [`Piece`] are.
+#[derive(Clone, Copy)]
+pub(crate) struct ShortPiece {
+    bytes: [u8; 32],
+    len: usize,
+    ghost short: { len ≤ 32 },
+}
+
+impl ShortPiece {
+    ghost use Rattle.std.specs.Prelude.{◌≡◌, ◌+◌, [], ◌++◌, length, take};
+    ghost use Rattle.switch_text.specs.private.Pieces.{short_text_of};
+
+    /// No byte.
+    #[inline(always)]
+    pub(crate) fn empty() -> ShortPiece
+        ensures { short_text_of result ≡ [] }
+    {
+        ShortPiece {
+            bytes: [0; 32],
+            len: 0,
+        }
+    }
+
+    /// A copy of a text.
+    pub(crate) fn of(text: &[u8]) -> ShortPiece
+        requires { length text.now ≤ 32 }
+        ensures { short_text_of result ≡ text.now }
+    {
+        let len = text.len();
+        let mut bytes = [0; 32];
+        bytes[..len].copy_from_slice(text);
+        ShortPiece { bytes, len }
+    }
+
+    /// Copies it to a place that has room for 32 bytes, and gives the place behind the text.
+    #[inline(always)]
+    pub(crate) fn put(&self, out: &mut [u8], at: usize) -> usize
+        requires { at + 32 ≤ length out.old }
+        ensures place { result ≡ at + length (short_text_of self.now) }
+        ensures short { result ≤ at + 32 }
+        ensures text { take result out.new ≡ take at out.old ++ short_text_of self.now }
+    {
+        out[at..at + 32].copy_from_slice(&self.bytes);
+        at + self.len
+    }
+}

@@ -1,14 +1,15 @@
-//! What lines say of tasks, idle CPUs, states and seconds, put together once and kept while a trace
-//! is written.
+//! What lines say of tasks, idle CPUs, states, and of a CPU in a second, put together once and kept
+//! while a trace is written.
 
-ghost use Rattle.std.specs.Prelude.{ℕ, ◌≡◌, ◌+◌, ◌<◌, ◌≤◌, length, slice_index_or, All, Option, Some, None, IfSome, IsTrue};
+ghost use Rattle.std.specs.Prelude.{ℕ, ◌≡◌, ◌+◌, ◌<◌, ◌≤◌, ◌++◌, length, slice_index_or, All, Option, Some, None, IfSome, IsTrue};
 ghost use Rattle.switch_text.specs.Names.{named, HasName};
-ghost use Rattle.switch_text.specs.private.Parts.{state_part};
-ghost use Rattle.switch_text.specs.private.Pieces.{text_of};
-ghost use Rattle.switch_text.specs.private.Ready.{IsReady, names_at, who_of, AreNobodys, IsSlot, IsClock, IsMiddles, IsTexts};
+ghost use Rattle.switch_text.specs.Line.{cpu_part};
+ghost use Rattle.switch_text.specs.private.Parts.{second_part, state_part};
+ghost use Rattle.switch_text.specs.private.Pieces.{short_text_of};
+ghost use Rattle.switch_text.specs.private.Ready.{IsReady, names_at, who_of, AreNobodys, IsSlot, IsLane, nth_state, IsMiddles, IsTexts};
 
-use crate::lines::{pid_for, put_coming, put_leaving, put_second, put_state, put_task};
-use crate::piece::Piece;
+use crate::lines::{pid_for, put_coming, put_cpu, put_leaving, put_second, put_state, put_task};
+use crate::piece::{Piece, ShortPiece};
 use crate::run::Run;
 use domain_run::PrevState;
 use indexmap::IndexMap;
@@ -20,6 +21,9 @@ const IDLE: usize = 128;
 const TASKS: usize = 512;
 
 const SLOTS: usize = 640;
+
+/// So many places for the texts of CPUs of the machine in a second.
+const LANES: usize = 128;
 
 /// Whose texts they are.
 #[derive(Clone, Copy, PartialEq, Eq)]
@@ -36,33 +40,31 @@ pub(crate) enum Who {
 pub(crate) struct Slot {
     pub(crate) who: Who,
     /// In front of a line, where it leaves.
-    pub(crate) head: Piece,
+    pub(crate) head: ShortPiece,
     /// The event's fields where it leaves, up to the state.
     pub(crate) leaving: Piece,
     /// The event's fields where it comes.
     pub(crate) coming: Piece,
 }
 
-/// The texts of the states.
+/// The texts of the states, in the order of the enum.
 #[derive(Clone, Copy)]
 pub(crate) struct Middles {
-    pub(crate) running: Piece,
-    pub(crate) preempted: Piece,
-    pub(crate) sleeping: Piece,
-    pub(crate) dead: Piece,
+    pub(crate) texts: [ShortPiece; 4],
 }
 
-/// A second, and its text.
+/// On which CPU of the machine and in which second, and the text of both.
 #[derive(Clone, Copy)]
-pub(crate) struct Clock {
+pub(crate) struct Lane {
+    pub(crate) cpu: u32,
     pub(crate) second: u64,
-    pub(crate) text: Piece,
+    pub(crate) text: ShortPiece,
 }
 
 /// What is kept beside the texts of tasks.
 #[derive(Clone, Copy)]
 pub(crate) struct Texts {
-    pub(crate) clock: Clock,
+    pub(crate) lanes: [Lane; LANES],
     pub(crate) middles: Middles,
 }
 
@@ -89,51 +91,59 @@ fn no_slot() -> Slot
 {
     Slot {
         who: Who::Nobody,
-        head: Piece::empty(),
+        head: ShortPiece::empty(),
         leaving: Piece::empty(),
         coming: Piece::empty(),
     }
 }
 
-fn middle_of(state: PrevState) -> Piece
-    ensures { text_of result ≡ state_part state }
+fn middle_of(state: PrevState) -> ShortPiece
+    ensures { short_text_of result ≡ state_part state }
 {
     let mut text = [0u8; 256];
     let len = put_state(&mut text, 0, state);
-    Piece::of(&text[..len])
+    ShortPiece::of(&text[..len])
 }
 
 fn all_middles() -> Middles
     ensures { IsMiddles result }
 {
+    let running = middle_of(PrevState::Running);
+    let preempted = middle_of(PrevState::Preempted);
+    let sleeping = middle_of(PrevState::Sleeping);
+    let dead = middle_of(PrevState::Dead);
     Middles {
-        running: middle_of(PrevState::Running),
-        preempted: middle_of(PrevState::Preempted),
-        sleeping: middle_of(PrevState::Sleeping),
-        dead: middle_of(PrevState::Dead),
+        texts: [running, preempted, sleeping, dead],
     }
 }
 
-fn clock_at(second: u64) -> Clock
-    requires { second < 10000000 }
+/// The text of a CPU of the machine and a second.
+fn lane_of(cpu: u32, second: u64) -> Lane
+    requires cpu { cpu < 512 }
+    requires second { second < 10000000 }
+    ensures cpu { result.cpu ≡ cpu }
     ensures second { result.second ≡ second }
-    ensures text { IsClock result }
+    ensures text { IsLane result }
 {
     let mut text = [0u8; 256];
-    let len = put_second(&mut text, 0, second);
-    Clock {
+    let at = put_cpu(&mut text, 0, cpu);
+    let len = put_second(&mut text, at, second);
+    Lane {
+        cpu,
         second,
-        text: Piece::of(&text[..len]),
+        text: ShortPiece::of(&text[..len]),
     }
 }
 
-/// The states and the first second.
+/// The states, and in each place CPU 0 in the first second.
 pub(crate) fn no_texts() -> Texts
     ensures { IsTexts result }
 {
+    let lane = lane_of(0, 0);
+    let middles = all_middles();
     Texts {
-        clock: clock_at(0),
-        middles: all_middles(),
+        lanes: [lane; LANES],
+        middles,
     }
 }
 
@@ -155,29 +165,85 @@ pub(crate) fn clear(slots: &mut [Slot])
     }
 }
 
-/// Lets the clock show this second.
-pub(crate) fn set_second(clock: &mut Clock, second: u64)
-    requires small { second < 10000000 }
-    requires right { IsClock clock.old }
-    ensures second { clock.new.second ≡ second }
-    ensures right { IsClock clock.new }
+/// Whether it is the text of this CPU of the machine and this second.
+#[inline(always)]
+fn is_lane(lane: &Lane, cpu: u32, second: u64) -> bool
+    ensures { IsTrue result → (lane.now.cpu ≡ cpu) × (lane.now.second ≡ second) }
 {
-    if clock.second != second {
-        *clock = clock_at(second);
+    lane.cpu == cpu && lane.second == second
+}
+
+/// Puts the text of a CPU of the machine and a second to a place.
+#[cold]
+#[inline(never)]
+fn refill_lane(lanes: &mut [Lane; LANES], place: usize, cpu: u32, second: u64)
+    requires place { place < 128 }
+    requires cpu { cpu < 512 }
+    requires second { second < 10000000 }
+    requires right { All IsLane lanes.old }
+    ensures right { All IsLane lanes.new }
+    ensures text { (d : Lane) → short_text_of (slice_index_or lanes.new place d).text
+        ≡ cpu_part cpu ++ second_part second }
+{
+    lanes[place] = lane_of(cpu, second);
+}
+
+/// Where the text of a CPU of the machine stands, whatever the second.
+#[inline(always)]
+fn lane_place(cpu: u32) -> usize
+    ensures { result < 128 }
+{
+    cpu as usize % LANES
+}
+
+/// The text at a place.
+#[inline(always)]
+pub(crate) fn lane_at(lanes: &[Lane; LANES], place: usize) -> &Lane
+    requires { place < 128 }
+    ensures { result.now ≡ slice_index_or lanes.now place result.now }
+{
+    &lanes[place]
+}
+
+/// Sees to it that the text of a CPU of the machine and a second is kept, and gives its place.
+#[inline(always)]
+pub(crate) fn keep_lane(lanes: &mut [Lane; LANES], cpu: u32, second: u64) -> usize
+    requires cpu { cpu < 512 }
+    requires second { second < 10000000 }
+    requires right { All IsLane lanes.old }
+    ensures inside { result < 128 }
+    ensures right { All IsLane lanes.new }
+    ensures text { (d : Lane) → short_text_of (slice_index_or lanes.new result d).text
+        ≡ cpu_part cpu ++ second_part second }
+{
+    let place = lane_place(cpu);
+    if !is_lane(&lanes[place], cpu, second) {
+        refill_lane(lanes, place, cpu, second);
+    }
+    place
+}
+
+/// The place of a state's text.
+#[inline(always)]
+fn place_of(state: PrevState) -> usize
+    ensures value { result ≡ nth_state state }
+    ensures inside { result < 4 }
+{
+    match state {
+        PrevState::Running => 0,
+        PrevState::Preempted => 1,
+        PrevState::Sleeping => 2,
+        PrevState::Dead => 3,
     }
 }
 
 /// The text of a state.
-pub(crate) fn middle(middles: &Middles, state: PrevState) -> &Piece
+#[inline(always)]
+pub(crate) fn middle(middles: &Middles, state: PrevState) -> &ShortPiece
     requires { IsMiddles middles.now }
-    ensures { text_of result.now ≡ state_part state }
+    ensures { short_text_of result.now ≡ state_part state }
 {
-    match state {
-        PrevState::Running => &middles.running,
-        PrevState::Preempted => &middles.preempted,
-        PrevState::Sleeping => &middles.sleeping,
-        PrevState::Dead => &middles.dead,
-    }
+    &middles.texts[place_of(state)]
 }
 
 /// The texts of a task or of an idle CPU.
@@ -190,7 +256,7 @@ fn make(names: &IndexMap<u32, String>, who: Who, cpu: u32, task: Option<u32>) ->
     let pid = pid_for(task);
     let mut text = [0u8; 256];
     let len = put_task(&mut text, 0, names, task, pid);
-    let head = Piece::of(&text[..len]);
+    let head = ShortPiece::of(&text[..len]);
     let len = put_leaving(&mut text, 0, names, cpu, task, pid);
     let leaving = Piece::of(&text[..len]);
     let len = put_coming(&mut text, 0, names, cpu, task, pid);

@@ -10,12 +10,18 @@ ghost use Rattle.counted_io.specs.Faults.{one_more_unless, TakesFront};
 ghost use Rattle.switch_text.specs.private.Merging.{next_entry, IsPrinted, IsRunAt};
 ghost use Rattle.switch_text.specs.private.Sending.{Sends};
 ghost use Rattle.switch_text.specs.private.Sliced.{lines_in};
+ghost use Rattle.switch_text.specs.Line.{digits_in};
+ghost use Rattle.switch_text.specs.private.Parts.{event_part};
+ghost use Rattle.switch_text.specs.private.Pieces.{text_of, short_text_of};
 ghost use Rattle.switch_text.specs.private.Ready.{AreNobodys, IsSlot, IsTexts};
 
 use crate::batch::{Batch, Front};
 use crate::fault::WriteFault;
 use crate::merge::{Next, earliest};
-use crate::ready::{Slot, Texts, TraceRoom, middle, no_slots, no_texts, seat, set_second};
+use crate::piece::ShortPiece;
+use crate::ready::{
+    Lane, Slot, Texts, TraceRoom, keep_lane, lane_at, middle, no_slots, no_texts, seat,
+};
 use crate::run::Run;
 use counted_io::Counted;
 use std::io::Write;
@@ -26,6 +32,25 @@ pub(crate) fn header_text() -> &'static [u8]
     ensures short { length result.now ≤ 256 }
 {
     b"# tracer: nop\n"
+}
+
+/// Adds the front of a line, up to the name of who comes, from the texts of who leaves.
+#[inline(always)]
+fn append_leaving(slot: &Slot, lane: &Lane, micros: u64, state: &ShortPiece, batch: &mut Batch)
+    requires micros { micros < 1000000 }
+    requires room { length batch.old ≤ 65152 }
+    ensures text { batch.new ≡ batch.old ++ (short_text_of slot.now.head
+        ++ short_text_of lane.now.text ++ digits_in 6 micros ++ event_part
+        ++ text_of slot.now.leaving ++ short_text_of state.now) }
+    ensures short { length batch.new ≤ length batch.old + 320 }
+{
+    batch.append_front(&Front {
+        head: &slot.head,
+        lane: &lane.text,
+        micros,
+        leaving: &slot.leaving,
+        state,
+    });
 }
 
 /// Adds the line of the next switch.
@@ -52,20 +77,14 @@ pub(crate) fn append_line(
 {
     let switch = next.switch;
     let cpu = next.run.base + u32::from(switch.cpu);
-    set_second(&mut texts.clock, switch.time / 1_000_000);
+    let micros = switch.time % 1_000_000;
+    let kept = keep_lane(&mut texts.lanes, cpu, switch.time / 1_000_000);
     let place = seat(slots, runs, next.index, cpu, switch.prev);
-    let prev = slots[place];
-    batch.append_front(&Front {
-        head: &prev.head,
-        cpu,
-        second: &texts.clock.text,
-        micros: switch.time % 1_000_000,
-        leaving: &prev.leaving,
-        state: middle(&texts.middles, switch.state),
-    });
+    let lane = lane_at(&texts.lanes, kept);
+    let state = middle(&texts.middles, switch.state);
+    append_leaving(&slots[place], lane, micros, state, batch);
     let place = seat(slots, runs, next.index, cpu, switch.next);
-    let coming = slots[place].coming;
-    batch.append_end(&coming);
+    batch.append_end(&slots[place].coming);
 }
 
 pub(crate) fn stopped_after(written: usize, more: usize) -> WriteFault

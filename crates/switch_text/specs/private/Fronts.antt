@@ -1,11 +1,11 @@
 -- A line up to the name of who comes, of parts that are kept ready.
 use Rattle.std.specs.Prelude.{ℕ, List, ◌++◌}
 use Rattle.switch_text.specs.declared.batch.Front.{Front}
-use Rattle.switch_text.specs.Line.{cpu_part, digits_in}
+use Rattle.switch_text.specs.Line.{digits_in}
 use Rattle.switch_text.specs.private.Parts.{event_part}
-use Rattle.switch_text.specs.private.Pieces.{text_of}
+use Rattle.switch_text.specs.private.Pieces.{text_of, short_text_of}
 
 abbrev pub front_text : Front → List ℕ
 front_text f =
-    text_of f.head.now ++ cpu_part f.cpu ++ text_of f.second.now ++ digits_in 6 f.micros
-    ++ event_part ++ text_of f.leaving.now ++ text_of f.state.now
+    short_text_of f.head.now ++ short_text_of f.lane.now ++ digits_in 6 f.micros
+    ++ event_part ++ text_of f.leaving.now ++ short_text_of f.state.now

@@ -1,21 +1,23 @@
 -- What lines say of tasks, idle CPUs and states, put together once and kept.
-use Rattle.std.specs.Prelude.{ℕ, zero, suc, ◌≡◌, List, [], ◌∷◌, All, Option, Some, None}
+use Rattle.std.specs.Prelude.{ℕ, zero, suc, ◌≡◌, List, [], ◌∷◌, ◌++◌, slice_index_or, All, Option, Some, None}
+use Rattle.domain_run.specs.declared.switch.PrevState.{PrevState}
 use Rattle.domain_run.specs.declared.switch.PrevState.TheVariants.{Running, Preempted, Sleeping, Dead}
 use Rattle.switch_text.specs.declared.run.Run.{Run}
 use Rattle.switch_text.specs.declared.ready.Who.{Who}
 use Rattle.switch_text.specs.declared.ready.Who.TheVariants.{Nobody, Idle, Task}
 use Rattle.switch_text.specs.declared.ready.Slot.{Slot}
 use Rattle.switch_text.specs.declared.ready.Middles.{Middles}
-use Rattle.switch_text.specs.declared.ready.Clock.{Clock}
+use Rattle.switch_text.specs.declared.ready.Lane.{Lane}
+use Rattle.switch_text.specs.declared.piece.ShortPiece.{ShortPiece}
 use Rattle.switch_text.specs.declared.ready.Texts.{Texts}
 use Rattle.switch_text.specs.Names.{named}
-use Rattle.switch_text.specs.Line.{task_part}
+use Rattle.switch_text.specs.Line.{task_part, cpu_part}
 use Rattle.switch_text.specs.private.Parts.{second_part, leaving_part, state_part, coming_part}
-use Rattle.switch_text.specs.private.Pieces.{text_of}
+use Rattle.switch_text.specs.private.Pieces.{text_of, short_text_of}
 
 -- the texts of a task, or of an idle CPU
 pub record IsReady (names : ℕ → List ℕ) (cpu : ℕ) (task : Option ℕ) (s : Slot) : Type 0 where
-  pub head : text_of s.head ≡ task_part names task
+  pub head : short_text_of s.head ≡ task_part names task
   pub leaving : text_of s.leaving ≡ leaving_part names cpu task
   pub coming : text_of s.coming ≡ coming_part names cpu task
 
@@ -44,16 +46,22 @@ AreNobodys slots = All (λ s. s.who ≡ Nobody) slots
 abbrev pub IsSlot : List Run → Slot → Type 0
 IsSlot runs s = IsFor runs s.who s
 
-abbrev pub IsClock : Clock → Type 0
-IsClock c = text_of c.text ≡ second_part c.second
+-- the text is that of the CPU of the machine and of the second
+abbrev pub IsLane : Lane → Type 0
+IsLane l = short_text_of l.text ≡ cpu_part l.cpu ++ second_part l.second
 
-pub record IsMiddles (m : Middles) : Type 0 where
-  pub running : text_of m.running ≡ state_part Running
-  pub preempted : text_of m.preempted ≡ state_part Preempted
-  pub sleeping : text_of m.sleeping ≡ state_part Sleeping
-  pub dead : text_of m.dead ≡ state_part Dead
+-- the place of a state's text
+abbrev pub nth_state : PrevState → ℕ
+nth_state Running = 0
+nth_state Preempted = 1
+nth_state Sleeping = 2
+nth_state Dead = 3
+
+abbrev pub IsMiddles : Middles → Type 0
+IsMiddles m = (state : PrevState) (d : ShortPiece)
+    → short_text_of (slice_index_or m.texts (nth_state state) d) ≡ state_part state
 
 -- what is kept beside them is right
 pub record IsTexts (t : Texts) : Type 0 where
-  pub clock : IsClock t.clock
+  pub lanes : All IsLane t.lanes
   pub middles : IsMiddles t.middles

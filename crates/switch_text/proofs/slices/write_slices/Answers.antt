@@ -1,10 +1,10 @@
-use Rattle.std.proofs.Common.{◌≡◌, ◌∙◌, length, refl, ap, arith}
+use Rattle.std.proofs.Common.{◌≡◌, ◌∙◌, [], length, refl, ap, arith}
 use Rattle.counted_io.specs.Sides.{inner_of}
 use Rattle.switch_text.specs.Trace.{header}
 use Rattle.switch_text.specs.SlicedTrace.{sliced_trace}
 use Rattle.switch_text.proofs.UnderWay.{length-header}
 use Rattle.switch_text.proofs.Sliced.{ends_all, stops_all}
-use Rattle.switch_text.proofs.Slicing.{IsSlicing-start, IsSlicing-next, IsSlicing-stops, IsSlicing-ends, sliced_fits}
+use Rattle.switch_text.proofs.Slicing.{IsSlicing-start, IsSlicing-next, IsSlicing-stops, IsSlicing-ends, sliced_fits, end_of_end}
 use Rattle.switch_text.proofs.slices.write_slices.Goals as goal
 
 pub loop-slots-init : goal.loop-slots-init
@@ -15,6 +15,7 @@ loop-slots-init g c =
       base = refl;
       names = λ number. refl;
       slicing = IsSlicing-start (g.W.Write.contents (inner_of c.args.writer.now)) (g.S.Slices.base slices) (g.S.Slices.names slices) (g.S.Slices.rest slices) c.append.new.self waiting;
+      left = ([], refl);
       room = omega (arith, ap length waiting, length-header);
       many = ap length c.as_mut_slice-slots.ensures.value ∙ c.args.room.many;
       texts = c.no_texts-texts.ensures;
@@ -43,6 +44,7 @@ loop-slots-preserved g c =
       slicing = IsSlicing-next (g.W.Write.contents (inner_of c.args.writer.now)) (g.W.Write.contents (inner_of l.writer)) (g.W.Write.contents (inner_of c.send_slice.new.writer))
           (g.S.Slices.base slices) (g.S.Slices.base now) (g.S.Slices.names slices) (g.S.Slices.names now) (g.S.Slices.rest slices) (g.S.Slices.rest l.slices) (g.S.Slices.at_hand now) (g.S.Slices.rest now)
           l.written c.in-Ok.n l.batch c.send_slice.new.batch l.invariant.slicing c.go_on.ensures.rest is_base (λ number. c.go_on.ensures.names number ∙ l.invariant.names number) c.in-Ok.ensures.ok c.in-Ok.ensures.bound;
+      left = end_of_end (g.S.Slices.rest slices) (g.S.Slices.rest l.slices) (g.S.Slices.at_hand now) (g.S.Slices.rest now) l.invariant.left c.go_on.ensures.rest;
       room = c.in-Ok.ensures.room;
       many = c.send_slice.ensures.many;
       texts = c.send_slice.ensures.texts;
@@ -76,3 +78,6 @@ returns-clause-err g c =
     let text = sliced_trace (g.S.Slices.base slices) (g.S.Slices.names slices) (g.S.Slices.rest slices) in
     let sends = IsSlicing-ends _ _ (g.S.Slices.base slices) (g.S.Slices.names slices) (g.S.Slices.rest slices) (g.S.Slices.rest l.slices) l.written l.batch l.invariant.slicing (c.go_on.ensures.none c.loop-slots-test.false) in
     rw c.stopped_after-in-Err-flush.ensures (stops_all _ _ _ text l.batch l.written c.in-Err-flush.n sends c.in-Err-flush.ensures.err)
+
+pub returns-in-Err-clause-left : goal.returns-in-Err-clause-left
+returns-in-Err-clause-left g c = end_of_end (g.S.Slices.rest c.args.slices.now) (g.S.Slices.rest c.loop-slots.slices) (g.S.Slices.at_hand c.go_on.new.self) (g.S.Slices.rest c.go_on.new.self) c.loop-slots.invariant.left c.go_on.ensures.rest

@@ -1,5 +1,6 @@
 use Rattle.std.proofs.Common.{ℕ, length, ◌≡◌, ◌≤◌}
 use Rattle.counted_io.specs.Sides.{inner_of}
+use Rattle.switch_text.specs.SlicedTrace.{IsEndOf}
 use Rattle.switch_text.specs.private.Ready.{IsTexts}
 use Rattle.switch_text.specs.private.Sliced.{IsSlicing}
 use Rattle.switch_text.proofs.slices.write_slices.Given as goal
@@ -9,6 +10,7 @@ invariant-loop-slots g l = record {
   base : g.S.Slices.base l.slices ≡ g.S.Slices.base l.fn.slices;
   names : (number : ℕ) → g.S.Slices.names l.slices number ≡ g.S.Slices.names l.fn.slices number;
   slicing : IsSlicing (g.W.Write.contents (inner_of l.fn.writer)) (g.W.Write.contents (inner_of l.writer)) (g.S.Slices.base l.fn.slices) (g.S.Slices.names l.fn.slices) (g.S.Slices.rest l.fn.slices) (g.S.Slices.rest l.slices) l.written l.batch;
+  left : IsEndOf (g.S.Slices.rest l.fn.slices) (g.S.Slices.rest l.slices);
   room : length l.batch ≤ 65536;
   many : length l.slots ≡ 640;
   texts : IsTexts l.texts;

@@ -1,7 +1,5 @@
-use Rattle.std.proofs.Common.{◌+◌, get_or, ap, sym, subst, ◌∙◌}
-use Rattle.switch_text.specs.private.Parts.{second_part}
-use Rattle.switch_text.specs.private.Pieces.{text_of}
-use Rattle.switch_text.specs.private.Ready.{IsReady, names_at}
+use Rattle.std.proofs.Common.{◌+◌, get_or, ap, ◌∙◌}
+use Rattle.switch_text.specs.private.Pieces.{short_text_of}
 use Rattle.switch_text.proofs.Kept.{names_at-is, line_made}
 use Rattle.switch_text.proofs.writing.append_line.Goals as goal
 
@@ -12,10 +10,11 @@ returns-clause-text c =
     let run = next.run.now in
     let s = next.switch.now in
     let cpu = run.base + c.from.result in
-    let prev = c.index-slots-place.result in
+    let prev = get_or c.seat-place.new.slots c.seat-place.result c.index-slots-place.result in
     let coming = get_or c.seat-place-2.new.slots c.seat-place-2.result c.index-slots-place-2.result in
-    let leaves = subst (λ t. IsReady (names_at runs next.index) cpu s.prev t) (sym c.index-slots-place.is) (c.seat-place.ensures.texts prev) in
+    let leaves = c.seat-place.ensures.texts c.index-slots-place.result in
     let comes = c.seat-place-2.ensures.texts c.index-slots-place-2.result in
+    let lane = c.lane_at-lane.result.now in
     let names = names_at-is runs next.index run c.requires.run.inside c.requires.run.is in
-    line_made runs next.index run s cpu prev coming (text_of c.set_second.new.clock.text) (text_of c.middle.result.now) c.args.batch.now c.append_front.new.self c.append_end.new.self
-    names (ap (λ n. run.base + n) c.from.ensures) leaves comes (c.set_second.ensures.right ∙ ap second_part c.set_second.ensures.second) c.middle.ensures c.append_front.ensures.text c.append_end.ensures.text
+    line_made runs next.index run s cpu prev coming (short_text_of lane.text) (short_text_of c.middle-state.result.now) c.args.batch.now c.append_leaving.new.batch c.append_end.new.self
+    names (ap (λ n. run.base + n) c.from.ensures) leaves comes (ap (λ l. short_text_of l.text) c.lane_at-lane.ensures ∙ c.keep_lane-kept.ensures.text lane) c.middle-state.ensures c.append_leaving.ensures.text c.append_end.ensures.text
