@@ -17,12 +17,12 @@ use Rattle.switch_text.proofs.CallerLemmas.{is_earlier-entry}
 use Rattle.switch_text.proofs.Order.{AllByRecursion-weaker, not_later-from_earlier, in_order-first}
 
 -- the first entry from a place on, and the others
-entries_from : (r : RunView) (p : ℕ) (s : Switch) → p < length r.switches → s ≡ get_or r.switches p s → drop p (entries_of r) ≡ entry_of r s ∷ drop (p + 1) (entries_of r)
+pub entries_from : (r : RunView) (p : ℕ) (s : Switch) → p < length r.switches → s ≡ get_or r.switches p s → drop p (entries_of r) ≡ entry_of r s ∷ drop (p + 1) (entries_of r)
 entries_from r p s lt is =
     let here : drop p r.switches ≡ s ∷ drop (p + 1) r.switches = drop_more r.switches p s lt ∙ ap (λ (x : Switch). x ∷ drop (p + 1) r.switches) (sym is) in
     drop-map (entry_of r) p r.switches ∙ ap (map (entry_of r)) here ∙ ap (λ (es : List Entry). entry_of r s ∷ es) (sym (drop-map (entry_of r) (p + 1) r.switches))
 
-none_from : (r : RunView) (p : ℕ) → length r.switches ≤ p → drop p (entries_of r) ≡ []
+pub none_from : (r : RunView) (p : ℕ) → length r.switches ≤ p → drop p (entries_of r) ≡ []
 none_from r p le = drop_all p (entries_of r) (omega (arith, length-map r.switches (entry_of r)))
 
 -- the entries behind a place are later than the one there

@@ -6,6 +6,8 @@ mod Kept
 mod Order
 mod Ahead
 mod Found
+mod Winning
+mod Merged
 mod Few
 mod UnderWay
 mod Sliced
