@@ -4,7 +4,7 @@ use Rattle.std.specs.Prelude.{All, IsTrue, ◌↔◌}
 use Rattle.std.specs.List.{AllByRecursion}
 use Rattle.std.proofs.lemmas.Bool.{cases_lt, cases_eq}
 use Rattle.std.proofs.lemmas.Bool.Decides.{nat_tests}
-use Rattle.std.proofs.lemmas.List.{length-map, length-set, get_or-map, get_or-replicate, get_or-set_same, drop-map, drop_more}
+use Rattle.std.proofs.lemmas.List.{length-map, length-set, get_or-map, get_or-replicate, get_or-set_same, drop-map, drop_more, drop_all}
 use Rattle.std.proofs.lemmas.List.Elements.{recursion_from_All}
 use Rattle.domain_run.specs.declared.switch.Switch.{Switch}
 use Rattle.switch_text.specs.declared.run.Run.{Run}
@@ -12,17 +12,24 @@ use Rattle.switch_text.specs.declared.merge.Next.{Next}
 use Rattle.switch_text.specs.declared.merge.Merge.{Merge}
 use Rattle.switch_text.specs.declared.heads.Head.{Head}
 use Rattle.switch_text.specs.Names.{HasLine}
-use Rattle.switch_text.specs.Trace.{RunView, Entry, entry_of, entries_of, is_earlier}
+use Rattle.switch_text.specs.Trace.{RunView, Entry, entry_of, entries_of, is_earlier, in_order}
 use Rattle.switch_text.specs.Runs.{view_of, views, IsRun}
 use Rattle.switch_text.specs.private.Merging.{left_of, stepped, IsAhead, IsNextOf, IsRunAt, next_entry}
 use Rattle.switch_text.specs.private.Winning.{no_head, head_of, is_sooner, head_in, Wins, left_at, IsMerge}
 use Rattle.switch_text.proofs.CallerLemmas.{IsRising, IsRising-map}
-use Rattle.switch_text.proofs.Order.{AllByRecursion-weaker, AllByRecursion-append, earlier_trans, not_later-from_earlier}
-use Rattle.switch_text.proofs.Ahead.{run_not_earlier}
-use Rattle.switch_text.proofs.Found.{entries_from, none_from}
+use Rattle.switch_text.proofs.Order.{AllByRecursion-weaker, AllByRecursion-append, earlier_trans, not_later_trans, not_later-from_earlier, in_order-first}
 use Rattle.switch_text.proofs.Winning.{head_set_same, head_set_other}
 
 -- ---- what is left of each run
+
+-- the first entry from a place on, and the others
+entries_from : (r : RunView) (p : ℕ) (s : Switch) → p < length r.switches → s ≡ get_or r.switches p s → drop p (entries_of r) ≡ entry_of r s ∷ drop (p + 1) (entries_of r)
+entries_from r p s lt is =
+    let here : drop p r.switches ≡ s ∷ drop (p + 1) r.switches = drop_more r.switches p s lt ∙ ap (λ (x : Switch). x ∷ drop (p + 1) r.switches) (sym is) in
+    drop-map (entry_of r) p r.switches ∙ ap (map (entry_of r)) here ∙ ap (λ (es : List Entry). entry_of r s ∷ es) (sym (drop-map (entry_of r) (p + 1) r.switches))
+
+none_from : (r : RunView) (p : ℕ) → length r.switches ≤ p → drop p (entries_of r) ≡ []
+none_from r p le = drop_all p (entries_of r) (omega (arith, length-map r.switches (entry_of r)))
 
 pub left_at-is : (runs : List RunView) (places : List ℕ) (i : ℕ) (r : RunView) → i < length runs → i < length places → r ≡ get_or runs i r → left_at runs places i ≡ drop (get_or places i 0) (entries_of r)
 left_at-is [] places i r h h' is = absurd (omega arith)
@@ -120,6 +127,10 @@ early_at (r ∷ rs) (p ∷ ps) zero all = early_drop p (entries_of (view_of r)) 
 early_at (r ∷ rs) (p ∷ ps) (suc i) all = early_at rs ps i all.1
 
 -- ---- what heads say of entries
+
+-- where the first of a run is not earlier, none of it is
+run_not_earlier : (e h : Entry) (rest : List Entry) → is_earlier h e ≡ false → AllByRecursion (λ x. is_earlier h x ≡ true) rest → AllByRecursion (λ x. is_earlier x e ≡ false) (h ∷ rest)
+run_not_earlier e h rest le rising = (le, AllByRecursion-weaker (λ x. is_earlier h x ≡ true) (λ x. is_earlier x e ≡ false) rest (λ x q. not_later_trans e h x le q) rising)
 
 early_head : (es : List Entry) → AllByRecursion IsEarly es → is_sooner no_head (head_of es) ≡ false
 early_head [] all = refl
@@ -322,3 +333,11 @@ heads_stepped runs m i k run head heads merge at inside place is are j lt =
           head_set_same m.heads.heads i head j same inside ∙ is ∙ sym (ap head_of (left_stepped runs m.places i run at)) ∙ ap (λ (n : ℕ). head_of (left_at (views runs) (stepped m.places i) n)) (sym same)
       | inr apart ↦ head_set_other m.heads.heads i head j apart ∙ merge.heads j lt ∙ sym (ap head_of (left_at-set_other (views runs) m.places i (get_or m.places i 0 + 1) j apart))
     ]
+
+-- in the order of the trace the next entry comes first
+pub in_order-next : (runs : List Run) (places : List ℕ) (n : Next) → IsNextOf runs places n
+    → in_order (left_of (views runs) places) ≡ next_entry n ∷ in_order (left_of (views runs) (stepped places n.index))
+in_order-next runs places n next =
+    let a = next.ahead in
+    let e = next_entry n in
+    ap in_order a.split ∙ in_order-first a.before e a.after a.earlier a.not_later ∙ ap (λ (es : List Entry). e ∷ in_order es) (sym a.moved)

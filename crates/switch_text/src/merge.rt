@@ -3,7 +3,7 @@
 ghost use Rattle.std.specs.Prelude.{ℕ, ◌≡◌, ◌+◌, ◌<◌, ◌≤◌, ◌^◌, length, drop, replicate, slice_index, slice_index_or, All, IfSome, IsTrue, ◌↔◌};
 ghost use Rattle.switch_text.specs.Trace.{entries_of};
 ghost use Rattle.switch_text.specs.Runs.{view_of, views, IsRun};
-ghost use Rattle.switch_text.specs.private.Merging.{stepped, IsFound, IsPrinted, IsRunAt, is_better};
+ghost use Rattle.switch_text.specs.private.Merging.{stepped, IsFound, IsRunAt};
 ghost use Rattle.switch_text.specs.private.Winning.{head_of, IsMerge};
 
 use crate::heads::{Head, Heads};
@@ -17,25 +17,6 @@ pub(crate) struct Next<'a, 'b> {
     pub(crate) index: usize,
     pub(crate) run: &'a Run<'b>,
     pub(crate) switch: &'b Switch,
-}
-
-/// Whether it is earlier by time and CPU of the machine than the best so far.
-fn is_earlier_than(next: &Next<'_, '_>, best: &Option<Next<'_, '_>>) -> bool
-    requires next { IsPrinted next.now }
-    requires best { IfSome best.now IsPrinted }
-    ensures { result ≡ is_better next.now best.now }
-{
-    match best {
-        None => true,
-        Some(best) => {
-            let time = next.switch.time;
-            let best_time = best.switch.time;
-            time < best_time
-                || (time == best_time
-                    && next.run.base + u32::from(next.switch.cpu)
-                        < best.run.base + u32::from(best.switch.cpu))
-        }
-    }
 }
 
 /// Whether a switch stands at a place of a run.
@@ -59,26 +40,6 @@ fn next_in<'a, 'b>(run: &'a Run<'b>, index: usize, place: usize) -> Next<'a, 'b>
         run,
         switch: &run.switches[place],
     }
-}
-
-/// The earliest switch by time and CPU of the machine, where each run goes on from its place, or
-/// none where nothing is left. Of switches of one time and CPU, that of the first run.
-pub(crate) fn earliest<'a, 'b>(runs: &'a [Run<'b>], places: &[usize; 8]) -> Option<Next<'a, 'b>>
-    requires few { length runs.now ≤ 8 }
-    requires runs { All IsRun runs.now }
-    ensures { IsFound runs.now places.now result }
-{
-    let mut best = None;
-    for (i, run) in runs.iter().enumerate() {
-        let place = places[i];
-        if is_left(run, place) {
-            let next = next_in(run, i, place);
-            if is_earlier_than(&next, &best) {
-                best = Some(next);
-            }
-        }
-    }
-    best
 }
 
 /// How far each of several runs has gone, and their heads.

@@ -7,7 +7,7 @@ use Rattle.switch_text.specs.private.Merging.{next_entry, stepped}
 use Rattle.switch_text.specs.private.Sliced.{lines_in, IsSending}
 use Rattle.switch_text.proofs.Few.{few}
 use Rattle.switch_text.proofs.Kept.{nobody_is_slot}
-use Rattle.switch_text.proofs.Found.{in_order-next}
+use Rattle.switch_text.proofs.Merged.{in_order-next}
 use Rattle.switch_text.proofs.UnderWay.{sent_within, Sends-more, length_from_append}
 use Rattle.switch_text.proofs.Sliced.{IsSending-start, IsSending-next, IsSending-stops, IsSending-ends, sent_fits}
 use Rattle.switch_text.proofs.writing.send_runs.Goals as goal
