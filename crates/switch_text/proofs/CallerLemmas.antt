@@ -34,7 +34,7 @@ all_earlier : (r : RunView) (s : Switch) (ss : List Switch) → AllByRecursion (
 all_earlier r s [] h = tt
 all_earlier r s (x ∷ xs) h = (is_earlier-entry r s x h.0, all_earlier r s xs h.1)
 
-IsRising-map : (r : RunView) (ss : List Switch) → AllPairs (λ a b. IsTrue (is_before a b)) ss → IsRising (map (entry_of r) ss)
+pub IsRising-map : (r : RunView) (ss : List Switch) → AllPairs (λ a b. IsTrue (is_before a b)) ss → IsRising (map (entry_of r) ss)
 IsRising-map r [] h = tt
 IsRising-map r (s ∷ ss) h =
     let first : All (λ x. IsTrue (is_before s x)) ss = λ k d lt. h 0 (suc k) d (omega arith) (omega arith) in

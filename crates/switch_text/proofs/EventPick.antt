@@ -11,7 +11,6 @@ use Rattle.switch_text.specs.declared.run.Run.{Run}
 use Rattle.switch_text.specs.declared.told.Told.{Told}
 use Rattle.switch_text.specs.declared.merge.Next.{Next}
 use Rattle.switch_text.specs.declared.told_merge.NextTold.{NextTold}
-use Rattle.switch_text.specs.declared.event_merge.EventPlaces.{EventPlaces}
 use Rattle.switch_text.specs.declared.event_merge.NextEvent.{NextEvent}
 use Rattle.switch_text.specs.Trace.{Entry, is_earlier}
 use Rattle.switch_text.specs.Runs.{views}
@@ -19,7 +18,7 @@ use Rattle.switch_text.specs.Events.{ToldView, Event, comes_before, in_sequence,
 use Rattle.switch_text.specs.Telling.{told_views}
 use Rattle.switch_text.specs.private.Merging.{left_of, stepped, next_entry, IsNextOf, IsFound}
 use Rattle.switch_text.specs.private.ToldMerging.{is_shown, left_told, count_left, next_told_event, IsToldAhead, IsShown, IsNextOrCut, IsNextTold, IsToldFound}
-use Rattle.switch_text.specs.private.EventMerging.{of_entry, left_events, after_next, first_of, IsStep, IsNextEvent, IsEventFound}
+use Rattle.switch_text.specs.private.EventMerging.{EventPlaces, of_entry, left_events, after_next, first_of, IsStep, IsNextEvent, IsEventFound}
 use Rattle.switch_text.proofs.Order.{AllByRecursion-weaker, AllByRecursion-append}
 use Rattle.switch_text.proofs.EventOrder.{in_sequence-first}
 

@@ -4,8 +4,8 @@ mod Overhang
 mod Digits
 mod Kept
 mod Order
-mod Ahead
-mod Found
+mod Winning
+mod Merged
 mod Few
 mod UnderWay
 mod Sliced

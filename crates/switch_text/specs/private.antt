@@ -7,3 +7,4 @@ pub mod Ready
 pub mod Sending
 pub mod Sliced
 pub mod ToldMerging
+pub mod Winning

@@ -1,12 +1,13 @@
 //! What comes next of all that happens and of all switches.
 
-ghost use Rattle.std.specs.Prelude.{ℕ, ◌≡◌, ◌≤◌, length, All};
-ghost use Rattle.switch_text.specs.Runs.{IsRun};
+ghost use Rattle.std.specs.Prelude.{ℕ, ◌≡◌, ◌≤◌, length, replicate, All};
+ghost use Rattle.switch_text.specs.Runs.{views, IsRun};
 ghost use Rattle.switch_text.specs.Telling.{IsTold};
 ghost use Rattle.switch_text.specs.private.EventMerging as merging;
-ghost use Rattle.switch_text.specs.private.EventMerging.{after_next, CanStep, IsEventFound};
+ghost use Rattle.switch_text.specs.private.EventMerging.{after_next, places_of, CanShow, CanStep, IsEventFound};
+ghost use Rattle.switch_text.specs.private.Winning.{IsMerge};
 
-use crate::merge::{Next, earliest};
+use crate::merge::{Merge, Next};
 use crate::run::Run;
 use crate::told::Told;
 use crate::told_lines::has_a_line;
@@ -21,20 +22,39 @@ pub(crate) enum NextEvent<'a, 'b, 'c, 'd> {
 
 /// How far each domain has gone, in its switches and in what happens.
 #[derive(Drop)]
-pub(crate) struct EventPlaces {
-    pub(crate) switches: [usize; 8],
+pub(crate) struct EventMerge {
+    pub(crate) switches: Merge,
     pub(crate) told: [usize; 8],
 }
 
-impl EventPlaces {
+impl EventMerge {
+    /// Each domain goes on from its start.
+    pub(crate) fn start(runs: &[Run<'_>]) -> EventMerge
+        requires few { length runs.now ≤ 8 }
+        requires runs { All IsRun runs.now }
+        ensures switches { result.switches.places ≡ replicate 8 0 }
+        ensures told { result.told ≡ replicate 8 0 }
+        ensures heads { IsMerge (views runs.now) result.switches }
+    {
+        EventMerge {
+            switches: Merge::start(runs),
+            told: [0; 8],
+        }
+    }
+
     /// Goes on by what comes next.
-    pub(crate) fn step(&mut self, next: &NextEvent<'_, '_, '_, '_>)
-        requires { CanStep self.old next.now }
-        ensures { self.new ≡ after_next self.old next.now }
+    pub(crate) fn step(&mut self, runs: &[Run<'_>], next: &NextEvent<'_, '_, '_, '_>)
+        requires few { length runs.now ≤ 8 }
+        requires runs { All IsRun runs.now }
+        requires places { CanStep (places_of self.old) next.now }
+        requires shown { CanShow runs.now next.now }
+        requires heads { IsMerge (views runs.now) self.old.switches }
+        ensures places { places_of self.new ≡ after_next (places_of self.old) next.now }
+        ensures heads { IsMerge (views runs.now) self.new.switches }
     {
         match next {
             NextEvent::Told(next) => self.told[next.index] += 1,
-            NextEvent::Switch(next) => self.switches[next.index] += 1,
+            NextEvent::Switch(next) => self.switches.step(runs, next),
         }
     }
 }
@@ -70,16 +90,14 @@ fn first_of<'a, 'b, 'c, 'd>(
 pub(crate) fn next_event<'a, 'b, 'c, 'd>(
     runs: &'c [Run<'d>],
     told: &'a [Told<'b>],
-    places: &EventPlaces,
+    merge: &EventMerge,
 ) -> Option<NextEvent<'a, 'b, 'c, 'd>>
     requires few_runs { length runs.now ≤ 8 }
     requires few_told { length told.now ≤ 8 }
     requires runs { All IsRun runs.now }
     requires told { All IsTold told.now }
-    ensures { IsEventFound runs.now told.now places.now result }
+    requires heads { IsMerge (views runs.now) merge.now.switches }
+    ensures { IsEventFound runs.now told.now (places_of merge.now) result }
 {
-    first_of(
-        next_told(told, &places.told),
-        earliest(runs, &places.switches),
-    )
+    first_of(next_told(told, &merge.told), merge.switches.next(runs))
 }

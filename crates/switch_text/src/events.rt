@@ -12,7 +12,7 @@ ghost use Rattle.switch_text.specs.private.Ready.{AreNobodys, IsSlot, IsTexts};
 ghost use Rattle.switch_text.specs.private.ToldMerging.{next_told_event, IsShown};
 
 use crate::batch::Batch;
-use crate::event_merge::{EventPlaces, NextEvent, next_event};
+use crate::event_merge::{EventMerge, NextEvent, next_event};
 use crate::fault::WriteFault;
 use crate::ready::{Slot, Texts, TraceRoom, no_texts};
 use crate::run::Run;
@@ -90,13 +90,10 @@ fn write_with<W: Write>(
     let mut batch = Batch::new();
     batch.append(header_text());
     let mut written = 0;
-    let mut places = EventPlaces {
-        switches: [0; 8],
-        told: [0; 8],
-    };
+    let mut merge = EventMerge::start(runs);
     let mut texts = no_texts();
-    while let Some(next) = next_event(runs, told, &places) {
-        places.step(&next);
+    while let Some(next) = next_event(runs, told, &merge) {
+        merge.step(runs, &next);
         match batch.make_room(writer) {
             Ok(n) => written += n,
             Err(n) => return Err(stopped_after(written, n)),

@@ -24,6 +24,7 @@ mod batch;
 mod event_merge;
 mod events;
 mod fault;
+mod heads;
 mod lines;
 mod merge;
 mod piece;

@@ -1,9 +1,12 @@
 //! Which switch of several runs comes next.
 
-ghost use Rattle.std.specs.Prelude.{ℕ, ◌≡◌, ◌+◌, ◌<◌, ◌≤◌, ◌^◌, length, slice_index_or, All, IfSome, IsTrue, ◌↔◌};
-ghost use Rattle.switch_text.specs.Runs.{IsRun};
-ghost use Rattle.switch_text.specs.private.Merging.{IsFound, IsPrinted, is_better};
+ghost use Rattle.std.specs.Prelude.{ℕ, ◌≡◌, ◌+◌, ◌<◌, ◌≤◌, ◌^◌, length, drop, replicate, slice_index, slice_index_or, All, IfSome, IsTrue, ◌↔◌};
+ghost use Rattle.switch_text.specs.Trace.{entries_of};
+ghost use Rattle.switch_text.specs.Runs.{view_of, views, IsRun};
+ghost use Rattle.switch_text.specs.private.Merging.{stepped, IsFound, IsRunAt};
+ghost use Rattle.switch_text.specs.private.Winning.{head_of, IsMerge};
 
+use crate::heads::{Head, Heads};
 use crate::run::Run;
 use domain_run::Switch;
 
@@ -14,25 +17,6 @@ pub(crate) struct Next<'a, 'b> {
     pub(crate) index: usize,
     pub(crate) run: &'a Run<'b>,
     pub(crate) switch: &'b Switch,
-}
-
-/// Whether it is earlier by time and CPU of the machine than the best so far.
-fn is_earlier_than(next: &Next<'_, '_>, best: &Option<Next<'_, '_>>) -> bool
-    requires next { IsPrinted next.now }
-    requires best { IfSome best.now IsPrinted }
-    ensures { result ≡ is_better next.now best.now }
-{
-    match best {
-        None => true,
-        Some(best) => {
-            let time = next.switch.time;
-            let best_time = best.switch.time;
-            time < best_time
-                || (time == best_time
-                    && next.run.base + u32::from(next.switch.cpu)
-                        < best.run.base + u32::from(best.switch.cpu))
-        }
-    }
 }
 
 /// Whether a switch stands at a place of a run.
@@ -49,6 +33,7 @@ fn next_in<'a, 'b>(run: &'a Run<'b>, index: usize, place: usize) -> Next<'a, 'b>
     ensures index { result.index ≡ index }
     ensures run { result.run.now ≡ run.now }
     ensures switch { result.switch.now ≡ slice_index_or run.now.switches.now place result.switch.now }
+    ensures counted { place + 1 < 2 ^ 64 }
 {
     Next {
         index,
@@ -57,22 +42,82 @@ fn next_in<'a, 'b>(run: &'a Run<'b>, index: usize, place: usize) -> Next<'a, 'b>
     }
 }
 
-/// The earliest switch by time and CPU of the machine, where each run goes on from its place, or
-/// none where nothing is left. Of switches of one time and CPU, that of the first run.
-pub(crate) fn earliest<'a, 'b>(runs: &'a [Run<'b>], places: &[usize; 8]) -> Option<Next<'a, 'b>>
-    requires few { length runs.now ≤ 8 }
-    requires runs { All IsRun runs.now }
-    ensures { IsFound runs.now places.now result }
+/// How far each of several runs has gone, and their heads.
+#[derive(Clone, Copy)]
+pub(crate) struct Merge {
+    pub(crate) places: [usize; 8],
+    pub(crate) heads: Heads,
+}
+
+/// The head of a run that goes on from a place.
+#[inline(always)]
+fn head_at(run: &Run<'_>, place: usize) -> Head
+    requires { IsRun run.now }
+    ensures { result ≡ head_of (drop place (entries_of (view_of run.now))) }
 {
-    let mut best = None;
-    for (i, run) in runs.iter().enumerate() {
-        let place = places[i];
-        if is_left(run, place) {
-            let next = next_in(run, i, place);
-            if is_earlier_than(&next, &best) {
-                best = Some(next);
-            }
+    if is_left(run, place) {
+        let switch = &run.switches[place];
+        return Head {
+            time: switch.time,
+            cpu: run.base + u32::from(switch.cpu),
+        };
+    }
+    Head::none()
+}
+
+impl Merge {
+    /// Each run goes on from its first switch.
+    #[inline(always)]
+    pub(crate) fn start(runs: &[Run<'_>]) -> Merge
+        requires few { length runs.now ≤ 8 }
+        requires runs { All IsRun runs.now }
+        ensures places { result.places ≡ replicate 8 0 }
+        ensures heads { IsMerge (views runs.now) result }
+    {
+        let mut heads = Heads::none();
+        for (i, run) in runs.iter().enumerate() {
+            heads.change(i, head_at(run, 0));
+        }
+        Merge {
+            places: [0; 8],
+            heads,
         }
     }
-    best
+
+    /// The earliest switch by time and CPU of the machine, or none where nothing is left. Of
+    /// switches of one time and CPU, that of the first run.
+    #[inline(always)]
+    pub(crate) fn next<'a, 'b>(&self, runs: &'a [Run<'b>]) -> Option<Next<'a, 'b>>
+        requires few { length runs.now ≤ 8 }
+        requires runs { All IsRun runs.now }
+        requires heads { IsMerge (views runs.now) self.now }
+        ensures { IsFound runs.now self.now.places result }
+    {
+        let index = self.heads.first;
+        if self.heads.heads[index].is_none() {
+            return None;
+        }
+        Some(next_in(&runs[index], index, self.places[index]))
+    }
+
+    /// Goes on by the next switch.
+    #[inline(always)]
+    pub(crate) fn step(&mut self, runs: &[Run<'_>], next: &Next<'_, '_>)
+        requires few { length runs.now ≤ 8 }
+        requires runs { All IsRun runs.now }
+        requires run { IsRunAt runs.now next.now }
+        requires place { slice_index self.old.places next.now.index + 1 < 2 ^ 64 }
+        requires heads { IsMerge (views runs.now) self.old }
+        ensures places { self.new.places ≡ stepped self.old.places next.now.index }
+        ensures heads { IsMerge (views runs.now) self.new }
+    {
+        let place = self.places[next.index] + 1;
+        self.places[next.index] = place;
+        let head = head_at(next.run, place);
+        if runs.len() > 1 {
+            self.heads.change(next.index, head);
+        } else {
+            self.heads.change_only(head);
+        }
+    }
 }

@@ -17,7 +17,7 @@ ghost use Rattle.switch_text.specs.private.Ready.{AreNobodys, IsSlot, IsTexts};
 
 use crate::batch::{Batch, Front};
 use crate::fault::WriteFault;
-use crate::merge::{Next, earliest};
+use crate::merge::{Merge, Next};
 use crate::piece::ShortPiece;
 use crate::ready::{
     Lane, Slot, Texts, TraceRoom, keep_lane, lane_at, middle, no_slots, no_texts, seat,
@@ -137,9 +137,9 @@ pub(crate) fn send_runs<W: Write>(
     ensures faults { faults_of writer.new ≡ one_more_unless (is_ok result) (faults_of writer.old) }
 {
     let mut sent = 0;
-    let mut places = [0usize; 8];
-    while let Some(next) = earliest(runs, &places) {
-        places[next.index] += 1;
+    let mut merge = Merge::start(runs);
+    while let Some(next) = merge.next(runs) {
+        merge.step(runs, &next);
         match batch.make_room(writer) {
             Ok(n) => sent += n,
             Err(n) => return Err(together(sent, n)),

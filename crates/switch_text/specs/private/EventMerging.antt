@@ -5,7 +5,7 @@ use Rattle.switch_text.specs.declared.run.Run.{Run}
 use Rattle.switch_text.specs.declared.told.Told.{Told}
 use Rattle.switch_text.specs.declared.merge.Next.{Next}
 use Rattle.switch_text.specs.declared.told_merge.NextTold.{NextTold}
-use Rattle.switch_text.specs.declared.event_merge.EventPlaces.{EventPlaces}
+use Rattle.switch_text.specs.declared.event_merge.EventMerge.{EventMerge}
 use Rattle.switch_text.specs.declared.event_merge.NextEvent.{NextEvent}
 use Rattle.switch_text.specs.Trace.{Entry}
 use Rattle.switch_text.specs.Runs.{views}
@@ -13,6 +13,14 @@ use Rattle.switch_text.specs.Events.{Event, in_sequence, lines_of_events}
 use Rattle.switch_text.specs.Telling.{told_views}
 use Rattle.switch_text.specs.private.Merging.{left_of, stepped, next_entry, IsPrinted, IsRunAt}
 use Rattle.switch_text.specs.private.ToldMerging.{is_shown, left_told, count_left, next_told_event, IsShown}
+
+-- how far each domain has gone, in its switches and in what happens
+pub record EventPlaces : Type 0 where
+  pub switches : List ℕ
+  pub told : List ℕ
+
+abbrev pub places_of : EventMerge → EventPlaces
+places_of m = record { switches = m.switches.places; told = m.told }
 
 -- an entry of the trace among the events
 abbrev pub of_entry : Entry → Event

@@ -51,8 +51,3 @@ pub record IsNextOf (runs : List Run) (places : List ℕ) (n : Next) : Type 0 wh
 abbrev pub IsFound : List Run → List ℕ → Option Next → Type 0
 IsFound runs places None = left_of (views runs) places ≡ []
 IsFound runs places (Some n) = IsNextOf runs places n
-
--- a next entry that is earlier than the best so far
-abbrev pub is_better : Next → Option Next → Bool
-is_better n None = true
-is_better n (Some best) = is_earlier (next_entry n) (next_entry best)

@@ -1,5 +1,5 @@
 use Rattle.std.proofs.Common.{subst, sym}
-use Rattle.switch_text.specs.private.EventMerging.{IsEventFound}
+use Rattle.switch_text.specs.private.EventMerging.{places_of, IsEventFound}
 use Rattle.switch_text.proofs.EventPick.{IsEventFound-first_of}
 use Rattle.switch_text.proofs.event_merge.next_event.Goals as goal
 
@@ -7,5 +7,5 @@ pub returns : goal.returns
 returns c =
     let runs = c.args.runs.now in
     let told = c.args.told.now in
-    let places = c.args.places.now in
-    subst (IsEventFound runs told places) (sym c.first_of.ensures) (IsEventFound-first_of runs told places c.next_told.result c.earliest.result c.requires.few_runs c.requires.few_told c.next_told.ensures c.earliest.ensures)
+    let places = places_of c.args.merge.now in
+    subst (IsEventFound runs told places) (sym c.first_of.ensures) (IsEventFound-first_of runs told places c.next_told.result c.next.result c.requires.few_runs c.requires.few_told c.next_told.ensures c.next.ensures)

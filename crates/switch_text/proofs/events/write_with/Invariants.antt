@@ -2,8 +2,9 @@ use Rattle.std.proofs.Common.{length, ◌≡◌, All}
 use Rattle.switch_text.specs.Runs.{views}
 use Rattle.switch_text.specs.Events.{all_events, events_of}
 use Rattle.switch_text.specs.Telling.{told_views}
-use Rattle.switch_text.specs.private.EventMerging.{left_events, count_events}
+use Rattle.switch_text.specs.private.EventMerging.{places_of, left_events, count_events}
 use Rattle.switch_text.specs.private.Ready.{IsSlot, IsTexts}
+use Rattle.switch_text.specs.private.Winning.{IsMerge}
 use Rattle.switch_text.proofs.EventsUnderWay.{AreUnderWay}
 use Rattle.counted_io.specs.Sides.{inner_of}
 use Rattle.switch_text.proofs.events.write_with.Given as goal
@@ -12,7 +13,8 @@ abbrev pub invariant-loop-next : goal.invariant-loop-next
 invariant-loop-next g l = record {
   under_way :
       AreUnderWay (g.W.Write.contents (inner_of l.fn.writer)) (g.W.Write.contents (inner_of l.writer)) (events_of (views l.runs) (told_views l.told)) (length (all_events (views l.runs) (told_views l.told)))
-      (left_events l.runs l.told l.places) l.written l.batch;
+      (left_events l.runs l.told (places_of l.merge)) l.written l.batch;
+  heads : IsMerge (views l.runs) l.merge.switches;
   many : length l.slots ≡ 640;
   slots : All (IsSlot l.runs) l.slots;
   texts : IsTexts l.texts;
@@ -20,4 +22,4 @@ invariant-loop-next g l = record {
 }
 
 abbrev pub decreases-loop-next : goal.decreases-loop-next
-decreases-loop-next g l = count_events l.runs l.told l.places
+decreases-loop-next g l = count_events l.runs l.told (places_of l.merge)

@@ -7,14 +7,16 @@ use Rattle.switch_text.specs.private.Merging.{next_entry, stepped}
 use Rattle.switch_text.specs.private.Sliced.{lines_in, IsSending}
 use Rattle.switch_text.proofs.Few.{few}
 use Rattle.switch_text.proofs.Kept.{nobody_is_slot}
-use Rattle.switch_text.proofs.Found.{in_order-next}
+use Rattle.switch_text.proofs.Merged.{in_order-next}
 use Rattle.switch_text.proofs.UnderWay.{sent_within, Sends-more, length_from_append}
 use Rattle.switch_text.proofs.Sliced.{IsSending-start, IsSending-next, IsSending-stops, IsSending-ends, sent_fits}
 use Rattle.switch_text.proofs.writing.send_runs.Goals as goal
 
 pub loop-next-init : goal.loop-next-init
 loop-next-init g c = record {
-  sending = IsSending-start (g.W.Write.contents (inner_of c.args.writer.now)) c.args.batch.now (views c.args.runs.now) (omega (arith, length-map c.args.runs.now view_of, c.requires.few));
+  sending = subst (λ places. IsSending (g.W.Write.contents (inner_of c.args.writer.now)) (g.W.Write.contents (inner_of c.args.writer.now)) c.args.batch.now (views c.args.runs.now) places 0 c.args.batch.now) (sym c.start-merge.ensures.places)
+      (IsSending-start (g.W.Write.contents (inner_of c.args.writer.now)) c.args.batch.now (views c.args.runs.now) (omega (arith, length-map c.args.runs.now view_of, c.requires.few)));
+  heads = c.start-merge.ensures.heads;
   room = c.requires.room;
   many = c.requires.many;
   slots = nobody_is_slot c.args.runs.now c.args.slots.now c.requires.empty;
@@ -25,7 +27,10 @@ loop-next-init g c = record {
 pub overflow_add-sent : goal.overflow_add-sent
 overflow_add-sent g c =
     let within = sent_within _ _ c.loop-next.batch c.make_room.new.self c.in-Ok.n c.in-Ok.ensures.ok in
-    omega (arith, sent_fits _ _ c.args.batch.now (views c.args.runs.now) c.loop-next.places c.loop-next.sent c.in-Ok.n c.loop-next.batch c.loop-next.invariant.sending c.requires.room (few c.args.runs.now c.requires.few c.requires.runs) within)
+    omega (arith, sent_fits _ _ c.args.batch.now (views c.args.runs.now) c.loop-next.merge.places c.loop-next.sent c.in-Ok.n c.loop-next.batch c.loop-next.invariant.sending c.requires.room (few c.args.runs.now c.requires.few c.requires.runs) within)
+
+pub step-requires-clause-run : goal.step-requires-clause-run
+step-requires-clause-run g c = c.in-Some.ensures.run
 
 pub append_line-requires-clause-run : goal.append_line-requires-clause-run
 append_line-requires-clause-run g c = c.in-Some.ensures.run
@@ -39,10 +44,12 @@ loop-next-preserved g c =
     let left = c.make_room.new.self in
     let sends = Sends-more mid after c.loop-next.batch left e.line c.in-Ok.n c.in-Ok.ensures.ok in
     let short = length_from_append left e.line c.append_line.new.batch 384 c.append_line.ensures.text c.append_line.ensures.short in
-    let next = IsSending-next _ mid after first (views c.args.runs.now) c.loop-next.places (stepped c.loop-next.places c.in-Some.next.index) c.loop-next.sent c.in-Ok.n c.loop-next.batch (left ++ e.line) e
-    c.loop-next.invariant.sending (in_order-next c.args.runs.now c.loop-next.places c.in-Some.next c.in-Some.ensures) sends (omega (arith, short)) in
+    let next = IsSending-next _ mid after first (views c.args.runs.now) c.loop-next.merge.places (stepped c.loop-next.merge.places c.in-Some.next.index) c.loop-next.sent c.in-Ok.n c.loop-next.batch (left ++ e.line) e
+    c.loop-next.invariant.sending (in_order-next c.args.runs.now c.loop-next.merge.places c.in-Some.next c.in-Some.ensures) sends (omega (arith, short)) in
     record {
-      sending = subst (λ text. IsSending (g.W.Write.contents (inner_of c.args.writer.now)) after first (views c.args.runs.now) (stepped c.loop-next.places c.in-Some.next.index) (c.loop-next.sent + c.in-Ok.n) text) (sym c.append_line.ensures.text) next;
+      sending = subst (λ places. IsSending (g.W.Write.contents (inner_of c.args.writer.now)) after first (views c.args.runs.now) places (c.loop-next.sent + c.in-Ok.n) c.append_line.new.batch) (sym c.step.ensures.places)
+          (subst (λ text. IsSending (g.W.Write.contents (inner_of c.args.writer.now)) after first (views c.args.runs.now) (stepped c.loop-next.merge.places c.in-Some.next.index) (c.loop-next.sent + c.in-Ok.n) text) (sym c.append_line.ensures.text) next);
+      heads = c.step.ensures.heads;
       room = omega (arith, c.append_line.ensures.short, c.in-Ok.ensures.room);
       many = c.append_line.ensures.many;
       slots = c.append_line.ensures.slots;
@@ -53,18 +60,18 @@ loop-next-preserved g c =
 pub together-requires : goal.together-requires
 together-requires g c =
     let lt = c.in-Err.ensures.err.some_left in
-    omega (arith, sent_fits _ _ c.args.batch.now (views c.args.runs.now) c.loop-next.places c.loop-next.sent c.in-Err.n c.loop-next.batch c.loop-next.invariant.sending c.requires.room (few c.args.runs.now c.requires.few c.requires.runs) (omega (arith, lt)))
+    omega (arith, sent_fits _ _ c.args.batch.now (views c.args.runs.now) c.loop-next.merge.places c.loop-next.sent c.in-Err.n c.loop-next.batch c.loop-next.invariant.sending c.requires.room (few c.args.runs.now c.requires.few c.requires.runs) (omega (arith, lt)))
 
 pub returns-in-Err-clause-err : goal.returns-in-Err-clause-err
 returns-in-Err-clause-err g c =
     subst (λ n. TakesFront (g.W.Write.contents (inner_of c.args.writer.now)) (g.W.Write.contents (inner_of c.make_room.new.writer)) (c.args.batch.now ++ lines_in (views c.args.runs.now)) n) (sym c.together.ensures)
-    (IsSending-stops _ _ _ c.args.batch.now (views c.args.runs.now) c.loop-next.places c.loop-next.sent c.in-Err.n c.loop-next.batch c.loop-next.invariant.sending c.in-Err.ensures.err)
+    (IsSending-stops _ _ _ c.args.batch.now (views c.args.runs.now) c.loop-next.merge.places c.loop-next.sent c.in-Err.n c.loop-next.batch c.loop-next.invariant.sending c.in-Err.ensures.err)
 
 pub returns-clause-ok : goal.returns-clause-ok
-returns-clause-ok g c = IsSending-ends _ _ c.args.batch.now (views c.args.runs.now) c.loop-next.places c.loop-next.sent c.loop-next.batch c.loop-next.invariant.sending c.in_default.ensures
+returns-clause-ok g c = IsSending-ends _ _ c.args.batch.now (views c.args.runs.now) c.loop-next.merge.places c.loop-next.sent c.loop-next.batch c.loop-next.invariant.sending c.in_default.ensures
 
 pub returns-clause-counted : goal.returns-clause-counted
-returns-clause-counted g c = sent_fits _ _ c.args.batch.now (views c.args.runs.now) c.loop-next.places c.loop-next.sent _ c.loop-next.batch c.loop-next.invariant.sending c.requires.room (few c.args.runs.now c.requires.few c.requires.runs) (omega arith)
+returns-clause-counted g c = sent_fits _ _ c.args.batch.now (views c.args.runs.now) c.loop-next.merge.places c.loop-next.sent _ c.loop-next.batch c.loop-next.invariant.sending c.requires.room (few c.args.runs.now c.requires.few c.requires.runs) (omega arith)
 
 pub returns-clause-bound : goal.returns-clause-bound
 returns-clause-bound g c = let bound = c.loop-next.invariant.sending.bound in omega (arith, bound)

@@ -2,13 +2,15 @@ use Rattle.std.proofs.Common.{length, ◌≡◌, ◌≤◌, All}
 use Rattle.switch_text.specs.Runs.{views}
 use Rattle.switch_text.specs.private.Merging.{left_of}
 use Rattle.switch_text.specs.private.Ready.{IsSlot, IsTexts}
+use Rattle.switch_text.specs.private.Winning.{IsMerge}
 use Rattle.switch_text.specs.private.Sliced.{IsSending}
 use Rattle.counted_io.specs.Sides.{inner_of}
 use Rattle.switch_text.proofs.writing.send_runs.Given as goal
 
 abbrev pub invariant-loop-next : goal.invariant-loop-next
 invariant-loop-next g l = record {
-  sending : IsSending (g.W.Write.contents (inner_of l.fn.writer)) (g.W.Write.contents (inner_of l.writer)) l.fn.batch (views l.runs) l.places l.sent l.batch;
+  sending : IsSending (g.W.Write.contents (inner_of l.fn.writer)) (g.W.Write.contents (inner_of l.writer)) l.fn.batch (views l.runs) l.merge.places l.sent l.batch;
+  heads : IsMerge (views l.runs) l.merge;
   room : length l.batch ≤ 65536;
   many : length l.slots ≡ 640;
   slots : All (IsSlot l.runs) l.slots;
@@ -17,4 +19,4 @@ invariant-loop-next g l = record {
 }
 
 abbrev pub decreases-loop-next : goal.decreases-loop-next
-decreases-loop-next g l = length (left_of (views l.runs) l.places)
+decreases-loop-next g l = length (left_of (views l.runs) l.merge.places)
