@@ -12,5 +12,6 @@ pub mod Renewed
 pub mod Resting
 pub mod Rising
 pub mod Scheduling
+pub mod Spans
 pub mod Standing
 pub mod Words

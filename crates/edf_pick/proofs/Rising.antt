@@ -1,12 +1,12 @@
 -- Lists that rise in the order of the choice, and a task's place in them.
-use Rattle.std.proofs.Common.{◌≡◌, ◌<◌, ℕ, subst, suc, ◌+◌, Bool, true, false, cond, List, [], ◌∷◌, length, get_or, refl, sym, ap, ◌∙◌, arith, inl, inr}
+use Rattle.std.proofs.Common.{◌≡◌, ◌<◌, ◌≤◌, ℕ, subst, suc, ◌+◌, Bool, true, false, cond, List, [], ◌∷◌, length, get_or, refl, sym, ap, ◌∙◌, arith, inl, inr}
 use Rattle.std.specs.Prelude.{All, not}
 use Rattle.std.specs.List.{insert, remove, prefix_len}
 use Rattle.std.specs.List.Sorted.{IsPartitionedBy}
 use Rattle.std.proofs.lemmas.Bool.{cond_both, or_parts, or_from, cases_lt}
 use Rattle.std.proofs.lemmas.List.Elements.{All-nil, All-cons, All-head, All-tail, All-weaker}
-use Rattle.std.proofs.lemmas.List.Kept.{AllPairs-cons}
-use Rattle.std.proofs.lemmas.List.Edits.{length-insert}
+use Rattle.std.proofs.lemmas.List.Kept.{AllPairs-cons, AllPairs-filter}
+use Rattle.std.proofs.lemmas.List.Edits.{length-insert, length-remove}
 use Rattle.std.proofs.lemmas.List.Sums.{prefix_len-le-length}
 use Rattle.edf_pick.specs.declared.candidate.Candidate.{Candidate}
 use Rattle.edf_pick.specs.Choice.{is_before}
@@ -78,6 +78,18 @@ queue_with c queue items before after is few absent same e =
     record { rising = subst (λ xs. IsRising xs) (sym e) (rising_with c queue is.rising absent); few = omega arith; room = same ∙ is.room }
 
 -- WITHOUT
+-- a queue out of which one has gone
+pub queue_without : (c : Candidate) (queue items : List Candidate) (p before after : ℕ) → IsQueue queue before → p < length queue → without_candidate c queue ≡ remove queue p → items ≡ remove queue p → after ≡ before → IsQueue items after
+queue_without c queue items p before after is h e gone same =
+    let few = is.few in
+    let fewer : length (remove queue p) + 1 ≡ length queue = length-remove queue p h in
+    let many : length items ≡ length (remove queue p) = ap (λ (xs : List Candidate). length xs) gone in
+    record {
+      rising = subst (λ xs. IsRising xs) (e ∙ sym gone) (AllPairs-filter (λ a b. is_before a b ≡ true) (λ a. not (is_same a c)) queue is.rising);
+      few = omega (arith, few, fewer, many);
+      room = same ∙ is.room;
+    }
+
 pub without_absent : (c : Candidate) (queue : List Candidate) → has_candidate c queue ≡ false → without_candidate c queue ≡ queue
 without_absent c [] absent = refl
 without_absent c (a ∷ queue) absent =

@@ -8,12 +8,12 @@ use Rattle.edf_pick.specs.Choice.{is_before}
 abbrev pub IsRising : List Candidate → Type 0
 IsRising queue = AllPairs (λ a b. IsTrue (is_before a b)) queue
 
--- what a queue keeps: its order, at most 256 tasks, and the room for so many that it was opened
--- with, so it takes no more
+-- what a queue keeps: its order, at most 256 tasks, and the room for 1,024 that it was opened with,
+-- so it takes no more
 pub record IsQueue (queue : List Candidate) (capacity : ℕ) : Type 0 where
   pub rising : IsRising queue
   pub few : length queue ≤ 256
-  pub room : capacity ≡ 256
+  pub room : capacity ≡ 1024
 
 -- the same deadline and number: one place in the order
 abbrev pub is_same : Candidate → Candidate → Bool

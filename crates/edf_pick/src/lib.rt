@@ -22,6 +22,7 @@ mod parts;
 mod picking;
 mod placement;
 mod queue;
+mod room;
 mod schedule;
 mod seats;
 mod single;

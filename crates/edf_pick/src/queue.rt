@@ -6,41 +6,39 @@ ghost use Rattle.edf_pick.specs.Order as order;
 
 use crate::candidate::Candidate;
 use crate::order::{find, place_of};
+use crate::room::Room;
 use std::alloc::{AllocError, Global};
 use std::marker::Model;
 
-/// At most so many tasks wait in a queue.
-const MOST: usize = 256;
-
 /// The ready tasks of a root domain in the order of the choice: the earliest deadline first
 /// (sched-deadline.rst, "Main algorithm"), ties by number (own). It holds at most 256 tasks, no two
-/// of one deadline and number, and a queue in another order, or with other room than for 256,
-/// cannot be built. Contracts see it as the list of its tasks.
+/// of one deadline and number, and a queue in another order, or with other room than it was opened
+/// with, cannot be built. Contracts see it as the list of its tasks.
 #[derive(Drop)]
 pub struct Queue {
-    tasks: Vec<Candidate>,
+    room: Room,
 }
 
 impl Model for Queue {
     ghost use Rattle.std.specs.Prelude.{List, vec_capacity};
     ghost use Rattle.edf_pick.specs.declared.candidate.Candidate.{Candidate};
-    ghost use Rattle.edf_pick.specs.Order.{IsQueue};
+    ghost use Rattle.edf_pick.specs.private.Room.{HoldsQueue, tasks_in};
 
     ghost Value = { List Candidate };
 
-    ghost view = { λ q. q.tasks.items };
+    ghost view = { λ q. tasks_in q.room };
 
-    ghost invariant = { λ q. IsQueue q.tasks.items (vec_capacity q.tasks) };
+    ghost invariant = { λ q. HoldsQueue q.room (vec_capacity q.room.tasks) };
 }
 
 impl Queue {
-    /// An empty queue with room for 256 tasks: no other call takes memory. `Err` where that room
-    /// was refused.
+    /// An empty queue with room for 256 tasks, and so much more that few of them move where one
+    /// comes or goes: no other call takes memory. `Err` where that room was refused.
     pub fn open(alloc: Global) -> Result<Queue, AllocError>
         ensures { IfOk result (λ queue. queue ≡ []) }
     {
         Ok(Queue {
-            tasks: Vec::with_capacity(alloc, MOST)?,
+            room: Room::open(alloc)?,
         })
     }
 
@@ -49,14 +47,14 @@ impl Queue {
         ensures len { result ≡ length self.now }
         ensures few { result ≤ 256 }
     {
-        self.tasks.len()
+        self.room.len()
     }
 
     /// Whether there is none.
     pub fn is_empty(&self) -> bool
         ensures { result ≡ (length self.now == 0) }
     {
-        self.tasks.is_empty()
+        self.len() == 0
     }
 
     /// The tasks, each before every later one.
@@ -64,14 +62,14 @@ impl Queue {
         ensures tasks { result.now ≡ self.now }
         ensures rising { order.IsRising self.now }
     {
-        self.tasks.as_slice()
+        self.room.as_slice()
     }
 
     /// Whether the task of this deadline and number is there. Binary search.
     pub fn contains(&self, c: &Candidate) -> bool
         ensures { result ≡ order.has_candidate c.now self.now }
     {
-        find(&self.tasks, c).is_some()
+        find(self.as_slice(), c).is_some()
     }
 
     /// Takes in a task whose deadline and number are not there, at its place, found by binary
@@ -90,8 +88,8 @@ impl Queue {
         requires absent { order.has_candidate c self.old ≡ false }
         ensures { self.new ≡ order.with_candidate c self.old }
     {
-        let place = place_of(&self.tasks, &c);
-        self.tasks.insert(place, c).unwrap();
+        let place = place_of(self.room.as_slice(), &c);
+        self.room.insert(place, c);
         place
     }
 
@@ -112,11 +110,11 @@ impl Queue {
         ensures entry { IfSome result (λ a. Contains self.old a) }
         ensures same { IfSome result (λ a. order.is_same a c.now ≡ true) }
     {
-        let Some(place) = find(&self.tasks, c) else {
+        let Some(place) = find(self.room.as_slice(), c) else {
             return None;
         };
-        let entry = self.tasks[place];
-        self.tasks.remove(place);
+        let entry = self.room.as_slice()[place];
+        self.room.remove(place);
         Some(entry)
     }
 
@@ -126,6 +124,6 @@ impl Queue {
         ensures { (d : Candidate) → self.new
             ≡ slice_set self.old place (record (slice_index_or self.old place d) { home = cpu }) }
     {
-        self.tasks[place].home = cpu;
+        self.room.rehome(place, cpu);
     }
 }

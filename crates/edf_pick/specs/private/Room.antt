@@ -1,0 +1,23 @@
+-- The room in which a queue stands.
+use Rattle.std.specs.Prelude.{ℕ, ◌≡◌, ◌≤◌, ◌-◌, List, length, take, drop}
+use Rattle.edf_pick.specs.declared.candidate.Candidate.{Candidate}
+use Rattle.edf_pick.specs.declared.room.Room.{Room}
+use Rattle.edf_pick.specs.Order.{IsQueue}
+
+-- the tasks from one place up to another
+abbrev pub between : ℕ → ℕ → List Candidate → List Candidate
+between front end places = take (end - front) (drop front places)
+
+abbrev pub tasks_in : Room → List Candidate
+tasks_in room = between room.front room.end room.tasks.items
+
+-- there are 1,024 places, and the tasks stand within them
+pub record IsRoom (room : Room) : Type 0 where
+  pub forward : room.front ≤ room.end
+  pub within : room.end ≤ 1024
+  pub full : length room.tasks.items ≡ 1024
+
+-- what a queue keeps
+pub record HoldsQueue (room : Room) (capacity : ℕ) : Type 0 where
+  pub queue : IsQueue (tasks_in room) capacity
+  pub is : IsRoom room

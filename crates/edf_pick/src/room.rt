@@ -1,0 +1,208 @@
+//! The room in which the tasks of a queue stand, one behind the other: who comes or goes moves those
+//! of the shorter side alone.
+
+ghost use Rattle.std.specs.Prelude.{◌≡◌, ◌<◌, ◌≤◌, ◌+◌, [], IfOk, length, slice_index_or, slice_set, vec_capacity};
+ghost use Rattle.std.specs.List.{insert, remove};
+ghost use Rattle.edf_pick.specs.declared.candidate.Candidate.{Candidate};
+ghost use Rattle.edf_pick.specs.private.Room as spec;
+
+use crate::candidate::Candidate;
+use std::alloc::{AllocError, Global};
+
+/// So many places there are, four times as many as tasks: so the tasks reach the end seldom, and go
+/// to the beginning then.
+const PLACES: usize = 1024;
+
+/// The tasks stand at the places from `front` up to `end`. What the others hold means nothing.
+#[derive(Drop)]
+pub(crate) struct Room {
+    pub(crate) tasks: Vec<Candidate>,
+    pub(crate) front: usize,
+    pub(crate) end: usize,
+}
+
+// Places that hold nothing of meaning.
+fn places(alloc: Global) -> Result<Vec<Candidate>, AllocError>
+    ensures full { IfOk result (λ tasks. length tasks.items ≡ 1024) }
+    ensures room { IfOk result (λ tasks. vec_capacity tasks ≡ 1024) }
+{
+    let mut tasks = Vec::with_capacity(alloc, PLACES)?;
+    for _ in 0..PLACES {
+        tasks.push_reserved(Candidate {
+            deadline: 0,
+            number: 0,
+            home: 0,
+        });
+    }
+    Ok(tasks)
+}
+
+impl Room {
+    /// Nobody stands there. No other call takes memory.
+    pub(crate) fn open(alloc: Global) -> Result<Room, AllocError>
+        ensures is { IfOk result (λ room. spec.IsRoom room) }
+        ensures none { IfOk result (λ room. spec.tasks_in room ≡ []) }
+        ensures capacity { IfOk result (λ room. vec_capacity room.tasks ≡ 1024) }
+    {
+        Ok(Room {
+            tasks: places(alloc)?,
+            front: 0,
+            end: 0,
+        })
+    }
+
+    /// How many tasks there are.
+    #[inline(always)]
+    pub(crate) fn len(&self) -> usize
+        requires { spec.IsRoom self.now }
+        ensures { result ≡ length (spec.tasks_in self.now) }
+    {
+        self.end - self.front
+    }
+
+    /// The tasks in their order.
+    #[inline(always)]
+    pub(crate) fn as_slice(&self) -> &[Candidate]
+        requires { spec.IsRoom self.now }
+        ensures { result.now ≡ spec.tasks_in self.now }
+    {
+        &self.tasks[self.front..self.end]
+    }
+
+    // Those before the place go down by one.
+    #[inline(always)]
+    fn insert_below(&mut self, place: usize, task: Candidate)
+        requires is { spec.IsRoom self.old }
+        requires free { 0 < self.old.front }
+        requires there { self.old.front + place ≤ self.old.end }
+        ensures is { spec.IsRoom self.new }
+        ensures tasks { spec.tasks_in self.new ≡ insert (spec.tasks_in self.old) place task }
+        ensures capacity { vec_capacity self.new.tasks ≡ vec_capacity self.old.tasks }
+    {
+        let at = self.front + place;
+        self.tasks.copy_within(self.front..at, self.front - 1);
+        self.tasks[at - 1] = task;
+        self.front -= 1;
+    }
+
+    // Those from the place on go up by one.
+    #[inline(always)]
+    fn insert_above(&mut self, place: usize, task: Candidate)
+        requires is { spec.IsRoom self.old }
+        requires free { self.old.end < 1024 }
+        requires there { self.old.front + place ≤ self.old.end }
+        ensures is { spec.IsRoom self.new }
+        ensures tasks { spec.tasks_in self.new ≡ insert (spec.tasks_in self.old) place task }
+        ensures capacity { vec_capacity self.new.tasks ≡ vec_capacity self.old.tasks }
+    {
+        let at = self.front + place;
+        self.tasks.copy_within(at..self.end, at + 1);
+        self.tasks[at] = task;
+        self.end += 1;
+    }
+
+    // The tasks go to the beginning.
+    #[inline(never)]
+    fn rewind(&mut self)
+        requires { spec.IsRoom self.old }
+        ensures is { spec.IsRoom self.new }
+        ensures tasks { spec.tasks_in self.new ≡ spec.tasks_in self.old }
+        ensures end { self.new.end ≡ length (spec.tasks_in self.old) }
+        ensures capacity { vec_capacity self.new.tasks ≡ vec_capacity self.old.tasks }
+    {
+        self.tasks.copy_within(self.front..self.end, 0);
+        self.end -= self.front;
+        self.front = 0;
+    }
+
+    // There is a free place behind the tasks.
+    #[inline(always)]
+    fn free_end(&mut self)
+        requires is { spec.IsRoom self.old }
+        requires few { length (spec.tasks_in self.old) < 1024 }
+        ensures is { spec.IsRoom self.new }
+        ensures tasks { spec.tasks_in self.new ≡ spec.tasks_in self.old }
+        ensures free { self.new.end < 1024 }
+        ensures capacity { vec_capacity self.new.tasks ≡ vec_capacity self.old.tasks }
+    {
+        if self.end == PLACES {
+            self.rewind();
+        }
+    }
+
+    /// One more stands at this place.
+    #[inline(always)]
+    pub(crate) fn insert(&mut self, place: usize, task: Candidate)
+        requires is { spec.IsRoom self.old }
+        requires few { length (spec.tasks_in self.old) < 1024 }
+        requires there { place ≤ length (spec.tasks_in self.old) }
+        ensures is { spec.IsRoom self.new }
+        ensures tasks { spec.tasks_in self.new ≡ insert (spec.tasks_in self.old) place task }
+        ensures capacity { vec_capacity self.new.tasks ≡ vec_capacity self.old.tasks }
+    {
+        if self.front > 0 && place < self.len() / 2 {
+            self.insert_below(place, task);
+            return;
+        }
+        self.free_end();
+        self.insert_above(place, task);
+    }
+
+    // Those before the place go up by one.
+    #[inline(always)]
+    fn remove_below(&mut self, place: usize)
+        requires is { spec.IsRoom self.old }
+        requires there { self.old.front + place < self.old.end }
+        ensures is { spec.IsRoom self.new }
+        ensures tasks { spec.tasks_in self.new ≡ remove (spec.tasks_in self.old) place }
+        ensures capacity { vec_capacity self.new.tasks ≡ vec_capacity self.old.tasks }
+    {
+        let at = self.front + place;
+        self.tasks.copy_within(self.front..at, self.front + 1);
+        self.front += 1;
+    }
+
+    // Those behind the place go down by one.
+    #[inline(always)]
+    fn remove_above(&mut self, place: usize)
+        requires is { spec.IsRoom self.old }
+        requires there { self.old.front + place < self.old.end }
+        ensures is { spec.IsRoom self.new }
+        ensures tasks { spec.tasks_in self.new ≡ remove (spec.tasks_in self.old) place }
+        ensures capacity { vec_capacity self.new.tasks ≡ vec_capacity self.old.tasks }
+    {
+        let at = self.front + place;
+        self.tasks.copy_within(at + 1..self.end, at);
+        self.end -= 1;
+    }
+
+    /// The one at this place stands there no more.
+    #[inline(always)]
+    pub(crate) fn remove(&mut self, place: usize)
+        requires is { spec.IsRoom self.old }
+        requires there { place < length (spec.tasks_in self.old) }
+        ensures is { spec.IsRoom self.new }
+        ensures tasks { spec.tasks_in self.new ≡ remove (spec.tasks_in self.old) place }
+        ensures capacity { vec_capacity self.new.tasks ≡ vec_capacity self.old.tasks }
+    {
+        if place < self.len() / 2 {
+            self.remove_below(place);
+        } else {
+            self.remove_above(place);
+        }
+    }
+
+    /// The task at this place belongs to this CPU from now on.
+    #[inline(always)]
+    pub(crate) fn rehome(&mut self, place: usize, cpu: u32)
+        requires is { spec.IsRoom self.old }
+        requires there { place < length (spec.tasks_in self.old) }
+        ensures is { spec.IsRoom self.new }
+        ensures tasks { (d : Candidate) → spec.tasks_in self.new ≡ slice_set (spec.tasks_in self.old)
+            place (record (slice_index_or (spec.tasks_in self.old) place d) { home = cpu }) }
+        ensures capacity { vec_capacity self.new.tasks ≡ vec_capacity self.old.tasks }
+    {
+        let at = self.front + place;
+        self.tasks[at].home = cpu;
+    }
+}
