@@ -3,7 +3,6 @@
 ghost use Rattle.std.specs.Prelude.{◌≡◌, ◌<◌, ◌≤◌, ◌^◌, ◌-◌, IsTrue, IsSome, false, pos, neg_ℤ, ◌≤ℤ◌, ◌<ℤ◌};
 ghost use Rattle.domain_run.specs.Conditions as conditions;
 ghost use Rattle.cbs_rules.specs.Serving as serving;
-ghost use Rattle.domain_run.specs.Tick as tick_spec;
 ghost use Rattle.domain_run.specs.Switches as switches_spec;
 ghost use Rattle.domain_run.specs.Parts as parts;
 ghost use Rattle.domain_run.specs.private.Paying.{ran_until};
@@ -15,7 +14,6 @@ use crate::script::Segment;
 use crate::switch::PrevState;
 use crate::task::{Condition, Task};
 use cbs_rules::Server;
-use edf_pick::Candidate;
 
 pub(crate) fn has_come(time: u64, moment: Option<u64>) -> bool
     ensures { result ≡ conditions.has_come time moment }
@@ -141,17 +139,6 @@ pub(crate) fn unblock(task: &mut Task, time: u64)
     if task.condition.is_over(time) {
         let segment = task.cursor.next(time);
         start(task, segment, time);
-    }
-}
-
-/// Part 4: a ready task as the choice sees it.
-pub(crate) fn candidate_of(task: &Task) -> Candidate
-    ensures { result ≡ tick_spec.candidate_of task.now }
-{
-    Candidate {
-        deadline: task.server.deadline.unwrap_or(0),
-        number: task.number,
-        home: task.cpu,
     }
 }
 
