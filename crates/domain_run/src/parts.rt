@@ -99,6 +99,7 @@ fn wake_server(task: &Task, time: u64) -> Server
     cbs_rules::on_wake(task.server, &task.params, time)
 }
 
+#[inline(always)]
 fn wake(task: &mut Task, work: u64, time: u64)
     requires early { time < 2 ^ 42 }
     requires served { IsServed time task.old.server }
@@ -113,6 +114,7 @@ fn wake(task: &mut Task, work: u64, time: u64)
     enqueue(task, server, time);
 }
 
+#[inline(always)]
 fn start(task: &mut Task, segment: Segment, time: u64)
     requires early { time < 2 ^ 42 }
     requires served { IsServed time task.old.server }
@@ -130,6 +132,7 @@ fn start(task: &mut Task, segment: Segment, time: u64)
 }
 
 /// Part 3: a task whose time of blocking is over asks its script.
+#[inline(always)]
 pub(crate) fn unblock(task: &mut Task, time: u64)
     requires early { time < 2 ^ 42 }
     requires sound { IsSound time task.old }
@@ -168,6 +171,7 @@ fn run_on(task: &mut Task, time: u64)
     };
 }
 
+#[inline(always)]
 pub(crate) fn stop(task: &mut Task, condition: Condition, time: u64)
     requires served { IsServed time task.old.server }
     requires resting { conditions.is_contending condition ≡ false }
@@ -179,6 +183,7 @@ pub(crate) fn stop(task: &mut Task, condition: Condition, time: u64)
     task.zero_lag = grub_rules::zero_lag(&task.server, &task.params, time);
 }
 
+#[inline(always)]
 fn go_on(task: &mut Task, segment: Segment, time: u64)
     requires served { IsServed time task.old.server }
     requires dated { IsSome task.old.server.deadline }
@@ -198,6 +203,7 @@ fn go_on(task: &mut Task, segment: Segment, time: u64)
     }
 }
 
+#[inline(always)]
 fn after_charge(task: &mut Task, time: u64)
     requires early { time < 2 ^ 43 }
     requires served { IsServed time task.old.server }
@@ -215,6 +221,7 @@ fn after_charge(task: &mut Task, time: u64)
 }
 
 /// Part 6: so many ticks of running at once, up to a time, with what they leave of the budget.
+#[inline(always)]
 pub(crate) fn run_until(task: &mut Task, time: u64, ticks: u64, left: i128)
     requires early { time < 2 ^ 43 }
     requires low { neg_ℤ (pos (2 ^ 32)) ≤ℤ left }
