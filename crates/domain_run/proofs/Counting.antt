@@ -21,7 +21,7 @@ use Rattle.domain_run.specs.declared.run_queue.RunQueue.{RunQueue}
 use Rattle.domain_run.specs.Conditions.{is_ready, is_contending, is_leaving}
 use Rattle.domain_run.specs.Tick.{share_of, shares, candidate_of, candidates}
 use Rattle.domain_run.specs.private.Timers.{due_of}
-use Rattle.domain_run.specs.private.RunQueue.{ready_of, standing_of, Counts, IsRoster, IsCounted, with_ready, without_ready, MayTurn, HasTurned, AreHomed}
+use Rattle.domain_run.specs.private.RunQueue.{ready_at, ready_of, candidate_at, share_on, standing_of, Counts, IsRoster, IsCounted, with_ready, without_ready, MayTurn, HasTurned, AreHomed}
 use Rattle.edf_pick.specs.Places.{Places, placed}
 use Rattle.domain_run.specs.declared.task.Condition.{Condition}
 use Rattle.domain_run.specs.declared.task.Condition.TheVariants.{Ready, Throttled, Blocked, Waiting, Leaving}
@@ -45,7 +45,7 @@ candidates_append xs ys = ap (map candidate_of) (filter-append (λ t. is_ready t
 pub candidates_first : (t : Task) (ys : List Task) → candidates (t ∷ ys) ≡ one (ready_of t) ++ candidates ys
 candidates_first t ys =
     let rest = filter (λ t. is_ready t.condition) ys in
-    elim (is_ready t.condition) as (λ b. map candidate_of (cond b (t ∷ rest) rest) ≡ one (cond b (Some (candidate_of t)) None) ++ map candidate_of rest) [ true ↦ refl | false ↦ refl ]
+    elim (is_ready t.condition) as (λ b. map candidate_of (cond b (t ∷ rest) rest) ≡ one (candidate_at t.number t.cpu (cond b (Some (candidate_of t).deadline) None)) ++ map candidate_of rest) [ true ↦ refl | false ↦ refl ]
 
 candidates_at : (front : List Task) (t : Task) (back : List Task) → candidates (front ++ t ∷ back) ≡ candidates front ++ (one (ready_of t) ++ candidates back)
 candidates_at front t back = candidates_append front (t ∷ back) ∙ ap (λ cs. candidates front ++ cs) (candidates_first t back)
@@ -96,7 +96,7 @@ others_one None xs ys numbered = tt
 others_one (Some c) xs ys numbered = ordered_others c xs ys numbered
 
 homed_one : (places : Places) (t : Task) → with_last_cpu places t ≡ t → IfSome (ready_of t) (λ c. IsAtHome places c)
-homed_one places t homed = elim (is_ready t.condition) as (λ b. IfSome (cond b (Some (candidate_of t)) None) (λ c. IsAtHome places c)) [ true ↦ is_at_home places t homed | false ↦ tt ]
+homed_one places t homed = elim (is_ready t.condition) as (λ b. IfSome (candidate_at t.number t.cpu (cond b (Some (candidate_of t).deadline) None)) (λ c. IsAtHome places c)) [ true ↦ is_at_home places t homed | false ↦ tt ]
 
 -- a task at a place, what is before it and behind it
 pub record IsSplit (tasks : List Task) (t y : Task) (front back : List Task) : Type 0 where
@@ -131,6 +131,10 @@ pub record IsFit (cpus : ℕ) (t y : Task) : Type 0 where
   pub home : y.cpu < cpus
   pub cpu : y.cpu ≡ t.cpu
 
+-- so it is chosen by its deadline alone
+ready_same : (t y : Task) → y.number ≡ t.number → y.cpu ≡ t.cpu → ready_of y ≡ candidate_at t.number t.cpu (ready_at y)
+ready_same t y number cpu = λ j. candidate_at (number j) (cpu j) (ready_at y)
+
 pub home_at : (cpus : ℕ) (queue : RunQueue) (tasks : List Task) (i : ℕ) (d : Task) → i < length tasks → IsCounted cpus queue tasks → (get_or tasks i d).cpu < cpus
 home_at cpus queue tasks i d h is = subst (λ n. (get_or tasks i d).cpu < n) is.wide (held_at share_of queue.accounts tasks i d h is.counts.sums).home
 
@@ -147,7 +151,7 @@ same_fit cpus t y same short home = record {
 pub ended_same : (time : ℕ) (t : Task) → Same t (ended time t)
 ended_same time t = same_either (is_contending t.condition) t _ _ (record { number = refl; params = refl; cpu = refl }) (record { number = refl; params = refl; cpu = refl })
 
-pub may_turn : (cpus : ℕ) (queue : RunQueue) (tasks : List Task) (i : ℕ) (d y : Task) → i < length tasks → IsFit cpus (get_or tasks i d) y → IsCounted cpus queue tasks → MayTurn i queue (standing_of (get_or tasks i d)) (standing_of y)
+pub may_turn : (cpus : ℕ) (queue : RunQueue) (tasks : List Task) (i : ℕ) (d y : Task) → i < length tasks → IsFit cpus (get_or tasks i d) y → IsCounted cpus queue tasks → MayTurn i (get_or tasks i d).number (get_or tasks i d).cpu queue (standing_of (get_or tasks i d)) (standing_of y)
 may_turn cpus queue tasks i d y h fit is =
     let short = fit.short in
     let s = split tasks i d y h fit.number is.roster in
@@ -156,31 +160,34 @@ may_turn cpus queue tasks i d y h fit is =
     let order = is.counts.order ∙ ap ordered s.was in
     let rest : without_ready (ready_of (get_or tasks i d)) queue.schedule.queue ≡ ordered (candidates front ++ candidates back) = ap (without_ready (ready_of (get_or tasks i d))) order ∙ without_one (ready_of (get_or tasks i d)) (candidates front) (candidates back) s.numbered in
     let timers : length (map due_of tasks) ≡ length tasks = simp length-map in
+    let came = ready_same (get_or tasks i d) y fit.number fit.cpu in
     record {
       within = omega (arith, h, timers, ap (λ (ds : List ℕ). length ds) is.counts.due);
       held = held_at share_of queue.accounts tasks i d h is.counts.sums;
-      home = subst (λ n. y.cpu < n) (sym is.wide) fit.home;
       fits = omega (arith, is.counts.sums.total, total_short tasks is.roster);
       room = rw rest (omega (arith, length_ordered (candidates front ++ candidates back), length-append (candidates front) (candidates back), candidates_few front, candidates_few back, s.one_less, is.roster.few));
-      numbered = rw rest (others_one (ready_of y) (candidates front) (candidates back) s.turned);
-      homed = homed_one queue.schedule.places y (still_homed queue.schedule.places (get_or tasks i d) y fit.number fit.cpu (is.homed i d h));
+      numbered = rw rest (subst (λ o. IfSome o (λ c. All (λ a. a.number ≢ c.number) (ordered (candidates front ++ candidates back)))) came (others_one (ready_of y) (candidates front) (candidates back) s.turned));
+      homed = subst (λ o. IfSome o (λ c. IsAtHome queue.schedule.places c)) came (homed_one queue.schedule.places y (still_homed queue.schedule.places (get_or tasks i d) y fit.number fit.cpu (is.homed i d h)));
     }
 
-pub turned : (cpus : ℕ) (queue new : RunQueue) (tasks : List Task) (i : ℕ) (d y : Task) → i < length tasks → IsFit cpus (get_or tasks i d) y → HasTurned i (standing_of (get_or tasks i d)) (standing_of y) queue new → IsCounted cpus queue tasks → IsCounted cpus new (set tasks i y)
+pub turned : (cpus : ℕ) (queue new : RunQueue) (tasks : List Task) (i : ℕ) (d y : Task) → i < length tasks → IsFit cpus (get_or tasks i d) y → HasTurned i (get_or tasks i d).number (get_or tasks i d).cpu (standing_of (get_or tasks i d)) (standing_of y) queue new → IsCounted cpus queue tasks → IsCounted cpus new (set tasks i y)
 turned cpus queue new tasks i d y h fit has is =
     let t = get_or tasks i d in
     let s = split tasks i d y h fit.number is.roster in
     let front = take i tasks in
     let back = drop (i + 1) tasks in
     let order = is.counts.order ∙ ap ordered s.was in
+    let came = ready_same t y fit.number fit.cpu in
+    let sums : Exchanges queue.accounts new.accounts (share_of t ∷ []) (share_of y ∷ []) = subst (λ (n : ℕ). Exchanges queue.accounts new.accounts (share_of t ∷ []) (share_on n (standing_of y) ∷ [])) (sym fit.cpu) has.sums in
     let now : candidates (set tasks i y) ≡ candidates front ++ (one (ready_of y) ++ candidates back) = ap candidates (set_at tasks i y h) ∙ candidates_at front y back in
     record {
       wide = has.sums.cpus ∙ is.wide;
       counts = record {
-        sums = turned_at share_of queue.accounts new.accounts tasks i d y h (subst (λ n. y.cpu < n) (sym is.wide) fit.home) has.sums is.counts.sums;
+        sums = turned_at share_of queue.accounts new.accounts tasks i d y h (subst (λ n. y.cpu < n) (sym is.wide) fit.home) sums is.counts.sums;
         order = elim has.order [
-          | inl kept ↦ kept.1 ∙ order ∙ ap (λ o. ordered (candidates front ++ (one o ++ candidates back))) kept.0 ∙ sym (ap ordered now)
-          | inr e ↦ e ∙ ap (λ q. with_ready (ready_of y) (without_ready (ready_of t) q)) order
+          | inl kept ↦ kept.1 ∙ order ∙ ap (λ o. ordered (candidates front ++ (one o ++ candidates back))) (ap (candidate_at t.number t.cpu) kept.0 ∙ sym came) ∙ sym (ap ordered now)
+          | inr e ↦ e ∙ ap (λ o. with_ready o (without_ready (ready_of t) queue.schedule.queue)) (sym came)
+              ∙ ap (λ q. with_ready (ready_of y) (without_ready (ready_of t) q)) order
               ∙ ap (with_ready (ready_of y)) (without_one (ready_of t) (candidates front) (candidates back) s.numbered)
               ∙ with_one (ready_of y) (candidates front) (candidates back) s.turned ∙ sym (ap ordered now)
         ];

@@ -23,7 +23,7 @@ use Rattle.domain_run.specs.Switches.{same_occupant, state_of, switches_from}
 use Rattle.domain_run.specs.Domain.{Domain}
 use Rattle.domain_run.specs.Tick.{share_of, shares, candidate_of, candidates, prepared, with_places, with_prepared, begun, rate_of, ran_if, finished, ticked, ticks}
 use Rattle.domain_run.specs.Jump.{replenished_at, asks_at, gone_at, ticks_to, ticks_to_due_of, ticks_to_due}
-use Rattle.domain_run.specs.private.RunQueue.{ready_of}
+use Rattle.domain_run.specs.private.RunQueue.{candidate_at, ready_of}
 use Rattle.domain_run.specs.private.Paying.{ran_until}
 use Rattle.domain_run.proofs.Counting.{one, candidates_first}
 use Rattle.domain_run.proofs.Staying.{map_itself, rehomed, stays}
@@ -50,7 +50,7 @@ shares_alike f same (t ∷ tasks) =
     λ i. first i ∷ more i
 
 ready_alike : (t u : Task) → Alike t u → ready_of u ≡ ready_of t
-ready_alike t u same = λ i. cond (is_ready (same.condition i)) (Some (record { deadline = unwrap_or (same.deadline i) 0; number = same.number i; home = same.cpu i })) None
+ready_alike t u same = λ i. candidate_at (same.number i) (same.cpu i) (cond (is_ready (same.condition i)) (Some (unwrap_or (same.deadline i) 0)) None)
 
 pub candidates_alike : (f : Task → Task) → ((t : Task) → Alike t (f t)) → (tasks : List Task) → candidates (map f tasks) ≡ candidates tasks
 candidates_alike f same [] = refl
@@ -156,12 +156,12 @@ alike_slid b j t =
 
 homed_ready : (o : Option ℕ) (places : Places) (t : Task) → position (is_task t.number) places ≡ o → ready_of (with_cpu o t) ≡ option_map (rehomed places) (ready_of t)
 homed_ready None places t e =
-    elim (is_ready t.condition) as (λ b. cond b (Some (candidate_of t)) None ≡ option_map (rehomed places) (cond b (Some (candidate_of t)) None)) [
+    elim (is_ready t.condition) as (λ b. candidate_at t.number t.cpu (cond b (Some (candidate_of t).deadline) None) ≡ option_map (rehomed places) (candidate_at t.number t.cpu (cond b (Some (candidate_of t).deadline) None))) [
       | true ↦ ap (λ (at : Option ℕ). Some (record (candidate_of t) { home = unwrap_or at t.cpu })) (sym e)
       | false ↦ refl
     ]
 homed_ready (Some cpu) places t e =
-    elim (is_ready t.condition) as (λ b. cond b (Some (candidate_of (record t { cpu = cpu }))) None ≡ option_map (rehomed places) (cond b (Some (candidate_of t)) None)) [
+    elim (is_ready t.condition) as (λ b. candidate_at t.number cpu (cond b (Some (candidate_of t).deadline) None) ≡ option_map (rehomed places) (candidate_at t.number t.cpu (cond b (Some (candidate_of t).deadline) None))) [
       | true ↦ ap (λ (at : Option ℕ). Some (record (candidate_of t) { home = unwrap_or at t.cpu })) (sym e)
       | false ↦ refl
     ]

@@ -30,14 +30,14 @@ place_fit cpus queue tasks p time change d h fits is = made_fit cpus time change
 
 -- ---- the task at a place
 
-pub place_may : (cpus : ℕ) (queue : RunQueue) (tasks : List Task) (p time : ℕ) (change : Change) (x : Task) → p < length tasks → x ≡ get_or tasks p x → Fits cpus change → IsCounted cpus queue tasks → MayTurn p queue (standing_of x) (standing_of (after_change time change x))
+pub place_may : (cpus : ℕ) (queue : RunQueue) (tasks : List Task) (p time : ℕ) (change : Change) (x : Task) → p < length tasks → x ≡ get_or tasks p x → Fits cpus change → IsCounted cpus queue tasks → MayTurn p x.number x.cpu queue (standing_of x) (standing_of (after_change time change x))
 place_may cpus queue tasks p time change x h read fits is =
-    subst (λ u. MayTurn p queue (standing_of u) (standing_of (after_change time change u))) (sym read) (may_turn cpus queue tasks p x (after_change time change (get_or tasks p x)) h (place_fit cpus queue tasks p time change x h fits is) is)
+    subst (λ u. MayTurn p u.number u.cpu queue (standing_of u) (standing_of (after_change time change u))) (sym read) (may_turn cpus queue tasks p x (after_change time change (get_or tasks p x)) h (place_fit cpus queue tasks p time change x h fits is) is)
 
-pub place_counted : (cpus : ℕ) (queue new : RunQueue) (tasks : List Task) (p time : ℕ) (change : Change) (x y : Task) → p < length tasks → x ≡ get_or tasks p x → Fits cpus change → y ≡ after_change time change x → HasTurned p (standing_of x) (standing_of y) queue new → IsCounted cpus queue tasks → IsCounted cpus new (set tasks p y)
+pub place_counted : (cpus : ℕ) (queue new : RunQueue) (tasks : List Task) (p time : ℕ) (change : Change) (x y : Task) → p < length tasks → x ≡ get_or tasks p x → Fits cpus change → y ≡ after_change time change x → HasTurned p x.number x.cpu (standing_of x) (standing_of y) queue new → IsCounted cpus queue tasks → IsCounted cpus new (set tasks p y)
 place_counted cpus queue new tasks p time change x y h read fits is has counted =
     let fit : IsFit cpus (get_or tasks p x) y = subst (IsFit cpus (get_or tasks p x)) (sym (is ∙ ap (after_change time change) read)) (place_fit cpus queue tasks p time change x h fits counted) in
-    turned cpus queue new tasks p x y h fit (subst (λ u. HasTurned p (standing_of u) (standing_of y) queue new) read has) counted
+    turned cpus queue new tasks p x y h fit (subst (λ u. HasTurned p u.number u.cpu (standing_of u) (standing_of y) queue new) read has) counted
 
 -- ---- parts 1 to 3
 

@@ -1,10 +1,11 @@
 -- A change of one task of the list, where charges wait.
-use Rattle.std.proofs.Common.{◌≡◌, ◌≢◌, ℕ, ◌<◌, ◌≤◌, List, length, map, get_or, set, sym, ap, ◌∙◌, subst, arith}
+use Rattle.std.proofs.Common.{◌≡◌, ◌≢◌, ℕ, ◌<◌, Option, List, length, map, get_or, set, sym, ap, ◌∙◌, subst, arith}
 use Rattle.std.specs.Prelude.{All, AllPairs}
 use Rattle.std.proofs.lemmas.List.{length-map}
 use Rattle.std.proofs.lemmas.List.Elements.{All-set}
 use Rattle.domain_run.specs.declared.task.Task.{Task}
 use Rattle.domain_run.specs.declared.change.Change.{Change}
+use Rattle.domain_run.specs.declared.seats.Seat.{Seat}
 use Rattle.domain_run.specs.declared.run_queue.RunQueue.{RunQueue}
 use Rattle.domain_run.specs.Sound.{IsSound}
 use Rattle.domain_run.specs.private.RunQueue.{standing_of, IsCounted, MayTurn, HasTurned}
@@ -12,10 +13,10 @@ use Rattle.domain_run.specs.private.Roster.{after_change, Fits, MayMake}
 use Rattle.domain_run.specs.private.Seats.{SeatsView}
 use Rattle.domain_run.specs.private.Waiting.{owed, owed_all, left_of, WaitsIf, AllWait}
 use Rattle.domain_run.specs.private.Timers.{IsStep}
+use Rattle.domain_run.proofs.Counting.{IsFit}
 use Rattle.domain_run.proofs.Making.{place_fit, place_may, place_counted}
-use Rattle.domain_run.proofs.Counting.{home_at}
 use Rattle.domain_run.proofs.Due.{step_is}
-use Rattle.domain_run.proofs.Waiting.{alike_owed, numbered_unlike, read_owed, left_twice, length_left, turned_owed, turned_waits, seats_seen}
+use Rattle.domain_run.proofs.Waiting.{alike_owed, numbered_unlike, read_owed, left_once, left_twice, length_left, turned_owed, turned_waits, seats_seen}
 
 module _ (w time : ℕ) (change : Change) (queue : RunQueue) (s : SeatsView) (tasks : List Task) (p : ℕ) (x : Task) (h : p < length tasks) (read : x ≡ get_or tasks p x) (fits : Fits w change) (counted : IsCounted w queue (owed_all s tasks)) where
   abbrev seen : Task
@@ -27,12 +28,6 @@ module _ (w time : ℕ) (change : Change) (queue : RunQueue) (s : SeatsView) (ta
   read_seen : seen ≡ get_or (owed_all s tasks) p seen
   read_seen = read_owed s.upto s.seats tasks p x h read
 
-  pub home_in : w ≤ 64 → x.cpu < 64
-  home_in narrow =
-      let home = home_at w queue (owed_all s tasks) p seen within counted in
-      let same : (get_or (owed_all s tasks) p seen).cpu ≡ x.cpu = ap (λ (t : Task). t.cpu) (sym read_seen) ∙ (alike_owed s.upto s.seats x).cpu in
-      omega (arith, narrow, home, same)
-
   pub waits_at : AllWait s.seats tasks → WaitsIf s.seats x
   waits_at waits = subst (WaitsIf s.seats) (sym read) (waits p x h)
 
@@ -42,15 +37,26 @@ module _ (w time : ℕ) (change : Change) (queue : RunQueue) (s : SeatsView) (ta
   pub may_at : ((d : Task) → MayMake time change (get_or (owed_all s tasks) p d)) → MayMake time change (owed s.upto s.seats x)
   may_at may = subst (MayMake time change) (sym read_seen) (may seen)
 
-  pub turns_at : MayTurn p queue (standing_of (owed s.upto s.seats x)) (standing_of (after_change time change (owed s.upto s.seats x)))
+  pub turns_at : MayTurn p (owed s.upto s.seats x).number (owed s.upto s.seats x).cpu queue (standing_of (owed s.upto s.seats x)) (standing_of (after_change time change (owed s.upto s.seats x)))
   turns_at = place_may w queue (owed_all s tasks) p time change seen within read_seen fits counted
 
-  module _ (new : RunQueue) (after : SeatsView) (y : Task) (is : y ≡ after_change time change (owed s.upto s.seats x)) (are : after ≡ record s { seats = left_twice x y s.seats }) where
+  module _ (new : RunQueue) (after : SeatsView) (y : Task) (is : y ≡ after_change time change (owed s.upto s.seats x)) (left_are : after ≡ record s { seats = left_of x s.seats }) where
+    fit : IsFit w (get_or (owed_all s tasks) p seen) (after_change time change (get_or (owed_all s tasks) p seen))
+    fit = place_fit w queue (owed_all s tasks) p time change seen within fits counted
+
     same : y.number ≡ x.number
     same =
-        let fit = place_fit w queue (owed_all s tasks) p time change seen within fits counted in
         let made : (after_change time change seen).number ≡ seen.number = ap (λ (t : Task). (after_change time change t).number) read_seen ∙ fit.number ∙ sym (ap (λ (t : Task). t.number) read_seen) in
         ap (λ (t : Task). t.number) is ∙ made ∙ (alike_owed s.upto s.seats x).number
+
+    -- it belongs to the same CPU, so it leaves one seat and no other
+    stays : y.cpu ≡ x.cpu
+    stays =
+        let made : (after_change time change seen).cpu ≡ seen.cpu = ap (λ (t : Task). (after_change time change t).cpu) read_seen ∙ fit.cpu ∙ sym (ap (λ (t : Task). t.cpu) read_seen) in
+        ap (λ (t : Task). t.cpu) is ∙ made ∙ (alike_owed s.upto s.seats x).cpu
+
+    are : after ≡ record s { seats = left_twice x y s.seats }
+    are = left_are ∙ ap (λ (seats : List (Option Seat)). record s { seats = seats }) (sym (left_once x y s.seats stays))
 
     numbered : AllPairs (λ a b. a.number ≢ b.number) tasks
     numbered = numbered_unlike (owed s.upto s.seats) (alike_owed s.upto s.seats) tasks counted.roster.numbered
@@ -64,7 +70,7 @@ module _ (w time : ℕ) (change : Change) (queue : RunQueue) (s : SeatsView) (ta
     pub sound_turned : IsSound time y → All (IsSound time) (owed_all s tasks) → All (IsSound time) (owed_all after (set tasks p y))
     sound_turned one all = subst (All (IsSound time)) (sym view_is) (All-set (IsSound time) (owed_all s tasks) p y one all)
 
-    pub counted_turned : HasTurned p (standing_of (owed s.upto s.seats x)) (standing_of y) queue new → IsCounted w new (owed_all after (set tasks p y))
+    pub counted_turned : HasTurned p (owed s.upto s.seats x).number (owed s.upto s.seats x).cpu (standing_of (owed s.upto s.seats x)) (standing_of y) queue new → IsCounted w new (owed_all after (set tasks p y))
     counted_turned has = subst (IsCounted w new) (sym view_is) (place_counted w queue new (owed_all s tasks) p time change seen y within read_seen fits is has counted)
 
     pub waits_turned : AllWait s.seats tasks → AllWait after.seats (set tasks p y)

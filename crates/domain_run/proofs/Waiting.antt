@@ -231,6 +231,12 @@ length_left cpu number seats = by_seat (seat_by number (get_or seats cpu None))
 abbrev pub left_twice : Task → Task → List (Option Seat) → List (Option Seat)
 left_twice x y seats = left y.cpu x.number (left x.cpu x.number seats)
 
+-- which is one, where it belongs to the same CPU
+pub left_once : (x y : Task) (seats : List (Option Seat)) → y.cpu ≡ x.cpu → left_twice x y seats ≡ left_of x seats
+left_once x y seats same =
+    ap (λ (cpu : ℕ). left cpu x.number (left x.cpu x.number seats)) same
+    ∙ ap (left_if x.cpu (left x.cpu x.number seats)) (left_here x.cpu x.number seats)
+
 pub none_there : (x y : Task) (seats : List (Option Seat)) → y.number ≡ x.number → seat_of (left_twice x y seats) y ≡ None
 none_there x y seats same = ap (λ n. seat_by n (get_or (left_twice x y seats) y.cpu None)) same ∙ left_here y.cpu x.number (left x.cpu x.number seats)
 

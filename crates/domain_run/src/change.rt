@@ -86,7 +86,6 @@ fn act(task: &mut Task, time: u64, change: &Change)
 /// Makes a change, and answers how the task stood before where it may stand otherwise now.
 #[inline(always)]
 pub(crate) fn make(task: &mut Task, time: u64, change: &Change) -> Option<Standing>
-    requires home { task.old.cpu < 64 }
     requires sound { IsSound time task.old }
     requires may { MayMake time change.now task.old }
     ensures task { task.new ≡ after_change time change.now task.old }

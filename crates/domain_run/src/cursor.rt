@@ -126,6 +126,7 @@ impl Cursor {
     /// What the task does next, asked at this time, in microseconds below 2^48. The timer's
     /// reference is below 2^48 wherever no ask is before the start, or before the end of the last
     /// segment [`Segment::Until`]; so asked, it is never behind the next ask. Takes no memory.
+    #[inline(always)]
     pub fn next(&mut self, time: u64) -> Segment
         requires early { time < 2 ^ 48 }
         requires reference { self.old.reference < 2 ^ 48 }

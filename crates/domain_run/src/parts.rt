@@ -3,7 +3,6 @@
 ghost use Rattle.std.specs.Prelude.{◌≡◌, ◌<◌, ◌≤◌, ◌^◌, ◌-◌, IsTrue, IsSome, false, pos, neg_ℤ, ◌≤ℤ◌, ◌<ℤ◌};
 ghost use Rattle.domain_run.specs.Conditions as conditions;
 ghost use Rattle.cbs_rules.specs.Serving as serving;
-ghost use Rattle.domain_run.specs.Tick as tick_spec;
 ghost use Rattle.domain_run.specs.Switches as switches_spec;
 ghost use Rattle.domain_run.specs.Parts as parts;
 ghost use Rattle.domain_run.specs.private.Paying.{ran_until};
@@ -15,7 +14,6 @@ use crate::script::Segment;
 use crate::switch::PrevState;
 use crate::task::{Condition, Task};
 use cbs_rules::Server;
-use edf_pick::Candidate;
 
 pub(crate) fn has_come(time: u64, moment: Option<u64>) -> bool
     ensures { result ≡ conditions.has_come time moment }
@@ -101,6 +99,7 @@ fn wake_server(task: &Task, time: u64) -> Server
     cbs_rules::on_wake(task.server, &task.params, time)
 }
 
+#[inline(always)]
 fn wake(task: &mut Task, work: u64, time: u64)
     requires early { time < 2 ^ 42 }
     requires served { IsServed time task.old.server }
@@ -115,6 +114,7 @@ fn wake(task: &mut Task, work: u64, time: u64)
     enqueue(task, server, time);
 }
 
+#[inline(always)]
 fn start(task: &mut Task, segment: Segment, time: u64)
     requires early { time < 2 ^ 42 }
     requires served { IsServed time task.old.server }
@@ -132,6 +132,7 @@ fn start(task: &mut Task, segment: Segment, time: u64)
 }
 
 /// Part 3: a task whose time of blocking is over asks its script.
+#[inline(always)]
 pub(crate) fn unblock(task: &mut Task, time: u64)
     requires early { time < 2 ^ 42 }
     requires sound { IsSound time task.old }
@@ -141,18 +142,6 @@ pub(crate) fn unblock(task: &mut Task, time: u64)
     if task.condition.is_over(time) {
         let segment = task.cursor.next(time);
         start(task, segment, time);
-    }
-}
-
-/// Part 4: a ready task as the choice sees it.
-pub(crate) fn candidate_of(task: &Task) -> Candidate
-    requires { task.now.cpu < 64 }
-    ensures { result ≡ tick_spec.candidate_of task.now }
-{
-    Candidate {
-        deadline: task.server.deadline.unwrap_or(0),
-        number: task.number,
-        home: task.cpu as u32,
     }
 }
 
@@ -182,6 +171,7 @@ fn run_on(task: &mut Task, time: u64)
     };
 }
 
+#[inline(always)]
 pub(crate) fn stop(task: &mut Task, condition: Condition, time: u64)
     requires served { IsServed time task.old.server }
     requires resting { conditions.is_contending condition ≡ false }
@@ -193,6 +183,7 @@ pub(crate) fn stop(task: &mut Task, condition: Condition, time: u64)
     task.zero_lag = grub_rules::zero_lag(&task.server, &task.params, time);
 }
 
+#[inline(always)]
 fn go_on(task: &mut Task, segment: Segment, time: u64)
     requires served { IsServed time task.old.server }
     requires dated { IsSome task.old.server.deadline }
@@ -212,6 +203,7 @@ fn go_on(task: &mut Task, segment: Segment, time: u64)
     }
 }
 
+#[inline(always)]
 fn after_charge(task: &mut Task, time: u64)
     requires early { time < 2 ^ 43 }
     requires served { IsServed time task.old.server }
@@ -229,6 +221,7 @@ fn after_charge(task: &mut Task, time: u64)
 }
 
 /// Part 6: so many ticks of running at once, up to a time, with what they leave of the budget.
+#[inline(always)]
 pub(crate) fn run_until(task: &mut Task, time: u64, ticks: u64, left: i128)
     requires early { time < 2 ^ 43 }
     requires low { neg_ℤ (pos (2 ^ 32)) ≤ℤ left }

@@ -2,7 +2,7 @@
 //! ready ones in the order of the choice with who stands on each CPU, and when each is due. So a tick
 //! neither sums nor sorts, and looks at those alone that are due or have changed.
 
-ghost use Rattle.std.specs.Prelude.{◌≡◌, ◌≢◌, ◌<◌, ◌≤◌, ◌+◌, ◌-◌, ◌^◌, ◌∷◌, [], None, length, replicate, All, IfOk, IfSome};
+ghost use Rattle.std.specs.Prelude.{◌≡◌, ◌≢◌, ◌<◌, ◌≤◌, ◌+◌, ◌-◌, ◌^◌, ◌∷◌, [], None, length, not, replicate, All, IfOk, IfSome};
 ghost use Rattle.edf_pick.specs.Schedule.{IsAtHome};
 ghost use Rattle.grub_rules.specs.Accounts.{Holds, Exchanges};
 ghost use Rattle.domain_run.specs.private.RunQueue as spec;
@@ -22,52 +22,85 @@ pub(crate) struct RunQueue {
     pub(crate) timers: Timers,
 }
 
+fn share_on(cpu: usize, standing: &Standing) -> Share
+    ensures { result ≡ spec.share_on cpu standing.now }
+{
+    Share {
+        cpu,
+        bw: standing.bw,
+        active: standing.active,
+    }
+}
+
+// Bandwidth of a CPU becomes active, or inactive.
+#[inline(always)]
+fn turn_active(accounts: &mut Accounts, cpu: usize, bw: u64, active: bool)
+    requires { Holds accounts.old (record { cpu = cpu; bw = bw; active = not active }) }
+    ensures { Exchanges accounts.old accounts.new
+        (record { cpu = cpu; bw = bw; active = not active } ∷ [])
+        (record { cpu = cpu; bw = bw; active = active } ∷ []) }
+{
+    if active {
+        accounts.wake(cpu, bw);
+    } else {
+        accounts.idle(cpu, bw);
+    }
+}
+
 // The sums are told of a share that has changed. Mostly it has not, which a look tells.
 #[inline(always)]
-fn track(accounts: &mut Accounts, before: &Share, after: &Share)
-    requires held { Holds accounts.old before.now }
-    requires home { after.now.cpu < length accounts.old.all }
+fn track(accounts: &mut Accounts, cpu: usize, before: &Standing, after: &Standing)
+    requires held { Holds accounts.old (spec.share_on cpu before.now) }
     requires fits { accounts.old.total - before.now.bw + after.now.bw < 2 ^ 64 }
-    ensures { Exchanges accounts.old accounts.new (before.now ∷ []) (after.now ∷ []) }
+    ensures { Exchanges accounts.old accounts.new
+        (spec.share_on cpu before.now ∷ []) (spec.share_on cpu after.now ∷ []) }
 {
-    if before == after {
-        return;
-    }
-    accounts.track(before, after);
-}
-
-fn take_out(schedule: &mut Schedule, before: Option<Candidate>)
-    ensures { schedule.new
-        ≡ record schedule.old { queue = spec.without_ready before schedule.old.queue } }
-{
-    if let Some(c) = before {
-        schedule.remove(&c);
+    if before.bw != after.bw {
+        accounts.track(&share_on(cpu, before), &share_on(cpu, after));
+    } else if before.active != after.active {
+        turn_active(accounts, cpu, after.bw, after.active);
     }
 }
 
-fn take_in(schedule: &mut Schedule, after: Option<Candidate>)
-    requires room { length schedule.old.queue < 256 }
-    requires numbered { IfSome after (λ c. All (λ a. a.number ≢ c.number) schedule.old.queue) }
-    requires homed { IfSome after (λ c. IsAtHome schedule.old.places c) }
-    ensures { schedule.new ≡ record schedule.old { queue = spec.with_ready after schedule.old.queue } }
+// A task that is ready by a deadline, as the choice sees it.
+#[inline(always)]
+fn candidate(number: u32, cpu: usize, deadline: u64) -> Candidate
+    requires { cpu < 64 }
+    ensures { result ≡ spec.candidate number cpu deadline }
 {
-    if let Some(c) = after {
-        schedule.insert(c);
+    Candidate {
+        deadline,
+        number,
+        home: cpu as u32,
     }
 }
 
-#[inline(never)]
-fn replace(schedule: &mut Schedule, before: Option<Candidate>, after: Option<Candidate>)
-    requires room { length (spec.without_ready before schedule.old.queue) < 256 }
-    requires numbered { IfSome after
-        (λ c. All (λ a. a.number ≢ c.number) (spec.without_ready before schedule.old.queue)) }
-    requires homed { IfSome after (λ c. IsAtHome schedule.old.places c) }
+#[inline(always)]
+fn take_out(schedule: &mut Schedule, number: u32, cpu: usize, before: Option<u64>)
+    requires { cpu < 64 }
     ensures { schedule.new ≡ record schedule.old {
-      queue = spec.with_ready after (spec.without_ready before schedule.old.queue);
+      queue = spec.without_ready (spec.candidate_at number cpu before) schedule.old.queue;
     } }
 {
-    take_out(schedule, before);
-    take_in(schedule, after);
+    if let Some(deadline) = before {
+        schedule.remove(&candidate(number, cpu, deadline));
+    }
+}
+
+#[inline(always)]
+fn take_in(schedule: &mut Schedule, number: u32, cpu: usize, after: Option<u64>)
+    requires cpu { cpu < 64 }
+    requires room { length schedule.old.queue < 256 }
+    requires numbered { IfSome (spec.candidate_at number cpu after)
+        (λ c. All (λ a. a.number ≢ c.number) schedule.old.queue) }
+    requires homed { IfSome (spec.candidate_at number cpu after) (λ c. IsAtHome schedule.old.places c) }
+    ensures { schedule.new ≡ record schedule.old {
+      queue = spec.with_ready (spec.candidate_at number cpu after) schedule.old.queue;
+    } }
+{
+    if let Some(deadline) = after {
+        schedule.insert(candidate(number, cpu, deadline));
+    }
 }
 
 impl RunQueue {
@@ -86,15 +119,25 @@ impl RunQueue {
         })
     }
 
-    /// The task at a place of the list stood as `before`, and stands as `after` now.
+    /// The task at a place of the list, of a number, which belongs to a CPU, stood as `before`, and
+    /// stands as `after` now.
     #[inline(always)]
-    pub(crate) fn turn(&mut self, place: usize, before: Standing, after: Standing)
-        requires { spec.MayTurn place self.old before after }
-        ensures { spec.HasTurned place before after self.old self.new }
+    pub(crate) fn turn(
+        &mut self,
+        place: usize,
+        number: u32,
+        cpu: usize,
+        before: &Standing,
+        after: &Standing,
+    )
+        requires narrow { length self.old.accounts.all ≤ 64 }
+        requires turns { spec.MayTurn place number cpu self.old before.now after.now }
+        ensures { spec.HasTurned place number cpu before.now after.now self.old self.new }
     {
-        track(&mut self.accounts, &before.share, &after.share);
+        track(&mut self.accounts, cpu, before, after);
         if before.ready != after.ready {
-            replace(&mut self.schedule, before.ready, after.ready);
+            take_out(&mut self.schedule, number, cpu, before.ready);
+            take_in(&mut self.schedule, number, cpu, after.ready);
         }
         if before.due != after.due {
             self.timers.set(place, after.due);

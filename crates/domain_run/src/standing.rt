@@ -1,27 +1,28 @@
 //! How a task stands, for what a domain keeps beside its list: its share of the sums, whether it is
-//! ready, and when it is due.
+//! ready, and when it is due. Its number and the CPU to which it belongs are told beside that.
 
-ghost use Rattle.std.specs.Prelude.{◌≡◌, ◌<◌};
+ghost use Rattle.std.specs.Prelude.{◌≡◌, ◌<◌, ◌^◌};
 ghost use Rattle.domain_run.specs.Tick as tick_spec;
 ghost use Rattle.domain_run.specs.private.RunQueue as spec;
 ghost use Rattle.domain_run.specs.private.Timers as timers;
 
-use crate::parts;
-use crate::task::Task;
+use crate::task::{Condition, Task};
 use crate::timers::NEVER;
-use edf_pick::Candidate;
 use grub_rules::Share;
 
 /// A task as the sums see it, as the choice does where it is ready, and when it is due.
 #[derive(Clone, Copy, Debug, PartialEq, Eq)]
 pub(crate) struct Standing {
-    pub(crate) share: Share,
-    pub(crate) ready: Option<Candidate>,
+    pub(crate) bw: u64,
+    pub(crate) active: bool,
+    /// The deadline by which it is chosen, where it is ready.
+    pub(crate) ready: Option<u64>,
     /// The first time at which something is to be done to it before the choice, in microseconds.
     pub(crate) due: u64,
 }
 
 /// Whether a task's bandwidth is active: it contends, or has a zero-lag time ahead.
+#[inline(always)]
 fn is_active(task: &Task) -> bool
     ensures { result ≡ (tick_spec.share_of task.now).active }
 {
@@ -39,8 +40,10 @@ pub(crate) fn share_of(task: &Task) -> Share
     }
 }
 
+#[inline(always)]
 fn moment_of(moment: Option<u64>) -> u64
-    ensures { result ≡ timers.moment_of moment }
+    ensures moment { result ≡ timers.moment_of moment }
+    ensures short { result < 2 ^ 64 }
 {
     match moment {
         None => NEVER,
@@ -49,41 +52,39 @@ fn moment_of(moment: Option<u64>) -> u64
 }
 
 /// The first time at which something is to be done to a task before the choice.
+#[inline(always)]
 pub(crate) fn due_of(task: &Task) -> u64
     ensures { result ≡ timers.due_of task.now }
 {
-    let replenished = if task.condition.is_throttled() {
-        task.server.deadline
-    } else {
-        None
-    };
-    let gone = if parts::is_listed(task) {
-        None
-    } else {
-        Some(0)
-    };
-    let served = moment_of(replenished).min(moment_of(task.zero_lag));
-    served.min(moment_of(task.condition.asks_at()).min(moment_of(gone)))
+    let settled = moment_of(task.zero_lag);
+    match task.condition {
+        Condition::Ready | Condition::Waiting => settled,
+        Condition::Throttled => moment_of(task.server.deadline).min(settled),
+        Condition::Blocked(until) => until.min(settled),
+        Condition::Leaving => task.zero_lag.unwrap_or(0),
+    }
 }
 
-fn ready_of(task: &Task) -> Option<Candidate>
-    requires { task.now.cpu < 64 }
-    ensures { result ≡ spec.ready_of task.now }
+#[inline(always)]
+fn ready_at(task: &Task) -> Option<u64>
+    ensures { result ≡ spec.ready_at task.now }
 {
-    if task.condition.is_ready() {
-        return Some(parts::candidate_of(task));
+    match task.condition {
+        Condition::Ready => Some(task.server.deadline.unwrap_or(0)),
+        _ => None,
     }
-    None
 }
 
 /// How a task stands now.
+#[inline(always)]
 pub(crate) fn standing_of(task: &Task) -> Standing
-    requires { task.now.cpu < 64 }
     ensures { result ≡ spec.standing_of task.now }
 {
+    let bw = task.params.bw;
     Standing {
-        share: share_of(task),
-        ready: ready_of(task),
+        bw,
+        active: is_active(task),
+        ready: ready_at(task),
         due: due_of(task),
     }
 }

@@ -2,7 +2,6 @@
 
 ghost use Rattle.std.specs.Prelude.{◌≡◌};
 ghost use Rattle.domain_run.specs.Conditions as conditions;
-ghost use Rattle.domain_run.specs.Jump as jump;
 
 use crate::cursor::Cursor;
 use crate::name::Name;
@@ -61,15 +60,6 @@ impl Condition {
         match self {
             Condition::Blocked(until) => until <= time,
             _ => false,
-        }
-    }
-
-    pub(crate) fn asks_at(self) -> Option<u64>
-        ensures { result ≡ jump.asks_at self }
-    {
-        match self {
-            Condition::Blocked(until) => Some(until),
-            _ => None,
         }
     }
 }

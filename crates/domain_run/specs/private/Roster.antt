@@ -1,6 +1,6 @@
 -- The list of tasks with what is kept beside it, and what changes one task of it, for the code's
 -- own contracts.
-use Rattle.std.specs.Prelude.{ℕ, ℤ, pos, neg_ℤ, ◌*◌, ◌+◌, ◌<◌, ◌≤◌, ◌^◌, ◌≤ℤ◌, ◌-ℤ◌, ◌≡◌, true, if◌then◌else◌, All, List, [], ◌∷◌, ◌++◌, length, take, drop, slice_index_or, Option, Some, None, IsTrue}
+use Rattle.std.specs.Prelude.{ℕ, ℤ, pos, neg_ℤ, ◌*◌, ◌+◌, ◌<◌, ◌≤◌, ◌^◌, ◌≤ℤ◌, ◌-ℤ◌, ◌≡◌, true, if◌then◌else◌, List, [], ◌∷◌, ◌++◌, length, take, drop, slice_index_or, Option, Some, None, IsTrue}
 use Rattle.domain_run.specs.declared.task.Condition.TheVariants.{Leaving}
 use Rattle.domain_run.specs.declared.task.Task.{Task}
 use Rattle.domain_run.specs.declared.change.Change.{Change}

@@ -1,6 +1,7 @@
 -- What a domain keeps of its tasks beside their list, for the code's own contracts.
 use Rattle.std.specs.Prelude.{ℕ, ◌+◌, ◌-◌, ◌<◌, ◌≤◌, ◌^◌, ◌≡◌, ◌≢◌, ◌⊎◌, Bool, true, if◌then◌else◌, List, [], ◌∷◌, length, map, slice_set, All, AllPairs, Option, Some, None, IfSome}
 use Rattle.grub_rules.specs.Accounts.{AreAccounts, Holds, Exchanges}
+use Rattle.grub_rules.specs.declared.share.Share.{Share}
 use Rattle.edf_pick.specs.declared.candidate.Candidate.{Candidate}
 use Rattle.edf_pick.specs.Order.{ordered, with_candidate, without_candidate}
 use Rattle.edf_pick.specs.Schedule.{IsAtHome}
@@ -16,13 +17,28 @@ use Rattle.domain_run.specs.Jump.{running_numbers}
 use Rattle.domain_run.specs.Tick.{share_of, shares, candidate_of, candidates}
 use Rattle.domain_run.specs.private.Timers.{due_of}
 
--- a ready task as the choice sees it
-abbrev pub ready_of : Task → Option Candidate
-ready_of t = if is_ready t.condition then Some (candidate_of t) else None
+-- the deadline of a ready task, as the choice sees it
+abbrev pub ready_at : Task → Option ℕ
+ready_at t = if is_ready t.condition then Some (candidate_of t).deadline else None
 
 -- a task as the sums see it, and as the choice does, and when it is due
 abbrev pub standing_of : Task → Standing
-standing_of t = record { share = share_of t; ready = ready_of t; due = due_of t }
+standing_of t = record { bw = (share_of t).bw; active = (share_of t).active; ready = ready_at t; due = due_of t }
+
+-- what the sums see of one that belongs to a CPU
+abbrev pub share_on : ℕ → Standing → Share
+share_on cpu s = record { cpu = cpu; bw = s.bw; active = s.active }
+
+-- what the choice sees of one of a number, which belongs to a CPU
+abbrev pub candidate : ℕ → ℕ → ℕ → Candidate
+candidate number cpu deadline = record { deadline = deadline; number = number; home = cpu }
+
+abbrev pub candidate_at : ℕ → ℕ → Option ℕ → Option Candidate
+candidate_at number cpu None = None
+candidate_at number cpu (Some deadline) = Some (candidate number cpu deadline)
+
+abbrev pub ready_of : Task → Option Candidate
+ready_of t = candidate_at t.number t.cpu (ready_at t)
 
 -- THE INVARIANT: the sums are those of the list, the schedule has its ready tasks in order, and the
 -- timers tell when each is due
@@ -57,23 +73,24 @@ abbrev pub without_ready : Option Candidate → List Candidate → List Candidat
 without_ready None queue = queue
 without_ready (Some c) queue = without_candidate c queue
 
--- the task at a place of those that are counted may turn from `before` to `after`
-pub record MayTurn (place : ℕ) (queue : RunQueue) (before after : Standing) : Type 0 where
+-- the task at a place of those that are counted, of a number, which belongs to a CPU, may turn from
+-- `before` to `after`
+pub record MayTurn (place number cpu : ℕ) (queue : RunQueue) (before after : Standing) : Type 0 where
   pub within : place < length queue.timers
-  pub held : Holds queue.accounts before.share
-  pub home : after.share.cpu < length queue.accounts.all
-  pub fits : queue.accounts.total - before.share.bw + after.share.bw < 2 ^ 64
-  pub room : length (without_ready before.ready queue.schedule.queue) < 256
-  pub numbered : IfSome after.ready
-      (λ c. All (λ a. a.number ≢ c.number) (without_ready before.ready queue.schedule.queue))
-  pub homed : IfSome after.ready (λ c. IsAtHome queue.schedule.places c)
+  pub held : Holds queue.accounts (share_on cpu before)
+  pub fits : queue.accounts.total - before.bw + after.bw < 2 ^ 64
+  pub room : length (without_ready (candidate_at number cpu before.ready) queue.schedule.queue) < 256
+  pub numbered : IfSome (candidate_at number cpu after.ready)
+      (λ c. All (λ a. a.number ≢ c.number)
+      (without_ready (candidate_at number cpu before.ready) queue.schedule.queue))
+  pub homed : IfSome (candidate_at number cpu after.ready) (λ c. IsAtHome queue.schedule.places c)
 
 -- it has
-pub record HasTurned (place : ℕ) (before after : Standing) (old new : RunQueue) : Type 0 where
-  pub sums : Exchanges old.accounts new.accounts (before.share ∷ []) (after.share ∷ [])
+pub record HasTurned (place number cpu : ℕ) (before after : Standing) (old new : RunQueue) : Type 0 where
+  pub sums : Exchanges old.accounts new.accounts (share_on cpu before ∷ []) (share_on cpu after ∷ [])
   pub order : ((before.ready ≡ after.ready) × (new.schedule.queue ≡ old.schedule.queue))
-      ⊎ (new.schedule.queue
-      ≡ with_ready after.ready (without_ready before.ready old.schedule.queue))
+      ⊎ (new.schedule.queue ≡ with_ready (candidate_at number cpu after.ready)
+      (without_ready (candidate_at number cpu before.ready) old.schedule.queue))
   pub places : new.schedule.places ≡ old.schedule.places
   pub due : ((before.due ≡ after.due) × (new.timers ≡ old.timers))
       ⊎ (new.timers ≡ slice_set old.timers place after.due)

@@ -48,18 +48,19 @@ pub(super) fn settle(task: &mut Task, seats: &mut Seats)
 #[inline(always)]
 fn turn_settled(task: &mut Task, queue: &mut RunQueue, place: usize, time: u64, change: &Change)
     requires narrow { length queue.old.accounts.all ≤ 64 }
-    requires home { task.old.cpu < 64 }
     requires sound { IsSound time task.old }
     requires may { MayMake time change.now task.old }
-    requires turns { spec.MayTurn place queue.old (spec.standing_of task.old)
+    requires turns { spec.MayTurn place task.old.number task.old.cpu queue.old
+        (spec.standing_of task.old)
         (spec.standing_of (after_change time change.now task.old)) }
     ensures task { task.new ≡ after_change time change.now task.old }
     ensures sound { IsSound time task.new }
-    ensures turned { spec.HasTurned place (spec.standing_of task.old) (spec.standing_of task.new)
-        queue.old queue.new }
+    ensures turned { spec.HasTurned place task.old.number task.old.cpu
+        (spec.standing_of task.old) (spec.standing_of task.new) queue.old queue.new }
 {
+    let (number, cpu) = (task.number, task.cpu);
     if let Some(before) = make(task, time, change) {
-        queue.turn(place, before, standing_of(task));
+        queue.turn(place, number, cpu, &before, &standing_of(task));
     }
 }
 
@@ -74,7 +75,8 @@ pub(super) fn leave_other(seats: &mut Seats, left: usize, cpu: usize, number: u3
     }
 }
 
-/// Makes a change of a task as it is once it is charged. Where it belongs then, it has no seat.
+/// Makes a change of a task as it is once it is charged. On the CPU to which it belongs, and belongs
+/// still, it has no seat then.
 #[inline(always)]
 fn turn_one(
     task: &mut Task,
@@ -85,12 +87,13 @@ fn turn_one(
     change: &Change,
 )
     requires narrow { length queue.old.accounts.all ≤ 64 }
-    requires home { task.old.cpu < 64 }
     requires waits { waiting.WaitsIf seats.old.seats task.old }
     requires sound { IsSound time (waiting.owed seats.old.upto seats.old.seats task.old) }
     requires may { MayMake time change.now
         (waiting.owed seats.old.upto seats.old.seats task.old) }
-    requires turns { spec.MayTurn place queue.old
+    requires turns { spec.MayTurn place
+        (waiting.owed seats.old.upto seats.old.seats task.old).number
+        (waiting.owed seats.old.upto seats.old.seats task.old).cpu queue.old
         (spec.standing_of (waiting.owed seats.old.upto seats.old.seats task.old))
         (spec.standing_of
         (after_change time change.now (waiting.owed seats.old.upto seats.old.seats task.old))) }
@@ -98,17 +101,16 @@ fn turn_one(
         ≡ after_change time change.now (waiting.owed seats.old.upto seats.old.seats task.old) }
     ensures sound { IsSound time task.new }
     ensures turned { spec.HasTurned place
+        (waiting.owed seats.old.upto seats.old.seats task.old).number
+        (waiting.owed seats.old.upto seats.old.seats task.old).cpu
         (spec.standing_of (waiting.owed seats.old.upto seats.old.seats task.old))
         (spec.standing_of task.new) queue.old queue.new }
     ensures seats { seats.new ≡ record seats.old {
-      seats = seats_spec.left task.new.cpu task.old.number
-          (seats_spec.left task.old.cpu task.old.number seats.old.seats);
+      seats = seats_spec.left task.old.cpu task.old.number seats.old.seats;
     } }
 {
-    let (number, home) = (task.number, task.cpu);
     settle(task, seats);
     turn_settled(task, queue, place, time, change);
-    leave_other(seats, home, task.cpu, number);
 }
 
 /// Changes the task at a place of the list.

@@ -1,10 +1,7 @@
 use Rattle.std.proofs.Common.{length, ap}
 use Rattle.domain_run.specs.private.Seats.{SeatsView}
-use Rattle.domain_run.proofs.Turning.{home_in, waits_at, sound_at, may_at, turns_at, step_turned, sound_turned, counted_turned, waits_turned, seats_turned, wide_turned}
+use Rattle.domain_run.proofs.Turning.{waits_at, sound_at, may_at, turns_at, step_turned, sound_turned, counted_turned, waits_turned, seats_turned, wide_turned}
 use Rattle.domain_run.proofs.roster.turning.turn_task.Goals as goal
-
-pub turn_one-requires-clause-home : goal.turn_one-requires-clause-home
-turn_one-requires-clause-home c = home_in (length c.args.queue.now.accounts.all) c.args.time c.args.change.now c.args.queue.now c.args.seats.now c.args.tasks.now.items c.args.place c.index_mut.result.now c.requires.there c.index_mut.ensures.value c.requires.fits c.requires.counted c.requires.narrow
 
 pub turn_one-requires-clause-waits : goal.turn_one-requires-clause-waits
 turn_one-requires-clause-waits c = waits_at (length c.args.queue.now.accounts.all) c.args.time c.args.change.now c.args.queue.now c.args.seats.now c.args.tasks.now.items c.args.place c.index_mut.result.now c.requires.there c.index_mut.ensures.value c.requires.fits c.requires.counted c.requires.waits
