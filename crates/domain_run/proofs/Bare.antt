@@ -33,9 +33,6 @@ module _ (upto : ℕ) (seats : List (Option Seat)) (items : List Task) (p : ℕ)
       let t = get_or (map (owed upto seats) items) p d in
       ap (λ c. seat_by t.number (get_or seats c None)) (home d) ∙ ap (seat_by t.number) free)
 
-  pub params_seen : (d : Task) → x.params ≡ (get_or (map (owed upto seats) items) p d).params
-  params_seen d = sym (alike_owed upto seats x).params ∙ ap (λ (t : Task). t.params) (seen_at d)
-
   pub cpu_seen : (d : Task) → x.cpu ≡ (get_or (map (owed upto seats) items) p d).cpu
   cpu_seen d = sym (alike_owed upto seats x).cpu ∙ ap (λ (t : Task). t.cpu) (seen_at d)
 

@@ -179,37 +179,7 @@ at_rate rate o s is e = subst (IsAtRate rate) (sym is) e
 pub right_rate : (n number rate other : ℕ) (o : Option Seat) → (n ≡ number → rate ≡ other) → IsRight (Some n) number rate o → IsRight (Some n) number other o
 right_rate n number rate other o same is = (λ e. subst (λ r. IsAtRate r o) (same e) (is.0 e), is.1)
 
-module _ (cpu n rate : ℕ) (seats : List (Option Seat)) where
-  pub taken_right : (s : Seat) (t : Task) → cpu < length seats → s.number ≡ n → s.rate ≡ rate → t.cpu ≡ cpu → IsRight (Some n) t.number rate (seat_of (set seats cpu (Some s)) t)
-  taken_right s t inside its r e =
-      let here : seat_of (set seats cpu (Some s)) t ≡ seat_by t.number (Some s) = ap (λ c. seat_by t.number (get_or (set seats cpu (Some s)) c None)) e ∙ ap (seat_by t.number) (get_or-set_same seats cpu (Some s) None inside) in (
-        λ k. at_rate rate (seat_of (set seats cpu (Some s)) t) s (here ∙ ap (λ b. cond b (Some s) None) (eq-eqb s.number t.number (its ∙ k))) r,
-        λ k. here ∙ other_seat t.number s (λ q. k (sym its ∙ q)),
-      )
-
-  pub free_right : (t : Task) → get_or seats cpu None ≡ None → t.number ≢ n → t.cpu ≡ cpu → IsRight (Some n) t.number rate (seat_of seats t)
-  free_right t free other e = (λ k. absurd (other (sym k)), λ k. ap (λ c. seat_by t.number (get_or seats c None)) e ∙ ap (seat_by t.number) free)
-
-  pub sits_right : (t : Task) → IsAtRate rate (seat_by n (get_or seats cpu None)) → t.cpu ≡ cpu → IsRight (Some n) t.number rate (seat_of seats t)
-  sits_right t is e = by_seat (seat_by n (get_or seats cpu None)) refl is
-    where
-      here : seat_of seats t ≡ seat_by t.number (get_or seats cpu None)
-      here = ap (λ c. seat_by t.number (get_or seats c None)) e
-
-      by_seat : (o : Option Seat) → seat_by n (get_or seats cpu None) ≡ o → IsAtRate rate o → IsRight (Some n) t.number rate (seat_of seats t)
-      by_seat None q r = absurd r
-      by_seat (Some s) q r =
-          let at = sits n (get_or seats cpu None) s q in (
-            λ k. at_rate rate (seat_of seats t) s (here ∙ ap (λ m. seat_by m (get_or seats cpu None)) (sym k) ∙ q) r,
-            λ k. here ∙ ap (seat_by t.number) at.at ∙ other_seat t.number s (λ z. k (sym at.its ∙ z)),
-          )
-
--- tasks of the same parameters have the same rate
-pub rated_alike : (kept : Option Basis) (rate : ℕ) (t u : Task) → t.params ≡ u.params → IsRatedBy kept rate t → IsRatedBy kept rate u
-rated_alike None rate t u same rated = λ b. rated b ∙ (λ i. reclaiming.rate (same i) b.uinact b.sum b.cpus b.limit)
-rated_alike (Some b) rate t u same rated = rated ∙ (λ i. reclaiming.rate (same i) b.uinact b.sum b.cpus b.limit)
-
-pub rated_on : (kept : Option Basis) (rate : ℕ) (t : Task) (b : Basis) → IfSome kept (λ k. k ≡ b) → IsRatedBy kept rate t → rate ≡ rate_by b t
+rated_on : (kept : Option Basis) (rate : ℕ) (t : Task) (b : Basis) → IfSome kept (λ k. k ≡ b) → IsRatedBy kept rate t → rate ≡ rate_by b t
 rated_on None rate t b same rated = rated b
 rated_on (Some k) rate t b same rated = rated ∙ ap (λ (x : Basis). rate_by x t) same
 

@@ -1,6 +1,6 @@
 //! Who sits on which CPU: nobody is charged by it, as callers see it.
 
-ghost use Rattle.std.specs.Prelude.{◌≡◌, ◌≢◌, ◌<◌, ◌≤◌, ◌^◌, ◌*◌, ◌-◌, ℕ, All, IfSome, IsTrue, None, Some, false, length, pos, slice_index_or, slice_set};
+ghost use Rattle.std.specs.Prelude.{◌≡◌, ◌≢◌, ◌<◌, ◌≤◌, ◌^◌, ◌*◌, ◌-◌, ℕ, All, IfSome, IsSomeAnd, IsTrue, None, Some, false, length, pos, slice_index_or, slice_set};
 ghost use Rattle.std.specs.Int.{bit_at};
 ghost use Rattle.attr_check.specs.Ratio.{cap};
 ghost use Rattle.domain_run.specs.Domain.{IsLimit};
@@ -192,9 +192,9 @@ impl Roster {
         ensures tasks { self.new.tasks ≡ self.old.tasks }
         ensures others { (d : ℕ) → d ≢ cpu
             → slice_index_or self.new.seats d None ≡ slice_index_or self.old.seats d None }
-        ensures right { (d : Task) → All (λ t. t.cpu ≡ cpu → spec.IsRight
-            (Some (slice_index_or self.old.tasks place d).number) t.number rating.rate
-            (spec.seat_of self.new.seats t)) self.new.tasks }
+        ensures sits { (d : Task) → IsSomeAnd (slice_index_or self.new.seats cpu None)
+            (λ s. (s.number ≡ (slice_index_or self.old.tasks place d).number)
+            × (s.basis ≡ rating.basis)) }
     {
         let seat = seat_for(&self.tasks[place], self.seats.upto(), rating);
         self.seats.sit_down(cpu, seat);
@@ -269,7 +269,8 @@ impl Roster {
         self.doubts.cpus
     }
 
-    /// A CPU, where who stands sits rightly, is in doubt no more, if what it was looked at for is noted.
+    /// A CPU, where who stands sits rightly, is in doubt no more. Where the rate can change that is so
+    /// only if what it was looked at for is noted.
     #[inline(always)]
     fn trust(&mut self, cpu: usize, limit: u64)
         requires there { cpu < self.old.cpus }
@@ -281,8 +282,8 @@ impl Roster {
             → spec.IsRight (slice_index_or self.old.places cpu None) t.number
             (rate_in self.old.cpus limit self.old.tasks t) (spec.seat_of self.old.seats t)) self.old.tasks }
     {
-        if self.doubts.is_for(self.sum(), limit) {
-            let is_rated = self.seats.is_rated(cpu);
+        let is_rated = self.seats.is_rated(cpu);
+        if self.doubts.may_trust(is_rated, self.sum(), limit) {
             self.doubts.clear(cpu, is_rated);
         }
     }
@@ -317,6 +318,7 @@ impl Roster {
         requires limit { IsLimit limit }
         requires within { sum_of self.old.tasks ≤ cap self.old.cpus limit }
         requires may { All (λ t. t.number ≡ number → (t.cpu ≡ cpu) × spec.MaySit t) self.old.tasks }
+        requires stands { slice_index_or self.old.places cpu None ≡ Some number }
         ensures cpus { self.new.cpus ≡ self.old.cpus }
         ensures places { self.new.places ≡ self.old.places }
         ensures clock { self.new.clock ≡ self.old.clock }
@@ -330,6 +332,7 @@ impl Roster {
         if let Some(place) = self.place(number) {
             let rating = self.rating(cpu, place, limit);
             self.occupy(cpu, place, rating);
+            self.trust(cpu, limit);
         }
     }
 
@@ -342,6 +345,7 @@ impl Roster {
         requires within { sum_of self.old.tasks ≤ cap self.old.cpus limit }
         requires may { IfSome occupant
             (λ n. All (λ t. t.number ≡ n → (t.cpu ≡ cpu) × spec.MaySit t) self.old.tasks) }
+        requires stands { slice_index_or self.old.places cpu None ≡ occupant }
         ensures cpus { self.new.cpus ≡ self.old.cpus }
         ensures places { self.new.places ≡ self.old.places }
         ensures clock { self.new.clock ≡ self.old.clock }
@@ -352,7 +356,10 @@ impl Roster {
             (rate_in self.old.cpus limit self.old.tasks t) (spec.seat_of self.new.seats t)) self.new.tasks }
     {
         match occupant {
-            None => self.leave_free(cpu),
+            None => {
+                self.leave_free(cpu);
+                self.trust(cpu, limit);
+            }
             Some(number) => self.reseat(cpu, number, limit),
         }
     }

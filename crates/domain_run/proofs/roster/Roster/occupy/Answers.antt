@@ -1,14 +1,16 @@
-use Rattle.std.proofs.Common.{◌≡◌, ◌<◌, Some, None, length, get_or, sym, ap, subst, ◌∙◌, arith}
-use Rattle.std.proofs.lemmas.List.{length-set, get_or_default}
+use Rattle.std.proofs.Common.{◌≡◌, ◌<◌, Some, None, length, get_or, set, sym, ap, subst, ◌∙◌, arith}
+use Rattle.std.specs.Prelude.{IsSomeAnd}
+use Rattle.std.proofs.lemmas.List.{length-set, get_or_default, get_or-set_same}
+use Rattle.domain_run.specs.declared.seats.Seat.{Seat}
 use Rattle.domain_run.specs.declared.task.Task.{Task}
 use Rattle.domain_run.specs.private.Roster.{RosterView}
 use Rattle.domain_run.specs.private.Seats.{SeatsView}
-use Rattle.domain_run.specs.private.Waiting.{owed, owed_all, seat_of, AllWait, Waits, MaySit, IsRight, IsRatedBy}
+use Rattle.domain_run.specs.private.Waiting.{owed, owed_all, AllWait, Waits, MaySit, IsRatedBy}
 use Rattle.domain_run.proofs.Bare.{inside_seen, bare_on}
 use Rattle.domain_run.proofs.Placing.{one_index}
 use Rattle.domain_run.proofs.Waiting.{alike_owed, numbered_unlike}
 use Rattle.domain_run.proofs.Doubting.{set_settled}
-use Rattle.domain_run.proofs.Seatings.{taken_view, taken_waits, taken_right, kept_again}
+use Rattle.domain_run.proofs.Seatings.{taken_view, taken_waits, kept_again}
 use Rattle.domain_run.proofs.roster.Roster.occupy.Goals as goal
 
 pub seat_for-seat-requires-clause-may : goal.seat_for-seat-requires-clause-may
@@ -63,8 +65,8 @@ returns-clause-tasks c =
     let since : seat.since ≡ s.seats.upto = c.seat_for-seat.ensures.since ∙ c.upto.ensures.upto in
     ap (λ (v : SeatsView). owed_all v s.tasks.items) c.sit_down.ensures ∙ taken_view s.seats.upto c.args.cpu s.seats.seats seat free there since s.tasks.items ∙ ap (λ (r : RosterView). r.tasks) c.self.view_is
 
-pub returns-clause-right : goal.returns-clause-right
-returns-clause-right c z k d w e =
+pub returns-clause-sits : goal.returns-clause-sits
+returns-clause-sits c z =
     let s = c.self.inside in
     let p = c.args.place in
     let x = c.index.result.now in
@@ -73,7 +75,8 @@ returns-clause-right c z k d w e =
     let free = subst (λ (r : RosterView). get_or r.seats c.args.cpu None ≡ None) (sym c.self.view_is) c.requires.free in
     let home = subst (λ (r : RosterView). (d : Task) → (get_or r.tasks p d).cpu ≡ c.args.cpu) (sym c.self.view_is) c.requires.home in
     let there : c.args.cpu < length s.seats.seats = let a = subst (λ (r : RosterView). c.args.cpu < r.cpus) (sym c.self.view_is) c.requires.there in omega (arith, a, c.self.invariant.wide) in
-    let t = get_or (owed_all c.sit_down.new.self s.tasks.items) k d in
     let n = (get_or c.args.self.now.tasks p z).number in
     let its : seat.number ≡ n = c.seat_for-seat.ensures.number ∙ ap (λ (u : Task). u.number) (bare_on s.seats.upto s.seats.seats s.tasks.items p x h c.index.ensures c.args.cpu free home z) ∙ ap (λ (r : RosterView). (get_or r.tasks p z).number) c.self.view_is in
-    subst (λ (v : SeatsView). IsRight (Some n) t.number c.args.rating.rate (seat_of v.seats t)) (sym c.sit_down.ensures) (taken_right c.args.cpu n c.args.rating.rate s.seats.seats seat t there its c.seat_for-seat.ensures.rate e)
+    let is : get_or (set s.seats.seats c.args.cpu (Some seat)) c.args.cpu None ≡ Some seat = get_or-set_same s.seats.seats c.args.cpu (Some seat) None there in
+    subst (λ (v : SeatsView). IsSomeAnd (get_or v.seats c.args.cpu None) (λ (q : Seat). (q.number ≡ n) × (q.basis ≡ c.args.rating.basis))) (sym c.sit_down.ensures)
+    (subst (λ o. IsSomeAnd o (λ (q : Seat). (q.number ≡ n) × (q.basis ≡ c.args.rating.basis))) (sym is) (its, c.seat_for-seat.ensures.basis))

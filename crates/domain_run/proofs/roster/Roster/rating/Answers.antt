@@ -1,15 +1,10 @@
-use Rattle.std.proofs.Common.{◌≡◌, ◌<◌, ◌≤◌, ◌*◌, ℕ, length, get_or, sym, ap, subst, ◌∙◌, arith}
+use Rattle.std.proofs.Common.{◌≡◌, ◌≤◌, ◌*◌, ap, arith}
 use Rattle.std.proofs.Math.Nat.{mul-le-mul}
 use Rattle.attr_check.specs.Ratio.{cap}
 use Rattle.grub_rules.specs.Sums.{uinact}
 use Rattle.grub_rules.proofs.CallerLemmas.{uinact-le-total_bw}
 use Rattle.domain_run.specs.Tick.{shares}
 use Rattle.domain_run.specs.declared.seats.Basis.{Basis}
-use Rattle.domain_run.specs.declared.task.Task.{Task}
-use Rattle.domain_run.specs.private.Roster.{RosterView}
-use Rattle.domain_run.specs.private.Waiting.{IsRatedBy}
-use Rattle.domain_run.proofs.Bare.{inside_seen, params_seen}
-use Rattle.domain_run.proofs.Seatings.{rated_alike}
 use Rattle.domain_run.proofs.roster.Roster.rating.Goals as goal
 
 pub rated_on-requires-clause-uinact : goal.rated_on-requires-clause-uinact

@@ -1,1 +1,0 @@
-use Rattle.domain_run.proofs.roster.Roster.sits_rightly.Goals as goal
