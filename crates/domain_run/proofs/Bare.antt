@@ -27,6 +27,12 @@ module _ (upto : ℕ) (seats : List (Option Seat)) (items : List Task) (p : ℕ)
       let none : seat_of seats x ≡ None = own ∙ ap (seat_of seats) (seen_at x) ∙ free x in
       sym (ap (λ o. owed_by upto o x) none) ∙ seen_at d
 
+  -- where it belongs to a CPU on which nobody sits
+  pub bare_on : (cpu : ℕ) → get_or seats cpu None ≡ None → ((d : Task) → (get_or (map (owed upto seats) items) p d).cpu ≡ cpu) → (d : Task) → x ≡ get_or (map (owed upto seats) items) p d
+  bare_on cpu free home = bare_at (λ d.
+      let t = get_or (map (owed upto seats) items) p d in
+      ap (λ c. seat_by t.number (get_or seats c None)) (home d) ∙ ap (seat_by t.number) free)
+
   pub cpu_seen : (d : Task) → x.cpu ≡ (get_or (map (owed upto seats) items) p d).cpu
   cpu_seen d = sym (alike_owed upto seats x).cpu ∙ ap (λ (t : Task). t.cpu) (seen_at d)
 

@@ -26,7 +26,7 @@ use Rattle.domain_run.specs.private.Seats.{SeatsView, left}
 use Rattle.domain_run.specs.private.Timers.{due_of}
 use Rattle.domain_run.specs.private.Waiting.{owed, owed_all, WaitsIf, AllWait}
 use Rattle.domain_run.proofs.AtHome.{homed_placed}
-use Rattle.domain_run.proofs.Counting.{roster_set, total_short}
+use Rattle.domain_run.proofs.Counting.{roster_set}
 use Rattle.domain_run.proofs.Finding.{map_at}
 use Rattle.domain_run.proofs.Homing.{map_steps}
 use Rattle.domain_run.proofs.Staying.{map_itself}
@@ -124,11 +124,6 @@ module _ (accounts : AccountsView) (s : SeatsView) (tasks : List Task) (p : ℕ)
 
   pub start_held : Holds accounts (share_of (owed s.upto s.seats x))
   start_held = subst (λ (t : Task). Holds accounts (share_of t)) (sym read_seen) (held_at share_of accounts (owed_all s tasks) p seen within counts.sums)
-
-  pub start_fits : accounts.total + (owed s.upto s.seats x).params.bw < 2 ^ 64
-  start_fits =
-      let short : seen.params.bw ≤ 2 ^ 26 = subst (λ (t : Task). t.params.bw ≤ 2 ^ 26) (sym read_seen) (counts.roster.short p seen within) in
-      omega (arith, short, counts.sums.total, total_short (owed_all s tasks) counts.roster)
 
   module _ (cpu : ℕ) (new : AccountsView) (after : SeatsView) (y : Task) (there : cpu < length accounts.all) (is : y ≡ with_cpu (Some cpu) (owed s.upto s.seats x)) (are : after ≡ record s { seats = left cpu x.number (left x.cpu x.number s.seats) }) where
     same : y.number ≡ x.number

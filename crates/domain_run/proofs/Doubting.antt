@@ -1,6 +1,6 @@
 -- Which CPUs are in doubt: on the others who stands sits rightly.
 use Rattle.std.proofs.Common.{◌≡◌, ◌≢◌, ℕ, zero, suc, ◌+◌, ◌-◌, ◌<◌, ◌≤◌, Bool, true, false, cond, eqb, eq-eqb, ◌&&◌, ◌++◌, Option, Some, None, List, [], ◌∷◌, length, map, get_or, set, refl, sym, ap, ◌∙◌, subst, arith, inl, inr}
-use Rattle.std.specs.Prelude.{◌⊎◌, IfSome, All, IsTrue, is_none, filter, sum_by}
+use Rattle.std.specs.Prelude.{◌⊎◌, IfSome, IsSomeAnd, All, IsTrue, is_none, is_some, filter, sum_by}
 use Rattle.std.specs.Int.{bit_at}
 use Rattle.std.proofs.lemmas.Bool.{cases_eq, cases_lt, ne_eqb}
 use Rattle.std.proofs.lemmas.Nat.Bits.{bit_at-lt}
@@ -82,23 +82,28 @@ kept_mark a b cpu bare before few = elim (cases_eq (bit_at b cpu) 0) [
   | inr some ↦ omega (arith, some, bit_at-lt b cpu)
 ]
 
-pub marked_trans : (a b c : ℕ) (first then last : List (Option Seat)) (x y z : List Task) → IsMarked a b first then x y → IsMarked b c then last y z → IsMarked a c first last x z
-marked_trans a b c first then last x y z one two = record {
+pub marked_trans : (r a b c : ℕ) (first then last : List (Option Seat)) (x y z : List Task) → IsMarked r a b first then x y → IsMarked r b c then last y z → IsMarked r a c first last x z
+marked_trans r a b c first then last x y z one two = record {
   bare = λ i e. one.bare i (two.bare i e);
   seats = λ i h e. two.seats i h e ∙ one.seats i h (two.bare i e);
-  sums = λ i h e. two.sums i h e ∙ one.sums i h (two.bare i e);
+  sums = λ i h e. both i (one.sums i h (two.bare i e)) (two.sums i h e);
 }
+  where
+    both : (i : ℕ) → ((uinact i (shares y) ≡ uinact i (shares x)) ⊎ (bit_at r i ≡ 0)) → ((uinact i (shares z) ≡ uinact i (shares y)) ⊎ (bit_at r i ≡ 0)) → (uinact i (shares z) ≡ uinact i (shares x)) ⊎ (bit_at r i ≡ 0)
+    both i (inl p) (inl q) = inl (q ∙ p)
+    both i (inl p) (inr q) = inr q
+    both i (inr p) q = inr p
 
 -- nothing but marks
-pub marked_more : (a b : ℕ) (seats : List (Option Seat)) (tasks : List Task) → ((i : ℕ) → bit_at b i ≡ 0 → bit_at a i ≡ 0) → IsMarked a b seats seats tasks tasks
-marked_more a b seats tasks bare = record { bare = bare; seats = λ i h e. refl; sums = λ i h e. refl }
+pub marked_more : (r a b : ℕ) (seats : List (Option Seat)) (tasks : List Task) → ((i : ℕ) → bit_at b i ≡ 0 → bit_at a i ≡ 0) → IsMarked r a b seats seats tasks tasks
+marked_more r a b seats tasks bare = record { bare = bare; seats = λ i h e. refl; sums = λ i h e. inl refl }
 
 -- another seat for a CPU
-pub marked_set : (a b cpu : ℕ) (o : Option Seat) (seats : List (Option Seat)) (tasks now : List Task) → (cpu < 64 → bit_at b cpu ≡ 1) → ((i : ℕ) → bit_at b i ≡ 0 → bit_at a i ≡ 0) → now ≡ tasks → IsMarked a b seats (set seats cpu o) tasks now
-marked_set a b cpu o seats tasks now marked bare same = record {
+pub marked_set : (r a b cpu : ℕ) (o : Option Seat) (seats : List (Option Seat)) (tasks now : List Task) → (cpu < 64 → bit_at b cpu ≡ 1) → ((i : ℕ) → bit_at b i ≡ 0 → bit_at a i ≡ 0) → now ≡ tasks → IsMarked r a b seats (set seats cpu o) tasks now
+marked_set r a b cpu o seats tasks now marked bare same = record {
   bare = bare;
   seats = λ i h e. get_or-set_other seats cpu i o None (apart b cpu i marked h e);
-  sums = λ i h e. ap (λ (ts : List Task). uinact i (shares ts)) same;
+  sums = λ i h e. inl (ap (λ (ts : List Task). uinact i (shares ts)) same);
 }
 
 left_elsewhere : (cpu number i : ℕ) (seats : List (Option Seat)) → i ≢ cpu → get_or (left cpu number seats) i None ≡ get_or seats i None
@@ -108,49 +113,77 @@ left_elsewhere cpu number i seats other = by_seat (seat_by number (get_or seats 
     by_seat None = refl
     by_seat (Some s) = get_or-set_other seats cpu i None None other
 
+left_none : (cpu number : ℕ) (seats : List (Option Seat)) → seat_by number (get_or seats cpu None) ≡ None → left cpu number seats ≡ seats
+left_none cpu number seats none = ap (left_if cpu seats) none
+
+-- a CPU that a task has left: it has a mark, or its seat keeps nothing and is not the task's
+abbrev pub IsLeft : ℕ → ℕ → ℕ → ℕ → List (Option Seat) → Type 0
+IsLeft r b c m seats = c < 64 → bit_at b c ≡ 0 → (bit_at r c ≡ 0) × (seat_by m (get_or seats c None) ≡ None)
+
+pub left_marked : (r b c m : ℕ) (seats : List (Option Seat)) → (c < 64 → bit_at b c ≡ 1) → IsLeft r b c m seats
+left_marked r b c m seats marked few none = let one = marked few in absurd (omega (arith, one, none))
+
+-- a task that sat has left a mark
+pub left_unseated : (r b c m : ℕ) (seats : List (Option Seat)) (o : Option Seat) (sat : Bool) → o ≡ seat_by m (get_or seats c None) → sat ≡ is_some o → (IsTrue sat → c < 64 → bit_at b c ≡ 1) → (sat ≡ false → c < 64 → bit_at b c ≡ 0 → bit_at r c ≡ 0) → IsLeft r b c m seats
+left_unseated r b c m seats None sat is same marked free few none = (free same few none, sym is)
+left_unseated r b c m seats (Some s) sat is same marked free few none = let one = marked same few in absurd (omega (arith, one, none))
+
 -- another task at a place of the list, where neither that nor the one before has a seat
-pub marked_at : (a b c d n m : ℕ) (seats : List (Option Seat)) (tasks : List Task) (p : ℕ) (x y : Task) → p < length tasks → x ≡ get_or tasks p x → x.cpu ≡ c → y.cpu ≡ d
-    → (c < 64 → bit_at b c ≡ 1) → (d < 64 → bit_at b d ≡ 1) → ((i : ℕ) → bit_at b i ≡ 0 → bit_at a i ≡ 0)
-    → IsMarked a b seats (left d n (left c m seats)) tasks (set tasks p y)
-marked_at a b c d n m seats tasks p x y h read x_is y_is one two bare = record {
+pub marked_at : (r a b c d n m : ℕ) (seats : List (Option Seat)) (tasks : List Task) (p : ℕ) (x y : Task) → p < length tasks → x ≡ get_or tasks p x → x.cpu ≡ c → y.cpu ≡ d
+    → IsLeft r b c m seats → (d < 64 → bit_at b d ≡ 1) → ((i : ℕ) → bit_at b i ≡ 0 → bit_at a i ≡ 0)
+    → IsMarked r a b seats (left d n (left c m seats)) tasks (set tasks p y)
+marked_at r a b c d n m seats tasks p x y h read x_is y_is one two bare = record {
   bare = bare;
-  seats = λ i few e. left_elsewhere d n i (left c m seats) (apart b d i two few e) ∙ left_elsewhere c m i seats (apart b c i one few e);
-  sums = λ i few e. uinact_set i tasks p x y h read (λ q. apart b c i one few e (sym q ∙ x_is)) (λ q. apart b d i two few e (sym q ∙ y_is));
+  seats = λ i few e. left_elsewhere d n i (left c m seats) (apart b d i two few e) ∙ elim (cases_eq i c) [
+    | inl same ↦ ap (λ (xs : List (Option Seat)). get_or xs i None) (left_none c m seats (here i same few e).1)
+    | inr other ↦ left_elsewhere c m i seats other
+  ];
+  sums = λ i few e. elim (cases_eq i c) [
+    | inl same ↦ inr (subst (λ (k : ℕ). bit_at r k ≡ 0) (sym same) (here i same few e).0)
+    | inr other ↦ inl (uinact_set i tasks p x y h read (λ q. other (sym q ∙ x_is)) (λ q. apart b d i two few e (sym q ∙ y_is)))
+  ];
 }
+  where
+    here : (i : ℕ) → i ≡ c → i < 64 → bit_at b i ≡ 0 → (bit_at r c ≡ 0) × (seat_by m (get_or seats c None) ≡ None)
+    here i same few e = one (subst (λ (k : ℕ). k < 64) same few) (subst (λ (k : ℕ). bit_at b k ≡ 0) same e)
 
 -- a task that starts on a CPU
-pub start_marked : (a b cpu : ℕ) (s after : SeatsView) (tasks : List Task) (p : ℕ) (x y : Task) → p < length tasks → x ≡ get_or tasks p x → y ≡ with_cpu (Some cpu) (owed s.upto s.seats x)
+pub start_marked : (r a b cpu : ℕ) (s after : SeatsView) (tasks : List Task) (p : ℕ) (x y : Task) → p < length tasks → x ≡ get_or tasks p x → y ≡ with_cpu (Some cpu) (owed s.upto s.seats x)
     → after ≡ record s { seats = left cpu x.number (left x.cpu x.number s.seats) } → owed_all after (set tasks p y) ≡ set (owed_all s tasks) p y
-    → (x.cpu < 64 → bit_at b x.cpu ≡ 1) → (cpu < 64 → bit_at b cpu ≡ 1) → ((i : ℕ) → bit_at b i ≡ 0 → bit_at a i ≡ 0)
-    → IsMarked a b s.seats after.seats (owed_all s tasks) (owed_all after (set tasks p y))
-start_marked a b cpu s after tasks p x y h read is are view one two bare =
+    → IsLeft r b x.cpu x.number s.seats → (cpu < 64 → bit_at b cpu ≡ 1) → ((i : ℕ) → bit_at b i ≡ 0 → bit_at a i ≡ 0)
+    → IsMarked r a b s.seats after.seats (owed_all s tasks) (owed_all after (set tasks p y))
+start_marked r a b cpu s after tasks p x y h read is are view one two bare =
     let many : length (owed_all s tasks) ≡ length tasks = simp length-map in
-    subst (λ (v : SeatsView). IsMarked a b s.seats v.seats (owed_all s tasks) (owed_all after (set tasks p y))) (sym are)
-    (subst (IsMarked a b s.seats (left cpu x.number (left x.cpu x.number s.seats)) (owed_all s tasks)) (sym view)
-    (marked_at a b x.cpu cpu x.number x.number s.seats (owed_all s tasks) p (owed s.upto s.seats x) y (omega (arith, h, many)) (read_owed s.upto s.seats tasks p x h read)
+    subst (λ (v : SeatsView). IsMarked r a b s.seats v.seats (owed_all s tasks) (owed_all after (set tasks p y))) (sym are)
+    (subst (IsMarked r a b s.seats (left cpu x.number (left x.cpu x.number s.seats)) (owed_all s tasks)) (sym view)
+    (marked_at r a b x.cpu cpu x.number x.number s.seats (owed_all s tasks) p (owed s.upto s.seats x) y (omega (arith, h, many)) (read_owed s.upto s.seats tasks p x h read)
     (alike_owed s.upto s.seats x).cpu (ap (λ (t : Task). t.cpu) is) one two bare))
 
 -- ---- WHO IS SETTLED
-
-pub settled_again : (d e : Doubts) (w : ℕ) (places now : Places) (seats after : List (Option Seat)) (tasks then : List Task)
-    → e.rated ≡ d.rated → e.sum ≡ d.sum → e.limit ≡ d.limit → IsMarked d.cpus e.cpus seats after tasks then
-    → ((cpu : ℕ) → cpu < 64 → bit_at e.cpus cpu ≡ 0 → occupant now cpu ≡ occupant places cpu)
-    → AreSettled d w places seats tasks → AreSettled e w now after then
-settled_again d e w places now seats after tasks then rated sum limit marks same are cpu few bare =
-    let was = are cpu few (marks.bare cpu bare) in
-    let seat = sym (marks.seats cpu few bare) in
-    let basis : noted_basis d w tasks cpu ≡ noted_basis e w then cpu = λ i. record { uinact = (sym (marks.sums cpu few bare)) i; sum = (sym sum) i; cpus = w; limit = (sym limit) i } in (
-      subst (λ o. IsSettled o (noted_basis e w then cpu) (get_or after cpu None)) (sym (same cpu few bare))
-          (subst (IsSettled (occupant places cpu) (noted_basis e w then cpu)) seat
-          (subst (λ (b : Basis). IsSettled (occupant places cpu) b (get_or seats cpu None)) basis was.0)),
-      subst (IsFree (bit_at e.rated cpu)) seat (subst (λ (n : ℕ). IsFree (bit_at n cpu) (get_or seats cpu None)) (sym rated) was.1),
-    )
 
 -- a seat that keeps nothing is right on each basis
 free_settled : (o : Option ℕ) (a b : Basis) (x : Option Seat) → IsSettled o a x → IfSome x (λ s. s.basis ≡ None) → IsSettled o b x
 free_settled None a b x is free = is
 free_settled (Some n) a b None is free = absurd is
 free_settled (Some n) a b (Some s) is free = (is.0, subst (λ k. IfSome k (λ x. x ≡ b)) (sym free) tt)
+
+pub settled_again : (d e : Doubts) (w : ℕ) (places now : Places) (seats after : List (Option Seat)) (tasks then : List Task)
+    → e.rated ≡ d.rated → e.sum ≡ d.sum → e.limit ≡ d.limit → IsMarked d.rated d.cpus e.cpus seats after tasks then
+    → ((cpu : ℕ) → cpu < 64 → bit_at e.cpus cpu ≡ 0 → occupant now cpu ≡ occupant places cpu)
+    → AreSettled d w places seats tasks → AreSettled e w now after then
+settled_again d e w places now seats after tasks then rated sum limit marks same are cpu few bare =
+    let was = are cpu few (marks.bare cpu bare) in
+    let seat = sym (marks.seats cpu few bare) in (
+      subst (λ o. IsSettled o (noted_basis e w then cpu) (get_or after cpu None)) (sym (same cpu few bare))
+          (subst (IsSettled (occupant places cpu) (noted_basis e w then cpu)) seat (by_sums was (marks.sums cpu few bare))),
+      subst (IsFree (bit_at e.rated cpu)) seat (subst (λ (n : ℕ). IsFree (bit_at n cpu) (get_or seats cpu None)) (sym rated) was.1),
+    )
+  where
+    by_sums : IsSettled (occupant places cpu) (noted_basis d w tasks cpu) (get_or seats cpu None) × IsFree (bit_at d.rated cpu) (get_or seats cpu None) → ((uinact cpu (shares then) ≡ uinact cpu (shares tasks)) ⊎ (bit_at d.rated cpu ≡ 0)) → IsSettled (occupant places cpu) (noted_basis e w then cpu) (get_or seats cpu None)
+    by_sums was (inl equal) =
+        let basis : noted_basis d w tasks cpu ≡ noted_basis e w then cpu = λ i. record { uinact = (sym equal) i; sum = (sym sum) i; cpus = w; limit = (sym limit) i } in
+        subst (λ (b : Basis). IsSettled (occupant places cpu) b (get_or seats cpu None)) basis was.0
+    by_sums was (inr bare_of) = free_settled (occupant places cpu) (noted_basis d w tasks cpu) (noted_basis e w then cpu) (get_or seats cpu None) was.0 (was.1 bare_of)
 
 -- where those are in doubt whose seats keep something, neither the tasks nor the sums matter
 pub rated_settled : (d e : Doubts) (w v : ℕ) (places : Places) (seats : List (Option Seat)) (tasks then : List Task)
@@ -216,13 +249,13 @@ renew_settled d e w places seats tasks sum limit bare free rated sum_is limit_is
 pub trust_settled : (d e : Doubts) (w limit cpu : ℕ) (places : Places) (seats : List (Option Seat)) (tasks : List Task) (is_rated : Bool)
     → ((i : ℕ) → i ≢ cpu → bit_at e.cpus i ≡ bit_at d.cpus i) → ((i : ℕ) → i ≢ cpu → bit_at e.rated i ≡ bit_at d.rated i)
     → (IsTrue is_rated → bit_at e.rated cpu ≡ 1) → (is_rated ≡ false → IfSome (get_or seats cpu None) (λ s. s.basis ≡ None))
-    → e.sum ≡ d.sum → e.limit ≡ d.limit → d.sum ≡ sum_of tasks → d.limit ≡ limit
+    → e.sum ≡ d.sum → e.limit ≡ d.limit → (IsTrue is_rated → (d.sum ≡ sum_of tasks) × (d.limit ≡ limit))
     → IsSettled (occupant places cpu) (basis_in w limit tasks cpu) (get_or seats cpu None)
     → AreSettled d w places seats tasks → AreSettled e w places seats tasks
-trust_settled d e w limit cpu places seats tasks is_rated others elsewhere marked free sum limit_same sum_is limit_is here are i few bare = elim (cases_eq i cpu) [
+trust_settled d e w limit cpu places seats tasks is_rated others elsewhere marked free sum limit_same noted here are i few bare = elim (cases_eq i cpu) [
   | inl same ↦
       subst (λ (n : ℕ). IsSettled (occupant places n) (noted_basis e w tasks n) (get_or seats n None) × IsFree (bit_at e.rated n) (get_or seats n None)) (sym same) (
-        subst (λ (x : Basis). IsSettled (occupant places cpu) x (get_or seats cpu None)) (sym (noted_now e w limit tasks cpu (sum ∙ sum_is) (limit_same ∙ limit_is))) here,
+        settled_by is_rated refl,
         λ none. by_rate is_rated refl none,
       )
   | inr other ↦
@@ -235,6 +268,17 @@ trust_settled d e w limit cpu places seats tasks is_rated others elsewhere marke
     by_rate : (b : Bool) → is_rated ≡ b → bit_at e.rated cpu ≡ 0 → IfSome (get_or seats cpu None) (λ s. s.basis ≡ None)
     by_rate true same none = let one = marked same in absurd (omega (arith, one, none))
     by_rate false same none = free same
+
+    settled_by : (b : Bool) → is_rated ≡ b → IsSettled (occupant places cpu) (noted_basis e w tasks cpu) (get_or seats cpu None)
+    settled_by true same =
+        let is = noted same in
+        subst (λ (x : Basis). IsSettled (occupant places cpu) x (get_or seats cpu None)) (sym (noted_now e w limit tasks cpu (sum ∙ is.0) (limit_same ∙ is.1))) here
+    settled_by false same = free_settled (occupant places cpu) (basis_in w limit tasks cpu) (noted_basis e w tasks cpu) (get_or seats cpu None) here (free same)
+
+-- who has sat down is settled
+pub sat_settled : (o : Option Seat) (n m : ℕ) (kept : Option Basis) (b : Basis) → IsSomeAnd o (λ s. (s.number ≡ m) × (s.basis ≡ kept)) → m ≡ n → IfSome kept (λ x. x ≡ b) → IsSettled (Some n) b o
+sat_settled None n m kept b sits same is = absurd sits
+sat_settled (Some s) n m kept b sits same is = (sits.0 ∙ same, subst (λ k. IfSome k (λ x. x ≡ b)) (sym sits.1) is)
 
 -- the tasks of the CPUs that are not in doubt sit rightly
 pub seated_all : (d : Doubts) (w limit : ℕ) (places : Places) (s : SeatsView) (items : List Task) → w ≤ 64 → d.sum ≡ sum_of (owed_all s items) → d.limit ≡ limit
@@ -294,15 +338,15 @@ moved_apart marks i moves all few bare k d h e = apart marks (get_or moves k d).
 -- ---- THE ROSTER, where a seat or the clock changes
 
 -- only the clock of the seats is another
-pub marked_clock : (a : ℕ) (s v : SeatsView) (items : List Task) → v.seats ≡ s.seats → IsMarked a a s.seats v.seats (owed_all s items) (owed_all v items)
-marked_clock a s v items same = record {
+pub marked_clock : (r a : ℕ) (s v : SeatsView) (items : List Task) → v.seats ≡ s.seats → IsMarked r a a s.seats v.seats (owed_all s items) (owed_all v items)
+marked_clock r a s v items same = record {
   bare = λ i e. e;
   seats = λ i h e. ap (λ (xs : List (Option Seat)). get_or xs i None) same;
-  sums = λ i h e. ap (uinact i) (shares_alike (owed v.upto v.seats) (alike_owed v.upto v.seats) items ∙ sym (shares_alike (owed s.upto s.seats) (alike_owed s.upto s.seats) items));
+  sums = λ i h e. inl (ap (uinact i) (shares_alike (owed v.upto v.seats) (alike_owed v.upto v.seats) items ∙ sym (shares_alike (owed s.upto s.seats) (alike_owed s.upto s.seats) items)));
 }
 
 pub clock_settled : (d : Doubts) (w : ℕ) (places : Places) (s v : SeatsView) (items : List Task) → v.seats ≡ s.seats → AreSettled d w places s.seats (owed_all s items) → AreSettled d w places v.seats (owed_all v items)
-clock_settled d w places s v items same are = settled_again d d w places places s.seats v.seats (owed_all s items) (owed_all v items) refl refl refl (marked_clock d.cpus s v items same) (λ i h e. refl) are
+clock_settled d w places s v items same are = settled_again d d w places places s.seats v.seats (owed_all s items) (owed_all v items) refl refl refl (marked_clock d.rated d.cpus s v items same) (λ i h e. refl) are
 
 -- another seat for a CPU, which is marked
 pub set_settled : (d e : Doubts) (w : ℕ) (places : Places) (s v : SeatsView) (items after : List Task) (cpu : ℕ) (o : Option Seat) → v ≡ record s { seats = set s.seats cpu o } → owed_all v after ≡ owed_all s items
@@ -311,7 +355,7 @@ pub set_settled : (d e : Doubts) (w : ℕ) (places : Places) (s v : SeatsView) (
 set_settled d e w places s v items after cpu o is same marked bare rated sum limit are =
     subst (λ (x : SeatsView). AreSettled e w places x.seats (owed_all v after)) (sym is)
     (settled_again d e w places places s.seats (set s.seats cpu o) (owed_all s items) (owed_all v after) rated sum limit
-    (marked_set d.cpus e.cpus cpu o s.seats (owed_all s items) (owed_all v after) marked bare same) (λ i h q. refl) are)
+    (marked_set d.rated d.cpus e.cpus cpu o s.seats (owed_all s items) (owed_all v after) marked bare same) (λ i h q. refl) are)
 
 -- one task more
 pub push_settled : (d e : Doubts) (w : ℕ) (places : Places) (s v : SeatsView) (items after : List Task) (t : Task) → v ≡ record s { seats = left t.cpu t.number s.seats } → owed_all v after ≡ owed_all s items ++ t ∷ []
@@ -324,7 +368,7 @@ push_settled d e w places s v items after t is more marked bare rated sum limit 
     (record {
       bare = bare;
       seats = λ i h q. left_elsewhere t.cpu t.number i s.seats (apart e.cpus t.cpu i marked h q);
-      sums = λ i h q. uinact_one i (owed_all s items) t (λ z. apart e.cpus t.cpu i marked h q (sym z));
+      sums = λ i h q. inl (uinact_one i (owed_all s items) t (λ z. apart e.cpus t.cpu i marked h q (sym z)));
     })
     (λ i h q. refl) are))
 
@@ -342,7 +386,7 @@ turn_settled d e w places seats after tasks now p cpu f x h read home stays step
     subst (λ (xs : List (Option Seat)). AreSettled e w places xs now) (sym seats_are)
     (subst (AreSettled e w places (left y.cpu y.number (left x.cpu x.number seats))) (sym now_is)
     (settled_again d e w places places seats (left y.cpu y.number (left x.cpu x.number seats)) tasks (set tasks p y) rated sum limit
-    (marked_at d.cpus e.cpus x.cpu y.cpu y.number x.number seats tasks p x y h read refl refl
-    (subst (λ (c : ℕ). c < 64 → bit_at e.cpus c ≡ 1) (sym home) marked)
+    (marked_at d.rated d.cpus e.cpus x.cpu y.cpu y.number x.number seats tasks p x y h read refl refl
+    (left_marked d.rated e.cpus x.cpu x.number seats (subst (λ (c : ℕ). c < 64 → bit_at e.cpus c ≡ 1) (sym home) marked))
     (subst (λ (c : ℕ). c < 64 → bit_at e.cpus c ≡ 1) (sym (stays ∙ home)) marked) bare)
     (λ i h q. refl) are))

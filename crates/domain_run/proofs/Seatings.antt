@@ -179,31 +179,6 @@ at_rate rate o s is e = subst (IsAtRate rate) (sym is) e
 pub right_rate : (n number rate other : ℕ) (o : Option Seat) → (n ≡ number → rate ≡ other) → IsRight (Some n) number rate o → IsRight (Some n) number other o
 right_rate n number rate other o same is = (λ e. subst (λ r. IsAtRate r o) (same e) (is.0 e), is.1)
 
-module _ (cpu n rate : ℕ) (seats : List (Option Seat)) where
-  pub taken_right : (s : Seat) (t : Task) → cpu < length seats → s.number ≡ n → s.rate ≡ rate → t.cpu ≡ cpu → IsRight (Some n) t.number rate (seat_of (set seats cpu (Some s)) t)
-  taken_right s t inside its r e =
-      let here : seat_of (set seats cpu (Some s)) t ≡ seat_by t.number (Some s) = ap (λ c. seat_by t.number (get_or (set seats cpu (Some s)) c None)) e ∙ ap (seat_by t.number) (get_or-set_same seats cpu (Some s) None inside) in (
-        λ k. at_rate rate (seat_of (set seats cpu (Some s)) t) s (here ∙ ap (λ b. cond b (Some s) None) (eq-eqb s.number t.number (its ∙ k))) r,
-        λ k. here ∙ other_seat t.number s (λ q. k (sym its ∙ q)),
-      )
-
-  pub free_right : (t : Task) → get_or seats cpu None ≡ None → t.number ≢ n → t.cpu ≡ cpu → IsRight (Some n) t.number rate (seat_of seats t)
-  free_right t free other e = (λ k. absurd (other (sym k)), λ k. ap (λ c. seat_by t.number (get_or seats c None)) e ∙ ap (seat_by t.number) free)
-
-  pub sits_right : (t : Task) → IsAtRate rate (seat_by n (get_or seats cpu None)) → t.cpu ≡ cpu → IsRight (Some n) t.number rate (seat_of seats t)
-  sits_right t is e = by_seat (seat_by n (get_or seats cpu None)) refl is
-    where
-      here : seat_of seats t ≡ seat_by t.number (get_or seats cpu None)
-      here = ap (λ c. seat_by t.number (get_or seats c None)) e
-
-      by_seat : (o : Option Seat) → seat_by n (get_or seats cpu None) ≡ o → IsAtRate rate o → IsRight (Some n) t.number rate (seat_of seats t)
-      by_seat None q r = absurd r
-      by_seat (Some s) q r =
-          let at = sits n (get_or seats cpu None) s q in (
-            λ k. at_rate rate (seat_of seats t) s (here ∙ ap (λ m. seat_by m (get_or seats cpu None)) (sym k) ∙ q) r,
-            λ k. here ∙ ap (seat_by t.number) at.at ∙ other_seat t.number s (λ z. k (sym at.its ∙ z)),
-          )
-
 rated_on : (kept : Option Basis) (rate : ℕ) (t : Task) (b : Basis) → IfSome kept (λ k. k ≡ b) → IsRatedBy kept rate t → rate ≡ rate_by b t
 rated_on None rate t b same rated = rated b
 rated_on (Some k) rate t b same rated = rated ∙ ap (λ (x : Basis). rate_by x t) same
@@ -230,16 +205,6 @@ basis_right upto cpu n seats items s b sat same waits k d h e =
           (rated_on s.basis s.rate x b same w.rated ∙ (λ i. reclaiming.rate (params i) b.uinact b.sum b.cpus b.limit)),
       λ q. here ∙ ap (seat_by t.number) at.at ∙ other_seat t.number s (λ z. q (sym at.its ∙ z)),
     )
-
--- the rate of a task that is stored is that of the task as it is seen
-pub rated_at : (upto : ℕ) (seats : List (Option Seat)) (items : List Task) (number p rate : ℕ) (b : Basis) (x : Task) → x ≡ get_or items p x → IsAt (map (owed upto seats) items) number p → All (λ t. t.number ≡ number → rate ≡ rate_by b t) (map (owed upto seats) items) → rate ≡ rate_by b x
-rated_at upto seats items number p rate b x read at rates =
-    let many : length (map (owed upto seats) items) ≡ length items = simp length-map in
-    let inside : p < length items = let h = at.within in omega (arith, h, many) in
-    let u = owed upto seats x in
-    let seen = read_owed upto seats items p x inside read in
-    let params : u.params ≡ x.params = (alike_owed upto seats x).params in
-    rates p u at.within (at.is u) ∙ ap (rate_by b) (sym seen) ∙ (λ i. reclaiming.rate (params i) b.uinact b.sum b.cpus b.limit)
 
 -- ---- the roster, where a seat changes
 
@@ -277,13 +242,3 @@ module _ (upto : ℕ) (seats : List (Option Seat)) (tasks : List Task) (number p
 
   pub number_at : x.number ≡ number
   number_at = sym (alike_owed upto seats x).number ∙ ap (λ (t : Task). t.number) (read_owed upto seats tasks p x inside_at read) ∙ at.is (owed upto seats x)
-
-  -- who is to sit where nobody sits owes nothing
-  pub may_at : (cpu : ℕ) → get_or seats cpu None ≡ None → All (λ t. t.number ≡ number → (t.cpu ≡ cpu) × MaySit t) (map (owed upto seats) tasks) → (x.cpu ≡ cpu) × MaySit x
-  may_at cpu free may =
-      let u = owed upto seats x in
-      let seen = read_owed upto seats tasks p x inside_at read in
-      let m = may p u at.within (at.is u) in
-      let home : x.cpu ≡ cpu = sym (alike_owed upto seats x).cpu ∙ ap (λ (t : Task). t.cpu) seen ∙ m.0 in
-      let none : seat_of seats x ≡ None = ap (λ c. seat_by x.number (get_or seats c None)) home ∙ ap (seat_by x.number) free in
-      (home, subst MaySit (sym seen ∙ ap (λ o. owed_by upto o x) none) m.1)

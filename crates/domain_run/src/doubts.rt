@@ -1,7 +1,7 @@
 //! Which CPUs have seats that are known to be right. What happens touches few CPUs, so a leap looks at
 //! those alone.
 
-ghost use Rattle.std.specs.Prelude.{ℕ, ◌≡◌, ◌≢◌, ◌⊎◌, ◌<◌, ◌≤◌, IsTrue};
+ghost use Rattle.std.specs.Prelude.{ℕ, ◌≡◌, ◌≢◌, ◌⊎◌, ◌<◌, ◌≤◌, IsTrue, false};
 ghost use Rattle.std.specs.Int.{bit_at};
 
 use edf_pick::marks::{both, with, without};
@@ -73,6 +73,43 @@ impl Doubts {
         }
     }
 
+    /// As `mark`, of a CPU whose seat stays while its inactive bandwidth may be another: it is in doubt
+    /// only where the seat keeps what its rate was worked out from.
+    #[inline(always)]
+    pub(crate) fn mark_where_rated(&mut self, cpu: usize)
+        ensures free { cpu < 64 → bit_at self.new.cpus cpu ≡ 0 → bit_at self.old.rated cpu ≡ 0 }
+        ensures bare { (i : ℕ) → bit_at self.new.cpus i ≡ 0 → bit_at self.old.cpus i ≡ 0 }
+        ensures rated { self.new.rated ≡ self.old.rated }
+        ensures sum { self.new.sum ≡ self.old.sum }
+        ensures limit { self.new.limit ≡ self.old.limit }
+    {
+        if cpu >= 64 {
+            return;
+        }
+        if without(self.rated, cpu) != self.rated {
+            self.mark(cpu);
+        }
+    }
+
+    /// A task has left a CPU, on which it sat or did not: where it did the CPU is in doubt, and else
+    /// only where its seat keeps what its rate was worked out from.
+    #[inline(always)]
+    pub(crate) fn mark_left(&mut self, cpu: usize, sat: bool)
+        ensures sat { IsTrue sat → cpu < 64 → bit_at self.new.cpus cpu ≡ 1 }
+        ensures free { sat ≡ false → cpu < 64 → bit_at self.new.cpus cpu ≡ 0
+            → bit_at self.old.rated cpu ≡ 0 }
+        ensures bare { (i : ℕ) → bit_at self.new.cpus i ≡ 0 → bit_at self.old.cpus i ≡ 0 }
+        ensures rated { self.new.rated ≡ self.old.rated }
+        ensures sum { self.new.sum ≡ self.old.sum }
+        ensures limit { self.new.limit ≡ self.old.limit }
+    {
+        if sat {
+            self.mark(cpu);
+        } else {
+            self.mark_where_rated(cpu);
+        }
+    }
+
     /// A CPU is in doubt no more. Its seat may keep what its rate was worked out from, or does not.
     #[inline(always)]
     pub(crate) fn clear(&mut self, cpu: usize, is_rated: bool)
@@ -97,6 +134,19 @@ impl Doubts {
         ensures { IsTrue result → (self.now.sum ≡ sum) × (self.now.limit ≡ limit) }
     {
         self.sum == sum && self.limit == limit
+    }
+
+    /// Whether a seat that is right for a sum and a limit may be trusted: it keeps nothing of what its
+    /// rate was worked out from, or they are noted.
+    #[inline(always)]
+    pub(crate) fn may_trust(&self, is_rated: bool, sum: u64, limit: u64) -> bool
+        ensures { IsTrue result → IsTrue is_rated
+            → (self.now.sum ≡ sum) × (self.now.limit ≡ limit) }
+    {
+        if !is_rated {
+            return true;
+        }
+        self.is_for(sum, limit)
     }
 
     /// Another sum or another limit is noted: then each CPU whose seat keeps what its rate was worked

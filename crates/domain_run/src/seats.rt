@@ -2,7 +2,7 @@
 //! seat tells since when it has not been charged and at which rate it runs, so that time goes on for
 //! all of them at once.
 
-ghost use Rattle.std.specs.Prelude.{ℕ, false, IsTrue, is_none, ◌≡◌, ◌<◌, ◌≤◌, ◌+◌, ◌^◌, All, IfOk, IfSome, None, length, map, replicate, slice_index_or, slice_set, vec_capacity};
+ghost use Rattle.std.specs.Prelude.{ℕ, false, IsTrue, is_none, ◌≡◌, ◌<◌, ◌≤◌, ◌+◌, ◌^◌, All, IfOk, IfSome, None, Some, length, map, option_map, replicate, slice_index_or, slice_set, vec_capacity};
 ghost use Rattle.domain_run.specs.private.Seats as spec;
 ghost use Rattle.domain_run.specs.private.Timers.{AreLater, least};
 
@@ -35,6 +35,15 @@ pub(crate) struct Seat {
     pub(crate) basis: Option<Basis>,
     /// When its work or its budget ends, if it goes on to run at this rate.
     pub(crate) end: u64,
+}
+
+/// At which rate a task is to run, and what that was worked out from; nothing where it is the same on
+/// every basis.
+#[derive(Clone, Copy, Debug, PartialEq, Eq)]
+pub(crate) struct Rating {
+    /// What a tick takes of its budget, in 1/2^20 us.
+    pub(crate) rate: u64,
+    pub(crate) basis: Option<Basis>,
 }
 
 /// For each CPU the seat of who runs there, if anyone does, and the time up to which all of them
@@ -184,6 +193,31 @@ impl Seats {
             return None;
         }
         if_of(self.get(cpu), number)
+    }
+
+    /// What the rate of the task of a number was worked out from, if from anything, where it sits on a
+    /// CPU.
+    #[inline(always)]
+    pub(crate) fn basis_of(&self, cpu: usize, number: u32) -> Option<Option<Basis>>
+        requires { cpu < length self.now.seats }
+        ensures { result ≡ option_map (λ s. s.basis)
+            (spec.seat_by number (slice_index_or self.now.seats cpu None)) }
+    {
+        match &self.seats[cpu] {
+            Some(seat) if seat.number == number => Some(seat.basis),
+            _ => None,
+        }
+    }
+
+    /// As `set`, where somebody sits down.
+    #[inline(always)]
+    pub(crate) fn sit_down(&mut self, cpu: usize, seat: Seat)
+        requires there { cpu < length self.old.seats }
+        requires ahead { spec.IsAhead self.old.upto seat }
+        ensures { self.new ≡ record self.old { seats = slice_set self.old.seats cpu (Some seat) } }
+    {
+        self.seats[cpu] = Some(seat);
+        self.ends.set(cpu, seat.end);
     }
 
     /// Another seat for a CPU.

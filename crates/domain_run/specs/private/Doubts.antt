@@ -1,5 +1,5 @@
 -- Which CPUs have seats that are known to be right, for the code's own contracts.
-use Rattle.std.specs.Prelude.{ℕ, ◌<◌, ◌≡◌, List, slice_index_or, Option, Some, None, IfSome, IsSomeAnd}
+use Rattle.std.specs.Prelude.{ℕ, ◌<◌, ◌≡◌, ◌⊎◌, List, slice_index_or, Option, Some, None, IfSome, IsSomeAnd}
 use Rattle.std.specs.Int.{bit_at}
 use Rattle.grub_rules.specs.Sums.{uinact}
 use Rattle.edf_pick.specs.Places.{Places}
@@ -36,11 +36,11 @@ AreSettled d cpus places seats tasks =
     → IsSettled (occupant places cpu) (noted_basis d cpus tasks cpu) (slice_index_or seats cpu None)
     × IsFree (bit_at d.rated cpu) (slice_index_or seats cpu None)
 
--- marks have come, and none has gone; on a CPU without one neither the seat nor the inactive
--- bandwidth has changed
-pub record IsMarked (old new : ℕ) (before after : List (Option Seat)) (was now : List Task) : Type 0 where
+-- marks have come, and none has gone; on a CPU without one the seat has not changed, nor the inactive
+-- bandwidth, if the seat keeps what its rate was worked out from
+pub record IsMarked (rated old new : ℕ) (before after : List (Option Seat)) (was now : List Task) : Type 0 where
   pub bare : (cpu : ℕ) → bit_at new cpu ≡ 0 → bit_at old cpu ≡ 0
   pub seats : (cpu : ℕ) → cpu < 64 → bit_at new cpu ≡ 0
       → slice_index_or after cpu None ≡ slice_index_or before cpu None
   pub sums : (cpu : ℕ) → cpu < 64 → bit_at new cpu ≡ 0
-      → uinact cpu (shares now) ≡ uinact cpu (shares was)
+      → (uinact cpu (shares now) ≡ uinact cpu (shares was)) ⊎ (bit_at rated cpu ≡ 0)

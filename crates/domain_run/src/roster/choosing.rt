@@ -1,6 +1,6 @@
 //! Who starts on a CPU belongs to it from then on. The schedule has it so already.
 
-ghost use Rattle.std.specs.Prelude.{◌≡◌, ◌<◌, ◌+◌, ◌^◌, ◌∷◌, [], All, None, Some, map, length, slice_index_or, vec_capacity};
+ghost use Rattle.std.specs.Prelude.{◌≡◌, ◌<◌, ◌∷◌, [], All, None, Some, map, length, slice_index_or, vec_capacity};
 ghost use Rattle.std.specs.Int.{bit_at};
 ghost use Rattle.grub_rules.specs.Accounts.{Exchanges, Holds};
 ghost use Rattle.domain_run.specs.Parts.{with_cpu};
@@ -31,24 +31,6 @@ pub(super) fn occupant_of(places: &[Option<u32>], cpu: usize) -> Option<u32>
     None
 }
 
-// A task belongs to a CPU.
-#[inline(always)]
-fn home(task: &mut Task, accounts: &mut Accounts, cpu: usize)
-    requires held { Holds accounts.old (tick_spec.share_of task.old) }
-    requires there { cpu < length accounts.old.all }
-    requires fits { accounts.old.total + task.old.params.bw < 2 ^ 64 }
-    ensures task { task.new ≡ with_cpu (Some cpu) task.old }
-    ensures sums { Exchanges accounts.old accounts.new
-        (tick_spec.share_of task.old ∷ []) (tick_spec.share_of task.new ∷ []) }
-{
-    if task.cpu == cpu {
-        return;
-    }
-    let before = share_of(task);
-    task.cpu = cpu;
-    accounts.track(&before, &share_of(task));
-}
-
 // A task that starts on a CPU is charged what it owes, belongs to the CPU, and sits nowhere.
 #[inline(always)]
 fn start(task: &mut Task, accounts: &mut Accounts, seats: &mut Seats, cpu: usize)
@@ -56,8 +38,6 @@ fn start(task: &mut Task, accounts: &mut Accounts, seats: &mut Seats, cpu: usize
     requires held { Holds accounts.old
         (tick_spec.share_of (waiting.owed seats.old.upto seats.old.seats task.old)) }
     requires there { cpu < length accounts.old.all }
-    requires fits { accounts.old.total
-        + (waiting.owed seats.old.upto seats.old.seats task.old).params.bw < 2 ^ 64 }
     ensures task { task.new
         ≡ with_cpu (Some cpu) (waiting.owed seats.old.upto seats.old.seats task.old) }
     ensures sums { Exchanges accounts.old accounts.new
@@ -70,7 +50,8 @@ fn start(task: &mut Task, accounts: &mut Accounts, seats: &mut Seats, cpu: usize
 {
     let (number, before) = (task.number, task.cpu);
     settle(task, seats);
-    home(task, accounts, cpu);
+    accounts.shift(&share_of(task), cpu);
+    task.cpu = cpu;
     leave_other(seats, before, cpu, number);
 }
 
@@ -93,8 +74,9 @@ fn home_on(
         ≡ map (homed_here occupant cpu) (waiting.owed_all seats.old tasks.old.items) }
     ensures clock { seats.new.upto ≡ seats.old.upto }
     ensures seats { length seats.new.seats ≡ length seats.old.seats }
-    ensures marked { IsMarked doubts.old.cpus doubts.new.cpus seats.old.seats seats.new.seats
-        (waiting.owed_all seats.old tasks.old.items) (waiting.owed_all seats.new tasks.new.items) }
+    ensures marked { IsMarked doubts.old.rated doubts.old.cpus doubts.new.cpus seats.old.seats
+        seats.new.seats (waiting.owed_all seats.old tasks.old.items)
+        (waiting.owed_all seats.new tasks.new.items) }
     ensures here { cpu < 64 → bit_at doubts.new.cpus cpu ≡ 1 }
     ensures rated { doubts.new.rated ≡ doubts.old.rated }
     ensures sum { doubts.new.sum ≡ doubts.old.sum }
@@ -108,10 +90,11 @@ fn home_on(
     let Some(place) = index.place(tasks, number) else {
         return;
     };
-    if tasks[place].cpu == cpu {
+    let left = tasks[place].cpu;
+    if left == cpu {
         return;
     }
-    doubts.mark(tasks[place].cpu);
+    doubts.mark_left(left, seats.seat_of(left, number).is_some());
     start(&mut tasks[place], accounts, seats, cpu);
 }
 
@@ -134,8 +117,9 @@ pub(super) fn home_all(
         (waiting.owed_all seats.old tasks.old.items) }
     ensures clock { seats.new.upto ≡ seats.old.upto }
     ensures seats { length seats.new.seats ≡ length seats.old.seats }
-    ensures marked { IsMarked doubts.old.cpus doubts.new.cpus seats.old.seats seats.new.seats
-        (waiting.owed_all seats.old tasks.old.items) (waiting.owed_all seats.new tasks.new.items) }
+    ensures marked { IsMarked doubts.old.rated doubts.old.cpus doubts.new.cpus seats.old.seats
+        seats.new.seats (waiting.owed_all seats.old tasks.old.items)
+        (waiting.owed_all seats.new tasks.new.items) }
     ensures moved { All (λ m. m.cpu < 64 → bit_at doubts.new.cpus m.cpu ≡ 1) schedule.now.moves }
     ensures rated { doubts.new.rated ≡ doubts.old.rated }
     ensures sum { doubts.new.sum ≡ doubts.old.sum }

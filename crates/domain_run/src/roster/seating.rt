@@ -1,6 +1,6 @@
 //! Who sits on which CPU: nobody is charged by it, as callers see it.
 
-ghost use Rattle.std.specs.Prelude.{◌≡◌, ◌≢◌, ◌<◌, ◌≤◌, ◌^◌, ◌*◌, ◌-◌, ℕ, All, IfSome, IsTrue, None, Some, length, pos, slice_index_or, slice_set};
+ghost use Rattle.std.specs.Prelude.{◌≡◌, ◌≢◌, ◌<◌, ◌≤◌, ◌^◌, ◌*◌, ◌-◌, ℕ, All, IfSome, IsSomeAnd, IsTrue, None, Some, false, length, pos, slice_index_or, slice_set};
 ghost use Rattle.std.specs.Int.{bit_at};
 ghost use Rattle.attr_check.specs.Ratio.{cap};
 ghost use Rattle.domain_run.specs.Domain.{IsLimit};
@@ -13,8 +13,9 @@ ghost use Rattle.domain_run.specs.private.Waiting as spec;
 
 use super::Roster;
 use crate::roster::turning::charge;
-use crate::seats::{Basis, Seat};
+use crate::seats::{Basis, Rating, Seat};
 use crate::task::Task;
+use attr_check::UNIT;
 
 /// A task is charged what the seat of a CPU owes, where it belongs to that.
 fn charge_on(task: &mut Task, cpu: usize, seat: Seat, upto: u64)
@@ -37,47 +38,94 @@ fn left_in(task: &Task) -> u64
     task.server.left as u64
 }
 
+/// For how many ticks a budget lasts at the rate one, the last of them included: a shift, and no
+/// division.
+#[inline(always)]
+fn lasting_at_one(left: u64) -> u64
+    requires left { 0 < left }
+    requires high { left ≤ 2 ^ 52 }
+    ensures some { 0 < result }
+    ensures most { result ≤ left }
+    ensures lasted { 1048576 * (result - 1) < left }
+{
+    (left + (UNIT - 1)) / UNIT
+}
+
 /// For how many ticks a budget lasts at a rate, the last of them included.
 fn lasting(left: u64, rate: u64) -> u64
     requires left { 0 < left }
+    requires high { left ≤ 2 ^ 52 }
     requires turns { 0 < rate }
     ensures some { 0 < result }
     ensures most { result ≤ left }
     ensures lasted { rate * (result - 1) < left }
 {
+    if rate == UNIT {
+        return lasting_at_one(left);
+    }
     left.div_ceil(rate)
 }
 
-/// What is kept of the basis of a task's rate: nothing where the task does not reclaim, since its
-/// rate is one on every basis.
-fn kept_basis(task: &Task, basis: Basis) -> Option<Basis>
-    ensures { (rate : ℕ) → rate ≡ spec.rate_by basis task.now → spec.IsRatedBy result rate task.now }
+/// The rate of a task that does not reclaim: one on every basis.
+#[inline(always)]
+fn rated_at_one(task: &Task) -> Rating
+    requires { task.now.params.reclaim ≡ false }
+    ensures rate { result.rate ≡ 1048576 }
+    ensures basis { result.basis ≡ None }
+    ensures rated { spec.IsRatedBy result.basis result.rate task.now }
 {
-    if task.params.reclaim {
-        return Some(basis);
+    Rating {
+        rate: UNIT,
+        basis: None,
     }
-    None
+}
+
+/// The rate of a task on a basis, which is kept.
+#[inline(always)]
+fn rated_on(task: &Task, basis: Basis) -> Rating
+    requires uinact { basis.uinact ≤ 2 ^ 26 }
+    requires cpus { (0 < basis.cpus) × (basis.cpus ≤ 64) }
+    requires limit { IsLimit basis.limit }
+    requires within { basis.sum ≤ cap basis.cpus basis.limit }
+    ensures some { 0 < result.rate }
+    ensures slow { result.rate ≤ 2 ^ 27 }
+    ensures basis { result.basis ≡ Some basis }
+    ensures rated { spec.IsRatedBy result.basis result.rate task.now }
+{
+    let rate = grub_rules::rate(
+        &task.params,
+        basis.uinact,
+        basis.sum,
+        basis.cpus,
+        basis.limit,
+    );
+    Rating {
+        rate,
+        basis: Some(basis),
+    }
 }
 
 /// A seat for a task, from a time on, at a rate.
-fn seat_for(task: &Task, upto: u64, rate: u64, basis: Basis) -> Seat
+#[inline(always)]
+fn seat_for(task: &Task, upto: u64, rating: Rating) -> Seat
     requires may { spec.MaySit task.now }
-    requires turns { 0 < rate }
-    requires slow { rate ≤ 2 ^ 27 }
-    requires rated { rate ≡ spec.rate_by basis task.now }
+    requires turns { 0 < rating.rate }
+    requires slow { rating.rate ≤ 2 ^ 27 }
+    requires rated { spec.IsRatedBy rating.basis rating.rate task.now }
     requires early { upto ≤ 2 ^ 62 }
     ensures number { result.number ≡ task.now.number }
     ensures since { result.since ≡ upto }
-    ensures rate { result.rate ≡ rate }
+    ensures rate { result.rate ≡ rating.rate }
+    ensures basis { result.basis ≡ rating.basis }
     ensures ahead { IsAhead upto result }
     ensures waits { spec.Waits result task.now }
 {
-    let spent = lasting(left_in(task), rate);
+    let spent = lasting(left_in(task), rating.rate);
     Seat {
         number: task.number,
         since: upto,
-        rate,
-        basis: kept_basis(task, basis),
+        rate: rating.rate,
+        basis: rating.basis,
         end: upto + task.work.min(spent),
     }
 }
@@ -126,28 +174,31 @@ impl Roster {
         }
     }
 
-    /// The task of a number, which belongs to a CPU on which nobody sits, sits there at a rate.
-    fn occupy(&mut self, cpu: usize, number: u32, rate: u64, basis: Basis)
+    /// The task at a place, which belongs to a CPU on which nobody sits, sits there at a rate.
+    #[inline(always)]
+    fn occupy(&mut self, cpu: usize, place: usize, rating: Rating)
         requires there { cpu < self.old.cpus }
+        requires at { place < length self.old.tasks }
         requires free { slice_index_or self.old.seats cpu None ≡ None }
-        requires turns { 0 < rate }
-        requires slow { rate ≤ 2 ^ 27 }
-        requires rated { All (λ t. t.number ≡ number → rate ≡ spec.rate_by basis t) self.old.tasks }
-        requires may { All (λ t. t.number ≡ number → (t.cpu ≡ cpu) × spec.MaySit t) self.old.tasks }
+        requires turns { 0 < rating.rate }
+        requires slow { rating.rate ≤ 2 ^ 27 }
+        requires home { (d : Task) → (slice_index_or self.old.tasks place d).cpu ≡ cpu }
+        requires may { (d : Task) → spec.MaySit (slice_index_or self.old.tasks place d) }
+        requires rated { (d : Task)
+            → spec.IsRatedBy rating.basis rating.rate (slice_index_or self.old.tasks place d) }
         ensures cpus { self.new.cpus ≡ self.old.cpus }
         ensures places { self.new.places ≡ self.old.places }
         ensures clock { self.new.clock ≡ self.old.clock }
         ensures tasks { self.new.tasks ≡ self.old.tasks }
         ensures others { (d : ℕ) → d ≢ cpu
             → slice_index_or self.new.seats d None ≡ slice_index_or self.old.seats d None }
-        ensures right { All (λ t. t.cpu ≡ cpu
-            → spec.IsRight (Some number) t.number rate (spec.seat_of self.new.seats t)) self.new.tasks }
+        ensures sits { (d : Task) → IsSomeAnd (slice_index_or self.new.seats cpu None)
+            (λ s. (s.number ≡ (slice_index_or self.old.tasks place d).number)
+            × (s.basis ≡ rating.basis)) }
     {
-        if let Some(place) = self.place(number) {
-            let seat = seat_for(&self.tasks[place], self.seats.upto(), rate, basis);
-            self.seats.set(cpu, Some(seat));
-            self.doubts.mark(cpu);
-        }
+        let seat = seat_for(&self.tasks[place], self.seats.upto(), rating);
+        self.seats.sit_down(cpu, seat);
+        self.doubts.mark(cpu);
     }
 
     /// What the rates of the tasks of a CPU depend on now.
@@ -185,9 +236,9 @@ impl Roster {
         ensures { IsTrue result → IsSettled (Some number) (basis_in self.now.cpus limit self.now.tasks cpu)
             (slice_index_or self.now.seats cpu None) }
     {
-        match self.seats.seat_of(cpu, number) {
+        match self.seats.basis_of(cpu, number) {
             None => false,
-            Some(seat) => self.is_still(cpu, seat.basis, limit),
+            Some(kept) => self.is_still(cpu, kept, limit),
         }
     }
 
@@ -218,7 +269,8 @@ impl Roster {
         self.doubts.cpus
     }
 
-    /// A CPU, where who stands sits rightly, is in doubt no more, if what it was looked at for is noted.
+    /// A CPU, where who stands sits rightly, is in doubt no more. Where the rate can change that is so
+    /// only if what it was looked at for is noted.
     #[inline(always)]
     fn trust(&mut self, cpu: usize, limit: u64)
         requires there { cpu < self.old.cpus }
@@ -230,66 +282,43 @@ impl Roster {
             → spec.IsRight (slice_index_or self.old.places cpu None) t.number
             (rate_in self.old.cpus limit self.old.tasks t) (spec.seat_of self.old.seats t)) self.old.tasks }
     {
-        if self.doubts.is_for(self.sum(), limit) {
-            let is_rated = self.seats.is_rated(cpu);
+        let is_rated = self.seats.is_rated(cpu);
+        if self.doubts.may_trust(is_rated, self.sum(), limit) {
             self.doubts.clear(cpu, is_rated);
         }
     }
 
-    /// The rate of the task of a number; one where none is listed.
-    fn rate_of(&self, number: u32, limit: u64) -> u64
+    /// The rate of the task at a place, which belongs to a CPU, and what it was worked out from.
+    #[inline(always)]
+    fn rating(&self, cpu: usize, place: usize, limit: u64) -> Rating
+        requires there { cpu < self.now.cpus }
+        requires at { place < length self.now.tasks }
         requires cpus { (0 < self.now.cpus) × (self.now.cpus ≤ 64) }
         requires limit { IsLimit limit }
         requires within { sum_of self.now.tasks ≤ cap self.now.cpus limit }
-        ensures rate { All (λ t. t.number ≡ number
-            → result ≡ rate_in self.now.cpus limit self.now.tasks t) self.now.tasks }
-        ensures some { 0 < result }
-        ensures slow { result ≤ 2 ^ 27 }
+        ensures some { 0 < result.rate }
+        ensures slow { result.rate ≤ 2 ^ 27 }
+        ensures basis { IfSome result.basis
+            (λ b. b ≡ basis_in self.now.cpus limit self.now.tasks cpu) }
+        ensures rated { (d : Task)
+            → spec.IsRatedBy result.basis result.rate (slice_index_or self.now.tasks place d) }
     {
-        let Some(place) = self.place(number) else {
-            return 1;
-        };
         let task = &self.tasks[place];
-        let uinact = self.uinact(task.cpu);
-        grub_rules::rate(
-            &task.params,
-            uinact,
-            self.sum(),
-            self.seats.len() as u64,
-            limit,
-        )
-    }
-
-    /// The task of a number, who is to sit on a CPU and did not sit there rightly, does.
-    fn reseat(&mut self, cpu: usize, number: u32, limit: u64, basis: Basis)
-        requires there { cpu < self.old.cpus }
-        requires cpus { (0 < self.old.cpus) × (self.old.cpus ≤ 64) }
-        requires limit { IsLimit limit }
-        requires within { sum_of self.old.tasks ≤ cap self.old.cpus limit }
-        requires may { All (λ t. t.number ≡ number → (t.cpu ≡ cpu) × spec.MaySit t) self.old.tasks }
-        requires basis { basis ≡ basis_in self.old.cpus limit self.old.tasks cpu }
-        ensures cpus { self.new.cpus ≡ self.old.cpus }
-        ensures places { self.new.places ≡ self.old.places }
-        ensures clock { self.new.clock ≡ self.old.clock }
-        ensures tasks { self.new.tasks ≡ self.old.tasks }
-        ensures others { (d : ℕ) → d ≢ cpu
-            → slice_index_or self.new.seats d None ≡ slice_index_or self.old.seats d None }
-        ensures right { All (λ t. t.cpu ≡ cpu → spec.IsRight (Some number) t.number
-            (rate_in self.old.cpus limit self.old.tasks t) (spec.seat_of self.new.seats t)) self.new.tasks }
-    {
-        let rate = self.rate_of(number, limit);
-        self.leave_free(cpu);
-        self.occupy(cpu, number, rate, basis);
+        if !task.params.reclaim {
+            return rated_at_one(task);
+        }
+        rated_on(task, self.basis(cpu, limit))
     }
 
     /// Who stands on a CPU, the task of a number, sits there at its rate, and nobody else does.
     #[inline(always)]
-    fn seat_at(&mut self, cpu: usize, number: u32, limit: u64)
+    fn reseat(&mut self, cpu: usize, number: u32, limit: u64)
         requires there { cpu < self.old.cpus }
         requires cpus { (0 < self.old.cpus) × (self.old.cpus ≤ 64) }
         requires limit { IsLimit limit }
         requires within { sum_of self.old.tasks ≤ cap self.old.cpus limit }
         requires may { All (λ t. t.number ≡ number → (t.cpu ≡ cpu) × spec.MaySit t) self.old.tasks }
+        requires stands { slice_index_or self.old.places cpu None ≡ Some number }
         ensures cpus { self.new.cpus ≡ self.old.cpus }
         ensures places { self.new.places ≡ self.old.places }
         ensures clock { self.new.clock ≡ self.old.clock }
@@ -299,8 +328,12 @@ impl Roster {
         ensures right { All (λ t. t.cpu ≡ cpu → spec.IsRight (Some number) t.number
             (rate_in self.old.cpus limit self.old.tasks t) (spec.seat_of self.new.seats t)) self.new.tasks }
     {
-        let basis = self.basis(cpu, limit);
-        self.reseat(cpu, number, limit, basis);
+        self.leave_free(cpu);
+        if let Some(place) = self.place(number) {
+            let rating = self.rating(cpu, place, limit);
+            self.occupy(cpu, place, rating);
+            self.trust(cpu, limit);
+        }
     }
 
     /// Who stands on a CPU, if anyone does, sits there at its rate, and nobody else does.
@@ -312,6 +345,7 @@ impl Roster {
         requires within { sum_of self.old.tasks ≤ cap self.old.cpus limit }
         requires may { IfSome occupant
             (λ n. All (λ t. t.number ≡ n → (t.cpu ≡ cpu) × spec.MaySit t) self.old.tasks) }
+        requires stands { slice_index_or self.old.places cpu None ≡ occupant }
         ensures cpus { self.new.cpus ≡ self.old.cpus }
         ensures places { self.new.places ≡ self.old.places }
         ensures clock { self.new.clock ≡ self.old.clock }
@@ -322,8 +356,11 @@ impl Roster {
             (rate_in self.old.cpus limit self.old.tasks t) (spec.seat_of self.new.seats t)) self.new.tasks }
     {
         match occupant {
-            None => self.leave_free(cpu),
-            Some(number) => self.seat_at(cpu, number, limit),
+            None => {
+                self.leave_free(cpu);
+                self.trust(cpu, limit);
+            }
+            Some(number) => self.reseat(cpu, number, limit),
         }
     }
 

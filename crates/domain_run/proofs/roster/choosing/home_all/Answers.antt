@@ -1,5 +1,6 @@
-use Rattle.std.proofs.Common.{length, sym, subst, refl, ◌∙◌, arith}
+use Rattle.std.proofs.Common.{ℕ, length, sym, subst, refl, ◌∙◌, arith}
 use Rattle.domain_run.specs.private.Choosing.{AreWithin}
+use Rattle.domain_run.specs.private.Doubts.{IsMarked}
 use Rattle.domain_run.specs.private.Waiting.{owed_all}
 use Rattle.domain_run.proofs.Doubting.{marked_more, marked_trans, marked_next}
 use Rattle.domain_run.proofs.Choosing.{nobody, homed_more, homed_none}
@@ -12,7 +13,7 @@ loop-i-init c = record {
   written = sym (homed_none c.occupants-places.result.now (owed_all c.args.seats.now c.args.tasks.now.items));
   clock = refl;
   long = refl;
-  marked = marked_more c.args.doubts.now.cpus c.args.doubts.now.cpus c.args.seats.now.seats (owed_all c.args.seats.now c.args.tasks.now.items) (λ i e. e);
+  marked = marked_more c.args.doubts.now.rated c.args.doubts.now.cpus c.args.doubts.now.cpus c.args.seats.now.seats (owed_all c.args.seats.now c.args.tasks.now.items) (λ i e. e);
   moved = λ j d h few. absurd (omega (arith, h));
   rated = refl;
   sum = refl;
@@ -39,7 +40,8 @@ loop-i-preserved c =
       written = e.tasks ∙ homed_more c.occupants-places.result.now c.moves-moves.result.now (owed_all c.args.seats.now c.args.tasks.now.items) (owed_all l.seats l.tasks.items) l.i nobody c.occupant_of-occupant.result (omega arith) l.invariant.written c.occupant_of-occupant.ensures;
       clock = e.clock ∙ l.invariant.clock;
       long = e.seats ∙ l.invariant.long;
-      marked = marked_trans c.args.doubts.now.cpus l.doubts.cpus c.home_on.new.doubts.cpus c.args.seats.now.seats l.seats.seats c.home_on.new.seats.seats (owed_all c.args.seats.now c.args.tasks.now.items) (owed_all l.seats l.tasks.items) (owed_all c.home_on.new.seats c.home_on.new.tasks.items) l.invariant.marked e.marked;
+      marked = marked_trans c.args.doubts.now.rated c.args.doubts.now.cpus l.doubts.cpus c.home_on.new.doubts.cpus c.args.seats.now.seats l.seats.seats c.home_on.new.seats.seats (owed_all c.args.seats.now c.args.tasks.now.items) (owed_all l.seats l.tasks.items) (owed_all c.home_on.new.seats c.home_on.new.tasks.items) l.invariant.marked
+          (subst (λ (r : ℕ). IsMarked r l.doubts.cpus c.home_on.new.doubts.cpus l.seats.seats c.home_on.new.seats.seats (owed_all l.seats l.tasks.items) (owed_all c.home_on.new.seats c.home_on.new.tasks.items)) l.invariant.rated e.marked);
       moved = λ j d h few. marked_next l.doubts.cpus c.home_on.new.doubts.cpus l.i c.moves-moves.result.now j d nobody h few l.invariant.moved e.marked.bare e.here (omega arith);
       rated = e.rated ∙ l.invariant.rated;
       sum = e.sum ∙ l.invariant.sum;

@@ -14,7 +14,7 @@ invariant-loop-i l = record {
   written : owed_all l.seats l.tasks.items ≡ map (homed_by l.places (take l.i l.moves)) (owed_all l.fn.seats l.fn.tasks.items);
   clock : l.seats.upto ≡ l.fn.seats.upto;
   long : length l.seats.seats ≡ length l.fn.seats.seats;
-  marked : IsMarked l.fn.doubts.cpus l.doubts.cpus l.fn.seats.seats l.seats.seats (owed_all l.fn.seats l.fn.tasks.items) (owed_all l.seats l.tasks.items);
+  marked : IsMarked l.fn.doubts.rated l.fn.doubts.cpus l.doubts.cpus l.fn.seats.seats l.seats.seats (owed_all l.fn.seats l.fn.tasks.items) (owed_all l.seats l.tasks.items);
   moved : (j : ℕ) (d : Moved) → j < l.i → (get_or l.moves j d).cpu < 64 → bit_at l.doubts.cpus (get_or l.moves j d).cpu ≡ 1;
   rated : l.doubts.rated ≡ l.fn.doubts.rated;
   sum : l.doubts.sum ≡ l.fn.doubts.sum;

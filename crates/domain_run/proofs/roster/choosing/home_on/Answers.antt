@@ -1,4 +1,4 @@
-use Rattle.std.proofs.Common.{◌≡◌, ◌<◌, None, Some, List, map, sym, ap, subst, refl, ◌∙◌}
+use Rattle.std.proofs.Common.{◌≡◌, ◌<◌, ℕ, None, Some, List, map, sym, ap, subst, refl, ◌∙◌}
 use Rattle.std.specs.Int.{bit_at}
 use Rattle.std.proofs.lemmas.List.{get_or_default}
 use Rattle.domain_run.specs.declared.task.Task.{Task}
@@ -6,8 +6,8 @@ use Rattle.domain_run.specs.Parts.{with_cpu}
 use Rattle.domain_run.specs.private.Index.{IsAt, IsAbsent}
 use Rattle.domain_run.specs.private.Roster.{homed_here}
 use Rattle.domain_run.specs.private.Waiting.{owed, owed_all}
-use Rattle.domain_run.proofs.Choosing.{start_waits, start_held, start_fits, started_counts, started_tasks, started_view, started_clock, started_wide, stays_tasks}
-use Rattle.domain_run.proofs.Doubting.{start_marked, kept_mark}
+use Rattle.domain_run.proofs.Choosing.{start_waits, start_held, started_counts, started_tasks, started_view, started_clock, started_wide, stays_tasks}
+use Rattle.domain_run.proofs.Doubting.{start_marked, kept_mark, left_unseated, IsLeft}
 use Rattle.domain_run.proofs.Finding.{map_others}
 use Rattle.domain_run.proofs.Staying.{map_itself}
 use Rattle.domain_run.proofs.Waiting.{alike_owed, at_like, absent_like}
@@ -26,14 +26,14 @@ returns-in_default-place-clause-tasks c =
     let absent = absent_like (owed s.upto s.seats) (alike_owed s.upto s.seats) n items (subst (λ (ts : List Task). IsAbsent ts n) c.deref.ensures.value c.in_default-place.ensures.absent) in
     sym (ap (λ o. map (homed_here o c.args.cpu) (owed_all s items)) c.in-Some.is ∙ map_others (with_cpu (Some c.args.cpu)) n (owed_all s items) absent)
 
-pub returns-then-index-cpu-clause-tasks : goal.returns-then-index-cpu-clause-tasks
-returns-then-index-cpu-clause-tasks c =
+pub returns-then-left-cpu-clause-tasks : goal.returns-then-left-cpu-clause-tasks
+returns-then-left-cpu-clause-tasks c =
     let s = c.args.seats.now in
     let items = c.args.tasks.now.items in
     let n = c.in-Some.number in
     let p = c.in-Some-place.place in
     let at = subst (λ (ts : List Task). IsAt ts n p) c.deref.ensures.value c.in-Some-place.ensures.there in
-    stays_tasks c.args.accounts.now s items p c.index.result.now at.within c.index.ensures c.requires.counts c.args.cpu n c.if-index-cpu.true
+    stays_tasks c.args.accounts.now s items p c.index.result.now at.within c.index.ensures c.requires.counts c.args.cpu n c.if-left-cpu.true
     (at_like (owed s.upto s.seats) (alike_owed s.upto s.seats) n p items at)
     ∙ ap (λ o. map (homed_here o c.args.cpu) (owed_all s items)) (sym c.in-Some.is)
 
@@ -46,11 +46,6 @@ pub start-requires-clause-held : goal.start-requires-clause-held
 start-requires-clause-held c =
     let at = subst (λ (ts : List Task). IsAt ts c.in-Some.number c.in-Some-place.place) c.deref.ensures.value c.in-Some-place.ensures.there in
     start_held c.args.accounts.now c.args.seats.now c.args.tasks.now.items c.in-Some-place.place c.index_mut.result.now at.within c.index_mut.ensures.value c.requires.counts
-
-pub start-requires-clause-fits : goal.start-requires-clause-fits
-start-requires-clause-fits c =
-    let at = subst (λ (ts : List Task). IsAt ts c.in-Some.number c.in-Some-place.place) c.deref.ensures.value c.in-Some-place.ensures.there in
-    start_fits c.args.accounts.now c.args.seats.now c.args.tasks.now.items c.in-Some-place.place c.index_mut.result.now at.within c.index_mut.ensures.value c.requires.counts
 
 pub returns-clause-counts : goal.returns-clause-counts
 returns-clause-counts c =
@@ -86,12 +81,16 @@ returns-clause-marked c =
     let s = c.args.seats.now in
     let items = c.args.tasks.now.items in
     let p = c.in-Some-place.place in
-    let at = subst (λ (ts : List Task). IsAt ts c.in-Some.number p) c.deref.ensures.value c.in-Some-place.ensures.there in
+    let n = c.in-Some.number in
+    let at = subst (λ (ts : List Task). IsAt ts n p) c.deref.ensures.value c.in-Some-place.ensures.there in
     let x = c.index_mut.result.now in
-    let same : c.index-2.result.now ≡ x = c.index-2.ensures ∙ get_or_default items p c.index-2.result.now x at.within ∙ sym c.index_mut.ensures.value in
+    let same : c.index.result.now ≡ x = c.index.ensures ∙ get_or_default items p c.index.result.now x at.within ∙ sym c.index_mut.ensures.value in
+    let number : n ≡ x.number = sym (at.is x) ∙ sym (ap (λ (t : Task). t.number) c.index_mut.ensures.value) in
     let one = c.mark.ensures in
-    let two = c.mark-2.ensures in
-    start_marked c.args.doubts.now.cpus c.mark-2.new.self.cpus c.args.cpu s c.start.new.seats items p x c.start.new.task at.within c.index_mut.ensures.value c.start.ensures.task c.start.ensures.seats
+    let two = c.mark_left.ensures in
+    let b = c.mark_left.new.self.cpus in
+    let left = left_unseated c.args.doubts.now.rated b c.index.result.now.cpu n s.seats c.seat_of.result _ c.seat_of.ensures.seat c.is_some.ensures two.sat (λ e few none. ap (λ (r : ℕ). bit_at r c.index.result.now.cpu) (sym one.rated) ∙ two.free e few none) in
+    start_marked c.args.doubts.now.rated c.args.doubts.now.cpus b c.args.cpu s c.start.new.seats items p x c.start.new.task at.within c.index_mut.ensures.value c.start.ensures.task c.start.ensures.seats
     (started_view c.args.accounts.now s items p x at.within c.index_mut.ensures.value c.requires.counts c.args.cpu c.start.new.accounts c.start.new.seats c.start.new.task c.requires.there c.start.ensures.task c.start.ensures.seats)
-    (subst (λ (t : Task). t.cpu < 64 → bit_at c.mark-2.new.self.cpus t.cpu ≡ 1) same two.marked)
-    (kept_mark c.mark.new.self.cpus c.mark-2.new.self.cpus c.args.cpu two.bare one.marked) (λ i e. one.bare i (two.bare i e))
+    (subst (λ (m : ℕ). IsLeft c.args.doubts.now.rated b x.cpu m s.seats) number (subst (λ (t : Task). IsLeft c.args.doubts.now.rated b t.cpu n s.seats) same left))
+    (kept_mark c.mark.new.self.cpus b c.args.cpu two.bare one.marked) (λ i e. one.bare i (two.bare i e))
