@@ -1,6 +1,6 @@
 -- Several runs at once: what is left of each, and that its first entry comes next where its head wins.
-use Rattle.std.proofs.Common.{◌≡◌, ◌≢◌, ℕ, zero, suc, ◌+◌, ◌-◌, ◌^◌, ◌<◌, ◌≤◌, Bool, true, false, List, [], ◌∷◌, ◌++◌, length, map, drop, replicate, set, get_or, refl, sym, ap, subst, ◌∙◌, append_assoc, arith, inl, inr}
-use Rattle.std.specs.Prelude.{All, IsTrue, ◌↔◌}
+use Rattle.std.proofs.Common.{◌≡◌, ◌≢◌, ℕ, zero, suc, ◌+◌, ◌-◌, ◌^◌, ◌<◌, ◌≤◌, true, false, List, [], ◌∷◌, ◌++◌, length, map, drop, replicate, set, get_or, refl, sym, ap, subst, ◌∙◌, append_assoc, arith, inl, inr}
+use Rattle.std.specs.Prelude.{All}
 use Rattle.std.specs.List.{AllByRecursion}
 use Rattle.std.proofs.lemmas.Bool.{cases_lt, cases_eq}
 use Rattle.std.proofs.lemmas.Bool.Decides.{nat_tests}
@@ -14,8 +14,8 @@ use Rattle.switch_text.specs.declared.heads.Head.{Head}
 use Rattle.switch_text.specs.Names.{HasLine}
 use Rattle.switch_text.specs.Trace.{RunView, Entry, entry_of, entries_of, is_earlier, in_order}
 use Rattle.switch_text.specs.Runs.{view_of, views, IsRun}
-use Rattle.switch_text.specs.private.Merging.{left_of, stepped, IsAhead, IsNextOf, IsRunAt, next_entry}
-use Rattle.switch_text.specs.private.Winning.{no_head, head_of, is_sooner, head_in, Wins, left_at, IsMerge}
+use Rattle.switch_text.specs.private.Merging.{left_of, stepped, IsAhead, IsNextOf, next_entry}
+use Rattle.switch_text.specs.private.Winning.{no_head, head_of, is_sooner, head_in, Wins, left_at, AreHeads, IsMerge}
 use Rattle.switch_text.proofs.CallerLemmas.{IsRising, IsRising-map}
 use Rattle.switch_text.proofs.Order.{AllByRecursion-weaker, AllByRecursion-append, earlier_trans, not_later_trans, not_later-from_earlier, in_order-first}
 use Rattle.switch_text.proofs.Winning.{head_set_same, head_set_other}
@@ -28,7 +28,7 @@ entries_from r p s lt is =
     let here : drop p r.switches ≡ s ∷ drop (p + 1) r.switches = drop_more r.switches p s lt ∙ ap (λ (x : Switch). x ∷ drop (p + 1) r.switches) (sym is) in
     drop-map (entry_of r) p r.switches ∙ ap (map (entry_of r)) here ∙ ap (λ (es : List Entry). entry_of r s ∷ es) (sym (drop-map (entry_of r) (p + 1) r.switches))
 
-none_from : (r : RunView) (p : ℕ) → length r.switches ≤ p → drop p (entries_of r) ≡ []
+pub none_from : (r : RunView) (p : ℕ) → length r.switches ≤ p → drop p (entries_of r) ≡ []
 none_from r p le = drop_all p (entries_of r) (omega (arith, length-map r.switches (entry_of r)))
 
 pub left_at-is : (runs : List RunView) (places : List ℕ) (i : ℕ) (r : RunView) → i < length runs → i < length places → r ≡ get_or runs i r → left_at runs places i ≡ drop (get_or places i 0) (entries_of r)
@@ -132,18 +132,6 @@ early_at (r ∷ rs) (p ∷ ps) (suc i) all = early_at rs ps i all.1
 run_not_earlier : (e h : Entry) (rest : List Entry) → is_earlier h e ≡ false → AllByRecursion (λ x. is_earlier h x ≡ true) rest → AllByRecursion (λ x. is_earlier x e ≡ false) (h ∷ rest)
 run_not_earlier e h rest le rising = (le, AllByRecursion-weaker (λ x. is_earlier h x ≡ true) (λ x. is_earlier x e ≡ false) rest (λ x q. not_later_trans e h x le q) rising)
 
-early_head : (es : List Entry) → AllByRecursion IsEarly es → is_sooner no_head (head_of es) ≡ false
-early_head [] all = refl
-early_head (e ∷ es) all =
-    let early : e.time < 2 ^ 42 = all.0 in
-    grind (arith, nat_tests)
-
-pub early_heads : (runs : List Run) (places : List ℕ) (i : ℕ) → All IsRun runs → is_sooner no_head (head_of (left_at (views runs) places i)) ≡ false
-early_heads runs places i all = early_head (left_at (views runs) places i) (early_at runs places i (recursion_from_All IsRun runs all))
-
-pub early_from : (r : Run) (p : ℕ) → IsRun r → is_sooner no_head (head_of (drop p (entries_of (view_of r)))) ≡ false
-early_from r p run = early_head (drop p (entries_of (view_of r))) (early_drop p (entries_of (view_of r)) (early_run r run))
-
 -- where the winner is so late, nothing is left of a run before it
 none_before : (es : List Entry) (h : Head) → AllByRecursion IsEarly es → h.time ≡ 2 ^ 64 - 1 → is_sooner h (head_of es) ≡ true → es ≡ []
 none_before [] h all late s = refl
@@ -169,39 +157,37 @@ not_later_by_head e (x ∷ xs) rise s = run_not_earlier e x xs s rise.0
 
 -- ---- the winner
 
-none_at : (runs : List Run) (m : Merge) → length runs ≤ 8 → All IsRun runs → IsMerge (views runs) m → (head_in m.heads.heads m.heads.first).time ≡ 2 ^ 64 - 1 → (j : ℕ) → left_at (views runs) m.places j ≡ []
-none_at runs m few all merge late j = elim (cases_lt j 8) [
-  | inr past ↦ left_at-past (views runs) m.places j (omega (arith, length-map runs view_of, past))
+none_at : (runs : List Run) (m : Merge) → length runs ≤ 8 → All IsRun runs → AreHeads (views runs) m → left_at (views runs) m.places m.heads.first ≡ [] → (j : ℕ) → left_at (views runs) m.places j ≡ []
+none_at runs m few all are none j = elim (cases_lt j 8) [
+  | inr past ↦ left_at-past (views runs) m.places j (omega (arith, length-map runs view_of, few, past))
   | inl inside ↦
-      let w = merge.tree.first in
+      let w = are.tree.first in
       let top = head_in m.heads.heads m.heads.first in
+      let late : top.time ≡ 2 ^ 64 - 1 = ap (λ (h : Head). h.time) (are.heads m.heads.first w.high ∙ ap head_of none) in
       let es = left_at (views runs) m.places j in
       let early = early_at runs m.places j (recursion_from_All IsRun runs all) in
       elim (cases_lt j m.heads.first) [
-        | inl less ↦ none_before es top early late (subst (λ (h : Head). is_sooner top h ≡ true) (merge.heads j inside) (w.before j (omega arith) less))
-        | inr more ↦ none_behind es top early late (subst (λ (h : Head). is_sooner h top ≡ false) (merge.heads j inside) (w.behind j more inside))
+        | inl less ↦ none_before es top early late (subst (λ (h : Head). is_sooner top h ≡ true) (are.heads j inside) (w.before j (omega arith) less))
+        | inr more ↦ none_behind es top early late (subst (λ (h : Head). is_sooner h top ≡ false) (are.heads j inside) (w.behind j more inside))
       ]
 ]
 
-pub found_none : (runs : List Run) (m : Merge) → length runs ≤ 8 → All IsRun runs → IsMerge (views runs) m → (head_in m.heads.heads m.heads.first).time ≡ 2 ^ 64 - 1 → left_of (views runs) m.places ≡ []
-found_none runs m few all merge late = none_left (views runs) m.places (none_at runs m few all merge late)
+-- of one run alone
+none_alone : (runs : List Run) (places : List ℕ) → length runs ≤ 1 → left_at (views runs) places 0 ≡ [] → (j : ℕ) → left_at (views runs) places j ≡ []
+none_alone runs places one none j = elim (cases_lt 0 j) [
+  | inl later ↦ left_at-past (views runs) places j (omega (arith, length-map runs view_of, one, later))
+  | inr first ↦
+      let same : 0 ≡ j = omega (arith, first) in
+      subst (λ (k : ℕ). left_at (views runs) places k ≡ []) same none
+]
 
--- something is left of the winner
-some_left : (es : List Entry) → ((head_of es).time ≡ 2 ^ 64 - 1 → ⊥) → 0 < length es
-some_left [] h = absurd (h refl)
-some_left (e ∷ es) h = omega arith
-
-left_of_first : (runs : List Run) (m : Merge) → IsMerge (views runs) m → ((head_in m.heads.heads m.heads.first).time ≡ 2 ^ 64 - 1 → ⊥) → 0 < length (left_at (views runs) m.places m.heads.first)
-left_of_first runs m merge some =
-    let is = merge.heads m.heads.first merge.tree.first.high in
-    some_left (left_at (views runs) m.places m.heads.first) (λ late. some (ap (λ (h : Head). h.time) is ∙ late))
-
-pub first_inside : (runs : List Run) (m : Merge) → IsMerge (views runs) m → ((head_in m.heads.heads m.heads.first).time ≡ 2 ^ 64 - 1 → ⊥) → m.heads.first < length runs
-first_inside runs m merge some = elim (cases_lt m.heads.first (length runs)) [
-  | inl h ↦ h
-  | inr past ↦
-      let left = left_of_first runs m merge some in
-      absurd (omega (arith, left, ap length (left_at-past (views runs) m.places m.heads.first (omega (arith, length-map runs view_of, past)))))
+-- nothing is left where nothing is left of the winner
+pub found_none : (runs : List Run) (m : Merge) → length runs ≤ 8 → All IsRun runs → IsMerge (views runs) m → left_at (views runs) m.places m.heads.first ≡ [] → left_of (views runs) m.places ≡ []
+found_none runs m few all merge none = elim (cases_lt 1 (length runs)) [
+  | inl several ↦ none_left (views runs) m.places (none_at runs m few all (merge.several (omega (arith, length-map runs view_of, several))) none)
+  | inr one ↦
+      let zero_is = merge.alone (omega (arith, length-map runs view_of, one)) in
+      none_left (views runs) m.places (none_alone runs m.places one (subst (λ (k : ℕ). left_at (views runs) m.places k ≡ []) zero_is none))
 ]
 
 -- a run among the runs, and its place
@@ -215,16 +201,6 @@ left_placed runs places i run at =
     let inside : i < length runs = at.inside in
     left_at-is (views runs) places i (view_of run) (omega (arith, length-map runs view_of, inside)) at.room (ap view_of at.is ∙ sym (get_or-map view_of runs i run (view_of run) inside))
 
-pub place_inside : (runs : List Run) (m : Merge) (run : Run) → IsMerge (views runs) m → ((head_in m.heads.heads m.heads.first).time ≡ 2 ^ 64 - 1 → ⊥) → IsPlaced runs m.places m.heads.first run → get_or m.places m.heads.first 0 < length run.switches.now
-place_inside runs m run merge some at =
-    let p = get_or m.places m.heads.first 0 in
-    elim (cases_lt p (length run.switches.now)) [
-      | inl h ↦ h
-      | inr past ↦
-          let left = left_of_first runs m merge some in
-          absurd (omega (arith, left, ap length (left_placed runs m.places m.heads.first run at ∙ none_from (view_of run) p past)))
-    ]
-
 -- the places behind the next
 pub left_stepped : (runs : List Run) (places : List ℕ) (i : ℕ) (run : Run) → IsPlaced runs places i run → left_at (views runs) (stepped places i) i ≡ drop (get_or places i 0 + 1) (entries_of (view_of run))
 left_stepped runs places i run at =
@@ -233,14 +209,45 @@ left_stepped runs places i run at =
     let moved : IsPlaced runs (set places i v) i run = record { inside = at.inside; room = omega (arith, length-set places i v, room); is = at.is } in
     left_placed runs (set places i v) i run moved ∙ ap (λ (k : ℕ). drop k (entries_of (view_of run))) (get_or-set_same places i v 0 room)
 
--- none that is left behind the winner is earlier
-behind_first : (runs : List Run) (m : Merge) (e : Entry) (i : ℕ) → length runs ≤ 8 → AllByRecursion IsRun runs → IsMerge (views runs) m → Wins m.heads.heads 0 8 i → head_in m.heads.heads i ≡ record { time = e.time; cpu = e.cpu }
+-- all that is left before the winner is later, and none that is left behind it is earlier
+pub record GoesFirst (runs : List RunView) (places : List ℕ) (i : ℕ) (e : Entry) : Type 0 where
+  pub before : (j : ℕ) → j < i → AllByRecursion (λ x. is_earlier e x ≡ true) (left_at runs places j)
+  pub behind : (j : ℕ) → i < j → AllByRecursion (λ x. is_earlier x e ≡ false) (left_at runs places j)
+
+behind_first : (runs : List Run) (m : Merge) (e : Entry) (i : ℕ) → length runs ≤ 8 → AllByRecursion IsRun runs → AreHeads (views runs) m → Wins m.heads.heads 0 8 i → head_in m.heads.heads i ≡ record { time = e.time; cpu = e.cpu }
     → (j : ℕ) → i < j → AllByRecursion (λ x. is_earlier x e ≡ false) (left_at (views runs) m.places j)
-behind_first runs m e i few are merge w top j gt = elim (cases_lt j 8) [
+behind_first runs m e i few are heads w top j gt = elim (cases_lt j 8) [
   | inl inside ↦
       not_later_by_head e (left_at (views runs) m.places j) (rising_at runs m.places j are)
-      (subst (λ (h : Head). is_sooner (head_of (left_at (views runs) m.places j)) h ≡ false) top (subst (λ (h : Head). is_sooner h (head_in m.heads.heads i) ≡ false) (merge.heads j inside) (w.behind j (omega (arith, gt)) inside)))
+      (subst (λ (h : Head). is_sooner (head_of (left_at (views runs) m.places j)) h ≡ false) top (subst (λ (h : Head). is_sooner h (head_in m.heads.heads i) ≡ false) (heads.heads j inside) (w.behind j (omega (arith, gt)) inside)))
   | inr past ↦ subst (λ (es : List Entry). AllByRecursion (λ x. is_earlier x e ≡ false) es) (sym (left_at-past (views runs) m.places j (omega (arith, length-map runs view_of, few, past)))) tt
+]
+
+first_of_several : (runs : List Run) (m : Merge) (e : Entry) (rest : List Entry) → length runs ≤ 8 → All IsRun runs → AreHeads (views runs) m → left_at (views runs) m.places m.heads.first ≡ e ∷ rest → GoesFirst (views runs) m.places m.heads.first e
+first_of_several runs m e rest few all heads here =
+    let i = m.heads.first in
+    let are = recursion_from_All IsRun runs all in
+    let w = heads.tree.first in
+    let high = w.high in
+    let top : head_in m.heads.heads i ≡ record { time = e.time; cpu = e.cpu } = heads.heads i high ∙ ap head_of here in
+    record {
+      before = λ j lt.
+          let inside : j < 8 = omega (arith, lt, high) in
+          earlier_by_head e (left_at (views runs) m.places j) (rising_at runs m.places j are)
+          (subst (λ (h : Head). is_sooner h (head_of (left_at (views runs) m.places j)) ≡ true) top (subst (λ (h : Head). is_sooner (head_in m.heads.heads i) h ≡ true) (heads.heads j inside) (w.before j (omega arith) lt)));
+      behind = behind_first runs m e i few are heads w top;
+    }
+
+first_alone : (runs : List Run) (places : List ℕ) (e : Entry) (i : ℕ) → length runs ≤ 1 → i ≡ 0 → GoesFirst (views runs) places i e
+first_alone runs places e i one is = record {
+  before = λ j lt. absurd (omega (arith, lt, is));
+  behind = λ j gt. subst (λ (es : List Entry). AllByRecursion (λ x. is_earlier x e ≡ false) es) (sym (left_at-past (views runs) places j (omega (arith, length-map runs view_of, one, gt)))) tt;
+}
+
+goes_first : (runs : List Run) (m : Merge) (e : Entry) (rest : List Entry) → length runs ≤ 8 → All IsRun runs → IsMerge (views runs) m → left_at (views runs) m.places m.heads.first ≡ e ∷ rest → GoesFirst (views runs) m.places m.heads.first e
+goes_first runs m e rest few all merge here = elim (cases_lt 1 (length runs)) [
+  | inl several ↦ first_of_several runs m e rest few all (merge.several (omega (arith, length-map runs view_of, several))) here
+  | inr one ↦ first_alone runs m.places e m.heads.first one (merge.alone (omega (arith, length-map runs view_of, one)))
 ]
 
 line_at : (runs : List Run) (places : List ℕ) (i : ℕ) (run : Run) → All IsRun runs → IsPlaced runs places i run → get_or places i 0 < length run.switches.now → (s : Switch) → HasLine run.names.now run.base (get_or run.switches.now (get_or places i 0) s)
@@ -248,7 +255,7 @@ line_at runs places i run all at inside s =
     let good : IsRun run = subst IsRun (sym at.is) (all i run at.inside) in
     good.lines (get_or places i 0) s inside
 
-pub found_some : (runs : List Run) (m : Merge) (n : Next) → length runs ≤ 8 → All IsRun runs → IsMerge (views runs) m → n.index ≡ m.heads.first → IsPlaced runs m.places n.index n.run.now → get_or m.places n.index 0 < length n.run.now.switches.now
+found_some : (runs : List Run) (m : Merge) (n : Next) → length runs ≤ 8 → All IsRun runs → IsMerge (views runs) m → n.index ≡ m.heads.first → IsPlaced runs m.places n.index n.run.now → get_or m.places n.index 0 < length n.run.now.switches.now
     → n.switch.now ≡ get_or n.run.now.switches.now (get_or m.places n.index 0) n.switch.now → get_or m.places n.index 0 + 1 < 2 ^ 64 → IsNextOf runs m.places n
 found_some runs m n few all merge is at place_in switch_is small =
     let places = m.places in
@@ -257,28 +264,16 @@ found_some runs m n few all merge is at place_in switch_is small =
     let e = next_entry n in
     let p = get_or places i 0 in
     let rest = drop (p + 1) (entries_of (view_of run)) in
-    let are = recursion_from_All IsRun runs all in
-    let w : Wins m.heads.heads 0 8 i = subst (λ (k : ℕ). Wins m.heads.heads 0 8 k) (sym is) merge.tree.first in
-    let high = w.high in
     let here : left_at (views runs) places i ≡ e ∷ rest = left_placed runs places i run at ∙ entries_from (view_of run) p n.switch.now place_in switch_is in
-    let rise : IsRising (e ∷ rest) = subst IsRising here (rising_at runs places i are) in
-    let top : head_in m.heads.heads i ≡ record { time = e.time; cpu = e.cpu } = merge.heads i high ∙ ap head_of here in
-    let earlier : (j : ℕ) → j < i → AllByRecursion (λ x. is_earlier e x ≡ true) (left_at (views runs) places j) = λ j lt.
-    let inside : j < 8 = omega (arith, lt, high) in
-    earlier_by_head e (left_at (views runs) places j) (rising_at runs places j are)
-    (subst (λ (h : Head). is_sooner h (head_of (left_at (views runs) places j)) ≡ true) top (subst (λ (h : Head). is_sooner (head_in m.heads.heads i) h ≡ true) (merge.heads j inside) (w.before j (omega arith) lt))) in
+    let rise : IsRising (e ∷ rest) = subst IsRising here (rising_at runs places i (recursion_from_All IsRun runs all)) in
+    let first : GoesFirst (views runs) places i e = subst (λ (k : ℕ). GoesFirst (views runs) places k e) (sym is) (goes_first runs m e rest few all merge (subst (λ (k : ℕ). left_at (views runs) places k ≡ e ∷ rest) is here)) in
     record {
       ahead = ahead_at (views runs) places i e rest here (left_stepped runs places i run at)
-          (AllByRecursion-weaker (λ x. is_earlier e x ≡ true) (λ x. is_earlier x e ≡ false) rest (λ x q. not_later-from_earlier e x q) rise.0) earlier (behind_first runs m e i few are merge w top);
+          (AllByRecursion-weaker (λ x. is_earlier e x ≡ true) (λ x. is_earlier x e ≡ false) rest (λ x q. not_later-from_earlier e x q) rise.0) first.before first.behind;
       printed = subst (λ (s : Switch). HasLine run.names.now run.base s) (sym switch_is) (line_at runs places i run all at place_in n.switch.now);
       run = record { inside = at.inside; is = at.is };
       place = small;
     }
-
-pub not_none : (test : Bool) (time : ℕ) → IsTrue test ↔ (time ≡ 2 ^ 64 - 1) → test ≡ false → time ≡ 2 ^ 64 - 1 → ⊥
-not_none test time means isnt late =
-    let yes : test ≡ true = means.1 late in
-    absurd cc
 
 -- the same, known by equations
 pub found_by : (runs : List Run) (m : Merge) (run : Run) (n : Next) → length runs ≤ 8 → All IsRun runs → IsMerge (views runs) m → IsPlaced runs m.places m.heads.first run → get_or m.places m.heads.first 0 < length run.switches.now
@@ -324,14 +319,13 @@ AreStarted-all runs heads i all are j lt = elim (cases_lt j i) [
 ]
 
 -- the heads behind the next
-pub heads_stepped : (runs : List Run) (m : Merge) (i k : ℕ) (run : Run) (head : Head) (heads : List Head) → IsMerge (views runs) m → IsPlaced runs m.places i run → i < length m.heads.heads → k ≡ i
-    → head ≡ head_of (drop (get_or m.places i 0 + 1) (entries_of (view_of run))) → heads ≡ set m.heads.heads k head → (j : ℕ) → j < 8 → head_in heads j ≡ head_of (left_at (views runs) (stepped m.places i) j)
-heads_stepped runs m i k run head heads merge at inside place is are j lt =
-    let here : heads ≡ set m.heads.heads i head = are ∙ ap (λ (n : ℕ). set m.heads.heads n head) place in
+pub heads_stepped : (runs : List Run) (m : Merge) (i : ℕ) (run : Run) (head : Head) (heads : List Head) → AreHeads (views runs) m → IsPlaced runs m.places i run → i < length m.heads.heads
+    → head ≡ head_of (drop (get_or m.places i 0 + 1) (entries_of (view_of run))) → heads ≡ set m.heads.heads i head → (j : ℕ) → j < 8 → head_in heads j ≡ head_of (left_at (views runs) (stepped m.places i) j)
+heads_stepped runs m i run head heads are at inside is here j lt =
     ap (λ (hs : List Head). head_in hs j) here ∙ elim (cases_eq j i) [
       | inl same ↦
           head_set_same m.heads.heads i head j same inside ∙ is ∙ sym (ap head_of (left_stepped runs m.places i run at)) ∙ ap (λ (n : ℕ). head_of (left_at (views runs) (stepped m.places i) n)) (sym same)
-      | inr apart ↦ head_set_other m.heads.heads i head j apart ∙ merge.heads j lt ∙ sym (ap head_of (left_at-set_other (views runs) m.places i (get_or m.places i 0 + 1) j apart))
+      | inr apart ↦ head_set_other m.heads.heads i head j apart ∙ are.heads j lt ∙ sym (ap head_of (left_at-set_other (views runs) m.places i (get_or m.places i 0 + 1) j apart))
     ]
 
 -- in the order of the trace the next entry comes first

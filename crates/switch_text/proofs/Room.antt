@@ -1,5 +1,5 @@
 -- No line has more than 256 bytes.
-use Rattle.std.proofs.Common.{ℕ, ◌+◌, sym, ap, ◌∙◌, append_assoc, [], ◌∷◌, ◌-◌, ◌/◌, ◌%◌, ◌^◌, ◌<◌, ◌≤◌, ◌≡◌, refl, List, ◌++◌, length, replicate, Option, Some, None, arith}
+use Rattle.std.proofs.Common.{ℕ, ◌+◌, sym, ap, ◌∙◌, append_assoc, [], ◌∷◌, ◌-◌, ◌/◌, ◌%◌, ◌^◌, ◌<◌, ◌≤◌, ◌≡◌, List, ◌++◌, length, replicate, Option, Some, None, arith}
 use Rattle.std.specs.Prelude.{decimal, codes, IfSome}
 use Rattle.std.proofs.lemmas.Fmt.{length-decimal-le}
 use Rattle.std.proofs.lemmas.List.{length-append, length-replicate}
@@ -8,7 +8,7 @@ use Rattle.domain_run.specs.declared.switch.PrevState.TheVariants.{Running, Pree
 use Rattle.switch_text.specs.Names.{Names, named, HasName}
 use Rattle.switch_text.specs.Line.{right_in, left_in, digits_in, pid_of, prio_of, title_of, comm_of, letters_of, task_part, cpu_part}
 use Rattle.switch_text.proofs.Digits.{digits_three, length-digits_three}
-use Rattle.switch_text.specs.private.Parts.{second_part, event_part, leaving_part, state_part, coming_part}
+use Rattle.switch_text.specs.private.Parts.{second_part, leaving_part, state_part, coming_part}
 
 -- a task whose name has at most 15 bytes
 abbrev pub IsShort : (ℕ → List ℕ) → Option ℕ → Type 0
@@ -67,10 +67,6 @@ cpu_text cpu n two e lt q =
 pub length-second_part : (second : ℕ) → second < 10000000 → length (second_part second) ≤ 8
 length-second_part second lt =
     omega (arith, length-append (right_in 5 (decimal second)) (codes "."), length-right_in 5 7 (decimal second) (omega arith) (length-decimal-le 7 second (omega arith) (omega arith) (omega arith)))
-
-pub length-event_part : length event_part ≡ 26
-unfolding event_part
-length-event_part = refl
 
 pub length-leaving_part : (names : ℕ → List ℕ) (cpu : ℕ) (prev : Option ℕ) → cpu < 512 → IsShort names prev → pid_of prev < 2 ^ 33 → length (leaving_part names cpu prev) ≤ 61
 unfolding leaving_part

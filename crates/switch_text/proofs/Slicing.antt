@@ -1,16 +1,15 @@
 -- The trace of a run that goes out slice by slice.
 use Rattle.std.proofs.Common.{◌≡◌, ℕ, ◌+◌, ◌*◌, ◌<◌, ◌≤◌, ◌^◌, List, [], ◌∷◌, ◌++◌, length, Option, refl, sym, ap, subst, ◌∙◌, append_assoc, append-nil, arith}
 use Rattle.std.specs.Prelude.{All}
-use Rattle.std.specs.List.{flat_map}
 use Rattle.std.proofs.KnownBytes.{Appends-nil}
-use Rattle.std.proofs.lemmas.List.{length-append, length-map}
+use Rattle.std.proofs.lemmas.List.{length-append}
 use Rattle.std.proofs.lemmas.Grind.{flat_map-append}
 use Rattle.domain_run.specs.declared.switch.Switch.{Switch}
 use Rattle.counted_io.specs.Faults.{TakesFront}
 use Rattle.switch_text.specs.declared.run.Run.{Run}
 use Rattle.switch_text.specs.Names.{named, SameNames}
 use Rattle.switch_text.specs.Line.{line_of}
-use Rattle.switch_text.specs.Trace.{entry_of, entries_of, header}
+use Rattle.switch_text.specs.Trace.{header}
 use Rattle.switch_text.specs.Runs.{view_of, views, IsRun}
 use Rattle.switch_text.specs.SlicedTrace.{sliced_trace, IsEndOf}
 use Rattle.switch_text.specs.private.Sending.{Sends}
@@ -26,10 +25,6 @@ pub lines_in-slice : (r : Run) (base : ℕ) (names : ℕ → List ℕ) (ss : Lis
 lines_in-slice r base names ss run is_base are same =
     lines_of-one_run (view_of r) run.rising ∙ lines_of-same_names (named r.names.now) names r.base r.switches.now same
     ∙ ap (λ (b : ℕ). lines_by b names r.switches.now) is_base ∙ ap (lines_by base names) are
-
--- it has as many lines as switches
-pub length-slice : (r : Run) (ss : List Switch) → r.switches.now ≡ ss → length (flat_map entries_of (views (r ∷ []))) ≡ length ss
-length-slice r ss are = ap length (append-nil (entries_of (view_of r))) ∙ length-map r.switches.now (entry_of (view_of r)) ∙ ap length are
 
 -- ---- all slices
 

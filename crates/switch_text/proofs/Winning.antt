@@ -1,11 +1,11 @@
 -- The tree of winners over heads.
-use Rattle.std.proofs.Common.{◌≡◌, ◌≢◌, ℕ, ◌+◌, ◌*◌, ◌^◌, ◌<◌, ◌≤◌, true, false, cond, Bool, List, length, set, get_or, refl, sym, subst, ◌∙◌, arith, inl, inr}
+use Rattle.std.proofs.Common.{◌≡◌, ◌≢◌, ℕ, ◌+◌, ◌*◌, ◌<◌, ◌≤◌, true, false, cond, Bool, List, length, set, get_or, sym, subst, arith, inl, inr}
 use Rattle.std.proofs.lemmas.Bool.{cases_lt, cases_eq}
 use Rattle.std.proofs.lemmas.Bool.Decides.{nat_tests}
 use Rattle.std.proofs.lemmas.List.{get_or-set_other}
 use Rattle.std.proofs.lemmas.Grind.{get_or-set_at}
 use Rattle.switch_text.specs.declared.heads.Head.{Head}
-use Rattle.switch_text.specs.private.Winning.{no_head, is_sooner, head_in, Wins}
+use Rattle.switch_text.specs.private.Winning.{is_sooner, head_in, Wins}
 
 -- ---- the order of heads
 
@@ -124,46 +124,3 @@ Wins-set_other heads place head from to i apart w =
       before = λ j ge lt. rw (own, head_set_other heads place head j (apart j ge (omega (arith, lt, high)))) (w.before j ge lt);
       behind = λ j ge lt. rw (own, head_set_other heads place head j (apart j (omega (arith, low, ge)) lt)) (w.behind j ge lt);
     }
-
--- the node of another range
-pub node_kept : (heads : List Head) (place wide : ℕ) (head : Head) (nodes : List ℕ) (p : ℕ) → ((j : ℕ) → wide * p ≤ j → j < wide * p + wide → j ≢ place)
-    → Wins heads (wide * p) (wide * p + wide) (get_or nodes p 0) → Wins (set heads place head) (wide * p) (wide * p + wide) (get_or nodes p 0)
-node_kept heads place wide head nodes p apart w = Wins-set_other heads place head (wide * p) (wide * p + wide) (get_or nodes p 0) apart w
-
--- where nothing is left of all others, the first place wins on
-no_other : (heads : List Head) (from to i : ℕ) → ((j : ℕ) → 0 < j → j < 8 → head_in heads j ≡ no_head) → is_sooner no_head (head_in heads 0) ≡ false → to ≤ 8 → from ≤ 0 → Wins heads from to i → i ≡ 0
-no_other heads from to i others early few start w = elim (cases_lt 0 i) [
-  | inl later ↦
-      let high = w.high in
-      let none = others i later (omega (arith, high, few)) in
-      let wins : is_sooner no_head (head_in heads 0) ≡ true = subst (λ h. is_sooner h (head_in heads 0) ≡ true) none (w.before 0 start later) in
-      absurd cc
-  | inr first ↦ omega (arith, first)
-]
-
-only_behind : (heads : List Head) (head : Head) → ((j : ℕ) → 0 < j → j < 8 → head_in heads j ≡ no_head) → is_sooner no_head head ≡ false → 0 < length heads
-    → (j : ℕ) → j < 8 → is_sooner (head_in (set heads 0 head) j) (head_in (set heads 0 head) 0) ≡ false
-only_behind heads head others early some j few = elim (cases_lt 0 j) [
-  | inl later ↦
-      let apart : j ≢ 0 = omega (arith, later) in
-      rw (head_set_other heads 0 head j apart, others j later few, head_set_same heads 0 head 0 refl some) early
-  | inr first ↦
-      let same : 0 ≡ j = omega (arith, first) in
-      subst (λ (k : ℕ). is_sooner (head_in (set heads 0 head) k) (head_in (set heads 0 head) 0) ≡ false) same (not_sooner_self (head_in (set heads 0 head) 0))
-]
-
-pub Wins-only : (heads : List Head) (head : Head) (from to i : ℕ) → ((j : ℕ) → 0 < j → j < 8 → head_in heads j ≡ no_head) → is_sooner no_head (head_in heads 0) ≡ false → is_sooner no_head head ≡ false
-    → 0 < length heads → to ≤ 8 → Wins heads from to i → Wins (set heads 0 head) from to i
-Wins-only heads head from to i others was_early early some few w = elim (cases_lt 0 from) [
-  | inl later ↦ Wins-set_other heads 0 head from to i (λ j ge lt. omega (arith, later, ge)) w
-  | inr start ↦
-      let first : 0 ≡ i = sym (no_other heads from to i others was_early few start w) in
-      let high = w.high in
-      let root : Wins (set heads 0 head) from to 0 = record {
-        low = start;
-        high = omega (arith, high);
-        before = λ j ge lt. absurd (omega (arith, lt));
-        behind = λ j ge lt. only_behind heads head others early some j (omega (arith, lt, few));
-      } in
-      subst (λ (k : ℕ). Wins (set heads 0 head) from to k) first root
-]

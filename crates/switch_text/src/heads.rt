@@ -1,6 +1,6 @@
 //! The heads of several runs, and which of them comes first: a tree of winners.
 
-ghost use Rattle.std.specs.Prelude.{ℕ, length, ◌≡◌, ◌<◌, ◌*◌, ◌+◌, ◌/◌, slice_index, slice_set, ◌≢◌, ◌-◌, ◌^◌, IsTrue, ◌↔◌, false};
+ghost use Rattle.std.specs.Prelude.{ℕ, length, ◌≡◌, ◌<◌, ◌*◌, ◌+◌, ◌/◌, slice_index, slice_set, ◌≢◌};
 ghost use Rattle.switch_text.specs.private.Winning as spec;
 ghost use Rattle.switch_text.specs.private.Winning.{Wins, ArePairs, AreHalves, IsTree, head_in, no_head};
 
@@ -21,14 +21,6 @@ impl Head {
             time: u64::MAX,
             cpu: u32::MAX,
         }
-    }
-
-    /// Whether it is that of a run of which nothing is left: no switch is so late.
-    #[inline(always)]
-    pub(crate) fn is_none(self) -> bool
-        ensures { IsTrue result ↔ (self.time ≡ 2 ^ 64 - 1) }
-    {
-        self.time == u64::MAX
     }
 
     // Without a branch, since which of two runs goes first is hard to foresee.
@@ -72,6 +64,7 @@ impl Heads {
         ensures long { length result.heads ≡ 8 }
         ensures heads { (i : ℕ) → i < 8 → head_in result.heads i ≡ no_head }
         ensures tree { IsTree result }
+        ensures first { result.first ≡ 0 }
     {
         Heads {
             heads: [Head::none(); 8],
@@ -133,19 +126,5 @@ impl Heads {
         self.play_pair(place);
         self.play_half(place);
         self.play_last();
-    }
-
-    /// Puts another head at the first place, where nothing is left of all other runs: it stays the
-    /// winner.
-    #[inline(always)]
-    pub(crate) fn change_only(&mut self, head: Head)
-        requires alone { (i : ℕ) → 0 < i → i < 8 → head_in self.old.heads i ≡ no_head }
-        requires was_early { spec.is_sooner no_head (head_in self.old.heads 0) ≡ false }
-        requires early { spec.is_sooner no_head head ≡ false }
-        requires tree { IsTree self.old }
-        ensures heads { self.new.heads ≡ slice_set self.old.heads 0 head }
-        ensures tree { IsTree self.new }
-    {
-        self.heads[0] = head;
     }
 }

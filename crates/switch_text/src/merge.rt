@@ -1,10 +1,10 @@
 //! Which switch of several runs comes next.
 
-ghost use Rattle.std.specs.Prelude.{ℕ, ◌≡◌, ◌+◌, ◌<◌, ◌≤◌, ◌^◌, length, drop, replicate, slice_index, slice_index_or, All, IfSome, IsTrue, ◌↔◌};
+ghost use Rattle.std.specs.Prelude.{ℕ, ◌≡◌, ◌+◌, ◌<◌, ◌≤◌, ◌^◌, length, drop, replicate, slice_index, slice_index_or, All, IsTrue, ◌↔◌};
 ghost use Rattle.switch_text.specs.Trace.{entries_of};
 ghost use Rattle.switch_text.specs.Runs.{view_of, views, IsRun};
 ghost use Rattle.switch_text.specs.private.Merging.{stepped, IsFound, IsRunAt};
-ghost use Rattle.switch_text.specs.private.Winning.{head_of, IsMerge};
+ghost use Rattle.switch_text.specs.private.Winning.{head_of, head_in, left_at, IsTree, IsMerge};
 
 use crate::heads::{Head, Heads};
 use crate::run::Run;
@@ -33,7 +33,6 @@ fn next_in<'a, 'b>(run: &'a Run<'b>, index: usize, place: usize) -> Next<'a, 'b>
     ensures index { result.index ≡ index }
     ensures run { result.run.now ≡ run.now }
     ensures switch { result.switch.now ≡ slice_index_or run.now.switches.now place result.switch.now }
-    ensures counted { place + 1 < 2 ^ 64 }
 {
     Next {
         index,
@@ -65,6 +64,21 @@ fn head_at(run: &Run<'_>, place: usize) -> Head
     Head::none()
 }
 
+/// The heads of several runs, each of which goes on from its first switch.
+#[inline(always)]
+fn first_heads(runs: &[Run<'_>]) -> Heads
+    requires few { length runs.now ≤ 8 }
+    requires runs { All IsRun runs.now }
+    ensures heads { (i : ℕ) → i < 8 → head_in result.heads i ≡ head_of (left_at (views runs.now) (replicate 8 0) i) }
+    ensures tree { IsTree result }
+{
+    let mut heads = Heads::none();
+    for (i, run) in runs.iter().enumerate() {
+        heads.change(i, head_at(run, 0));
+    }
+    heads
+}
+
 impl Merge {
     /// Each run goes on from its first switch.
     #[inline(always)]
@@ -74,13 +88,15 @@ impl Merge {
         ensures places { result.places ≡ replicate 8 0 }
         ensures heads { IsMerge (views runs.now) result }
     {
-        let mut heads = Heads::none();
-        for (i, run) in runs.iter().enumerate() {
-            heads.change(i, head_at(run, 0));
+        if runs.len() > 1 {
+            return Merge {
+                places: [0; 8],
+                heads: first_heads(runs),
+            };
         }
         Merge {
             places: [0; 8],
-            heads,
+            heads: Heads::none(),
         }
     }
 
@@ -94,10 +110,15 @@ impl Merge {
         ensures { IsFound runs.now self.now.places result }
     {
         let index = self.heads.first;
-        if self.heads.heads[index].is_none() {
+        if index >= runs.len() {
             return None;
         }
-        Some(next_in(&runs[index], index, self.places[index]))
+        let run = &runs[index];
+        let place = self.places[index];
+        if is_left(run, place) {
+            return Some(next_in(run, index, place));
+        }
+        None
     }
 
     /// Goes on by the next switch.
@@ -113,11 +134,8 @@ impl Merge {
     {
         let place = self.places[next.index] + 1;
         self.places[next.index] = place;
-        let head = head_at(next.run, place);
         if runs.len() > 1 {
-            self.heads.change(next.index, head);
-        } else {
-            self.heads.change_only(head);
+            self.heads.change(next.index, head_at(next.run, place));
         }
     }
 }

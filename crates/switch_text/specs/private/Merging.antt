@@ -1,6 +1,6 @@
 -- Several runs at once: what is left of each, and which entry comes next. The trace text knows
 -- nothing of these words.
-use Rattle.std.specs.Prelude.{ℕ, ◌≡◌, ◌+◌, ◌<◌, ◌^◌, Bool, true, false, List, [], ◌∷◌, ◌++◌, length, drop, slice_index, slice_index_or, slice_set, Option, Some, None}
+use Rattle.std.specs.Prelude.{ℕ, ◌≡◌, ◌+◌, ◌<◌, ◌^◌, true, false, List, [], ◌∷◌, ◌++◌, length, drop, slice_index, slice_index_or, slice_set, Option, Some, None}
 use Rattle.std.specs.List.{AllByRecursion}
 use Rattle.switch_text.specs.declared.run.Run.{Run}
 use Rattle.switch_text.specs.declared.merge.Next.{Next}

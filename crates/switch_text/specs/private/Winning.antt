@@ -1,6 +1,6 @@
 -- Several runs at once, by their heads: which of them comes first, of each two, of each four and of all.
 -- The trace text knows nothing of these words.
-use Rattle.std.specs.Prelude.{ℕ, zero, suc, ◌≡◌, ◌+◌, ◌-◌, ◌*◌, ◌<◌, ◌≤◌, ◌^◌, ◌==◌, ◌&&◌, ◌||◌, nat_lt, Bool, true, false, List, [], ◌∷◌, drop, slice_index, slice_index_or}
+use Rattle.std.specs.Prelude.{ℕ, zero, suc, ◌≡◌, ◌+◌, ◌-◌, ◌*◌, ◌<◌, ◌≤◌, ◌^◌, ◌==◌, ◌&&◌, ◌||◌, nat_lt, Bool, true, false, List, [], ◌∷◌, length, drop, slice_index, slice_index_or}
 use Rattle.switch_text.specs.declared.heads.Head.{Head}
 use Rattle.switch_text.specs.declared.heads.Heads.{Heads}
 use Rattle.switch_text.specs.declared.merge.Merge.{Merge}
@@ -49,6 +49,11 @@ left_at (r ∷ runs) (p ∷ places) zero = drop p (entries_of r)
 left_at (r ∷ runs) (p ∷ places) (suc i) = left_at runs places i
 
 -- each head is that of what is left of its run
-pub record IsMerge (runs : List RunView) (m : Merge) : Type 0 where
+pub record AreHeads (runs : List RunView) (m : Merge) : Type 0 where
   pub heads : (i : ℕ) → i < 8 → head_in m.heads.heads i ≡ head_of (left_at runs m.places i)
   pub tree : IsTree m.heads
+
+-- of several runs the heads are known; of one alone none is looked at
+pub record IsMerge (runs : List RunView) (m : Merge) : Type 0 where
+  pub several : 1 < length runs → AreHeads runs m
+  pub alone : length runs ≤ 1 → m.heads.first ≡ 0

@@ -1,26 +1,13 @@
-use Rattle.std.proofs.Common.{◌+◌, replicate, subst, sym, arith}
-use Rattle.switch_text.proofs.Merged.{IsPlaced, AreStarted, AreStarted-more, AreStarted-all}
+use Rattle.std.proofs.Common.{arith}
+use Rattle.std.proofs.lemmas.List.{length-map}
+use Rattle.switch_text.specs.Runs.{view_of}
 use Rattle.switch_text.proofs.merge.Merge.start.Goals as goal
 
-pub loop-i-init : goal.loop-i-init
-loop-i-init c = record {
-  started = record { long = c.none-heads.ensures.long; seen = λ j lt. absurd (omega (arith, lt)); others = λ j ge lt. c.none-heads.ensures.heads j lt };
-  tree = c.none-heads.ensures.tree;
+pub returns-then-runs-gt1-clause-heads : goal.returns-then-runs-gt1-clause-heads
+returns-then-runs-gt1-clause-heads c = record {
+  several = λ more. record { heads = c.first_heads.ensures.heads; tree = c.first_heads.ensures.tree };
+  alone = λ one. absurd (omega (arith, length-map c.args.runs.now view_of, one));
 }
-
-pub loop-i-preserved : goal.loop-i-preserved
-loop-i-preserved c =
-    let runs = c.args.runs.now in
-    let i = c.loop-i.i in
-    let run = c.index-runs-i.result in
-    let at : IsPlaced runs (replicate 8 0) i run = record { inside = c.loop-i-test.true; room = omega arith; is = c.index-runs-i.is } in
-    record {
-      started = subst (λ hs. AreStarted runs hs (i + 1)) (sym c.change.ensures.heads) (AreStarted-more runs c.loop-i.heads.heads i run c.head_at.result (omega arith) at c.head_at.ensures c.loop-i.invariant.started);
-      tree = c.change.ensures.tree;
-    }
 
 pub returns-clause-heads : goal.returns-clause-heads
-returns-clause-heads c = record {
-  heads = AreStarted-all c.args.runs.now c.loop-i.heads.heads c.loop-i.i (omega arith) c.loop-i.invariant.started;
-  tree = c.loop-i.invariant.tree;
-}
+returns-clause-heads c = record { several = λ more. absurd (omega (arith, length-map c.args.runs.now view_of, more)); alone = λ one. c.none.ensures.first }
