@@ -1,6 +1,7 @@
 pub mod Before
 pub mod CallerLemmas
 pub mod Following
+pub mod Halving
 pub mod Homing
 pub mod Listing
 pub mod AtHome

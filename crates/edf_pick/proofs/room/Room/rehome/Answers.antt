@@ -1,4 +1,4 @@
-use Rattle.std.proofs.Common.{◌≡◌, ◌∙◌, ◌<◌, ◌+◌, List, length, set, get_or, sym, ap, arith}
+use Rattle.std.proofs.Common.{◌≡◌, ◌∙◌, ◌<◌, ◌+◌, set, get_or, sym, ap, arith}
 use Rattle.edf_pick.specs.declared.candidate.Candidate.{Candidate}
 use Rattle.std.proofs.lemmas.List.{get_or_default}
 use Rattle.edf_pick.proofs.Spans.{between_set, between_get, between_len}
