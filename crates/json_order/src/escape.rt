@@ -77,6 +77,10 @@ fn short_of<'a>(rest: &'a str) -> Option<(char, &'a str)>
 pub(crate) fn escape_of<'a>(rest: &'a str) -> Option<(char, &'a str)>
     ensures { IfSome result (λ c. IsEscape c.0 rest.now c.1.now) }
 {
+    let bytes = rest.as_bytes();
+    if bytes.is_empty() || bytes[0] != b'\\' {
+        return None;
+    }
     match unit_of(rest) {
         Some((unit, after)) => char_of(unit, after),
         None => short_of(rest),

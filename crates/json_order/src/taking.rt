@@ -200,32 +200,6 @@ fn take_key<'a>(
     Ok(behind)
 }
 
-/// Where a key may begin, and does: takes its characters at once, and where it is new, its quotes and
-/// its colon; what stands behind them.
-#[inline(always)]
-fn take_new_key<'a>(
-    alloc: Global,
-    place: &mut Place,
-    stack: &mut Vec<Frame>,
-    rest: &'a str,
-) -> Result<&'a str, JsonKind>
-    ensures ok { IfOk result (λ after. Passes (state_of place.old stack.old.items)
-        (state_of place.new stack.new.items) rest.now after.now) }
-    ensures err { IfErr result (λ k. k ≡ Memory) }
-{
-    let Some(quoted) = behind_char('"', rest) else {
-        return Ok(rest);
-    };
-    match mem::replace(place, Place::Value) {
-        Place::FirstKey => take_key(alloc, place, stack, Members::new(alloc), quoted),
-        Place::NextKey(members) => take_key(alloc, place, stack, members, quoted),
-        other => {
-            *place = other;
-            Ok(rest)
-        }
-    }
-}
-
 /// Takes at once the characters in front that a string, a number or a word goes on with; what
 /// stands behind them. On an error the place is left as it may be.
 #[inline(always)]
@@ -256,8 +230,20 @@ pub(crate) fn take_run<'a>(
         (state_of place.new stack.new.items) rest.now after.now) }
     ensures err { IfErr result (λ k. k ≡ Memory) }
 {
-    match place {
-        Place::FirstKey | Place::NextKey(_) => take_new_key(alloc, place, stack, rest),
-        _ => take_inside(place, rest),
+    if !matches!(place, Place::FirstKey | Place::NextKey(_)) {
+        return take_inside(place, rest);
+    }
+    let Some(quoted) = behind_char('"', rest) else {
+        return Ok(rest);
+    };
+    if let Place::FirstKey = place {
+        return take_key(alloc, place, stack, Members::new(alloc), quoted);
+    }
+    match mem::replace(place, Place::Value) {
+        Place::NextKey(members) => take_key(alloc, place, stack, members, quoted),
+        other => {
+            *place = other;
+            Ok(rest)
+        }
     }
 }

@@ -2,12 +2,11 @@ use Rattle.std.proofs.Common.{sym, ap, ◌∙◌}
 use Rattle.json_order.specs.private.Places.{entries_of, frames_of, state_of}
 use Rattle.json_order.proofs.AtOnce.{if_ok}
 use Rattle.json_order.proofs.NewKeys.{first_begun, next_begun}
-use Rattle.json_order.proofs.taking.take_new_key.Goals as goal
+use Rattle.json_order.proofs.taking.take_run.Goals as goal
 
-pub returns-in-FirstKey-clause-ok : goal.returns-in-FirstKey-clause-ok
-returns-in-FirstKey-clause-ok c =
-    let e = sym c.replace.ensures.value ∙ c.in-FirstKey.is in
-    rw e (if_ok c.take_key.result _ _ (λ after t. first_begun (entries_of c.new.result.list.items) (frames_of c.args.stack.now.items) (state_of c.take_key.new.place c.take_key.new.stack.items) c.args.rest.now c.in-Some.quoted.now after.now (ap entries_of c.new.ensures) c.in-Some.ensures t) c.take_key.ensures.ok)
+pub returns-in-FirstKey-place-clause-ok : goal.returns-in-FirstKey-place-clause-ok
+returns-in-FirstKey-place-clause-ok c =
+    rw c.in-FirstKey-place.is (if_ok c.take_key.result _ _ (λ after t. first_begun (entries_of c.new.result.list.items) (frames_of c.args.stack.now.items) (state_of c.take_key.new.place c.take_key.new.stack.items) c.args.rest.now c.in-Some.quoted.now after.now (ap entries_of c.new.ensures) c.in-Some.ensures t) c.take_key.ensures.ok)
 
 pub returns-in-NextKey-clause-ok : goal.returns-in-NextKey-clause-ok
 returns-in-NextKey-clause-ok c =
