@@ -10,7 +10,7 @@ use Rattle.domain_run.specs.declared.progress.Progress.{Progress}
 use Rattle.domain_run.specs.script.ScriptView.{PhaseView, ScriptView, IsPhase, IsScript, IsPlace, IsCursor, script_of, phase_len, round_len}
 use Rattle.domain_run.specs.script.Unrolled.{round_of, event_at}
 use Rattle.domain_run.specs.script.Segments.{first_place, kept_cursor}
-use Rattle.domain_run.specs.private.Progress.{events_behind, place_of, is_over, next_round, IsInPhase, IsProgress, IsBehind}
+use Rattle.domain_run.specs.private.Progress.{events_behind, place_of, is_over, next_round, IsInPhase, IsProgress, IsLastOfLap, IsBehind}
 use Rattle.domain_run.proofs.Unrolling.{event_in, event_in_is, event_ends, event_by, event_by_is, some_round, place_at_first, behind_within, kept_itself}
 
 -- IN A ROUND
@@ -288,3 +288,40 @@ behind_round s p q h stands more at end laps phases =
       };
       place = place;
     }
+
+-- AT THE END OF A LAP
+
+pub last_of_lap : (s : ScriptView) (p : Progress) (q : PhaseView) → slice_get s.phases p.phase ≡ Some q → length q.events ≤ p.event + 1 → IsLastOfLap s p q.count
+last_of_lap s p q at end = record {
+  last = λ r is. subst (λ (u : PhaseView). length u.events ≤ p.event + 1) (same_Some q r (sym at ∙ is)) end;
+  count = λ r is. ap (λ (u : PhaseView). u.count) (sym (same_Some q r (sym at ∙ is)));
+}
+
+-- the phase where the counters stand
+record Here (s : ScriptView) (p : Progress) : Type 0 where
+  phase : PhaseView
+  at : slice_get s.phases p.phase ≡ Some phase
+
+here : (s : ScriptView) (p : Progress) → IsProgress s p → Here s p
+here s p stands = let none : PhaseView = record { count = 0; events = [] } in record { phase = get_or s.phases p.phase none; at = slice_get-get_or s.phases p.phase none stands.phase }
+
+pub lap_fits : (s : ScriptView) (p : Progress) → IsScript s → IsProgress s p → Fits w64 (p.lap + 1)
+lap_fits s p h stands = let q = here s p stands in laps_left s p q.phase h stands q.at
+
+pub lap_behind : (s : ScriptView) (p : Progress) (laps : ℕ) → IsScript s → IsProgress s p → IsSome (event_at s (place_of s p)) → IsLastOfLap s p laps → p.lap + 1 < laps → IsBehind s p (record p { lap = p.lap + 1; event = 0 })
+lap_behind s p laps h stands more last further =
+    let q = here s p stands in
+    let all : q.phase.count ≡ laps = last.count q.phase q.at in
+    behind_lap s p q.phase h stands more q.at (last.last q.phase q.at) (omega (arith, further, all))
+
+pub phase_behind : (s : ScriptView) (p : Progress) (laps : ℕ) → IsScript s → IsProgress s p → IsSome (event_at s (place_of s p)) → IsLastOfLap s p laps → laps ≤ p.lap + 1 → p.phase + 1 < length s.phases → IsBehind s p (record p { phase = p.phase + 1; lap = 0; event = 0 })
+phase_behind s p laps h stands more last done further =
+    let q = here s p stands in
+    let all : q.phase.count ≡ laps = last.count q.phase q.at in
+    behind_phase s p q.phase h stands more q.at (last.last q.phase q.at) (omega (arith, done, all)) further
+
+pub round_behind : (s : ScriptView) (p : Progress) (laps : ℕ) → IsScript s → IsProgress s p → IsSome (event_at s (place_of s p)) → IsLastOfLap s p laps → laps ≤ p.lap + 1 → length s.phases ≤ p.phase + 1 → IsBehind s p (record { round = next_round s.rounds p.round; phase = 0; lap = 0; event = 0 })
+round_behind s p laps h stands more last done end =
+    let q = here s p stands in
+    let all : q.phase.count ≡ laps = last.count q.phase q.at in
+    behind_round s p q.phase h stands more q.at (last.last q.phase q.at) (omega (arith, done, all)) end

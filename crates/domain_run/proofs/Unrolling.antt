@@ -10,6 +10,7 @@ use Rattle.domain_run.specs.declared.script.Event.{Event}
 use Rattle.domain_run.specs.declared.script.Event.TheVariants.{Run, Sleep, Timer, Wait}
 use Rattle.domain_run.specs.script.ScriptView.{PhaseView, ScriptView, CursorView, IsPhase, IsScript, IsPlace, script_of, phase_len, round_len}
 use Rattle.domain_run.specs.script.Unrolled.{round_of, event_at}
+use Rattle.domain_run.specs.private.Progress.{passed}
 use Rattle.domain_run.specs.script.Segments.{Asked, begun_at, moved, given_by, given_at, is_late, answered, first_place, kept_cursor, asked, segments, GivesAsWritten}
 
 get_left : (xs ys : List Event) (i : ℕ) → i < length xs → slice_get (xs ++ ys) i ≡ slice_get xs i
@@ -223,8 +224,10 @@ place_at_first s h = go s.rounds (round_len s) (some_round s h) where
   go None round some = some
   go (Some n) round some = omega arith
 
-pub answered_late : (c : CursorView) (time : ℕ) → IsScript c.script → is_late (event_at c.script c.place) c.reference time ≡ true → SameAnswer (given_at (kept_cursor (moved c time)) time) (answered c time)
-answered_late c time h late = rw late (given_kept (moved c time) time h)
-
-pub answered_due : (c : CursorView) (time : ℕ) → is_late (event_at c.script c.place) c.reference time ≡ false → SameAnswer (given_at c time) (answered c time)
-answered_due c time due = rw due (record { segment = refl; cursor = refl })
+-- behind a late timer it gives what it is to give
+pub answered_passed : (c : CursorView) (time : ℕ) → IsScript c.script → SameAnswer (given_at (passed c time) time) (answered c time)
+answered_passed c time h =
+    elim (is_late (event_at c.script c.place) c.reference time) as (λ b. SameAnswer (given_at (cond b (kept_cursor (moved c time)) c) time) (cond b (given_at (moved c time) time) (given_at c time))) [
+      | true ↦ given_kept (moved c time) time h
+      | false ↦ record { segment = refl; cursor = refl }
+    ]

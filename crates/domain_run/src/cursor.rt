@@ -1,11 +1,12 @@
 //! The cursor that goes through a script (own). It sees a script from outside, as what it may read,
 //! and holds no allocator.
 
-ghost use Rattle.std.specs.Prelude.{◌≡◌, ◌<◌, ◌≤◌, ◌+◌, ◌^◌, IsSome, IfSome};
+ghost use Rattle.std.specs.Prelude.{◌≡◌, ◌<◌, ◌≤◌, ◌+◌, ◌^◌, IsSome, IfSome, Some};
 ghost use Rattle.domain_run.specs.script.ScriptView.{IsEvent, IsScript};
 ghost use Rattle.domain_run.specs.script.Unrolled.{event_at};
-ghost use Rattle.domain_run.specs.script.Segments.{begun_at, moved, kept_cursor, given_at, is_late, asked, GivesAsWritten, IsSegment, next_ask};
+ghost use Rattle.domain_run.specs.script.Segments.{begun_at, moved, kept_cursor, given_by, given_at, is_late, asked, GivesAsWritten, IsSegment, next_ask};
 ghost use Rattle.domain_run.specs.Happened.{passes_late_timer};
+ghost use Rattle.domain_run.specs.private.Progress.{passed, at_reference};
 
 use crate::progress;
 use crate::progress::Progress;
@@ -84,41 +85,91 @@ impl Cursor {
         is_late_at(self.event(), self.reference, time)
     }
 
-    fn step(&mut self, reference: u64)
+    #[inline(always)]
+    fn step(&mut self)
         requires more { IsSome (event_at self.old.script self.old.place) }
-        ensures { self.new ≡ kept_cursor (moved self.old reference) }
+        ensures { self.new ≡ kept_cursor (moved self.old self.old.reference) }
     {
-        self.progress = progress::behind(&self.script, self.progress);
-        self.reference = reference;
+        progress::advance(&self.script, &mut self.progress);
     }
 
-    fn give(&mut self, time: u64) -> Segment
+    // Behind a timer that is late, and the event there. That is rare, so it stands apart.
+    #[inline(never)]
+    fn pass_late(&mut self, time: u64) -> Option<Event>
+        requires more { IsSome (event_at self.old.script self.old.place) }
+        ensures cursor { self.new ≡ kept_cursor (moved self.old time) }
+        ensures value { result ≡ event_at self.new.script self.new.place }
+        ensures event { IfSome result IsEvent }
+    {
+        self.reference = time;
+        self.step();
+        self.event()
+    }
+
+    // The event that it gives: behind a timer that is late.
+    #[inline(always)]
+    fn look(&mut self, time: u64) -> Option<Event>
         requires early { time < 2 ^ 48 }
         requires reference { self.old.reference < 2 ^ 48 }
+        ensures cursor { self.new ≡ passed self.old time }
+        ensures value { result ≡ event_at self.new.script self.new.place }
+        ensures within { IsScript self.old.script }
+        ensures event { IfSome result IsEvent }
+        ensures early { self.new.reference < 2 ^ 48 }
+        ensures in_order { self.old.reference ≤ time → self.new.reference ≤ time }
+    {
+        let event = self.event();
+        if is_late_at(event, self.reference, time) {
+            return self.pass_late(time);
+        }
+        event
+    }
+
+    // What its event gives. It stands there still, but a timer has set the reference.
+    #[inline(always)]
+    fn segment_of(&mut self, event: Event, time: u64) -> Segment
+        requires early { time < 2 ^ 48 }
+        requires reference { self.old.reference < 2 ^ 48 }
+        requires event { IsEvent event }
+        ensures segment { result ≡ (given_by self.old time (Some event)).segment }
+        ensures cursor { self.new ≡ at_reference self.old
+            (given_by self.old time (Some event)).cursor.reference }
+        ensures within { IsSegment result }
+        ensures in_order { self.old.reference ≤ time →
+            self.new.reference ≤ next_ask time result }
+    {
+        match event {
+            Event::Run(n) => Segment::Run(n),
+            Event::Sleep(n) => Segment::Until(time + n),
+            Event::Timer(n) => {
+                self.reference += n;
+                Segment::Until(self.reference)
+            }
+            Event::Wait => Segment::Wait,
+        }
+    }
+
+    // What it gives at its event, which was looked at.
+    #[inline(always)]
+    fn give(&mut self, event: Option<Event>, time: u64) -> Segment
+        requires early { time < 2 ^ 48 }
+        requires reference { self.old.reference < 2 ^ 48 }
+        requires here { event ≡ event_at self.old.script self.old.place }
+        requires event { IfSome event IsEvent }
         ensures segment { result ≡ (given_at self.old time).segment }
         ensures cursor { self.new ≡ kept_cursor (given_at self.old time).cursor }
         ensures within { IsSegment result }
         ensures in_order { self.old.reference ≤ time →
             self.new.reference ≤ next_ask time result }
     {
-        let reference = self.reference;
-        match self.event() {
+        // For the prover alone: a look into it brings what its type keeps.
+        let _ = &self.script;
+        match event {
             None => Segment::End,
-            Some(Event::Run(n)) => {
-                self.step(reference);
-                Segment::Run(n)
-            }
-            Some(Event::Sleep(n)) => {
-                self.step(reference);
-                Segment::Until(time + n)
-            }
-            Some(Event::Timer(n)) => {
-                self.step(reference + n);
-                Segment::Until(reference + n)
-            }
-            Some(Event::Wait) => {
-                self.step(reference);
-                Segment::Wait
+            Some(event) => {
+                let segment = self.segment_of(event, time);
+                self.step();
+                segment
             }
         }
     }
@@ -136,9 +187,7 @@ impl Cursor {
         ensures in_order { self.old.reference ≤ time →
             self.new.reference ≤ next_ask time result }
     {
-        if is_late_at(self.event(), self.reference, time) {
-            self.step(time);
-        }
-        self.give(time)
+        let event = self.look(time);
+        self.give(event, time)
     }
 }

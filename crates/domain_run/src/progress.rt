@@ -79,39 +79,42 @@ fn next_round(rounds: Option<u64>, round: u64) -> u64
     }
 }
 
-/// Behind the event where a cursor stands.
-pub(crate) fn behind(script: &Script, progress: Progress) -> Progress
-    requires stands { spec.IsProgress script.now progress }
-    requires more { IsSome (event_at script.now (spec.place_of script.now progress)) }
-    ensures { spec.IsBehind script.now progress result }
+// Behind the last event of a lap, in a phase of so many laps.
+#[inline(always)]
+fn next_lap(script: &Script, progress: &mut Progress, laps: u64)
+    requires stands { spec.IsProgress script.now progress.old }
+    requires more { IsSome (event_at script.now (spec.place_of script.now progress.old)) }
+    requires last { spec.IsLastOfLap script.now progress.old laps }
+    ensures { spec.IsBehind script.now progress.old progress.new }
+{
+    let phases = script.phases();
+    progress.event = 0;
+    progress.lap += 1;
+    if progress.lap < laps {
+        return;
+    }
+    progress.lap = 0;
+    progress.phase += 1;
+    if progress.phase < phases.len() {
+        return;
+    }
+    progress.phase = 0;
+    progress.round = next_round(script.rounds(), progress.round);
+}
+
+/// Goes behind the event where a cursor stands.
+#[inline(always)]
+pub(crate) fn advance(script: &Script, progress: &mut Progress)
+    requires stands { spec.IsProgress script.now progress.old }
+    requires more { IsSome (event_at script.now (spec.place_of script.now progress.old)) }
+    ensures { spec.IsBehind script.now progress.old progress.new }
 {
     let phases = script.phases();
     let phase = &phases[progress.phase];
-    if progress.event + 1 < phase.events.len() {
-        return Progress {
-            event: progress.event + 1,
-            ..progress
-        };
+    let event = progress.event + 1;
+    if event < phase.events.len() {
+        progress.event = event;
+        return;
     }
-    if progress.lap + 1 < phase.count {
-        return Progress {
-            lap: progress.lap + 1,
-            event: 0,
-            ..progress
-        };
-    }
-    if progress.phase + 1 < phases.len() {
-        return Progress {
-            phase: progress.phase + 1,
-            lap: 0,
-            event: 0,
-            ..progress
-        };
-    }
-    Progress {
-        round: next_round(script.rounds(), progress.round),
-        phase: 0,
-        lap: 0,
-        event: 0,
-    }
+    next_lap(script, progress, phase.count);
 }

@@ -1,8 +1,9 @@
 -- How far a cursor is in its script, for the code's own contracts.
-use Rattle.std.specs.Prelude.{ℕ, zero, suc, ◌≡◌, ◌+◌, ◌*◌, ◌<◌, Bool, false, nat_le, List, [], ◌∷◌, length, slice_get, Option, Some, None}
+use Rattle.std.specs.Prelude.{ℕ, zero, suc, ◌≡◌, ◌+◌, ◌*◌, ◌<◌, ◌≤◌, Bool, false, nat_le, if◌then◌else◌, List, [], ◌∷◌, length, slice_get, Option, Some, None}
 use Rattle.domain_run.specs.declared.progress.Progress.{Progress}
-use Rattle.domain_run.specs.script.ScriptView.{PhaseView, ScriptView, IsCursor, phase_len, round_len}
-use Rattle.domain_run.specs.script.Segments.{first_place}
+use Rattle.domain_run.specs.script.ScriptView.{PhaseView, ScriptView, CursorView, IsCursor, phase_len, round_len}
+use Rattle.domain_run.specs.script.Unrolled.{event_at}
+use Rattle.domain_run.specs.script.Segments.{first_place, kept_cursor, moved, is_late}
 
 -- how many events of a round are behind: those of so many phases, and in the next phase those of so
 -- many laps, and so many of the lap after them
@@ -36,7 +37,21 @@ pub record IsProgress (s : ScriptView) (p : Progress) : Type 0 where
   pub there : (q : PhaseView) → slice_get s.phases p.phase ≡ Some q → IsInPhase q p
   pub kept : (reference : ℕ) → IsCursor (record { script = s; place = place_of s p; reference = reference })
 
+-- the event is the last of its lap, in a phase of so many laps
+pub record IsLastOfLap (s : ScriptView) (p : Progress) (laps : ℕ) : Type 0 where
+  pub last : (q : PhaseView) → slice_get s.phases p.phase ≡ Some q → length q.events ≤ p.event + 1
+  pub count : (q : PhaseView) → slice_get s.phases p.phase ≡ Some q → q.count ≡ laps
+
 -- the counters behind the event where they stood
 pub record IsBehind (s : ScriptView) (p after : Progress) : Type 0 where
   pub stands : IsProgress s after
   pub place : place_of s after ≡ first_place s.rounds (round_len s) (place_of s p + 1)
+
+-- a cursor where it stands, with another reference
+abbrev pub at_reference : CursorView → ℕ → CursorView
+at_reference c reference = record { script = c.script; place = c.place; reference = reference }
+
+-- where a cursor gives an event: behind a timer that is late
+abbrev pub passed : CursorView → ℕ → CursorView
+passed c time =
+    if is_late (event_at c.script c.place) c.reference time then kept_cursor (moved c time) else c
