@@ -14,7 +14,7 @@ pub inside_seen : (upto : ℕ) (seats : List (Option Seat)) (items : List Task) 
 inside_seen upto seats items p h = let many : length (map (owed upto seats) items) ≡ length items = simp length-map in omega (arith, h, many)
 
 module _ (upto : ℕ) (seats : List (Option Seat)) (items : List Task) (p : ℕ) (x : Task) (h : p < length items) (read : x ≡ get_or items p x) where
-  seen_at : (d : Task) → owed upto seats x ≡ get_or (map (owed upto seats) items) p d
+  pub seen_at : (d : Task) → owed upto seats x ≡ get_or (map (owed upto seats) items) p d
   seen_at d =
       let many : length (map (owed upto seats) items) ≡ length items = simp length-map in
       let inside : p < length (map (owed upto seats) items) = omega (arith, h, many) in

@@ -1,11 +1,13 @@
 //! What is done to one listed task: a part of a tick, or a call.
 
-ghost use Rattle.std.specs.Prelude.{◌≡◌, ◌<◌, ◌≤◌, ◌^◌, ◌<ℤ◌, ◌≤ℤ◌, IsTrue, pos};
+ghost use Rattle.std.specs.Prelude.{ℕ, ◌≡◌, ◌<◌, ◌≤◌, ◌^◌, ◌<ℤ◌, ◌≤ℤ◌, IsTrue, Option, pos};
 ghost use Rattle.domain_run.specs.Conditions.{is_ready};
 ghost use Rattle.domain_run.specs.Sound.{IsSound};
 ghost use Rattle.domain_run.specs.private.Paying.{ran_until};
 ghost use Rattle.domain_run.specs.private.RunQueue as spec;
 ghost use Rattle.domain_run.specs.private.Roster.{after_change, MayMake, HasStood};
+ghost use Rattle.domain_run.specs.private.Waiting.{owed_by};
+ghost use Rattle.domain_run.specs.declared.seats.Seat.{Seat};
 
 use crate::standing::{Standing, standing_of};
 use crate::task::Task;
@@ -33,10 +35,11 @@ pub(crate) enum Change {
     Depart,
 }
 
-/// Whether a look at a task tells that a change does nothing to it.
+/// Whether a look at a task tells that a change does nothing to it, whatever it owes.
 #[inline(always)]
-fn does_nothing(task: &Task, time: u64, change: &Change) -> bool
-    ensures { IsTrue result → after_change time change.now task.now ≡ task.now }
+pub(crate) fn does_nothing(task: &Task, time: u64, change: &Change) -> bool
+    ensures { IsTrue result → (upto : ℕ) (seat : Option Seat)
+        → after_change time change.now (owed_by upto seat task.now) ≡ owed_by upto seat task.now }
 {
     match change {
         Change::Replenish => !task.condition.is_throttled(),
@@ -92,9 +95,6 @@ pub(crate) fn make(task: &mut Task, time: u64, change: &Change) -> Option<Standi
     ensures sound { IsSound time task.new }
     ensures stood { HasStood result task.old task.new }
 {
-    if does_nothing(task, time, change) {
-        return None;
-    }
     if let Change::Run { ticks, left } = change
         && *left > 0
         && *ticks < task.work

@@ -2,7 +2,7 @@
 //! last noted, and looks there first; a place that is not right any more costs a walk, and nothing
 //! else.
 
-ghost use Rattle.std.specs.Prelude.{◌≡◌, IfOk, IfSome, IfNone, vec_capacity};
+ghost use Rattle.std.specs.Prelude.{◌≡◌, IfOk, IfSome, IfNone, vec_capacity, vec_len};
 ghost use Rattle.domain_run.specs.private.Index.{IsAt, IsAbsent};
 
 use crate::task::Task;
@@ -12,27 +12,28 @@ use std::marker::Model;
 
 const COUNT: usize = 65536;
 
-/// For each number below 65536 the place at which it was last noted. An index with room for more or
-/// fewer numbers cannot be built.
+/// For each number below 65536 the place at which it was last noted. An index of more or fewer
+/// numbers, or with room for them, cannot be built.
 #[derive(Drop)]
 pub(crate) struct Index {
     noted: Vec<u16>,
 }
 
 impl Model for Index {
-    ghost use Rattle.std.specs.Prelude.{ℕ, List, vec_capacity};
+    ghost use Rattle.std.specs.Prelude.{ℕ, List, length, vec_capacity};
     ghost use Rattle.domain_run.specs.private.Index.{IsIndex};
 
     ghost Value = { List ℕ };
 
     ghost view = { λ i. i.noted.items };
 
-    ghost invariant = { λ i. IsIndex (vec_capacity i.noted) };
+    ghost invariant = { λ i. IsIndex i.noted.items (vec_capacity i.noted) };
 }
 
 // A place for each number, with room for no more.
 fn first_places(alloc: Global) -> Result<Vec<u16>, AllocError>
-    ensures { IfOk result (λ places. vec_capacity places ≡ 65536) }
+    ensures len { IfOk result (λ places. vec_len places ≡ 65536) }
+    ensures room { IfOk result (λ places. vec_capacity places ≡ 65536) }
 {
     let mut places = Vec::with_capacity(alloc, COUNT)?;
     for _ in 0..COUNT {
@@ -57,11 +58,9 @@ impl Index {
         }
     }
 
+    // No task has a number from 65536 on, and any place will do for it.
     fn noted_place(&self, number: u32) -> usize {
-        match self.noted.get(number as usize) {
-            None => 0,
-            Some(place) => usize::from(*place),
-        }
+        usize::from(self.noted[number as usize % COUNT])
     }
 
     /// The place of the task of a number, where it is listed.

@@ -14,9 +14,9 @@ ghost use Rattle.domain_run.specs.Tick as tick;
 ghost use Rattle.domain_run.specs.Calls.{of_number, is_other};
 ghost use Rattle.domain_run.specs.private.Index.{IsAt, IsAbsent};
 ghost use Rattle.domain_run.specs.Views.{view_of};
-ghost use Rattle.domain_run.specs.private.Roster.{after_change, MayMake, Fits, IsSeenAs, runner_in};
+ghost use Rattle.domain_run.specs.private.Roster.{after_change, MayMake, Fits, HasLeft, IsSeenAs, runner_in};
 ghost use Rattle.domain_run.specs.private.RunQueue.{AreHomed};
-ghost use Rattle.domain_run.specs.private.Waiting.{left_of, seat_of};
+ghost use Rattle.domain_run.specs.private.Waiting.{seat_of};
 ghost use Rattle.domain_run.specs.private.Timers.{IsStep, AreNotDue, due_of, least};
 ghost use Rattle.edf_pick.specs.Moves.{moved_from};
 ghost use Rattle.edf_pick.specs.Places.{placed};
@@ -29,7 +29,7 @@ mod passing;
 mod seating;
 mod turning;
 
-use crate::change::Change;
+use crate::change::{self, Change};
 use crate::doubts::Doubts;
 use crate::index::Index;
 use crate::parts;
@@ -301,10 +301,11 @@ impl Roster {
         ensures sound { All (IsSound time) self.new.tasks }
         ensures clock { self.new.clock ≡ self.old.clock }
         ensures places { self.new.places ≡ self.old.places }
-        ensures seats { (d : Task) → self.new.seats
-            ≡ left_of (slice_index_or self.new.tasks place d)
-            (left_of (slice_index_or self.old.tasks place d) self.old.seats) }
+        ensures left { HasLeft place self.old self.new }
     {
+        if change::does_nothing(&self.tasks[place], time, change) {
+            return;
+        }
         // For the prover alone: a look at the seats brings that there are at most 64.
         let _ = self.seats.len();
         let cpu = self.tasks[place].cpu;

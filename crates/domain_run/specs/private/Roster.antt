@@ -1,6 +1,6 @@
 -- The list of tasks with what is kept beside it, and what changes one task of it, for the code's
 -- own contracts.
-use Rattle.std.specs.Prelude.{ℕ, ℤ, pos, neg_ℤ, ◌*◌, ◌+◌, ◌<◌, ◌≤◌, ◌^◌, ◌≤ℤ◌, ◌-ℤ◌, ◌≡◌, true, if◌then◌else◌, List, [], ◌∷◌, ◌++◌, length, take, drop, slice_index_or, Option, Some, None, IsTrue}
+use Rattle.std.specs.Prelude.{ℕ, ℤ, pos, neg_ℤ, ◌*◌, ◌+◌, ◌<◌, ◌≤◌, ◌^◌, ◌≤ℤ◌, ◌-ℤ◌, ◌≡◌, ◌⊎◌, true, if◌then◌else◌, List, [], ◌∷◌, ◌++◌, length, take, drop, slice_index_or, Option, Some, None, IsTrue}
 use Rattle.domain_run.specs.declared.task.Condition.TheVariants.{Leaving}
 use Rattle.domain_run.specs.declared.task.Task.{Task}
 use Rattle.domain_run.specs.declared.change.Change.{Change}
@@ -22,7 +22,7 @@ use Rattle.domain_run.specs.Tick.{shares, sum_of, prepared}
 use Rattle.domain_run.specs.declared.doubts.Doubts.{Doubts}
 use Rattle.domain_run.specs.private.Doubts.{AreSettled}
 use Rattle.domain_run.specs.private.Seats.{SeatsView}
-use Rattle.domain_run.specs.private.Waiting.{owed_all, AllWait, runner_of, seat_of, IsRight, Lasts}
+use Rattle.domain_run.specs.private.Waiting.{owed_all, AllWait, left_of, runner_of, seat_of, IsRight, Lasts}
 use Rattle.edf_pick.specs.declared.moves.Moved.{Moved}
 use Rattle.edf_pick.specs.Places.{Places, stands}
 use Rattle.domain_run.specs.Sound.{occupant}
@@ -37,6 +37,13 @@ pub record RosterView : Type 0 where
   pub places : Places
   pub moves : List Moved
   pub tasks : List Task
+
+-- the task at a place has left its seat, where anything has changed
+abbrev pub HasLeft : ℕ → RosterView → RosterView → Type 0
+HasLeft place old new =
+    (new ≡ old)
+    ⊎ ((d : Task) → new.seats ≡ left_of (slice_index_or new.tasks place d)
+    (left_of (slice_index_or old.tasks place d) old.seats))
 
 -- what a roster keeps: its run queue counts its list, each seat has its task's charges, who stands on
 -- a CPU that is not in doubt sits there rightly, there is a place for each CPU, and the room for 256

@@ -28,7 +28,7 @@ pub(super) fn charge(task: &mut Task, seat: Seat, upto: u64)
     task.work -= ticks;
 }
 
-/// A task is charged what it owes, and leaves its seat.
+/// A task is charged what it owes, and leaves its seat. One that is not ready sits nowhere.
 #[inline(always)]
 pub(super) fn settle(task: &mut Task, seats: &mut Seats)
     requires { waiting.WaitsIf seats.old.seats task.old }
@@ -37,6 +37,9 @@ pub(super) fn settle(task: &mut Task, seats: &mut Seats)
       seats = seats_spec.left task.old.cpu task.old.number seats.old.seats;
     } }
 {
+    if !task.condition.is_ready() {
+        return;
+    }
     let cpu = task.cpu;
     if let Some(seat) = seats.seat_of(cpu, task.number) {
         charge(task, seat, seats.upto());

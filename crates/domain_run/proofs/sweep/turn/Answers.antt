@@ -1,4 +1,4 @@
-use Rattle.std.proofs.Common.{◌≡◌, None, List, get_or, set, ap, sym, subst, ◌∙◌}
+use Rattle.std.proofs.Common.{◌≡◌, ℕ, None, List, get_or, set, ap, sym, subst, ◌∙◌, inl, inr}
 use Rattle.std.proofs.lemmas.List.{get_or-set_same}
 use Rattle.domain_run.specs.declared.task.Task.{Task}
 use Rattle.domain_run.specs.Sound.{IsSound}
@@ -17,12 +17,16 @@ use Rattle.domain_run.proofs.sweep.turn.Goals as goal
 pub returns-then-not-is_wanted-clause-told : goal.returns-then-not-is_wanted-clause-told
 returns-then-not-is_wanted-clause-told c d = tells_silent (told_by_change c.args.time c.args.change.now (get_or c.args.roster.now.tasks c.args.place d)) c.args.log.now (sym c.is_wanted.ensures ∙ c.if-not-is_wanted.true)
 
+-- once its CPU is free it sits nowhere
+freed : (old new : RosterView) (p cpu : ℕ) (d : Task) → new ≡ record old { seats = set old.seats cpu None } → cpu ≡ (get_or old.tasks p d).cpu → seat_of new.seats (get_or new.tasks p d) ≡ None
+freed old new p cpu d is home =
+    let t = get_or old.tasks p d in
+    ap (λ (r : RosterView). seat_of r.seats (get_or r.tasks p d)) is
+    ∙ ap (λ (n : ℕ). seat_of (set old.seats n None) t) home
+    ∙ ap (seat_by t.number) (none_at old.seats t.cpu)
+
 pub at-task-requires-clause-free : goal.at-task-requires-clause-free
-at-task-requires-clause-free c d =
-    let t = get_or c.args.roster.now.tasks c.args.place d in
-    ap (λ (r : RosterView). seat_of r.seats (get_or r.tasks c.args.place d)) c.leave_free.ensures
-    ∙ ap (λ cpu. seat_of (set c.args.roster.now.seats cpu None) t) (c.cpu_at-cpu.ensures.cpu d)
-    ∙ ap (seat_by t.number) (none_at c.args.roster.now.seats t.cpu)
+at-task-requires-clause-free c d = freed c.args.roster.now c.leave_free.new.self c.args.place c.cpu_at-cpu.result d c.leave_free.ensures (c.cpu_at-cpu.ensures.cpu d)
 
 pub look-before-requires-clause-sound : goal.look-before-requires-clause-sound
 look-before-requires-clause-sound c =
@@ -46,8 +50,14 @@ returns-then-tells_nothing-clause-told c d =
 pub at-requires-clause-free : goal.at-requires-clause-free
 at-requires-clause-free c d =
     let t = get_or c.turn-2.new.self.tasks c.args.place d in
-    ap (λ seats. seat_of seats t) (c.turn-2.ensures.seats d)
-    ∙ left_free t (left_of (get_or c.leave_free.new.self.tasks c.args.place d) c.leave_free.new.self.seats)
+    elim c.turn-2.ensures.left [
+      | inl same ↦
+          ap (λ (r : RosterView). seat_of r.seats (get_or r.tasks c.args.place d)) same
+          ∙ freed c.args.roster.now c.leave_free.new.self c.args.place c.cpu_at-cpu.result d c.leave_free.ensures (c.cpu_at-cpu.ensures.cpu d)
+      | inr left ↦
+          ap (λ seats. seat_of seats t) (left d)
+          ∙ left_free t (left_of (get_or c.leave_free.new.self.tasks c.args.place d) c.leave_free.new.self.seats)
+    ]
 
 pub returns-clause-told : goal.returns-clause-told
 returns-clause-told c d =

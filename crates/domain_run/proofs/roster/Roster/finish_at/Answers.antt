@@ -1,4 +1,4 @@
-use Rattle.std.proofs.Common.{rules, ◌≡◌, ◌≢◌, ◌<◌, ◌-◌, ◌*◌, ◌^◌, Some, None, List, length, map, get_or, set, sym, ap, subst, ◌∙◌, arith}
+use Rattle.std.proofs.Common.{rules, ◌≡◌, ◌≢◌, ◌<◌, ◌-◌, ◌*◌, ◌^◌, Some, None, List, length, map, get_or, set, sym, ap, subst, ◌∙◌, arith, inl, inr}
 use Rattle.std.specs.Prelude.{ℤ, pos, ◌-ℤ◌, ◌<ℤ◌, ◌≤ℤ◌, AllPairs}
 use Rattle.std.proofs.Math.Facts.{to_z-of_z}
 use mir.Syntax.{w128}
@@ -84,10 +84,14 @@ returns-clause-seats c =
     let inside : p < length mid.tasks = let h = c.in-Some-at.ensures.there.within in omega (arith, h, ap (λ (r : RosterView). length r.tasks) c.vacate_at.ensures) in
     let now : get_or c.turn.new.self.tasks p x ≡ y = ap (λ (ts : List Task). get_or ts p x) (c.turn.ensures.step.is x) ∙ get_or-set_same mid.tasks p (ran_until c.args.time k z (get_or mid.tasks p x)) x inside ∙ ap (ran_until c.args.time k z) is in
     let seats : c.turn.new.self.seats ≡ set old.seats c.args.cpu None =
-    c.turn.ensures.seats x
-    ∙ (λ i. left_of (now i) (left_of (is i) mid.seats))
-    ∙ ap (left_of y) (left_none mid.seats x (none x f.home))
-    ∙ left_none mid.seats y (none y ((same_ran_until c.args.time k z x).cpu ∙ f.home))
+    elim c.turn.ensures.left [
+      | inl same ↦ ap (λ (r : RosterView). r.seats) same
+      | inr left ↦
+          left x
+          ∙ (λ i. left_of (now i) (left_of (is i) mid.seats))
+          ∙ ap (left_of y) (left_none mid.seats x (none x f.home))
+          ∙ left_none mid.seats y (none y ((same_ran_until c.args.time k z x).cpu ∙ f.home))
+    ]
     ∙ ap (λ (r : RosterView). r.seats) c.vacate_at.ensures in
     seats
 
@@ -114,10 +118,14 @@ returns-clause-tasks c =
     let inside : p < length mid.tasks = let h = c.in-Some-at.ensures.there.within in omega (arith, h, ap (λ (r : RosterView). length r.tasks) c.vacate_at.ensures) in
     let now : get_or c.turn.new.self.tasks p x ≡ y = ap (λ (ts : List Task). get_or ts p x) (c.turn.ensures.step.is x) ∙ get_or-set_same mid.tasks p (ran_until c.args.time k z (get_or mid.tasks p x)) x inside ∙ ap (ran_until c.args.time k z) is in
     let seats : c.turn.new.self.seats ≡ set old.seats c.args.cpu None =
-    c.turn.ensures.seats x
-    ∙ (λ i. left_of (now i) (left_of (is i) mid.seats))
-    ∙ ap (left_of y) (left_none mid.seats x (none x f.home))
-    ∙ left_none mid.seats y (none y ((same_ran_until c.args.time k z x).cpu ∙ f.home))
+    elim c.turn.ensures.left [
+      | inl same ↦ ap (λ (r : RosterView). r.seats) same
+      | inr left ↦
+          left x
+          ∙ (λ i. left_of (now i) (left_of (is i) mid.seats))
+          ∙ ap (left_of y) (left_none mid.seats x (none x f.home))
+          ∙ left_none mid.seats y (none y ((same_ran_until c.args.time k z x).cpu ∙ f.home))
+    ]
     ∙ ap (λ (r : RosterView). r.seats) c.vacate_at.ensures in
     let tasks : c.turn.new.self.tasks ≡ set old.tasks p y = c.turn.ensures.step.is x ∙ ap (λ (t : Task). set mid.tasks p (ran_until c.args.time k z t)) is ∙ ap (λ (r : RosterView). set r.tasks p y) c.vacate_at.ensures in
     (λ i. map (passed c.args.time k (seats i)) (tasks i))

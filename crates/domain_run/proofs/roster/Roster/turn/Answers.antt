@@ -21,9 +21,9 @@ invariant_of-self c =
     let many : length tasks ≡ length s.tasks.items = simp length-map in
     let within : p < length s.tasks.items = let h = subst (λ (r : RosterView). p < length r.tasks) (sym c.self.view_is) c.requires.there in omega (arith, h, many) in
     let inside : p < length tasks = omega (arith, within, many) in
-    let x = get_or tasks p c.index.result.now in
-    let read : x ≡ get_or tasks p x = get_or_default tasks p c.index.result.now x inside in
-    let home : x.cpu ≡ c.index.result.now.cpu = ap (λ (t : Task). t.cpu) (get_or-map (owed s.seats.upto s.seats.seats) s.tasks.items p c.index.result.now c.index.result.now within) ∙ (alike_owed s.seats.upto s.seats.seats (get_or s.tasks.items p c.index.result.now)).cpu ∙ sym (ap (λ (t : Task). t.cpu) c.index.ensures) in
+    let x = get_or tasks p c.index-2.result.now in
+    let read : x ≡ get_or tasks p x = get_or_default tasks p c.index-2.result.now x inside in
+    let home : x.cpu ≡ c.index-2.result.now.cpu = ap (λ (t : Task). t.cpu) (get_or-map (owed s.seats.upto s.seats.seats) s.tasks.items p c.index-2.result.now c.index-2.result.now within) ∙ (alike_owed s.seats.upto s.seats.seats (get_or s.tasks.items p c.index-2.result.now)).cpu ∙ sym (ap (λ (t : Task). t.cpu) c.index-2.ensures) in
     let fit = place_fit w s.queue tasks p c.args.time c.args.change.now x inside (subst (λ (r : RosterView). Fits r.cpus c.args.change.now) (sym c.self.view_is) c.requires.fits) c.self.invariant.counted in
     let stays : (after_change c.args.time c.args.change.now x).cpu ≡ x.cpu = ap (λ (t : Task). (after_change c.args.time c.args.change.now t).cpu) read ∙ fit.cpu ∙ ap (λ (t : Task). t.cpu) (sym read) in
     let d = c.mark.new.self in
@@ -36,7 +36,7 @@ invariant_of-self c =
       wide = e.wide ∙ c.self.invariant.wide ∙ sym e.counted.wide;
       settled = subst (λ (n : ℕ). AreSettled d n queue.schedule.places seats.seats (owed_all seats items)) (sym e.counted.wide)
           (subst (λ (ps : Places). AreSettled d w ps seats.seats (owed_all seats items)) (sym e.places)
-          (turn_settled s.doubts d w s.queue.schedule.places s.seats.seats seats.seats tasks (owed_all seats items) p c.index.result.now.cpu (after_change c.args.time c.args.change.now) x inside read home stays
+          (turn_settled s.doubts d w s.queue.schedule.places s.seats.seats seats.seats tasks (owed_all seats items) p c.index-2.result.now.cpu (after_change c.args.time c.args.change.now) x inside read home stays
           e.step e.seats c.mark.ensures.marked c.mark.ensures.bare c.mark.ensures.rated c.mark.ensures.sum c.mark.ensures.limit c.self.invariant.settled));
       room = e.room ∙ c.self.invariant.room;
     }
