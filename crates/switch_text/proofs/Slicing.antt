@@ -11,11 +11,11 @@ use Rattle.switch_text.specs.Names.{named, SameNames}
 use Rattle.switch_text.specs.Line.{line_of}
 use Rattle.switch_text.specs.Trace.{header}
 use Rattle.switch_text.specs.Runs.{view_of, views, IsRun}
-use Rattle.switch_text.specs.SlicedTrace.{sliced_trace, IsEndOf}
+use Rattle.switch_text.specs.SlicedTrace.{sliced_trace, IsEndOf, IsStopped}
 use Rattle.switch_text.specs.private.Sending.{Sends}
 use Rattle.switch_text.specs.private.Sliced.{lines_in, lines_by, IsSlicing}
 use Rattle.switch_text.proofs.CallerLemmas.{lines_of-one_run, lines_of-same_names, SameNames-everywhere}
-use Rattle.switch_text.proofs.UnderWay.{sends_on, length-header}
+use Rattle.switch_text.proofs.UnderWay.{sends_on, length-sent, length-header}
 use Rattle.switch_text.proofs.Sliced.{front_more, stops_all}
 
 -- ---- one slice
@@ -86,3 +86,21 @@ IsSlicing-ends before after base names all rest sent waiting u none =
 -- what follows a slice is an end, too
 pub end_of_end : (all rest hand rest' : List Switch) → IsEndOf all rest → rest ≡ hand ++ rest' → IsEndOf all rest'
 end_of_end all rest hand rest' (gone, is) split = (gone ++ hand, is ∙ ap (λ (ss : List Switch). gone ++ ss) split ∙ sym (append_assoc gone hand rest'))
+
+-- what was made either went out or waits
+length-made : (before after : Option (List ℕ)) (base : ℕ) (names : ℕ → List ℕ) (all earlier rest : List Switch) (sent : ℕ) (waiting : List ℕ) → IsSlicing before after base names all rest sent waiting → all ≡ earlier ++ rest
+    → length (sliced_trace base names earlier) ≡ sent + length waiting
+length-made before after base names all earlier rest sent waiting u split =
+    let lines = lines_by base names in
+    let whole = length-sent before after (sliced_trace base names all) (waiting ++ lines rest) sent u.sends in
+    let parts : lines all ≡ lines earlier ++ lines rest = ap lines split ∙ flat_map-append (line_of names base) earlier rest in
+    omega (arith, whole, length-append header (lines all), length-append header (lines earlier), ap length parts, length-append (lines earlier) (lines rest), length-append waiting (lines rest))
+
+-- at a fault the run is made no further
+pub IsStopped-here : (before after : Option (List ℕ)) (base : ℕ) (names : ℕ → List ℕ) (all rest hand rest' : List Switch) (sent n written : ℕ) (waiting : List ℕ) → IsSlicing before after base names all rest sent waiting
+    → IsEndOf all rest → rest ≡ hand ++ rest' → length waiting ≤ 65536 → written ≡ sent + n → IsStopped (sliced_trace base names) all hand rest' written
+IsStopped-here before after base names all rest hand rest' sent n written waiting u left split room is = record {
+  earlier = left.0;
+  made = left.1 ∙ ap (λ (ss : List Switch). left.0 ++ ss) split;
+  near = omega (arith, length-made before after base names all left.0 rest sent waiting u left.1, room, is);
+}

@@ -1,5 +1,5 @@
 -- The trace text of one run that is written while it is made (own).
-use Rattle.std.specs.Prelude.{ℕ, ◌≡◌, List, ◌++◌}
+use Rattle.std.specs.Prelude.{ℕ, ◌≡◌, ◌+◌, ◌≤◌, List, ◌++◌, length}
 use Rattle.std.specs.List.{flat_map}
 use Rattle.domain_run.specs.declared.switch.Switch.{Switch}
 use Rattle.switch_text.specs.Line.{line_of}
@@ -14,3 +14,11 @@ sliced_trace base names switches = header ++ flat_map (line_of names base) switc
 -- these are the last of them: others went before
 abbrev pub IsEndOf : List Switch → List Switch → Type 0
 IsEndOf all last = (gone : List Switch) × (all ≡ gone ++ last)
+
+-- a run that is written as a text and made no further: of what was made before the slice at hand, all
+-- but what a buffer of 64 KiB has was written
+pub record IsStopped (text : List Switch → List ℕ) (all hand rest : List Switch)
+    (written : ℕ) : Type 0 where
+  pub earlier : List Switch
+  pub made : all ≡ earlier ++ (hand ++ rest)
+  pub near : length (text earlier) ≤ written + 65536

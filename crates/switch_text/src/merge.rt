@@ -69,7 +69,8 @@ fn head_at(run: &Run<'_>, place: usize) -> Head
 fn first_heads(runs: &[Run<'_>]) -> Heads
     requires few { length runs.now ≤ 8 }
     requires runs { All IsRun runs.now }
-    ensures heads { (i : ℕ) → i < 8 → head_in result.heads i ≡ head_of (left_at (views runs.now) (replicate 8 0) i) }
+    ensures heads { (i : ℕ) → i < 8
+        → head_in result.heads i ≡ head_of (left_at (views runs.now) (replicate 8 0) i) }
     ensures tree { IsTree result }
 {
     let mut heads = Heads::none();

@@ -7,7 +7,7 @@ ghost use Rattle.counted_io.specs.Sides.{inner_of, faults_of};
 ghost use Rattle.counted_io.specs.Faults.{one_more_unless, TakesFront};
 ghost use Rattle.switch_text.specs.Names.{named, SameNames};
 ghost use Rattle.switch_text.specs.Runs.{IsRun};
-ghost use Rattle.switch_text.specs.SlicedTrace.{sliced_trace, IsEndOf};
+ghost use Rattle.switch_text.specs.SlicedTrace.{sliced_trace, IsEndOf, IsStopped};
 ghost use Rattle.switch_text.specs.private.Ready.{IsTexts};
 ghost use Rattle.switch_text.specs.private.Sending.{Sends};
 ghost use Rattle.switch_text.specs.private.Sliced.{lines_by};
@@ -93,12 +93,14 @@ fn send_slice<S: Slices, W: Write>(
 /// then the line of each switch, slice by slice, as they stand. Takes no memory but the room that it
 /// is given: up to 64 KiB wait in a fixed buffer, which goes out in one write when it is full.
 ///
-/// The slices that were written are gone from `slices`: what is left there is an end of what was, and
-/// nothing where all went out.
+/// The slices that were written are gone from `slices`: what is left there is an end of what was,
+/// and nothing where all went out.
 ///
 /// # Errors
-/// The writer's first fault ends the call. [`WriteFault::written`] is exactly the number of bytes
-/// that the writer took; they are the front of the trace text of the whole run, and not all of it.
+/// The writer's first fault ends the call, and the run is made no further: of the slices before the
+/// one that is at hand then, all but 64 KiB at most was written. [`WriteFault::written`] is exactly
+/// the number of bytes that the writer took; they are the front of the trace text of the whole run,
+/// and not all of it.
 pub fn write_slices<S: Slices, W: Write>(
     slices: &mut S,
     mut room: TraceRoom,
@@ -113,6 +115,9 @@ pub fn write_slices<S: Slices, W: Write>(
         (W.contents (inner_of writer.old)) (W.contents (inner_of writer.new))
         (sliced_trace (S.base slices.old) (S.names slices.old) (S.rest slices.old)) f.written) }
     ensures made { OnOk result (S.rest slices.new ≡ []) }
+    ensures stopped { IfErr result (λ f. IsStopped
+        (sliced_trace (S.base slices.old) (S.names slices.old))
+        (S.rest slices.old) (S.at_hand slices.new) (S.rest slices.new) f.written) }
     ensures left { IsEndOf (S.rest slices.old) (S.rest slices.new) }
     ensures faults { faults_of writer.new ≡ one_more_unless (is_ok result) (faults_of writer.old) }
 {

@@ -4,7 +4,7 @@ use Rattle.switch_text.specs.Trace.{header}
 use Rattle.switch_text.specs.SlicedTrace.{sliced_trace}
 use Rattle.switch_text.proofs.UnderWay.{length-header}
 use Rattle.switch_text.proofs.Sliced.{ends_all, stops_all}
-use Rattle.switch_text.proofs.Slicing.{IsSlicing-start, IsSlicing-next, IsSlicing-stops, IsSlicing-ends, sliced_fits, end_of_end}
+use Rattle.switch_text.proofs.Slicing.{IsSlicing-start, IsSlicing-next, IsSlicing-stops, IsSlicing-ends, sliced_fits, end_of_end, IsStopped-here}
 use Rattle.switch_text.proofs.slices.write_slices.Goals as goal
 
 pub loop-slots-init : goal.loop-slots-init
@@ -81,3 +81,19 @@ returns-clause-err g c =
 
 pub returns-in-Err-clause-left : goal.returns-in-Err-clause-left
 returns-in-Err-clause-left g c = end_of_end (g.S.Slices.rest c.args.slices.now) (g.S.Slices.rest c.loop-slots.slices) (g.S.Slices.at_hand c.go_on.new.self) (g.S.Slices.rest c.go_on.new.self) c.loop-slots.invariant.left c.go_on.ensures.rest
+
+pub returns-in-Err-clause-stopped : goal.returns-in-Err-clause-stopped
+returns-in-Err-clause-stopped g c =
+    let slices = c.args.slices.now in
+    let l = c.loop-slots in
+    let now = c.go_on.new.self in
+    IsStopped-here _ _ (g.S.Slices.base slices) (g.S.Slices.names slices) (g.S.Slices.rest slices) (g.S.Slices.rest l.slices) (g.S.Slices.at_hand now) (g.S.Slices.rest now) l.written c.in-Err.n _ l.batch l.invariant.slicing l.invariant.left c.go_on.ensures.rest l.invariant.room
+    c.stopped_after.ensures
+
+pub returns-clause-stopped : goal.returns-clause-stopped
+returns-clause-stopped g c =
+    let slices = c.args.slices.now in
+    let l = c.loop-slots in
+    let now = c.go_on.new.self in
+    IsStopped-here _ _ (g.S.Slices.base slices) (g.S.Slices.names slices) (g.S.Slices.rest slices) (g.S.Slices.rest l.slices) (g.S.Slices.at_hand now) (g.S.Slices.rest now) l.written c.in-Err-flush.n _ l.batch l.invariant.slicing l.invariant.left c.go_on.ensures.rest l.invariant.room
+    c.stopped_after-in-Err-flush.ensures
