@@ -71,6 +71,33 @@ fn take_characters<'a>(text: &mut String, rest: &'a str) -> Result<&'a str, Json
     }
 }
 
+/// The text of the plain characters in front, in exact room, and what stands behind them.
+#[inline(always)]
+fn plain_text<'a>(alloc: Global, rest: &'a str) -> Result<(String, &'a str), JsonKind>
+    ensures ok { IfOk result (λ t. MovesPlain [] (string_bytes t.0) rest.now t.1.now) }
+    ensures err { IfErr result (λ k. k ≡ Memory) }
+{
+    let (front, after) = rest.split_at(plain_len(rest.as_bytes()));
+    let text = String::from_str(alloc, front)?;
+    Ok((text, after))
+}
+
+/// The text of the plain characters and the whole escapes in front, and what stands behind them.
+#[inline(always)]
+fn text_of<'a>(alloc: Global, rest: &'a str) -> Result<(String, &'a str), JsonKind>
+    ensures ok { IfOk result (λ t. TakesQuoted [] Outside (string_bytes t.0) Outside
+        rest.now t.1.now) }
+    ensures err { IfErr result (λ k. k ≡ Memory) }
+{
+    let (mut text, after) = plain_text(alloc, rest)?;
+    let bytes = after.as_bytes();
+    if bytes.is_empty() || bytes[0] != b'\\' {
+        return Ok((text, after));
+    }
+    let behind = take_characters(&mut text, after)?;
+    Ok((text, behind))
+}
+
 /// Takes the characters in front that a string goes on with, at once, unless it stands in an escape;
 /// what stands behind them.
 #[inline(always)]
@@ -187,8 +214,7 @@ fn take_key<'a>(
         (state_of place.new stack.new.items) rest.now after.now) }
     ensures err { IfErr result (λ k. k ≡ Memory) }
 {
-    let mut text = String::new(alloc);
-    let behind = take_characters(&mut text, rest)?;
+    let (text, behind) = text_of(alloc, rest)?;
     if let Some(after) = behind_colon(behind) {
         if !members.has(text.as_str()) {
             stack.push(Frame::Object(members, text))?;
