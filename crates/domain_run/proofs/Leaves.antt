@@ -3,7 +3,7 @@ use Rattle.std.proofs.Common.{◌≡◌, ℕ, zero, suc, ◌+◌, ◌-◌, ◌*�
 use Rattle.std.proofs.lemmas.Bool.{cases_lt}
 use Rattle.std.proofs.lemmas.Grind.{same_number_lists}
 use Rattle.std.proofs.lemmas.List.{length-append, length-drop, length-replicate, get_or_append_left, get_or-append_right, get_or-drop, get_or-replicate}
-use Rattle.domain_run.specs.private.Timers.{least, AreNever}
+use Rattle.domain_run.specs.private.Timers.{least, AreLater, AreNever}
 use Rattle.domain_run.specs.private.Tournament.{AreCopied}
 
 -- behind a list that was made longer there are times that never come
@@ -47,3 +47,14 @@ least_first [] (suc n) never = refl
 least_first (t ∷ times) (suc n) never =
     let rest = least_first times n (λ q from h. never (suc q) (omega (arith, from)) (omega (arith, h))) in
     omega (arith, rest)
+
+-- the first time that has come is not behind those that may come
+pub first_within : (times : List ℕ) (count time first : ℕ) → AreNever times count → AreLater times time 0 first → first < length times → get_or times first 0 ≤ time → first ≤ count
+first_within times count time first never later within come = elim (cases_lt count first) [
+  | inl past ↦
+      let here = later count (omega arith) past (omega (arith, past, within)) in
+      let none = never count (omega arith) (omega (arith, past, within)) in
+      let none_there = never first (omega (arith, past)) within in
+      absurd (omega (arith, here, none, none_there, come))
+  | inr done ↦ done
+]

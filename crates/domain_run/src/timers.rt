@@ -29,19 +29,6 @@ impl Model for Timers {
     ghost invariant = { λ t. AreTimers t.tournament t.count };
 }
 
-// How many levels there are below the root of so many leaves.
-fn levels_of(len: usize) -> u32
-    requires { spec.IsSize len }
-    ensures { len ≡ 2 ^ result }
-{
-    match len {
-        4 => 2,
-        16 => 4,
-        64 => 6,
-        _ => 8,
-    }
-}
-
 impl Timers {
     /// Of no tasks. No other call takes memory.
     pub(crate) fn open(alloc: Global) -> Result<Timers, NoMemory>
@@ -53,21 +40,26 @@ impl Timers {
         })
     }
 
-    /// A place from this one on, up to which no task is due at a time. From the first of many on it
-    /// is the first that is.
-    fn first_look(&self, from: usize, time: u64) -> usize
+    /// As `next_due`, by a walk from this place on.
+    #[inline(never)]
+    fn walk_to_due(&self, from: usize, time: u64) -> usize
+        requires { from ≤ length self.now }
         ensures from { from ≤ result }
+        ensures most { result ≤ length self.now }
         ensures others { spec.AreLater self.now time from result }
+        ensures due { result < length self.now → slice_index_or self.now result 0 ≤ time }
     {
-        if from > 0 || self.count <= 16 {
-            return from;
+        let count = self.count;
+        let mut place = from;
+        while place < count && self.tournament.get(place) > time {
+            place = self.tournament.behind(place, time);
         }
-        self.tournament
-            .first_come(time, levels_of(self.tournament.len()))
+        place.min(count)
     }
 
     /// The first place, from this one on, whose task is due at a time; where there is none, how
-    /// many places there are.
+    /// many places there are. The first of all is found from the root down, and only where it is
+    /// before this place there is a walk.
     #[inline(always)]
     pub(crate) fn next_due(&self, from: usize, time: u64) -> usize
         requires { from ≤ length self.now }
@@ -76,15 +68,14 @@ impl Timers {
         ensures others { spec.AreLater self.now time from result }
         ensures due { result < length self.now → slice_index_or self.now result 0 ≤ time }
     {
-        let count = self.count;
-        if !self.may_be_due(time) {
-            return count;
+        if self.least() > time {
+            return self.count;
         }
-        let mut place = self.first_look(from, time);
-        while place < count && self.tournament.get(place) > time {
-            place = self.tournament.behind(place, time);
+        let first = self.tournament.first_come(time);
+        if first >= from {
+            return first;
         }
-        place.min(count)
+        self.walk_to_due(from, time)
     }
 
     /// The task at a place is due at another time.

@@ -1,7 +1,7 @@
 //! A tournament of times: the first of them is known, where one changes at a time.
 
-ghost use Rattle.std.specs.Prelude.{◌≡◌, ◌<◌, ◌≤◌, ◌+◌, ◌*◌, ◌/◌, ◌^◌, ◌-◌, ◌++◌, length, slice_index_or, slice_set, replicate, IfOk, vec_len, vec_capacity};
-ghost use Rattle.domain_run.specs.private.Timers.{least, AreLater};
+ghost use Rattle.std.specs.Prelude.{ℕ, ◌≡◌, ◌<◌, ◌≤◌, ◌+◌, ◌*◌, ◌/◌, ◌^◌, ◌-◌, ◌++◌, length, slice_index_or, slice_set, replicate, IfOk, vec_len, vec_capacity};
+ghost use Rattle.domain_run.specs.private.Timers.{least, AreLater, IsSize};
 ghost use Rattle.domain_run.specs.private.Tournament as spec;
 
 use no_memory::NoMemory;
@@ -149,36 +149,55 @@ fn behind(nodes: &[u64], from: usize, time: u64) -> usize
 }
 
 // Of the two below a node the left one where something has come in it, else the right one.
+#[inline(always)]
 fn below(nodes: &[u64], at: usize, time: u64) -> usize
     requires within { 2 * at + 1 < length nodes.now }
     requires few { length nodes.now ≤ 512 }
     ensures low { 2 * at ≤ result }
     ensures high { result ≤ 2 * at + 1 }
     ensures passed { 2 * at < result → time < slice_index_or nodes.now (2 * at) 0 }
+    ensures come { result ≡ 2 * at → slice_index_or nodes.now (2 * at) 0 ≤ time }
 {
-    let left = 2 * at;
-    if nodes[left] > time {
-        return left + 1;
-    }
-    left
+    2 * at + usize::from(nodes[2 * at] > time)
 }
 
-// From the root down to the first leaf that has come, where one has; up to there no leaf has.
-fn first_come(nodes: &[u64], time: u64, levels: u32) -> usize
+// Two levels further down.
+#[inline(always)]
+fn two_below(nodes: &[u64], at: usize, time: u64) -> usize
     requires tree { spec.IsTree nodes.now }
-    requires whole { length nodes.now ≡ 2 * 2 ^ levels }
+    requires within { 4 * at + 3 < length nodes.now }
     requires few { length nodes.now ≤ 512 }
-    ensures leaf { length nodes.now / 2 ≤ result }
-    ensures within { result < length nodes.now }
-    ensures others { spec.AreAhead nodes.now time (length nodes.now / 2) result }
+    ensures high { result ≤ 4 * at + 3 }
+    ensures down { (level : ℕ) → spec.IsOnWay nodes.now time at (2 ^ (level + 2))
+        → spec.IsOnWay nodes.now time result (2 ^ level) }
 {
-    let mut at = 1;
-    let mut left = levels;
-    'down: while left > 0 {
-        at = below(nodes, at, time);
-        left -= 1;
+    let next = below(nodes, at, time);
+    below(nodes, next, time)
+}
+
+// From the root down to the first leaf that has come. On the way nothing is asked but how many
+// levels there are.
+#[inline(always)]
+fn first_come(nodes: &[u64], time: u64) -> usize
+    requires tree { spec.IsTree nodes.now }
+    requires size { IsSize (length nodes.now / 2) }
+    requires come { least (spec.leaves nodes.now) ≤ time }
+    ensures { spec.IsOnWay nodes.now time result 1 }
+{
+    let half = nodes.len() / 2;
+    let of_four = two_below(nodes, 1, time);
+    if half == 4 {
+        return of_four;
     }
-    at
+    let of_16 = two_below(nodes, of_four, time);
+    if half == 16 {
+        return of_16;
+    }
+    let of_64 = two_below(nodes, of_16, time);
+    if half == 64 {
+        return of_64;
+    }
+    two_below(nodes, of_64, time)
 }
 
 impl Tournament {
@@ -230,13 +249,17 @@ impl Tournament {
         root(&self.nodes)
     }
 
-    /// A place up to which no time has come: the first whose time has come, where one has.
-    pub(crate) fn first_come(&self, time: u64, levels: u32) -> usize
-        requires { length self.now ≡ 2 ^ levels }
-        ensures { AreLater self.now time 0 result }
+    /// The first place whose time has come, where one has.
+    #[inline(always)]
+    pub(crate) fn first_come(&self, time: u64) -> usize
+        requires size { IsSize (length self.now) }
+        requires come { least self.now ≤ time }
+        ensures within { result < length self.now }
+        ensures others { AreLater self.now time 0 result }
+        ensures come { slice_index_or self.now result 0 ≤ time }
     {
         let half = self.nodes.len() / 2;
-        first_come(&self.nodes, time, levels) - half
+        first_come(&self.nodes, time) - half
     }
 
     /// A place behind this one, whose time has not come: where none has come between.

@@ -31,6 +31,15 @@ AreAhead nodes time from end =
     (node : ℕ) → from ≤ node → node < end → node < length nodes
     → time < slice_index_or nodes node 0
 
+-- a node on the way from the root down to the first leaf that has come, so many leaves below it:
+-- something has come in it, and no leaf before those has
+pub record IsOnWay (nodes : List ℕ) (time at span : ℕ) : Type 0 where
+  pub one : 1 ≤ at
+  pub low : length nodes / 2 ≤ at * span
+  pub high : (at + 1) * span ≤ length nodes
+  pub ahead : AreAhead nodes time (length nodes / 2) (at * span)
+  pub come : slice_index_or nodes at 0 ≤ time
+
 -- of eight halves the second stands in the fifth as well, for so many nodes; the others are as they
 -- were
 pub record AreCopied (old : List ℕ) (half count : ℕ) (new : List ℕ) : Type 0 where

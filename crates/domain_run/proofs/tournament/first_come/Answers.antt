@@ -1,49 +1,59 @@
-use Rattle.std.proofs.Common.{◌≡◌, ℕ, ◌+◌, ◌-◌, ◌*◌, ◌^◌, ◌≤◌, subst, arith}
-use Rattle.std.proofs.lemmas.Nat.{mul-le}
-use Rattle.domain_run.specs.private.Tournament.{AreAhead}
-use Rattle.domain_run.proofs.Descending.{level, two_wide, down_low, down_high, down_ahead}
+use Rattle.std.proofs.Common.{◌≡◌, ◌/◌, length, arith}
+use Rattle.domain_run.proofs.Descending.{from_root, some_four, most_256, not_four, not_16, not_64}
 use Rattle.domain_run.proofs.tournament.first_come.Goals as goal
 
-pub down-init : goal.down-init
-down-init c = record { one = omega arith; low = omega arith; high = omega arith; ahead = λ node above before within. absurd (omega (arith, above, before)) }
+pub two_below-of_four-requires-clause-within : goal.two_below-of_four-requires-clause-within
+two_below-of_four-requires-clause-within c = omega (arith, some_four (length c.args.nodes.now / 2) c.requires.size)
 
-pub below-at-requires-clause-within : goal.below-at-requires-clause-within
-below-at-requires-clause-within c =
-    let l = c.down in
-    let most = mul-le (l.at + 1) 2 (l.at + 1) (2 ^ l.left) (omega arith) (two_wide l.left c.down-test.true) in
-    omega (arith, most, l.invariant.high, c.requires.whole)
+pub two_below-of_four-requires-clause-few : goal.two_below-of_four-requires-clause-few
+two_below-of_four-requires-clause-few c = omega (arith, most_256 (length c.args.nodes.now / 2) c.requires.size, c.requires.tree.even)
 
-pub down-preserved : goal.down-preserved
-down-preserved c =
-    let l = c.down in
-    let i = l.invariant in
-    let b = c.below-at in
-    let is = level l.left c.down-test.true in
-    let s : ℕ = 2 ^ (l.left - 1) in
-    record {
-      one = omega (arith, i.one, b.ensures.low);
-      low = down_low (2 ^ c.args.levels) l.at b.result s (subst (λ n. 2 ^ c.args.levels ≤ l.at * n) is i.low) b.ensures.low;
-      high = down_high (2 * 2 ^ c.args.levels) l.at b.result s (subst (λ n. (l.at + 1) * n ≤ 2 * 2 ^ c.args.levels) is i.high) b.ensures.high;
-      ahead = down_ahead c.args.nodes.now c.args.time (2 ^ c.args.levels) l.at b.result (l.left - 1) c.requires.tree i.one (subst (λ n. AreAhead c.args.nodes.now c.args.time (2 ^ c.args.levels) (l.at * n)) is i.ahead) b.ensures.low b.ensures.high b.ensures.passed;
-    }
+pub returns-then-half-eq4 : goal.returns-then-half-eq4
+returns-then-half-eq4 c =
+    let ns = c.args.nodes.now in
+    let half : length ns / 2 ≡ 4 = omega arith in
+    c.two_below-of_four.ensures.down 0 (from_root ns c.args.time 4 c.requires.tree (omega arith) half (omega (arith, c.type_inv.nodes 1)) c.requires.come)
 
-pub returns-clause-leaf : goal.returns-clause-leaf
-returns-clause-leaf c =
-    let l = c.down in
-    let none : l.left ≡ 0 = omega (arith, c.down-test.false) in
-    let low = subst (λ k. 2 ^ c.args.levels ≤ l.at * 2 ^ k) none l.invariant.low in
-    omega (arith, low, c.requires.whole)
+pub two_below-of_16-requires-clause-within : goal.two_below-of_16-requires-clause-within
+two_below-of_16-requires-clause-within c =
+    let more = not_four (length c.args.nodes.now / 2) c.requires.size c.if-half-eq4.false in
+    omega (arith, more, c.two_below-of_four.ensures.high)
 
-pub returns-clause-within : goal.returns-clause-within
-returns-clause-within c =
-    let l = c.down in
-    let none : l.left ≡ 0 = omega (arith, c.down-test.false) in
-    let high = subst (λ k. (l.at + 1) * 2 ^ k ≤ 2 * 2 ^ c.args.levels) none l.invariant.high in
-    omega (arith, high, c.requires.whole)
+pub two_below-of_16-requires-clause-few : goal.two_below-of_16-requires-clause-few
+two_below-of_16-requires-clause-few c = omega (arith, most_256 (length c.args.nodes.now / 2) c.requires.size, c.requires.tree.even)
 
-pub returns-clause-others : goal.returns-clause-others
-returns-clause-others c node above before within =
-    let l = c.down in
-    let none : l.left ≡ 0 = omega (arith, c.down-test.false) in
-    let ahead = subst (λ k. AreAhead c.args.nodes.now c.args.time (2 ^ c.args.levels) (l.at * 2 ^ k)) none l.invariant.ahead in
-    ahead node (omega (arith, above, c.requires.whole)) (omega (arith, before)) within
+pub returns-then-half-eq16 : goal.returns-then-half-eq16
+returns-then-half-eq16 c =
+    let ns = c.args.nodes.now in
+    let half : length ns / 2 ≡ 16 = omega arith in
+    c.two_below-of_16.ensures.down 0 (c.two_below-of_four.ensures.down 2 (from_root ns c.args.time 16 c.requires.tree (omega arith) half (omega (arith, c.type_inv.nodes 1)) c.requires.come))
+
+pub two_below-of_64-requires-clause-within : goal.two_below-of_64-requires-clause-within
+two_below-of_64-requires-clause-within c =
+    let half = length c.args.nodes.now / 2 in
+    let more = not_16 half c.requires.size (not_four half c.requires.size c.if-half-eq4.false) c.if-half-eq16.false in
+    omega (arith, more, c.two_below-of_four.ensures.high, c.two_below-of_16.ensures.high)
+
+pub two_below-of_64-requires-clause-few : goal.two_below-of_64-requires-clause-few
+two_below-of_64-requires-clause-few c = omega (arith, most_256 (length c.args.nodes.now / 2) c.requires.size, c.requires.tree.even)
+
+pub returns-then-half-eq64 : goal.returns-then-half-eq64
+returns-then-half-eq64 c =
+    let ns = c.args.nodes.now in
+    let half : length ns / 2 ≡ 64 = omega arith in
+    c.two_below-of_64.ensures.down 0 (c.two_below-of_16.ensures.down 2 (c.two_below-of_four.ensures.down 4 (from_root ns c.args.time 64 c.requires.tree (omega arith) half (omega (arith, c.type_inv.nodes 1)) c.requires.come)))
+
+pub two_below-requires-clause-within : goal.two_below-requires-clause-within
+two_below-requires-clause-within c =
+    let half = length c.args.nodes.now / 2 in
+    let more = not_64 half c.requires.size (not_16 half c.requires.size (not_four half c.requires.size c.if-half-eq4.false) c.if-half-eq16.false) c.if-half-eq64.false in
+    omega (arith, more, c.two_below-of_four.ensures.high, c.two_below-of_16.ensures.high, c.two_below-of_64.ensures.high)
+
+pub two_below-requires-clause-few : goal.two_below-requires-clause-few
+two_below-requires-clause-few c = omega (arith, most_256 (length c.args.nodes.now / 2) c.requires.size, c.requires.tree.even)
+
+pub returns : goal.returns
+returns c =
+    let ns = c.args.nodes.now in
+    let half = not_64 (length ns / 2) c.requires.size (not_16 (length ns / 2) c.requires.size (not_four (length ns / 2) c.requires.size c.if-half-eq4.false) c.if-half-eq16.false) c.if-half-eq64.false in
+    c.two_below.ensures.down 0 (c.two_below-of_64.ensures.down 2 (c.two_below-of_16.ensures.down 4 (c.two_below-of_four.ensures.down 6 (from_root ns c.args.time 256 c.requires.tree (omega arith) half (omega (arith, c.type_inv.nodes 1)) c.requires.come))))

@@ -1,6 +1,6 @@
 use Rattle.std.proofs.Common.{◌-◌, ◌≤◌}
 use Rattle.domain_run.specs.private.Timers.{AreLater}
-use Rattle.domain_run.proofs.timers.Timers.next_due.Given as goal
+use Rattle.domain_run.proofs.timers.Timers.walk_to_due.Given as goal
 
 abbrev pub invariant-loop-place : goal.invariant-loop-place
 invariant-loop-place l = record {
