@@ -9,6 +9,17 @@ ghost use Rattle.grub_rules.specs.Rate as rates;
 use attr_check::{Params, UNIT};
 use cbs_rules::Server;
 
+/// A quotient, by a division of 64 bits where that does.
+fn divided(number: u128, by: u64) -> u128
+    requires { 0 < by }
+    ensures { result ≡ number / by }
+{
+    if number <= u128::from(u64::MAX) {
+        return u128::from(number as u64 / by);
+    }
+    number / u128::from(by)
+}
+
 /// How long before its deadline a server would be in step with the fluid schedule, in microseconds.
 fn lag_of(server: &Server, params: &Params) -> u128
     requires high { server.now.left ≤ℤ pos (2 ^ 63) }
@@ -19,7 +30,7 @@ fn lag_of(server: &Server, params: &Params) -> u128
     } else {
         0
     };
-    left * u128::from(params.period) / u128::from(params.runtime * UNIT)
+    divided(left * u128::from(params.period), params.runtime * UNIT)
 }
 
 /// The zero-lag time of a task that stops contending at this time, in microseconds: until then its
