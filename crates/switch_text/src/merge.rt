@@ -41,7 +41,8 @@ fn next_in<'a, 'b>(run: &'a Run<'b>, index: usize, place: usize) -> Next<'a, 'b>
     }
 }
 
-/// How far each of several runs has gone, and their heads.
+/// How far each of several runs has gone, and their heads; of one run alone the heads are not looked
+/// at.
 #[derive(Clone, Copy)]
 pub(crate) struct Merge {
     pub(crate) places: [usize; 8],
