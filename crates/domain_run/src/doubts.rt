@@ -149,6 +149,27 @@ impl Doubts {
         self.is_for(sum, limit)
     }
 
+    /// A CPU whose seat was made just now, for a sum and a limit, is in doubt only where the seat keeps
+    /// what its rate was worked out from, and others are noted.
+    #[inline(always)]
+    pub(crate) fn clear_for(&mut self, cpu: usize, is_rated: bool, sum: u64, limit: u64)
+        requires { cpu < 64 }
+        ensures others { (i : ℕ) → i ≢ cpu → bit_at self.new.cpus i ≡ bit_at self.old.cpus i }
+        ensures elsewhere { (i : ℕ) → i ≢ cpu → bit_at self.new.rated i ≡ bit_at self.old.rated i }
+        ensures marked { IsTrue is_rated → bit_at self.new.cpus cpu ≡ 0
+            → bit_at self.new.rated cpu ≡ 1 }
+        ensures noted { IsTrue is_rated → bit_at self.new.cpus cpu ≡ 0
+            → (self.old.sum ≡ sum) × (self.old.limit ≡ limit) }
+        ensures sum { self.new.sum ≡ self.old.sum }
+        ensures limit { self.new.limit ≡ self.old.limit }
+    {
+        if self.may_trust(is_rated, sum, limit) {
+            self.clear(cpu, is_rated);
+        } else {
+            self.mark(cpu);
+        }
+    }
+
     /// Another sum or another limit is noted: then each CPU whose seat keeps what its rate was worked
     /// out from is in doubt.
     #[inline(always)]

@@ -1,6 +1,6 @@
 //! Who sits on which CPU: nobody is charged by it, as callers see it.
 
-ghost use Rattle.std.specs.Prelude.{◌≡◌, ◌≢◌, ◌<◌, ◌≤◌, ◌^◌, ◌*◌, ◌-◌, ℕ, All, IfSome, IsSomeAnd, IsTrue, None, Some, false, length, pos, slice_index_or, slice_set};
+ghost use Rattle.std.specs.Prelude.{◌≡◌, ◌≢◌, ◌<◌, ◌≤◌, ◌^◌, ◌*◌, ◌-◌, ℕ, All, IfSome, IsTrue, None, Some, false, length, pos, slice_index_or, slice_set};
 ghost use Rattle.std.specs.Int.{bit_at};
 ghost use Rattle.attr_check.specs.Ratio.{cap};
 ghost use Rattle.domain_run.specs.Domain.{IsLimit};
@@ -176,8 +176,9 @@ impl Roster {
 
     /// The task at a place, which belongs to a CPU on which nobody sits, sits there at a rate.
     #[inline(always)]
-    fn occupy(&mut self, cpu: usize, place: usize, rating: Rating)
+    fn occupy(&mut self, cpu: usize, place: usize, rating: Rating, limit: u64)
         requires there { cpu < self.old.cpus }
+        requires few { cpu < 64 }
         requires at { place < length self.old.tasks }
         requires free { slice_index_or self.old.seats cpu None ≡ None }
         requires turns { 0 < rating.rate }
@@ -186,19 +187,25 @@ impl Roster {
         requires may { (d : Task) → spec.MaySit (slice_index_or self.old.tasks place d) }
         requires rated { (d : Task)
             → spec.IsRatedBy rating.basis rating.rate (slice_index_or self.old.tasks place d) }
+        requires basis { IfSome rating.basis
+            (λ b. b ≡ basis_in self.old.cpus limit self.old.tasks cpu) }
+        requires stands { (d : Task) → slice_index_or self.old.places cpu None
+            ≡ Some (slice_index_or self.old.tasks place d).number }
         ensures cpus { self.new.cpus ≡ self.old.cpus }
         ensures places { self.new.places ≡ self.old.places }
         ensures clock { self.new.clock ≡ self.old.clock }
         ensures tasks { self.new.tasks ≡ self.old.tasks }
         ensures others { (d : ℕ) → d ≢ cpu
             → slice_index_or self.new.seats d None ≡ slice_index_or self.old.seats d None }
-        ensures sits { (d : Task) → IsSomeAnd (slice_index_or self.new.seats cpu None)
-            (λ s. (s.number ≡ (slice_index_or self.old.tasks place d).number)
-            × (s.basis ≡ rating.basis)) }
+        ensures right { All (λ t. t.cpu ≡ cpu
+            → spec.IsRight (slice_index_or self.old.places cpu None) t.number
+            (rate_in self.old.cpus limit self.old.tasks t) (spec.seat_of self.new.seats t)) self.new.tasks }
     {
+        let sum = self.sum();
+        let is_rated = rating.basis.is_some();
         let seat = seat_for(&self.tasks[place], self.seats.upto(), rating);
         self.seats.sit_down(cpu, seat);
-        self.doubts.mark(cpu);
+        self.doubts.clear_for(cpu, is_rated, sum, limit);
     }
 
     /// What the rates of the tasks of a CPU depend on now.
@@ -331,8 +338,7 @@ impl Roster {
         self.leave_free(cpu);
         if let Some(place) = self.place(number) {
             let rating = self.rating(cpu, place, limit);
-            self.occupy(cpu, place, rating);
-            self.trust(cpu, limit);
+            self.occupy(cpu, place, rating, limit);
         }
     }
 
