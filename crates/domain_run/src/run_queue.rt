@@ -93,7 +93,8 @@ fn take_in(schedule: &mut Schedule, number: u32, cpu: usize, after: Option<u64>)
     requires room { length schedule.old.queue < 256 }
     requires numbered { IfSome (spec.candidate_at number cpu after)
         (λ c. All (λ a. a.number ≢ c.number) schedule.old.queue) }
-    requires homed { IfSome (spec.candidate_at number cpu after) (λ c. IsAtHome schedule.old.places c) }
+    requires homed { IfSome (spec.candidate_at number cpu after)
+        (λ c. IsAtHome schedule.old.places c) }
     ensures { schedule.new ≡ record schedule.old {
       queue = spec.with_ready (spec.candidate_at number cpu after) schedule.old.queue;
     } }

@@ -78,8 +78,8 @@ pub(super) fn leave_other(seats: &mut Seats, left: usize, cpu: usize, number: u3
     }
 }
 
-/// Makes a change of a task as it is once it is charged. On the CPU to which it belongs, and belongs
-/// still, it has no seat then.
+/// Makes a change of a task as it is once it is charged. It belongs to its CPU still, and has no seat
+/// there then.
 #[inline(always)]
 fn turn_one(
     task: &mut Task,
