@@ -20,14 +20,14 @@ fn is_same(a: &Candidate, b: &Candidate) -> bool
     a.deadline == b.deadline && a.number == b.number
 }
 
-// So many tasks or more. Of most queues it is one of a few numbers, each of which is twice another
-// one and one more: so a search takes as many looks in queues of about one length.
+// So many tasks or more. Of most queues of 4 tasks and more it is one of two numbers, 2^5 - 1 and
+// 2^8 - 1: so a search takes as many looks in queues of about one length.
 #[inline(always)]
 fn reach(len: usize) -> usize
     ensures { len ≤ result }
 {
     if len < 4 {
-        3
+        len
     } else if len < 32 {
         31
     } else if len < 256 {
