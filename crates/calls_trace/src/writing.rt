@@ -49,74 +49,40 @@ fn write_runs<W: Write>(
     }
 }
 
-/// Makes the calls of sections, and then writes a text of their runs.
-fn write_run_of<W: Write>(
-    alloc: Global,
-    text: RunText,
-    sections: Vec<Section>,
-    writer: &mut Counted<W>,
-) -> Result<(), TraceFault>
-    requires few { length sections.items ≤ 8 }
-    requires sections { All IsSection sections.items }
-    requires faults { faults_of writer.old < 2 ^ 63 }
-    ensures ok { OnOk result
-        (IsWritten (side W.contents writer.old writer.new) (text_of_all text sections.items)) }
-    ensures err { IfErr result
-        (IsUnwritten (side W.contents writer.old writer.new) (text_of_all text sections.items)) }
-{
-    let runs = run_sections(alloc, sections, text.tells())?;
-    write_runs(alloc, text, &runs, writer)
-}
-
-/// Takes the section out where it is the only one.
-fn take_only(sections: &mut Vec<Section>) -> Option<Section>
+/// Takes the section out where it is the only one and its trace is asked for.
+fn only_traced(text: RunText, sections: &mut Vec<Section>) -> Option<Section>
+    ensures trace { IfSome result (λ section. text ≡ texts.Trace) }
     ensures only { IfSome result (λ section. sections.old.items ≡ section ∷ []) }
     ensures others { IfNone result (sections.new.items ≡ sections.old.items) }
 {
-    if sections.len() == 1 {
-        return sections.pop();
+    match text {
+        RunText::Trace if sections.len() == 1 => sections.pop(),
+        _ => None,
     }
-    None
 }
 
-/// Makes the calls of sections, and writes their trace; that of one section while they are made.
-fn write_trace_made<W: Write>(
+/// Makes the calls of sections, and writes a text of their runs; the trace of one section while
+/// they are made.
+fn write_made<W: Write>(
     alloc: Global,
+    text: RunText,
     mut sections: Vec<Section>,
     writer: &mut Counted<W>,
 ) -> Result<(), TraceFault>
     requires few { length sections.items ≤ 8 }
     requires sections { All IsSection sections.items }
     requires faults { faults_of writer.old < 2 ^ 63 }
-    ensures ok { OnOk result (IsWritten (side W.contents writer.old writer.new)
-        (text_of_all texts.Trace sections.items)) }
-    ensures err { IfErr result (IsUnwritten (side W.contents writer.old writer.new)
-        (text_of_all texts.Trace sections.items)) }
-{
-    match take_only(&mut sections) {
-        Some(section) => write_played(alloc, section, writer),
-        None => write_run_of(alloc, RunText::Trace, sections, writer),
-    }
-}
-
-/// Makes the calls of sections, and writes a text of their runs.
-fn write_made<W: Write>(
-    alloc: Global,
-    text: RunText,
-    sections: Vec<Section>,
-    writer: &mut Counted<W>,
-) -> Result<(), TraceFault>
-    requires few { length sections.items ≤ 8 }
-    requires sections { All IsSection sections.items }
-    requires faults { faults_of writer.old < 2 ^ 63 }
     ensures ok { OnOk result
         (IsWritten (side W.contents writer.old writer.new) (text_of_all text sections.items)) }
     ensures err { IfErr result
         (IsUnwritten (side W.contents writer.old writer.new) (text_of_all text sections.items)) }
 {
-    match text {
-        RunText::Trace => write_trace_made(alloc, sections, writer),
-        _ => write_run_of(alloc, text, sections, writer),
+    match only_traced(text, &mut sections) {
+        Some(section) => write_played(alloc, section, writer),
+        None => {
+            let runs = run_sections(alloc, sections, text.tells())?;
+            write_runs(alloc, text, &runs, writer)
+        }
     }
 }
 

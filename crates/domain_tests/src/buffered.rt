@@ -1,0 +1,29 @@
+//! A domain whose switches wait in a buffer.
+
+use crate::workers::{admitted, forever, single_ticks};
+use domain_run::{Buffered, Event};
+use std::test::Fail;
+
+/// An advance stops where the buffer is full, and goes on once the switches that wait are forgotten.
+/// They are those of single ticks.
+#[test]
+fn an_advance_stops_where_the_buffer_is_full(rt: HostRuntime) -> Result<(), Fail> {
+    let tasks = [forever((2, 8, 8), &[Event::Run(1), Event::Sleep(3)])];
+    let mut ticked = admitted(rt.alloc(), 1, &tasks)?;
+    single_ticks(&mut ticked[0], 10000)?;
+    let all = ticked[0].switches();
+    let state = admitted(rt.alloc(), 1, &tasks)?.pop().unwrap();
+    let mut buffered = Buffered::of(state)?;
+    let left = (1_u64 << 42).saturating_sub(buffered.state().now());
+    let made = buffered.advance(10000_u64.min(left));
+    assert!(rt; 0 < made && made < 10000);
+    assert!(rt; all.starts_with(buffered.switches()));
+    let first = buffered.switches().len();
+    buffered.forget_switches();
+    let left = (1_u64 << 42).saturating_sub(buffered.state().now());
+    let more = buffered.advance(10000_u64.saturating_sub(made).min(left));
+    assert_eq!(rt; made.saturating_add(more), 10000);
+    assert!(rt; all.ends_with(buffered.switches()));
+    assert_eq!(rt; all.len().saturating_sub(first), buffered.switches().len());
+    Ok(())
+}
