@@ -1,6 +1,6 @@
 -- A task of the list that does not sit is stored as it is seen; the CPU of any is.
 use Rattle.std.proofs.Common.{◌≡◌, ◌<◌, ℕ, Option, None, List, length, map, get_or, sym, ap, ◌∙◌, subst, arith}
-use Rattle.std.proofs.lemmas.List.{get_or_default, length-map}
+use Rattle.std.proofs.lemmas.List.{get_or-map, get_or_default, length-map}
 use Rattle.domain_run.specs.declared.task.Task.{Task}
 use Rattle.domain_run.specs.declared.seats.Seat.{Seat}
 use Rattle.domain_run.specs.declared.run_queue.RunQueue.{RunQueue}
@@ -36,3 +36,10 @@ module _ (upto : ℕ) (seats : List (Option Seat)) (items : List Task) (p : ℕ)
 -- who has left its seat sits nowhere
 pub left_free : (t : Task) (seats : List (Option Seat)) → seat_of (left_of t seats) t ≡ None
 left_free t seats = left_here t.cpu t.number seats
+
+-- a task of the list sits where it is seen to
+pub seat_seen : (upto : ℕ) (seats : List (Option Seat)) (items : List Task) (p : ℕ) (d : Task) → p < length items → seat_of seats (get_or items p d) ≡ seat_of seats (get_or (map (owed upto seats) items) p d)
+seat_seen upto seats items p d h =
+    let x = get_or items p d in
+    let a = alike_owed upto seats x in
+    (λ i. seat_by (sym a.number i) (get_or seats (sym a.cpu i) None)) ∙ ap (seat_of seats) (sym (get_or-map (owed upto seats) items p d d h))

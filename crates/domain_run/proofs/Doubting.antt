@@ -11,15 +11,19 @@ use Rattle.edf_pick.specs.declared.moves.Moved.{Moved}
 use Rattle.edf_pick.specs.Moves.{moved_from, same_occupant as moved_same}
 use Rattle.edf_pick.specs.Places.{Places}
 use Rattle.edf_pick.proofs.Moving.{same_is}
+use Rattle.std.proofs.Math.Seq.{map-set_same}
 use Rattle.domain_run.specs.declared.doubts.Doubts.{Doubts}
+use Rattle.domain_run.specs.declared.doubts.Touched.{Touched}
+use Rattle.domain_run.specs.declared.doubts.Touched.TheVariants.{Nothing, Sums, Seat as ASeat}
 use Rattle.domain_run.specs.declared.seats.Seat.{Seat}
 use Rattle.domain_run.specs.declared.seats.Basis.{Basis}
 use Rattle.domain_run.specs.declared.task.Task.{Task}
 use Rattle.domain_run.specs.Parts.{with_cpu}
 use Rattle.domain_run.specs.Sound.{occupant}
 use Rattle.domain_run.specs.Tick.{share_of, shares, sum_of}
-use Rattle.domain_run.specs.private.Doubts.{IsSettled, IsFree, noted_basis, AreSettled, IsMarked}
+use Rattle.domain_run.specs.private.Doubts.{IsSettled, IsFree, noted_basis, AreSettled, IsMarked, IsTouched, IsPassedBy}
 use Rattle.domain_run.specs.private.Roster.{rate_in, basis_in, IsSeated}
+use Rattle.domain_run.specs.private.RunQueue.{standing_of}
 use Rattle.domain_run.specs.private.Seats.{SeatsView, seat_by, left_if, left}
 use Rattle.domain_run.specs.private.Timers.{IsStep}
 use Rattle.domain_run.specs.private.Waiting.{seat_of, left_of, owed, owed_all, AllWait, IsRight, rate_by}
@@ -328,21 +332,60 @@ push_settled d e w places s v items after t is more marked bare rated sum limit 
     })
     (λ i h q. refl) are))
 
--- a task at a place of the list has changed, and has no seat on its CPU
-pub turn_settled : (d e : Doubts) (w : ℕ) (places : Places) (seats after : List (Option Seat)) (tasks now : List Task) (p cpu : ℕ) (f : Task → Task) (x : Task) → p < length tasks → x ≡ get_or tasks p x → x.cpu ≡ cpu → (f x).cpu ≡ x.cpu
+-- a task at a place of the list has changed, and has no seat on its CPU, which is in doubt where that
+-- may matter there
+pub turn_settled : (d e : Doubts) (w : ℕ) (places : Places) (seats after : List (Option Seat)) (tasks now : List Task) (p cpu : ℕ) (f : Task → Task) (x : Task) (touched : Touched)
+    → p < length tasks → x ≡ get_or tasks p x → x.cpu ≡ cpu → (f x).number ≡ x.number → (f x).cpu ≡ x.cpu
     → IsStep f p tasks now → ((t : Task) → after ≡ left_of (get_or now p t) (left_of (get_or tasks p t) seats))
-    → (cpu < 64 → bit_at e.cpus cpu ≡ 1) → ((i : ℕ) → bit_at e.cpus i ≡ 0 → bit_at d.cpus i ≡ 0) → e.rated ≡ d.rated → e.sum ≡ d.sum → e.limit ≡ d.limit
+    → IsTouched touched (seat_of seats x) (standing_of x) (standing_of (f x)) → (cpu < 64 → bit_at e.cpus cpu ≡ 0 → IsPassedBy touched (bit_at d.rated cpu))
+    → ((i : ℕ) → bit_at e.cpus i ≡ 0 → bit_at d.cpus i ≡ 0) → e.rated ≡ d.rated → e.sum ≡ d.sum → e.limit ≡ d.limit
     → AreSettled d w places seats tasks → AreSettled e w places after now
-turn_settled d e w places seats after tasks now p cpu f x h read home stays step left_are marked bare rated sum limit are =
-    let y = f x in
-    let now_is : now ≡ set tasks p y = step.is x ∙ ap (λ (t : Task). set tasks p (f t)) (sym read) in
-    let many : length now ≡ length tasks = ap (λ (ts : List Task). length ts) now_is ∙ length-set tasks p y in
-    let there : get_or now p x ≡ y = ap (λ (ts : List Task). get_or ts p x) now_is ∙ get_or-set_same tasks p y x h in
-    let seats_are : after ≡ left y.cpu y.number (left x.cpu x.number seats) = left_are x ∙ (λ i. left_of (there i) (left_of ((sym read) i) seats)) in
-    subst (λ (xs : List (Option Seat)). AreSettled e w places xs now) (sym seats_are)
-    (subst (AreSettled e w places (left y.cpu y.number (left x.cpu x.number seats))) (sym now_is)
-    (settled_again d e w places places seats (left y.cpu y.number (left x.cpu x.number seats)) tasks (set tasks p y) rated sum limit
-    (marked_at d.cpus e.cpus x.cpu y.cpu y.number x.number seats tasks p x y h read refl refl
-    (subst (λ (c : ℕ). c < 64 → bit_at e.cpus c ≡ 1) (sym home) marked)
-    (subst (λ (c : ℕ). c < 64 → bit_at e.cpus c ≡ 1) (sym (stays ∙ home)) marked) bare)
-    (λ i h q. refl) are))
+turn_settled d e w places seats after tasks now p cpu f x touched h read home number stays step left_are is_touched passed bare rated sum limit are i few none =
+    elim (cases_eq i x.cpu) [
+      | inl here ↦
+          let mine : i ≡ cpu = here ∙ home in
+          let facts = by_touched touched is_touched (passed (subst (λ (n : ℕ). n < 64) mine few) (subst (λ (n : ℕ). bit_at e.cpus n ≡ 0) mine none)) in
+          let free : seat_of seats y ≡ None = (λ j. seat_by (number j) (get_or seats (stays j) None)) ∙ facts.0 in
+          let same : after ≡ seats = seats_are ∙ ap (left y.cpu y.number) (ap (left_if x.cpu seats) facts.0) ∙ ap (left_if y.cpu seats) free in
+          conclude (ap (λ (xs : List (Option Seat)). get_or xs i None) same) (elim facts.1 [
+            | inl e ↦ inl (ap (λ (ts : List Task). uinact i (shares ts)) now_is ∙ ap (uinact i) (map-set_same share_of tasks p y x (e ∙ ap share_of read)))
+            | inr z ↦ inr (subst (λ (n : ℕ). bit_at d.rated n ≡ 0) (sym mine) z)
+          ])
+      | inr other ↦
+          conclude
+          (ap (λ (xs : List (Option Seat)). get_or xs i None) seats_are
+          ∙ left_elsewhere y.cpu y.number i (left x.cpu x.number seats) (λ q. other (q ∙ stays))
+          ∙ left_elsewhere x.cpu x.number i seats other)
+          (inl (ap (λ (ts : List Task). uinact i (shares ts)) now_is ∙ uinact_set i tasks p x y h read (λ q. other (sym q)) (λ q. other (sym (sym stays ∙ q)))))
+    ]
+  where
+    y : Task
+    y = f x
+
+    now_is : now ≡ set tasks p y
+    now_is = step.is x ∙ ap (λ (t : Task). set tasks p (f t)) (sym read)
+
+    there : get_or now p x ≡ y
+    there = ap (λ (ts : List Task). get_or ts p x) now_is ∙ get_or-set_same tasks p y x h
+
+    seats_are : after ≡ left y.cpu y.number (left x.cpu x.number seats)
+    seats_are = left_are x ∙ (λ j. left_of (there j) (left_of ((sym read) j) seats))
+
+    by_touched : (k : Touched) → IsTouched k (seat_of seats x) (standing_of x) (standing_of y) → IsPassedBy k (bit_at d.rated cpu) → (seat_of seats x ≡ None) × ((share_of y ≡ share_of x) ⊎ (bit_at d.rated cpu ≡ 0))
+    by_touched Nothing t q =
+        let shares_same = t.1 in
+        (t.0, inl (λ j. record { cpu = stays j; bw = (sym shares_same.0) j; active = (sym shares_same.1) j }))
+    by_touched Sums t q = (t, inr q)
+    by_touched ASeat t q = absurd q
+
+    conclude : get_or after i None ≡ get_or seats i None → (uinact i (shares now) ≡ uinact i (shares tasks)) ⊎ (bit_at d.rated i ≡ 0) → IsSettled (occupant places i) (noted_basis e w now i) (get_or after i None) × IsFree (bit_at e.rated i) (get_or after i None)
+    conclude same either =
+        let was = are i few (bare i none) in (
+          subst (IsSettled (occupant places i) (noted_basis e w now i)) (sym same) (elim either [
+            | inl sums ↦
+                let basis : noted_basis d w tasks i ≡ noted_basis e w now i = λ j. record { uinact = (sym sums) j; sum = (sym sum) j; cpus = w; limit = (sym limit) j } in
+                subst (λ (b : Basis). IsSettled (occupant places i) b (get_or seats i None)) basis was.0
+            | inr nothing ↦ free_settled (occupant places i) (noted_basis d w tasks i) (noted_basis e w now i) (get_or seats i None) was.0 (was.1 nothing)
+          ]),
+          subst (IsFree (bit_at e.rated i)) (sym same) (subst (λ (n : ℕ). IsFree (bit_at n i) (get_or seats i None)) (sym rated) was.1),
+        )

@@ -1,17 +1,19 @@
 -- A change of one task of the list, where charges wait.
 use Rattle.std.proofs.Common.{◌≡◌, ◌≢◌, ℕ, ◌<◌, Option, List, length, map, get_or, set, sym, ap, ◌∙◌, subst, arith}
 use Rattle.std.specs.Prelude.{All, AllPairs}
-use Rattle.std.proofs.lemmas.List.{length-map}
+use Rattle.std.proofs.lemmas.List.{length-map, get_or_default, get_or-set_same}
 use Rattle.std.proofs.lemmas.List.Elements.{All-set}
 use Rattle.domain_run.specs.declared.task.Task.{Task}
 use Rattle.domain_run.specs.declared.change.Change.{Change}
 use Rattle.domain_run.specs.declared.seats.Seat.{Seat}
+use Rattle.domain_run.specs.declared.doubts.Touched.{Touched}
 use Rattle.domain_run.specs.declared.run_queue.RunQueue.{RunQueue}
 use Rattle.domain_run.specs.Sound.{IsSound}
 use Rattle.domain_run.specs.private.RunQueue.{standing_of, IsCounted, MayTurn, HasTurned}
 use Rattle.domain_run.specs.private.Roster.{after_change, Fits, MayMake}
+use Rattle.domain_run.specs.private.Doubts.{IsTouched}
 use Rattle.domain_run.specs.private.Seats.{SeatsView}
-use Rattle.domain_run.specs.private.Waiting.{owed, owed_all, left_of, WaitsIf, AllWait}
+use Rattle.domain_run.specs.private.Waiting.{owed, owed_all, left_of, seat_of, WaitsIf, AllWait}
 use Rattle.domain_run.specs.private.Timers.{IsStep}
 use Rattle.domain_run.proofs.Counting.{IsFit}
 use Rattle.domain_run.proofs.Making.{place_fit, place_may, place_counted}
@@ -84,3 +86,14 @@ module _ (w time : ℕ) (change : Change) (queue : RunQueue) (s : SeatsView) (ta
 
     pub wide_turned : length after.seats ≡ length s.seats
     wide_turned = ap (λ (v : SeatsView). length v.seats) are ∙ length_left y.cpu x.number (left_of x s.seats) ∙ length_left x.cpu x.number s.seats
+
+    -- the task at the place as it was kept, and as it is seen before and after
+    pub touched_turned : (touched : Touched) → IsTouched touched (seat_of s.seats x) (standing_of (owed s.upto s.seats x)) (standing_of y)
+        → (d : Task) → IsTouched touched (seat_of s.seats (get_or tasks p d)) (standing_of (get_or (owed_all s tasks) p d)) (standing_of (get_or (owed_all after (set tasks p y)) p d))
+    touched_turned touched is_touched d =
+        let kept : x ≡ get_or tasks p d = read ∙ get_or_default tasks p x d h in
+        let before : owed s.upto s.seats x ≡ get_or (owed_all s tasks) p d = read_seen ∙ get_or_default (owed_all s tasks) p seen d within in
+        let behind : y ≡ get_or (owed_all after (set tasks p y)) p d = sym (ap (λ (ts : List Task). get_or ts p d) view_is ∙ get_or-set_same (owed_all s tasks) p y d within) in
+        subst (λ (t : Task). IsTouched touched (seat_of s.seats (get_or tasks p d)) (standing_of (get_or (owed_all s tasks) p d)) (standing_of t)) behind
+        (subst (λ (t : Task). IsTouched touched (seat_of s.seats (get_or tasks p d)) (standing_of t) (standing_of y)) before
+        (subst (λ (t : Task). IsTouched touched (seat_of s.seats t) (standing_of (owed s.upto s.seats x)) (standing_of y)) kept is_touched))

@@ -3,6 +3,7 @@
 
 ghost use Rattle.std.specs.Prelude.{ℕ, ◌≡◌, ◌≢◌, ◌⊎◌, ◌<◌, ◌≤◌, IsTrue};
 ghost use Rattle.std.specs.Int.{bit_at};
+ghost use Rattle.domain_run.specs.private.Doubts as spec;
 
 use edf_pick::marks::{both, with, without};
 
@@ -19,6 +20,25 @@ pub(crate) struct Doubts {
     pub(crate) sum: u64,
     /// In 1/2^20 of a CPU.
     pub(crate) limit: u64,
+}
+
+/// What a change of a task touches on the CPU to which it belongs.
+#[derive(Clone, Copy, Debug, PartialEq, Eq)]
+pub(crate) enum Touched {
+    Nothing,
+    /// The sums of its bandwidth.
+    Sums,
+    /// Its seat, which it has left.
+    Seat,
+}
+
+/// Those marks of a word that are at this place.
+#[inline(always)]
+fn at(marks: u64, place: usize) -> u64
+    requires { place < 64 }
+    ensures { bit_at result place ≡ bit_at marks place }
+{
+    marks & (1 << place)
 }
 
 /// The first place with a mark; 64 where there is none.
@@ -70,6 +90,38 @@ impl Doubts {
     {
         if cpu < 64 {
             self.cpus = with(self.cpus, cpu);
+        }
+    }
+
+    /// A CPU whose seat keeps what its rate was worked out from is in doubt; one that no domain has is
+    /// not marked.
+    #[inline(always)]
+    fn mark_where_rated(&mut self, cpu: usize)
+        ensures free { cpu < 64 → bit_at self.new.cpus cpu ≡ 0 → bit_at self.old.rated cpu ≡ 0 }
+        ensures bare { (i : ℕ) → bit_at self.new.cpus i ≡ 0 → bit_at self.old.cpus i ≡ 0 }
+        ensures rated { self.new.rated ≡ self.old.rated }
+        ensures sum { self.new.sum ≡ self.old.sum }
+        ensures limit { self.new.limit ≡ self.old.limit }
+    {
+        if cpu < 64 {
+            self.cpus = both(self.cpus, at(self.rated, cpu));
+        }
+    }
+
+    /// A CPU is in doubt where a change of one of its tasks may have made a seat wrong.
+    #[inline(always)]
+    pub(crate) fn note(&mut self, cpu: usize, touched: Touched)
+        ensures here { cpu < 64 → bit_at self.new.cpus cpu ≡ 0
+            → spec.IsPassedBy touched (bit_at self.old.rated cpu) }
+        ensures bare { (i : ℕ) → bit_at self.new.cpus i ≡ 0 → bit_at self.old.cpus i ≡ 0 }
+        ensures rated { self.new.rated ≡ self.old.rated }
+        ensures sum { self.new.sum ≡ self.old.sum }
+        ensures limit { self.new.limit ≡ self.old.limit }
+    {
+        match touched {
+            Touched::Nothing => {}
+            Touched::Sums => self.mark_where_rated(cpu),
+            Touched::Seat => self.mark(cpu),
         }
     }
 

@@ -307,7 +307,7 @@ impl Roster {
             return;
         }
         let cpu = self.tasks[place].cpu;
-        turning::turn_task(
+        let touched = turning::turn_task(
             &mut self.tasks,
             &mut self.queue,
             &mut self.seats,
@@ -315,7 +315,7 @@ impl Roster {
             time,
             change,
         );
-        self.doubts.mark(cpu);
+        self.doubts.note(cpu, touched);
     }
 
     /// Changes the task of a number, where it is listed.

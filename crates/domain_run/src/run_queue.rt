@@ -2,7 +2,7 @@
 //! ready ones in the order of the choice with who stands on each CPU, and when each is due. So a tick
 //! neither sums nor sorts, and looks at those alone that are due or have changed.
 
-ghost use Rattle.std.specs.Prelude.{◌≡◌, ◌≢◌, ◌<◌, ◌≤◌, ◌+◌, ◌-◌, ◌^◌, ◌∷◌, [], None, length, not, replicate, All, IfOk, IfSome};
+ghost use Rattle.std.specs.Prelude.{◌≡◌, ◌≢◌, ◌<◌, ◌≤◌, ◌+◌, ◌-◌, ◌^◌, ◌∷◌, [], None, false, length, not, replicate, All, IfOk, IfSome};
 ghost use Rattle.edf_pick.specs.Schedule.{IsAtHome};
 ghost use Rattle.grub_rules.specs.Accounts.{Holds, Exchanges};
 ghost use Rattle.domain_run.specs.private.RunQueue as spec;
@@ -47,19 +47,25 @@ fn turn_active(accounts: &mut Accounts, cpu: usize, bw: u64, active: bool)
     }
 }
 
-// The sums are told of a share that has changed. Mostly it has not, which a look tells.
+// The sums are told of a share that has changed. Mostly it has not, which a look tells. Whether it
+// may have.
 #[inline(always)]
-fn track(accounts: &mut Accounts, cpu: usize, before: &Standing, after: &Standing)
+fn track(accounts: &mut Accounts, cpu: usize, before: &Standing, after: &Standing) -> bool
     requires held { Holds accounts.old (spec.share_on cpu before.now) }
     requires fits { accounts.old.total - before.now.bw + after.now.bw < 2 ^ 64 }
-    ensures { Exchanges accounts.old accounts.new
+    ensures sums { Exchanges accounts.old accounts.new
         (spec.share_on cpu before.now ∷ []) (spec.share_on cpu after.now ∷ []) }
+    ensures same { result ≡ false → spec.HaveSameShare before.now after.now }
 {
     if before.bw != after.bw {
         accounts.track(&share_on(cpu, before), &share_on(cpu, after));
-    } else if before.active != after.active {
-        turn_active(accounts, cpu, after.bw, after.active);
+        return true;
     }
+    if before.active == after.active {
+        return false;
+    }
+    turn_active(accounts, cpu, after.bw, after.active);
+    true
 }
 
 // A task that is ready by a deadline, as the choice sees it.
@@ -117,7 +123,7 @@ impl RunQueue {
     }
 
     /// The task at a place of the list, of a number, which belongs to a CPU, stood as `before`, and
-    /// stands as `after` now.
+    /// stands as `after` now. Whether the sums of the CPU may have changed.
     #[inline(always)]
     pub(crate) fn turn(
         &mut self,
@@ -126,11 +132,12 @@ impl RunQueue {
         cpu: usize,
         before: &Standing,
         after: &Standing,
-    )
+    ) -> bool
         requires { spec.MayTurn place number cpu self.old before.now after.now }
-        ensures { spec.HasTurned place number cpu before.now after.now self.old self.new }
+        ensures turned { spec.HasTurned place number cpu before.now after.now self.old self.new }
+        ensures same { result ≡ false → spec.HaveSameShare before.now after.now }
     {
-        track(&mut self.accounts, cpu, before, after);
+        let changed = track(&mut self.accounts, cpu, before, after);
         if before.ready != after.ready {
             take_out(&mut self.schedule, number, cpu, before.ready);
             take_in(&mut self.schedule, number, cpu, after.ready);
@@ -138,5 +145,6 @@ impl RunQueue {
         if before.due != after.due {
             self.timers.set(place, after.due);
         }
+        changed
     }
 }

@@ -4,6 +4,10 @@ use Rattle.std.specs.Int.{bit_at}
 use Rattle.grub_rules.specs.Sums.{uinact}
 use Rattle.edf_pick.specs.Places.{Places}
 use Rattle.domain_run.specs.declared.doubts.Doubts.{Doubts}
+use Rattle.domain_run.specs.declared.doubts.Touched.{Touched}
+use Rattle.domain_run.specs.declared.doubts.Touched.TheVariants.{Nothing, Sums, Seat as ASeat}
+use Rattle.domain_run.specs.declared.standing.Standing.{Standing}
+use Rattle.domain_run.specs.private.RunQueue.{HaveSameShare}
 use Rattle.domain_run.specs.declared.seats.Seat.{Seat}
 use Rattle.domain_run.specs.declared.seats.Basis.{Basis}
 use Rattle.domain_run.specs.declared.task.Task.{Task}
@@ -28,6 +32,18 @@ noted_basis d cpus tasks cpu = record {
 -- where its CPU has no mark, a seat keeps nothing of what its rate was worked out from
 abbrev pub IsFree : ℕ → Option Seat → Type 0
 IsFree mark o = mark ≡ 0 → IfSome o (λ s. s.basis ≡ None)
+
+-- a change of a task touches so much of its CPU: whether it sat there, and how it stood and stands
+abbrev pub IsTouched : Touched → Option Seat → Standing → Standing → Type 0
+IsTouched Nothing seat before after = (seat ≡ None) × HaveSameShare before after
+IsTouched Sums seat before after = seat ≡ None
+IsTouched ASeat seat before after = Unit {0}
+
+-- what may have been touched where the CPU is not in doubt behind that: what no mark tells of
+abbrev pub IsPassedBy : Touched → ℕ → Type 0
+IsPassedBy Nothing rated = Unit {0}
+IsPassedBy Sums rated = rated ≡ 0
+IsPassedBy ASeat rated = ⊥
 
 -- so it is on each CPU that is not in doubt
 abbrev pub AreSettled : Doubts → ℕ → Places → List (Option Seat) → List Task → Type 0

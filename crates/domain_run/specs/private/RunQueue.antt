@@ -29,6 +29,9 @@ standing_of t = record { bw = (share_of t).bw; active = (share_of t).active; rea
 abbrev pub share_on : ℕ → Standing → Share
 share_on cpu s = record { cpu = cpu; bw = s.bw; active = s.active }
 
+abbrev pub HaveSameShare : Standing → Standing → Type 0
+HaveSameShare before after = (before.bw ≡ after.bw) × (before.active ≡ after.active)
+
 -- what the choice sees of one of a number, which belongs to a CPU
 abbrev pub candidate : ℕ → ℕ → ℕ → Candidate
 candidate number cpu deadline = record { deadline = deadline; number = number; home = cpu }

@@ -69,7 +69,7 @@ fn start(task: &mut Task, accounts: &mut Accounts, seats: &mut Seats, cpu: usize
     } }
 {
     let (number, before) = (task.number, task.cpu);
-    settle(task, seats);
+    let _ = settle(task, seats);
     home(task, accounts, cpu);
     leave_other(seats, before, cpu, number);
 }

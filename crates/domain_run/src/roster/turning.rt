@@ -1,16 +1,20 @@
 //! A change of one listed task, of which the run queue is told. Before it changes it is charged what
 //! it owes, and leaves its seat.
 
-ghost use Rattle.std.specs.Prelude.{◌≡◌, ◌<◌, All, IfSome, None, Some, length, slice_index_or, vec_capacity};
+ghost use Rattle.std.specs.Prelude.{◌≡◌, ◌<◌, false, Option, All, IfSome, None, Some, length, slice_index_or, vec_capacity};
 ghost use Rattle.domain_run.specs.declared.task.Task.{Task};
 ghost use Rattle.domain_run.specs.Sound.{IsSound};
 ghost use Rattle.domain_run.specs.private.Roster.{after_change, MayMake, Fits};
+ghost use Rattle.domain_run.specs.declared.seats.Seat.{Seat};
+ghost use Rattle.domain_run.specs.declared.standing.Standing.{Standing};
+ghost use Rattle.domain_run.specs.private.Doubts.{IsTouched};
 ghost use Rattle.domain_run.specs.private.RunQueue as spec;
 ghost use Rattle.domain_run.specs.private.Seats as seats_spec;
 ghost use Rattle.domain_run.specs.private.Waiting as waiting;
 ghost use Rattle.domain_run.specs.private.Timers.{IsStep};
 
 use crate::change::{Change, make};
+use crate::doubts::Touched;
 use crate::run_queue::RunQueue;
 use crate::seats::{Seat, Seats};
 use crate::standing::standing_of;
@@ -28,28 +32,38 @@ pub(super) fn charge(task: &mut Task, seat: Seat, upto: u64)
     task.work -= ticks;
 }
 
-/// A task is charged what it owes, and leaves its seat. One that is not ready sits nowhere.
+/// A task is charged what it owes, and leaves its seat. One that is not ready sits nowhere. Whether it
+/// may have had one.
 #[inline(always)]
-pub(super) fn settle(task: &mut Task, seats: &mut Seats)
+pub(super) fn settle(task: &mut Task, seats: &mut Seats) -> bool
     requires { waiting.WaitsIf seats.old.seats task.old }
+    ensures sat { result ≡ false → waiting.seat_of seats.old.seats task.old ≡ None }
     ensures task { task.new ≡ waiting.owed seats.old.upto seats.old.seats task.old }
     ensures seats { seats.new ≡ record seats.old {
       seats = seats_spec.left task.old.cpu task.old.number seats.old.seats;
     } }
 {
     if !task.condition.is_ready() {
-        return;
+        return false;
     }
     let cpu = task.cpu;
-    if let Some(seat) = seats.seat_of(cpu, task.number) {
-        charge(task, seat, seats.upto());
-        seats.set(cpu, None);
-    }
+    let Some(seat) = seats.seat_of(cpu, task.number) else {
+        return false;
+    };
+    charge(task, seat, seats.upto());
+    seats.set(cpu, None);
+    true
 }
 
-/// Makes a change of a task, and tells the run queue.
+/// Makes a change of a task, and tells the run queue. Whether the sums of its CPU may have changed.
 #[inline(always)]
-fn turn_settled(task: &mut Task, queue: &mut RunQueue, place: usize, time: u64, change: &Change)
+fn turn_settled(
+    task: &mut Task,
+    queue: &mut RunQueue,
+    place: usize,
+    time: u64,
+    change: &Change,
+) -> bool
     requires sound { IsSound time task.old }
     requires may { MayMake time change.now task.old }
     requires turns { spec.MayTurn place task.old.number task.old.cpu queue.old
@@ -59,10 +73,28 @@ fn turn_settled(task: &mut Task, queue: &mut RunQueue, place: usize, time: u64, 
     ensures sound { IsSound time task.new }
     ensures turned { spec.HasTurned place task.old.number task.old.cpu
         (spec.standing_of task.old) (spec.standing_of task.new) queue.old queue.new }
+    ensures same { result ≡ false
+        → spec.HaveSameShare (spec.standing_of task.old) (spec.standing_of task.new) }
 {
     let (number, cpu) = (task.number, task.cpu);
-    if let Some(before) = make(task, time, change) {
-        queue.turn(place, number, cpu, &before, &standing_of(task));
+    match make(task, time, change) {
+        None => false,
+        Some(before) => queue.turn(place, number, cpu, &before, &standing_of(task)),
+    }
+}
+
+/// What a change of a task has touched, that sat or did not, and changed the sums or did not.
+#[inline(always)]
+fn touched(sat: bool, changed: bool) -> Touched
+    ensures { (seat : Option Seat) (before after : Standing) → (sat ≡ false → seat ≡ None)
+        → (changed ≡ false → spec.HaveSameShare before after) → IsTouched result seat before after }
+{
+    if sat {
+        Touched::Seat
+    } else if changed {
+        Touched::Sums
+    } else {
+        Touched::Nothing
     }
 }
 
@@ -78,7 +110,7 @@ pub(super) fn leave_other(seats: &mut Seats, left: usize, cpu: usize, number: u3
 }
 
 /// Makes a change of a task as it is once it is charged. On the CPU to which it belongs, and belongs
-/// still, it has no seat then.
+/// still, it has no seat then. What that has touched there.
 #[inline(always)]
 fn turn_one(
     task: &mut Task,
@@ -87,7 +119,7 @@ fn turn_one(
     place: usize,
     time: u64,
     change: &Change,
-)
+) -> Touched
     requires waits { waiting.WaitsIf seats.old.seats task.old }
     requires sound { IsSound time (waiting.owed seats.old.upto seats.old.seats task.old) }
     requires may { MayMake time change.now
@@ -109,12 +141,16 @@ fn turn_one(
     ensures seats { seats.new ≡ record seats.old {
       seats = seats_spec.left task.old.cpu task.old.number seats.old.seats;
     } }
+    ensures touched { IsTouched result (waiting.seat_of seats.old.seats task.old)
+        (spec.standing_of (waiting.owed seats.old.upto seats.old.seats task.old))
+        (spec.standing_of task.new) }
 {
-    settle(task, seats);
-    turn_settled(task, queue, place, time, change);
+    let sat = settle(task, seats);
+    let changed = turn_settled(task, queue, place, time, change);
+    touched(sat, changed)
 }
 
-/// Changes the task at a place of the list.
+/// Changes the task at a place of the list. What that has touched on its CPU.
 #[inline(always)]
 pub(super) fn turn_task(
     tasks: &mut Vec<Task>,
@@ -123,7 +159,7 @@ pub(super) fn turn_task(
     place: usize,
     time: u64,
     change: &Change,
-)
+) -> Touched
     requires there { place < length tasks.old.items }
     requires fits { Fits (length queue.old.accounts.all) change.now }
     requires waits { waiting.AllWait seats.old.seats tasks.old.items }
@@ -147,6 +183,12 @@ pub(super) fn turn_task(
     ensures clock { seats.new.upto ≡ seats.old.upto }
     ensures wide { length seats.new.seats ≡ length seats.old.seats }
     ensures room { vec_capacity tasks.new ≡ vec_capacity tasks.old }
+    ensures touched { (d : Task) → IsTouched result
+        (waiting.seat_of seats.old.seats (slice_index_or tasks.old.items place d))
+        (spec.standing_of
+        (slice_index_or (waiting.owed_all seats.old tasks.old.items) place d))
+        (spec.standing_of
+        (slice_index_or (waiting.owed_all seats.new tasks.new.items) place d)) }
 {
-    turn_one(&mut tasks[place], queue, seats, place, time, change);
+    turn_one(&mut tasks[place], queue, seats, place, time, change)
 }

@@ -1,6 +1,6 @@
 use Rattle.std.proofs.Common.{length, ap}
 use Rattle.domain_run.specs.private.Seats.{SeatsView}
-use Rattle.domain_run.proofs.Turning.{waits_at, sound_at, may_at, turns_at, step_turned, sound_turned, counted_turned, waits_turned, seats_turned, wide_turned}
+use Rattle.domain_run.proofs.Turning.{waits_at, sound_at, may_at, turns_at, step_turned, sound_turned, counted_turned, waits_turned, seats_turned, touched_turned, wide_turned}
 use Rattle.domain_run.proofs.roster.turning.turn_task.Goals as goal
 
 pub turn_one-requires-clause-waits : goal.turn_one-requires-clause-waits
@@ -35,3 +35,6 @@ returns-clause-wide c = wide_turned (length c.args.queue.now.accounts.all) c.arg
 
 pub returns-clause-clock : goal.returns-clause-clock
 returns-clause-clock c = ap (λ (v : SeatsView). v.upto) c.turn_one.ensures.seats
+
+pub returns-clause-touched : goal.returns-clause-touched
+returns-clause-touched c = touched_turned (length c.args.queue.now.accounts.all) c.args.time c.args.change.now c.args.queue.now c.args.seats.now c.args.tasks.now.items c.args.place c.index_mut.result.now c.requires.there c.index_mut.ensures.value c.requires.fits c.requires.counted c.turn_one.new.queue c.turn_one.new.seats c.turn_one.new.task c.turn_one.ensures.task c.turn_one.ensures.seats c.turn_one.result c.turn_one.ensures.touched
