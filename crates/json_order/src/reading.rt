@@ -103,13 +103,23 @@ fn read_through(
     while let Some(c) = chars.next() {
         let rest = chars.as_str();
         match turn(alloc, place, stack, c) {
-            Ok(()) => match take_run(alloc, place, stack, rest) {
-                Ok(after) => chars = after.chars(),
-                Err(kind) => return Err(fault_at(kind, 0)),
-            },
+            Ok(()) => {}
             Err(kind) => {
                 let at = text.len() - rest.len() - c.len_utf8();
                 return Err(fault_at(kind, at));
+            }
+        }
+        let mut left = rest;
+        loop {
+            match take_run(alloc, place, stack, left) {
+                Ok(after) => {
+                    if after.len() >= left.len() {
+                        chars = after.chars();
+                        break;
+                    }
+                    left = after;
+                }
+                Err(kind) => return Err(fault_at(kind, 0)),
             }
         }
     }

@@ -33,7 +33,7 @@ fn is_space(c: char) -> bool
 const NUMBER_ROOM: usize = 24;
 
 /// A number's text, of one ASCII character so far.
-fn one(alloc: Global, c: char) -> Result<String, JsonKind>
+pub(crate) fn one(alloc: Global, c: char) -> Result<String, JsonKind>
     requires { c < 128 }
     ensures ok { IfOk result (λ s. string_bytes s ≡ c ∷ []) }
     ensures err { IfErr result (λ k. k ≡ Memory) }
@@ -107,7 +107,7 @@ fn object_of(list: Vec<(String, Tree)>) -> Tree
 
 /// The object of these members and a last one.
 #[inline(always)]
-fn whole_object(members: Members, key: String, value: Tree) -> Result<Tree, JsonKind>
+pub(crate) fn whole_object(members: Members, key: String, value: Tree) -> Result<Tree, JsonKind>
     ensures ok { IfOk result (λ t. json_of t ≡ object (members_with
         (entries_of (members.list.items ++ (key, value) ∷ [])) no_members)) }
     ensures err { IfErr result (λ k. k ≡ Memory) }
@@ -158,7 +158,7 @@ fn push_member(place: &mut Place, stack: &mut Vec<Frame>, value: Tree) -> Result
 
 /// The list of these items and a last one.
 #[inline(always)]
-fn whole_list(mut items: Vec<Tree>, value: Tree) -> Result<Tree, JsonKind>
+pub(crate) fn whole_list(mut items: Vec<Tree>, value: Tree) -> Result<Tree, JsonKind>
     ensures ok { IfOk result (λ t. json_of t ≡ array (items_with
         (map json_of items.items ++ json_of value ∷ []) no_items)) }
     ensures err { IfErr result (λ k. k ≡ Memory) }
@@ -169,7 +169,7 @@ fn whole_list(mut items: Vec<Tree>, value: Tree) -> Result<Tree, JsonKind>
 
 /// Behind a value and its white space.
 #[inline(always)]
-fn next_step(
+pub(crate) fn next_step(
     place: &mut Place,
     stack: &mut Vec<Frame>,
     value: Tree,
