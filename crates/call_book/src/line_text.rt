@@ -4,7 +4,7 @@ ghost use Rattle.call_book.specs.private.Reading.{Gives, field_at, name_at, time
 use crate::cut::cut;
 use crate::fault::PartFault;
 use crate::header::is_later;
-use crate::number::number_within;
+use crate::number::{number_first, number_within};
 use crate::script_text::script_of;
 use crate::times::Times;
 use attr_check::{Params, SchedAttr, check};
@@ -36,11 +36,10 @@ fn field(text: &[u8], least: u64, most: u64) -> Result<(u64, &[u8]), PartFault>
     ensures gives { Gives (λ p. (p.0, p.1.now)) result (field_at least most text.now) }
     ensures within { IfOk result (λ p. (least ≤ p.0) × (p.0 ≤ most)) }
 {
-    let Some((digits, rest)) = cut(text, b' ') else {
-        return Err(PartFault::Bad);
-    };
-    let n = number_within(digits, least, most)?;
-    Ok((n, rest))
+    match number_first(text, least, most)? {
+        (n, [b' ', rest @ ..]) => Ok((n, rest)),
+        _ => Err(PartFault::Bad),
+    }
 }
 
 /// The name that a text is.
@@ -91,6 +90,15 @@ fn reclaim_of(flag: &[u8]) -> Result<bool, PartFault>
     Err(PartFault::Bad)
 }
 
+/// The same, up to the next space, and what follows.
+fn reclaim_first(text: &[u8]) -> Result<(bool, &[u8]), PartFault> {
+    match text {
+        [b'R', b' ', rest @ ..] => Ok((true, rest)),
+        [b'-', b' ', rest @ ..] => Ok((false, rest)),
+        _ => Err(PartFault::Bad),
+    }
+}
+
 /// The parameters that these times give to a task that reclaims or does not.
 #[tactic(auto, unfolding(crate::specs::private::Reading::params_at))]
 fn params_of(times: Times, reclaim: bool) -> Result<Params, PartFault>
@@ -138,10 +146,8 @@ fn newcomer_of(alloc: Global, text: &[u8]) -> Result<(Newcomer, &[u8]), PartFaul
     };
     let name = name_of(alloc, name)?;
     let (times, rest) = times_of(rest)?;
-    let Some((flag, rest)) = cut(rest, b' ') else {
-        return Err(PartFault::Bad);
-    };
-    let params = params_of(times, reclaim_of(flag)?)?;
+    let (reclaim, rest) = reclaim_first(rest)?;
+    let params = params_of(times, reclaim)?;
     let newcomer = Newcomer {
         number: number as u32,
         name,
@@ -197,14 +203,10 @@ fn arrive_of(alloc: Global, text: &[u8]) -> Result<Call, PartFault>
 fn seen_of(text: &[u8]) -> Result<u64, PartFault>
     ensures { Gives (λ n. n) result (seen_at text.now) }
 {
-    let Some((word, rest)) = cut(text, b' ') else {
-        return Err(PartFault::Bad);
-    };
-    let seen = number_within(rest, 0, MOST_WORD)?;
-    if word != b"busy".as_slice() {
-        return Err(PartFault::Bad);
+    match text {
+        [b'b', b'u', b's', b'y', b' ', digits @ ..] => number_within(digits, 0, MOST_WORD),
+        _ => Err(PartFault::Bad),
     }
-    Ok(seen)
 }
 
 /// Whether the task of a `regrade` line reclaims, and with what the bandwidth word refused, where
@@ -213,13 +215,13 @@ fn seen_of(text: &[u8]) -> Result<u64, PartFault>
 fn answer_of(text: &[u8]) -> Result<(bool, Option<u64>), PartFault>
     ensures { Gives (λ p. p) result (answer_at text.now) }
 {
-    let Some((flag, rest)) = cut(text, b' ') else {
-        let reclaim = reclaim_of(text)?;
-        return Ok((reclaim, None));
-    };
-    let reclaim = reclaim_of(flag)?;
-    let seen = seen_of(rest)?;
-    Ok((reclaim, Some(seen)))
+    match text {
+        [_] => Ok((reclaim_of(text)?, None)),
+        _ => {
+            let (reclaim, rest) = reclaim_first(text)?;
+            Ok((reclaim, Some(seen_of(rest)?)))
+        }
+    }
 }
 
 /// What follows the client in a `regrade` line.
@@ -297,36 +299,46 @@ fn limit_of(text: &[u8]) -> Result<Call, PartFault>
     Ok(Call::Limit { limit, word })
 }
 
+/// The word at the front of a call's line.
+#[derive(Clone, Copy)]
+enum Word {
+    Admit,
+    Regrade,
+    Wake,
+    Leave,
+    Advance,
+    Limit,
+    Depart,
+    Arrive,
+}
+
+/// The word up to the first space, and what follows.
+fn word_first(line: &[u8]) -> Result<(Word, &[u8]), PartFault> {
+    match line {
+        [b'a', b'd', b'v', b'a', b'n', b'c', b'e', b' ', rest @ ..] => Ok((Word::Advance, rest)),
+        [b'a', b'd', b'm', b'i', b't', b' ', rest @ ..] => Ok((Word::Admit, rest)),
+        [b'a', b'r', b'r', b'i', b'v', b'e', b' ', rest @ ..] => Ok((Word::Arrive, rest)),
+        [b'w', b'a', b'k', b'e', b' ', rest @ ..] => Ok((Word::Wake, rest)),
+        [b'l', b'e', b'a', b'v', b'e', b' ', rest @ ..] => Ok((Word::Leave, rest)),
+        [b'l', b'i', b'm', b'i', b't', b' ', rest @ ..] => Ok((Word::Limit, rest)),
+        [b'r', b'e', b'g', b'r', b'a', b'd', b'e', b' ', rest @ ..] => Ok((Word::Regrade, rest)),
+        [b'd', b'e', b'p', b'a', b'r', b't', b' ', rest @ ..] => Ok((Word::Depart, rest)),
+        _ => Err(PartFault::Bad),
+    }
+}
+
 /// What follows the client in a line of this word.
-#[tactic(auto, unfolding(crate::specs::private::Reading::worded_at))]
-fn worded(alloc: Global, word: &[u8], text: &[u8]) -> Result<Call, PartFault>
-    ensures { Gives (λ c. c) result (worded_at word.now text.now) }
-{
-    if word == b"admit".as_slice() {
-        return admit_of(alloc, text);
+fn worded(alloc: Global, word: Word, text: &[u8]) -> Result<Call, PartFault> {
+    match word {
+        Word::Admit => admit_of(alloc, text),
+        Word::Regrade => regrade_of(text),
+        Word::Wake => wake_of(text),
+        Word::Leave => leave_of(text),
+        Word::Advance => advance_of(text),
+        Word::Limit => limit_of(text),
+        Word::Depart => depart_of(text),
+        Word::Arrive => arrive_of(alloc, text),
     }
-    if word == b"regrade".as_slice() {
-        return regrade_of(text);
-    }
-    if word == b"wake".as_slice() {
-        return wake_of(text);
-    }
-    if word == b"leave".as_slice() {
-        return leave_of(text);
-    }
-    if word == b"advance".as_slice() {
-        return advance_of(text);
-    }
-    if word == b"limit".as_slice() {
-        return limit_of(text);
-    }
-    if word == b"depart".as_slice() {
-        return depart_of(text);
-    }
-    if word == b"arrive".as_slice() {
-        return arrive_of(alloc, text);
-    }
-    Err(PartFault::Bad)
 }
 
 /// The client and the call that a line spells.
@@ -335,9 +347,7 @@ fn call_of(alloc: Global, line: &[u8]) -> Result<(u32, Call), PartFault>
     ensures gives { Gives (λ p. p) result (call_at line.now) }
     ensures within { IfOk result (λ p. (1 ≤ p.0) × (p.0 ≤ 64)) }
 {
-    let Some((word, rest)) = cut(line, b' ') else {
-        return Err(PartFault::Bad);
-    };
+    let (word, rest) = word_first(line)?;
     let (client, rest) = field(rest, 1, MOST_CLIENT)?;
     let call = worded(alloc, word, rest)?;
     Ok((client as u32, call))

@@ -33,3 +33,23 @@ pub(crate) fn number_within(text: &[u8], least: u64, most: u64) -> Result<u64, P
     }
     Ok(n)
 }
+
+/// The number at the front of a text, from `least` to `most`, and what follows its last digit.
+pub(crate) fn number_first(text: &[u8], least: u64, most: u64) -> Result<(u64, &[u8]), PartFault> {
+    let mut n: u64 = 0;
+    let mut count: usize = 0;
+    for b in text {
+        if !b.is_ascii_digit() {
+            break;
+        }
+        n = n * 10 + u64::from(*b - b'0');
+        if n > most {
+            return Err(PartFault::Bad);
+        }
+        count += 1;
+    }
+    if n < least || count == 0 || count > 19 || (count > 1 && text[0] == b'0') {
+        return Err(PartFault::Bad);
+    }
+    Ok((n, &text[count..]))
+}
