@@ -44,18 +44,12 @@ fn field(text: &[u8], least: u64, most: u64) -> Result<(u64, &[u8]), PartFault>
 
 /// The name that a text is.
 #[tactic(auto, unfolding(crate::specs::private::Reading::name_at))]
-fn name_of(alloc: Global, text: &[u8]) -> Result<Name, PartFault>
+fn name_of(text: &[u8]) -> Result<Name, PartFault>
     ensures { Gives (λ n. n) result (name_at text.now) }
 {
-    if text.len() > 15 {
-        return Err(PartFault::Bad);
-    }
-    let Ok(text) = str::from_utf8(text) else {
-        return Err(PartFault::Bad);
-    };
-    match Name::new(String::from_str(alloc, text)?) {
-        Ok(name) => Ok(name),
-        Err(_) => Err(PartFault::Bad),
+    match Name::of(text) {
+        Some(name) => Ok(name),
+        None => Err(PartFault::Bad),
     }
 }
 
@@ -137,14 +131,14 @@ pub(crate) struct Newcomer {
 
 /// The number, the name and the parameters of a task that comes, and what follows.
 #[tactic(auto, unfolding(crate::specs::private::Reading::newcomer_at))]
-fn newcomer_of(alloc: Global, text: &[u8]) -> Result<(Newcomer, &[u8]), PartFault>
+fn newcomer_of(text: &[u8]) -> Result<(Newcomer, &[u8]), PartFault>
     ensures { Gives (λ p. (p.0, p.1.now)) result (newcomer_at text.now) }
 {
     let (number, rest) = field(text, 1, MOST_NUMBER)?;
     let Some((name, rest)) = cut(rest, b' ') else {
         return Err(PartFault::Bad);
     };
-    let name = name_of(alloc, name)?;
+    let name = name_of(name)?;
     let (times, rest) = times_of(rest)?;
     let (reclaim, rest) = reclaim_first(rest)?;
     let params = params_of(times, reclaim)?;
@@ -161,7 +155,7 @@ fn newcomer_of(alloc: Global, text: &[u8]) -> Result<(Newcomer, &[u8]), PartFaul
 fn admit_of(alloc: Global, text: &[u8]) -> Result<Call, PartFault>
     ensures { Gives (λ c. c) result (admit_at text.now) }
 {
-    let (newcomer, rest) = newcomer_of(alloc, text)?;
+    let (newcomer, rest) = newcomer_of(text)?;
     let Newcomer {
         number,
         name,
@@ -182,7 +176,7 @@ fn admit_of(alloc: Global, text: &[u8]) -> Result<Call, PartFault>
 fn arrive_of(alloc: Global, text: &[u8]) -> Result<Call, PartFault>
     ensures { Gives (λ c. c) result (arrive_at text.now) }
 {
-    let (newcomer, rest) = newcomer_of(alloc, text)?;
+    let (newcomer, rest) = newcomer_of(text)?;
     let Newcomer {
         number,
         name,

@@ -122,7 +122,7 @@ fn put_named(out: &mut Vec<u8>, name: &Name, params: &Params) -> Result<(), NoMe
         ≡ out.old.items ++ 32 ∷ (name.now ++ 32 ∷ params_text params.now)) }
 {
     put(out, b" ")?;
-    put(out, name.as_str().as_bytes())?;
+    put(out, name.as_bytes())?;
     put_params(out, params)
 }
 

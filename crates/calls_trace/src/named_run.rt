@@ -140,9 +140,8 @@ impl RunWithNames {
         ensures time { OnOk result (self.new.state.time ≡ self.old.state.time) }
         ensures log { self.new.log ≡ self.old.log }
     {
-        let text = text_of(alloc, &name)?;
         match self.state.admit(number, name, params, delay, script) {
-            Ok(()) => self.know(number, text, params),
+            Ok(()) => self.know(number, text_of(alloc, &name)?, params),
             Err(_) => Ok(()),
         }
     }
@@ -263,7 +262,7 @@ fn run_entries(
     alloc: Global,
     cpus: u32,
     limit: u64,
-    mut entries: Vec<Entry>,
+    entries: Vec<Entry>,
     wanted: bool,
 ) -> Result<RunWithNames, NoMemory>
     requires cpus { (0 < cpus) × (cpus ≤ 64) }
@@ -276,8 +275,8 @@ fn run_entries(
         IsToldOf wanted (section_view cpus limit entries.items) r.given r.log) }
 {
     let mut run = RunWithNames::open(alloc, cpus, limit, wanted)?;
-    entries.reverse();
-    while let Some(entry) = entries.pop() {
+    let mut rest = entries.into_iter();
+    while let Some(entry) = rest.next() {
         run.make(alloc, entry.call)?;
     }
     Ok(run)

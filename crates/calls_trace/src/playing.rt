@@ -89,7 +89,7 @@ impl NamedDomain {
         ensures room { spare self.old.names ≤ spare self.new.names + 1 }
     {
         // For the prover alone: a look at a name brings what every name keeps.
-        let _ = name.as_str();
+        let _ = name.as_bytes();
         match self.domain.admit(number, name, params, delay, script) {
             Ok(()) => self.put(number, text),
             Err(_) => {}

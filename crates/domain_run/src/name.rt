@@ -2,25 +2,14 @@ ghost use Rattle.std.specs.Prelude.{◌≡◌, IsOk, IsTrue, All, ◌↔◌, Mat
 ghost use Rattle.std.specs.String.{string_bytes};
 ghost use Rattle.domain_run.specs.NameView.{IsName, IsNameByte};
 
-use std::marker::Model;
-
 /// The name of a task: 1 to 15 bytes of codes 0x21 to 0x7e, as the kernel's comm without spaces
 /// (own).
-#[derive(Debug, Drop)]
+#[derive(Clone, Copy, Debug)]
 pub struct Name {
-    text: String,
-}
-
-impl Model for Name {
-    ghost use Rattle.std.specs.Prelude.{ℕ, List};
-    ghost use Rattle.std.specs.String.{string_bytes};
-    ghost use Rattle.domain_run.specs.NameView.{IsName};
-
-    ghost Value = { List ℕ };
-
-    ghost view = { λ n. string_bytes n.text };
-
-    ghost invariant = { λ n. IsName (string_bytes n.text) };
+    /// The bytes of the name, and zeros behind them.
+    bytes: [u8; 15],
+    /// How many they are, 1 to 15.
+    len: u8,
 }
 
 fn all_name_bytes(bytes: &[u8]) -> bool
@@ -38,31 +27,37 @@ fn is_name(bytes: &[u8]) -> bool
 impl Name {
     /// The text as a name, or the text back where it is not 1 to 15 bytes of codes 0x21 to 0x7e.
     /// Takes no memory.
-    pub fn new(text: String) -> Result<Name, String>
-        ensures named { IsOk result ↔ IsName (string_bytes text) }
-        ensures value { MatchResult result
-            (λ name. name ≡ string_bytes text) (λ back. back ≡ text) }
-    {
-        if is_name(text.as_bytes()) {
-            Ok(Name { text })
-        } else {
-            Err(text)
+    pub fn new(text: String) -> Result<Name, String> {
+        match Name::of(text.as_bytes()) {
+            Some(name) => Ok(name),
+            None => Err(text),
         }
     }
 
-    /// The bytes of the name.
-    pub fn as_str(&self) -> &str
-        ensures text { result.now ≡ self.now }
-        ensures name { IsName self.now }
-    {
-        self.text.as_str()
+    /// These bytes as a name; none where they are not 1 to 15, of codes 0x21 to 0x7e. Takes no
+    /// memory.
+    pub fn of(text: &[u8]) -> Option<Name> {
+        if !is_name(text) {
+            return None;
+        }
+        let mut bytes = [0u8; 15];
+        bytes[..text.len()].copy_from_slice(text);
+        Some(Name {
+            bytes,
+            len: text.len() as u8,
+        })
     }
 
-    /// The name as a string.
-    pub fn into_string(self) -> String
-        ensures { string_bytes result ≡ self }
-    {
-        let Name { text } = self;
-        text
+    /// The bytes of the name.
+    pub fn as_bytes(&self) -> &[u8] {
+        &self.bytes[..self.len as usize]
+    }
+
+    /// The bytes of the name.
+    pub fn as_str(&self) -> &str {
+        match str::from_utf8(self.as_bytes()) {
+            Ok(text) => text,
+            Err(_) => unreachable!(),
+        }
     }
 }

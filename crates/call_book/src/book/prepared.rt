@@ -102,24 +102,7 @@ fn copies_of(alloc: Global, name: &Name, script: &Script) -> Result<(Name, Scrip
     ensures name { IfOk result (λ p. p.0 ≡ name.now) }
     ensures script { IfOk result (λ p. p.1 ≡ script.now) }
 {
-    let name = copy_of_name(alloc, name)?;
-    match copy_of_script(alloc, script) {
-        Ok(script) => Ok((name, script)),
-        Err(NoMemory) => {
-            drop(name);
-            Err(NoMemory)
-        }
-    }
-}
-
-fn copy_of_name(alloc: Global, name: &Name) -> Result<Name, NoMemory>
-    ensures { IfOk result (λ n. n ≡ name.now) }
-{
-    let text = String::from_str(alloc, name.as_str())?;
-    match Name::new(text) {
-        Ok(name) => Ok(name),
-        Err(_) => unreachable!(),
-    }
+    Ok((*name, copy_of_script(alloc, script)?))
 }
 
 fn copies_of_phases(alloc: Global, phases: &[Phase]) -> Result<Vec<Phase>, NoMemory>

@@ -56,7 +56,7 @@ pub(super) fn same_script(a: &Script, b: &Script) -> bool
 pub(super) fn same_name(a: &Name, b: &Name) -> bool
     ensures { IsTrue result ↔ (a.now ≡ b.now) }
 {
-    a.as_str().as_bytes() == b.as_str().as_bytes()
+    a.as_bytes() == b.as_bytes()
 }
 
 /// Whether the parameters are the same.

@@ -34,7 +34,7 @@ fn taken_along(task: &Task) -> (&Name, &Params, &Script)
     let params = &task.params;
     let script = task.cursor.script();
     // For the prover alone: a look into each brings what its type keeps.
-    let _ = name.as_str();
+    let _ = name.as_bytes();
     let _ = runtime_of(params);
     let _ = script.phases();
     (name, params, script)
