@@ -4,7 +4,7 @@ ghost use Rattle.call_book.specs.private.Reading.{Gives, field_at, name_at, time
 use crate::cut::cut;
 use crate::fault::PartFault;
 use crate::header::is_later;
-use crate::number::{number_first, number_within};
+use crate::number::{number_to, number_within};
 use crate::script_text::script_of;
 use crate::times::Times;
 use attr_check::{Params, SchedAttr, check};
@@ -36,10 +36,7 @@ fn field(text: &[u8], least: u64, most: u64) -> Result<(u64, &[u8]), PartFault>
     ensures gives { Gives (λ p. (p.0, p.1.now)) result (field_at least most text.now) }
     ensures within { IfOk result (λ p. (least ≤ p.0) × (p.0 ≤ most)) }
 {
-    match number_first(text, least, most)? {
-        (n, [b' ', rest @ ..]) => Ok((n, rest)),
-        _ => Err(PartFault::Bad),
-    }
+    number_to(text, b' ', least, most)
 }
 
 /// The name that a text is.

@@ -53,3 +53,18 @@ pub(crate) fn number_first(text: &[u8], least: u64, most: u64) -> Result<(u64, &
     }
     Ok((n, &text[count..]))
 }
+
+/// The number up to the next byte of this code, which is no digit's, from `least` to `most`, and
+/// what follows.
+pub(crate) fn number_to(
+    text: &[u8],
+    end: u8,
+    least: u64,
+    most: u64,
+) -> Result<(u64, &[u8]), PartFault> {
+    let (n, rest) = number_first(text, least, most)?;
+    match rest {
+        [b, after @ ..] if *b == end => Ok((n, after)),
+        _ => Err(PartFault::Bad),
+    }
+}

@@ -5,7 +5,7 @@ ghost use Rattle.call_book.specs.private.Reading.{Gives, event_at, event_first_a
 
 use crate::cut::cut;
 use crate::fault::PartFault;
-use crate::number::number_within;
+use crate::number::{number_first, number_to};
 use domain_run::{Event, Phase, Script};
 use std::alloc::Global;
 
@@ -17,16 +17,22 @@ const MOST_ITEMS: u64 = 64;
 /// Room for so many events, and so many phases, is taken at first: most have no more.
 const ROOM: usize = 2;
 
-/// `rN`, `sN`, `tN` or `w`.
-#[tactic(auto, unfolding(crate::specs::private::Reading::event_at))]
-fn event_of(text: &[u8]) -> Result<Event, PartFault>
-    ensures { Gives (λ e. e) result (event_at text.now) }
-{
+/// `rN`, `sN`, `tN` or `w` at the front of a text, and what follows.
+fn event_front(text: &[u8]) -> Result<(Event, &[u8]), PartFault> {
     match text {
-        [b'r', digits @ ..] => Ok(Event::Run(number_within(digits, 1, MOST)?)),
-        [b's', digits @ ..] => Ok(Event::Sleep(number_within(digits, 1, MOST)?)),
-        [b't', digits @ ..] => Ok(Event::Timer(number_within(digits, 1, MOST)?)),
-        [b'w'] => Ok(Event::Wait),
+        [b'r', digits @ ..] => {
+            let (n, rest) = number_first(digits, 1, MOST)?;
+            Ok((Event::Run(n), rest))
+        }
+        [b's', digits @ ..] => {
+            let (n, rest) = number_first(digits, 1, MOST)?;
+            Ok((Event::Sleep(n), rest))
+        }
+        [b't', digits @ ..] => {
+            let (n, rest) = number_first(digits, 1, MOST)?;
+            Ok((Event::Timer(n), rest))
+        }
+        [b'w', rest @ ..] => Ok((Event::Wait, rest)),
         _ => Err(PartFault::Bad),
     }
 }
@@ -36,9 +42,10 @@ fn event_of(text: &[u8]) -> Result<Event, PartFault>
 fn event_first(text: &[u8]) -> Result<(Event, Option<&[u8]>), PartFault>
     ensures { Gives (λ p. (p.0, option_map (λ r. r.now) p.1)) result (event_first_at text.now) }
 {
-    match cut(text, b',') {
-        None => Ok((event_of(text)?, None)),
-        Some((first, after)) => Ok((event_of(first)?, Some(after))),
+    match event_front(text)? {
+        (event, []) => Ok((event, None)),
+        (event, [b',', after @ ..]) => Ok((event, Some(after))),
+        _ => Err(PartFault::Bad),
     }
 }
 
@@ -64,10 +71,7 @@ fn events_of(alloc: Global, text: &[u8]) -> Result<Vec<Event>, PartFault>
 fn phase_of(alloc: Global, text: &[u8]) -> Result<Phase, PartFault>
     ensures { Gives (λ p. p) result (phase_at text.now) }
 {
-    let Some((count, events)) = cut(text, b'{') else {
-        return Err(PartFault::Bad);
-    };
-    let count = number_within(count, 1, MOST)?;
+    let (count, events) = number_to(text, b'{', 1, MOST)?;
     let events = events_of(alloc, events)?;
     Ok(Phase { count, events })
 }
@@ -105,16 +109,13 @@ fn phases_of(alloc: Global, text: &[u8]) -> Result<Vec<Phase>, PartFault>
     Err(PartFault::Bad)
 }
 
-/// The loop count of a script: -1, or 1 to 10^9.
-#[tactic(auto, unfolding(crate::specs::private::Reading::rounds_at))]
-fn loops_of(text: &[u8]) -> Result<i64, PartFault>
-    ensures gives { Gives rounds_of result (rounds_at text.now) }
-    ensures within { IfOk result IsLoops }
-{
-    if text == b"-1".as_slice() {
-        return Ok(-1);
+/// The loop count of a script, -1 or 1 to 10^9, up to the colon, and what follows.
+fn loops_first(text: &[u8]) -> Result<(i64, &[u8]), PartFault> {
+    if let [b'-', b'1', b':', phases @ ..] = text {
+        return Ok((-1, phases));
     }
-    Ok(number_within(text, 1, MOST)? as i64)
+    let (loops, phases) = number_to(text, b':', 1, MOST)?;
+    Ok((loops as i64, phases))
 }
 
 /// The script that a text spells.
@@ -122,10 +123,7 @@ fn loops_of(text: &[u8]) -> Result<i64, PartFault>
 pub(crate) fn script_of(alloc: Global, text: &[u8]) -> Result<Script, PartFault>
     ensures { Gives (λ s. s) result (script_at text.now) }
 {
-    let Some((loops, phases)) = cut(text, b':') else {
-        return Err(PartFault::Bad);
-    };
-    let loops = loops_of(loops)?;
+    let (loops, phases) = loops_first(text)?;
     let phases = phases_of(alloc, phases)?;
     match Script::new(loops, phases) {
         Ok(script) => Ok(script),
