@@ -33,6 +33,6 @@ pub use book::{
 };
 pub use domain_run::{Call, NoMemory, Reply};
 pub use fault::CallsFault;
-pub use reading::read_calls;
+pub use reading::{CallsReader, read_calls};
 pub use section::{Entry, Section};
 pub use writing::{put_call, put_domain, write_calls};

@@ -8,7 +8,7 @@ ghost use Rattle.call_book.specs.private.Reading.{Fails, known_at, IsNext, AreEn
 
 use crate::cut::cut_line;
 use crate::fault::{CallsFault, PartFault};
-use crate::header::{has_later, header_of};
+use crate::header::{has_later, header_of, some_later};
 use crate::line_text::{domain_of, known_call};
 use crate::section::{Entry, Section};
 use std::alloc::Global;
@@ -53,13 +53,26 @@ fn entry_of(
     })
 }
 
+/// The fewest bytes of a call's line: `wake 1 1` and its line break.
+const LEAST_LINE: usize = 9;
+
+/// The most entries that the front of a text can have. Room that is not written costs nothing.
+fn most_entries(text: &[u8]) -> usize {
+    let lines = text.len() / LEAST_LINE;
+    if lines < MOST_CALLS as usize {
+        lines
+    } else {
+        MOST_CALLS as usize
+    }
+}
+
 /// The entries at the front of a text, and the rest: from the first line on that is no entry's, or
 /// that is one too many.
 fn entries_of(alloc: Global, text: &[u8], later: bool) -> Result<(Vec<Entry>, &[u8]), PartFault>
     ensures found { IfOk result (λ p. AreEntries later text.now p.1.now p.0.items) }
     ensures fault { IfErr result (λ e. e ≡ PartFault.Memory) }
 {
-    let mut entries = Vec::new(alloc);
+    let mut entries = Vec::with_capacity(alloc, most_entries(text))?;
     let mut made = [0u64; 64];
     let mut rest = text;
     for _ in 0..MOST_CALLS {
@@ -219,4 +232,89 @@ pub fn read_calls(alloc: Global, text: &[u8]) -> Result<Vec<Section>, CallsFault
         → IsErrOf result (CallsFault.BadLine n) ⊎ IsErrOf result CallsFault.Memory }
 {
     whole_text(alloc, text)
+}
+
+/// A calls text that is read section by section, so that the entries of one can be let go before
+/// those of the next are read. After its last section it says whether the text is one.
+#[derive(Drop)]
+pub struct CallsReader<'t> {
+    rest: &'t [u8],
+    /// Whether the header is that of calls of the second form.
+    later: bool,
+    /// Whether a call so far is of the second form.
+    found_later: bool,
+    /// Sections so far.
+    sections: u64,
+    /// Their lines.
+    lines: u64,
+    /// Whether the last of them has as many calls as it may have.
+    is_full: bool,
+}
+
+impl<'t> CallsReader<'t> {
+    /// A reader behind the header of a text.
+    ///
+    /// # Errors
+    /// [`CallsFault::BadLine`] 1 where there is none.
+    pub fn open(text: &'t [u8]) -> Result<CallsReader<'t>, CallsFault> {
+        let Some((header, rest)) = cut_line(text) else {
+            return Err(CallsFault::BadLine { n: 1 });
+        };
+        let Some(later) = header_of(header) else {
+            return Err(CallsFault::BadLine { n: 1 });
+        };
+        Ok(CallsReader {
+            rest,
+            later,
+            found_later: false,
+            sections: 0,
+            lines: 0,
+            is_full: false,
+        })
+    }
+
+    /// Whether the text ends here.
+    pub fn is_at_end(&self) -> bool {
+        self.rest.is_empty()
+    }
+
+    /// The next section; none behind the last one of a text that is whole.
+    ///
+    /// # Errors
+    /// As [`read_calls`], where no section follows and the text is none that is read.
+    pub fn next_section(&mut self, alloc: Global) -> Result<Option<Section>, CallsFault> {
+        if self.sections < MOST_SECTIONS {
+            match section_of(alloc, self.rest, self.later) {
+                Ok((section, after)) => {
+                    self.count(&section);
+                    self.rest = after;
+                    return Ok(Some(section));
+                }
+                Err(PartFault::Memory) => return Err(CallsFault::Memory),
+                Err(PartFault::Bad) => {}
+            }
+        }
+        self.end()
+    }
+
+    fn count(&mut self, section: &Section) {
+        self.sections += 1;
+        self.lines += line_count(section);
+        self.is_full = section.entries.len() as u64 == MOST_CALLS;
+        if self.later && !self.found_later {
+            self.found_later = some_later(&section.entries);
+        }
+    }
+
+    fn is_stuck(&self) -> bool {
+        self.later && !self.found_later && self.sections == MOST_SECTIONS && self.is_full
+    }
+
+    fn end(&self) -> Result<Option<Section>, CallsFault> {
+        if self.rest.is_empty() && self.sections > 0 && (!self.later || self.found_later) {
+            return Ok(None);
+        }
+        let n = self.lines + if self.is_stuck() { 1 } else { 2 };
+        Err(CallsFault::BadLine { n })
+    }
 }

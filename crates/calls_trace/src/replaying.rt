@@ -5,8 +5,13 @@ ghost use Rattle.counted_io.specs.Sides.{faults_of, side};
 ghost use Rattle.calls_trace.specs.Answer.{streams, IsAnswered, IsAnsweredBy, IsFaultBy, IsFaultOf, replayed, print_tells};
 
 use crate::fault::ReplayFault;
-use crate::writing::write_sections;
-use call_book::{CallsFault, read_calls};
+use crate::named_run::run_section;
+use crate::placed_run::PlacedRun;
+use crate::run_text::RunText;
+use crate::trace::write_played;
+use crate::writing::{write_answered, write_runs};
+use call_book::{CallsFault, CallsReader, Section, read_calls};
+use domain_run::NoMemory;
 use chart_pieces::Span;
 use std::alloc::Global;
 use std::io::{Read, Write};
@@ -80,12 +85,68 @@ pub fn replay_as<R: Read, W: Write>(
         Err(ReadFault::Failed) => return Err(ReplayFault::Read),
         Err(ReadFault::Memory) => return Err(ReplayFault::Memory),
     };
-    let sections = match read_calls(alloc, &text) {
-        Ok(sections) => sections,
-        Err(CallsFault::BadLine { n }) => return Err(ReplayFault::Calls(n)),
-        Err(CallsFault::Memory) => return Err(ReplayFault::Memory),
+    match RunText::of(print) {
+        Some(kind) => replay_run(alloc, kind, &text, writer),
+        None => {
+            let sections = calls(read_calls(alloc, &text))?;
+            Ok(write_answered(alloc, sections, writer)?)
+        }
+    }
+}
+
+/// What was read, or why a replay ends without it.
+fn calls<T>(read: Result<T, CallsFault>) -> Result<T, ReplayFault> {
+    match read {
+        Ok(found) => Ok(found),
+        Err(CallsFault::BadLine { n }) => Err(ReplayFault::Calls(n)),
+        Err(CallsFault::Memory) => Err(ReplayFault::Memory),
+    }
+}
+
+/// The runs of the sections of a text, each made before the next section is read.
+fn runs_of(
+    alloc: Global,
+    kind: RunText,
+    first: Section,
+    reader: &mut CallsReader<'_>,
+) -> Result<Vec<PlacedRun>, ReplayFault> {
+    let mut runs = match Vec::with_capacity(alloc, 8) {
+        Ok(runs) => runs,
+        Err(_) => return Err(ReplayFault::Memory),
     };
-    Ok(write_sections(alloc, print, sections, writer)?)
+    let mut base: u32 = 0;
+    let mut next = Some(first);
+    while let Some(section) = next {
+        let cpus = section.cpus;
+        let run = match run_section(alloc, section, kind.tells()) {
+            Ok(run) => run,
+            Err(NoMemory) => return Err(ReplayFault::Memory),
+        };
+        runs.push_reserved(PlacedRun { base, run });
+        base += cpus;
+        next = calls(reader.next_section(alloc))?;
+    }
+    Ok(runs)
+}
+
+/// Runs the calls of a text, and writes a text of the runs; the trace of one section while it is
+/// made.
+fn replay_run<W: Write>(
+    alloc: Global,
+    kind: RunText,
+    text: &[u8],
+    writer: &mut Counted<W>,
+) -> Result<(), ReplayFault> {
+    let mut reader = calls(CallsReader::open(text))?;
+    let Some(first) = calls(reader.next_section(alloc))? else {
+        return Ok(());
+    };
+    if kind.is_trace() && reader.is_at_end() {
+        calls(reader.next_section(alloc))?;
+        return Ok(write_played(alloc, first, writer)?);
+    }
+    let runs = runs_of(alloc, kind, first, &mut reader)?;
+    Ok(write_runs(alloc, kind, &runs, writer)?)
 }
 
 /// As [`replay_as`], for the trace.

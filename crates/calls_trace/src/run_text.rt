@@ -31,6 +31,11 @@ impl RunText {
         }
     }
 
+    /// Whether it is the trace alone.
+    pub(crate) fn is_trace(self) -> bool {
+        matches!(self, RunText::Trace)
+    }
+
     /// Whether it needs to be known what happens.
     pub(crate) fn tells(self) -> bool
         ensures { result ≡ texts.tells self }

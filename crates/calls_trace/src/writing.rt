@@ -26,7 +26,7 @@ use std::io::Write;
 use switch_text::Counted;
 
 /// Writes a text of the runs of 1 to 8 domains.
-fn write_runs<W: Write>(
+pub(crate) fn write_runs<W: Write>(
     alloc: Global,
     text: RunText,
     placed: &[PlacedRun],
@@ -87,7 +87,7 @@ fn write_made<W: Write>(
 }
 
 /// Writes the calls of sections with their replies, in one piece.
-fn write_answered<W: Write>(
+pub(crate) fn write_answered<W: Write>(
     alloc: Global,
     sections: Vec<Section>,
     writer: &mut Counted<W>,
