@@ -19,7 +19,7 @@ pub(crate) fn is_later(call: &Call) -> bool
 }
 
 /// Whether one of these calls is.
-pub(crate) fn some_later(entries: &[Entry]) -> bool
+fn some_later(entries: &[Entry]) -> bool
     ensures { result ≡ some_later entries.now }
 {
     entries.iter().any(|e| is_later(&e.call))

@@ -8,7 +8,7 @@ ghost use Rattle.call_book.specs.private.Reading.{Fails, known_at, IsNext, AreEn
 
 use crate::cut::cut_line;
 use crate::fault::{CallsFault, PartFault};
-use crate::header::{has_later, header_of, some_later};
+use crate::header::{has_later, header_of, is_later};
 use crate::line_text::{domain_of, known_call};
 use crate::section::{Entry, Section};
 use std::alloc::Global;
@@ -234,8 +234,8 @@ pub fn read_calls(alloc: Global, text: &[u8]) -> Result<Vec<Section>, CallsFault
     whole_text(alloc, text)
 }
 
-/// A calls text that is read section by section, so that the entries of one can be let go before
-/// those of the next are read. After its last section it says whether the text is one.
+/// A calls text that is read call by call, so that each can be let go before the next is read.
+/// Behind its last section it says whether the text is one.
 #[derive(Drop)]
 pub struct CallsReader<'t> {
     rest: &'t [u8],
@@ -247,8 +247,10 @@ pub struct CallsReader<'t> {
     sections: u64,
     /// Their lines.
     lines: u64,
-    /// Whether the last of them has as many calls as it may have.
-    is_full: bool,
+    /// Calls of the last of them.
+    calls: u64,
+    /// How many of these each client made.
+    made: [u64; 64],
 }
 
 impl<'t> CallsReader<'t> {
@@ -269,7 +271,8 @@ impl<'t> CallsReader<'t> {
             found_later: false,
             sections: 0,
             lines: 0,
-            is_full: false,
+            calls: 0,
+            made: [0; 64],
         })
     }
 
@@ -278,39 +281,77 @@ impl<'t> CallsReader<'t> {
         self.rest.is_empty()
     }
 
-    /// The next section; none behind the last one of a text that is whole.
+    /// The CPUs and the limit of the next section; none behind the last one of a text that is
+    /// whole.
     ///
     /// # Errors
     /// As [`read_calls`], where no section follows and the text is none that is read.
-    pub fn next_section(&mut self, alloc: Global) -> Result<Option<Section>, CallsFault> {
-        if self.sections < MOST_SECTIONS {
-            match section_of(alloc, self.rest, self.later) {
-                Ok((section, after)) => {
-                    self.count(&section);
-                    self.rest = after;
-                    return Ok(Some(section));
-                }
-                Err(PartFault::Memory) => return Err(CallsFault::Memory),
-                Err(PartFault::Bad) => {}
-            }
+    pub fn next_domain(&mut self) -> Result<Option<(u32, u64)>, CallsFault> {
+        if self.sections == MOST_SECTIONS {
+            return self.end();
         }
-        self.end()
+        let Some((line, after)) = cut_line(self.rest) else {
+            return self.end();
+        };
+        let Ok((cpus, limit)) = domain_of(line) else {
+            return self.end();
+        };
+        self.sections += 1;
+        self.lines += 1;
+        self.calls = 0;
+        self.made = [0; 64];
+        self.rest = after;
+        Ok(Some((cpus as u32, limit)))
     }
 
-    fn count(&mut self, section: &Section) {
-        self.sections += 1;
-        self.lines += line_count(section);
-        self.is_full = section.entries.len() as u64 == MOST_CALLS;
-        if self.later && !self.found_later {
-            self.found_later = some_later(&section.entries);
+    /// The next entry of the section; none at its end.
+    ///
+    /// # Errors
+    /// [`CallsFault::Memory`]: a growth was refused.
+    pub fn next_entry(&mut self, alloc: Global) -> Result<Option<Entry>, CallsFault> {
+        if self.calls == MOST_CALLS {
+            return Ok(None);
         }
+        let Some((line, after)) = cut_line(self.rest) else {
+            return Ok(None);
+        };
+        match entry_of(alloc, line, self.later, &mut self.made) {
+            Ok(entry) => {
+                self.calls += 1;
+                self.lines += 1;
+                self.found_later = self.found_later || is_later(&entry.call);
+                self.rest = after;
+                Ok(Some(entry))
+            }
+            Err(PartFault::Bad) => Ok(None),
+            Err(PartFault::Memory) => Err(CallsFault::Memory),
+        }
+    }
+
+    /// The other entries of the section.
+    ///
+    /// # Errors
+    /// [`CallsFault::Memory`]: a growth was refused.
+    pub fn entries(&mut self, alloc: Global) -> Result<Vec<Entry>, CallsFault> {
+        let Ok(mut entries) = Vec::with_capacity(alloc, most_entries(self.rest)) else {
+            return Err(CallsFault::Memory);
+        };
+        while let Some(entry) = self.next_entry(alloc)? {
+            if entries.push(entry).is_err() {
+                return Err(CallsFault::Memory);
+            }
+        }
+        Ok(entries)
     }
 
     fn is_stuck(&self) -> bool {
-        self.later && !self.found_later && self.sections == MOST_SECTIONS && self.is_full
+        self.later
+            && !self.found_later
+            && self.sections == MOST_SECTIONS
+            && self.calls == MOST_CALLS
     }
 
-    fn end(&self) -> Result<Option<Section>, CallsFault> {
+    fn end(&self) -> Result<Option<(u32, u64)>, CallsFault> {
         if self.rest.is_empty() && self.sections > 0 && (!self.later || self.found_later) {
             return Ok(None);
         }

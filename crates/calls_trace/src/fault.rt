@@ -63,3 +63,9 @@ impl From<TraceFault> for ReplayFault {
         }
     }
 }
+
+impl From<NoMemory> for ReplayFault {
+    fn from(_e: NoMemory) -> ReplayFault {
+        ReplayFault::Memory
+    }
+}

@@ -82,7 +82,7 @@ fn log_of(alloc: Global, wanted: bool) -> Log
 }
 
 impl RunWithNames {
-    fn open(alloc: Global, cpus: u32, limit: u64, wanted: bool) -> Result<RunWithNames, NoMemory>
+    pub(crate) fn open(alloc: Global, cpus: u32, limit: u64, wanted: bool) -> Result<RunWithNames, NoMemory>
         requires cpus { (0 < cpus) × (cpus ≤ 64) }
         requires limit { IsLimit limit }
         ensures state { IfOk result (λ r. r.state ≡ opened cpus limit) }
@@ -190,7 +190,7 @@ impl RunWithNames {
     }
 
     /// Makes a call; the log is told what it tells.
-    fn make(&mut self, alloc: Global, call: Call) -> Result<(), NoMemory>
+    pub(crate) fn make(&mut self, alloc: Global, call: Call) -> Result<(), NoMemory>
         requires call { IsCall call }
         requires early { self.old.state.time + 60000000 ≤ 2 ^ 42 }
         requires named { AreNamed self.old.state self.old.names }

@@ -5,7 +5,7 @@ ghost use Rattle.counted_io.specs.Sides.{faults_of, side};
 ghost use Rattle.calls_trace.specs.Answer.{streams, IsAnswered, IsAnsweredBy, IsFaultBy, IsFaultOf, replayed, print_tells};
 
 use crate::fault::ReplayFault;
-use crate::named_run::run_section;
+use crate::named_run::{RunWithNames, run_section};
 use crate::placed_run::PlacedRun;
 use crate::run_text::RunText;
 use crate::trace::write_played;
@@ -103,28 +103,39 @@ fn calls<T>(read: Result<T, CallsFault>) -> Result<T, ReplayFault> {
     }
 }
 
-/// The runs of the sections of a text, each made before the next section is read.
+/// The run of the calls that follow in a text, each made before the next is read.
+fn run_read(
+    alloc: Global,
+    cpus: u32,
+    limit: u64,
+    reader: &mut CallsReader<'_>,
+    wanted: bool,
+) -> Result<RunWithNames, ReplayFault> {
+    let mut run = RunWithNames::open(alloc, cpus, limit, wanted)?;
+    while let Some(entry) = calls(reader.next_entry(alloc))? {
+        run.make(alloc, entry.call)?;
+    }
+    Ok(run)
+}
+
+/// The runs of the sections of a text of which the first is read.
 fn runs_of(
     alloc: Global,
     kind: RunText,
     first: Section,
     reader: &mut CallsReader<'_>,
 ) -> Result<Vec<PlacedRun>, ReplayFault> {
-    let mut runs = match Vec::with_capacity(alloc, 8) {
-        Ok(runs) => runs,
-        Err(_) => return Err(ReplayFault::Memory),
+    let Ok(mut runs) = Vec::with_capacity(alloc, 8) else {
+        return Err(ReplayFault::Memory);
     };
-    let mut base: u32 = 0;
-    let mut next = Some(first);
-    while let Some(section) = next {
-        let cpus = section.cpus;
-        let run = match run_section(alloc, section, kind.tells()) {
-            Ok(run) => run,
-            Err(NoMemory) => return Err(ReplayFault::Memory),
-        };
+    let wanted = kind.tells();
+    let mut base = first.cpus;
+    let run = run_section(alloc, first, wanted)?;
+    runs.push_reserved(PlacedRun { base: 0, run });
+    while let Some((cpus, limit)) = calls(reader.next_domain())? {
+        let run = run_read(alloc, cpus, limit, reader, wanted)?;
         runs.push_reserved(PlacedRun { base, run });
         base += cpus;
-        next = calls(reader.next_section(alloc))?;
     }
     Ok(runs)
 }
@@ -138,11 +149,13 @@ fn replay_run<W: Write>(
     writer: &mut Counted<W>,
 ) -> Result<(), ReplayFault> {
     let mut reader = calls(CallsReader::open(text))?;
-    let Some(first) = calls(reader.next_section(alloc))? else {
+    let Some((cpus, limit)) = calls(reader.next_domain())? else {
         return Ok(());
     };
+    let entries = calls(reader.entries(alloc))?;
+    let first = Section { cpus, limit, entries };
     if kind.is_trace() && reader.is_at_end() {
-        calls(reader.next_section(alloc))?;
+        calls(reader.next_domain())?;
         return Ok(write_played(alloc, first, writer)?);
     }
     let runs = runs_of(alloc, kind, first, &mut reader)?;
