@@ -18,6 +18,7 @@ pub(crate) fn cut(text: &[u8], at: u8) -> Option<(&[u8], &[u8])>
 
 /// The first line, without its line break, and what follows, or nothing where no line ends. Lines
 /// are long enough to be searched by many bytes at a time.
+#[inline(always)]
 pub(crate) fn cut_line(text: &[u8]) -> Option<(&[u8], &[u8])>
     ensures { option_map (λ p. (p.0.now, p.1.now)) result ≡ cut_at 10 text.now }
 {

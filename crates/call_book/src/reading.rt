@@ -33,6 +33,7 @@ fn counted(made: &mut [u64; 64], client: u32) -> u64
 
 /// The entry of a line, after so many calls of each client. `later` says whether the header is that
 /// of calls of the second form, here and below.
+#[inline(always)]
 fn entry_of(
     alloc: Global,
     line: &[u8],
@@ -308,6 +309,7 @@ impl<'t> CallsReader<'t> {
     ///
     /// # Errors
     /// [`CallsFault::Memory`]: a growth was refused.
+    #[inline(always)]
     pub fn next_entry(&mut self, alloc: Global) -> Result<Option<Entry>, CallsFault> {
         if self.calls == MOST_CALLS {
             return Ok(None);
