@@ -13,6 +13,7 @@ use crate::place::{Frame, Place};
 use crate::step::{DEPTH, turn};
 use crate::taking::take_run;
 use crate::tree::Tree;
+use crate::whole::whole_text;
 use std::alloc::Global;
 use std::str;
 
@@ -116,8 +117,17 @@ fn read_through(
     Ok(())
 }
 
-/// Reads a text in UTF-8.
-fn read_text(alloc: Global, text: &str) -> Result<Tree, JsonFault>
+/// Reads a text in UTF-8: whole, or else character by character up to its fault.
+fn read_text(alloc: Global, text: &str) -> Result<Tree, JsonFault> {
+    match whole_text(alloc, text, DEPTH) {
+        Ok(Some(tree)) => Ok(tree),
+        Ok(None) => read_slowly(alloc, text),
+        Err(kind) => Err(fault_at(kind, 0)),
+    }
+}
+
+/// Reads a text in UTF-8 character by character.
+fn read_slowly(alloc: Global, text: &str) -> Result<Tree, JsonFault>
     ensures found { IfOk result (λ tree. Spells strict text.now (json_of tree)) }
     ensures only { IfOk result (λ tree. (value : Json) → Spells strict text.now value → value
         ≡ json_of tree) }

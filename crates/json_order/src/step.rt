@@ -33,7 +33,7 @@ fn is_space(c: char) -> bool
 const NUMBER_ROOM: usize = 24;
 
 /// A number's text, of one ASCII character so far.
-fn one(alloc: Global, c: char) -> Result<String, JsonKind>
+pub(crate) fn one(alloc: Global, c: char) -> Result<String, JsonKind>
     requires { c < 128 }
     ensures ok { IfOk result (λ s. string_bytes s ≡ c ∷ []) }
     ensures err { IfErr result (λ k. k ≡ Memory) }
@@ -87,7 +87,7 @@ fn value_step(alloc: Global, place: &mut Place, stack: &Vec<Frame>, c: char) -> 
 }
 
 /// Adds a list's last item. Where it is the only one, room is taken for it alone.
-fn add_last(items: &mut Vec<Tree>, value: Tree) -> Result<(), JsonKind>
+pub(crate) fn add_last(items: &mut Vec<Tree>, value: Tree) -> Result<(), JsonKind>
     ensures ok { OnOk result (items.new.items ≡ items.old.items ++ value ∷ []) }
     ensures err { IfErr result (λ k. k ≡ Memory) }
 {
@@ -107,7 +107,7 @@ fn object_of(list: Vec<(String, Tree)>) -> Tree
 
 /// The object of these members and a last one.
 #[inline(always)]
-fn whole_object(members: Members, key: String, value: Tree) -> Result<Tree, JsonKind>
+pub(crate) fn whole_object(members: Members, key: String, value: Tree) -> Result<Tree, JsonKind>
     ensures ok { IfOk result (λ t. json_of t ≡ object (members_with
         (entries_of (members.list.items ++ (key, value) ∷ [])) no_members)) }
     ensures err { IfErr result (λ k. k ≡ Memory) }

@@ -84,7 +84,7 @@ fn plain_text<'a>(alloc: Global, rest: &'a str) -> Result<(String, &'a str), Jso
 
 /// The text of the plain characters and the whole escapes in front, and what stands behind them.
 #[inline(always)]
-fn text_of<'a>(alloc: Global, rest: &'a str) -> Result<(String, &'a str), JsonKind>
+pub(crate) fn text_of<'a>(alloc: Global, rest: &'a str) -> Result<(String, &'a str), JsonKind>
     ensures ok { IfOk result (λ t. TakesQuoted [] Outside (string_bytes t.0) Outside
         rest.now t.1.now) }
     ensures err { IfErr result (λ k. k ≡ Memory) }
@@ -148,7 +148,7 @@ fn number_run(bytes: &[u8], part: Part) -> (usize, Part)
 }
 
 /// Takes the characters in front that a number goes on with, at once; what stands behind them.
-fn take_number<'a>(text: &mut String, part: &mut Part, rest: &'a str) -> Result<&'a str, JsonKind>
+pub(crate) fn take_number<'a>(text: &mut String, part: &mut Part, rest: &'a str) -> Result<&'a str, JsonKind>
     ensures ok { IfOk result (λ after. Takes (in_number (string_bytes text.old) part.old)
         (in_number (string_bytes text.new) part.new) rest.now after.now) }
     ensures err { IfErr result (λ k. k ≡ Memory) }
@@ -180,7 +180,7 @@ fn take_word<'a>(word: Word, read: &mut usize, rest: &'a str) -> &'a str
 
 /// What stands behind this character, where it stands in front.
 #[inline(always)]
-fn behind_char<'a>(c: char, rest: &'a str) -> Option<&'a str>
+pub(crate) fn behind_char<'a>(c: char, rest: &'a str) -> Option<&'a str>
     ensures { IfSome result (λ after. rest.now ≡ encode_utf8 c ++ after.now) }
 {
     let mut chars = rest.chars();
