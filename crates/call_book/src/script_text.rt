@@ -3,7 +3,6 @@ ghost use Rattle.std.specs.Option.{option_map};
 ghost use Rattle.domain_run.specs.script.Segments.{rounds_of, IsLoops};
 ghost use Rattle.call_book.specs.private.Reading.{Gives, event_at, event_first_at, events_at, phase_at, phase_first_at, phases_at, rounds_at, script_at};
 
-use crate::cut::cut;
 use crate::fault::PartFault;
 use crate::number::{number_first, number_to};
 use domain_run::{Event, Phase, Script};
@@ -37,74 +36,42 @@ fn event_front(text: &[u8]) -> Result<(Event, &[u8]), PartFault> {
     }
 }
 
-/// An event, and what follows the comma after it.
-#[tactic(auto, unfolding(crate::specs::private::Reading::event_first_at))]
-fn event_first(text: &[u8]) -> Result<(Event, Option<&[u8]>), PartFault>
-    ensures { Gives (λ p. (p.0, option_map (λ r. r.now) p.1)) result (event_first_at text.now) }
-{
-    match event_front(text)? {
-        (event, []) => Ok((event, None)),
-        (event, [b',', after @ ..]) => Ok((event, Some(after))),
-        _ => Err(PartFault::Bad),
-    }
-}
-
-/// 1 to 64 events, with commas between them.
-fn events_of(alloc: Global, text: &[u8]) -> Result<Vec<Event>, PartFault>
-    ensures { Gives (λ v. v.items) result (events_at text.now) }
-{
+/// 1 to 64 events, with commas between them and a brace at their end, and what follows.
+fn events_first(alloc: Global, text: &[u8]) -> Result<(Vec<Event>, &[u8]), PartFault> {
     let mut events = Vec::with_capacity(alloc, ROOM)?;
-    let mut rest = text;
+    let mut left = text;
     for _ in 0..MOST_ITEMS {
-        let (event, after) = event_first(rest)?;
+        let (event, rest) = event_front(left)?;
         events.push(event)?;
-        match after {
-            None => return Ok(events),
-            Some(after) => rest = after,
+        match rest {
+            [b',', after @ ..] => left = after,
+            [b'}', after @ ..] => return Ok((events, after)),
+            _ => return Err(PartFault::Bad),
         }
     }
     Err(PartFault::Bad)
 }
 
-/// A count and its events, without the brace at the end.
-#[tactic(auto, unfolding(crate::specs::private::Reading::phase_at))]
-fn phase_of(alloc: Global, text: &[u8]) -> Result<Phase, PartFault>
-    ensures { Gives (λ p. p) result (phase_at text.now) }
-{
-    let (count, events) = number_to(text, b'{', 1, MOST)?;
-    let events = events_of(alloc, events)?;
-    Ok(Phase { count, events })
+/// A phase, and what follows.
+fn phase_first(alloc: Global, text: &[u8]) -> Result<(Phase, &[u8]), PartFault> {
+    let (count, rest) = number_to(text, b'{', 1, MOST)?;
+    let (events, rest) = events_first(alloc, rest)?;
+    Ok((Phase { count, events }, rest))
 }
 
-/// A phase, and what follows the brace after it.
-#[tactic(auto, unfolding(crate::specs::private::Reading::phase_first_at))]
-fn phase_first(alloc: Global, text: &[u8]) -> Result<(Phase, Option<&[u8]>), PartFault>
-    ensures { Gives (λ p. (p.0, option_map (λ r. r.now) p.1)) result (phase_first_at text.now) }
-{
-    let Some((phase, after)) = cut(text, b'}') else {
-        return Err(PartFault::Bad);
-    };
-    let phase = phase_of(alloc, phase)?;
-    if after.is_empty() {
-        Ok((phase, None))
-    } else {
-        Ok((phase, Some(after)))
-    }
-}
-
-/// 1 to 64 phases, each with a brace at its end.
+/// 1 to 64 phases.
 fn phases_of(alloc: Global, text: &[u8]) -> Result<Vec<Phase>, PartFault>
     ensures { Gives (λ v. v.items) result (phases_at text.now) }
 {
     let mut phases = Vec::with_capacity(alloc, ROOM)?;
-    let mut rest = text;
+    let mut left = text;
     for _ in 0..MOST_ITEMS {
-        let (phase, after) = phase_first(alloc, rest)?;
+        let (phase, rest) = phase_first(alloc, left)?;
         phases.push(phase)?;
-        match after {
-            None => return Ok(phases),
-            Some(after) => rest = after,
+        if rest.is_empty() {
+            return Ok(phases);
         }
+        left = rest;
     }
     Err(PartFault::Bad)
 }
