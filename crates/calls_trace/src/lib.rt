@@ -21,6 +21,7 @@ mod fault;
 mod figures;
 mod given_names;
 mod heard_summary;
+mod kept;
 mod named_run;
 mod placed_run;
 mod playing;

@@ -7,9 +7,9 @@ ghost use Rattle.calls_trace.specs.Replay.{no_names};
 ghost use Rattle.calls_trace.specs.private.Replaying.{AreNamed, Gives};
 ghost use Rattle.calls_trace.specs.private.Calls.{IsReady, AreTexts};
 
-use crate::given_names::{last_text, texts_given};
+use crate::given_names::texts_given;
+use crate::kept::Kept;
 use attr_check::Params;
-use call_book::{Entry, Section};
 use domain_run::{Buffered, Call, Name, NoMemory, Script, State};
 use indexmap::IndexMap;
 use std::alloc::Global;
@@ -31,14 +31,9 @@ pub(crate) struct Playing {
     /// So many ticks are left of the advance under way.
     left: u64,
     /// The calls behind it, the last one first.
-    entries: Vec<Entry>,
+    calls: Vec<Kept>,
     /// The texts of the names that these give.
     texts: Vec<String>,
-    ghost called: { AreNamed run.domain run.names },
-    ghost ready: { All (λ e. IsReady e.call) entries.items },
-    ghost spelled: { AreTexts entries.items texts.items },
-    ghost room: { length entries.items ≤ spare run.names },
-    ghost early: { run.domain.time + left + length entries.items * 60000000 ≤ 2 ^ 42 },
 }
 
 impl NamedDomain {
@@ -74,7 +69,7 @@ impl NamedDomain {
         params: Params,
         delay: u64,
         script: Script,
-        text: String,
+        text: Option<String>,
     )
         requires number { IsNumber number }
         requires delay { delay ≤ 1000000000 }
@@ -91,13 +86,16 @@ impl NamedDomain {
         // For the prover alone: a look at a name brings what every name keeps.
         let _ = name.as_bytes();
         match self.domain.admit(number, name, params, delay, script) {
-            Ok(()) => self.put(number, text),
+            Ok(()) => match text {
+                Some(text) => self.put(number, text),
+                None => {}
+            },
             Err(_) => {}
         }
     }
 
     /// Makes a call, of an advance no tick; answers how many ticks it has still to make.
-    fn make(&mut self, call: Call, text: String) -> u64
+    fn make(&mut self, call: Call, text: Option<String>) -> u64
         requires call { IsReady call }
         requires text { string_bytes text ≡ name_given call }
         requires room { 0 < spare self.old.names }
@@ -160,25 +158,21 @@ impl Playing {
     ghost use Rattle.calls_trace.specs.Told.{domain_of, names_in};
     ghost use Rattle.calls_trace.specs.private.Playing.{left_in, end_of, rest_of, all_names, work_of};
 
-    /// A section of which no call is made yet.
-    pub(crate) fn open(alloc: Global, section: Section) -> Result<Playing, NoMemory>
-        requires { IsSection section }
-        ensures rest { IfOk result (λ p. rest_of p ≡ (domain_of section).switches) }
-        ensures names { IfOk result (λ p. (n : ℕ) → all_names p n ≡ names_in section n) }
-    {
-        let Section {
-            cpus,
-            limit,
-            mut entries,
-        } = section;
-        entries.reverse();
-        let texts = texts_given(alloc, &entries)?;
-        let names = room_for_names(alloc, entries.len())?;
+    /// Calls on a domain of which none is made yet.
+    pub(crate) fn open(
+        alloc: Global,
+        cpus: u32,
+        limit: u64,
+        mut calls: Vec<Kept>,
+    ) -> Result<Playing, NoMemory> {
+        calls.reverse();
+        let texts = texts_given(alloc, &calls)?;
+        let names = room_for_names(alloc, texts.len())?;
         let domain = Buffered::of(State::open(alloc, cpus, limit)?)?;
         Ok(Playing {
             run: NamedDomain { domain, names },
             left: 0,
-            entries,
+            calls,
             texts,
         })
     }
@@ -214,10 +208,10 @@ impl Playing {
         ensures ahead { result ≡ true → work_of self.new < work_of self.old }
         ensures stopped { result ≡ false → work_of self.new ≡ 0 }
     {
-        match self.entries.pop() {
-            Some(entry) => {
-                let text = last_text(&mut self.texts);
-                self.left = self.run.make(entry.call, text);
+        match self.calls.pop() {
+            Some(call) => {
+                let text = if call.gives_name() { self.texts.pop() } else { None };
+                self.left = self.run.make(call.into_call(), text);
                 true
             }
             None => false,

@@ -5,12 +5,13 @@ ghost use Rattle.counted_io.specs.Sides.{faults_of, side};
 ghost use Rattle.calls_trace.specs.Answer.{streams, IsAnswered, IsAnsweredBy, IsFaultBy, IsFaultOf, replayed, print_tells};
 
 use crate::fault::ReplayFault;
-use crate::named_run::{RunWithNames, run_section};
+use crate::kept::Kept;
+use crate::named_run::RunWithNames;
 use crate::placed_run::PlacedRun;
 use crate::run_text::RunText;
 use crate::trace::write_played;
 use crate::writing::{write_answered, write_runs};
-use call_book::{CallsFault, CallsReader, Section, read_calls};
+use call_book::{CallsFault, CallsReader, read_calls};
 use domain_run::NoMemory;
 use chart_pieces::Span;
 use std::alloc::Global;
@@ -118,22 +119,48 @@ fn run_read(
     Ok(run)
 }
 
+/// The calls that follow in a text, up to the end of a section.
+fn calls_read(alloc: Global, reader: &mut CallsReader<'_>) -> Result<Vec<Kept>, ReplayFault> {
+    let mut kept = Vec::new(alloc);
+    while let Some(entry) = calls(reader.next_entry(alloc))? {
+        if kept.push(Kept::of(alloc, entry.call)?).is_err() {
+            return Err(ReplayFault::Memory);
+        }
+    }
+    Ok(kept)
+}
+
+/// The run of calls that were kept.
+fn run_kept(
+    alloc: Global,
+    cpus: u32,
+    limit: u64,
+    kept: Vec<Kept>,
+    wanted: bool,
+) -> Result<RunWithNames, ReplayFault> {
+    let mut run = RunWithNames::open(alloc, cpus, limit, wanted)?;
+    let mut rest = kept.into_iter();
+    while let Some(call) = rest.next() {
+        run.make(alloc, call.into_call())?;
+    }
+    Ok(run)
+}
+
 /// The runs of the sections of a text of which the first is read.
 fn runs_of(
     alloc: Global,
     kind: RunText,
-    first: Section,
+    first: RunWithNames,
+    cpus: u32,
     reader: &mut CallsReader<'_>,
 ) -> Result<Vec<PlacedRun>, ReplayFault> {
     let Ok(mut runs) = Vec::with_capacity(alloc, 8) else {
         return Err(ReplayFault::Memory);
     };
-    let wanted = kind.tells();
-    let mut base = first.cpus;
-    let run = run_section(alloc, first, wanted)?;
-    runs.push_reserved(PlacedRun { base: 0, run });
+    let mut base = cpus;
+    runs.push_reserved(PlacedRun { base: 0, run: first });
     while let Some((cpus, limit)) = calls(reader.next_domain())? {
-        let run = run_read(alloc, cpus, limit, reader, wanted)?;
+        let run = run_read(alloc, cpus, limit, reader, kind.tells())?;
         runs.push_reserved(PlacedRun { base, run });
         base += cpus;
     }
@@ -152,13 +179,13 @@ fn replay_run<W: Write>(
     let Some((cpus, limit)) = calls(reader.next_domain())? else {
         return Ok(());
     };
-    let entries = calls(reader.entries(alloc))?;
-    let first = Section { cpus, limit, entries };
+    let kept = calls_read(alloc, &mut reader)?;
     if kind.is_trace() && reader.is_at_end() {
         calls(reader.next_domain())?;
-        return Ok(write_played(alloc, first, writer)?);
+        return Ok(write_played(alloc, cpus, limit, kept, writer)?);
     }
-    let runs = runs_of(alloc, kind, first, &mut reader)?;
+    let first = run_kept(alloc, cpus, limit, kept, kind.tells())?;
+    let runs = runs_of(alloc, kind, first, cpus, &mut reader)?;
     Ok(write_runs(alloc, kind, &runs, writer)?)
 }
 

@@ -14,10 +14,10 @@ ghost use Rattle.calls_trace.specs.private.RunTexts.{tells, text_of_all};
 use crate::charting::write_chart_of;
 use crate::fault::TraceFault;
 use crate::figures::{write_jobs_of, write_summary_of, write_whole};
-use crate::placed_run::{PlacedRun, place_runs, run_sections};
+use crate::placed_run::{PlacedRun, place_runs};
 use crate::replaying::ReplayPrint;
 use crate::run_text::RunText;
-use crate::trace::{write_events_of, write_played, write_trace_of};
+use crate::trace::{write_events_of, write_trace_of};
 use call_book::Section;
 use domain_run::{Log, State};
 use reply_text::{write_recorded, write_replies};
@@ -49,43 +49,6 @@ pub(crate) fn write_runs<W: Write>(
     }
 }
 
-/// Takes the section out where it is the only one and its trace is asked for.
-fn only_traced(text: RunText, sections: &mut Vec<Section>) -> Option<Section>
-    ensures trace { IfSome result (λ section. text ≡ texts.Trace) }
-    ensures only { IfSome result (λ section. sections.old.items ≡ section ∷ []) }
-    ensures others { IfNone result (sections.new.items ≡ sections.old.items) }
-{
-    match text {
-        RunText::Trace if sections.len() == 1 => sections.pop(),
-        _ => None,
-    }
-}
-
-/// Makes the calls of sections, and writes a text of their runs; the trace of one section while
-/// they are made.
-fn write_made<W: Write>(
-    alloc: Global,
-    text: RunText,
-    mut sections: Vec<Section>,
-    writer: &mut Counted<W>,
-) -> Result<(), TraceFault>
-    requires few { length sections.items ≤ 8 }
-    requires sections { All IsSection sections.items }
-    requires faults { faults_of writer.old < 2 ^ 63 }
-    ensures ok { OnOk result
-        (IsWritten (side W.contents writer.old writer.new) (text_of_all text sections.items)) }
-    ensures err { IfErr result
-        (IsUnwritten (side W.contents writer.old writer.new) (text_of_all text sections.items)) }
-{
-    match only_traced(text, &mut sections) {
-        Some(section) => write_played(alloc, section, writer),
-        None => {
-            let runs = run_sections(alloc, sections, text.tells())?;
-            write_runs(alloc, text, &runs, writer)
-        }
-    }
-}
-
 /// Writes the calls of sections with their replies, in one piece.
 pub(crate) fn write_answered<W: Write>(
     alloc: Global,
@@ -101,27 +64,6 @@ pub(crate) fn write_answered<W: Write>(
 {
     let text = write_replies(alloc, sections)?;
     write_whole(&text, writer)
-}
-
-/// Makes the calls of sections, and writes what is asked for of them.
-pub(crate) fn write_sections<W: Write>(
-    alloc: Global,
-    print: ReplayPrint,
-    sections: Vec<Section>,
-    writer: &mut Counted<W>,
-) -> Result<(), TraceFault>
-    requires few { length sections.items ≤ 8 }
-    requires sections { All IsSection sections.items }
-    requires faults { faults_of writer.old < 2 ^ 63 }
-    ensures ok { OnOk result
-        (IsWritten (side W.contents writer.old writer.new) (replayed print sections.items)) }
-    ensures err { IfErr result
-        (IsUnwritten (side W.contents writer.old writer.new) (replayed print sections.items)) }
-{
-    match RunText::of(print) {
-        Some(text) => write_made(alloc, text, sections, writer),
-        None => write_answered(alloc, sections, writer),
-    }
 }
 
 /// Writes a text of the runs that histories led to, with these states and logs.
