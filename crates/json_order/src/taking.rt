@@ -128,7 +128,7 @@ fn digits_len(bytes: &[u8]) -> usize
 
 /// How many bytes in front go on with a number, and how far it is read behind them.
 #[inline(always)]
-fn number_run(bytes: &[u8], part: Part) -> (usize, Part)
+pub(crate) fn number_run(bytes: &[u8], part: Part) -> (usize, Part)
     ensures within { result.0 ≤ length bytes.now }
     ensures read { parts_after part (take result.0 bytes.now) ≡ Some result.1 }
 {

@@ -6,8 +6,8 @@ use crate::fault::JsonKind;
 use crate::members::{Members, with_member};
 use crate::number::is_done;
 use crate::place::Part;
-use crate::step::{add_last, one, whole_object};
-use crate::taking::{behind_char, take_number, text_of};
+use crate::step::{add_last, whole_object};
+use crate::taking::{behind_char, number_run, text_of};
 use crate::tree::Tree;
 use crate::word::Word;
 use std::alloc::Global;
@@ -38,15 +38,15 @@ fn quoted<'a>(alloc: Global, rest: &'a str) -> Whole<'a, String> {
     }
 }
 
-/// A number behind its first character.
-fn number<'a>(alloc: Global, c: char, part: Part, rest: &'a str) -> Whole<'a, Tree> {
-    let mut text = one(alloc, c)?;
-    let mut read = part;
-    let behind = take_number(&mut text, &mut read, rest)?;
-    if is_done(read) {
-        return Ok(Some((Tree::Number(text), behind)));
+/// A number, whose first character leads to this part of it.
+#[inline(always)]
+fn number<'a>(alloc: Global, part: Part, rest: &'a str) -> Whole<'a, Tree> {
+    let (len, read) = number_run(&rest.as_bytes()[1..], part);
+    if !is_done(read) {
+        return Ok(None);
     }
-    Ok(None)
+    let (front, behind) = rest.split_at(1 + len);
+    Ok(Some((Tree::Number(String::from_str(alloc, front)?), behind)))
 }
 
 /// A word behind its first letter.
@@ -141,9 +141,9 @@ fn value<'a>(alloc: Global, rest: &'a str, depth: usize) -> Whole<'a, Tree> {
         'n' => Ok(word(Word::Null, after)),
         't' => Ok(word(Word::True, after)),
         'f' => Ok(word(Word::False, after)),
-        '-' => number(alloc, c, Part::Minus, after),
-        '0' => number(alloc, c, Part::Zero, after),
-        '1'..='9' => number(alloc, c, Part::Whole, after),
+        '-' => number(alloc, Part::Minus, rest),
+        '0' => number(alloc, Part::Zero, rest),
+        '1'..='9' => number(alloc, Part::Whole, rest),
         _ => Ok(None),
     }
 }
