@@ -1,0 +1,1 @@
+for f in ${@:-c2 a a2 255asleep 63long adv mixed}; do for m in old leap; do n=$(valgrind --tool=callgrind --callgrind-out-file=/tmp/rs/cg.$f.$m ./bench $m in/$f 2>&1 | grep -E "Collected" | awk '{print $4}'); l=$(./bench leap in/$f | cut -d' ' -f1); echo "$f $m total $n per line $((n/l))"; done; done

@@ -1,0 +1,59 @@
+#[allow(unused_imports)] use crate::rat::Vec;
+
+
+
+
+
+use crate::domain_run::task::Task;
+use crate::no_memory::NoMemory;
+use crate::rat::{AllocError, Global};
+
+const COUNT: usize = 65536;
+
+/// For each number below 65536 the place at which it was last noted. An index with room for more or
+/// fewer numbers cannot be built.
+pub(crate) struct Index {
+    noted: Vec<u16>,
+}
+
+
+// A place for each number, with room for no more.
+fn first_places(alloc: Global) -> Result<Vec<u16>, AllocError>
+{
+    let mut places = Vec::with_capacity(alloc, COUNT)?;
+    for _ in 0..COUNT {
+        places.push_reserved(0);
+    }
+    Ok(places)
+}
+
+impl Index {
+    /// Nothing is noted. No other call takes memory.
+    pub(crate) fn open(alloc: Global) -> Result<Index, NoMemory> {
+        Ok(Index {
+            noted: first_places(alloc)?,
+        })
+    }
+
+    /// A number is at a place now.
+    pub(crate) fn note(&mut self, number: u32, place: usize) {
+        let at = number as usize;
+        if at < self.noted.len() {
+            self.noted[at] = place.min(65535) as u16;
+        }
+    }
+
+    fn noted_place(&self, number: u32) -> usize {
+        usize::from(self.noted[number as usize])
+    }
+
+    /// The place of the task of a number, where it is listed.
+    pub(crate) fn place(&self, tasks: &crate::rat::Vec<Task>, number: u32) -> Option<usize>
+    {
+        let place = self.noted_place(number);
+        if place < tasks.len() && tasks[place].number == number {
+            return Some(place);
+        }
+        tasks.iter().position(|task| task.number == number)
+    }
+}

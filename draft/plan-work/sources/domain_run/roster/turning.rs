@@ -1,0 +1,88 @@
+#[allow(unused_imports)] use crate::rat::Vec;
+
+
+
+
+use crate::domain_run::change::{Change, make};
+use crate::domain_run::doubts::Doubts;
+use crate::domain_run::run_queue::RunQueue;
+use crate::domain_run::seats::{Seat, Seats};
+use crate::domain_run::standing::standing_of;
+use crate::domain_run::task::Task;
+
+/// A task is charged what it owes since it was seated.
+#[inline(always)]
+pub(super) fn charge(task: &mut Task, seat: Seat, upto: u64)
+{
+    let ticks = upto - seat.since;
+    task.server.left -= i128::from(seat.rate) * i128::from(ticks);
+    task.work -= ticks;
+}
+
+/// A task is charged what it owes, and leaves its seat.
+#[inline(always)]
+pub(super) fn settle(task: &mut Task, seats: &mut Seats) -> bool
+{
+    let cpu = task.cpu;
+    if let Some(seat) = seats.seat_of(cpu, task.number) {
+        charge(task, seat, seats.upto());
+        seats.set(cpu, None);
+        return true;
+    }
+    false
+}
+
+/// Makes a change of a task, and tells the run queue.
+#[inline(always)]
+pub(super) fn turn_settled(task: &mut Task, queue: &mut RunQueue, place: usize, time: u64, change: &Change) -> bool
+{
+    let (number, cpu) = (task.number, task.cpu);
+    match make(task, time, change) {
+        None => false,
+        Some(before) => queue.turn(place, number, cpu, before, standing_of(task)),
+    }
+}
+
+/// A task sits on a CPU no more; on one of them it does not sit as it is.
+#[inline(always)]
+pub(super) fn leave_other(seats: &mut Seats, left: usize, cpu: usize, number: u32)
+{
+    if cpu != left {
+        seats.leave(cpu, number);
+    }
+}
+
+/// Makes a change of a task as it is once it is charged. Where it belongs then, it has no seat.
+#[inline(always)]
+fn turn_one(
+    task: &mut Task,
+    queue: &mut RunQueue,
+    seats: &mut Seats,
+    doubts: &mut Doubts,
+    place: usize,
+    time: u64,
+    change: &Change,
+)
+{
+    let cpu = task.cpu;
+    if settle(task, seats) {
+        doubts.mark(cpu);
+    }
+    if turn_settled(task, queue, place, time, change) {
+        doubts.mark_where_rated(cpu);
+    }
+}
+
+#[inline(always)]
+pub(super) fn turn_task(
+    tasks: &mut Vec<Task>,
+    queue: &mut RunQueue,
+    seats: &mut Seats,
+    doubts: &mut Doubts,
+    place: usize,
+    time: u64,
+    change: &Change,
+)
+{
+    turn_one(&mut tasks[place], queue, seats, doubts, place, time, change);
+}

@@ -1,0 +1,3 @@
+# meas.sh TREE DIR
+D=$2; rm -rf $D; mkdir -p $D; cp -r /tmp/rs/hand /tmp/rsm/in /tmp/rs/conv.py $D/; cd $D; sed -i "s#/tmp/rs/src#$D/src#" conv.py; mkdir src; cp hand/*.rs src/; python3 conv.py $1/crates; rustc --edition 2024 -g -C opt-level=3 src/main.rs -o bench 2>&1 | grep -E "^error" -A7 | head -40
+for f in a2 a c2 63long 255asleep mixed adv2 churn p256 p1; do n=$(valgrind --tool=callgrind --callgrind-out-file=$D/cg.$f ./bench leap in/$f 2>&1 | grep -E "Collected" | awk '{print $4}'); l=$(./bench leap in/$f); m=$(/tmp/rs/bench leap in/$f);  [ "$l" = "$m" ] && s=same || s=DIFFERS; echo "$f leap total $n per line $((n/${l%% *})) $s"; done
