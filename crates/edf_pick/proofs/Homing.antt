@@ -10,7 +10,8 @@ use Rattle.std.proofs.lemmas.Option.{slice_get-get_or}
 use Rattle.edf_pick.specs.declared.candidate.Candidate.{Candidate}
 use Rattle.edf_pick.specs.Changes.{home_on, homed}
 use Rattle.edf_pick.specs.Choice.{is_before}
-use Rattle.edf_pick.specs.Order.{IsRising, IsQueue}
+use Rattle.edf_pick.specs.Order.{IsRising}
+use Rattle.edf_pick.specs.private.Room.{IsQueue}
 use Rattle.edf_pick.specs.Places.{Places, AreSingle, is_task, stands, placed}
 use Rattle.edf_pick.specs.private.First.{staying, is_home, moves, AreMovers}
 use Rattle.edf_pick.proofs.Listing.{inside, read, take_get}

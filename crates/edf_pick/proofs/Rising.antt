@@ -10,7 +10,8 @@ use Rattle.std.proofs.lemmas.List.Edits.{length-insert, length-remove}
 use Rattle.std.proofs.lemmas.List.Sums.{prefix_len-le-length}
 use Rattle.edf_pick.specs.declared.candidate.Candidate.{Candidate}
 use Rattle.edf_pick.specs.Choice.{is_before}
-use Rattle.edf_pick.specs.Order.{IsRising, IsQueue, is_same, has_candidate, with_candidate, without_candidate}
+use Rattle.edf_pick.specs.Order.{IsRising, is_same, has_candidate, with_candidate, without_candidate}
+use Rattle.edf_pick.specs.private.Room.{IsQueue}
 use Rattle.edf_pick.proofs.Before.{before_both, before_other, before_differs, differs_reverse, same_before}
 
 -- how many at the front are before c

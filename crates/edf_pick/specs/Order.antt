@@ -1,5 +1,5 @@
 -- The ready tasks in the order of the choice.
-use Rattle.std.specs.Prelude.{ℕ, ◌≡◌, ◌≤◌, Bool, not, ◌&&◌, ◌==◌, if◌then◌else◌, List, [], ◌∷◌, length, filter, AllPairs, IsTrue}
+use Rattle.std.specs.Prelude.{Bool, not, ◌&&◌, ◌==◌, if◌then◌else◌, List, [], ◌∷◌, filter, AllPairs, IsTrue}
 use Rattle.std.specs.List.{list_any}
 use Rattle.edf_pick.specs.declared.candidate.Candidate.{Candidate}
 use Rattle.edf_pick.specs.Choice.{is_before}
@@ -7,13 +7,6 @@ use Rattle.edf_pick.specs.Choice.{is_before}
 -- each task is before every later one
 abbrev pub IsRising : List Candidate → Type 0
 IsRising queue = AllPairs (λ a b. IsTrue (is_before a b)) queue
-
--- what a queue keeps: its order, at most 256 tasks, and the room for 1,024 that it was opened with,
--- so it takes no more
-pub record IsQueue (queue : List Candidate) (capacity : ℕ) : Type 0 where
-  pub rising : IsRising queue
-  pub few : length queue ≤ 256
-  pub room : capacity ≡ 1024
 
 -- the same deadline and number: one place in the order
 abbrev pub is_same : Candidate → Candidate → Bool

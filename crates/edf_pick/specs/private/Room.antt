@@ -2,7 +2,7 @@
 use Rattle.std.specs.Prelude.{ℕ, ◌≡◌, ◌≤◌, ◌-◌, List, length, take, drop}
 use Rattle.edf_pick.specs.declared.candidate.Candidate.{Candidate}
 use Rattle.edf_pick.specs.declared.room.Room.{Room}
-use Rattle.edf_pick.specs.Order.{IsQueue}
+use Rattle.edf_pick.specs.Order.{IsRising}
 
 -- the tasks from one place up to another
 abbrev pub between : ℕ → ℕ → List Candidate → List Candidate
@@ -16,6 +16,13 @@ pub record IsRoom (room : Room) : Type 0 where
   pub forward : room.front ≤ room.end
   pub within : room.end ≤ 1024
   pub full : length room.tasks.items ≡ 1024
+
+-- what a queue has: its order, at most 256 tasks, and the room for 1,024 that it was opened with,
+-- so it takes no more
+pub record IsQueue (queue : List Candidate) (capacity : ℕ) : Type 0 where
+  pub rising : IsRising queue
+  pub few : length queue ≤ 256
+  pub room : capacity ≡ 1024
 
 -- what a queue keeps
 pub record HoldsQueue (room : Room) (capacity : ℕ) : Type 0 where

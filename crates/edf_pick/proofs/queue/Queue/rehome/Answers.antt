@@ -1,8 +1,7 @@
 use Rattle.std.proofs.Common.{◌<◌, List, length, get_or, set, ap, sym, subst, ◌∙◌}
 use Rattle.std.specs.Prelude.{vec_capacity}
 use Rattle.edf_pick.specs.declared.candidate.Candidate.{Candidate}
-use Rattle.edf_pick.specs.Order.{IsQueue}
-use Rattle.edf_pick.specs.private.Room.{tasks_in}
+use Rattle.edf_pick.specs.private.Room.{IsQueue, tasks_in}
 use Rattle.edf_pick.proofs.Homing.{queue_rehomed}
 use Rattle.edf_pick.proofs.queue.Queue.rehome.Goals as goal
 
