@@ -1,7 +1,7 @@
 -- The laws of the order of the choice.
-use Rattle.std.proofs.Common.{◌≡◌, ◌≢◌, ◌<◌, true, false, ◌&&◌, eqb, ltb, refl, sym, inl, inr, arith, eq-eqb}
+use Rattle.std.proofs.Common.{◌≡◌, ◌≢◌, ◌<◌, ℕ, ◌+◌, ◌*◌, ◌^◌, ◌∙◌, true, false, ◌&&◌, eqb, ltb, refl, sym, inl, inr, arith, eq-eqb}
 use Rattle.std.specs.Prelude.{◌⊎◌}
-use Rattle.std.proofs.lemmas.Bool.{or_cases, or_left, or_right, and_parts, and_from, ltb-true, eqb-true, lt-ltb, both_ways, false_from_ne_true, cases_order, cases_Bool, and_right, ne_eqb}
+use Rattle.std.proofs.lemmas.Bool.{or_cases, or_left, or_right, and_parts, and_from, ltb-true, eqb-true, lt-ltb, both_ways, false_from_ne_true, cases_lt, cases_order, cases_Bool, le-ltb, and_right, ne_eqb}
 use Rattle.edf_pick.specs.declared.candidate.Candidate.{Candidate}
 use Rattle.edf_pick.specs.Choice.{is_before}
 use Rattle.edf_pick.specs.Order.{is_same}
@@ -47,6 +47,20 @@ before_other a b h s =
         | inr o ↦ elim o [ inl less ↦ absurd (both_ways (is_before a b) h (before_tie a b e less)) | inr more ↦ before_tie b a (sym e) more ]
       ]
       | inr o ↦ elim o [ inl less ↦ absurd (both_ways (is_before a b) h (before_earlier a b less)) | inr more ↦ before_earlier b a more ]
+    ]
+
+-- deadline and number as one number
+abbrev pub key : Candidate → ℕ
+key c = c.deadline * 2 ^ 64 + c.number
+
+pub before_by_key : (a b : Candidate) → a.number < 2 ^ 64 → b.number < 2 ^ 64 → ltb (key a) (key b) ≡ is_before a b
+before_by_key a b one other =
+    elim (cases_lt (key a) (key b)) [
+      | inl less ↦ lt-ltb (key a) (key b) less ∙ sym (elim (cases_order a.deadline b.deadline) [
+        | inl e ↦ before_tie a b e (omega arith)
+        | inr o ↦ elim o [ inl earlier ↦ before_earlier a b earlier | inr later ↦ absurd (omega arith) ]
+      ])
+      | inr more ↦ le-ltb (key a) (key b) more ∙ sym (false_from_ne_true (is_before a b) (λ h. elim (before_tells a b h) [ inl x ↦ absurd (omega arith) | inr x ↦ absurd (omega arith) ]))
     ]
 
 -- what is before another has another place

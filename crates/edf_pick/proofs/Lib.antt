@@ -1,7 +1,6 @@
 pub mod Before
 pub mod CallerLemmas
 pub mod Following
-pub mod Halving
 pub mod Homing
 pub mod Listing
 pub mod AtHome
@@ -13,6 +12,7 @@ pub mod Renewed
 pub mod Resting
 pub mod Rising
 pub mod Scheduling
+pub mod Searching
 pub mod Spans
 pub mod Standing
 pub mod Words
