@@ -15,4 +15,5 @@ pub mod Rising
 pub mod Scheduling
 pub mod Spans
 pub mod Standing
+pub mod Still
 pub mod Words
