@@ -1,5 +1,5 @@
 -- The changes of a queue since a choice.
-use Rattle.std.proofs.Common.{◌≡◌, ℕ, zero, suc, ◌<◌, Bool, true, false, cond, List, [], ◌∷◌, ◌++◌, length, get_or, refl, sym, ap, ◌∙◌, subst, arith, inl, inr}
+use Rattle.std.proofs.Common.{◌≡◌, ℕ, zero, suc, ◌<◌, Bool, true, false, cond, List, [], ◌∷◌, ◌++◌, length, length-append, get_or, refl, sym, ap, ◌∙◌, subst, arith, inl, inr}
 use Rattle.std.specs.Prelude.{◌⊎◌, All, Any, Contains, filter, not}
 use Rattle.std.proofs.lemmas.List.Elements.{All-cons, All-weaker, All-filter, Contains-push, Contains-append_left}
 use Rattle.edf_pick.specs.declared.candidate.Candidate.{Candidate}
@@ -92,6 +92,7 @@ come_follows queue places old c (inr is) =
       ];
       again = All-with (λ x. Contains old.gone (record { cpu = x.home; number = x.number }) → Contains new.fresh x) c queue (λ _. Contains-push old.fresh c)
           (All-weaker (λ x. Contains old.gone (record { cpu = x.home; number = x.number }) → Contains old.fresh x) (λ x. Contains old.gone (record { cpu = x.home; number = x.number }) → Contains new.fresh x) (λ x f g. wider x (f g)) queue is.again);
+      still = λ none _ k x at. absurd (let empty = ap (λ (xs : List Candidate). length xs) none in let more = length-append old.fresh (c ∷ []) in omega (arith, empty, more));
     })
 
 pub go_follows : (queue : List Candidate) (places : Places) (old : ChangesView) (c : Candidate) → All (λ a. is_same a c ≡ true → a.home ≡ c.home) queue → All (λ a. a.number ≡ c.number → is_same a c ≡ true) queue → Follows queue places old → Follows (without_candidate c queue) places (record old { gone = old.gone ++ record { cpu = c.home; number = c.number } ∷ [] })
@@ -122,6 +123,7 @@ go_follows queue places old c homes single (inr is) =
                 let no : not true ≡ true = sym (ap not same) ∙ t in
                 absurd cc
           ]) k d h;
+      still = λ _ none k x at. absurd (let empty = ap (λ (gs : List Gone). length gs) none in let more = length-append old.gone (one ∷ []) in omega (arith, empty, more));
     })
   where
     not_false : (b : Bool) → not b ≡ false → b ≡ true

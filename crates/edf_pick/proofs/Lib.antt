@@ -15,4 +15,5 @@ pub mod Scheduling
 pub mod Searching
 pub mod Spans
 pub mod Standing
+pub mod Still
 pub mod Words

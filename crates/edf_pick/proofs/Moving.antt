@@ -70,5 +70,13 @@ room_for list rest total i b a whole differs =
     let single : length (moved_at i b a) ≡ 1 = ap (λ (xs : List Moved). length xs) one in
     omega (arith, all, some, single)
 
+-- a CPU past the last has no other one
+pub differs_within : (before after : Places) (i : ℕ) → length before ≡ length after → same_occupant (get_or before i None) (get_or after i None) ≡ false → i < length before
+differs_within [] [] i len differs = absurd (let same : true ≡ false = differs in cc)
+differs_within [] (a ∷ after) i len differs = absurd (omega (arith, len))
+differs_within (b ∷ before) [] i len differs = absurd (omega (arith, len))
+differs_within (b ∷ before) (a ∷ after) zero len differs = omega arith
+differs_within (b ∷ before) (a ∷ after) (suc i) len differs = let more = differs_within before after i (omega (arith, len)) differs in omega (arith, more)
+
 pub same_all : (before after : Places) → length before ≡ length after → ((cpu : ℕ) → get_or before cpu None ≡ get_or after cpu None) → before ≡ after
 same_all before after len same = same_lists before after len (λ k d h. get_or_default before k d None h ∙ same k ∙ get_or_default after k None d (omega (arith, len, h)))

@@ -2,7 +2,7 @@
 use Rattle.std.proofs.Common.{◌≡◌, ◌≢◌, ◌<◌, ◌≤◌, ◌-◌, ℕ, zero, suc, Bool, true, false, cond, eqb, ltb, ◌||◌, Option, Some, None, List, [], ◌∷◌, length, take, map, get_or, refl, sym, ap, ◌∙◌, subst, arith, inl, inr, eq-eqb, eqb-true}
 use Rattle.std.specs.Prelude.{◌⊎◌, All, AllPairs, Contains, not, position, slice_get}
 use Rattle.std.specs.List.{list_any, position_or_len}
-use Rattle.std.proofs.lemmas.Bool.{cases_eq, cases_lt, cases_Bool, lt-ltb}
+use Rattle.std.proofs.lemmas.Bool.{cases_eq, cases_lt, cases_Bool, lt-ltb, le-ltb}
 use Rattle.std.proofs.lemmas.List.Elements.{All-map}
 use Rattle.std.proofs.lemmas.List.Sums.{position_or_len_is}
 use Rattle.std.proofs.lemmas.Option.{slice_get-get_or}
@@ -133,6 +133,14 @@ module _ (queue : List Candidate) (places : Places) (some : 0 < length places) (
         | inr h ↦ away c (position (is_task c.number) places) (others_away k c at h) ∙ sym (within_homed cut c (position (is_task c.number) places) ∙ others_behind k c at h)
       ]
 
+  -- those of the first places are not behind the cut, and the others are
+  first : (k : ℕ) (c : Candidate) → slice_get queue k ≡ Some c → is_within cut c ≡ ltb k (length places)
+  first k c at =
+      elim (cases_lt k (length places)) [
+        | inl h ↦ chosen_within k c at h ∙ sym (lt-ltb k (length places) h)
+        | inr h ↦ others_behind k c at h ∙ sym (le-ltb k (length places) h)
+      ]
+
   pub renewed : IsListed (map (homed places) queue) places (unchanged (length places) queue)
   renewed = record {
     known = All-map (λ c. Contains [] c ⊎ (stands_home places c ≡ is_within (slice_get queue (length places - 1)) c)) (homed places) queue
@@ -164,6 +172,12 @@ module _ (queue : List Candidate) (places : Places) (some : 0 < length places) (
           ),
         );
     again = λ k d h has. absurd (let l = has.1 in omega (arith, l));
+    still = λ _ _ k x at.
+        let within : k < length queue = (let h = inside (map (homed places) queue) k x at in let m = map_len (homed places) queue in omega (arith, h, m)) in
+        let c = get_or queue k x in
+        let at_c : slice_get queue k ≡ Some c = slice_get-get_or queue k x within in
+        let is : homed places c ≡ x = sym (get_map (homed places) queue k x x within) ∙ read (map (homed places) queue) k x x at in
+        ap (is_within cut) (sym is) ∙ within_homed cut c (position (is_task c.number) places) ∙ first k c at_c;
   }
 
 pub followed : (queue : List Candidate) (before after : Places) → after ≡ placed (length before) queue before → length after ≡ length before → 0 < length before → IsRising queue → AllPairs (λ a b. a.number ≢ b.number) queue → AreSingle before

@@ -1,6 +1,6 @@
 -- What has come into a queue and gone out of it since a choice, so that the next choice looks at
 -- that alone (own).
-use Rattle.std.specs.Prelude.{ℕ, ◌≡◌, ◌⊎◌, ◌-◌, Bool, true, false, not, List, [], position, slice_get, All, Any, Contains, IsTrue, Option, Some, None, slice_index_or}
+use Rattle.std.specs.Prelude.{ℕ, ◌≡◌, ◌⊎◌, ◌-◌, Bool, true, false, not, nat_lt, List, [], length, position, slice_get, All, Any, Contains, IsTrue, Option, Some, None, slice_index_or}
 use Rattle.edf_pick.specs.declared.candidate.Candidate.{Candidate}
 use Rattle.edf_pick.specs.declared.changes.Gone.{Gone}
 use Rattle.edf_pick.specs.Choice.{is_before}
@@ -30,8 +30,9 @@ IsHolding changes cpu number c =
     × ((is_within changes.cut c ≡ true) ⊎ Contains changes.fresh c)
 
 -- a task that has not come since stands where it belongs exactly where it is not behind the cut; an
--- occupant that has not gone since is in the queue; and who has gone and is in the queue has come
--- again
+-- occupant that has not gone since is in the queue; who has gone and is in the queue has come again;
+-- and where none has come or gone since, the first tasks, as many as there are CPUs, are exactly
+-- those that are not behind the cut
 pub record IsListed (queue : List Candidate) (places : Places) (changes : ChangesView) : Type 0 where
   pub known : All (λ c. Contains changes.fresh c
       ⊎ (stands_home places c ≡ is_within changes.cut c)) queue
@@ -40,6 +41,8 @@ pub record IsListed (queue : List Candidate) (places : Places) (changes : Change
       ⊎ Contains changes.gone (record { cpu = cpu; number = number })
   pub again : All (λ c. Contains changes.gone (record { cpu = c.home; number = c.number })
       → Contains changes.fresh c) queue
+  pub still : changes.fresh ≡ [] → changes.gone ≡ [] → (k : ℕ) (c : Candidate)
+      → slice_get queue k ≡ Some c → is_within changes.cut c ≡ nat_lt k (length places)
 
 -- the changes tell all that has changed since these places were taken
 abbrev pub Follows : List Candidate → Places → ChangesView → Type 0

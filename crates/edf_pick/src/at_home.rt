@@ -5,6 +5,7 @@ ghost use Rattle.std.specs.Prelude.{ℕ, ◌≡◌, ◌≢◌, ◌<◌, ◌≤�
 ghost use Rattle.std.specs.Int.{bit_at};
 ghost use Rattle.edf_pick.specs.private.First as spec;
 ghost use Rattle.edf_pick.specs.Changes.{IsListed};
+ghost use Rattle.edf_pick.specs.Moves.{same_occupant};
 ghost use Rattle.edf_pick.specs.Order.{IsRising};
 ghost use Rattle.edf_pick.specs.Places.{AreSingle, AreTaken, placed};
 ghost use Rattle.edf_pick.specs.Schedule.{IsAtHome};
@@ -114,7 +115,7 @@ pub(crate) fn marks_of_listed(
 }
 
 /// Moves the occupants on by what a choice has found: who goes, and then the movers, who stand
-/// nowhere. Marks of the CPUs that may have another one.
+/// nowhere. Marks of the CPUs that have another one.
 #[inline(always)]
 pub(crate) fn pick_marked(
     places: &mut Vec<Option<u32>>,
@@ -139,6 +140,9 @@ pub(crate) fn pick_marked(
     ensures single { AreSingle places.new.items }
     ensures changed { (cpu : ℕ) → bit_at result cpu ≡ 0
         → slice_index_or places.old.items cpu None ≡ slice_index_or places.new.items cpu None }
+    ensures differ { (cpu : ℕ) → bit_at result cpu ≡ 1
+        → same_occupant (slice_index_or places.old.items cpu None)
+        (slice_index_or places.new.items cpu None) ≡ false }
 {
     let chosen = first_of(queue, places.len());
     let stood = *taken;

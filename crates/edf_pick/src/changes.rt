@@ -1,6 +1,6 @@
 //! What has come into a queue and gone out of it since the last choice.
 
-ghost use Rattle.std.specs.Prelude.{ℕ, ◌≡◌, ◌≢◌, ◌<◌, true, length, map, slice_get, IfOk, List, All, AllPairs, Some};
+ghost use Rattle.std.specs.Prelude.{ℕ, ◌≡◌, ◌≢◌, ◌<◌, [], true, false, length, map, slice_get, IfOk, List, All, AllPairs, Some};
 ghost use Rattle.std.specs.Int.{bit_at};
 ghost use Rattle.edf_pick.specs.declared.candidate.Candidate.{Candidate};
 ghost use Rattle.edf_pick.specs.Changes as spec;
@@ -147,12 +147,20 @@ fn is_long(changes: &Changes, chosen: usize) -> bool
     changes.many || 8 * changes.fresh.len() + changes.gone.len() >= chosen
 }
 
-/// As [`crate::placement::pick_by_marks`], by what has changed since the last choice: where that is
-/// listed and little, it looks at that alone, and else at all. Nothing has changed since in the
-/// queue in which each task that stands belongs to the CPU on which it stands. Answers the places
-/// of the movers in the queue, as a word of marks.
+// Whether nothing has come or gone since the last choice.
 #[inline(always)]
-pub(crate) fn pick_changed(
+fn is_still(changes: &Changes) -> bool
+    ensures known { result ≡ true → changes.now.many ≡ false }
+    ensures came { result ≡ true → changes.now.fresh ≡ [] }
+    ensures went { result ≡ true → changes.now.gone ≡ [] }
+{
+    !changes.many && changes.fresh.is_empty() && changes.gone.is_empty()
+}
+
+// As `pick_changed`, where something may have changed: where that is listed and little, it looks at
+// that alone, and else at all.
+#[inline(always)]
+fn pick_anew(
     placement: &mut Placement,
     queue: &Queue,
     changes: &mut Changes,
@@ -191,4 +199,38 @@ pub(crate) fn pick_changed(
     }
     renew(changes, queue.as_slice(), cpus);
     movers
+}
+
+/// As [`crate::placement::pick_by_marks`], by what has changed since the last choice: where nothing
+/// has, the choice is that one still. Nothing has changed since in the queue in which each task
+/// that stands belongs to the CPU on which it stands. Answers the places of the movers in the queue,
+/// as a word of marks.
+#[inline(always)]
+pub(crate) fn pick_changed(
+    placement: &mut Placement,
+    queue: &Queue,
+    changes: &mut Changes,
+    moves: &mut Moves,
+) -> u64
+    requires numbered { AllPairs (λ a b. a.number ≢ b.number) queue.now }
+    requires homed { All (IsAtHome placement.old) queue.now }
+    requires follows { spec.Follows queue.now placement.old changes.old }
+    ensures places { placement.new ≡ placed (length placement.old) queue.now placement.old }
+    ensures moves { moves.new ≡ moved_from 0 placement.old placement.new }
+    ensures len { length placement.new ≡ length placement.old }
+    ensures within { (i : ℕ) → bit_at result i ≡ 1 → i < length queue.now }
+    ensures others { (i : ℕ) (c : Candidate) → bit_at result i ≡ 0
+        → slice_get queue.now i ≡ Some c → spec.homed placement.new c ≡ c }
+    ensures single { AreSingle placement.old }
+    ensures still { AreSingle placement.new }
+    ensures follows { spec.Follows (map (spec.homed placement.new) queue.now) placement.new changes.new }
+{
+    // For the prover alone: a look at either brings what its type keeps.
+    let _ = queue.as_slice();
+    let _ = placement.occupants();
+    if is_still(changes) {
+        moves.clear();
+        return 0;
+    }
+    pick_anew(placement, queue, changes, moves)
 }

@@ -69,8 +69,8 @@ impl Moves {
         self.list.push_reserved(Moved { cpu: 0, before });
     }
 
-    /// Lists the CPUs whose occupants differ from those before, which are among the marked ones, and
-    /// brings those before up to date.
+    /// Lists the marked CPUs, which are those whose occupants differ from those before, and brings
+    /// those before up to date.
     pub(crate) fn list(
         &mut self,
         before: &mut Vec<Option<u32>>,
@@ -81,6 +81,9 @@ impl Moves {
         requires len { vec_len before.old ≡ length occupants.now }
         requires others { (cpu : ℕ) → bit_at changed cpu ≡ 0
             → slice_index_or before.old.items cpu None ≡ slice_index_or occupants.now cpu None }
+        requires differ { (cpu : ℕ) → bit_at changed cpu ≡ 1
+            → spec.same_occupant (slice_index_or before.old.items cpu None)
+            (slice_index_or occupants.now cpu None) ≡ false }
         ensures moves { self.new ≡ spec.moved_from 0 before.old.items occupants.now }
         ensures before { before.new.items ≡ occupants.now }
         ensures room { vec_capacity before.new ≡ vec_capacity before.old }
@@ -100,6 +103,7 @@ pub(crate) fn is_same(a: Option<u32>, b: Option<u32>) -> bool
     }
 }
 
+// Lists a CPU that another one has.
 #[inline(always)]
 fn list_one(
     before: &mut Vec<Option<u32>>,
@@ -109,9 +113,9 @@ fn list_one(
 )
     requires within { cpu < vec_len before.old }
     requires len { vec_len before.old ≡ length occupants.now }
-    requires room { spec.same_occupant (slice_index_or before.old.items cpu None)
-        (slice_index_or occupants.now cpu None) ≡ false
-        → vec_len list.old < vec_capacity list.old }
+    requires differs { spec.same_occupant (slice_index_or before.old.items cpu None)
+        (slice_index_or occupants.now cpu None) ≡ false }
+    requires room { vec_len list.old < vec_capacity list.old }
     ensures list { list.new.items ≡ list.old.items ++ spec.moved_at cpu
         (slice_index_or before.old.items cpu None) (slice_index_or occupants.now cpu None) }
     ensures before { before.new.items
@@ -120,13 +124,11 @@ fn list_one(
     ensures room { vec_capacity before.new ≡ vec_capacity before.old }
     ensures list_room { vec_capacity list.new ≡ vec_capacity list.old }
 {
-    if !is_same(before[cpu], occupants[cpu]) {
-        list.push_reserved(Moved {
-            cpu,
-            before: before[cpu],
-        });
-        before[cpu] = occupants[cpu];
-    }
+    list.push_reserved(Moved {
+        cpu,
+        before: before[cpu],
+    });
+    before[cpu] = occupants[cpu];
 }
 
 #[inline(always)]
@@ -141,6 +143,9 @@ fn list_all(
     requires room { vec_capacity list.old ≡ 64 }
     requires others { (cpu : ℕ) → bit_at changed cpu ≡ 0
         → slice_index_or before.old.items cpu None ≡ slice_index_or occupants.now cpu None }
+    requires differ { (cpu : ℕ) → bit_at changed cpu ≡ 1
+        → spec.same_occupant (slice_index_or before.old.items cpu None)
+        (slice_index_or occupants.now cpu None) ≡ false }
     ensures list { list.new.items ≡ spec.moved_from 0 before.old.items occupants.now }
     ensures before { before.new.items ≡ occupants.now }
     ensures room { vec_capacity before.new ≡ vec_capacity before.old }
@@ -151,8 +156,6 @@ fn list_all(
     'cpus: while left != 0 {
         let cpu = first(left);
         left = without(left, cpu);
-        if cpu < before.len() {
-            list_one(before, occupants, cpu, list);
-        }
+        list_one(before, occupants, cpu, list);
     }
 }

@@ -1,4 +1,4 @@
-use Rattle.std.proofs.Common.{◌≡◌, ◌∙◌, ℕ, List, map, take, vec_len, ap, sym, subst, arith}
+use Rattle.std.proofs.Common.{◌≡◌, ◌∙◌, ℕ, List, map, take, vec_len, ap, sym, subst, arith, inl, inr}
 use Rattle.std.specs.Int.{bit_at}
 use Rattle.std.proofs.lemmas.List.Elements.{All-take}
 use Rattle.edf_pick.specs.declared.candidate.Candidate.{Candidate}
@@ -6,7 +6,7 @@ use Rattle.edf_pick.specs.Places.{Places, AreSingle}
 use Rattle.edf_pick.specs.Schedule.{IsAtHome}
 use Rattle.edf_pick.specs.private.First.{staying, marked, seated_all, AreAway}
 use Rattle.edf_pick.proofs.Marked.{moved, single_kept, single_all, unchanged}
-use Rattle.edf_pick.proofs.AtHome.{left_kept, movers_away, still_away}
+use Rattle.edf_pick.proofs.AtHome.{left_kept, movers_away, still_away, differs, either}
 use Rattle.edf_pick.proofs.at_home.pick_marked.Goals as goal
 use Rattle.edf_pick.proofs.at_home.pick_marked.Goals.{After-clear-kept}
 
@@ -51,3 +51,17 @@ returns-clause-changed c = λ cpu e.
     unchanged (first k) (marked (bit_at c.args.marks.movers) (first k)) c.args.places.now.items c.clear-kept.new.places.items c.start_marked-now.new.places.items cpu (kept k) (started k c.start_marked-now.new.places.items c.start_marked-now.ensures.places)
     (λ none. sym (c.requires.taken cpu) ∙ c.beyond.ensures.bare cpu (c.both.ensures.first cpu e) (c.clear-kept.ensures.taken cpu ∙ none))
     (λ none. sym (c.start_marked-now.ensures.taken cpu) ∙ c.beyond-2.ensures.bare cpu (c.both.ensures.second cpu e) (c.clear-kept.ensures.taken cpu ∙ none))
+
+pub returns-clause-differ : goal.returns-clause-differ
+returns-clause-differ c = λ cpu e.
+    let k = (goal.at.returns-clause-differ c).After-clear-kept in
+    let mid = c.clear-kept.new.places.items in
+    let new = c.start_marked-now.new.places.items in
+    let word = either c.beyond.result c.beyond-2.result c.both.result cpu (c.both.ensures.only cpu) e in
+    let bare : bit_at c.clear-kept.result cpu ≡ 0 = elim word [ inl went ↦ c.beyond.ensures.only cpu went | inr came ↦ c.beyond-2.ensures.only cpu came ] in
+    differs (first k) (bit_at c.args.marks.movers) c.args.places.now.items mid new cpu (away k) (started k new c.start_marked-now.ensures.places)
+    (sym (c.clear-kept.ensures.taken cpu) ∙ bare)
+    (elim word [
+      | inl went ↦ inl (sym (c.requires.taken cpu) ∙ c.beyond.ensures.here cpu went)
+      | inr came ↦ inr (sym (c.start_marked-now.ensures.taken cpu) ∙ c.beyond-2.ensures.here cpu came)
+    ])

@@ -1,30 +1,21 @@
-use Rattle.std.proofs.Common.{◌≡◌, ◌∙◌, ℕ, length, map, ap, sym, subst}
-use Rattle.edf_pick.specs.Changes.{ChangesView, Follows, homed, unchanged}
-use Rattle.edf_pick.specs.Places.{Places, AreSingle, placed}
-use Rattle.edf_pick.proofs.Renewed.{followed}
+use Rattle.std.proofs.Common.{◌≡◌, ◌∙◌, true, refl, sym}
+use Rattle.edf_pick.proofs.Moving.{moved_none}
+use Rattle.edf_pick.proofs.Still.{IsStill, is_still}
 use Rattle.edf_pick.proofs.changes.pick_changed.Goals as goal
-use Rattle.edf_pick.proofs.changes.pick_changed.Goals.{then-cpus-eq1, else-cpus-eq1}
+use Rattle.edf_pick.proofs.changes.pick_changed.Goals.{After-is_still}
 
-pub returns-clause-follows : goal.returns-clause-follows
-returns-clause-follows c =
-    let queue = c.args.queue.now in
-    let before = c.args.placement.now in
-    let after = c.if-cpus-eq1.placement in
-    let facts : (after ≡ placed (length before) queue before) × (length after ≡ length before) × AreSingle before = elim c.if-cpus-eq1.branch [
-      | then-cpus-eq1 w ↦
-          let e = w.pick_one-movers.ensures in
-          (w.placement-is ∙ e.places, ap (λ (ps : Places). length ps) w.placement-is ∙ e.len, e.single)
-      | else-cpus-eq1 w ↦
-          let e = w.pick_by_marks.ensures in
-          (w.placement-is ∙ e.places, ap (λ (ps : Places). length ps) w.placement-is ∙ e.len, e.single)
-    ] in
-    let cpus : length c.occupants-cpus.result.now ≡ length after = ap (λ (ps : Places). length ps) c.occupants-cpus.ensures.occupants ∙ sym facts.1 in
-    let new : c.renew.new.changes ≡ unchanged (length after) queue =
-    c.renew.ensures ∙ ap (λ (k : ℕ). unchanged k c.as_slice.result.now) cpus ∙ ap (unchanged (length after)) c.as_slice.ensures.tasks in
-    let rising = c.as_slice.ensures.rising in
-    let all : Follows (map (homed after) queue) after (unchanged (length after) queue) =
-    followed queue before after facts.0 facts.1 c.occupants-cpus.ensures.some rising c.requires.numbered facts.2 in
-    subst (λ (v : ChangesView). Follows (map (homed after) queue) after v) (sym new) all
+still : (c : After-is_still) → c.is_still.result ≡ true → IsStill c.args.queue.now c.args.placement.now c.args.changes.now
+still c quiet = is_still c.args.queue.now c.args.placement.now c.args.changes.now c.occupants.ensures.some c.as_slice.ensures.rising c.requires.numbered c.occupants.ensures.single c.requires.follows
+    (c.is_still.ensures.known quiet) (c.is_still.ensures.came quiet) (c.is_still.ensures.went quiet)
 
-pub marks_of_listed-marks-requires-clause-single : goal.marks_of_listed-marks-requires-clause-single
-marks_of_listed-marks-requires-clause-single c = subst (λ (ps : Places). AreSingle ps) (sym c.occupants.ensures.occupants) c.occupants-cpus.ensures.single
+pub returns-then-is_still-clause-places : goal.returns-then-is_still-clause-places
+returns-then-is_still-clause-places c = (still (goal.at.returns-then-is_still-clause-places c).After-is_still c.if-is_still.true).same
+
+pub returns-then-is_still-clause-moves : goal.returns-then-is_still-clause-moves
+returns-then-is_still-clause-moves c = c.clear.ensures ∙ sym (moved_none 0 c.args.placement.now c.args.placement.now (λ cpu. refl))
+
+pub returns-then-is_still-clause-others : goal.returns-then-is_still-clause-others
+returns-then-is_still-clause-others c i one bare at = (still (goal.at.returns-then-is_still-clause-others c).After-is_still c.if-is_still.true).home i one at
+
+pub returns-then-is_still-clause-follows : goal.returns-then-is_still-clause-follows
+returns-then-is_still-clause-follows c = (still (goal.at.returns-then-is_still-clause-follows c).After-is_still c.if-is_still.true).follows
