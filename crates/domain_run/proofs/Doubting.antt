@@ -4,7 +4,7 @@ use Rattle.std.specs.Prelude.{◌⊎◌, IfSome, All, IsTrue, is_none, is_some, 
 use Rattle.std.specs.Int.{bit_at}
 use Rattle.std.proofs.lemmas.Bool.{cases_eq, cases_lt, ne_eqb}
 use Rattle.std.proofs.lemmas.Nat.Bits.{bit_at-lt}
-use Rattle.std.proofs.lemmas.List.{get_or-map, get_or_default, get_or-set_other, get_or-set_same, map-set, length-map, length-set}
+use Rattle.std.proofs.lemmas.List.{get_or-map, get_or_default, get_or-set_other, get_or-set_same, map-set, length-map}
 use Rattle.grub_rules.specs.declared.share.Share.{Share}
 use Rattle.grub_rules.specs.Sums.{uinact}
 use Rattle.edf_pick.specs.declared.moves.Moved.{Moved}
@@ -120,9 +120,6 @@ left_none cpu number seats none = ap (left_if cpu seats) none
 abbrev pub IsLeft : ℕ → ℕ → ℕ → ℕ → List (Option Seat) → Type 0
 IsLeft r b c m seats = c < 64 → bit_at b c ≡ 0 → (bit_at r c ≡ 0) × (seat_by m (get_or seats c None) ≡ None)
 
-pub left_marked : (r b c m : ℕ) (seats : List (Option Seat)) → (c < 64 → bit_at b c ≡ 1) → IsLeft r b c m seats
-left_marked r b c m seats marked few none = let one = marked few in absurd (omega (arith, one, none))
-
 -- a task that sat has left a mark
 pub left_unseated : (r b c m : ℕ) (seats : List (Option Seat)) (o : Option Seat) (sat : Bool) → o ≡ seat_by m (get_or seats c None) → sat ≡ is_some o → (IsTrue sat → c < 64 → bit_at b c ≡ 1) → (sat ≡ false → c < 64 → bit_at b c ≡ 0 → bit_at r c ≡ 0) → IsLeft r b c m seats
 left_unseated r b c m seats None sat is same marked free few none = (free same few none, sym is)
@@ -141,6 +138,27 @@ marked_at r a b c d n m seats tasks p x y h read x_is y_is one two bare = record
   sums = λ i few e. elim (cases_eq i c) [
     | inl same ↦ inr (subst (λ (k : ℕ). bit_at r k ≡ 0) (sym same) (here i same few e).0)
     | inr other ↦ inl (uinact_set i tasks p x y h read (λ q. other (sym q ∙ x_is)) (λ q. apart b d i two few e (sym q ∙ y_is)))
+  ];
+}
+  where
+    here : (i : ℕ) → i ≡ c → i < 64 → bit_at b i ≡ 0 → (bit_at r c ≡ 0) × (seat_by m (get_or seats c None) ≡ None)
+    here i same few e = one (subst (λ (k : ℕ). k < 64) same few) (subst (λ (k : ℕ). bit_at b k ≡ 0) same e)
+
+-- another task at a place of the list, on the same CPU, where neither has a seat then
+pub marked_home : (r a b c m : ℕ) (seats : List (Option Seat)) (tasks : List Task) (p : ℕ) (x y : Task) → p < length tasks → x ≡ get_or tasks p x → x.cpu ≡ c → y.cpu ≡ c
+    → IsLeft r b c m seats → ((i : ℕ) → bit_at b i ≡ 0 → bit_at a i ≡ 0)
+    → IsMarked r a b seats (left c m (left c m seats)) tasks (set tasks p y)
+marked_home r a b c m seats tasks p x y h read x_is y_is one bare = record {
+  bare = bare;
+  seats = λ i few e. elim (cases_eq i c) [
+    | inl same ↦
+        let none = left_none c m seats (here i same few e).1 in
+        ap (λ (xs : List (Option Seat)). get_or (left c m xs) i None) none ∙ ap (λ (xs : List (Option Seat)). get_or xs i None) none
+    | inr other ↦ left_elsewhere c m i (left c m seats) other ∙ left_elsewhere c m i seats other
+  ];
+  sums = λ i few e. elim (cases_eq i c) [
+    | inl same ↦ inr (subst (λ (k : ℕ). bit_at r k ≡ 0) (sym same) (here i same few e).0)
+    | inr other ↦ inl (uinact_set i tasks p x y h read (λ q. other (sym q ∙ x_is)) (λ q. other (sym q ∙ y_is)))
   ];
 }
   where
@@ -403,20 +421,21 @@ push_settled d e w places s v items after t is more marked bare rated sum limit 
     (λ i h q. refl) are))
 
 -- a task at a place of the list has changed, and has no seat on its CPU
-pub turn_settled : (d e : Doubts) (w : ℕ) (places : Places) (seats after : List (Option Seat)) (tasks now : List Task) (p cpu : ℕ) (f : Task → Task) (x : Task) → p < length tasks → x ≡ get_or tasks p x → x.cpu ≡ cpu → (f x).cpu ≡ x.cpu
+pub turn_settled : (d e : Doubts) (w : ℕ) (places : Places) (seats after : List (Option Seat)) (tasks now : List Task) (p cpu number : ℕ) (f : Task → Task) (x : Task) → p < length tasks → x ≡ get_or tasks p x → x.cpu ≡ cpu → x.number ≡ number → (f x).cpu ≡ x.cpu → (f x).number ≡ x.number
     → IsStep f p tasks now → ((t : Task) → after ≡ left_of (get_or now p t) (left_of (get_or tasks p t) seats))
-    → (cpu < 64 → bit_at e.cpus cpu ≡ 1) → ((i : ℕ) → bit_at e.cpus i ≡ 0 → bit_at d.cpus i ≡ 0) → e.rated ≡ d.rated → e.sum ≡ d.sum → e.limit ≡ d.limit
+    → IsLeft d.rated e.cpus cpu number seats → ((i : ℕ) → bit_at e.cpus i ≡ 0 → bit_at d.cpus i ≡ 0) → e.rated ≡ d.rated → e.sum ≡ d.sum → e.limit ≡ d.limit
     → AreSettled d w places seats tasks → AreSettled e w places after now
-turn_settled d e w places seats after tasks now p cpu f x h read home stays step left_are marked bare rated sum limit are =
+turn_settled d e w places seats after tasks now p cpu number f x h read home named stays keeps step left_are left_it bare rated sum limit are =
     let y = f x in
     let now_is : now ≡ set tasks p y = step.is x ∙ ap (λ (t : Task). set tasks p (f t)) (sym read) in
-    let many : length now ≡ length tasks = ap (λ (ts : List Task). length ts) now_is ∙ length-set tasks p y in
     let there : get_or now p x ≡ y = ap (λ (ts : List Task). get_or ts p x) now_is ∙ get_or-set_same tasks p y x h in
-    let seats_are : after ≡ left y.cpu y.number (left x.cpu x.number seats) = left_are x ∙ (λ i. left_of (there i) (left_of ((sym read) i) seats)) in
+    let first : left_of (get_or tasks p x) seats ≡ left cpu number seats = ap (λ (t : Task). left_of t seats) (sym read) ∙ (λ i. left (home i) (named i) seats) in
+    let seats_are : after ≡ left cpu number (left cpu number seats) =
+    left_are x
+    ∙ (λ i. left_of (there i) (first i))
+    ∙ (λ i. left ((stays ∙ home) i) ((keeps ∙ named) i) (left cpu number seats)) in
     subst (λ (xs : List (Option Seat)). AreSettled e w places xs now) (sym seats_are)
-    (subst (AreSettled e w places (left y.cpu y.number (left x.cpu x.number seats))) (sym now_is)
-    (settled_again d e w places places seats (left y.cpu y.number (left x.cpu x.number seats)) tasks (set tasks p y) rated sum limit
-    (marked_at d.rated d.cpus e.cpus x.cpu y.cpu y.number x.number seats tasks p x y h read refl refl
-    (left_marked d.rated e.cpus x.cpu x.number seats (subst (λ (c : ℕ). c < 64 → bit_at e.cpus c ≡ 1) (sym home) marked))
-    (subst (λ (c : ℕ). c < 64 → bit_at e.cpus c ≡ 1) (sym (stays ∙ home)) marked) bare)
+    (subst (AreSettled e w places (left cpu number (left cpu number seats))) (sym now_is)
+    (settled_again d e w places places seats (left cpu number (left cpu number seats)) tasks (set tasks p y) rated sum limit
+    (marked_home d.rated d.cpus e.cpus cpu number seats tasks p x y h read home (stays ∙ home) left_it bare)
     (λ i h q. refl) are))

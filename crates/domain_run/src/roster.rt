@@ -309,7 +309,7 @@ impl Roster {
         // For the prover alone: a look at the seats brings that there are at most 64.
         let _ = self.seats.len();
         let cpu = self.tasks[place].cpu;
-        turning::turn_task(
+        let sat = turning::turn_task(
             &mut self.tasks,
             &mut self.queue,
             &mut self.seats,
@@ -317,7 +317,7 @@ impl Roster {
             time,
             change,
         );
-        self.doubts.mark(cpu);
+        self.doubts.mark_left(cpu, sat);
     }
 
     /// Changes the task of a number, where it is listed.

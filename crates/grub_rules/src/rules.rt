@@ -1,7 +1,7 @@
 //! Zero-lag times and the reclaiming rate (sched-deadline.rst, "Bandwidth reclaiming").
 
 ghost use Rattle.std.specs.Prelude.{◌≡◌, ◌<◌, ◌≤◌, ◌^◌, ◌+◌, ◌*◌, ◌/◌, ◌-◌, max, pos, ◌≤ℤ◌};
-ghost use Rattle.attr_check.specs.Ratio.{cap};
+ghost use Rattle.attr_check.specs.Ratio.{cap, unit};
 ghost use Rattle.cbs_rules.specs.Budget.{above_zero, budget};
 ghost use Rattle.grub_rules.specs.Lag as lag;
 ghost use Rattle.grub_rules.specs.Rate as rates;
@@ -18,6 +18,27 @@ fn divided(number: u128, by: u64) -> u128
         return u128::from(number as u64 / by);
     }
     number / u128::from(by)
+}
+
+/// What is left to each CPU of a sum; on one CPU nothing is divided.
+fn on_each(sum: u64, cpus: u64) -> u64
+    requires { 0 < cpus }
+    ensures { result ≡ sum / cpus }
+{
+    if cpus == 1 { sum } else { sum / cpus }
+}
+
+/// A bandwidth as a share of a limit, in 1/2^20, rounded up: where the limit is a whole CPU it is the
+/// bandwidth itself.
+fn share_of(bw: u64, limit: u64) -> u64
+    requires bw { bw ≤ 2 ^ 26 }
+    requires limit { (0 < limit) × (limit ≤ 1048576) }
+    ensures { result ≡ rates.div_up (bw * unit) limit }
+{
+    if limit == UNIT {
+        return bw;
+    }
+    (bw * UNIT + limit - 1) / limit
 }
 
 /// How long before its deadline a server would be in step with the fluid schedule, in microseconds.
@@ -63,7 +84,7 @@ pub fn rate(params: &Params, uinact: u64, sum: u64, cpus: u64, limit: u64) -> u6
         return UNIT;
     }
     // Umax - Uextra: what the tasks of the domain have of each CPU
-    let used = sum / cpus;
+    let used = on_each(sum, cpus);
     let taken = params.bw.max(used.saturating_sub(uinact));
-    ((taken * UNIT + limit - 1) / limit).max(1)
+    share_of(taken, limit).max(1)
 }

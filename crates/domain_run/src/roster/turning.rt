@@ -1,7 +1,7 @@
 //! A change of one listed task, of which the run queue is told. Before it changes it is charged what
 //! it owes, and leaves its seat.
 
-ghost use Rattle.std.specs.Prelude.{◌≡◌, ◌<◌, ◌≤◌, All, IfSome, None, Some, length, slice_index_or, vec_capacity};
+ghost use Rattle.std.specs.Prelude.{◌≡◌, ◌<◌, ◌≤◌, All, IfSome, None, Some, is_some, length, slice_index_or, vec_capacity};
 ghost use Rattle.domain_run.specs.declared.task.Task.{Task};
 ghost use Rattle.domain_run.specs.Sound.{IsSound};
 ghost use Rattle.domain_run.specs.private.Roster.{after_change, MayMake, Fits};
@@ -28,23 +28,27 @@ pub(super) fn charge(task: &mut Task, seat: Seat, upto: u64)
     task.work -= ticks;
 }
 
-/// A task is charged what it owes, and leaves its seat. One that is not ready sits nowhere.
+/// A task is charged what it owes, and leaves its seat. One that is not ready sits nowhere. Whether it
+/// sat.
 #[inline(always)]
-pub(super) fn settle(task: &mut Task, seats: &mut Seats)
+pub(super) fn settle(task: &mut Task, seats: &mut Seats) -> bool
     requires { waiting.WaitsIf seats.old.seats task.old }
     ensures task { task.new ≡ waiting.owed seats.old.upto seats.old.seats task.old }
     ensures seats { seats.new ≡ record seats.old {
       seats = seats_spec.left task.old.cpu task.old.number seats.old.seats;
     } }
+    ensures sat { result ≡ is_some (waiting.seat_of seats.old.seats task.old) }
 {
     if !task.condition.is_ready() {
-        return;
+        return false;
     }
     let cpu = task.cpu;
-    if let Some(seat) = seats.seat_of(cpu, task.number) {
-        charge(task, seat, seats.upto());
-        seats.set(cpu, None);
-    }
+    let Some(seat) = seats.seat_of(cpu, task.number) else {
+        return false;
+    };
+    charge(task, seat, seats.upto());
+    seats.set(cpu, None);
+    true
 }
 
 /// Makes a change of a task, and tells the run queue.
@@ -79,7 +83,7 @@ pub(super) fn leave_other(seats: &mut Seats, left: usize, cpu: usize, number: u3
 }
 
 /// Makes a change of a task as it is once it is charged. It belongs to its CPU still, and has no seat
-/// there then.
+/// there then. Whether it had one.
 #[inline(always)]
 fn turn_one(
     task: &mut Task,
@@ -88,7 +92,7 @@ fn turn_one(
     place: usize,
     time: u64,
     change: &Change,
-)
+) -> bool
     requires narrow { length queue.old.accounts.all ≤ 64 }
     requires waits { waiting.WaitsIf seats.old.seats task.old }
     requires sound { IsSound time (waiting.owed seats.old.upto seats.old.seats task.old) }
@@ -111,12 +115,14 @@ fn turn_one(
     ensures seats { seats.new ≡ record seats.old {
       seats = seats_spec.left task.old.cpu task.old.number seats.old.seats;
     } }
+    ensures sat { result ≡ is_some (waiting.seat_of seats.old.seats task.old) }
 {
-    settle(task, seats);
+    let sat = settle(task, seats);
     turn_settled(task, queue, place, time, change);
+    sat
 }
 
-/// Changes the task at a place of the list.
+/// Changes the task at a place of the list. Whether it sat.
 #[inline(always)]
 pub(super) fn turn_task(
     tasks: &mut Vec<Task>,
@@ -125,7 +131,7 @@ pub(super) fn turn_task(
     place: usize,
     time: u64,
     change: &Change,
-)
+) -> bool
     requires narrow { length queue.old.accounts.all ≤ 64 }
     requires there { place < length tasks.old.items }
     requires fits { Fits (length queue.old.accounts.all) change.now }
@@ -150,6 +156,8 @@ pub(super) fn turn_task(
     ensures clock { seats.new.upto ≡ seats.old.upto }
     ensures wide { length seats.new.seats ≡ length seats.old.seats }
     ensures room { vec_capacity tasks.new ≡ vec_capacity tasks.old }
+    ensures sat { (d : Task) → result
+        ≡ is_some (waiting.seat_of seats.old.seats (slice_index_or tasks.old.items place d)) }
 {
-    turn_one(&mut tasks[place], queue, seats, place, time, change);
+    turn_one(&mut tasks[place], queue, seats, place, time, change)
 }

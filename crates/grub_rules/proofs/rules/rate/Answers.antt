@@ -1,4 +1,4 @@
-use Rattle.std.proofs.Common.{ap, ◌∙◌}
+use Rattle.std.proofs.Common.{◌≡◌, ◌-◌, ◌/◌, max, ap, ◌∙◌}
 use Rattle.attr_check.specs.ParamsView.{ParamsView}
 use Rattle.grub_rules.specs.Rate.{rate}
 use Rattle.grub_rules.proofs.Rating.{rate_is, slow, most}
@@ -7,16 +7,20 @@ use Rattle.grub_rules.proofs.rules.rate.Goals as goal
 abbrev seen : (c : goal.After-max) → ParamsView
 seen c = let p = c.params.inside in record { runtime = p.runtime; deadline = p.deadline; period = p.period; reclaim = p.reclaim; bw = p.bw }
 
+-- what the tasks take, from what they have of each CPU
+taken_is : (c : goal.After-max) → c.max-taken.result ≡ max (seen c).bw (c.args.sum / c.args.cpus - c.args.uinact)
+taken_is c = rw c.on_each-used.ensures at (rw c.saturating_sub.ensures at c.max-taken.ensures)
+
 pub returns-clause-value : goal.returns-clause-value
 returns-clause-value c =
     let t = c.max-taken.result in
-    rate_is (seen c) c.args.uinact c.args.sum c.args.cpus c.args.limit t c.max.result c.if-not-params.false (rw c.saturating_sub.ensures at c.max-taken.ensures) c.max.ensures
+    rate_is (seen c) c.args.uinact c.args.sum c.args.cpus c.args.limit t c.max.result c.if-not-params.false (taken_is c) (rw c.share_of.ensures at c.max.ensures)
     ∙ ap (λ p. rate p c.args.uinact c.args.sum c.args.cpus c.args.limit) c.params.view_is
 
 pub returns-clause-slow : goal.returns-clause-slow
 returns-clause-slow c =
-    slow (seen c) c.args.uinact c.args.sum c.args.cpus c.args.limit c.max-taken.result c.max.result c.params.invariant c.requires.limit.0 c.requires.limit.1 (rw c.saturating_sub.ensures at c.max-taken.ensures) c.max.ensures
+    slow (seen c) c.args.uinact c.args.sum c.args.cpus c.args.limit c.max-taken.result c.max.result c.params.invariant c.requires.limit.0 c.requires.limit.1 (taken_is c) (rw c.share_of.ensures at c.max.ensures)
 
 pub returns-clause-most : goal.returns-clause-most
 returns-clause-most c =
-    most (seen c) c.args.uinact c.args.sum c.args.cpus c.args.limit c.max-taken.result c.max.result c.params.invariant c.requires.limit.0 c.requires.limit.1 (rw c.saturating_sub.ensures at c.max-taken.ensures) c.max.ensures c.requires.sum
+    most (seen c) c.args.uinact c.args.sum c.args.cpus c.args.limit c.max-taken.result c.max.result c.params.invariant c.requires.limit.0 c.requires.limit.1 (taken_is c) (rw c.share_of.ensures at c.max.ensures) c.requires.sum
