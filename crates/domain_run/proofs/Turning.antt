@@ -1,20 +1,25 @@
 -- A change of one task of the list, where charges wait.
-use Rattle.std.proofs.Common.{◌≡◌, ◌≢◌, ℕ, ◌<◌, Option, List, length, map, get_or, set, sym, ap, ◌∙◌, subst, arith}
+use Rattle.std.proofs.Common.{◌≡◌, ◌≢◌, ℕ, ◌<◌, Option, None, false, List, length, map, get_or, set, refl, sym, ap, ◌∙◌, subst, arith}
 use Rattle.std.specs.Prelude.{All, AllPairs}
+use Rattle.std.specs.Int.{bit_at}
 use Rattle.std.proofs.lemmas.List.{length-map}
 use Rattle.std.proofs.lemmas.List.Elements.{All-set}
 use Rattle.domain_run.specs.declared.task.Task.{Task}
 use Rattle.domain_run.specs.declared.change.Change.{Change}
 use Rattle.domain_run.specs.declared.seats.Seat.{Seat}
+use Rattle.domain_run.specs.declared.doubts.Doubts.{Doubts}
 use Rattle.domain_run.specs.declared.run_queue.RunQueue.{RunQueue}
+use Rattle.edf_pick.specs.Places.{Places}
 use Rattle.domain_run.specs.Sound.{IsSound}
 use Rattle.domain_run.specs.private.RunQueue.{standing_of, IsCounted, MayTurn, HasTurned}
 use Rattle.domain_run.specs.private.Roster.{after_change, Fits, MayMake}
-use Rattle.domain_run.specs.private.Seats.{SeatsView}
-use Rattle.domain_run.specs.private.Waiting.{owed, owed_all, left_of, WaitsIf, AllWait}
+use Rattle.domain_run.specs.private.Doubts.{AreSettled}
+use Rattle.domain_run.specs.private.Seats.{SeatsView, left_if}
+use Rattle.domain_run.specs.private.Waiting.{seat_of, owed_by, owed, owed_all, left_of, WaitsIf, AllWait}
 use Rattle.domain_run.specs.private.Timers.{IsStep}
 use Rattle.domain_run.proofs.Counting.{IsFit}
 use Rattle.domain_run.proofs.Making.{place_fit, place_may, place_counted}
+use Rattle.domain_run.proofs.Doubting.{turn_settled, left_unseated, IsLeft}
 use Rattle.domain_run.proofs.Due.{step_is}
 use Rattle.domain_run.proofs.Waiting.{alike_owed, numbered_unlike, read_owed, left_once, left_twice, length_left, turned_owed, turned_waits, seats_seen}
 
@@ -84,3 +89,47 @@ module _ (w time : ℕ) (change : Change) (queue : RunQueue) (s : SeatsView) (ta
 
     pub wide_turned : length after.seats ≡ length s.seats
     wide_turned = ap (λ (v : SeatsView). length v.seats) are ∙ length_left y.cpu x.number (left_of x s.seats) ∙ length_left x.cpu x.number s.seats
+
+  -- ---- of a task that sits nowhere nothing waits, and the seats stay
+  module _ (none : seat_of s.seats x ≡ None) where
+    bare : seen ≡ x
+    bare = ap (λ (o : Option Seat). owed_by s.upto o x) none
+
+    pub read_bare : x ≡ get_or (owed_all s tasks) p x
+    read_bare = sym bare ∙ read_seen ∙ ap (λ (t : Task). get_or (owed_all s tasks) p t) bare
+
+    pub sound_bare : All (IsSound time) (owed_all s tasks) → IsSound time x
+    sound_bare sound = subst (IsSound time) bare (sound_at sound)
+
+    pub may_bare : ((d : Task) → MayMake time change (get_or (owed_all s tasks) p d)) → MayMake time change x
+    may_bare may = subst (MayMake time change) bare (may_at may)
+
+    pub turns_bare : MayTurn p x.number x.cpu queue (standing_of x) (standing_of (after_change time change x))
+    turns_bare = subst (λ (t : Task). MayTurn p t.number t.cpu queue (standing_of t) (standing_of (after_change time change t))) bare turns_at
+
+    module _ (new : RunQueue) (y : Task) (is : y ≡ after_change time change x) where
+      made : y ≡ after_change time change seen
+      made = is ∙ ap (after_change time change) (sym bare)
+
+      kept : s ≡ record s { seats = left_of x s.seats }
+      kept = ap (λ (seats : List (Option Seat)). record s { seats = seats }) (sym (ap (left_if x.cpu s.seats) none))
+
+      pub step_bare : IsStep (after_change time change) p (owed_all s tasks) (owed_all s (set tasks p y))
+      step_bare = step_turned new s y made kept
+
+      pub sound_all_bare : IsSound time y → All (IsSound time) (owed_all s tasks) → All (IsSound time) (owed_all s (set tasks p y))
+      sound_all_bare = sound_turned new s y made kept
+
+      pub counted_bare : HasTurned p x.number x.cpu (standing_of x) (standing_of y) queue new → IsCounted w new (owed_all s (set tasks p y))
+      counted_bare has = counted_turned new s y made kept (subst (λ (t : Task). HasTurned p t.number t.cpu (standing_of t) (standing_of y) queue new) (sym bare) has)
+
+      pub waits_bare : AllWait s.seats tasks → AllWait s.seats (set tasks p y)
+      waits_bare = waits_turned new s y made kept
+
+      pub settled_bare : (d e : Doubts) (places : Places) → (false ≡ false → x.cpu < 64 → bit_at e.cpus x.cpu ≡ 0 → bit_at d.rated x.cpu ≡ 0) → ((i : ℕ) → bit_at e.cpus i ≡ 0 → bit_at d.cpus i ≡ 0) → e.rated ≡ d.rated → e.sum ≡ d.sum → e.limit ≡ d.limit
+          → AreSettled d w places s.seats (owed_all s tasks) → AreSettled e w places s.seats (owed_all s (set tasks p y))
+      settled_bare d e places free marks rated sum limit settled =
+          let left_it : IsLeft d.rated e.cpus x.cpu x.number s.seats = left_unseated d.rated e.cpus x.cpu x.number s.seats None false (sym none) refl (λ f. absurd cc) free in
+          turn_settled d e w places s.seats s.seats (owed_all s tasks) (owed_all s (set tasks p y)) p x.cpu x.number (after_change time change) x within read_bare refl refl
+          (sym (ap (λ (t : Task). t.cpu) is) ∙ stays new s y made kept) (sym (ap (λ (t : Task). t.number) is) ∙ same new s y made kept)
+          step_bare (seats_turned new s y made kept) left_it marks rated sum limit settled

@@ -91,8 +91,8 @@ impl Doubts {
         }
     }
 
-    /// A task has left a CPU, on which it sat or did not: where it did the CPU is in doubt, and else
-    /// only where its seat keeps what its rate was worked out from.
+    /// A task has left a CPU, or has changed there, and sat on it or did not: where it did the CPU is in
+    /// doubt, and else only where its seat keeps what its rate was worked out from.
     #[inline(always)]
     pub(crate) fn mark_left(&mut self, cpu: usize, sat: bool)
         ensures sat { IsTrue sat → cpu < 64 → bit_at self.new.cpus cpu ≡ 1 }

@@ -320,6 +320,29 @@ impl Roster {
         self.doubts.mark_left(cpu, sat);
     }
 
+    /// As `turn`, of a task that sits nowhere, since it has been charged: nobody looks for its seat.
+    #[inline(always)]
+    fn turn_charged(&mut self, place: usize, time: u64, change: &Change)
+        requires there { place < length self.old.tasks }
+        requires free { (d : Task)
+            → seat_of self.old.seats (slice_index_or self.old.tasks place d) ≡ None }
+        requires fits { Fits self.old.cpus change.now }
+        requires sound { All (IsSound time) self.old.tasks }
+        requires may { (d : Task) → MayMake time change.now (slice_index_or self.old.tasks place d) }
+        ensures cpus { self.new.cpus ≡ self.old.cpus }
+        ensures step { IsStep (after_change time change.now) place self.old.tasks self.new.tasks }
+        ensures sound { All (IsSound time) self.new.tasks }
+        ensures clock { self.new.clock ≡ self.old.clock }
+        ensures places { self.new.places ≡ self.old.places }
+        ensures seats { self.new.seats ≡ self.old.seats }
+    {
+        // For the prover alone: a look at the seats brings that there are at most 64.
+        let _ = self.seats.len();
+        let cpu = self.tasks[place].cpu;
+        turning::turn_settled(&mut self.tasks[place], &mut self.queue, place, time, change);
+        self.doubts.mark_left(cpu, false);
+    }
+
     /// Changes the task of a number, where it is listed.
     #[inline(always)]
     pub(crate) fn turn_number(&mut self, number: u32, time: u64, change: &Change)

@@ -86,7 +86,7 @@ impl Roster {
         self.vacate_at(cpu, place, seat);
         let left = self.tasks[place].server.left;
         let left = left_after(left, used_in(left, seat.rate, ticks));
-        self.turn(place, time, &Change::Run { ticks, left });
+        self.turn_charged(place, time, &Change::Run { ticks, left });
     }
 
     /// So many ticks pass, up to a time, and no seat ends before the last of them: who sits has run

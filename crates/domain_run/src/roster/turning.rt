@@ -53,7 +53,13 @@ pub(super) fn settle(task: &mut Task, seats: &mut Seats) -> bool
 
 /// Makes a change of a task, and tells the run queue.
 #[inline(always)]
-fn turn_settled(task: &mut Task, queue: &mut RunQueue, place: usize, time: u64, change: &Change)
+pub(super) fn turn_settled(
+    task: &mut Task,
+    queue: &mut RunQueue,
+    place: usize,
+    time: u64,
+    change: &Change,
+)
     requires narrow { length queue.old.accounts.all ≤ 64 }
     requires sound { IsSound time task.old }
     requires may { MayMake time change.now task.old }

@@ -1,16 +1,16 @@
-use Rattle.std.proofs.Common.{rules, ◌≡◌, ◌≢◌, ◌<◌, ◌-◌, ◌*◌, ◌^◌, Some, None, List, length, map, get_or, set, sym, ap, subst, ◌∙◌, arith, inl, inr}
+use Rattle.std.proofs.Common.{rules, ◌≡◌, ◌≢◌, ◌<◌, ◌-◌, ◌*◌, ◌^◌, Some, None, map, get_or, set, sym, ap, subst, ◌∙◌}
 use Rattle.std.specs.Prelude.{ℤ, pos, ◌-ℤ◌, ◌<ℤ◌, ◌≤ℤ◌, AllPairs}
 use Rattle.std.proofs.Math.Facts.{to_z-of_z}
 use mir.Syntax.{w128}
 use mir.Val.{SFits, of_z, to_z}
-use Rattle.std.proofs.lemmas.List.{get_or-set_same, get_or_default}
+use Rattle.std.proofs.lemmas.List.{get_or_default}
 use Rattle.domain_run.specs.declared.task.Task.{Task}
 use Rattle.domain_run.specs.private.Paying.{ran_until}
 use Rattle.domain_run.specs.private.Roster.{RosterView, MayRun}
-use Rattle.domain_run.specs.private.Waiting.{left_of, seat_of, passed}
+use Rattle.domain_run.specs.private.Waiting.{seat_of, passed}
 use Rattle.domain_run.proofs.Paying.{same_ran_until}
 use Rattle.domain_run.proofs.Seatings.{nobody_here}
-use Rattle.domain_run.proofs.Later.{facts_of, times_one, left_none, orphan_passes, finished_passes}
+use Rattle.domain_run.proofs.Later.{facts_of, times_one, orphan_passes, finished_passes}
 use Rattle.domain_run.proofs.roster.Roster.finish_at.Goals as goal
 
 pub returns-in_default-at-clause-tasks : goal.returns-in_default-at-clause-tasks
@@ -53,8 +53,8 @@ left_after-left-requires-clause-high c =
     let f = facts_of c.args.self.now c.vacate_at.new.self c.args.time c.args.ticks c.args.cpu c.in-Some-at.place c.in-Some.seat c.index.result.now c.self.inside.queue c.self-2.inside.queue c.self.inside.seats c.self-2.inside.seats c.self.inside.tasks.items c.self-2.inside.tasks.items c.vacate_at.ensures c.self.view_is c.self.invariant.waits c.self-2.view_is c.in-Some.ensures.seat c.in-Some.ensures.ahead c.in-Some-at.ensures.there c.in-Some-at.ensures.home c.index.ensures c.requires.some c.requires.early c.requires.ends c.requires.sound in
     subst (λ (z : ℤ). z ≤ℤ pos (2 ^ 52)) (sym value) f.fin.high
 
-pub turn-requires-clause-may : goal.turn-requires-clause-may
-turn-requires-clause-may c d =
+pub turn_charged-requires-clause-may : goal.turn_charged-requires-clause-may
+turn_charged-requires-clause-may c d =
     let left = c.index.result.now.server.left in
     let fits : SFits w128 left = search rules in
     let value : to_z w128 (of_z w128 left) ≡ left = to_z-of_z {w = w128} {z = left} fits in
@@ -69,31 +69,14 @@ turn-requires-clause-may c d =
     let is : x ≡ get_or c.vacate_at.new.self.tasks p d = f.read ∙ get_or_default c.args.self.now.tasks p x d c.in-Some-at.ensures.there.within ∙ ap (λ (r : RosterView). get_or r.tasks p d) (sym c.vacate_at.ensures) in
     subst (MayRun c.args.time c.args.ticks (to_z w128 (of_z w128 new))) is (subst (λ (z : ℤ). MayRun c.args.time c.args.ticks z x) (sym left_is) f.fin.may)
 
-pub returns-clause-seats : goal.returns-clause-seats
-returns-clause-seats c =
-    let f = facts_of c.args.self.now c.vacate_at.new.self c.args.time c.args.ticks c.args.cpu c.in-Some-at.place c.in-Some.seat c.index.result.now c.self.inside.queue c.self-2.inside.queue c.self.inside.seats c.self-2.inside.seats c.self.inside.tasks.items c.self-2.inside.tasks.items c.vacate_at.ensures c.self.view_is c.self.invariant.waits c.self-2.view_is c.in-Some.ensures.seat c.in-Some.ensures.ahead c.in-Some-at.ensures.there c.in-Some-at.ensures.home c.index.ensures c.requires.some c.requires.early c.requires.ends c.requires.sound in
+pub turn_charged-requires-clause-free : goal.turn_charged-requires-clause-free
+turn_charged-requires-clause-free c d =
     let old = c.args.self.now in
-    let mid = c.vacate_at.new.self in
-    let x = c.index.result.now in
     let p = c.in-Some-at.place in
-    let k = c.args.ticks in
-    let z = to_z w128 (of_z w128 c.left_after-left.result) in
-    let y = ran_until c.args.time k z x in
-    let is : get_or mid.tasks p x ≡ x = sym (f.read ∙ ap (λ (r : RosterView). get_or r.tasks p x) (sym c.vacate_at.ensures)) in
-    let none : (t : Task) → t.cpu ≡ c.args.cpu → seat_of mid.seats t ≡ None = λ t e. ap (λ (r : RosterView). seat_of r.seats t) c.vacate_at.ensures ∙ nobody_here old.seats c.args.cpu t e in
-    let inside : p < length mid.tasks = let h = c.in-Some-at.ensures.there.within in omega (arith, h, ap (λ (r : RosterView). length r.tasks) c.vacate_at.ensures) in
-    let now : get_or c.turn.new.self.tasks p x ≡ y = ap (λ (ts : List Task). get_or ts p x) (c.turn.ensures.step.is x) ∙ get_or-set_same mid.tasks p (ran_until c.args.time k z (get_or mid.tasks p x)) x inside ∙ ap (ran_until c.args.time k z) is in
-    let seats : c.turn.new.self.seats ≡ set old.seats c.args.cpu None =
-    elim c.turn.ensures.left [
-      | inl same ↦ ap (λ (r : RosterView). r.seats) same
-      | inr left ↦
-          left x
-          ∙ (λ i. left_of (now i) (left_of (is i) mid.seats))
-          ∙ ap (left_of y) (left_none mid.seats x (none x f.home))
-          ∙ left_none mid.seats y (none y ((same_ran_until c.args.time k z x).cpu ∙ f.home))
-    ]
-    ∙ ap (λ (r : RosterView). r.seats) c.vacate_at.ensures in
-    seats
+    ap (λ (r : RosterView). seat_of r.seats (get_or r.tasks p d)) c.vacate_at.ensures ∙ nobody_here old.seats c.args.cpu (get_or old.tasks p d) (c.in-Some-at.ensures.home d)
+
+pub returns-clause-seats : goal.returns-clause-seats
+returns-clause-seats c = c.turn_charged.ensures.seats ∙ ap (λ (r : RosterView). r.seats) c.vacate_at.ensures
 
 pub returns-clause-tasks : goal.returns-clause-tasks
 returns-clause-tasks c =
@@ -114,20 +97,8 @@ returns-clause-tasks c =
     let z = to_z w128 (of_z w128 c.left_after-left.result) in
     let y = ran_until c.args.time k z x in
     let is : get_or mid.tasks p x ≡ x = sym (f.read ∙ ap (λ (r : RosterView). get_or r.tasks p x) (sym c.vacate_at.ensures)) in
-    let none : (t : Task) → t.cpu ≡ c.args.cpu → seat_of mid.seats t ≡ None = λ t e. ap (λ (r : RosterView). seat_of r.seats t) c.vacate_at.ensures ∙ nobody_here old.seats c.args.cpu t e in
-    let inside : p < length mid.tasks = let h = c.in-Some-at.ensures.there.within in omega (arith, h, ap (λ (r : RosterView). length r.tasks) c.vacate_at.ensures) in
-    let now : get_or c.turn.new.self.tasks p x ≡ y = ap (λ (ts : List Task). get_or ts p x) (c.turn.ensures.step.is x) ∙ get_or-set_same mid.tasks p (ran_until c.args.time k z (get_or mid.tasks p x)) x inside ∙ ap (ran_until c.args.time k z) is in
-    let seats : c.turn.new.self.seats ≡ set old.seats c.args.cpu None =
-    elim c.turn.ensures.left [
-      | inl same ↦ ap (λ (r : RosterView). r.seats) same
-      | inr left ↦
-          left x
-          ∙ (λ i. left_of (now i) (left_of (is i) mid.seats))
-          ∙ ap (left_of y) (left_none mid.seats x (none x f.home))
-          ∙ left_none mid.seats y (none y ((same_ran_until c.args.time k z x).cpu ∙ f.home))
-    ]
-    ∙ ap (λ (r : RosterView). r.seats) c.vacate_at.ensures in
-    let tasks : c.turn.new.self.tasks ≡ set old.tasks p y = c.turn.ensures.step.is x ∙ ap (λ (t : Task). set mid.tasks p (ran_until c.args.time k z t)) is ∙ ap (λ (r : RosterView). set r.tasks p y) c.vacate_at.ensures in
+    let seats : c.turn_charged.new.self.seats ≡ set old.seats c.args.cpu None = c.turn_charged.ensures.seats ∙ ap (λ (r : RosterView). r.seats) c.vacate_at.ensures in
+    let tasks : c.turn_charged.new.self.tasks ≡ set old.tasks p y = c.turn_charged.ensures.step.is x ∙ ap (λ (t : Task). set mid.tasks p (ran_until c.args.time k z t)) is ∙ ap (λ (r : RosterView). set r.tasks p y) c.vacate_at.ensures in
     (λ i. map (passed c.args.time k (seats i)) (tasks i))
     ∙ finished_passes c.args.time k c.args.cpu old.seats old.tasks c.in-Some.seat f.sits p x y c.in-Some-at.ensures.there.within f.read f.number f.home (same_ran_until c.args.time k z x).cpu
     (subst (λ (r : RosterView). AllPairs (λ a b. a.number ≢ b.number) r.tasks) c.self.view_is c.self.invariant.counted.roster.numbered)

@@ -1,0 +1,117 @@
+use Rattle.std.proofs.Common.{◌≡◌, ℕ, ◌<◌, false, None, List, length, get_or, set, sym, ap, subst, ◌∙◌}
+use Rattle.std.specs.Prelude.{All}
+use Rattle.std.specs.Int.{bit_at}
+use Rattle.std.proofs.lemmas.List.{get_or_default}
+use Rattle.domain_run.specs.declared.task.Task.{Task}
+use Rattle.domain_run.specs.declared.run_queue.RunQueue.{RunQueue}
+use Rattle.edf_pick.specs.Places.{Places}
+use Rattle.domain_run.specs.Sound.{IsSound}
+use Rattle.domain_run.specs.private.Doubts.{AreSettled}
+use Rattle.domain_run.specs.private.Roster.{RosterView, after_change, MayMake, Fits}
+use Rattle.domain_run.specs.private.RunQueue.{IsCounted}
+use Rattle.domain_run.specs.private.Seats.{SeatsView}
+use Rattle.domain_run.specs.private.Timers.{IsStep}
+use Rattle.domain_run.specs.private.Waiting.{seat_of, owed_all}
+use Rattle.domain_run.proofs.Bare.{inside_seen, seen_at}
+use Rattle.domain_run.proofs.Later.{seat_seen}
+use Rattle.domain_run.proofs.Seatings.{roster_view}
+use Rattle.domain_run.proofs.Turning.{sound_bare, may_bare, turns_bare, step_bare, sound_all_bare, counted_bare, waits_bare, settled_bare}
+use Rattle.domain_run.proofs.roster.Roster.turn_charged.Goals as goal
+
+within : (queue : RunQueue) (s : SeatsView) (items : List Task) (r : RosterView) (p : ℕ) → roster_view queue s items ≡ r → p < length r.tasks → p < length items
+within queue s items r p view there = inside_seen s.upto s.seats items p (subst (λ (v : RosterView). p < length v.tasks) (sym view) there)
+
+-- the task that is stored at the place sits nowhere
+unseated : (queue : RunQueue) (s : SeatsView) (items : List Task) (r : RosterView) (p : ℕ) (x : Task) → roster_view queue s items ≡ r → p < length items → x ≡ get_or items p x → ((d : Task) → seat_of r.seats (get_or r.tasks p d) ≡ None) → seat_of s.seats x ≡ None
+unseated queue s items r p x view h read free =
+    sym (seat_seen s.upto s.seats x)
+    ∙ ap (seat_of s.seats) (seen_at s.upto s.seats items p x h read x)
+    ∙ subst (λ (v : RosterView). seat_of v.seats (get_or v.tasks p x) ≡ None) (sym view) (free x)
+
+pub turn_settled-requires-clause-sound : goal.turn_settled-requires-clause-sound
+turn_settled-requires-clause-sound c =
+    let s = c.self.inside in
+    let p = c.args.place in
+    let x = c.index_mut.result.now in
+    let read = c.index_mut.ensures.value in
+    let h = within s.queue s.seats s.tasks.items c.args.self.now p c.self.view_is c.requires.there in
+    let fits = subst (λ (r : RosterView). Fits r.cpus c.args.change.now) (sym c.self.view_is) c.requires.fits in
+    let none = unseated s.queue s.seats s.tasks.items c.args.self.now p x c.self.view_is h read c.requires.free in
+    sound_bare (length s.queue.accounts.all) c.args.time c.args.change.now s.queue s.seats s.tasks.items p x h read fits c.self.invariant.counted none (subst (λ (r : RosterView). All (IsSound c.args.time) r.tasks) (sym c.self.view_is) c.requires.sound)
+
+pub turn_settled-requires-clause-may : goal.turn_settled-requires-clause-may
+turn_settled-requires-clause-may c =
+    let s = c.self.inside in
+    let p = c.args.place in
+    let x = c.index_mut.result.now in
+    let read = c.index_mut.ensures.value in
+    let h = within s.queue s.seats s.tasks.items c.args.self.now p c.self.view_is c.requires.there in
+    let fits = subst (λ (r : RosterView). Fits r.cpus c.args.change.now) (sym c.self.view_is) c.requires.fits in
+    let none = unseated s.queue s.seats s.tasks.items c.args.self.now p x c.self.view_is h read c.requires.free in
+    may_bare (length s.queue.accounts.all) c.args.time c.args.change.now s.queue s.seats s.tasks.items p x h read fits c.self.invariant.counted none (subst (λ (r : RosterView). (d : Task) → MayMake c.args.time c.args.change.now (get_or r.tasks p d)) (sym c.self.view_is) c.requires.may)
+
+pub turn_settled-requires-clause-turns : goal.turn_settled-requires-clause-turns
+turn_settled-requires-clause-turns c =
+    let s = c.self.inside in
+    let p = c.args.place in
+    let x = c.index_mut.result.now in
+    let read = c.index_mut.ensures.value in
+    let h = within s.queue s.seats s.tasks.items c.args.self.now p c.self.view_is c.requires.there in
+    let fits = subst (λ (r : RosterView). Fits r.cpus c.args.change.now) (sym c.self.view_is) c.requires.fits in
+    let none = unseated s.queue s.seats s.tasks.items c.args.self.now p x c.self.view_is h read c.requires.free in
+    turns_bare (length s.queue.accounts.all) c.args.time c.args.change.now s.queue s.seats s.tasks.items p x h read fits c.self.invariant.counted none
+
+pub invariant_of-self : goal.invariant_of-self
+invariant_of-self c =
+    let s = c.self.inside in
+    let p = c.args.place in
+    let x = c.index_mut.result.now in
+    let read = c.index_mut.ensures.value in
+    let h = within s.queue s.seats s.tasks.items c.args.self.now p c.self.view_is c.requires.there in
+    let fits = subst (λ (r : RosterView). Fits r.cpus c.args.change.now) (sym c.self.view_is) c.requires.fits in
+    let none = unseated s.queue s.seats s.tasks.items c.args.self.now p x c.self.view_is h read c.requires.free in
+    let y = c.turn_settled.new.task in
+    let made = c.turn_settled.ensures.task in
+    let queue = c.turn_settled.new.queue in
+    let tasks = owed_all s.seats (set s.tasks.items p y) in
+    let counted = counted_bare (length s.queue.accounts.all) c.args.time c.args.change.now s.queue s.seats s.tasks.items p x h read fits c.self.invariant.counted none c.turn_settled.new.queue y made c.turn_settled.ensures.turned in
+    let d = c.mark_left.new.self in
+    let marks = c.mark_left.ensures in
+    let same : c.index.result.now ≡ x = c.index.ensures ∙ get_or_default s.tasks.items p c.index.result.now x h ∙ sym read in
+    let free = subst (λ (t : Task). false ≡ false → t.cpu < 64 → bit_at d.cpus t.cpu ≡ 0 → bit_at s.doubts.rated t.cpu ≡ 0) same marks.free in
+    record {
+      counted = subst (λ (n : ℕ). IsCounted n queue tasks) (sym counted.wide) counted;
+      waits = waits_bare (length s.queue.accounts.all) c.args.time c.args.change.now s.queue s.seats s.tasks.items p x h read fits c.self.invariant.counted none c.turn_settled.new.queue y made c.self.invariant.waits;
+      wide = c.self.invariant.wide ∙ sym counted.wide;
+      settled = subst (λ (n : ℕ). AreSettled d n queue.schedule.places s.seats.seats tasks) (sym counted.wide)
+          (subst (λ (ps : Places). AreSettled d (length s.queue.accounts.all) ps s.seats.seats tasks) (sym c.turn_settled.ensures.turned.places)
+          (settled_bare (length s.queue.accounts.all) c.args.time c.args.change.now s.queue s.seats s.tasks.items p x h read fits c.self.invariant.counted none c.turn_settled.new.queue y made s.doubts d s.queue.schedule.places free marks.bare marks.rated marks.sum marks.limit c.self.invariant.settled));
+      room = c.self.invariant.room;
+    }
+
+pub returns-clause-step : goal.returns-clause-step
+returns-clause-step c =
+    let s = c.self.inside in
+    let p = c.args.place in
+    let x = c.index_mut.result.now in
+    let read = c.index_mut.ensures.value in
+    let h = within s.queue s.seats s.tasks.items c.args.self.now p c.self.view_is c.requires.there in
+    let fits = subst (λ (r : RosterView). Fits r.cpus c.args.change.now) (sym c.self.view_is) c.requires.fits in
+    let none = unseated s.queue s.seats s.tasks.items c.args.self.now p x c.self.view_is h read c.requires.free in
+    let y = c.turn_settled.new.task in
+    let made = c.turn_settled.ensures.task in
+    subst (λ (r : RosterView). IsStep (after_change c.args.time c.args.change.now) p r.tasks (owed_all s.seats (set s.tasks.items p y))) c.self.view_is
+    (step_bare (length s.queue.accounts.all) c.args.time c.args.change.now s.queue s.seats s.tasks.items p x h read fits c.self.invariant.counted none c.turn_settled.new.queue y made)
+
+pub returns-clause-sound : goal.returns-clause-sound
+returns-clause-sound c =
+    let s = c.self.inside in
+    let p = c.args.place in
+    let x = c.index_mut.result.now in
+    let read = c.index_mut.ensures.value in
+    let h = within s.queue s.seats s.tasks.items c.args.self.now p c.self.view_is c.requires.there in
+    let fits = subst (λ (r : RosterView). Fits r.cpus c.args.change.now) (sym c.self.view_is) c.requires.fits in
+    let none = unseated s.queue s.seats s.tasks.items c.args.self.now p x c.self.view_is h read c.requires.free in
+    let y = c.turn_settled.new.task in
+    let made = c.turn_settled.ensures.task in
+    sound_all_bare (length s.queue.accounts.all) c.args.time c.args.change.now s.queue s.seats s.tasks.items p x h read fits c.self.invariant.counted none c.turn_settled.new.queue y made c.turn_settled.ensures.sound (subst (λ (r : RosterView). All (IsSound c.args.time) r.tasks) (sym c.self.view_is) c.requires.sound)
