@@ -15,5 +15,6 @@ pub mod Rising
 pub mod Scheduling
 pub mod Spans
 pub mod Standing
+pub mod Starting
 pub mod Still
 pub mod Words
