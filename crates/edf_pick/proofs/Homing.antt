@@ -134,7 +134,7 @@ none_homed places movers queue = record {
   among = λ i e. e;
 }
 
-home_is : (places : Places) (c : Candidate) → record c { home = (homed places c).home } ≡ homed places c
+pub home_is : (places : Places) (c : Candidate) → record c { home = (homed places c).home } ≡ homed places c
 home_is places c = elim (position (is_task c.number) places) as (λ o. record c { home = (home_on c o).home } ≡ home_on c o) [ None ↦ refl | Some cpu ↦ refl ]
 
 module _ (places : Places) (movers left rest : ℕ) (old now : List Candidate) (i home : ℕ) (d : Candidate) (is : AreHomedBut places movers left old now) (marked : bit_at left i ≡ 1) (within : i < length old)

@@ -15,5 +15,6 @@ pub mod Scheduling
 pub mod Searching
 pub mod Spans
 pub mod Standing
+pub mod Starting
 pub mod Still
 pub mod Words

@@ -341,7 +341,7 @@ put_at (o ∷ places) (suc cpu) m (suc a) n e =
       | inr h ↦ inr h
     ]
 
-single_put : (places : Places) (cpu m : ℕ) → AreSingle places → stands m places ≡ false → AreSingle (set places cpu (Some m))
+pub single_put : (places : Places) (cpu m : ℕ) → AreSingle places → stands m places ≡ false → AreSingle (set places cpu (Some m))
 single_put places cpu m single absent a b n ea eb =
     elim (put_at places cpu m a n ea) [
       | inl ha ↦ elim (put_at places cpu m b n eb) [

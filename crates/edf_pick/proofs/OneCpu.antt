@@ -1,9 +1,7 @@
 -- On one CPU the first task of the queue stands, and nobody where there is none.
-use Rattle.std.proofs.Common.{◌≡◌, ◌≢◌, ◌⊎◌, ◌||◌, ℕ, zero, suc, Bool, true, false, cond, eqb, Option, Some, None, List, [], ◌∷◌, length, get_or, refl, sym, ap, ◌∙◌, arith, inl, inr, eq-eqb, eqb-true}
+use Rattle.std.proofs.Common.{◌≡◌, ◌≢◌, ◌⊎◌, ◌||◌, ℕ, zero, suc, Bool, true, false, cond, eqb, Option, Some, None, List, [], ◌∷◌, length, map, get_or, set, refl, sym, ap, ◌∙◌, arith, inl, inr, eq-eqb, eqb-true}
 use Rattle.std.specs.Prelude.{AllPairs, slice_get}
-use Rattle.std.specs.Int.{bit_at}
 use Rattle.std.proofs.lemmas.Bool.{cases_Bool, ne_eqb}
-use Rattle.std.proofs.lemmas.Option.{slice_get_within, get_or_from_slice_get}
 use Rattle.edf_pick.specs.declared.candidate.Candidate.{Candidate}
 use Rattle.edf_pick.specs.Changes.{home_on, homed}
 use Rattle.edf_pick.specs.Order.{IsRising}
@@ -11,7 +9,7 @@ use Rattle.edf_pick.specs.Places.{Places, AreSingle, is_free, seat_of, put, seat
 use Rattle.edf_pick.specs.private.First.{staying}
 use Rattle.edf_pick.proofs.Picked.{picked}
 use Rattle.edf_pick.proofs.Renewed.{on_position}
-use Rattle.edf_pick.proofs.Resting.{no_position}
+use Rattle.edf_pick.proofs.Resting.{no_position, same_map}
 
 -- WHO STANDS THERE
 only_place : (places : Places) → length places ≡ 1 → places ≡ get_or places 0 None ∷ []
@@ -66,22 +64,16 @@ placed_nobody [] before rising one none =
     ∙ sym (picked 1 [] (get_or before 0 None ∷ []) rising) ∙ ap (λ (o : Option ℕ). o ∷ []) (nobody_stays (get_or before 0 None))
 
 -- WHO BELONGS THERE
-module _ (n : ℕ) (c : Candidate) where
-  home_there : n ≡ c.number → c.home ≡ 0 → homed (Some n ∷ []) c ≡ c
-  home_there same home =
-      ap (home_on c) (on_position (Some n ∷ []) 0 c.number (single_one (Some n ∷ []) refl) (ap (λ (k : ℕ). Some k) same))
-      ∙ (λ i. record { deadline = c.deadline; number = c.number; home = sym home i })
+home_first : (c : Candidate) → homed (Some c.number ∷ []) c ≡ record c { home = 0 }
+home_first c = ap (home_on c) (on_position (Some c.number ∷ []) 0 c.number (single_one (Some c.number ∷ []) refl) refl)
 
-  home_elsewhere : n ≢ c.number → homed (Some n ∷ []) c ≡ c
-  home_elsewhere other =
-      ap (home_on c) (no_position (Some n ∷ []) c.number (ap (λ (b : Bool). b || false) (ne_eqb n c.number other)))
+home_elsewhere : (n : ℕ) (c : Candidate) → n ≢ c.number → homed (Some n ∷ []) c ≡ c
+home_elsewhere n c other = ap (home_on c) (no_position (Some n ∷ []) c.number (ap (λ (b : Bool). b || false) (ne_eqb n c.number other)))
 
--- who has no mark belongs where it stands
-pub others_there : (queue : List Candidate) (movers : ℕ) (d : Candidate) → AllPairs (λ a b. a.number ≢ b.number) queue → (bit_at movers 0 ≡ 0 → (get_or queue 0 d).home ≡ 0)
-    → (i : ℕ) (c : Candidate) → bit_at movers i ≡ 0 → slice_get queue i ≡ Some c → homed (Some (get_or queue 0 d).number ∷ []) c ≡ c
-others_there [] movers d numbered home i c bare at = absurd cc
-others_there (a ∷ rest) movers d numbered home zero c bare at =
-    let same : a ≡ c = cc in
-    home_there a.number c (ap (λ (x : Candidate). x.number) same) (sym (ap (λ (x : Candidate). x.home) same) ∙ home bare)
-others_there (a ∷ rest) movers d numbered home (suc i) c bare at =
-    home_elsewhere a.number c (λ e. numbered 0 (suc i) c (omega arith) (omega (arith, slice_get_within rest i c at)) (e ∙ sym (ap (λ (x : Candidate). x.number) (get_or_from_slice_get rest i c c at))))
+-- the first task belongs there, and no other one is touched
+pub first_homed : (queue : List Candidate) (d : Candidate) → AllPairs (λ a b. a.number ≢ b.number) queue → eqb (length queue) 0 ≡ false → set queue 0 (record (get_or queue 0 d) { home = 0 }) ≡ map (homed (Some (get_or queue 0 d).number ∷ [])) queue
+first_homed [] d numbered some = absurd cc
+first_homed (a ∷ rest) d numbered some =
+    let there : Candidate → Candidate = homed (Some a.number ∷ []) in
+    ap (λ (y : Candidate). y ∷ rest) (sym (home_first a))
+    ∙ ap (λ (ys : List Candidate). there a ∷ ys) (sym (same_map there rest (λ k e h. home_elsewhere a.number (get_or rest k e) (λ same. numbered 0 (suc k) e (omega arith) (omega (arith, h)) same))))

@@ -23,6 +23,11 @@ map_same_on f g [] same = refl
 map_same_on f g (x ∷ xs) same =
     ap (λ (y : Candidate). y ∷ map f xs) (same 0 x (omega arith)) ∙ ap (λ (ys : List Candidate). g x ∷ ys) (map_same_on f g xs (λ k d h. same (suc k) d (omega (arith, h))))
 
+pub same_map : (f : Candidate → Candidate) (xs : List Candidate) → All (λ x. f x ≡ x) xs → map f xs ≡ xs
+same_map f [] same = refl
+same_map f (x ∷ xs) same =
+    ap (λ (y : Candidate). y ∷ map f xs) (same 0 x (omega arith)) ∙ ap (λ (ys : List Candidate). x ∷ ys) (same_map f xs (λ k d h. same (suc k) d (omega (arith, h))))
+
 -- ONE CPU
 off : (places : Places) (cpu : ℕ) (c : Candidate) → is_task c.number (get_or places cpu None) ≡ false → homed_on places cpu c ≡ c
 off places cpu c e = ap (λ (b : Bool). cond b (record c { home = cpu }) c) e
@@ -34,13 +39,6 @@ nowhere : (places : Places) (n cpu : ℕ) → stands n places ≡ false → is_t
 nowhere [] n cpu e = refl
 nowhere (o ∷ places) n zero e = (or_parts (is_task n o) (stands n places) e).0
 nowhere (o ∷ places) n (suc cpu) e = nowhere places n cpu (or_parts (is_task n o) (stands n places) e).1
-
--- nor who stands on none of these CPUs
-pub by_none : (places : Places) (moves : List Moved) (c : Candidate) → All (λ m. is_task c.number (get_or places m.cpu None) ≡ false) moves → homed_by places moves c ≡ c
-by_none places [] c none = refl
-by_none places (m ∷ moves) c none =
-    ap (λ (a : Candidate). homed_by places moves a) (off places m.cpu c (none 0 m (omega arith)))
-    ∙ by_none places moves c (λ k d h. none (suc k) d (omega (arith, h)))
 
 by_nowhere : (places : Places) (moves : List Moved) (c : Candidate) → stands c.number places ≡ false → homed_by places moves c ≡ c
 by_nowhere places [] c e = refl

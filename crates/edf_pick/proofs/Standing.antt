@@ -198,7 +198,7 @@ some_seat places c few =
           (f.0, ap (λ (b : Bool). cond b (Some c.home) (position (λ o. is_none o) places)) other ∙ f.1)
     ]
 
-free_inside : (places : Places) (cpu : ℕ) → is_free (slice_get places cpu) ≡ true → cpu < length places
+pub free_inside : (places : Places) (cpu : ℕ) → is_free (slice_get places cpu) ≡ true → cpu < length places
 free_inside places cpu free =
     elim (cases_lt cpu (length places)) [
       | inl h ↦ h
@@ -226,6 +226,10 @@ seated_length places c =
     by_seat : (o : Option ℕ) → length (put places c.number o) ≡ length places
     by_seat None = refl
     by_seat (Some cpu) = length-set places cpu (Some c.number)
+
+pub all_length : (cs : List Candidate) (places : Places) → length (seated_all cs places) ≡ length places
+all_length [] places = refl
+all_length (c ∷ cs) places = all_length cs (seated places c) ∙ seated_length places c
 
 stays_all : (n : ℕ) (cs : List Candidate) (places : Places) → stands n places ≡ true → stands n (seated_all cs places) ≡ true
 stays_all n [] places there = there

@@ -1,6 +1,6 @@
 -- Where nothing has come or gone since a choice, the next one is the same.
-use Rattle.std.proofs.Common.{◌≡◌, ◌≢◌, ◌<◌, ◌≤◌, ℕ, suc, true, false, Some, List, [], ◌∷◌, length, take, map, sym, ap, ◌∙◌, subst, refl, arith, inl, inr}
-use Rattle.std.specs.Prelude.{All, AllPairs, slice_get}
+use Rattle.std.proofs.Common.{◌≡◌, ◌≢◌, ◌<◌, ℕ, true, false, Some, List, [], length, take, map, sym, ap, ◌∙◌, subst, refl, arith, inl, inr}
+use Rattle.std.specs.Prelude.{AllPairs, slice_get}
 use Rattle.std.specs.Int.{bit_at}
 use Rattle.std.proofs.lemmas.Bool.{lt-ltb, le-ltb}
 use Rattle.std.proofs.lemmas.Nat.Bits.{bit_at-zero}
@@ -11,16 +11,12 @@ use Rattle.edf_pick.specs.declared.listed.Words.{Words}
 use Rattle.edf_pick.specs.Changes.{ChangesView, IsListed, Follows, homed}
 use Rattle.edf_pick.specs.Order.{IsRising}
 use Rattle.edf_pick.specs.Places.{Places, AreSingle, placed}
-use Rattle.edf_pick.specs.private.First.{staying, AreMovers, AreLeaving, marked, seated_all}
+use Rattle.edf_pick.specs.private.First.{staying, AreMovers, AreLeaving, seated_all}
 use Rattle.edf_pick.specs.private.Listed.{AreWords}
 use Rattle.edf_pick.proofs.Homing.{others_homed}
 use Rattle.edf_pick.proofs.Listing.{none_sound, listed_movers, listed_leaving}
 use Rattle.edf_pick.proofs.Marked.{kept_all, marked_none, moved}
-
-same_map : (f : Candidate → Candidate) (xs : List Candidate) → All (λ x. f x ≡ x) xs → map f xs ≡ xs
-same_map f [] same = refl
-same_map f (x ∷ xs) same =
-    ap (λ (y : Candidate). y ∷ map f xs) (same 0 x (omega arith)) ∙ ap (λ (ys : List Candidate). x ∷ ys) (same_map f xs (λ k d h. same (suc k) d (omega (arith, h))))
+use Rattle.edf_pick.proofs.Resting.{same_map}
 
 module _ (queue : List Candidate) (places : Places) (changes : ChangesView) (some : 0 < length places) (rising : IsRising queue)
     (numbered : AllPairs (λ x y. x.number ≢ y.number) queue) (single : AreSingle places) (listed : IsListed queue places changes)
@@ -64,7 +60,7 @@ module _ (queue : List Candidate) (places : Places) (changes : ChangesView) (som
 -- all that a choice has to know where nothing has come or gone
 pub record IsStill (queue : List Candidate) (places : Places) (changes : ChangesView) : Type 0 where
   pub same : places ≡ placed (length places) queue places
-  pub home : (i : ℕ) (c : Candidate) → slice_get queue i ≡ Some c → homed places c ≡ c
+  pub tasks : map (homed places) queue ≡ queue
   pub follows : Follows (map (homed places) queue) places changes
 
 pub is_still : (queue : List Candidate) (places : Places) (changes : ChangesView) → 0 < length places → IsRising queue → AllPairs (λ x y. x.number ≢ y.number) queue → AreSingle places → Follows queue places changes
@@ -72,6 +68,6 @@ pub is_still : (queue : List Candidate) (places : Places) (changes : ChangesView
 is_still queue places changes some rising numbered single (inl many) known came went = absurd (let clash : true ≡ false = sym many ∙ known in cc)
 is_still queue places changes some rising numbered single (inr listed) known came went = record {
   same = still_places queue places changes some rising numbered single listed came went;
-  home = still_homed queue places changes some rising numbered single listed came went;
+  tasks = still_queue queue places changes some rising numbered single listed came went;
   follows = still_follows queue places changes some rising numbered single listed came went;
 }

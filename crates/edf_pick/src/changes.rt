@@ -1,15 +1,15 @@
 //! What has come into a queue and gone out of it since the last choice.
 
-ghost use Rattle.std.specs.Prelude.{ℕ, ◌≡◌, ◌≢◌, ◌<◌, [], true, false, length, map, slice_get, IfOk, List, All, AllPairs, Some};
-ghost use Rattle.std.specs.Int.{bit_at};
+ghost use Rattle.std.specs.Prelude.{◌≡◌, ◌≢◌, ◌<◌, ◌⊎◌, [], true, false, length, map, slice_get, take, IfOk, List, All, AllPairs};
 ghost use Rattle.edf_pick.specs.declared.candidate.Candidate.{Candidate};
 ghost use Rattle.edf_pick.specs.Changes as spec;
 ghost use Rattle.edf_pick.specs.Moves.{moved_from};
-ghost use Rattle.edf_pick.specs.Order.{is_same, with_candidate, without_candidate};
+ghost use Rattle.edf_pick.specs.Order.{IsRising, is_same, with_candidate, without_candidate};
+ghost use Rattle.edf_pick.specs.private.First.{AreLeaving, AreMovers};
 ghost use Rattle.edf_pick.specs.Places.{AreSingle, Places, placed};
 ghost use Rattle.edf_pick.specs.Schedule.{IsAtHome};
 
-use crate::at_home::marks_of_listed;
+use crate::at_home::{Marks, marks_of_listed};
 use crate::candidate::Candidate;
 use crate::moves::Moves;
 use crate::placement::{Placement, pick_by_marks};
@@ -127,12 +127,16 @@ fn task_at(queue: &[Candidate], k: usize) -> Option<Candidate>
     None
 }
 
-// Nothing has changed since the choice of so many.
+// Nothing has changed since the choice of so many, which is not listed on few CPUs.
 #[inline(always)]
 fn renew(changes: &mut Changes, queue: &[Candidate], cpus: usize)
     requires { 0 < cpus }
-    ensures { changes.new ≡ spec.unchanged cpus queue.now }
+    ensures { (changes.new.many ≡ true) ⊎ (changes.new ≡ spec.unchanged cpus queue.now) }
 {
+    if cpus < FEW {
+        changes.many = true;
+        return;
+    }
     changes.cut = task_at(queue, cpus - 1);
     changes.fresh.clear();
     changes.gone.clear();
@@ -157,80 +161,78 @@ fn is_still(changes: &Changes) -> bool
     !changes.many && changes.fresh.is_empty() && changes.gone.is_empty()
 }
 
-// As `pick_changed`, where something may have changed: where that is listed and little, it looks at
-// that alone, and else at all.
+// What a choice finds: where it is listed and little what has changed, by a look at that alone, and
+// else at all.
 #[inline(always)]
-fn pick_anew(
-    placement: &mut Placement,
-    queue: &Queue,
-    changes: &mut Changes,
-    moves: &mut Moves,
-) -> u64
+fn marks_of(placement: &Placement, queue: &[Candidate], changes: &Changes) -> Marks
+    requires rising { IsRising queue.now }
     requires numbered { AllPairs (λ a b. a.number ≢ b.number) queue.now }
-    requires homed { All (IsAtHome placement.old) queue.now }
-    requires follows { spec.Follows queue.now placement.old changes.old }
-    ensures places { placement.new ≡ placed (length placement.old) queue.now placement.old }
+    requires follows { spec.Follows queue.now placement.now changes.now }
+    ensures movers { AreMovers (take (length placement.now) queue.now) placement.now result.movers }
+    ensures leaving { AreLeaving (take (length placement.now) queue.now) placement.now
+        result.movers result.left }
+{
+    let places = placement.occupants();
+    if is_long(changes, places.len().min(queue.len())) {
+        return placement.marks_of_all(queue);
+    }
+    let (cut, fresh, gone) = (&changes.cut, &changes.fresh, &changes.gone);
+    marks_of_listed(places, queue, cut, fresh, changes.last, gone)
+}
+
+// As `pick_changed`, where something may have changed.
+#[inline(always)]
+fn pick_anew(placement: &mut Placement, queue: &mut Queue, changes: &mut Changes, moves: &mut Moves)
+    requires numbered { AllPairs (λ a b. a.number ≢ b.number) queue.old }
+    requires homed { All (IsAtHome placement.old) queue.old }
+    requires follows { spec.Follows queue.old placement.old changes.old }
+    ensures places { placement.new ≡ placed (length placement.old) queue.old placement.old }
     ensures moves { moves.new ≡ moved_from 0 placement.old placement.new }
     ensures len { length placement.new ≡ length placement.old }
-    ensures within { (i : ℕ) → bit_at result i ≡ 1 → i < length queue.now }
-    ensures others { (i : ℕ) (c : Candidate) → bit_at result i ≡ 0
-        → slice_get queue.now i ≡ Some c → spec.homed placement.new c ≡ c }
+    ensures queue { queue.new ≡ map (spec.homed placement.new) queue.old }
     ensures single { AreSingle placement.old }
     ensures still { AreSingle placement.new }
-    ensures follows { spec.Follows (map (spec.homed placement.new) queue.now) placement.new changes.new }
+    ensures follows { spec.Follows (map (spec.homed placement.new) queue.old) placement.new changes.new }
 {
     let cpus = placement.occupants().len();
-    let movers = if cpus == 1 {
-        pick_one(placement, queue, moves)
-    } else {
-        let tasks = queue.as_slice();
-        let marks = if is_long(changes, cpus.min(tasks.len())) {
-            placement.marks_of_all(tasks)
-        } else {
-            let (cut, fresh, gone) = (&changes.cut, &changes.fresh, &changes.gone);
-            marks_of_listed(placement.occupants(), tasks, cut, fresh, changes.last, gone)
-        };
-        pick_by_marks(placement, queue, marks, moves);
-        marks.movers
-    };
-    if cpus < FEW {
+    if cpus == 1 {
         changes.many = true;
-        return movers;
+        pick_one(placement, queue, moves);
+        return;
     }
-    renew(changes, queue.as_slice(), cpus);
-    movers
+    let tasks = queue.as_slice();
+    let marks = marks_of(placement, tasks, changes);
+    renew(changes, tasks, cpus);
+    pick_by_marks(placement, queue, marks, moves);
 }
 
 /// As [`crate::placement::pick_by_marks`], by what has changed since the last choice: where nothing
 /// has, the choice is that one still. Nothing has changed since in the queue in which each task
-/// that stands belongs to the CPU on which it stands. Answers the places of the movers in the queue,
-/// as a word of marks.
+/// that stands belongs to the CPU on which it stands.
 #[inline(always)]
 pub(crate) fn pick_changed(
     placement: &mut Placement,
-    queue: &Queue,
+    queue: &mut Queue,
     changes: &mut Changes,
     moves: &mut Moves,
-) -> u64
-    requires numbered { AllPairs (λ a b. a.number ≢ b.number) queue.now }
-    requires homed { All (IsAtHome placement.old) queue.now }
-    requires follows { spec.Follows queue.now placement.old changes.old }
-    ensures places { placement.new ≡ placed (length placement.old) queue.now placement.old }
+)
+    requires numbered { AllPairs (λ a b. a.number ≢ b.number) queue.old }
+    requires homed { All (IsAtHome placement.old) queue.old }
+    requires follows { spec.Follows queue.old placement.old changes.old }
+    ensures places { placement.new ≡ placed (length placement.old) queue.old placement.old }
     ensures moves { moves.new ≡ moved_from 0 placement.old placement.new }
     ensures len { length placement.new ≡ length placement.old }
-    ensures within { (i : ℕ) → bit_at result i ≡ 1 → i < length queue.now }
-    ensures others { (i : ℕ) (c : Candidate) → bit_at result i ≡ 0
-        → slice_get queue.now i ≡ Some c → spec.homed placement.new c ≡ c }
+    ensures queue { queue.new ≡ map (spec.homed placement.new) queue.old }
     ensures single { AreSingle placement.old }
     ensures still { AreSingle placement.new }
-    ensures follows { spec.Follows (map (spec.homed placement.new) queue.now) placement.new changes.new }
+    ensures follows { spec.Follows (map (spec.homed placement.new) queue.old) placement.new changes.new }
 {
     // For the prover alone: a look at either brings what its type keeps.
     let _ = queue.as_slice();
     let _ = placement.occupants();
     if is_still(changes) {
         moves.clear();
-        return 0;
+        return;
     }
-    pick_anew(placement, queue, changes, moves)
+    pick_anew(placement, queue, changes, moves);
 }

@@ -1,8 +1,6 @@
 //! Who stands on each CPU, and how that moves on by one tick.
 
-ghost use Rattle.std.specs.Prelude.{ℕ, ◌≡◌, ◌≢◌, ◌<◌, ◌≤◌, ◌∷◌, [], All, AllPairs, IfOk, None, Some, length, replicate, slice_get, take, vec_len, vec_capacity};
-ghost use Rattle.std.specs.Int.{bit_at};
-ghost use Rattle.edf_pick.specs.declared.candidate.Candidate.{Candidate};
+ghost use Rattle.std.specs.Prelude.{◌≡◌, ◌≢◌, ◌<◌, ◌≤◌, ◌∷◌, [], All, AllPairs, IfOk, None, length, map, replicate, take, vec_len, vec_capacity};
 ghost use Rattle.edf_pick.specs.private.First.{AreLeaving, AreMovers};
 ghost use Rattle.edf_pick.specs.Changes.{homed};
 ghost use Rattle.edf_pick.specs.Moves.{moved_from};
@@ -127,31 +125,29 @@ pub fn pick(placement: &mut Placement, queue: &Queue)
 }
 
 /// As `pick`, by what the choice has found, where each task that stands belongs to its CPU, and
-/// lists the CPUs that another one has. Each task at a place that is not a mover's belongs to the
-/// CPU on which it stands then, if it stands on one.
+/// lists the CPUs that another one has. Each task that stands then belongs to its CPU.
 #[inline(always)]
 pub(crate) fn pick_by_marks(
     placement: &mut Placement,
-    queue: &Queue,
+    queue: &mut Queue,
     marks: Marks,
     moves: &mut Moves,
 )
-    requires numbered { AllPairs (λ a b. a.number ≢ b.number) queue.now }
-    requires homed { All (IsAtHome placement.old) queue.now }
-    requires movers { AreMovers (take (length placement.old) queue.now) placement.old marks.movers }
-    requires leaving { AreLeaving (take (length placement.old) queue.now) placement.old
+    requires numbered { AllPairs (λ a b. a.number ≢ b.number) queue.old }
+    requires homed { All (IsAtHome placement.old) queue.old }
+    requires movers { AreMovers (take (length placement.old) queue.old) placement.old marks.movers }
+    requires leaving { AreLeaving (take (length placement.old) queue.old) placement.old
         marks.movers marks.left }
-    ensures places { placement.new ≡ placed (length placement.old) queue.now placement.old }
+    ensures places { placement.new ≡ placed (length placement.old) queue.old placement.old }
     ensures moves { moves.new ≡ moved_from 0 placement.old placement.new }
     ensures len { length placement.new ≡ length placement.old }
-    ensures within { (i : ℕ) → bit_at marks.movers i ≡ 1 → i < length queue.now }
-    ensures others { (i : ℕ) (c : Candidate) → bit_at marks.movers i ≡ 0
-        → slice_get queue.now i ≡ Some c → homed placement.new c ≡ c }
+    ensures queue { queue.new ≡ map (homed placement.new) queue.old }
     ensures single { AreSingle placement.old }
     ensures still { AreSingle placement.new }
 {
-    let tasks = queue.as_slice();
-    let changed = pick_marked(&mut placement.occupants, tasks, marks, &mut placement.taken);
+    // For the prover alone: a look at the queue brings what its type keeps.
+    let _ = queue.as_slice();
+    let changed = pick_marked(&mut placement.occupants, queue, marks, &mut placement.taken);
     let occupants = placement.occupants.as_slice();
     moves.list(&mut placement.before, occupants, changed);
 }

@@ -1,21 +1,18 @@
 //! The ready tasks of a root domain and who stands on its CPUs, as one.
 
-ghost use Rattle.std.specs.Prelude.{ℕ, ◌≡◌, ◌≢◌, ◌<◌, ◌≤◌, [], true, false, None, Some, length, map, replicate, slice_get, slice_index_or, All, IfNone, IfOk, IfSome};
-ghost use Rattle.std.specs.Int.{bit_at};
+ghost use Rattle.std.specs.Prelude.{◌≡◌, ◌≢◌, ◌<◌, ◌≤◌, [], None, length, map, replicate, All, IfOk};
 ghost use Rattle.edf_pick.specs.declared.candidate.Candidate.{Candidate};
 ghost use Rattle.edf_pick.specs.Changes.{homed};
 ghost use Rattle.edf_pick.specs.Moves.{moved_from};
 ghost use Rattle.edf_pick.specs.Order as order;
-ghost use Rattle.edf_pick.specs.Places.{AreSingle, is_task, placed};
+ghost use Rattle.edf_pick.specs.Places.{placed};
 ghost use Rattle.edf_pick.specs.Schedule as spec;
 
 use crate::candidate::Candidate;
 use crate::changes::{Changes, pick_changed};
-use crate::marks::{first, without};
 use crate::moves::{Moved, Moves};
 use crate::placement::Placement;
 use crate::queue::Queue;
-use crate::seats::{is_at_home, is_on};
 use std::alloc::{AllocError, Global};
 use std::marker::Model;
 
@@ -112,65 +109,11 @@ impl Schedule {
     {
         // For the prover alone: a look at the queue brings what its type keeps.
         let _ = self.queue.as_slice();
-        let movers = pick_changed(
+        pick_changed(
             &mut self.placement,
-            &self.queue,
+            &mut self.queue,
             &mut self.changes,
             &mut self.moves,
         );
-        let (places, moves) = (self.placement.occupants(), self.moves.as_slice());
-        home_movers(&mut self.queue, places, moves, movers);
-    }
-}
-
-// The CPU on which a task stands, if another one stood there before.
-fn cpu_among(places: &[Option<u32>], moves: &[Moved], number: u32) -> Option<usize>
-    ensures on { IfSome result (λ cpu. is_task number (slice_index_or places.now cpu None) ≡ true) }
-    ensures elsewhere { IfNone result
-        (All (λ m. is_task number (slice_index_or places.now m.cpu None) ≡ false) moves.now) }
-{
-    for i in 0..moves.len() {
-        let cpu = moves[i].cpu;
-        if is_on(places, cpu, number) {
-            return Some(cpu);
-        }
-    }
-    None
-}
-
-// Where a task belongs: to the CPU on which it stands, if it stands on one. Beside its home only the
-// CPUs are looked at that another one has: who has stayed is at home.
-fn home_of(places: &[Option<u32>], moves: &[Moved], c: &Candidate) -> u32
-    requires few { length places.now ≤ 64 }
-    requires single { AreSingle places.now }
-    requires listed { spec.homed_by places.now moves.now c.now ≡ homed places.now c.now }
-    ensures { result ≡ (homed places.now c.now).home }
-{
-    if is_at_home(places, c) {
-        return c.home;
-    }
-    match cpu_among(places, moves, c.number) {
-        Some(cpu) => cpu as u32,
-        None => c.home,
-    }
-}
-
-// The tasks at the marked places of the queue belong to the CPUs on which they stand.
-#[inline(always)]
-fn home_movers(queue: &mut Queue, places: &[Option<u32>], moves: &[Moved], movers: u64)
-    requires few { length places.now ≤ 64 }
-    requires single { AreSingle places.now }
-    requires listed { All (λ c. spec.homed_by places.now moves.now c ≡ homed places.now c) queue.old }
-    requires within { (i : ℕ) → bit_at movers i ≡ 1 → i < length queue.old }
-    requires others { (i : ℕ) (c : Candidate) → bit_at movers i ≡ 0
-        → slice_get queue.old i ≡ Some c → homed places.now c ≡ c }
-    ensures { queue.new ≡ map (homed places.now) queue.old }
-{
-    let mut left = movers;
-    'tasks: while left != 0 {
-        let i = first(left);
-        left = without(left, i);
-        let home = home_of(places, moves, &queue.as_slice()[i]);
-        queue.rehome(i, home);
     }
 }

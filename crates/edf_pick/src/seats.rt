@@ -1,7 +1,7 @@
 //! A seat for a task: it stays where it stands, else it goes to the CPU to which it belongs where
 //! that is free, else to the lowest free one.
 
-ghost use Rattle.std.specs.Prelude.{◌≡◌, ◌<◌, ◌≤◌, vec_len, vec_capacity, is_none, slice_get, slice_index_or, slice_set, position, false, None, Some, length};
+ghost use Rattle.std.specs.Prelude.{◌≡◌, ◌<◌, ◌≤◌, vec_len, vec_capacity, is_none, slice_get, slice_index_or, slice_set, position, false, None, Some, IfSome, length};
 ghost use Rattle.edf_pick.specs.Places as spec;
 ghost use Rattle.edf_pick.specs.private.First.{is_home};
 
@@ -38,7 +38,8 @@ fn is_free(places: &[Option<u32>], cpu: usize) -> bool
 fn lowest_free(places: &[Option<u32>], taken: u64) -> Option<usize>
     requires few { length places.now ≤ 64 }
     requires taken { spec.AreTaken places.now taken }
-    ensures { result ≡ position (λ occupant. is_none occupant) places.now }
+    ensures lowest { result ≡ position (λ occupant. is_none occupant) places.now }
+    ensures within { IfSome result (λ cpu. cpu < length places.now) }
 {
     let cpu = first_bare(taken);
     if cpu < places.len() {
@@ -47,10 +48,12 @@ fn lowest_free(places: &[Option<u32>], taken: u64) -> Option<usize>
     None
 }
 
-fn seat_of(places: &[Option<u32>], c: &Candidate, taken: u64) -> Option<usize>
+/// The CPU on which a task that stands nowhere starts; none where each is taken.
+pub(crate) fn seat_of(places: &[Option<u32>], c: &Candidate, taken: u64) -> Option<usize>
     requires few { length places.now ≤ 64 }
     requires taken { spec.AreTaken places.now taken }
-    ensures { result ≡ spec.seat_of places.now c.now }
+    ensures seat { result ≡ spec.seat_of places.now c.now }
+    ensures within { IfSome result (λ cpu. cpu < length places.now) }
 {
     let home = c.home as usize;
     if is_free(places, home) {
@@ -59,8 +62,8 @@ fn seat_of(places: &[Option<u32>], c: &Candidate, taken: u64) -> Option<usize>
     lowest_free(places, taken)
 }
 
-// A task stands on this CPU from now on.
-fn occupy(places: &mut Vec<Option<u32>>, cpu: usize, number: u32, taken: u64) -> u64
+/// A task stands on this CPU from now on.
+pub(crate) fn occupy(places: &mut Vec<Option<u32>>, cpu: usize, number: u32, taken: u64) -> u64
     requires within { cpu < vec_len places.old }
     requires few { vec_len places.old ≤ 64 }
     requires taken { spec.AreTaken places.old.items taken }
@@ -98,9 +101,7 @@ pub(crate) fn start(places: &mut Vec<Option<u32>>, c: &Candidate, taken: u64) ->
     ensures room { vec_capacity places.new ≡ vec_capacity places.old }
     ensures taken { spec.AreTaken places.new.items result }
 {
-    if let Some(cpu) = seat_of(places, c, taken)
-        && cpu < places.len()
-    {
+    if let Some(cpu) = seat_of(places, c, taken) {
         return occupy(places, cpu, c.number, taken);
     }
     taken

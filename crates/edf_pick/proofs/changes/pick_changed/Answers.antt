@@ -14,8 +14,8 @@ returns-then-is_still-clause-places c = (still (goal.at.returns-then-is_still-cl
 pub returns-then-is_still-clause-moves : goal.returns-then-is_still-clause-moves
 returns-then-is_still-clause-moves c = c.clear.ensures ∙ sym (moved_none 0 c.args.placement.now c.args.placement.now (λ cpu. refl))
 
-pub returns-then-is_still-clause-others : goal.returns-then-is_still-clause-others
-returns-then-is_still-clause-others c i one bare at = (still (goal.at.returns-then-is_still-clause-others c).After-is_still c.if-is_still.true).home i one at
+pub returns-then-is_still-clause-queue : goal.returns-then-is_still-clause-queue
+returns-then-is_still-clause-queue c = sym (still (goal.at.returns-then-is_still-clause-queue c).After-is_still c.if-is_still.true).tasks
 
 pub returns-then-is_still-clause-follows : goal.returns-then-is_still-clause-follows
 returns-then-is_still-clause-follows c = (still (goal.at.returns-then-is_still-clause-follows c).After-is_still c.if-is_still.true).follows
