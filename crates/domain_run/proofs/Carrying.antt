@@ -4,7 +4,7 @@ use Rattle.std.specs.Int.Bits.{bit_xor, xor_zero_r}
 use Rattle.std.proofs.lemmas.Bool.{cases_eq}
 use Rattle.std.proofs.lemmas.List.{length-set, length-drop, drop-set-add, get_or-set_same, get_or-set_other}
 use Rattle.std.proofs.lemmas.Nat.{xor_block, xor_lt}
-use Rattle.domain_run.specs.private.Tournament.{IsLeast, IsTree, IsTreeBut, least_below, leaves}
+use Rattle.domain_run.specs.private.Tournament.{IsTree, IsTreeBut, least_below, leaves}
 
 -- within a group of four
 beside : (at q r s : ℕ) → at ≡ 4 * q + r → r < 4 → s < 4 → bit_xor at s ≡ 4 * q + bit_xor r s

@@ -1,10 +1,10 @@
 -- The root of a tournament is the first of its leaves.
-use Rattle.std.proofs.Common.{◌≡◌, ◌⊎◌, ℕ, zero, suc, ◌+◌, ◌-◌, ◌*◌, ◌/◌, ◌^◌, ◌<◌, ◌≤◌, min, List, [], ◌∷◌, length, get_or, refl, sym, ap, ◌∙◌, arith, subst, inl, inr}
-use Rattle.std.proofs.lemmas.Bool.{cases_eq, cases_lt}
+use Rattle.std.proofs.Common.{◌≡◌, ℕ, zero, suc, ◌+◌, ◌-◌, ◌*◌, ◌/◌, ◌^◌, ◌<◌, ◌≤◌, min, List, [], ◌∷◌, length, get_or, refl, sym, ap, ◌∙◌, arith, subst, inl, inr}
+use Rattle.std.proofs.lemmas.Bool.{cases_lt}
 use Rattle.std.proofs.lemmas.List.{get_or-drop, length-drop}
 use Rattle.domain_run.specs.private.Timers.{least, IsSize}
 use Rattle.domain_run.specs.private.Tournament.{IsTree, least_below, leaves}
-use Rattle.domain_run.proofs.Climbing.{Covers, covers_pow, four_times, some_wide, down_low, down_high, down_inner}
+use Rattle.domain_run.proofs.Climbing.{covers_pow, four_times, some_wide, down_low, down_high, down_inner}
 
 pub least_le : (xs : List ℕ) (k : ℕ) → k < length xs → least xs ≤ get_or xs k 0
 least_le [] k h = absurd (omega (arith, h))

@@ -1,4 +1,4 @@
-use Rattle.std.proofs.Common.{◌≡◌, arith}
+use Rattle.std.proofs.Common.{arith}
 use Rattle.domain_run.proofs.Carrying.{beside_within, least_of_group}
 use Rattle.domain_run.proofs.tournament.least_beside.Goals as goal
 
