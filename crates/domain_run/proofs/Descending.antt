@@ -1,107 +1,87 @@
 -- From the root of a tournament down to the first leaf that has come.
-use Rattle.std.proofs.Common.{◌≡◌, ℕ, zero, suc, ◌+◌, ◌*◌, ◌/◌, ◌^◌, ◌-◌, ◌<◌, ◌≤◌, List, length, get_or, sym, ap, subst, ◌∙◌, arith, inl, inr}
-use Rattle.std.proofs.lemmas.Bool.{cases_eq, cases_lt}
-use Rattle.std.proofs.lemmas.Grind.{pow_more}
+use Rattle.std.proofs.Common.{◌≡◌, ℕ, ◌+◌, ◌*◌, ◌/◌, ◌^◌, ◌-◌, ◌<◌, ◌≤◌, List, length, get_or, subst, arith, inl, inr}
+use Rattle.std.proofs.lemmas.Bool.{cases_lt}
 use Rattle.std.proofs.lemmas.List.{length-drop}
-use Rattle.std.proofs.lemmas.Nat.{mul-le}
 use Rattle.domain_run.specs.private.Timers.{least, IsSize}
-use Rattle.domain_run.specs.private.Tournament.{IsLesser, IsTree, AreAhead, IsOnWay, leaves}
+use Rattle.domain_run.specs.private.Tournament.{IsLeast, IsTree, AreAhead, ArePassed, IsOnWay, leaves}
 use Rattle.domain_run.proofs.Rooted.{rooted}
-use Rattle.domain_run.proofs.Climbing.{Covers, covers_one, covers_twice}
+use Rattle.domain_run.proofs.Climbing.{Covers, covers_pow, four_times, some_wide, down_low, down_high, down_inner}
 
-twice_as_wide : (k : ℕ) → 2 ^ (k + 1) ≡ 2 ^ k * 2
-twice_as_wide k = pow_more 2 k
-
-some_wide : (k : ℕ) → 1 ≤ 2 ^ k
-some_wide zero = omega arith
-some_wide (suc k) =
-    let more : suc k ≡ k + 1 = omega arith in
-    let wide : 2 ^ suc k ≡ 2 ^ k * 2 = ap (λ n. 2 ^ n) more ∙ twice_as_wide k in
-    omega (arith, wide, some_wide k)
-
-two_wide : (k : ℕ) → 2 ≤ 2 ^ (k + 1)
-two_wide k = omega (arith, twice_as_wide k, some_wide k)
-
-covers_pow : (nodes : List ℕ) → IsTree nodes → (k b : ℕ) → 1 ≤ b → Covers nodes b (2 ^ k)
-covers_pow nodes is zero b one = covers_one nodes b
-covers_pow nodes is (suc k) b one =
-    let more : k + 1 ≡ suc k = omega arith in
-    subst (Covers nodes b) (ap (λ n. 2 ^ n) more) (subst (Covers nodes b) (sym (twice_as_wide k)) (covers_twice nodes (2 ^ k) is (covers_pow nodes is k) b one))
-
--- one node down
-down_low : (low at next s : ℕ) → low ≤ at * (s * 2) → 2 * at ≤ next → low ≤ next * s
-down_low low at next s h from =
-    let more = mul-le (2 * at) s next s from (omega arith) in
-    omega (arith, h, more)
-
-down_high : (high at next s : ℕ) → (at + 1) * (s * 2) ≤ high → next ≤ 2 * at + 1 → (next + 1) * s ≤ high
-down_high high at next s h upto =
-    let less = mul-le (next + 1) s (2 * at + 2) s (omega (arith, upto)) (omega arith) in
-    omega (arith, h, less)
-
-down_ahead : (nodes : List ℕ) (time low at next k : ℕ) → IsTree nodes → 1 ≤ at → AreAhead nodes time low (at * (2 ^ k * 2)) → 2 * at ≤ next → next ≤ 2 * at + 1 → (2 * at < next → time < get_or nodes (2 * at) 0) → AreAhead nodes time low (next * 2 ^ k)
-down_ahead nodes time low at next k is one ahead from upto passed node above before within =
-    elim (cases_lt node (at * (2 ^ k * 2))) [
+-- behind those of one more node that has not come
+ahead_more : (nodes : List ℕ) (time low b s : ℕ) → Covers nodes b s → time < get_or nodes b 0 → AreAhead nodes time low (b * s) → AreAhead nodes time low ((b + 1) * s)
+ahead_more nodes time low b s covers later ahead node above before within =
+    elim (cases_lt node (b * s)) [
       | inl less ↦ ahead node above less within
-      | inr past ↦ elim (cases_eq next (2 * at)) [
-        | inl e ↦ let same : next * 2 ^ k ≡ 2 * at * 2 ^ k = ap (λ n. n * 2 ^ k) e in absurd (omega (arith, same, before, past))
-        | inr other ↦
-            let right : next ≡ 2 * at + 1 = omega (arith, other, from, upto) in
-            let end : next * 2 ^ k ≡ (2 * at + 1) * 2 ^ k = ap (λ n. n * 2 ^ k) right in
-            let covered = (covers_pow nodes is k (2 * at) (omega (arith, one))).each node (omega (arith, past)) (omega (arith, before, end)) within in
-            omega (arith, covered, passed (omega (arith, right)))
-      ]
+      | inr past ↦
+          let covered = covers.each node past before within in
+          omega (arith, covered, later)
     ]
 
--- from a node on the way to that of the two below it which is chosen
-way_down : (nodes : List ℕ) (time at next k : ℕ) → IsTree nodes → 2 * at ≤ next → next ≤ 2 * at + 1 → (2 * at < next → time < get_or nodes (2 * at) 0) → (next ≡ 2 * at → get_or nodes (2 * at) 0 ≤ time) → IsOnWay nodes time at (2 ^ (k + 1)) → IsOnWay nodes time next (2 ^ k)
-way_down nodes time at next k is from upto passed came way =
-    let wide = twice_as_wide k in
-    let most = mul-le (at + 1) 2 (at + 1) (2 ^ (k + 1)) (omega arith) (two_wide k) in
-    let inner : at < length nodes / 2 = omega (arith, most, way.high, is.even) in
-    let lesser : IsLesser nodes at = is.each at way.one inner (λ z. absurd (omega (arith, z, way.one))) in
+module _ (nodes : List ℕ) (time at n k : ℕ) (is : IsTree nodes) (one : 1 ≤ at) (passed : ArePassed (get_or nodes (4 * at) 0) (get_or nodes (4 * at + 1) 0) (get_or nodes (4 * at + 2) 0) time n) where
+  -- as many of the four as have not come lie behind
+  down_ahead : (low : ℕ) → AreAhead nodes time low (at * (4 ^ k * 4)) → AreAhead nodes time low ((4 * at + n) * 4 ^ k)
+  down_ahead low ahead =
+      let s = 4 ^ k in
+      let upto = λ (b : ℕ) (e : b ≡ 4 * at + n) (h : AreAhead nodes time low (b * 4 ^ k)). subst (λ (j : ℕ). AreAhead nodes time low (j * 4 ^ k)) e h in
+      let first : AreAhead nodes time low (4 * at * s) = subst (AreAhead nodes time low) (omega arith) ahead in
+      let second = λ (h : 0 < n). ahead_more nodes time low (4 * at) s (covers_pow nodes is k (4 * at) (omega (arith, one))) (passed.one h) first in
+      let third = λ (h : 1 < n). ahead_more nodes time low (4 * at + 1) s (covers_pow nodes is k (4 * at + 1) (omega arith)) (passed.two h) (second (omega (arith, h))) in
+      let last = λ (h : 2 < n). ahead_more nodes time low (4 * at + 2) s (covers_pow nodes is k (4 * at + 2) (omega arith)) (passed.three h) (subst (λ (j : ℕ). AreAhead nodes time low (j * 4 ^ k)) (omega arith) (third (omega (arith, h)))) in
+      elim (cases_lt 0 n) [
+        | inr none ↦ upto (4 * at) (omega (arith, none)) first
+        | inl some ↦ elim (cases_lt 1 n) [
+          | inr alone ↦ upto (4 * at + 1) (omega (arith, some, alone)) (second some)
+          | inl more ↦ elim (cases_lt 2 n) [
+            | inr both ↦ upto (4 * at + 1 + 1) (omega (arith, more, both)) (third more)
+            | inl all ↦ upto (4 * at + 2 + 1) (omega (arith, all, passed.most)) (last all)
+          ]
+        ]
+      ]
+
+  down_come : IsLeast nodes at → get_or nodes at 0 ≤ time → get_or nodes (4 * at + n) 0 ≤ time
+  down_come least_of come =
+      let there = λ (b : ℕ) (e : b ≡ 4 * at + n) (h : get_or nodes b 0 ≤ time). subst (λ (j : ℕ). get_or nodes j 0 ≤ time) e h in
+      elim (cases_lt 0 n) [
+        | inr none ↦ there (4 * at) (omega (arith, none)) (passed.at_one (omega (arith, none)))
+        | inl some ↦ elim (cases_lt 1 n) [
+          | inr alone ↦ there (4 * at + 1) (omega (arith, some, alone)) (passed.at_two (omega (arith, some, alone)))
+          | inl more ↦ elim (cases_lt 2 n) [
+            | inr both ↦ there (4 * at + 2) (omega (arith, more, both)) (passed.at_three (omega (arith, more, both)))
+            | inl all ↦
+                let last : get_or nodes (4 * at + 3) 0 ≤ time = omega (arith, least_of, come, passed.one some, passed.two more, passed.three all) in
+                there (4 * at + 3) (omega (arith, all, passed.most)) last
+          ]
+        ]
+      ]
+
+-- from a node on the way to that of the four below it which is chosen
+pub way_down : (nodes : List ℕ) (time at n k : ℕ) → IsTree nodes → ArePassed (get_or nodes (4 * at) 0) (get_or nodes (4 * at + 1) 0) (get_or nodes (4 * at + 2) 0) time n → IsOnWay nodes time at (4 ^ (k + 1)) → IsOnWay nodes time (4 * at + n) (4 ^ k)
+way_down nodes time at n k is passed way =
+    let wide = four_times k in
+    let high : (at + 1) * (4 ^ k * 4) ≤ length nodes = subst (λ n. (at + 1) * n ≤ length nodes) wide way.high in
+    let least_of : IsLeast nodes at = is.each at way.one (down_inner nodes at (4 ^ k) (some_wide k) is high) (λ z. absurd (omega (arith, z, way.one))) in
     record {
-      one = omega (arith, way.one, from);
-      low = down_low (length nodes / 2) at next (2 ^ k) (subst (λ n. length nodes / 2 ≤ at * n) wide way.low) from;
-      high = down_high (length nodes) at next (2 ^ k) (subst (λ n. (at + 1) * n ≤ length nodes) wide way.high) upto;
-      ahead = down_ahead nodes time (length nodes / 2) at next k is way.one (subst (λ n. AreAhead nodes time (length nodes / 2) (at * n)) wide way.ahead) from upto passed;
-      come = elim (cases_eq next (2 * at)) [
-        | inl e ↦ subst (λ n. get_or nodes n 0 ≤ time) (sym e) (came e)
-        | inr other ↦
-            let right : next ≡ 2 * at + 1 = omega (arith, other, from, upto) in
-            let later = passed (omega (arith, right)) in
-            let least_of : get_or nodes (2 * at + 1) 0 ≤ time = omega (arith, later, lesser, way.come) in
-            subst (λ n. get_or nodes n 0 ≤ time) (sym right) least_of
-      ];
+      one = omega (arith, way.one);
+      low = down_low (length nodes / 2) at (4 * at + n) (4 ^ k) (subst (λ n. length nodes / 2 ≤ at * n) wide way.low) (omega arith);
+      high = down_high (length nodes) at (4 * at + n) (4 ^ k) high (omega (arith, passed.most));
+      ahead = down_ahead nodes time at n k is way.one passed (length nodes / 2) (subst (λ n. AreAhead nodes time (length nodes / 2) (at * n)) wide way.ahead);
+      come = down_come nodes time at n k is way.one passed least_of way.come;
     }
 
--- what is known of the node that is chosen of the two below one
-pub record IsChosen (nodes : List ℕ) (time at next : ℕ) : Type 0 where
-  pub low : 2 * at ≤ next
-  pub high : next ≤ 2 * at + 1
-  pub passed : 2 * at < next → time < get_or nodes (2 * at) 0
-  pub come : next ≡ 2 * at → get_or nodes (2 * at) 0 ≤ time
-
-pub two_down : (nodes : List ℕ) (time at next last level : ℕ) → IsTree nodes → IsChosen nodes time at next → IsChosen nodes time next last → IsOnWay nodes time at (2 ^ (level + 2)) → IsOnWay nodes time last (2 ^ level)
-two_down nodes time at next last level is one two way =
-    let up : level + 2 ≡ level + 1 + 1 = omega arith in
-    way_down nodes time next last level is two.low two.high two.passed two.come
-    (way_down nodes time at next (level + 1) is one.low one.high one.passed one.come (subst (λ n. IsOnWay nodes time at (2 ^ n)) up way))
-
 -- the way begins at the root
-pub from_root : (nodes : List ℕ) (time half : ℕ) → IsTree nodes → 1 ≤ half → length nodes / 2 ≡ half → get_or nodes 1 0 ≤ 2 ^ 64 - 1 → least (leaves nodes) ≤ time → IsOnWay nodes time 1 half
-from_root nodes time half is some e top come =
-    let root = rooted nodes is (omega (arith, some, e)) top in
+pub from_root : (nodes : List ℕ) (time k : ℕ) → IsTree nodes → IsSize (length nodes / 2) → length nodes / 2 ≡ 4 ^ k → get_or nodes 1 0 ≤ 2 ^ 64 - 1 → least (leaves nodes) ≤ time → IsOnWay nodes time 1 (4 ^ k)
+from_root nodes time k is size e top come =
+    let root = rooted nodes is size top in
     record {
       one = omega arith;
       low = omega (arith, e);
-      high = omega (arith, e, is.even);
+      high = omega (arith, e, is.fours);
       ahead = λ node above before within. absurd (omega (arith, above, before, e));
       come = omega (arith, root, come);
     }
 
 pub leaves_half : (nodes : List ℕ) → IsTree nodes → length (leaves nodes) ≡ length nodes / 2
-leaves_half nodes is = omega (arith, is.even, length-drop (length nodes / 2) nodes)
+leaves_half nodes is = omega (arith, is.fours, length-drop (length nodes / 2) nodes)
 
 -- the sizes, one after another
 pub some_four : (n : ℕ) → IsSize n → 4 ≤ n

@@ -34,6 +34,7 @@ pub mod Due
 pub mod Front
 pub mod Sliding
 pub mod Rooted
+pub mod Carrying
 pub mod Climbing
 pub mod Descending
 pub mod Leaves

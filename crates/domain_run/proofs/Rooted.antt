@@ -1,9 +1,10 @@
 -- The root of a tournament is the first of its leaves.
-use Rattle.std.proofs.Common.{◌≡◌, ◌⊎◌, ℕ, zero, suc, ◌+◌, ◌-◌, ◌*◌, ◌/◌, ◌^◌, ◌<◌, ◌≤◌, min, List, [], ◌∷◌, length, get_or, refl, sym, ap, ◌∙◌, arith, subst, inl, inr}
-use Rattle.std.proofs.lemmas.Bool.{cases_eq, cases_lt}
+use Rattle.std.proofs.Common.{◌≡◌, ℕ, zero, suc, ◌+◌, ◌-◌, ◌*◌, ◌/◌, ◌^◌, ◌<◌, ◌≤◌, min, List, [], ◌∷◌, length, get_or, refl, sym, ap, ◌∙◌, arith, subst, inl, inr}
+use Rattle.std.proofs.lemmas.Bool.{cases_lt}
 use Rattle.std.proofs.lemmas.List.{get_or-drop, length-drop}
-use Rattle.domain_run.specs.private.Timers.{least}
-use Rattle.domain_run.specs.private.Tournament.{IsLesser, IsTree, leaves}
+use Rattle.domain_run.specs.private.Timers.{least, IsSize}
+use Rattle.domain_run.specs.private.Tournament.{IsTree, least_below, leaves}
+use Rattle.domain_run.proofs.Climbing.{covers_pow, four_times, some_wide, down_low, down_high, down_inner}
 
 pub least_le : (xs : List ℕ) (k : ℕ) → k < length xs → least xs ≤ get_or xs k 0
 least_le [] k h = absurd (omega (arith, h))
@@ -14,28 +15,6 @@ pub le_least : (xs : List ℕ) (v : ℕ) → v ≤ 2 ^ 64 - 1 → ((k : ℕ) →
 le_least [] v top each = top
 le_least (x ∷ xs) v top each = omega (arith, each 0 (omega arith), le_least xs v top (λ k h. each (suc k) (omega (arith, h))))
 
--- the root is not after any node
-below : (nodes : List ℕ) → IsTree nodes → (fuel j : ℕ) → j ≤ fuel → 1 ≤ j → j < length nodes → get_or nodes 1 0 ≤ get_or nodes j 0
-below nodes is zero j h one within = absurd (omega (arith, h, one))
-below nodes is (suc fuel) j h one within = by_cases (λ two. below nodes is fuel (j / 2) (omega (arith, h, two)) (omega (arith, two)) (omega (arith, within))) (cases_eq j 1)
-  where
-    by_parity : (2 ≤ j → get_or nodes 1 0 ≤ get_or nodes (j / 2) 0) → (r : ℕ) → j ≡ 2 * (j / 2) + r → r < 2 → 2 ≤ j → get_or nodes 1 0 ≤ get_or nodes j 0
-    by_parity ih zero e less two =
-        let up = ih two in
-        let here : IsLesser nodes (j / 2) = is.each (j / 2) (omega (arith, e, two)) (omega (arith, e, within, is.even)) (λ z. absurd (omega (arith, z, e, two))) in
-        let at : get_or nodes j 0 ≡ get_or nodes (2 * (j / 2)) 0 = ap (λ (k : ℕ). get_or nodes k 0) (omega (arith, e)) in
-        omega (arith, up, here, at)
-    by_parity ih (suc zero) e less two =
-        let up = ih two in
-        let here : IsLesser nodes (j / 2) = is.each (j / 2) (omega (arith, e, two)) (omega (arith, e, within, is.even)) (λ z. absurd (omega (arith, z, e, two))) in
-        let at : get_or nodes j 0 ≡ get_or nodes (2 * (j / 2) + 1) 0 = ap (λ (k : ℕ). get_or nodes k 0) (omega (arith, e)) in
-        omega (arith, up, here, at)
-    by_parity ih (suc (suc r)) e less two = absurd (omega (arith, less))
-
-    by_cases : (2 ≤ j → get_or nodes 1 0 ≤ get_or nodes (j / 2) 0) → (j ≡ 1) ⊎ (j ≡ 1 → ⊥) → get_or nodes 1 0 ≤ get_or nodes j 0
-    by_cases ih (inl e) = rw e (omega arith)
-    by_cases ih (inr n) = by_parity ih (j - 2 * (j / 2)) (omega arith) (omega arith) (omega (arith, one, n))
-
 -- a leaf that has a node's time
 record Leaf (nodes : List ℕ) (i : ℕ) : Type 0 where
   at : ℕ
@@ -43,30 +22,57 @@ record Leaf (nodes : List ℕ) (i : ℕ) : Type 0 where
   within : at < length nodes
   same : get_or nodes at 0 ≡ get_or nodes i 0
 
-min_cases : (a b m : ℕ) → m ≡ min a b → (a ≡ m) ⊎ (b ≡ m)
-min_cases a b m e = elim (cases_lt a b) [ inl h ↦ inl (omega (arith, e, h)) | inr h ↦ inr (omega (arith, e, h)) ]
+-- one of the four that has the least time
+record OfFour (nodes : List ℕ) (i : ℕ) : Type 0 where
+  at : ℕ
+  low : 4 * i ≤ at
+  high : at ≤ 4 * i + 3
+  same : get_or nodes at 0 ≡ least_below nodes i
 
-reached : (nodes : List ℕ) → IsTree nodes → (fuel i : ℕ) → length nodes ≤ i + fuel → 1 ≤ i → i < length nodes → Leaf nodes i
-reached nodes is zero i h one within = absurd (omega (arith, h, within))
-reached nodes is (suc fuel) i h one within = by_half (λ k more inside. reached nodes is fuel k (omega (arith, h, more)) (omega (arith, more)) inside) (cases_lt i (length nodes / 2))
-  where
-    by_child : ((k : ℕ) → i < k → k < length nodes → Leaf nodes k) → i < length nodes / 2 → (get_or nodes (2 * i) 0 ≡ get_or nodes i 0) ⊎ (get_or nodes (2 * i + 1) 0 ≡ get_or nodes i 0) → Leaf nodes i
-    by_child ih inner (inl e) =
-        let leaf = ih (2 * i) (omega (arith, one)) (omega (arith, inner, is.even)) in
-        record { at = leaf.at; past = leaf.past; within = leaf.within; same = leaf.same ∙ e }
-    by_child ih inner (inr e) =
-        let leaf = ih (2 * i + 1) (omega (arith, one)) (omega (arith, inner, is.even)) in
-        record { at = leaf.at; past = leaf.past; within = leaf.within; same = leaf.same ∙ e }
+of_four : (nodes : List ℕ) (i : ℕ) → OfFour nodes i
+of_four nodes i =
+    let a = get_or nodes (4 * i) 0 in
+    let b = get_or nodes (4 * i + 1) 0 in
+    let c = get_or nodes (4 * i + 2) 0 in
+    let d = get_or nodes (4 * i + 3) 0 in
+    elim (cases_lt (min a b) (min c d)) [
+      | inl left ↦ elim (cases_lt a b) [
+        | inl h ↦ record { at = 4 * i; low = omega arith; high = omega arith; same = omega (arith, left, h) }
+        | inr h ↦ record { at = 4 * i + 1; low = omega arith; high = omega arith; same = omega (arith, left, h) }
+      ]
+      | inr right ↦ elim (cases_lt c d) [
+        | inl h ↦ record { at = 4 * i + 2; low = omega arith; high = omega arith; same = omega (arith, right, h) }
+        | inr h ↦ record { at = 4 * i + 3; low = omega arith; high = omega arith; same = omega (arith, right, h) }
+      ]
+    ]
 
-    by_half : ((k : ℕ) → i < k → k < length nodes → Leaf nodes k) → (i < length nodes / 2) ⊎ (length nodes / 2 ≤ i) → Leaf nodes i
-    by_half ih (inl inner) = by_child ih inner (min_cases (get_or nodes (2 * i) 0) (get_or nodes (2 * i + 1) 0) (get_or nodes i 0) (is.each i one inner (λ z. absurd (omega (arith, z, one)))))
-    by_half ih (inr outer) = record { at = i; past = outer; within = within; same = refl }
+reached : (nodes : List ℕ) → IsTree nodes → (k i : ℕ) → 1 ≤ i → length nodes / 2 ≤ i * 4 ^ k → (i + 1) * 4 ^ k ≤ length nodes → Leaf nodes i
+reached nodes is zero i one low high = record { at = i; past = omega (arith, low); within = omega (arith, high); same = refl }
+reached nodes is (suc k) i one low high =
+    let more : suc k ≡ k + 1 = omega arith in
+    let wide : 4 ^ suc k ≡ 4 ^ k * 4 = ap (λ n. 4 ^ n) more ∙ four_times k in
+    let from : length nodes / 2 ≤ i * (4 ^ k * 4) = subst (λ n. length nodes / 2 ≤ i * n) wide low in
+    let upto : (i + 1) * (4 ^ k * 4) ≤ length nodes = subst (λ n. (i + 1) * n ≤ length nodes) wide high in
+    let next = of_four nodes i in
+    let here = is.each i one (down_inner nodes i (4 ^ k) (some_wide k) is upto) (λ z. absurd (omega (arith, z, one))) in
+    let leaf = reached nodes is k next.at (omega (arith, next.low, one)) (down_low (length nodes / 2) i next.at (4 ^ k) from next.low) (down_high (length nodes) i next.at (4 ^ k) upto next.high) in
+    record { at = leaf.at; past = leaf.past; within = leaf.within; same = leaf.same ∙ next.same ∙ sym here }
 
-pub rooted : (nodes : List ℕ) → IsTree nodes → 0 < length nodes → get_or nodes 1 0 ≤ 2 ^ 64 - 1 → get_or nodes 1 0 ≡ least (leaves nodes)
-rooted nodes is some top =
+rooted_at : (nodes : List ℕ) (k : ℕ) → IsTree nodes → length nodes / 2 ≡ 4 ^ k → get_or nodes 1 0 ≤ 2 ^ 64 - 1 → get_or nodes 1 0 ≡ least (leaves nodes)
+rooted_at nodes k is wide top =
     let half = length nodes / 2 in
-    let leaf = reached nodes is (length nodes) 1 (omega arith) (omega arith) (omega (arith, some, is.even)) in
+    let two : length nodes ≡ 2 * half = omega (arith, is.fours) in
+    let leaf = reached nodes is k 1 (omega arith) (omega (arith, wide)) (omega (arith, wide, two)) in
     let read : get_or (leaves nodes) (leaf.at - half) 0 ≡ get_or nodes leaf.at 0 = get_or-drop half nodes (leaf.at - half) 0 ∙ ap (λ (k : ℕ). get_or nodes k 0) (omega (arith, leaf.past)) in
     let most = least_le (leaves nodes) (leaf.at - half) (omega (arith, leaf.past, leaf.within, length-drop half nodes)) in
-    let least_of : get_or nodes 1 0 ≤ least (leaves nodes) = le_least (leaves nodes) (get_or nodes 1 0) top (λ k h. subst (λ (v : ℕ). get_or nodes 1 0 ≤ v) (sym (get_or-drop half nodes k 0)) (below nodes is (half + k) (half + k) (omega arith) (omega (arith, some, is.even)) (omega (arith, h, length-drop half nodes)))) in
+    let covers = covers_pow nodes is k 1 (omega arith) in
+    let least_of : get_or nodes 1 0 ≤ least (leaves nodes) = le_least (leaves nodes) (get_or nodes 1 0) top (λ j h.
+    let within : half + j < length nodes = omega (arith, h, length-drop half nodes) in
+    subst (λ (v : ℕ). get_or nodes 1 0 ≤ v) (sym (get_or-drop half nodes j 0)) (covers.each (half + j) (omega (arith, wide)) (omega (arith, wide, within, two)) within)) in
     omega (arith, most, read, leaf.same, least_of)
+
+pub rooted : (nodes : List ℕ) → IsTree nodes → IsSize (length nodes / 2) → get_or nodes 1 0 ≤ 2 ^ 64 - 1 → get_or nodes 1 0 ≡ least (leaves nodes)
+rooted nodes is (inl e) top = rooted_at nodes 1 is e top
+rooted nodes is (inr (inl e)) top = rooted_at nodes 2 is e top
+rooted nodes is (inr (inr (inl e))) top = rooted_at nodes 3 is e top
+rooted nodes is (inr (inr (inr e))) top = rooted_at nodes 4 is e top

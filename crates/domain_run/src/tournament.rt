@@ -14,7 +14,7 @@ const ROOM: usize = 512;
 /// A time that never comes.
 pub(crate) const NEVER: u64 = u64::MAX;
 
-/// At most 256 times, and above each two of them the lesser.
+/// 4, 16, 64 or 256 times, and above each four of them the least.
 #[derive(Drop)]
 pub(crate) struct Tournament {
     nodes: Vec<u64>,
@@ -31,28 +31,51 @@ impl Model for Tournament {
     ghost invariant = { λ t. IsTournament t.nodes.items (vec_capacity t.nodes) };
 }
 
-// Each node from one on up to the root is the lesser of the two below it.
-fn mend(nodes: &mut Vec<u64>, from: usize)
-    requires tree { spec.IsTreeBut from nodes.old.items }
-    requires inner { from < length nodes.old.items / 2 }
-    ensures tree { spec.IsTree nodes.new.items }
+// The least of the four below a node.
+#[inline(always)]
+fn least_below(nodes: &[u64], at: usize) -> u64
+    requires within { 4 * at + 3 < length nodes.now }
+    requires few { length nodes.now ≤ 512 }
+    ensures { result ≡ spec.least_below nodes.now at }
+{
+    let left = nodes[4 * at].min(nodes[4 * at + 1]);
+    let right = nodes[4 * at + 2].min(nodes[4 * at + 3]);
+    left.min(right)
+}
+
+// The least of the four of which one, at this node, has this time.
+#[inline(always)]
+fn least_beside(nodes: &[u64], at: usize, time: u64) -> u64
+    requires fours { length nodes.now ≡ 4 * (length nodes.now / 4) }
+    requires there { at < length nodes.now }
+    requires time { slice_index_or nodes.now at 0 ≡ time }
+    ensures { result ≡ spec.least_below nodes.now (at / 4) }
+{
+    let others = nodes[at ^ 2].min(nodes[at ^ 3]);
+    time.min(nodes[at ^ 1]).min(others)
+}
+
+// The node above one that has this time becomes the least of the four below it, which is answered.
+#[inline(always)]
+fn carry(nodes: &mut Vec<u64>, at: usize, time: u64) -> u64
+    requires tree { spec.IsTreeBut (at / 4) nodes.old.items }
+    requires inner { 4 ≤ at }
+    requires there { at < length nodes.old.items }
+    requires time { slice_index_or nodes.old.items at 0 ≡ time }
+    ensures tree { spec.IsTreeBut (at / 16) nodes.new.items }
+    ensures time { slice_index_or nodes.new.items (at / 4) 0 ≡ result }
     ensures length { length nodes.new.items ≡ length nodes.old.items }
     ensures leaves { spec.leaves nodes.new.items ≡ spec.leaves nodes.old.items }
     ensures room { vec_capacity nodes.new ≡ vec_capacity nodes.old }
 {
-    let mut at = from;
-    while at > 0 {
-        let lesser = nodes[2 * at].min(nodes[2 * at + 1]);
-        if nodes[at] == lesser {
-            return;
-        }
-        nodes[at] = lesser;
-        at /= 2;
-    }
+    let least = least_beside(nodes, at, time);
+    nodes[at / 4] = least;
+    least
 }
 
 fn set_leaf(nodes: &mut Vec<u64>, leaf: usize, time: u64)
     requires tree { spec.IsTree nodes.old.items }
+    requires size { IsSize (length nodes.old.items / 2) }
     requires leaf { leaf < length (spec.leaves nodes.old.items) }
     ensures tree { spec.IsTree nodes.new.items }
     ensures length { length nodes.new.items ≡ length nodes.old.items }
@@ -60,13 +83,26 @@ fn set_leaf(nodes: &mut Vec<u64>, leaf: usize, time: u64)
     ensures room { vec_capacity nodes.new ≡ vec_capacity nodes.old }
 {
     let half = nodes.len() / 2;
-    nodes[half + leaf] = time;
-    mend(nodes, (half + leaf) / 2);
+    let at = half + leaf;
+    nodes[at] = time;
+    let of_four = carry(nodes, at, time);
+    if half == 4 {
+        return;
+    }
+    let of_16 = carry(nodes, at / 4, of_four);
+    if half == 16 {
+        return;
+    }
+    let of_64 = carry(nodes, at / 16, of_16);
+    if half == 64 {
+        return;
+    }
+    carry(nodes, at / 64, of_64);
 }
 
 fn root(nodes: &[u64]) -> u64
     requires tree { spec.IsTree nodes.now }
-    requires some { 0 < length (spec.leaves nodes.now) }
+    requires size { IsSize (length nodes.now / 2) }
     ensures { result ≡ least (spec.leaves nodes.now) }
 {
     nodes[1]
@@ -95,18 +131,19 @@ fn copy_leaves(nodes: &mut Vec<u64>, half: usize)
     }
 }
 
-// Each inner node is made the lesser of the two below it.
+// Each inner node is made the least of the four below it.
 fn build(nodes: &mut Vec<u64>)
-    requires { length nodes.old.items ≡ 2 * (length nodes.old.items / 2) }
+    requires fours { length nodes.old.items ≡ 4 * (length nodes.old.items / 4) }
+    requires few { length nodes.old.items ≤ 512 }
     ensures tree { spec.IsTree nodes.new.items }
     ensures length { length nodes.new.items ≡ length nodes.old.items }
     ensures leaves { spec.leaves nodes.new.items ≡ spec.leaves nodes.old.items }
     ensures room { vec_capacity nodes.new ≡ vec_capacity nodes.old }
 {
-    let mut at = nodes.len() / 2;
+    let mut at = nodes.len() / 4;
     while at > 1 {
         at -= 1;
-        nodes[at] = nodes[2 * at].min(nodes[2 * at + 1]);
+        nodes[at] = least_below(nodes, at);
     }
 }
 
@@ -141,38 +178,36 @@ fn behind(nodes: &[u64], from: usize, time: u64) -> usize
 {
     let mut at = from;
     let mut span = 1;
-    while at > 1 && nodes[at / 2] > time {
-        at /= 2;
-        span *= 2;
+    while at > 3 && nodes[at / 4] > time {
+        at /= 4;
+        span *= 4;
     }
     (at + 1) * span
 }
 
-// Of the two below a node the left one where something has come in it, else the right one.
+// How many of three times, from the first on, have not come.
 #[inline(always)]
-fn below(nodes: &[u64], at: usize, time: u64) -> usize
-    requires within { 2 * at + 1 < length nodes.now }
-    requires few { length nodes.now ≤ 512 }
-    ensures low { 2 * at ≤ result }
-    ensures high { result ≤ 2 * at + 1 }
-    ensures passed { 2 * at < result → time < slice_index_or nodes.now (2 * at) 0 }
-    ensures come { result ≡ 2 * at → slice_index_or nodes.now (2 * at) 0 ≤ time }
+fn passed(first: u64, second: u64, third: u64, time: u64) -> usize
+    ensures { spec.ArePassed first second third time result }
 {
-    2 * at + usize::from(nodes[2 * at] > time)
+    let one = first > time;
+    let two = one & (second > time);
+    let three = two & (third > time);
+    usize::from(one) + usize::from(two) + usize::from(three)
 }
 
-// Two levels further down.
+// Of the four below a node the first in which something has come; the last where in none of the
+// others.
 #[inline(always)]
-fn two_below(nodes: &[u64], at: usize, time: u64) -> usize
+fn below(nodes: &[u64], at: usize, time: u64) -> usize
     requires tree { spec.IsTree nodes.now }
     requires within { 4 * at + 3 < length nodes.now }
     requires few { length nodes.now ≤ 512 }
     ensures high { result ≤ 4 * at + 3 }
-    ensures down { (level : ℕ) → spec.IsOnWay nodes.now time at (2 ^ (level + 2))
-        → spec.IsOnWay nodes.now time result (2 ^ level) }
+    ensures down { (level : ℕ) → spec.IsOnWay nodes.now time at (4 ^ (level + 1))
+        → spec.IsOnWay nodes.now time result (4 ^ level) }
 {
-    let next = below(nodes, at, time);
-    below(nodes, next, time)
+    4 * at + passed(nodes[4 * at], nodes[4 * at + 1], nodes[4 * at + 2], time)
 }
 
 // From the root down to the first leaf that has come. On the way nothing is asked but how many
@@ -185,19 +220,19 @@ fn first_come(nodes: &[u64], time: u64) -> usize
     ensures { spec.IsOnWay nodes.now time result 1 }
 {
     let half = nodes.len() / 2;
-    let of_four = two_below(nodes, 1, time);
+    let of_four = below(nodes, 1, time);
     if half == 4 {
         return of_four;
     }
-    let of_16 = two_below(nodes, of_four, time);
+    let of_16 = below(nodes, of_four, time);
     if half == 16 {
         return of_16;
     }
-    let of_64 = two_below(nodes, of_16, time);
+    let of_64 = below(nodes, of_16, time);
     if half == 64 {
         return of_64;
     }
-    two_below(nodes, of_64, time)
+    below(nodes, of_64, time)
 }
 
 impl Tournament {

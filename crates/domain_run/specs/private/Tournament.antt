@@ -1,16 +1,21 @@
--- A tournament of times, for the code's own contracts: each inner node is the lesser of the two below
--- it, and the leaves are the second half.
+-- A tournament of times, for the code's own contracts: each inner node is the least of the four below
+-- it, and the leaves are the second half. So the nodes of a level are 4, 16, 64 or 256, behind as many
+-- that it has no use for.
 use Rattle.std.specs.Prelude.{ℕ, ◌+◌, ◌*◌, ◌/◌, ◌<◌, ◌≤◌, ◌≡◌, ◌≢◌, min, List, length, drop, slice_index_or}
+use Rattle.domain_run.specs.private.Timers.{IsSize}
 
-abbrev pub IsLesser : List ℕ → ℕ → Type 0
-IsLesser nodes i =
-    slice_index_or nodes i 0
-    ≡ min (slice_index_or nodes (2 * i) 0) (slice_index_or nodes (2 * i + 1) 0)
+abbrev pub least_below : List ℕ → ℕ → ℕ
+least_below nodes i =
+    min (min (slice_index_or nodes (4 * i) 0) (slice_index_or nodes (4 * i + 1) 0))
+    (min (slice_index_or nodes (4 * i + 2) 0) (slice_index_or nodes (4 * i + 3) 0))
+
+abbrev pub IsLeast : List ℕ → ℕ → Type 0
+IsLeast nodes i = slice_index_or nodes i 0 ≡ least_below nodes i
 
 -- each inner node but one
 pub record IsTreeBut (at : ℕ) (nodes : List ℕ) : Type 0 where
-  pub even : length nodes ≡ 2 * (length nodes / 2)
-  pub each : (i : ℕ) → 1 ≤ i → i < length nodes / 2 → i ≢ at → IsLesser nodes i
+  pub fours : length nodes ≡ 4 * (length nodes / 4)
+  pub each : (i : ℕ) → 1 ≤ i → i < length nodes / 4 → i ≢ at → IsLeast nodes i
 
 -- each inner node
 abbrev pub IsTree : List ℕ → Type 0
@@ -22,8 +27,19 @@ leaves nodes = drop (length nodes / 2) nodes
 -- what a tournament keeps: the room for 512 nodes that it was opened with, so it takes no more
 pub record IsTournament (nodes : List ℕ) (capacity : ℕ) : Type 0 where
   pub tree : IsTree nodes
+  pub size : IsSize (length nodes / 2)
   pub most : length nodes ≤ 512
   pub room : capacity ≡ 512
+
+-- so many of three times, from the first on, have not come, and the next of them has
+pub record ArePassed (first second third time count : ℕ) : Type 0 where
+  pub most : count ≤ 3
+  pub one : 0 < count → time < first
+  pub two : 1 < count → time < second
+  pub three : 2 < count → time < third
+  pub at_one : count ≡ 0 → first ≤ time
+  pub at_two : count ≡ 1 → second ≤ time
+  pub at_three : count ≡ 2 → third ≤ time
 
 -- from this node on, up to that, none has come
 abbrev pub AreAhead : List ℕ → ℕ → ℕ → ℕ → Type 0

@@ -1,5 +1,5 @@
 use Rattle.std.proofs.Common.{arith}
-use Rattle.domain_run.proofs.Climbing.{covers_twice, climbs_low, climbs_high, climbs_short}
+use Rattle.domain_run.proofs.Climbing.{covers_fours, climbs_low, climbs_high, climbs_short}
 use Rattle.domain_run.proofs.tournament.behind.Goals as goal
 
 pub loop-at-preserved : goal.loop-at-preserved
@@ -11,7 +11,7 @@ loop-at-preserved c =
       low = climbs_low c.loop-at.at c.loop-at.span c.args.from i.low;
       high = climbs_high c.loop-at.at c.loop-at.span c.args.from i.high;
       later = c.if-nodes-at.true;
-      covers = covers_twice c.args.nodes.now c.loop-at.span c.requires.tree i.covers;
+      covers = covers_fours c.args.nodes.now c.loop-at.span c.requires.tree i.covers;
     }
 
 pub returns-clause-others : goal.returns-clause-others
