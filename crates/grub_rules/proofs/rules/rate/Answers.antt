@@ -9,7 +9,7 @@ seen c = let p = c.params.inside in record { runtime = p.runtime; deadline = p.d
 
 -- what the tasks take, from what they have of each CPU
 taken_is : (c : goal.After-max) → c.max-taken.result ≡ max (seen c).bw (c.args.sum / c.args.cpus - c.args.uinact)
-taken_is c = rw c.on_each-used.ensures at (rw c.saturating_sub.ensures at c.max-taken.ensures)
+taken_is c = c.max-taken.ensures ∙ ap (λ n. max (seen c).bw n) (c.saturating_sub.ensures ∙ ap (λ u. u - c.args.uinact) c.on_each-used.ensures)
 
 pub returns-clause-value : goal.returns-clause-value
 returns-clause-value c =
