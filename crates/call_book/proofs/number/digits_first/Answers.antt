@@ -1,4 +1,4 @@
-use Rattle.std.proofs.Common.{◌≡◌, ◌+◌, ◌-◌, ◌*◌, ◌∙◌, ℕ, List, drop, sym, ap, arith}
+use Rattle.std.proofs.Common.{◌≡◌, ◌+◌, ◌*◌, ◌∙◌, ℕ, List, drop, sym, ap, arith}
 use Rattle.call_book.specs.private.Reading.{digits_front}
 use Rattle.call_book.proofs.Numbers.{front_above, front_step}
 use Rattle.call_book.proofs.number.digits_first.Goals as goal
