@@ -3,7 +3,7 @@ use Rattle.std.specs.Prelude.{option_and_then, ◌==◌, nat_le, encode_utf8, en
 use Rattle.std.specs.Str.{IsUtf8, IsAscii, IsCharBoundary}
 use Rattle.std.specs.Char.{is_ascii_digit}
 use Rattle.std.specs.List.{All, AllByRecursion}
-use Rattle.std.proofs.Common.{ℕ, ◌+◌, ◌<◌, ◌≤◌, ◌≡◌, inl, inr, Bool, true, false, not, ◌&&◌, List, [], ◌∷◌, ◌++◌, length, take, drop, refl, sym, ap, ◌∙◌, subst, arith, Option, Some, None, Result, Ok, Err, IfOk, append-nil, append_assoc}
+use Rattle.std.proofs.Common.{ℕ, suc, ◌+◌, ◌<◌, ◌≤◌, ◌≡◌, inl, inr, Bool, true, false, not, ◌&&◌, List, [], ◌∷◌, ◌++◌, length, take, drop, refl, sym, ap, ◌∙◌, subst, arith, Option, Some, None, Result, Ok, append-nil, append_assoc}
 use Rattle.std.proofs.lemmas.Bool.{cases_lt, eq-eqb}
 use Rattle.std.proofs.lemmas.Bool.Decides.{nat_tests}
 use Rattle.std.proofs.lemmas.Str.{encode_ascii, encodes-append, encodes-IsAscii, IsUtf8-take, IsUtf8-from_ascii, IsCharBoundary-from_take}
@@ -13,8 +13,8 @@ use Rattle.std.proofs.lemmas.List.Elements.{recursion_from_All, All-from_recursi
 use Rattle.json_order.specs.Json.{Json}
 use Rattle.json_order.specs.Grammar.{is_plain}
 use Rattle.json_order.specs.Fault.{strict}
-use Rattle.json_order.specs.private.Machine.{Entries, Place, Frame, State, state, run_on, run, IsFine, in_string, in_key, in_number, in_word, step, quote_step, going, part_step}
-use Rattle.json_order.specs.private.AtOnce.{MovesPlain, Takes, Passes, TakesQuoted, parts_after, is_in_digits}
+use Rattle.json_order.specs.private.Machine.{Entries, Place, Frame, State, state, run_on, run, IsFine, in_string, in_key, in_number, in_word, quote_step, going, part_step}
+use Rattle.json_order.specs.private.AtOnce.{MovesPlain, Takes, TakesQuoted, parts_after, is_in_digits}
 use Rattle.json_order.specs.declared.fault.JsonKind.{JsonKind}
 use Rattle.json_order.specs.declared.place.Escape.{Escape}
 use Rattle.json_order.specs.declared.place.Escape.TheVariants.{Outside}
@@ -22,7 +22,7 @@ use Rattle.json_order.specs.declared.place.Part.{Part}
 use Rattle.json_order.specs.declared.place.Part.TheVariants.{Minus, Zero, Whole, Dot, Fraction, Mark, Sign, Exponent}
 use Rattle.json_order.specs.declared.word.Word.{Word}
 use Rattle.json_order.specs.declared.word.Word.TheVariants.{Null, True, False}
-use Rattle.json_order.specs.private.Places.{letters_from, value_of}
+use Rattle.json_order.specs.private.Places.{letters_from}
 use Rattle.json_order.proofs.Numbers.{IsInside, Goes, part_goes}
 use Rattle.json_order.proofs.Strings.{FineQuote, fine_quote}
 
@@ -88,11 +88,6 @@ takes_string old new before after m = (m.0, m.1, λ fs. plain_string m.0 old fs 
 takes_key : (es : Entries) (old new before after : List ℕ) → MovesPlain old new before after → Takes (in_key es old Outside) (in_key es new Outside) before after
 takes_key es old new before after m = (m.0, m.1, λ fs. plain_key es m.0 old fs m.2 ∙ ap (λ x. Ok (state (in_key es x Outside) fs)) (sym m.3))
 
--- a fact that follows where there is a result
-pub if_ok : {A E : Type 0} (r : Result A E) (P Q : A → Type 0) → ((a : A) → P a → Q a) → IfOk r P → IfOk r Q
-if_ok (Ok a) P Q f h = f a h
-if_ok (Err e) P Q f h = h
-
 -- ANY CHARACTERS OF A STRING
 
 pub takes_plain : (old new before after : List ℕ) → MovesPlain old new before after → TakesQuoted old Outside new Outside before after
@@ -120,24 +115,6 @@ quoted_more a b d e f g before mid after t u = (
   takes_more (in_string a e) (in_string b f) (in_string d g) before mid after t.0 u.0,
   λ es. takes_more (in_key es a e) (in_key es b f) (in_key es d g) before mid after (t.1 es) (u.1 es),
 )
-
--- FROM STATE TO STATE
-
-pub passes_nothing : (s : State) (before : List ℕ) → Passes s s before before
-passes_nothing s before = ([], refl, refl)
-
-pub passes_takes : (p q : Place) (fs : List Frame) (before after : List ℕ) → Takes p q before after → Passes (state p fs) (state q fs) before after
-passes_takes p q fs before after t = (t.0, t.1, t.2 fs)
-
-pub passes_more : (s t u : State) (before mid after : List ℕ) → Passes s t before mid → Passes t u mid after → Passes s u before after
-passes_more s t u before mid after p q = (
-  p.0 ++ q.0,
-  p.1 ∙ ap (λ x. encode_utf8_all p.0 ++ x) q.1 ∙ sym (append_assoc (encode_utf8_all p.0) (encode_utf8_all q.0) after) ∙ ap (λ x. x ++ after) (sym (encodes-append p.0 q.0)),
-  run_append (Ok s) p.0 q.0 ∙ ap (λ o. run strict o q.0) p.2 ∙ q.2,
-)
-
-pub passes_one : (s t : State) (c : ℕ) (before after : List ℕ) → step strict s c ≡ Ok t → before ≡ encode_utf8 c ++ after → Passes s t before after
-passes_one s t c before after h next = (c ∷ [], next ∙ ap (λ x. x ++ after) (sym (append-nil (encode_utf8 c))), h)
 
 -- one character
 pub quoted_one : (old new : List ℕ) (e f : Escape) (c : ℕ) (before after : List ℕ) → quote_step old e c ≡ Some (going new f) → before ≡ encode_utf8 c ++ after → TakesQuoted old e new f before after
@@ -230,9 +207,18 @@ takes_number old new bytes after n p q h e f =
       λ fs. number_run (take n bytes) old p q fs h ∙ ap (λ x. Ok (state (in_number x q) fs)) (sym e),
     )
 
+pub front_more : (n c : ℕ) (cs : List ℕ) → take (n + 1) (c ∷ cs) ≡ c ∷ take n cs
+front_more n c cs = let e : n + 1 ≡ suc n = omega arith in subst (λ m. take m (c ∷ cs) ≡ c ∷ take n cs) (sym e) refl
+
+pub back_more : (n c : ℕ) (cs : List ℕ) → drop (n + 1) (c ∷ cs) ≡ drop n cs
+back_more n c cs = let e : n + 1 ≡ suc n = omega arith in subst (λ m. drop m (c ∷ cs) ≡ drop n cs) (sym e) refl
+
 -- a text may be cut behind a number
-pub number_cut : (bytes : List ℕ) (n : ℕ) (p q : Part) → IsUtf8 bytes → n ≤ length bytes → parts_after p (take n bytes) ≡ Some q → IsCharBoundary bytes n
-number_cut bytes n p q u l h = IsCharBoundary-from_take bytes n u l (IsUtf8-from_ascii (take n bytes) (ascii (take n bytes) p q h))
+pub number_cut : (c : ℕ) (rest begun : List ℕ) (n : ℕ) (p q : Part) → IsUtf8 rest → c < 128 → rest ≡ c ∷ begun → n ≤ length begun → parts_after p (take n begun) ≡ Some q → IsCharBoundary rest (n + 1)
+number_cut c rest begun n p q u small e l h =
+    let all = IsAscii-from_all (c ∷ take n begun) (All-from_recursion (λ b. b < 128) (c ∷ take n begun) (small, number_ascii (take n begun) p q h)) in
+    let front : take (n + 1) rest ≡ c ∷ take n begun = ap (λ x. take (n + 1) x) e ∙ front_more n c begun in
+    IsCharBoundary-from_take rest (n + 1) u (let m = ap length e in omega (arith, m, l)) (subst IsUtf8 (sym front) (IsUtf8-from_ascii (c ∷ take n begun) all))
 
 -- WORDS
 
@@ -240,13 +226,8 @@ pub word_run : (ls : List ℕ) (v : Json) (fs : List Frame) → run strict (Ok (
 word_run [] v fs = refl
 word_run (l ∷ ls) v fs = rw (eq-eqb l l refl) (word_run ls v fs)
 
-word_ascii : (w : Word) → encode_utf8_all (letters_from w 1) ≡ letters_from w 1
+pub word_ascii : (w : Word) → encode_utf8_all (letters_from w 1) ≡ letters_from w 1
 unfolding lib.Utf8.encode
 word_ascii Null = refl
 word_ascii True = refl
 word_ascii False = refl
-
--- the letters behind the first, all of them
-pub takes_word : (w : Word) (read new : ℕ) (tail rest after : List ℕ) → read ≡ 1 → tail ≡ letters_from w 1 → letters_from w new ≡ [] → rest ≡ tail ++ after → Takes (in_word (letters_from w read) (value_of w)) (in_word (letters_from w new) (value_of w)) rest after
-takes_word w read new tail rest after one e done split =
-    (letters_from w 1, split ∙ ap (λ x. x ++ after) (e ∙ sym (word_ascii w)), λ fs. rw (one, done) (word_run (letters_from w 1) (value_of w) fs))

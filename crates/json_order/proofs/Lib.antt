@@ -15,6 +15,6 @@ pub mod Trees
 pub mod Frames
 pub mod AtOnce
 pub mod Escapes
-pub mod NewKeys
 pub mod Turns
 pub mod Rows
+pub mod Crossings

@@ -4,7 +4,7 @@ use Rattle.std.specs.declared.string.String.{String}
 use Rattle.std.specs.declared.vec.Vec.{Vec}
 use Rattle.std.specs.declared.alloc.Global.{Global}
 use Rattle.std.proofs.Common.{ℕ, ◌≡◌, true, false, List, [], ◌∷◌, map, refl, sym, ap, ◌∙◌, Option, Some, Ok, Err}
-use Rattle.json_order.specs.Json.{Json, object, no_members}
+use Rattle.json_order.specs.Json.{Json, string, number, object, no_members}
 use Rattle.json_order.specs.Seen.{json_of, seen_step, entry_of, members_with}
 use Rattle.json_order.specs.Grammar.{has_key}
 use Rattle.json_order.specs.Fault.{strict}
@@ -13,7 +13,7 @@ use Rattle.json_order.specs.private.Places.{entries_of}
 use Rattle.json_order.specs.private.Machine.{keys, Frame, state, behind_key, Quote, closed, key_move, judged}
 use Rattle.json_order.specs.declared.fault.JsonKind.TheVariants.{Duplicate}
 use Rattle.json_order.specs.declared.tree.Tree.{Tree}
-use Rattle.json_order.specs.declared.tree.Tree.TheVariants.{Object, rolls-Object}
+use Rattle.json_order.specs.declared.tree.Tree.TheVariants.{Object, Text, Number, rolls-Object, rolls-Text, rolls-Number}
 use Rattle.json_order.specs.declared.tree.Tree.TheOpen.{Tree-F}
 use Rattle.json_order.specs.declared.tree.Tree.TheFolds.{fold-roll-Tree}
 
@@ -23,6 +23,12 @@ object_seen v = ap json_of (sym (rolls-Object v)) ∙ fold-roll-Tree Json seen_s
     seen : (ms : List (String Global × Tree)) → map entry_of (map (λ m. (m.0, json_of m.1)) ms) ≡ entries_of ms
     seen [] = refl
     seen (m ∷ ms) = ap (λ es. (string_bytes m.0, json_of m.1) ∷ es) (seen ms)
+
+pub text_seen : (s : String Global) → json_of (Text s) ≡ string (string_bytes s)
+text_seen s = ap json_of (sym (rolls-Text s)) ∙ fold-roll-Tree Json seen_step (Tree-F.Text s)
+
+pub number_seen : (s : String Global) → json_of (Number s) ≡ number (string_bytes s)
+number_seen s = ap json_of (sym (rolls-Number s)) ∙ fold-roll-Tree Json seen_step (Tree-F.Number s)
 
 pub keys_seen : (ms : List (String Global × Tree)) → keys (entries_of ms) ≡ keys_of ms
 keys_seen [] = refl

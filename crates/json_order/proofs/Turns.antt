@@ -1,15 +1,14 @@
 -- The loop over the characters of a text.
 use Rattle.std.specs.Prelude.{encode_utf8, encode_utf8_all, IsUtf8}
-use Rattle.std.proofs.Common.{ℕ, ◌+◌, ◌≤◌, ◌≡◌, ◌≢◌, List, [], ◌∷◌, ◌++◌, length, refl, sym, ap, ◌∙◌, subst, arith, Ok, Err, append-nil, append_assoc, length-append}
+use Rattle.std.proofs.Common.{ℕ, ◌+◌, ◌≡◌, ◌≢◌, List, [], ◌∷◌, ◌++◌, length, refl, sym, ap, ◌∙◌, subst, arith, Ok, Err, append-nil, append_assoc, length-append}
 use Rattle.std.proofs.lemmas.Str.{encodes-append}
 use Rattle.json_order.specs.Fault.{strict, IsFault}
 use Rattle.json_order.specs.private.Machine.{State, step, start, run, IsFinePlace}
-use Rattle.json_order.specs.private.AtOnce.{Passes, Stands}
+use Rattle.json_order.specs.private.AtOnce.{Stands}
 use Rattle.json_order.specs.private.Places.{Says}
 use Rattle.json_order.specs.declared.fault.JsonKind.{JsonKind}
 use Rattle.json_order.specs.declared.fault.JsonKind.TheVariants.{Syntax, End, Depth, Duplicate, Utf8, Memory}
 use Rattle.json_order.proofs.Runs.{sound_run, run_step}
-use Rattle.json_order.proofs.AtOnce.{run_append}
 use Rattle.json_order.proofs.Bytes.{AtEnd, fault_at}
 
 -- what is known of a fault that is told
@@ -53,7 +52,7 @@ nothing (x ∷ xs) e = absurd (omega arith)
 pub all_seen : (bytes ys rest : List ℕ) → IsUtf8 bytes → bytes ≡ encode_utf8_all ys ++ rest → length rest ≡ 0 → AtEnd bytes ys
 all_seen bytes ys rest u seen e = record { utf8 = u; here = seen ∙ ap (λ x. encode_utf8_all ys ++ x) (nothing rest e) ∙ append-nil (encode_utf8_all ys) }
 
--- THE STATE BEHIND A CHARACTER, OR SEVERAL
+-- THE STATE BEHIND A CHARACTER
 
 pub stands_first : (text : List ℕ) → Stands text start text
 stands_first text = ([], refl, refl)
@@ -61,19 +60,8 @@ stands_first text = ([], refl, refl)
 pub stands_more : (text rest z : List ℕ) (c : ℕ) (s u : State) → Stands text s rest → rest ≡ encode_utf8 c ++ z → step strict s c ≡ Ok u → Stands text u z
 stands_more text rest z c s u h next e = (h.0 ++ c ∷ [], seen_more text h.0 c rest z h.1 next, ran_more h.0 c s u h.2 e)
 
-pub stands_passed : (text before after : List ℕ) (s u : State) → Stands text s before → Passes s u before after → Stands text u after
-stands_passed text before after s u h t = (
-  h.0 ++ t.0,
-  h.1 ∙ ap (λ x. encode_utf8_all h.0 ++ x) t.1 ∙ sym (append_assoc (encode_utf8_all h.0) (encode_utf8_all t.0) after) ∙ ap (λ x. x ++ after) (sym (encodes-append h.0 t.0)),
-  run_append (Ok start) h.0 t.0 ∙ ap (λ o. run strict o t.0) h.2 ∙ t.2,
-)
-
 pub stands_fine : (text rest : List ℕ) (s : State) → Stands text s rest → IsFinePlace s.place
 stands_fine text rest s h = fine_more h.0 s h.2
-
--- what is left is no longer than before
-pub left_shorter : (s u : State) (before after : List ℕ) → Passes s u before after → length after ≤ length before
-left_shorter s u before after t = let e = ap length t.1 in let l = length-append (encode_utf8_all t.0) after in omega arith
 
 -- how much of the text stands before a character and what is left behind it
 pub left_length : (text ys rest z : List ℕ) (c n : ℕ) → text ≡ encode_utf8_all ys ++ rest → rest ≡ encode_utf8 c ++ z → n ≡ length (encode_utf8 c) → length text ≡ length (encode_utf8_all ys) + (n + length z)

@@ -4,3 +4,4 @@ pub mod Entries
 pub mod AtOnce
 pub mod Marks
 pub mod KeySets
+pub mod Whole

@@ -18,6 +18,7 @@ mod reading;
 mod step;
 mod taking;
 mod tree;
+mod whole;
 mod word;
 
 pub use fault::{JsonFault, JsonKind};

@@ -11,8 +11,8 @@ use crate::fault::{JsonFault, JsonKind};
 use crate::number::is_done;
 use crate::place::{Frame, Place};
 use crate::step::{DEPTH, turn};
-use crate::taking::take_run;
 use crate::tree::Tree;
+use crate::whole::whole_text;
 use std::alloc::Global;
 use std::str;
 
@@ -20,11 +20,11 @@ use std::str;
 /// and objects inside one another, no key twice in one object, no lone surrogate). The members of
 /// an object keep the order of the text.
 ///
-/// Memory is taken for the tree, for a stack of at most 17 frames, and, for an open object that has
-/// more than 16 members whose keys do not rise, for a table of their numbers: 2 to 5 slots a member.
-/// The first 16 keys of an object are compared one by one. The time is linear in the input, but for
-/// keys that were chosen to share their slots in the table: of them a second copy is kept, and they
-/// cost the logarithm of their number.
+/// Memory is taken for the tree, and, for an open object that has more than 16 members whose keys do
+/// not rise, for a table of their numbers: 2 to 5 slots a member. Where there is a fault, the input is
+/// read twice, and a stack of at most 17 frames takes memory too. The first 16 keys of an object are
+/// compared one by one. The time is linear in the input, but for keys that were chosen to share their
+/// slots in the table: of them a second copy is kept, and they cost the logarithm of their number.
 ///
 /// An Err tells the kind and the place of the first fault; see [`JsonKind`] and [`JsonFault`]. Utf8
 /// is tested first, over the whole input. Memory may come before any other fault.
@@ -103,10 +103,7 @@ fn read_through(
     while let Some(c) = chars.next() {
         let rest = chars.as_str();
         match turn(alloc, place, stack, c) {
-            Ok(()) => match take_run(alloc, place, stack, rest) {
-                Ok(after) => chars = after.chars(),
-                Err(kind) => return Err(fault_at(kind, 0)),
-            },
+            Ok(()) => {}
             Err(kind) => {
                 let at = text.len() - rest.len() - c.len_utf8();
                 return Err(fault_at(kind, at));
@@ -116,8 +113,8 @@ fn read_through(
     Ok(())
 }
 
-/// Reads a text in UTF-8.
-fn read_text(alloc: Global, text: &str) -> Result<Tree, JsonFault>
+/// Reads a text in UTF-8 character by character.
+fn read_slowly(alloc: Global, text: &str) -> Result<Tree, JsonFault>
     ensures found { IfOk result (λ tree. Spells strict text.now (json_of tree)) }
     ensures only { IfOk result (λ tree. (value : Json) → Spells strict text.now value → value
         ≡ json_of tree) }
@@ -136,5 +133,19 @@ fn read_text(alloc: Global, text: &str) -> Result<Tree, JsonFault>
     match value_at_end(place, &stack) {
         Some(tree) => Ok(tree),
         None => Err(fault_at(JsonKind::End, text.len())),
+    }
+}
+
+/// Reads a text in UTF-8 whole, or else character by character up to its fault.
+fn read_text(alloc: Global, text: &str) -> Result<Tree, JsonFault>
+    ensures found { IfOk result (λ tree. Spells strict text.now (json_of tree)) }
+    ensures only { IfOk result (λ tree. (value : Json) → Spells strict text.now value → value
+        ≡ json_of tree) }
+    ensures fault { IfErr result (λ fault. IsFault text.now fault.kind fault.at) }
+{
+    match whole_text(alloc, text) {
+        Ok(Some(tree)) => Ok(tree),
+        Ok(None) => read_slowly(alloc, text),
+        Err(kind) => Err(fault_at(kind, 0)),
     }
 }

@@ -22,7 +22,7 @@ use std::mem;
 pub(crate) const DEPTH: usize = 16;
 
 /// White space (RFC 8259, section 2).
-fn is_space(c: char) -> bool
+pub(crate) fn is_space(c: char) -> bool
     ensures { result ≡ grammar.is_space c }
 {
     matches!(c, ' ' | '\t' | '\n' | '\r')
@@ -99,7 +99,7 @@ fn add_last(items: &mut Vec<Tree>, value: Tree) -> Result<(), JsonKind>
 }
 
 /// The object of these members.
-fn object_of(list: Vec<(String, Tree)>) -> Tree
+pub(crate) fn object_of(list: Vec<(String, Tree)>) -> Tree
     ensures { json_of result ≡ object (members_with (entries_of list.items) no_members) }
 {
     Tree::Object(list)
@@ -107,7 +107,7 @@ fn object_of(list: Vec<(String, Tree)>) -> Tree
 
 /// The object of these members and a last one.
 #[inline(always)]
-fn whole_object(members: Members, key: String, value: Tree) -> Result<Tree, JsonKind>
+pub(crate) fn whole_object(members: Members, key: String, value: Tree) -> Result<Tree, JsonKind>
     ensures ok { IfOk result (λ t. json_of t ≡ object (members_with
         (entries_of (members.list.items ++ (key, value) ∷ [])) no_members)) }
     ensures err { IfErr result (λ k. k ≡ Memory) }
@@ -158,7 +158,7 @@ fn push_member(place: &mut Place, stack: &mut Vec<Frame>, value: Tree) -> Result
 
 /// The list of these items and a last one.
 #[inline(always)]
-fn whole_list(mut items: Vec<Tree>, value: Tree) -> Result<Tree, JsonKind>
+pub(crate) fn whole_list(mut items: Vec<Tree>, value: Tree) -> Result<Tree, JsonKind>
     ensures ok { IfOk result (λ t. json_of t ≡ array (items_with
         (map json_of items.items ++ json_of value ∷ []) no_items)) }
     ensures err { IfErr result (λ k. k ≡ Memory) }
@@ -215,7 +215,7 @@ fn behind_step(
 }
 
 /// A list without items.
-fn empty_list(alloc: Global) -> Tree
+pub(crate) fn empty_list(alloc: Global) -> Tree
     ensures { json_of result ≡ array no_items }
 {
     Tree::List(Vec::new(alloc))

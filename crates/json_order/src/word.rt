@@ -48,16 +48,6 @@ impl Word {
         }
     }
 
-    /// How many letters it has.
-    pub(crate) fn len(self) -> usize
-        ensures { letters_from self result ≡ [] }
-    {
-        match self {
-            Word::Null | Word::True => 4,
-            Word::False => 5,
-        }
-    }
-
     pub(crate) fn tree(self) -> Tree
         ensures { json_of result ≡ value_of self }
     {

@@ -48,3 +48,29 @@ fn every_kind_of_value(rt: HostRuntime) -> Result<(), Fail> {
     assert_eq!(rt; first_wrong(rt.alloc(), VALUES)?, None);
     Ok(())
 }
+
+/// Sixteen lists inside one another, one more, a key twice, and behind an escape.
+const NESTED: &str =
+    r#"[[[[[[[[[[[[[[[[null]]]]]]]]]]]]]]]] => List([List([List([List([List([List([List([List([List([List([List([List([List([List([List([List([Null])])])])])])])])])])])])])])])])
+[[[[[[[[[[[[[[[[[null]]]]]]]]]]]]]]]]] => json 12 at 16
+{"a":1,"b":{"a":2},"a":3} => json 13 at 21
+{"a":1,"\u0061":2} => json 13 at 14"#;
+
+#[test]
+fn depth_and_keys(rt: HostRuntime) -> Result<(), Fail> {
+    assert_eq!(rt; first_wrong(rt.alloc(), NESTED)?, None);
+    Ok(())
+}
+
+#[test]
+fn a_fault_behind_a_long_text(rt: HostRuntime) -> Result<(), Fail> {
+    let alloc = rt.alloc();
+    let mut text = String::from_str(alloc, "[")?;
+    for _ in 0..300 {
+        text.push_str(r#"{"k":[1,-2.5e3,"x\n",null]},"#)?;
+    }
+    text.push_str("01]")?;
+    let given = printed(alloc, text.as_bytes())?;
+    assert_eq!(rt; given.as_str(), "json 10 at 8402");
+    Ok(())
+}

@@ -16,11 +16,6 @@ Takes p q before after =
     (cs : List ℕ) × (before ≡ encode_utf8_all cs ++ after)
     × ((fs : List Frame) → run strict (Ok (state p fs)) cs ≡ Ok (state q fs))
 
--- from one state to the other, over the characters that stand before what is left
-abbrev pub Passes : State → State → List ℕ → List ℕ → Type 0
-Passes s t before after =
-    (cs : List ℕ) × (before ≡ encode_utf8_all cs ++ after) × (run strict (Ok s) cs ≡ Ok t)
-
 -- plain characters stand before what is left, and have gone into the text
 abbrev pub MovesPlain : List ℕ → List ℕ → List ℕ → List ℕ → Type 0
 MovesPlain old new before after =

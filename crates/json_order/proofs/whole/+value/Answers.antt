@@ -1,0 +1,137 @@
+use Rattle.std.specs.Str.Iter.{chars_rest}
+use Rattle.std.proofs.Common.{◌≡◌, ◌+◌, ◌-◌, [], ◌∷◌, ◌++◌, map, string_bytes, refl, sym, ap, ◌∙◌, subst, arith}
+use Rattle.std.proofs.lemmas.List.{map_push}
+use Rattle.json_order.specs.Json.{object, no_members}
+use Rattle.json_order.specs.Seen.{json_of, members_with}
+use Rattle.json_order.specs.private.Machine.{state, at_first_item, at_first_key, behind}
+use Rattle.json_order.specs.private.Places.{entries_of}
+use Rattle.json_order.specs.private.Whole.{Crosses, ReadsValue, ReadsKey, before_item, before_key}
+use Rattle.json_order.specs.declared.word.Word.TheVariants.{Null, True, False}
+use Rattle.json_order.proofs.Crossings.{reads_spaced, list_begun, list_empty, list_more, list_whole, item_shorter, object_begun, object_empty, object_more, object_whole, member_shorter, list_read, object_read, text_read, word_value, first_char, if_read, if_some}
+use Rattle.json_order.proofs.whole.+value.Goals as goal
+
+-- LISTS
+
+pub list-returns-in-Some-clause-ok : goal.list-returns-in-Some-clause-ok
+list-returns-in-Some-clause-ok t c =
+    subst (λ v. Crosses (c.args.depth + 1) (state at_first_item) (state (behind v)) c.args.rest.now c.in-Some.after.now) (sym c.empty_list.ensures)
+    (list_empty c.args.depth c.args.rest.now c.behind_space-left.result.now c.in-Some.after.now c.behind_space-left.ensures c.in-Some.ensures)
+
+pub list-items-init : goal.list-items-init
+list-items-init t c = (
+  c.behind_space-left.utf8,
+  subst (λ xs. Crosses (c.args.depth + 1) (state at_first_item) (before_item (map json_of xs)) c.args.rest.now c.behind_space-left.result.now) (sym c.new-items.ensures.items)
+      (list_begun c.args.depth c.args.rest.now c.behind_space-left.result.now c.behind_space-left.ensures),
+)
+
+pub list-returns-in-Some-behind_char-clause-ok : goal.list-returns-in-Some-behind_char-clause-ok
+list-returns-in-Some-behind_char-clause-ok t c =
+    let v = json_of c.in-Some-2.item in
+    let vs = map json_of c.items.items.items in
+    let read : ReadsValue c.args.depth v c.items.left.now c.in-Some-2.behind.now = rw c.in-Some-2.is at c.in_ok-item.ensures.ok in
+    let spaced = reads_spaced c.args.depth v c.items.left.now c.in-Some-2.behind.now c.behind_space-end.result.now read c.behind_space-end.ensures in
+    subst (λ v. Crosses (c.args.depth + 1) (state at_first_item) (state (behind v)) c.args.rest.now c.in-Some-behind_char.after.now) (sym c.in_ok-whole_list.ensures.ok)
+    (list_whole c.args.depth vs v c.args.rest.now c.items.left.now c.behind_space-end.result.now c.in-Some-behind_char.after.now c.items.invariant.1 spaced c.in-Some-behind_char.ensures)
+
+pub list-items-preserved : goal.list-items-preserved
+list-items-preserved t c =
+    let v = json_of c.in-Some-2.item in
+    let xs = c.items.items.items in
+    let read : ReadsValue c.args.depth v c.items.left.now c.in-Some-2.behind.now = rw c.in-Some-2.is at c.in_ok-item.ensures.ok in
+    let spaced = reads_spaced c.args.depth v c.items.left.now c.in-Some-2.behind.now c.behind_space-end.result.now read c.behind_space-end.ensures in
+    let same : map json_of c.push.new.self.items ≡ map json_of xs ++ v ∷ [] = ap (λ ys. map json_of ys) c.in_ok-push.ensures.items ∙ map_push json_of xs c.in-Some-2.item in (
+      c.behind_space-left-in-items.utf8,
+      subst (λ vs. Crosses (c.args.depth + 1) (state at_first_item) (before_item vs) c.args.rest.now c.behind_space-left-in-items.result.now) (sym same)
+          (list_more c.args.depth (map json_of xs) v c.args.rest.now c.items.left.now c.behind_space-end.result.now c.in-Some-behind_char-2.next.now c.behind_space-left-in-items.result.now c.items.invariant.1 spaced c.in-Some-behind_char-2.ensures c.behind_space-left-in-items.ensures),
+    )
+
+pub list-items-smaller : goal.list-items-smaller
+list-items-smaller t c =
+    let v = json_of c.in-Some-2.item in
+    let read : ReadsValue c.args.depth v c.items.left.now c.in-Some-2.behind.now = rw c.in-Some-2.is at c.in_ok-item.ensures.ok in
+    let spaced = reads_spaced c.args.depth v c.items.left.now c.in-Some-2.behind.now c.behind_space-end.result.now read c.behind_space-end.ensures in
+    item_shorter c.args.depth v c.items.left.now c.behind_space-end.result.now c.in-Some-behind_char-2.next.now c.behind_space-left-in-items.result.now spaced c.in-Some-behind_char-2.ensures c.behind_space-left-in-items.ensures
+
+-- OBJECTS
+
+pub object-returns-in-Some-clause-ok : goal.object-returns-in-Some-clause-ok
+object-returns-in-Some-clause-ok t c =
+    subst (λ v. Crosses (c.args.depth + 1) (state at_first_key) (state (behind v)) c.args.rest.now c.in-Some.after.now) (sym c.empty_object.ensures)
+    (object_empty c.args.depth c.args.rest.now c.behind_space-left.result.now c.in-Some.after.now c.behind_space-left.ensures c.in-Some.ensures)
+
+pub object-members-init : goal.object-members-init
+object-members-init t c = (
+  c.behind_space-left.utf8,
+  subst (λ xs. Crosses (c.args.depth + 1) (state at_first_key) (before_key (entries_of xs)) c.args.rest.now c.behind_space-left.result.now) (sym c.new-members.ensures)
+      (object_begun c.args.depth c.args.rest.now c.behind_space-left.result.now c.behind_space-left.ensures),
+)
+
+pub object-returns-in-Some-behind_char-clause-ok : goal.object-returns-in-Some-behind_char-clause-ok
+object-returns-in-Some-behind_char-clause-ok t c =
+    let v = json_of c.in-Some-3.item in
+    let key = string_bytes c.in-Some-2.name in
+    let ms = c.members.members.list.items in
+    let named : ReadsKey (entries_of ms) key c.members.left.now c.in-Some-2.begun.now = rw c.in-Some-2.is at c.in_ok-name.ensures.ok in
+    let read : ReadsValue c.args.depth v c.in-Some-2.begun.now c.in-Some-3.behind.now = rw c.in-Some-3.is at c.in_ok-item.ensures.ok in
+    let spaced = reads_spaced c.args.depth v c.in-Some-2.begun.now c.in-Some-3.behind.now c.behind_space-end.result.now read c.behind_space-end.ensures in
+    let same = c.in_ok-whole_object.ensures.ok ∙ ap (λ es. object (members_with es no_members)) (map_push (λ m. (string_bytes m.0, json_of m.1)) ms (c.in-Some-2.name, c.in-Some-3.item)) in
+    subst (λ v. Crosses (c.args.depth + 1) (state at_first_key) (state (behind v)) c.args.rest.now c.in-Some-behind_char.after.now) (sym same)
+    (object_whole c.args.depth (entries_of ms) key v c.args.rest.now c.members.left.now c.in-Some-2.begun.now c.behind_space-end.result.now c.in-Some-behind_char.after.now c.members.invariant.1 named spaced c.in-Some-behind_char.ensures)
+
+pub object-members-preserved : goal.object-members-preserved
+object-members-preserved t c =
+    let v = json_of c.in-Some-3.item in
+    let key = string_bytes c.in-Some-2.name in
+    let ms = c.members.members.list.items in
+    let named : ReadsKey (entries_of ms) key c.members.left.now c.in-Some-2.begun.now = rw c.in-Some-2.is at c.in_ok-name.ensures.ok in
+    let read : ReadsValue c.args.depth v c.in-Some-2.begun.now c.in-Some-3.behind.now = rw c.in-Some-3.is at c.in_ok-item.ensures.ok in
+    let spaced = reads_spaced c.args.depth v c.in-Some-2.begun.now c.in-Some-3.behind.now c.behind_space-end.result.now read c.behind_space-end.ensures in
+    let same : entries_of c.in_ok-members.members.list.items ≡ entries_of ms ++ (key, v) ∷ [] = ap entries_of c.in_ok-members.ensures.ok ∙ map_push (λ m. (string_bytes m.0, json_of m.1)) ms (c.in-Some-2.name, c.in-Some-3.item) in (
+      c.behind_space-left-in-members.utf8,
+      subst (λ es. Crosses (c.args.depth + 1) (state at_first_key) (before_key es) c.args.rest.now c.behind_space-left-in-members.result.now) (sym same)
+          (object_more c.args.depth (entries_of ms) key v c.args.rest.now c.members.left.now c.in-Some-2.begun.now c.behind_space-end.result.now c.in-Some-behind_char-2.next.now c.behind_space-left-in-members.result.now c.members.invariant.1 named spaced c.in-Some-behind_char-2.ensures c.behind_space-left-in-members.ensures),
+    )
+
+pub object-members-smaller : goal.object-members-smaller
+object-members-smaller t c =
+    let v = json_of c.in-Some-3.item in
+    let key = string_bytes c.in-Some-2.name in
+    let ms = c.members.members.list.items in
+    let named : ReadsKey (entries_of ms) key c.members.left.now c.in-Some-2.begun.now = rw c.in-Some-2.is at c.in_ok-name.ensures.ok in
+    let read : ReadsValue c.args.depth v c.in-Some-2.begun.now c.in-Some-3.behind.now = rw c.in-Some-3.is at c.in_ok-item.ensures.ok in
+    let spaced = reads_spaced c.args.depth v c.in-Some-2.begun.now c.in-Some-3.behind.now c.behind_space-end.result.now read c.behind_space-end.ensures in
+    member_shorter c.args.depth (entries_of ms) key v c.members.left.now c.in-Some-2.begun.now c.behind_space-end.result.now c.in-Some-behind_char-2.next.now c.behind_space-left-in-members.result.now named spaced c.in-Some-behind_char-2.ensures c.behind_space-left-in-members.ensures
+
+-- VALUES
+
+pub value-returns-in-123-clause-ok : goal.value-returns-in-123-clause-ok
+value-returns-in-123-clause-ok t c =
+    let next = first_char c.args.rest.now (chars_rest c.chars-chars.result) (chars_rest c.next.new.self) c.as_str-after.result.now c.in-Some.c 123 c.chars-chars.ensures.rest c.in-Some.ensures.steps.0 c.in-123.is c.as_str-after.ensures in
+    let inner : (c.args.depth - 1) + 1 ≡ c.args.depth = omega (arith, c.if-depth-gt0.true) in
+    if_read c.object.result _ _ (λ r k. object_read (c.args.depth - 1) c.args.depth (json_of r.0) c.args.rest.now c.as_str-after.result.now r.1.now inner next k) c.object.ensures.ok
+
+pub value-returns-in-91-clause-ok : goal.value-returns-in-91-clause-ok
+value-returns-in-91-clause-ok t c =
+    let next = first_char c.args.rest.now (chars_rest c.chars-chars.result) (chars_rest c.next.new.self) c.as_str-after.result.now c.in-Some.c 91 c.chars-chars.ensures.rest c.in-Some.ensures.steps.0 c.in-91.is c.as_str-after.ensures in
+    let inner : (c.args.depth - 1) + 1 ≡ c.args.depth = omega (arith, c.if-depth-gt0-2.true) in
+    if_read c.list.result _ _ (λ r k. list_read (c.args.depth - 1) c.args.depth (json_of r.0) c.args.rest.now c.as_str-after.result.now r.1.now inner next k) c.list.ensures.ok
+
+pub value-returns-in-34-clause-ok : goal.value-returns-in-34-clause-ok
+value-returns-in-34-clause-ok t c =
+    let next = first_char c.args.rest.now (chars_rest c.chars-chars.result) (chars_rest c.next.new.self) c.as_str-after.result.now c.in-Some.c 34 c.chars-chars.ensures.rest c.in-Some.ensures.steps.0 c.in-34.is c.as_str-after.ensures in
+    if_read c.text.result _ _ (λ r k. text_read c.args.depth (json_of r.0) k.0 c.args.rest.now c.as_str-after.result.now r.1.now k.1 next k.2) c.text.ensures.ok
+
+pub value-returns-in-n-clause-ok : goal.value-returns-in-n-clause-ok
+value-returns-in-n-clause-ok t c =
+    let next = first_char c.args.rest.now (chars_rest c.chars-chars.result) (chars_rest c.next.new.self) c.as_str-after.result.now c.in-Some.c 110 c.chars-chars.ensures.rest c.in-Some.ensures.steps.0 c.in-n.is c.as_str-after.ensures in
+    if_some c.word.result _ _ (λ r k. word_value c.args.depth Null 110 (json_of r.0) c.args.rest.now c.as_str-after.result.now r.1.now (λ fs. refl) k.0 next k.1) c.word.ensures
+
+pub value-returns-in-t-clause-ok : goal.value-returns-in-t-clause-ok
+value-returns-in-t-clause-ok t c =
+    let next = first_char c.args.rest.now (chars_rest c.chars-chars.result) (chars_rest c.next.new.self) c.as_str-after.result.now c.in-Some.c 116 c.chars-chars.ensures.rest c.in-Some.ensures.steps.0 c.in-t.is c.as_str-after.ensures in
+    if_some c.word-in-t.result _ _ (λ r k. word_value c.args.depth True 116 (json_of r.0) c.args.rest.now c.as_str-after.result.now r.1.now (λ fs. refl) k.0 next k.1) c.word-in-t.ensures
+
+pub value-returns-in-f-clause-ok : goal.value-returns-in-f-clause-ok
+value-returns-in-f-clause-ok t c =
+    let next = first_char c.args.rest.now (chars_rest c.chars-chars.result) (chars_rest c.next.new.self) c.as_str-after.result.now c.in-Some.c 102 c.chars-chars.ensures.rest c.in-Some.ensures.steps.0 c.in-f.is c.as_str-after.ensures in
+    if_some c.word-in-f.result _ _ (λ r k. word_value c.args.depth False 102 (json_of r.0) c.args.rest.now c.as_str-after.result.now r.1.now (λ fs. refl) k.0 next k.1) c.word-in-f.ensures

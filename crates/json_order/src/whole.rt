@@ -1,0 +1,245 @@
+//! A text that is read whole, value by value, as long as nothing stands there that ends the
+//! reading. None says that something does, or that the text ends; [`read`](crate::read) then goes
+//! through it character by character, and finds which fault it is, and where.
+ghost use Rattle.std.specs.Prelude.{ℕ, List, ◌≡◌, ◌<◌, ◌+◌, [], ◌∷◌, Ok, IfOk, IfErr, IfSome, string_bytes};
+ghost use Rattle.json_order.specs.declared.fault.JsonKind.TheVariants.{Memory};
+ghost use Rattle.json_order.specs.Fault.{strict};
+ghost use Rattle.json_order.specs.Grammar.{IsSpaced};
+ghost use Rattle.json_order.specs.Json.{string, object as object_value, no_members};
+ghost use Rattle.json_order.specs.private.Machine.{Frame as StackFrame, state, step, at_value, at_first_item, at_first_key, behind as behind_value, in_number};
+ghost use Rattle.json_order.specs.private.Places.{entries_of, value_of};
+ghost use Rattle.json_order.specs.private.Whole.{Crosses, IsQuoted, ReadsKey, ReadsNumber, ReadsValue, ReadsWord, IsWhole};
+ghost use Rattle.json_order.specs.Seen.{json_of};
+
+use crate::fault::JsonKind;
+use crate::members::{Members, with_member};
+use crate::number::is_done;
+use crate::place::Part;
+use crate::step::{DEPTH, empty_list, is_space, object_of, whole_list, whole_object};
+use crate::taking::{behind_char, number_run, text_of};
+use crate::tree::Tree;
+use crate::word::Word;
+use std::alloc::Global;
+
+/// What is read whole, and what stands behind it.
+type Whole<'a, T> = Result<Option<(T, &'a str)>, JsonKind>;
+
+/// What stands behind the white space in front.
+#[inline(always)]
+fn behind_space<'a>(rest: &'a str) -> &'a str
+    ensures { IsSpaced rest.now result.now }
+{
+    let mut chars = rest.chars();
+    'spaces: loop {
+        let left = chars.as_str();
+        let Some(c) = chars.next() else {
+            return left;
+        };
+        if !is_space(c) {
+            return left;
+        }
+    }
+}
+
+/// A string behind its first quote.
+#[inline(always)]
+fn quoted<'a>(alloc: Global, rest: &'a str) -> Whole<'a, String>
+    ensures ok { IfOk result (λ o. IfSome o (λ t. IsQuoted (string_bytes t.0) rest.now t.1.now)) }
+    ensures err { IfErr result (λ k. k ≡ Memory) }
+{
+    let (text, behind) = text_of(alloc, rest)?;
+    match behind_char('"', behind) {
+        Some(after) => Ok(Some((text, after))),
+        None => Ok(None),
+    }
+}
+
+/// A string as a value, behind its first quote.
+#[inline(always)]
+fn text<'a>(alloc: Global, rest: &'a str) -> Whole<'a, Tree>
+    ensures ok { IfOk result (λ o. IfSome o (λ t. (bytes : List ℕ) × (json_of t.0 ≡ string bytes)
+        × IsQuoted bytes rest.now t.1.now)) }
+    ensures err { IfErr result (λ k. k ≡ Memory) }
+{
+    match quoted(alloc, rest)? {
+        Some((text, after)) => Ok(Some((Tree::Text(text), after))),
+        None => Ok(None),
+    }
+}
+
+/// How far a number is read behind its first character.
+#[inline(always)]
+fn first_part(c: char) -> Option<Part>
+    ensures ascii { IfSome result (λ part. c < 128) }
+    ensures begins { IfSome result (λ part. (fs : List StackFrame)
+        → step strict (state at_value fs) c ≡ Ok (state (in_number (c ∷ []) part) fs)) }
+{
+    match c {
+        '-' => Some(Part::Minus),
+        '0' => Some(Part::Zero),
+        '1'..='9' => Some(Part::Whole),
+        _ => None,
+    }
+}
+
+/// A number.
+#[inline(always)]
+fn number<'a>(alloc: Global, rest: &'a str) -> Whole<'a, Tree>
+    ensures ok { IfOk result (λ o. IfSome o (λ t. ReadsNumber (json_of t.0) rest.now t.1.now)) }
+    ensures err { IfErr result (λ k. k ≡ Memory) }
+{
+    let mut chars = rest.chars();
+    let Some(c) = chars.next() else {
+        return Ok(None);
+    };
+    let Some(part) = first_part(c) else {
+        return Ok(None);
+    };
+    let (len, read) = number_run(chars.as_str().as_bytes(), part);
+    if !is_done(read) {
+        return Ok(None);
+    }
+    let (front, after) = rest.split_at(len + 1);
+    let text = String::from_str(alloc, front)?;
+    Ok(Some((Tree::Number(text), after)))
+}
+
+/// A word behind its first letter.
+#[inline(always)]
+fn word<'a>(word: Word, rest: &'a str) -> Option<(Tree, &'a str)>
+    ensures { IfSome result (λ t. (json_of t.0 ≡ value_of word) × ReadsWord word rest.now t.1.now) }
+{
+    match rest.strip_prefix(word.tail()) {
+        Some(after) => Some((word.tree(), after)),
+        None => None,
+    }
+}
+
+/// A new key behind these members, its colon and the white space behind it.
+#[inline(always)]
+fn key<'a>(alloc: Global, members: &Members, rest: &'a str) -> Whole<'a, String>
+    ensures ok { IfOk result (λ o. IfSome o (λ t. ReadsKey (entries_of members.now.list.items)
+        (string_bytes t.0) rest.now t.1.now)) }
+    ensures err { IfErr result (λ k. k ≡ Memory) }
+{
+    let Some(begun) = behind_char('"', rest) else {
+        return Ok(None);
+    };
+    let Some((text, behind)) = quoted(alloc, begun)? else {
+        return Ok(None);
+    };
+    let Some(after) = behind_char(':', behind_space(behind)) else {
+        return Ok(None);
+    };
+    if members.has(text.as_str()) {
+        return Ok(None);
+    }
+    Ok(Some((text, behind_space(after))))
+}
+
+/// An object without members.
+fn empty_object(alloc: Global) -> Tree
+    ensures { json_of result ≡ object_value no_members }
+{
+    object_of(Vec::new(alloc))
+}
+
+/// A list behind its `[`; so many more may be open in it.
+#[cycle(value)]
+fn list<'a>(alloc: Global, rest: &'a str, depth: usize) -> Whole<'a, Tree>
+    ensures ok { IfOk result (λ o. IfSome o (λ t. Crosses (depth + 1) (state at_first_item)
+        (state (behind_value (json_of t.0))) rest.now t.1.now)) }
+    ensures err { IfErr result (λ k. k ≡ Memory) }
+{
+    let mut left = behind_space(rest);
+    if let Some(after) = behind_char(']', left) {
+        return Ok(Some((empty_list(alloc), after)));
+    }
+    let mut items = Vec::new(alloc);
+    'items: loop {
+        let Some((item, behind)) = value(alloc, left, depth)? else {
+            return Ok(None);
+        };
+        let end = behind_space(behind);
+        if let Some(after) = behind_char(']', end) {
+            return Ok(Some((whole_list(items, item)?, after)));
+        }
+        let Some(next) = behind_char(',', end) else {
+            return Ok(None);
+        };
+        items.push(item)?;
+        left = behind_space(next);
+    }
+}
+
+/// An object behind its `{`; so many more may be open in it.
+#[cycle(value)]
+fn object<'a>(alloc: Global, rest: &'a str, depth: usize) -> Whole<'a, Tree>
+    ensures ok { IfOk result (λ o. IfSome o (λ t. Crosses (depth + 1) (state at_first_key)
+        (state (behind_value (json_of t.0))) rest.now t.1.now)) }
+    ensures err { IfErr result (λ k. k ≡ Memory) }
+{
+    let mut left = behind_space(rest);
+    if let Some(after) = behind_char('}', left) {
+        return Ok(Some((empty_object(alloc), after)));
+    }
+    let mut members = Members::new(alloc);
+    'members: loop {
+        let Some((name, begun)) = key(alloc, &members, left)? else {
+            return Ok(None);
+        };
+        let Some((item, behind)) = value(alloc, begun, depth)? else {
+            return Ok(None);
+        };
+        let end = behind_space(behind);
+        if let Some(after) = behind_char('}', end) {
+            return Ok(Some((whole_object(members, name, item)?, after)));
+        }
+        let Some(next) = behind_char(',', end) else {
+            return Ok(None);
+        };
+        members = with_member(members, name, item)?;
+        left = behind_space(next);
+    }
+}
+
+/// A value; so many lists and objects may be open in it.
+#[cycle(value)]
+fn value<'a>(alloc: Global, rest: &'a str, depth: usize) -> Whole<'a, Tree>
+    ensures ok { IfOk result (λ o. IfSome o (λ t.
+        ReadsValue depth (json_of t.0) rest.now t.1.now)) }
+    ensures err { IfErr result (λ k. k ≡ Memory) }
+{
+    let mut chars = rest.chars();
+    let Some(c) = chars.next() else {
+        return Ok(None);
+    };
+    let after = chars.as_str();
+    match c {
+        '{' if depth > 0 => object(alloc, after, depth - 1),
+        '[' if depth > 0 => list(alloc, after, depth - 1),
+        '"' => text(alloc, after),
+        'n' => Ok(word(Word::Null, after)),
+        't' => Ok(word(Word::True, after)),
+        'f' => Ok(word(Word::False, after)),
+        _ => number(alloc, rest),
+    }
+}
+
+/// The value that a text spells, with white space around it.
+pub(crate) fn whole_text(alloc: Global, text: &str) -> Result<Option<Tree>, JsonKind>
+    ensures ok { IfOk result (λ o. IfSome o (λ tree. IsWhole text.now (json_of tree))) }
+    ensures err { IfErr result (λ k. k ≡ Memory) }
+{
+    let left = behind_space(text);
+    match value(alloc, left, DEPTH)? {
+        Some((tree, after)) => {
+            let end = behind_space(after);
+            if end.is_empty() {
+                return Ok(Some(tree));
+            }
+            Ok(None)
+        }
+        None => Ok(None),
+    }
+}
