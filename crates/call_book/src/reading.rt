@@ -33,6 +33,7 @@ fn counted(made: &mut [u64; 64], client: u32) -> u64
 
 /// The entry of a line, after so many calls of each client. `later` says whether the header is that
 /// of calls of the second form, here and below.
+#[inline(always)]
 fn entry_of(
     alloc: Global,
     line: &[u8],
