@@ -1,7 +1,7 @@
 -- The choice: the order of the tasks once they belong to their CPUs, and one task that starts.
 use Rattle.std.proofs.Common.{◌≡◌, ◌≢◌, ℕ, ◌+◌, ◌<◌, ◌≤◌, ◌^◌, true, false, cond, Option, Some, None, List, [], ◌∷◌, length, take, get_or, set, map, refl, sym, ap, subst, ◌∙◌, arith}
 use Rattle.std.specs.Prelude.{All, AllPairs, position, filter}
-use Rattle.std.proofs.lemmas.List.{length-map, set-get_or}
+use Rattle.std.proofs.lemmas.List.{length-map, length-set, get_or-set_same, set-get_or}
 use Rattle.std.proofs.lemmas.List.Sums.{fold_more}
 use Rattle.grub_rules.specs.Accounts.{AccountsView, AreAccounts, Exchanges, Holds}
 use Rattle.grub_rules.proofs.CallerLemmas.{held_at, turned_at}
@@ -18,7 +18,7 @@ use Rattle.domain_run.specs.Conditions.{is_ready}
 use Rattle.domain_run.specs.Parts.{with_cpu, with_last_cpu}
 use Rattle.domain_run.specs.Tick.{share_of, shares, candidate_of, candidates}
 use Rattle.domain_run.specs.Sound.{occupant}
-use Rattle.domain_run.specs.private.Choosing.{AreCounted, homed_by}
+use Rattle.domain_run.specs.private.Choosing.{AreCounted, IsHome, homed_by}
 use Rattle.domain_run.specs.private.Index.{IsAt}
 use Rattle.domain_run.specs.private.Roster.{homed_here}
 use Rattle.domain_run.specs.private.RunQueue.{IsRoster, IsCounted}
@@ -154,6 +154,16 @@ module _ (accounts : AccountsView) (s : SeatsView) (tasks : List Task) (p : ℕ)
     started_tasks number at =
         view_is ∙ ap (λ (t : Task). set (owed_all s tasks) p t) (is ∙ ap (with_cpu (Some cpu)) read_seen)
         ∙ sym (map_at (with_cpu (Some cpu)) number (owed_all s tasks) p seen counts.roster.numbered at)
+
+    pub started_home : (number : ℕ) → number ≡ x.number → IsHome (Some number) cpu p (owed_all after (set tasks p y))
+    started_home number number_is =
+        let seen_there : (d : Task) → get_or (owed_all after (set tasks p y)) p d ≡ y = λ d. ap (λ (ts : List Task). get_or ts p d) view_is ∙ get_or-set_same (owed_all s tasks) p y d within in
+        let many : length (owed_all after (set tasks p y)) ≡ length (owed_all s tasks) = ap (λ (ts : List Task). length ts) view_is ∙ length-set (owed_all s tasks) p y in
+        record {
+          within = omega (arith, many, within);
+          stands = λ d. ap (λ n. Some n) (number_is ∙ sym same ∙ sym (ap (λ (t : Task). t.number) (seen_there d)));
+          home = λ d. ap (λ (t : Task). t.cpu) (seen_there d) ∙ ap (λ (t : Task). t.cpu) is;
+        }
 
     pub started_view : owed_all after (set tasks p y) ≡ set (owed_all s tasks) p y
     started_view = view_is

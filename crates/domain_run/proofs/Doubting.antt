@@ -18,7 +18,7 @@ use Rattle.domain_run.specs.declared.task.Task.{Task}
 use Rattle.domain_run.specs.Parts.{with_cpu}
 use Rattle.domain_run.specs.Sound.{occupant}
 use Rattle.domain_run.specs.Tick.{share_of, shares, sum_of}
-use Rattle.domain_run.specs.private.Doubts.{IsSettled, IsFree, noted_basis, AreSettled, IsMarked}
+use Rattle.domain_run.specs.private.Doubts.{IsSettled, IsFree, noted_basis, IsTrusted, AreSettled, IsMarked}
 use Rattle.domain_run.specs.private.Roster.{rate_in, basis_in, IsSeated}
 use Rattle.domain_run.specs.private.Seats.{SeatsView, seat_by, left_if, left}
 use Rattle.domain_run.specs.private.Timers.{IsStep}
@@ -185,23 +185,30 @@ free_settled None a b x is free = is
 free_settled (Some n) a b None is free = absurd is
 free_settled (Some n) a b (Some s) is free = (is.0, subst (λ k. IfSome k (λ x. x ≡ b)) (sym free) tt)
 
+-- who was trusted is where nothing has changed but marks, and what those tell of
+pub trusted_again : (d e : Doubts) (w cpu : ℕ) (o : Option ℕ) (seats after : List (Option Seat)) (tasks then : List Task)
+    → e.rated ≡ d.rated → e.sum ≡ d.sum → e.limit ≡ d.limit → IsMarked d.rated d.cpus e.cpus seats after tasks then
+    → IsTrusted d w o seats tasks cpu → IsTrusted e w o after then cpu
+trusted_again d e w cpu o seats after tasks then rated sum limit marks are few bare =
+    let was = are few (marks.bare cpu bare) in
+    let seat = sym (marks.seats cpu few bare) in (
+      subst (IsSettled o (noted_basis e w then cpu)) seat (by_sums was (marks.sums cpu few bare)),
+      subst (IsFree (bit_at e.rated cpu)) seat (subst (λ (n : ℕ). IsFree (bit_at n cpu) (get_or seats cpu None)) (sym rated) was.1),
+    )
+  where
+    by_sums : IsSettled o (noted_basis d w tasks cpu) (get_or seats cpu None) × IsFree (bit_at d.rated cpu) (get_or seats cpu None) → ((uinact cpu (shares then) ≡ uinact cpu (shares tasks)) ⊎ (bit_at d.rated cpu ≡ 0)) → IsSettled o (noted_basis e w then cpu) (get_or seats cpu None)
+    by_sums was (inl equal) =
+        let basis : noted_basis d w tasks cpu ≡ noted_basis e w then cpu = λ i. record { uinact = (sym equal) i; sum = (sym sum) i; cpus = w; limit = (sym limit) i } in
+        subst (λ (b : Basis). IsSettled o b (get_or seats cpu None)) basis was.0
+    by_sums was (inr bare_of) = free_settled o (noted_basis d w tasks cpu) (noted_basis e w then cpu) (get_or seats cpu None) was.0 (was.1 bare_of)
+
 pub settled_again : (d e : Doubts) (w : ℕ) (places now : Places) (seats after : List (Option Seat)) (tasks then : List Task)
     → e.rated ≡ d.rated → e.sum ≡ d.sum → e.limit ≡ d.limit → IsMarked d.rated d.cpus e.cpus seats after tasks then
     → ((cpu : ℕ) → cpu < 64 → bit_at e.cpus cpu ≡ 0 → occupant now cpu ≡ occupant places cpu)
     → AreSettled d w places seats tasks → AreSettled e w now after then
 settled_again d e w places now seats after tasks then rated sum limit marks same are cpu few bare =
-    let was = are cpu few (marks.bare cpu bare) in
-    let seat = sym (marks.seats cpu few bare) in (
-      subst (λ o. IsSettled o (noted_basis e w then cpu) (get_or after cpu None)) (sym (same cpu few bare))
-          (subst (IsSettled (occupant places cpu) (noted_basis e w then cpu)) seat (by_sums was (marks.sums cpu few bare))),
-      subst (IsFree (bit_at e.rated cpu)) seat (subst (λ (n : ℕ). IsFree (bit_at n cpu) (get_or seats cpu None)) (sym rated) was.1),
-    )
-  where
-    by_sums : IsSettled (occupant places cpu) (noted_basis d w tasks cpu) (get_or seats cpu None) × IsFree (bit_at d.rated cpu) (get_or seats cpu None) → ((uinact cpu (shares then) ≡ uinact cpu (shares tasks)) ⊎ (bit_at d.rated cpu ≡ 0)) → IsSettled (occupant places cpu) (noted_basis e w then cpu) (get_or seats cpu None)
-    by_sums was (inl equal) =
-        let basis : noted_basis d w tasks cpu ≡ noted_basis e w then cpu = λ i. record { uinact = (sym equal) i; sum = (sym sum) i; cpus = w; limit = (sym limit) i } in
-        subst (λ (b : Basis). IsSettled (occupant places cpu) b (get_or seats cpu None)) basis was.0
-    by_sums was (inr bare_of) = free_settled (occupant places cpu) (noted_basis d w tasks cpu) (noted_basis e w then cpu) (get_or seats cpu None) was.0 (was.1 bare_of)
+    let is = trusted_again d e w cpu (occupant places cpu) seats after tasks then rated sum limit marks (are cpu) few bare in
+    (subst (λ o. IsSettled o (noted_basis e w then cpu) (get_or after cpu None)) (sym (same cpu few bare)) is.0, is.1)
 
 -- where those are in doubt whose seats keep something, neither the tasks nor the sums matter
 pub rated_settled : (d e : Doubts) (w v : ℕ) (places : Places) (seats : List (Option Seat)) (tasks then : List Task)
@@ -297,6 +304,25 @@ pub none_of : (o : Option Basis) (b : Bool) → b ≡ is_some o → b ≡ false 
 none_of None b is e = refl
 none_of (Some x) b is e = let bad : true ≡ false = sym is ∙ e in absurd cc
 
+-- where neither its marks nor what is noted is another
+pub same_trusted : (d e : Doubts) (w i : ℕ) (o : Option ℕ) (seats : List (Option Seat)) (tasks : List Task)
+    → bit_at e.cpus i ≡ bit_at d.cpus i → bit_at e.rated i ≡ bit_at d.rated i → e.sum ≡ d.sum → e.limit ≡ d.limit
+    → IsTrusted d w o seats tasks i → IsTrusted e w o seats tasks i
+same_trusted d e w i o seats tasks marks rated sum limit are few bare =
+    let was = are few (sym marks ∙ bare) in (
+      subst (λ (b : Basis). IsSettled o b (get_or seats i None)) (noted_same d e w tasks i sum limit) was.0,
+      subst (λ (n : ℕ). IsFree n (get_or seats i None)) (sym rated) was.1,
+    )
+
+-- another seat for a CPU changes nothing on the others
+pub seat_other : (d e : Doubts) (w cpu i : ℕ) (o : Option ℕ) (x : Option Seat) (seats : List (Option Seat)) (tasks : List Task)
+    → bit_at e.cpus i ≡ bit_at d.cpus i → bit_at e.rated i ≡ bit_at d.rated i → e.sum ≡ d.sum → e.limit ≡ d.limit → i ≢ cpu
+    → IsTrusted d w o seats tasks i → IsTrusted e w o (set seats cpu x) tasks i
+seat_other d e w cpu i o x seats tasks marks rated sum limit other are few bare =
+    let was = same_trusted d e w i o seats tasks marks rated sum limit are few bare in
+    let seat = sym (get_or-set_other seats cpu i x None other) in
+    (subst (IsSettled o (noted_basis e w tasks i)) seat was.0, subst (IsFree (bit_at e.rated i)) seat was.1)
+
 -- who has sat down is settled, and its CPU may be in doubt no more
 pub seat_settled : (d e : Doubts) (w limit cpu : ℕ) (places : Places) (seats : List (Option Seat)) (tasks : List Task) (s : Seat) (is_rated : Bool)
     → ((i : ℕ) → i ≢ cpu → bit_at e.cpus i ≡ bit_at d.cpus i) → ((i : ℕ) → i ≢ cpu → bit_at e.rated i ≡ bit_at d.rated i)
@@ -310,12 +336,7 @@ seat_settled d e w limit cpu places seats tasks s is_rated others elsewhere mark
       subst (λ (n : ℕ). IsSettled (occupant places n) (noted_basis e w tasks n) (get_or (set seats cpu (Some s)) n None) × IsFree (bit_at e.rated n) (get_or (set seats cpu (Some s)) n None)) (sym same)
       (subst (λ o. IsSettled (occupant places cpu) (noted_basis e w tasks cpu) o × IsFree (bit_at e.rated cpu) o) (sym (get_or-set_same seats cpu (Some s) None there))
       (settled_by is_rated refl none, λ z. by_rate is_rated refl none z))
-  | inr other ↦
-      let was = are i few (sym (others i other) ∙ bare) in
-      let seat = sym (get_or-set_other seats cpu i (Some s) None other) in (
-        subst (IsSettled (occupant places i) (noted_basis e w tasks i)) seat (subst (λ (x : Basis). IsSettled (occupant places i) x (get_or seats i None)) (noted_same d e w tasks i sum limit_same) was.0),
-        subst (IsFree (bit_at e.rated i)) seat (subst (λ (n : ℕ). IsFree n (get_or seats i None)) (sym (elsewhere i other)) was.1),
-      )
+  | inr other ↦ seat_other d e w cpu i (occupant places i) (Some s) seats tasks (others i other) (elsewhere i other) sum limit_same other (are i) few bare
 ]
   where
     by_rate : (b : Bool) → is_rated ≡ b → bit_at e.cpus cpu ≡ 0 → bit_at e.rated cpu ≡ 0 → s.basis ≡ None

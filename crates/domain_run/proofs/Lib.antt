@@ -55,5 +55,6 @@ pub mod Woken
 pub mod Seatings
 pub mod Later
 pub mod Doubting
+pub mod Starting
 pub mod Leaping
 pub mod Leapt

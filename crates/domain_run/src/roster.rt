@@ -6,8 +6,10 @@
 //! up to now, whatever is still owed in it.
 
 ghost use Rattle.std.specs.Prelude.{◌≡◌, ◌≢◌, ◌==◌, ◌<◌, ◌≤◌, ◌^◌, ◌-◌, ◌&&◌, ◌++◌, ◌∷◌, [], not, min, All, AllPairs, IfOk, IfSome, IfNone, true, false, find, map, filter, length, option_map, None, replicate, slice_get, slice_index_or};
+ghost use Rattle.attr_check.specs.Ratio.{cap};
 ghost use Rattle.domain_run.specs.declared.task.Task.{Task};
 ghost use Rattle.domain_run.specs.Conditions.{is_ready, is_leaving};
+ghost use Rattle.domain_run.specs.Domain.{IsLimit};
 ghost use Rattle.domain_run.specs.Parts.{is_listed, with_last_cpu};
 ghost use Rattle.domain_run.specs.Sound.{IsSound, IsApart};
 ghost use Rattle.domain_run.specs.Tick as tick;
@@ -16,7 +18,7 @@ ghost use Rattle.domain_run.specs.private.Index.{IsAt, IsAbsent};
 ghost use Rattle.domain_run.specs.Views.{view_of};
 ghost use Rattle.domain_run.specs.private.Roster.{after_change, MayMake, Fits, HasLeft, IsSeenAs, runner_in};
 ghost use Rattle.domain_run.specs.private.RunQueue.{AreHomed};
-ghost use Rattle.domain_run.specs.private.Waiting.{seat_of};
+ghost use Rattle.domain_run.specs.private.Waiting.{seat_of, MaySitIfReady};
 ghost use Rattle.domain_run.specs.private.Timers.{IsStep, AreNotDue, due_of, least};
 ghost use Rattle.edf_pick.specs.Moves.{moved_from};
 ghost use Rattle.edf_pick.specs.Places.{placed};
@@ -27,6 +29,7 @@ mod lending;
 mod listing;
 mod passing;
 mod seating;
+mod starting;
 mod turning;
 
 use crate::change::{self, Change};
@@ -380,6 +383,33 @@ impl Roster {
             &self.index,
             &self.queue.schedule,
             &mut self.doubts,
+        );
+    }
+
+    /// As `choose`, and who starts on a CPU sits there at once, at its rate.
+    pub(crate) fn choose_seated(&mut self, limit: u64)
+        requires wide { length self.old.places ≡ self.old.cpus }
+        requires apart { IsApart self.old.places }
+        requires cpus { (0 < self.old.cpus) × (self.old.cpus ≤ 64) }
+        requires limit { IsLimit limit }
+        requires within { tick.sum_of self.old.tasks ≤ cap self.old.cpus limit }
+        requires may { All MaySitIfReady self.old.tasks }
+        ensures cpus { self.new.cpus ≡ self.old.cpus }
+        ensures places { self.new.places
+            ≡ placed (length self.old.places) (tick.candidates self.old.tasks) self.old.places }
+        ensures moves { self.new.moves ≡ moved_from 0 self.old.places self.new.places }
+        ensures tasks { self.new.tasks ≡ map (with_last_cpu self.new.places) self.old.tasks }
+        ensures wide { length self.new.places ≡ length self.old.places }
+    {
+        self.queue.schedule.pick();
+        starting::seat_moved(
+            &mut self.tasks,
+            &mut self.queue.accounts,
+            &mut self.seats,
+            &self.index,
+            &self.queue.schedule,
+            &mut self.doubts,
+            limit,
         );
     }
 

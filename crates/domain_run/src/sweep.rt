@@ -2,8 +2,10 @@
 
 ghost use Rattle.std.specs.Prelude.{IsTrue, ◌≡◌, ◌≢◌, ◌<◌, ◌≤◌, ◌^◌, ◌+◌, ◌*◌, map, All, AllPairs, ◌++◌, ◌∷◌, [], false, length, slice_index_or, vec_len, vec_capacity};
 ghost use Rattle.std.specs.List.{flat_map};
+ghost use Rattle.attr_check.specs.Ratio.{cap};
 ghost use Rattle.domain_run.specs.declared.task.Task.{Task};
 ghost use Rattle.domain_run.specs.Calls.{of_number};
+ghost use Rattle.domain_run.specs.Domain.{IsLimit};
 ghost use Rattle.domain_run.specs.Happened.{told_by_replenishment};
 ghost use Rattle.domain_run.specs.Log.{HasRoom, Tells};
 ghost use Rattle.domain_run.specs.Parts as parts_spec;
@@ -234,6 +236,21 @@ fn wake_all(roster: &mut Roster, time: u64, log: &mut Log)
     }
 }
 
+/// As `wake_all`, of which no log is told.
+#[inline(always)]
+fn wake_unheard(roster: &mut Roster, time: u64)
+    requires early { time < 2 ^ 42 }
+    requires sound { All (IsSound time) roster.old.tasks }
+    ensures cpus { roster.new.cpus ≡ roster.old.cpus }
+    ensures places { roster.new.places ≡ roster.old.places }
+    ensures tasks { roster.new.tasks ≡ tick_spec.prepared time roster.old.tasks }
+    ensures sound { All (IsSound time) roster.new.tasks }
+{
+    if roster.may_be_due(time) {
+        wake_due(roster, time);
+    }
+}
+
 /// Part 5: the state in which an occupant leaves its CPU.
 fn state_of(roster: &Roster, occupant: Option<u32>) -> PrevState
     ensures { result ≡ switches_spec.state_of roster.now.tasks occupant }
@@ -320,6 +337,42 @@ pub(crate) fn begin(
     add_switches(switches, time, roster);
     log.go_home(from, roster.occupants(), roster);
     !roster.moves().is_empty()
+}
+
+/// As `begin`, of which no log is told: who starts on a CPU sits there at once.
+#[inline(always)]
+pub(crate) fn begin_seated(
+    time: u64,
+    limit: u64,
+    roster: &mut Roster,
+    switches: &mut Vec<Switch>,
+) -> bool
+    requires narrow { (0 < roster.old.cpus) × (roster.old.cpus ≤ 64) }
+    requires limit { IsLimit limit }
+    requires within { tick_spec.sum_of (tick_spec.prepared time roster.old.tasks)
+        ≤ cap roster.old.cpus limit }
+    requires early { time < 2 ^ 42 }
+    requires sound { All (IsSound time) roster.old.tasks }
+    requires cpus { length roster.old.places ≡ roster.old.cpus }
+    requires apart { IsApart roster.old.places }
+    requires room { vec_len switches.old + length roster.old.places ≤ vec_capacity switches.old }
+    ensures cpus { roster.new.cpus ≡ roster.old.cpus }
+    ensures tasks { roster.new.tasks
+        ≡ map (parts_spec.with_last_cpu roster.new.places) (tick_spec.prepared time roster.old.tasks) }
+    ensures prepared { All (IsSound time) (tick_spec.prepared time roster.old.tasks) }
+    ensures places { roster.new.places ≡ places_spec.placed (length roster.old.places)
+        (tick_spec.candidates (tick_spec.prepared time roster.old.tasks)) roster.old.places }
+    ensures switches { switches.new.items ≡ switches.old.items
+        ++ switches_spec.switches_from time
+        (tick_spec.prepared time roster.old.tasks) 0 roster.old.places roster.new.places }
+    ensures room { vec_capacity switches.new ≡ vec_capacity switches.old }
+    ensures none { result ≡ false → roster.new.places ≡ roster.old.places }
+{
+    wake_unheard(roster, time);
+    roster.choose_seated(limit);
+    add_switches(switches, time, roster);
+    let is_same = roster.moves().is_empty();
+    !is_same
 }
 
 /// Part 6 of so many ticks at once, up to a time: every running task has its budget, and its work

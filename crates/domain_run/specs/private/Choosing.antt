@@ -1,6 +1,6 @@
 -- Who starts on a CPU belongs to it, and the switches, by the CPUs that a choice gave to another one, for
 -- the code's own contracts.
-use Rattle.std.specs.Prelude.{ℕ, ◌<◌, List, fold, All}
+use Rattle.std.specs.Prelude.{ℕ, ◌<◌, ◌≡◌, List, fold, All, length, slice_index_or, Option, Some}
 use Rattle.grub_rules.specs.Accounts.{AccountsView, AreAccounts}
 use Rattle.edf_pick.specs.declared.moves.Moved.{Moved}
 use Rattle.edf_pick.specs.Places.{Places}
@@ -24,6 +24,12 @@ pub record AreCounted (accounts : AccountsView) (seats : SeatsView) (tasks : Lis
   pub sums : AreAccounts accounts (shares (owed_all seats tasks))
   pub roster : IsRoster (owed_all seats tasks)
   pub waits : AllWait seats.seats tasks
+
+-- the task at a place, who stands on a CPU, belongs to it
+pub record IsHome (o : Option ℕ) (cpu place : ℕ) (tasks : List Task) : Type 0 where
+  pub within : place < length tasks
+  pub stands : (d : Task) → o ≡ Some (slice_index_or tasks place d).number
+  pub home : (d : Task) → (slice_index_or tasks place d).cpu ≡ cpu
 
 -- who stands on one of these CPUs belongs to it
 abbrev pub homed_by : Places → List Moved → Task → Task

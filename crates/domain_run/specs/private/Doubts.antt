@@ -1,7 +1,8 @@
 -- Which CPUs have seats that are known to be right, for the code's own contracts.
-use Rattle.std.specs.Prelude.{ℕ, ◌<◌, ◌≡◌, ◌⊎◌, List, slice_index_or, Option, Some, None, IfSome, IsSomeAnd}
+use Rattle.std.specs.Prelude.{ℕ, ◌<◌, ◌≡◌, ◌≢◌, ◌⊎◌, List, All, slice_index_or, Option, Some, None, IfSome, IsSomeAnd}
 use Rattle.std.specs.Int.{bit_at}
 use Rattle.grub_rules.specs.Sums.{uinact}
+use Rattle.edf_pick.specs.declared.moves.Moved.{Moved}
 use Rattle.edf_pick.specs.Places.{Places}
 use Rattle.domain_run.specs.declared.doubts.Doubts.{Doubts}
 use Rattle.domain_run.specs.declared.seats.Seat.{Seat}
@@ -29,12 +30,30 @@ noted_basis d cpus tasks cpu = record {
 abbrev pub IsFree : ℕ → Option Seat → Type 0
 IsFree mark o = mark ≡ 0 → IfSome o (λ s. s.basis ≡ None)
 
--- so it is on each CPU that is not in doubt
+-- a CPU is in doubt, or who stands there sits there rightly
+abbrev pub IsTrusted : Doubts → ℕ → Option ℕ → List (Option Seat) → List Task → ℕ → Type 0
+IsTrusted d cpus o seats tasks cpu =
+    cpu < 64 → bit_at d.cpus cpu ≡ 0
+    → IsSettled o (noted_basis d cpus tasks cpu) (slice_index_or seats cpu None)
+    × IsFree (bit_at d.rated cpu) (slice_index_or seats cpu None)
+
+-- so it is on each CPU
 abbrev pub AreSettled : Doubts → ℕ → Places → List (Option Seat) → List Task → Type 0
 AreSettled d cpus places seats tasks =
-    (cpu : ℕ) → cpu < 64 → bit_at d.cpus cpu ≡ 0
-    → IsSettled (occupant places cpu) (noted_basis d cpus tasks cpu) (slice_index_or seats cpu None)
-    × IsFree (bit_at d.rated cpu) (slice_index_or seats cpu None)
+    (cpu : ℕ) → IsTrusted d cpus (occupant places cpu) seats tasks cpu
+
+-- so it is on each CPU but for those that a choice has given to another one
+abbrev pub AreSettledBut : List Moved → Doubts → ℕ → Places → List (Option Seat) → List Task → Type 0
+AreSettledBut moves d cpus places seats tasks =
+    (cpu : ℕ) → All (λ m. m.cpu ≢ cpu) moves
+    → IsTrusted d cpus (occupant places cpu) seats tasks cpu
+
+-- who was trusted on another CPU still is
+abbrev pub KeepsTrust : ℕ → ℕ → Doubts → List (Option Seat) → List Task → Doubts → List (Option Seat)
+    → List Task → Type 0
+KeepsTrust cpus cpu old before was new after now =
+    (i : ℕ) → (o : Option ℕ) → i ≢ cpu → IsTrusted old cpus o before was i
+    → IsTrusted new cpus o after now i
 
 -- marks have come, and none has gone; on a CPU without one the seat has not changed, nor the inactive
 -- bandwidth, if the seat keeps what its rate was worked out from

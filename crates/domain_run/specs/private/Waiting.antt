@@ -82,6 +82,14 @@ pub record MaySit (t : Task) : Type 0 where
   pub lifted : pos 0 <ℤ t.server.left
   pub high : t.server.left ≤ℤ pos (2 ^ 52)
 
+-- a task that may sit down once it is ready
+abbrev pub MaySitIfReady : Task → Type 0
+MaySitIfReady t = IsTrue (is_ready t.condition) → MaySit t
+
+-- the task of a number may sit down
+abbrev pub MaySitOf : List Task → ℕ → Type 0
+MaySitOf tasks n = All (λ t. t.number ≡ n → MaySit t) tasks
+
 -- a seat at a rate
 abbrev pub IsAtRate : ℕ → Option Seat → Type 0
 IsAtRate rate o = IsSomeAnd o (λ s. s.rate ≡ rate)

@@ -1,6 +1,6 @@
 //! Who starts on a CPU belongs to it from then on. The schedule has it so already.
 
-ghost use Rattle.std.specs.Prelude.{◌≡◌, ◌<◌, ◌∷◌, [], All, None, Some, map, length, slice_index_or, vec_capacity};
+ghost use Rattle.std.specs.Prelude.{◌≡◌, ◌<◌, ◌∷◌, [], All, IfSome, None, Some, map, length, slice_index_or, vec_capacity};
 ghost use Rattle.std.specs.Int.{bit_at};
 ghost use Rattle.grub_rules.specs.Accounts.{Exchanges, Holds};
 ghost use Rattle.domain_run.specs.Parts.{with_cpu};
@@ -55,9 +55,9 @@ fn start(task: &mut Task, accounts: &mut Accounts, seats: &mut Seats, cpu: usize
     leave_other(seats, before, cpu, number);
 }
 
-// The task that stands on a CPU, if one does and is listed, belongs to it.
+// The task that stands on a CPU, if one does and is listed, belongs to it. Its place of the list.
 #[inline(always)]
-fn home_on(
+pub(super) fn home_on(
     tasks: &mut Vec<Task>,
     accounts: &mut Accounts,
     seats: &mut Seats,
@@ -65,9 +65,11 @@ fn home_on(
     occupant: Option<u32>,
     cpu: usize,
     doubts: &mut Doubts,
-)
+) -> Option<usize>
     requires there { cpu < length accounts.old.all }
     requires counts { spec.AreCounted accounts.old seats.old tasks.old.items }
+    ensures place { IfSome result
+        (λ p. spec.IsHome occupant cpu p (waiting.owed_all seats.new tasks.new.items)) }
     ensures wide { length accounts.new.all ≡ length accounts.old.all }
     ensures counts { spec.AreCounted accounts.new seats.new tasks.new.items }
     ensures tasks { waiting.owed_all seats.new tasks.new.items
@@ -85,17 +87,18 @@ fn home_on(
 {
     doubts.mark(cpu);
     let Some(number) = occupant else {
-        return;
+        return None;
     };
     let Some(place) = index.place(tasks, number) else {
-        return;
+        return None;
     };
     let left = tasks[place].cpu;
     if left == cpu {
-        return;
+        return Some(place);
     }
     doubts.mark_left(left, seats.seat_of(left, number).is_some());
     start(&mut tasks[place], accounts, seats, cpu);
+    Some(place)
 }
 
 /// Each task to which the last choice gave a CPU belongs to it.

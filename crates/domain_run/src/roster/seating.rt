@@ -18,7 +18,7 @@ use crate::task::Task;
 use attr_check::UNIT;
 
 /// A task is charged what the seat of a CPU owes, where it belongs to that.
-fn charge_on(task: &mut Task, cpu: usize, seat: Seat, upto: u64)
+pub(super) fn charge_on(task: &mut Task, cpu: usize, seat: Seat, upto: u64)
     requires ahead { IsAhead upto seat }
     requires waits { task.old.cpu ≡ cpu → spec.Waits seat task.old }
     ensures { task.new ≡ spec.charged_on cpu upto seat task.old }
@@ -68,7 +68,7 @@ fn lasting(left: u64, rate: u64) -> u64
 
 /// The rate of a task that does not reclaim: one on every basis.
 #[inline(always)]
-fn rated_at_one(task: &Task) -> Rating
+pub(super) fn rated_at_one(task: &Task) -> Rating
     requires { task.now.params.reclaim ≡ false }
     ensures rate { result.rate ≡ 1048576 }
     ensures basis { result.basis ≡ None }
@@ -82,7 +82,7 @@ fn rated_at_one(task: &Task) -> Rating
 
 /// The rate of a task on a basis, which is kept.
 #[inline(always)]
-fn rated_on(task: &Task, basis: Basis) -> Rating
+pub(super) fn rated_on(task: &Task, basis: Basis) -> Rating
     requires uinact { basis.uinact ≤ 2 ^ 26 }
     requires cpus { (0 < basis.cpus) × (basis.cpus ≤ 64) }
     requires limit { IsLimit basis.limit }
@@ -107,7 +107,7 @@ fn rated_on(task: &Task, basis: Basis) -> Rating
 
 /// A seat for a task, from a time on, at a rate.
 #[inline(always)]
-fn seat_for(task: &Task, upto: u64, rating: Rating) -> Seat
+pub(super) fn seat_for(task: &Task, upto: u64, rating: Rating) -> Seat
     requires may { spec.MaySit task.now }
     requires turns { 0 < rating.rate }
     requires slow { rating.rate ≤ 2 ^ 27 }

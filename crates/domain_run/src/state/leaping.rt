@@ -1,13 +1,15 @@
 //! From event to event in one call.
 
-ghost use Rattle.std.specs.Prelude.{◌≡◌, [], ◌<◌, ◌≤◌, ◌^◌, ◌+◌, IfOk, OnErr};
+ghost use Rattle.std.specs.Prelude.{◌≡◌, [], true, false, ◌<◌, ◌≤◌, ◌^◌, ◌+◌, IfOk, OnOk, OnErr};
 ghost use Rattle.domain_run.specs.Domain.{Domain};
 ghost use Rattle.domain_run.specs.Jump as jump;
 ghost use Rattle.domain_run.specs.Keys.{AreKept};
+ghost use Rattle.domain_run.specs.Sound.{IsDomain};
 ghost use Rattle.domain_run.specs.Tick as tick;
 
 use super::State;
-use crate::to_event;
+use crate::running::are_still_listed;
+use crate::{sweep, to_event};
 use no_memory::NoMemory;
 
 impl State {
@@ -28,6 +30,51 @@ impl State {
         ticks
     }
 
+    /// Begins a tick in the room that is there, of which no log is told: whether there was any for a
+    /// switch of each CPU beside those so far. Where there is none, nothing has changed. There is where
+    /// no switch waits. Who starts on a CPU sits there at once, and who stands on the CPUs is not listed
+    /// where that has changed. Takes no memory.
+    #[inline(always)]
+    fn begin_seated(&mut self) -> bool
+        requires { self.old.time < 2 ^ 42 }
+        ensures some { self.old.switches ≡ [] → result ≡ true }
+        ensures ok { result ≡ true → self.new ≡ jump.under_way self.old }
+        ensures begun { result ≡ true → jump.IsUnderWay self.new }
+        ensures full { result ≡ false → self.new ≡ self.old }
+        ensures domain { IsDomain self.old }
+    {
+        if self.switches.capacity() - self.switches.len() < self.cpus {
+            return false;
+        }
+        let changed = sweep::begin_seated(
+            self.time,
+            self.limit,
+            &mut self.roster,
+            &mut self.switches,
+        );
+        self.is_listed = are_still_listed(self.is_listed, changed);
+        self.time += 1;
+        true
+    }
+
+    /// As `begin_seated`, where room for the switches is made first: on `Err` nothing has changed.
+    #[inline(always)]
+    fn begin_seated_anew(&mut self) -> Result<(), NoMemory>
+        requires { self.old.time < 2 ^ 42 }
+        ensures ok { OnOk result (self.new ≡ jump.under_way self.old) }
+        ensures begun { OnOk result (jump.IsUnderWay self.new) }
+        ensures err { OnErr result (self.new ≡ self.old) }
+        ensures domain { IsDomain self.old }
+    {
+        self.switches.try_reserve(self.cpus)?;
+        if self.begin_seated() {
+            Ok(())
+        } else {
+            // Never: the room is there.
+            Err(NoMemory)
+        }
+    }
+
     /// As [`State::leap`], in the room that is there. Where there is none for a switch of each CPU
     /// beside those so far, nothing has changed: it answers 0 then. There is where no switch waits.
     /// Takes no memory.
@@ -39,8 +86,7 @@ impl State {
         ensures ticks { self.new ≡ tick.ticks result self.old }
         ensures keys { AreKept self.old.tasks self.new.tasks }
     {
-        let mut log = self.silent();
-        if !self.begin_in_room(&mut log) {
+        if !self.begin_seated() {
             return 0;
         }
         let most = most.min(self.quiet());
@@ -62,8 +108,7 @@ impl State {
         ensures err { OnErr result (self.new ≡ self.old) }
         ensures keys { AreKept self.old.tasks self.new.tasks }
     {
-        let mut log = self.silent();
-        self.begin_unlisted(&mut log)?;
+        self.begin_seated_anew()?;
         let most = most.min(self.quiet());
         Ok(self.run(most))
     }

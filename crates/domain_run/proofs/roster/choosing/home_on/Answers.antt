@@ -1,12 +1,13 @@
-use Rattle.std.proofs.Common.{◌≡◌, ℕ, None, Some, List, map, sym, ap, subst, refl, ◌∙◌}
+use Rattle.std.proofs.Common.{◌≡◌, ℕ, None, Some, List, map, set, sym, ap, subst, refl, ◌∙◌}
 use Rattle.std.specs.Int.{bit_at}
 use Rattle.std.proofs.lemmas.List.{get_or_default}
 use Rattle.domain_run.specs.declared.task.Task.{Task}
 use Rattle.domain_run.specs.Parts.{with_cpu}
+use Rattle.domain_run.specs.private.Choosing.{IsHome}
 use Rattle.domain_run.specs.private.Index.{IsAt, IsAbsent}
 use Rattle.domain_run.specs.private.Roster.{homed_here}
 use Rattle.domain_run.specs.private.Waiting.{owed, owed_all}
-use Rattle.domain_run.proofs.Choosing.{start_waits, start_held, started_counts, started_tasks, started_view, started_clock, started_wide, stays_tasks}
+use Rattle.domain_run.proofs.Choosing.{start_waits, start_held, started_counts, started_home, started_tasks, started_view, started_clock, started_wide, stays_tasks}
 use Rattle.domain_run.proofs.Doubting.{start_marked, kept_mark, left_unseated, IsLeft}
 use Rattle.domain_run.proofs.Finding.{map_others}
 use Rattle.domain_run.proofs.Staying.{map_itself}
@@ -46,6 +47,15 @@ pub start-requires-clause-held : goal.start-requires-clause-held
 start-requires-clause-held c =
     let at = subst (λ (ts : List Task). IsAt ts c.in-Some.number c.in-Some-place.place) c.deref.ensures.value c.in-Some-place.ensures.there in
     start_held c.args.accounts.now c.args.seats.now c.args.tasks.now.items c.in-Some-place.place c.index_mut.result.now at.within c.index_mut.ensures.value c.requires.counts
+
+pub returns-clause-place : goal.returns-clause-place
+returns-clause-place c =
+    let at = subst (λ (ts : List Task). IsAt ts c.in-Some.number c.in-Some-place.place) c.deref.ensures.value c.in-Some-place.ensures.there in
+    let x = c.index_mut.result.now in
+    let number : c.in-Some.number ≡ x.number = sym (at.is x) ∙ sym (ap (λ (t : Task). t.number) c.index_mut.ensures.value) in
+    let home = started_home c.args.accounts.now c.args.seats.now c.args.tasks.now.items c.in-Some-place.place x at.within c.index_mut.ensures.value c.requires.counts
+    c.args.cpu c.start.new.accounts c.start.new.seats c.start.new.task c.requires.there c.start.ensures.task c.start.ensures.seats c.in-Some.number number in
+    subst (λ o. IsHome o c.args.cpu c.in-Some-place.place (owed_all c.start.new.seats (set c.args.tasks.now.items c.in-Some-place.place c.start.new.task))) (sym c.in-Some.is) home
 
 pub returns-clause-counts : goal.returns-clause-counts
 returns-clause-counts c =

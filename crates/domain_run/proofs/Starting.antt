@@ -1,0 +1,93 @@
+-- Who starts on a CPU sits there at once.
+use Rattle.std.proofs.Common.{◌≡◌, ℕ, ◌<◌, Option, Some, None, List, [], ◌∷◌, length, map, get_or, Bool, cond, eqb, ◌&&◌, true, false, refl, sym, ap, ◌∙◌, subst, arith}
+use Rattle.std.specs.Prelude.{◌≢◌, All, AllPairs, Any, IsTrue, IfSome}
+use Rattle.std.proofs.lemmas.Bool.{eqb-true}
+use Rattle.std.proofs.lemmas.List.{get_or-map, get_or_default, length-map}
+use Rattle.std.proofs.lemmas.List.Folds.{Any-from_list_any}
+use Rattle.std.proofs.lemmas.Option.{same_Some}
+use Rattle.domain_run.specs.declared.task.Task.{Task}
+use Rattle.edf_pick.specs.Places.{Places}
+use Rattle.domain_run.specs.Conditions.{is_ready}
+use Rattle.domain_run.specs.Parts.{with_cpu}
+use Rattle.domain_run.specs.Sound.{occupant, IsSound}
+use Rattle.domain_run.specs.Tick.{candidates, sum_of}
+use Rattle.domain_run.specs.private.Choosing.{IsHome}
+use Rattle.domain_run.specs.private.Roster.{homed_here}
+use Rattle.domain_run.specs.private.Waiting.{MaySit, MaySitIfReady, MaySitOf}
+use Rattle.domain_run.proofs.Keeping.{sum-map}
+use Rattle.domain_run.proofs.Placing.{ready_in, one_index}
+use Rattle.domain_run.proofs.Runners.{contends}
+use Rattle.domain_run.proofs.Seating.{AreCandidates}
+
+-- ---- A TASK THAT STARTS is as it was, but for the CPU to which it belongs
+
+here_params : (o : Option ℕ) (cpu : ℕ) (t : Task) → (homed_here o cpu t).params ≡ t.params
+here_params None cpu t = refl
+here_params (Some n) cpu t = elim (eqb t.number n) as (λ b. (cond b (with_cpu (Some cpu) t) t).params ≡ t.params) [ true ↦ refl | false ↦ refl ]
+
+here_number : (o : Option ℕ) (cpu : ℕ) (t : Task) → (homed_here o cpu t).number ≡ t.number
+here_number None cpu t = refl
+here_number (Some n) cpu t = elim (eqb t.number n) as (λ b. (cond b (with_cpu (Some cpu) t) t).number ≡ t.number) [ true ↦ refl | false ↦ refl ]
+
+here_may : (o : Option ℕ) (cpu : ℕ) (t : Task) → MaySit t → MaySit (homed_here o cpu t)
+here_may None cpu t may = may
+here_may (Some n) cpu t may = elim (eqb t.number n) as (λ b. MaySit (cond b (with_cpu (Some cpu) t) t)) [
+  | true ↦ record { ready = may.ready; busy = may.busy; lifted = may.lifted; high = may.high }
+  | false ↦ may
+]
+
+pub here_sum : (o : Option ℕ) (cpu : ℕ) (tasks : List Task) → sum_of (map (homed_here o cpu) tasks) ≡ sum_of tasks
+here_sum o cpu tasks = sum-map (homed_here o cpu) (here_params o cpu) tasks
+
+pub here_may_all : (o : Option ℕ) (cpu n : ℕ) (tasks : List Task) → MaySitOf tasks n → MaySitOf (map (homed_here o cpu) tasks) n
+here_may_all o cpu n tasks may k d h number =
+    let f = homed_here o cpu in
+    let many : length (map f tasks) ≡ length tasks = simp length-map in
+    let inside : k < length tasks = omega (arith, h, many) in
+    let read = get_or-map f tasks k d d inside in
+    let was : (get_or tasks k d).number ≡ n = sym (here_number o cpu (get_or tasks k d)) ∙ ap (λ (t : Task). t.number) (sym read) ∙ number in
+    subst MaySit (sym read) (here_may o cpu (get_or tasks k d) (may k d inside was))
+
+-- who stands on the CPU may sit
+pub home_may : (o : Option ℕ) (cpu p : ℕ) (tasks : List Task) → IfSome o (MaySitOf tasks) → IsHome o cpu p tasks → (d : Task) → MaySit (get_or tasks p d)
+home_may None cpu p tasks may home d = let none : None ≡ Some (get_or tasks p d).number = home.stands d in absurd cc
+home_may (Some n) cpu p tasks may home d = may p d home.within (sym (same_Some n (get_or tasks p d).number (home.stands d)))
+
+pub here_may_some : (o : Option ℕ) (cpu : ℕ) (tasks : List Task) (x : Option ℕ) → IfSome x (MaySitOf tasks) → IfSome x (MaySitOf (map (homed_here o cpu) tasks))
+here_may_some o cpu tasks None may = tt
+here_may_some o cpu tasks (Some n) may = here_may_all o cpu n tasks may
+
+-- ---- WHO STANDS may sit: it is one of those that are ready
+
+abbrev is_ready_number : ℕ → Task → Bool
+is_ready_number n t = eqb t.number n && is_ready t.condition
+
+both_true : (a b : Bool) → (a && b) ≡ true → (a ≡ true) × (b ≡ true)
+both_true true b e = (refl, e)
+both_true false b e = absurd cc
+
+ready_number : (n : ℕ) (tasks : List Task) (i : ℕ) (d : Task) → AllPairs (λ a b. a.number ≢ b.number) tasks → i < length tasks → (get_or tasks i d).number ≡ n → Any (λ t. is_ready_number n t ≡ true) tasks → IsTrue (is_ready (get_or tasks i d).condition)
+ready_number n tasks i d numbered h number (k, t, within, same, test) =
+    let both = both_true (eqb t.number n) (is_ready t.condition) test in
+    let there : get_or tasks k d ≡ t = get_or_default tasks k d t within ∙ same in
+    let i_is : i ≡ k = one_index tasks i k d d numbered h within (number ∙ sym (ap (λ (x : Task). x.number) there ∙ eqb-true t.number n both.0)) in
+    ap (λ (x : Task). is_ready x.condition) (ap (λ j. get_or tasks j d) i_is ∙ there) ∙ both.1
+
+pub may_stand : (places : Places) (tasks : List Task) → AreCandidates (candidates tasks) places → AllPairs (λ a b. a.number ≢ b.number) tasks → All MaySitIfReady tasks → (cpu : ℕ) → IfSome (occupant places cpu) (MaySitOf tasks)
+may_stand places tasks all numbered may cpu = by_occupant (occupant places cpu) refl
+  where
+    by_occupant : (o : Option ℕ) → occupant places cpu ≡ o → IfSome o (MaySitOf tasks)
+    by_occupant None e = tt
+    by_occupant (Some n) e = λ i d h number. may i d h (ready_number n tasks i d numbered h number (Any-from_list_any (is_ready_number n) tasks (ready_in n tasks (all.each cpu n e))))
+
+-- a sound task may sit once it is ready
+pub sound_may : (time : ℕ) (tasks : List Task) → All (IsSound time) tasks → All MaySitIfReady tasks
+sound_may time tasks sound k d h ready =
+    let t = get_or tasks k d in
+    let s = sound k d h in
+    record { ready = ready; busy = s.busy (contends t.condition ready); lifted = s.lifted ready; high = s.served.high }
+
+-- some task of a list that has any
+pub a_task : (p : ℕ) (tasks : List Task) → p < length tasks → Task
+a_task p [] h = absurd (omega (arith, h))
+a_task p (t ∷ tasks) h = t

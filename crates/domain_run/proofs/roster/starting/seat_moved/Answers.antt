@@ -1,0 +1,98 @@
+use Rattle.std.proofs.Common.{◌≡◌, ◌<◌, ◌≤◌, ℕ, Option, List, length, get_or, inl, inr, sym, ap, subst, refl, ◌∙◌, arith}
+use Rattle.std.specs.Prelude.{IfSome}
+use Rattle.std.proofs.lemmas.Bool.{cases_eq}
+use Rattle.std.proofs.lemmas.List.{get_or_default}
+use Rattle.attr_check.specs.Ratio.{cap}
+use Rattle.edf_pick.specs.declared.moves.Moved.{Moved}
+use Rattle.edf_pick.specs.Places.{Places}
+use Rattle.domain_run.specs.declared.task.Task.{Task}
+use Rattle.domain_run.specs.Sound.{occupant}
+use Rattle.domain_run.specs.Tick.{sum_of}
+use Rattle.domain_run.specs.private.Choosing.{AreWithin}
+use Rattle.domain_run.specs.private.Doubts.{IsTrusted, AreSettledBut}
+use Rattle.domain_run.specs.private.Waiting.{owed_all, MaySitOf}
+use Rattle.domain_run.proofs.Choosing.{nobody, homed_more, homed_none}
+use Rattle.domain_run.proofs.Starting.{here_sum, here_may_some}
+use Rattle.domain_run.proofs.roster.starting.seat_moved.Goals as goal
+
+pub loop-i-init : goal.loop-i-init
+loop-i-init c =
+    let tasks = owed_all c.args.seats.now c.args.tasks.now.items in
+    let but = subst (λ (ms : List Moved). AreSettledBut ms c.args.doubts.now (length c.args.accounts.now.all) c.args.schedule.now.places c.args.seats.now.seats tasks) (sym c.moves-moves.ensures) c.requires.settled in
+    record {
+      wide = refl;
+      counts = c.requires.counts;
+      written = sym (homed_none c.occupants-places.result.now tasks);
+      within = c.requires.within;
+      may = λ cpu. subst (λ (ps : Places). IfSome (occupant ps cpu) (MaySitOf tasks)) (sym c.occupants-places.ensures.occupants) (c.requires.may cpu);
+      clock = refl;
+      long = refl;
+      trusted = λ cpu others. subst (λ (ps : Places). IsTrusted c.args.doubts.now (length c.args.accounts.now.all) (occupant ps cpu) c.args.seats.now.seats tasks cpu) (sym c.occupants-places.ensures.occupants)
+          (but cpu (λ j d h. others j d (omega arith) h));
+      room = refl;
+    }
+
+pub seat_next-requires-clause-there : goal.seat_next-requires-clause-there
+seat_next-requires-clause-there c =
+    let within = subst (AreWithin (length c.args.accounts.now.all)) (sym c.moves-moves.ensures) c.requires.there in
+    let less = within c.loop-i.i nobody (omega arith) in
+    omega (arith, less, c.loop-i.invariant.wide)
+
+pub seat_next-requires-clause-wide : goal.seat_next-requires-clause-wide
+seat_next-requires-clause-wide c = c.loop-i.invariant.long ∙ c.requires.wide ∙ sym c.loop-i.invariant.wide
+
+pub seat_next-requires-clause-cpus : goal.seat_next-requires-clause-cpus
+seat_next-requires-clause-cpus c = subst (λ (n : ℕ). (0 < n) × (n ≤ 64)) (sym c.loop-i.invariant.wide) c.requires.cpus
+
+pub seat_next-requires-clause-counts : goal.seat_next-requires-clause-counts
+seat_next-requires-clause-counts c = c.loop-i.invariant.counts
+
+pub seat_next-requires-clause-within : goal.seat_next-requires-clause-within
+seat_next-requires-clause-within c = subst (λ (n : ℕ). sum_of (owed_all c.loop-i.seats c.loop-i.tasks.items) ≤ cap n c.args.limit) (sym c.loop-i.invariant.wide) c.loop-i.invariant.within
+
+pub seat_next-requires-clause-may : goal.seat_next-requires-clause-may
+seat_next-requires-clause-may c = subst (λ (o : Option ℕ). IfSome o (MaySitOf (owed_all c.loop-i.seats c.loop-i.tasks.items))) (sym c.occupant_of-occupant.ensures) (c.loop-i.invariant.may _)
+
+pub loop-i-preserved : goal.loop-i-preserved
+loop-i-preserved c =
+    let l = c.loop-i in
+    let e = c.seat_next.ensures in
+    let new = c.seat_next.new in
+    let w = length c.args.accounts.now.all in
+    let places = c.occupants-places.result.now in
+    let moves = c.moves-moves.result.now in
+    let cpu : ℕ = (get_or moves l.i nobody).cpu in
+    let was = owed_all l.seats l.tasks.items in
+    let now = owed_all new.seats new.tasks.items in
+    let o = c.occupant_of-occupant.result in
+    record {
+      wide = e.wide ∙ l.invariant.wide;
+      counts = e.counts;
+      written = e.tasks ∙ homed_more places moves (owed_all c.args.seats.now c.args.tasks.now.items) was l.i nobody o (omega arith) l.invariant.written c.occupant_of-occupant.ensures;
+      within = subst (λ (n : ℕ). n ≤ cap w c.args.limit) (sym (ap sum_of e.tasks ∙ here_sum o cpu was)) l.invariant.within;
+      may = λ i. subst (λ (ts : List Task). IfSome (occupant places i) (MaySitOf ts)) (sym e.tasks) (here_may_some o cpu was (occupant places i) (l.invariant.may i));
+      clock = e.clock ∙ l.invariant.clock;
+      long = e.seats ∙ l.invariant.long;
+      trusted = λ i others. elim (cases_eq i cpu) [
+        | inl same ↦
+            subst (λ (n : ℕ). IsTrusted new.doubts w (occupant places n) new.seats.seats now n) (sym same)
+            (subst (λ (x : Option ℕ). IsTrusted new.doubts w x new.seats.seats now cpu) c.occupant_of-occupant.ensures
+            (subst (λ (n : ℕ). IsTrusted new.doubts n o new.seats.seats now cpu) l.invariant.wide e.here))
+        | inr other ↦
+            let before : IsTrusted l.doubts w (occupant places i) l.seats.seats was i = l.invariant.trusted i (λ j d low h at. elim (cases_eq j l.i) [
+              | inl first ↦
+                  let read : get_or moves j d ≡ get_or moves l.i nobody = ap (λ k. get_or moves k d) first ∙ get_or_default moves l.i d nobody (omega (arith, h, first)) in
+                  other (sym at ∙ ap (λ (m : Moved). m.cpu) read)
+              | inr later ↦ others j d (omega (arith, low, later)) h at
+            ]) in
+            subst (λ (n : ℕ). IsTrusted new.doubts n (occupant places i) new.seats.seats now i) l.invariant.wide
+            (e.trust i (occupant places i) other (subst (λ (n : ℕ). IsTrusted l.doubts n (occupant places i) l.seats.seats was i) (sym l.invariant.wide) before))
+      ];
+      room = e.room ∙ l.invariant.room;
+    }
+
+pub returns-clause-settled : goal.returns-clause-settled
+returns-clause-settled c =
+    let l = c.loop-i in
+    λ cpu. subst (λ (ps : Places). IsTrusted l.doubts (length c.args.accounts.now.all) (occupant ps cpu) l.seats.seats (owed_all l.seats l.tasks.items) cpu) c.occupants-places.ensures.occupants
+    (l.invariant.trusted cpu (λ j d low h. absurd (omega (arith, low, h))))

@@ -1,0 +1,68 @@
+use Rattle.std.proofs.Common.{◌≡◌, ◌<◌, ◌≤◌, ◌*◌, Some, length, get_or, sym, ap, subst, ◌∙◌, arith}
+use Rattle.std.proofs.lemmas.List.{get_or_default}
+use Rattle.std.proofs.Math.Nat.{mul-le-mul}
+use Rattle.attr_check.specs.Ratio.{cap}
+use Rattle.grub_rules.proofs.CallerLemmas.{uinact-le-total_bw}
+use Rattle.domain_run.specs.declared.task.Task.{Task}
+use Rattle.domain_run.specs.Tick.{shares}
+use Rattle.domain_run.specs.private.Doubts.{IsTrusted}
+use Rattle.domain_run.specs.private.Seats.{SeatsView}
+use Rattle.domain_run.specs.private.Waiting.{owed, owed_all, AllWait, Waits, MaySit}
+use Rattle.domain_run.proofs.Bare.{bare_on}
+use Rattle.domain_run.proofs.Counting.{inactive_is}
+use Rattle.domain_run.proofs.Doubting.{seat_other}
+use Rattle.domain_run.proofs.Placing.{one_index}
+use Rattle.domain_run.proofs.Seatings.{taken_view, taken_waits}
+use Rattle.domain_run.proofs.Waiting.{alike_owed, numbered_unlike}
+use Rattle.domain_run.proofs.roster.starting.sit_at.Goals as goal
+
+pub rating_of-rating-requires-clause-uinact : goal.rating_of-rating-requires-clause-uinact
+rating_of-rating-requires-clause-uinact c =
+    let tasks = owed_all c.args.seats.now c.args.tasks.now in
+    let is = inactive_is c.args.accounts.now (shares tasks) c.args.cpu c.requires.counts.sums in
+    let most : cap (length c.args.accounts.now.all) c.args.limit ≤ 64 * 1048576 = mul-le-mul c.requires.cpus.1 c.requires.limit.1 in
+    omega (arith, is, uinact-le-total_bw c.args.cpu (shares tasks), c.requires.within, most)
+
+pub seat_for-seat-requires-clause-may : goal.seat_for-seat-requires-clause-may
+seat_for-seat-requires-clause-may c =
+    let s = c.args.seats.now in
+    let items = c.args.tasks.now in
+    let p = c.args.place in
+    let x = c.index-tasks-place.result in
+    let read = c.index-tasks-place.is ∙ get_or_default items p _ x c.requires.at in
+    subst MaySit (sym (bare_on s.upto s.seats items p x c.requires.at read c.args.cpu c.requires.free c.requires.home x)) (c.requires.may x)
+
+pub returns-clause-tasks : goal.returns-clause-tasks
+returns-clause-tasks c =
+    let s = c.args.seats.now in
+    let seat = c.seat_for-seat.result in
+    let there : c.args.cpu < length s.seats = omega (arith, c.requires.there, c.requires.wide) in
+    let since : seat.since ≡ s.upto = c.seat_for-seat.ensures.since ∙ c.upto.ensures.upto in
+    ap (λ (v : SeatsView). owed_all v c.args.tasks.now) c.sit_down.ensures ∙ taken_view s.upto c.args.cpu s.seats seat c.requires.free there since c.args.tasks.now
+
+pub returns-clause-waits : goal.returns-clause-waits
+returns-clause-waits c =
+    let s = c.args.seats.now in
+    let items = c.args.tasks.now in
+    let p = c.args.place in
+    let x = c.index-tasks-place.result in
+    let read = c.index-tasks-place.is ∙ get_or_default items p _ x c.requires.at in
+    let seat = c.seat_for-seat.result in
+    let there : c.args.cpu < length s.seats = omega (arith, c.requires.there, c.requires.wide) in
+    let since : seat.since ≡ s.upto = c.seat_for-seat.ensures.since ∙ c.upto.ensures.upto in
+    let numbered = numbered_unlike (owed s.upto s.seats) (alike_owed s.upto s.seats) items c.requires.counts.roster.numbered in
+    subst (λ (v : SeatsView). AllWait v.seats items) (sym c.sit_down.ensures) (taken_waits s.upto c.args.cpu s.seats seat c.requires.free there since items
+    (λ k d z e n.
+    let is = read ∙ get_or_default items p x d c.requires.at in
+    let k_is : k ≡ p = one_index items k p d d numbered z c.requires.at (n ∙ c.seat_for-seat.ensures.number ∙ ap (λ (t : Task). t.number) is) in
+    subst (Waits seat) (is ∙ ap (λ i. get_or items i d) (sym k_is)) c.seat_for-seat.ensures.waits)
+    c.requires.counts.waits)
+
+pub returns-clause-trust : goal.returns-clause-trust
+returns-clause-trust c i o other was =
+    let s = c.args.seats.now in
+    let q = c.clear_for.ensures in
+    let tasks = owed_all s c.args.tasks.now in
+    let w = length c.args.accounts.now.all in
+    subst (λ (v : SeatsView). IsTrusted c.clear_for.new.self w o v.seats tasks i) (sym c.sit_down.ensures)
+    (seat_other c.args.doubts.now c.clear_for.new.self w c.args.cpu i o (Some c.seat_for-seat.result) s.seats tasks (q.others i other) (q.elsewhere i other) q.sum q.limit other was)

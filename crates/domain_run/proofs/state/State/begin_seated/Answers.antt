@@ -1,0 +1,58 @@
+use Rattle.std.proofs.Common.{◌≤◌, ◌+◌, ◌<◌, ◌^◌, sym, ap, ◌∙◌, subst}
+use Rattle.attr_check.specs.Ratio.{cap}
+use Rattle.domain_run.specs.Domain.{Domain}
+use Rattle.domain_run.specs.Jump.{under_way, running_numbers}
+use Rattle.domain_run.specs.Sound.{IsDomain, IsPlacement}
+use Rattle.domain_run.specs.Tick.{sum_of, prepared}
+use Rattle.domain_run.proofs.Ticking.{middle, listed_prepared}
+use Rattle.domain_run.proofs.Paying.{under_way_is}
+use Rattle.domain_run.proofs.state.State.begin_seated.Goals as goal
+
+pub begin_seated-changed-requires-clause-cpus : goal.begin_seated-changed-requires-clause-cpus
+begin_seated-changed-requires-clause-cpus c = c.self.invariant.domain.steady.wide ∙ sym c.self.invariant.wide
+
+pub begin_seated-changed-requires-clause-narrow : goal.begin_seated-changed-requires-clause-narrow
+begin_seated-changed-requires-clause-narrow c = subst (λ n. (0 < n) × (n ≤ 64)) (sym c.self.invariant.wide) c.self.invariant.domain.steady.cpus
+
+pub begin_seated-changed-requires-clause-within : goal.begin_seated-changed-requires-clause-within
+begin_seated-changed-requires-clause-within c =
+    let s = c.self.inside in
+    let d : Domain = record { cpus = s.cpus; limit = s.limit; time = s.time; tasks = s.roster.tasks; used = s.used; curr = s.roster.places; switches = s.switches.items } in
+    subst (λ n. sum_of (prepared s.time s.roster.tasks) ≤ cap n s.limit) (sym c.self.invariant.wide) (listed_prepared d c.self.invariant.domain.steady).within
+
+pub invariant_of-self : goal.invariant_of-self
+invariant_of-self c =
+    let s = c.self.inside in
+    let d : Domain = record { cpus = s.cpus; limit = s.limit; time = s.time; tasks = s.roster.tasks; used = s.used; curr = s.roster.places; switches = s.switches.items } in
+    let b = c.begin_seated-changed.new in
+    let e = c.begin_seated-changed.ensures in
+    let m = middle d b.roster.tasks b.roster.places b.switches.items c.self.invariant.domain e.prepared e.tasks e.places e.switches in
+    let early : d.time < 2 ^ 42 = subst (λ (x : Domain). x.time < 2 ^ 42) (sym c.self.view_is) c.requires in
+    let is = under_way_is d c.self.invariant.domain early e.prepared in
+    record {
+      domain = subst IsDomain (sym (ap (λ (x : Domain). record x { time = d.time + 1 }) m.begun_is)) is.0;
+      wide = e.cpus ∙ c.self.invariant.wide;
+      running_is = λ listed.
+          let still = c.are_still_listed-self-inside.ensures listed in
+          c.self.invariant.running_is still.0 ∙ ap running_numbers (sym (e.none still.1));
+      running_room = c.self.invariant.running_room;
+      switch_room = rw e.room c.self.invariant.switch_room;
+    }
+
+pub returns-clause-ok : goal.returns-clause-ok
+returns-clause-ok c made =
+    let s = c.self.inside in
+    let d : Domain = record { cpus = s.cpus; limit = s.limit; time = s.time; tasks = s.roster.tasks; used = s.used; curr = s.roster.places; switches = s.switches.items } in
+    let b = c.begin_seated-changed.new in
+    let e = c.begin_seated-changed.ensures in
+    let m = middle d b.roster.tasks b.roster.places b.switches.items c.self.invariant.domain e.prepared e.tasks e.places e.switches in
+    ap (λ (x : Domain). record x { time = d.time + 1 }) m.begun_is ∙ ap under_way c.self.view_is
+
+pub returns-clause-begun : goal.returns-clause-begun
+returns-clause-begun c made =
+    let s = c.self.inside in
+    let d : Domain = record { cpus = s.cpus; limit = s.limit; time = s.time; tasks = s.roster.tasks; used = s.used; curr = s.roster.places; switches = s.switches.items } in
+    let early : d.time < 2 ^ 42 = subst (λ (x : Domain). x.time < 2 ^ 42) (sym c.self.view_is) c.requires in
+    let placed : IsPlacement (under_way d) = (under_way_is d c.self.invariant.domain early c.begin_seated-changed.ensures.prepared).1 in
+    let same = returns-clause-ok c made in
+    record { before = c.args.self.now; begun = same; placed = subst IsPlacement (sym (same ∙ ap under_way (sym c.self.view_is))) placed }

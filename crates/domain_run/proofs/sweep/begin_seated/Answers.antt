@@ -1,0 +1,87 @@
+use Rattle.std.proofs.Common.{◌≡◌, ◌<◌, Bool, true, false, not, eqb, eqb-true, refl, List, [], ◌∷◌, ◌++◌, ℕ, ◌≤◌, None, get_or, length, sym, ap, ◌∙◌, arith, map, subst}
+use Rattle.attr_check.specs.Ratio.{cap}
+use Rattle.edf_pick.specs.declared.moves.Moved.{Moved}
+use Rattle.edf_pick.specs.Moves.{moved_from}
+use Rattle.edf_pick.specs.Places.{Places, placed}
+use Rattle.edf_pick.proofs.Moving.{moved_length}
+use Rattle.domain_run.specs.declared.switch.Switch.{Switch}
+use Rattle.domain_run.specs.declared.task.Task.{Task}
+use Rattle.domain_run.specs.Sound.{IsApart}
+use Rattle.domain_run.specs.Switches.{switches_from}
+use Rattle.domain_run.specs.Tick.{candidates, prepared, sum_of}
+use Rattle.domain_run.specs.private.Choosing.{AreWithin, switch_of}
+use Rattle.domain_run.proofs.Moving.{state_homed, switched, moved_within, none_moved}
+use Rattle.domain_run.proofs.Starting.{sound_may}
+use Rattle.domain_run.proofs.sweep.begin_seated.Goals as goal
+use Rattle.domain_run.proofs.sweep.begin_seated.Goals.{After-choose_seated}
+
+pub choose_seated-requires-clause-wide : goal.choose_seated-requires-clause-wide
+choose_seated-requires-clause-wide c = ap (λ (ps : Places). length ps) c.wake_unheard.ensures.places ∙ c.requires.cpus ∙ sym c.wake_unheard.ensures.cpus
+
+pub choose_seated-requires-clause-apart : goal.choose_seated-requires-clause-apart
+choose_seated-requires-clause-apart c = subst IsApart (sym c.wake_unheard.ensures.places) c.requires.apart
+
+pub choose_seated-requires-clause-cpus : goal.choose_seated-requires-clause-cpus
+choose_seated-requires-clause-cpus c = subst (λ (n : ℕ). (0 < n) × (n ≤ 64)) (sym c.wake_unheard.ensures.cpus) c.requires.narrow
+
+pub choose_seated-requires-clause-within : goal.choose_seated-requires-clause-within
+choose_seated-requires-clause-within c =
+    subst (λ (ts : List Task). sum_of ts ≤ cap c.wake_unheard.new.roster.cpus c.args.limit) (sym c.wake_unheard.ensures.tasks)
+    (subst (λ (n : ℕ). sum_of (prepared c.args.time c.args.roster.now.tasks) ≤ cap n c.args.limit) (sym c.wake_unheard.ensures.cpus) c.requires.within)
+
+pub choose_seated-requires-clause-may : goal.choose_seated-requires-clause-may
+choose_seated-requires-clause-may c = sound_may c.args.time c.wake_unheard.new.roster.tasks c.wake_unheard.ensures.sound
+
+-- the CPUs that another one has, from those before
+moves_are : (c : After-choose_seated) → c.choose_seated.new.self.moves ≡ moved_from 0 c.args.roster.now.places c.choose_seated.new.self.places
+moves_are c = c.choose_seated.ensures.moves ∙ ap (λ (ps : Places). moved_from 0 ps c.choose_seated.new.self.places) c.wake_unheard.ensures.places
+
+pub add_switches-requires-clause-narrow : goal.add_switches-requires-clause-narrow
+add_switches-requires-clause-narrow c =
+    let before = c.args.roster.now.places in
+    let few : length before ≤ 64 = omega (arith, c.requires.cpus, c.requires.narrow.1) in
+    subst (AreWithin 64) (sym (moves_are (goal.at.add_switches-requires-clause-narrow c).After-choose_seated))
+    (λ k d h. let less = moved_within 0 before c.choose_seated.new.self.places k d h in omega (arith, less, few))
+
+pub add_switches-requires-clause-room : goal.add_switches-requires-clause-room
+add_switches-requires-clause-room c =
+    let before = c.args.roster.now.places in
+    let are = moves_are (goal.at.add_switches-requires-clause-room c).After-choose_seated in
+    omega (arith, c.requires.room, ap (λ (ms : List Moved). length ms) are, moved_length 0 before c.choose_seated.new.self.places)
+
+pub returns-clause-places : goal.returns-clause-places
+returns-clause-places c =
+    c.choose_seated.ensures.places
+    ∙ (λ i. placed (length (c.wake_unheard.ensures.places i)) (candidates (c.wake_unheard.ensures.tasks i)) (c.wake_unheard.ensures.places i))
+
+pub returns-clause-switches : goal.returns-clause-switches
+returns-clause-switches c =
+    let before = c.args.roster.now.places in
+    let after = c.choose_seated.new.self.places in
+    let first = c.wake_unheard.new.roster.tasks in
+    let tasks = c.choose_seated.new.self.tasks in
+    let time = c.args.time in
+    let start = c.args.switches.now.items in
+    let are = moves_are (goal.at.returns-clause-switches c).After-choose_seated in
+    c.add_switches.ensures.switches
+    ∙ ap (λ (ss : List Switch). start ++ ss)
+    (ap (λ (ms : List Moved). map (switch_of time tasks after) ms) are
+    ∙ switched time first tasks after (λ o. state_homed after first tasks o c.choose_seated.ensures.tasks) 0 before after (λ i. ap (λ (n : ℕ). get_or after n None) (omega arith))
+    ∙ ap (λ (ts : List Task). switches_from time ts 0 before after) c.wake_unheard.ensures.tasks)
+
+pub returns-clause-none : goal.returns-clause-none
+returns-clause-none c none =
+    let before = c.args.roster.now.places in
+    let after = c.choose_seated.new.self.places in
+    let are = moves_are (goal.at.returns-clause-none c).After-choose_seated in
+    let len : length after ≡ length before = c.choose_seated.ensures.wide ∙ ap (λ (ps : Places). length ps) c.wake_unheard.ensures.places in
+    let test : eqb (length c.moves.result.now) 0 ≡ true = sym c.is_empty-is_same.ensures ∙ negated c.is_empty-is_same.result none in
+    none_moved 0 before after len (sym are ∙ sym c.moves.ensures ∙ empty_is c.moves.result.now (eqb-true (length c.moves.result.now) 0 test))
+  where
+    negated : (b : Bool) → not b ≡ false → b ≡ true
+    negated true e = refl
+    negated false e = absurd cc
+
+    empty_is : (ms : List Moved) → length ms ≡ 0 → ms ≡ []
+    empty_is [] e = refl
+    empty_is (m ∷ ms) e = absurd (omega (arith, e))

@@ -1,0 +1,246 @@
+//! Who starts on a CPU belongs to it and sits there at once, where no log is told.
+
+ghost use Rattle.std.specs.Prelude.{ℕ, ◌≡◌, ◌≢◌, ◌<◌, ◌≤◌, ◌^◌, AllPairs, IfSome, None, Some, map, length, slice_index_or, slice_set, vec_capacity};
+ghost use Rattle.attr_check.specs.Ratio.{cap};
+ghost use Rattle.domain_run.specs.declared.task.Task.{Task};
+ghost use Rattle.domain_run.specs.Domain.{IsLimit};
+ghost use Rattle.domain_run.specs.Sound.{occupant as occupant_in};
+ghost use Rattle.domain_run.specs.Tick.{sum_of};
+ghost use Rattle.domain_run.specs.private.Choosing as spec;
+ghost use Rattle.domain_run.specs.private.Doubts as doubts_spec;
+ghost use Rattle.domain_run.specs.private.Roster.{basis_in, homed_here};
+ghost use Rattle.domain_run.specs.private.Waiting as waiting;
+ghost use Rattle.grub_rules.specs.Accounts.{inactive_at};
+
+use crate::doubts::Doubts;
+use crate::index::Index;
+use crate::roster::choosing::{home_on, occupant_of};
+use crate::roster::seating::{charge_on, rated_at_one, rated_on, seat_for};
+use crate::seats::{Basis, Rating, Seats};
+use crate::task::Task;
+use edf_pick::Schedule;
+use grub_rules::Accounts;
+
+/// Nobody sits on a CPU any more; who did is charged.
+#[inline(never)]
+pub(super) fn vacate_on(tasks: &mut Vec<Task>, seats: &mut Seats, index: &Index, cpu: usize)
+    requires there { cpu < length seats.old.seats }
+    requires numbered { AllPairs (λ a b. a.number ≢ b.number) tasks.old.items }
+    requires waits { waiting.AllWait seats.old.seats tasks.old.items }
+    ensures seats { seats.new ≡ record seats.old { seats = slice_set seats.old.seats cpu None } }
+    ensures tasks { waiting.owed_all seats.new tasks.new.items
+        ≡ waiting.owed_all seats.old tasks.old.items }
+    ensures waits { waiting.AllWait seats.new.seats tasks.new.items }
+    ensures room { vec_capacity tasks.new ≡ vec_capacity tasks.old }
+{
+    let Some(seat) = seats.get(cpu) else {
+        return;
+    };
+    match index.place(tasks, seat.number) {
+        None => seats.set(cpu, None),
+        Some(place) => {
+            charge_on(&mut tasks[place], cpu, seat, seats.upto());
+            seats.set(cpu, None);
+        }
+    }
+}
+
+// As `vacate_on`: mostly nobody sits there.
+#[inline(always)]
+fn leave_free_on(tasks: &mut Vec<Task>, seats: &mut Seats, index: &Index, cpu: usize)
+    requires there { cpu < length seats.old.seats }
+    requires numbered { AllPairs (λ a b. a.number ≢ b.number) tasks.old.items }
+    requires waits { waiting.AllWait seats.old.seats tasks.old.items }
+    ensures seats { seats.new ≡ record seats.old { seats = slice_set seats.old.seats cpu None } }
+    ensures tasks { waiting.owed_all seats.new tasks.new.items
+        ≡ waiting.owed_all seats.old tasks.old.items }
+    ensures waits { waiting.AllWait seats.new.seats tasks.new.items }
+    ensures room { vec_capacity tasks.new ≡ vec_capacity tasks.old }
+{
+    if !seats.is_free(cpu) {
+        vacate_on(tasks, seats, index, cpu);
+    }
+}
+
+// What the rates of the tasks of a CPU depend on now.
+#[inline(always)]
+fn basis_of(accounts: &Accounts, cpu: usize, limit: u64) -> Basis
+    requires there { cpu < length accounts.now.all }
+    ensures { result ≡ record {
+      uinact = inactive_at cpu accounts.now;
+      sum = accounts.now.total;
+      cpus = length accounts.now.all;
+      limit = limit;
+    } }
+{
+    Basis {
+        uinact: accounts.uinact(cpu),
+        sum: accounts.total(),
+        cpus: accounts.cpus() as u64,
+        limit,
+    }
+}
+
+/// The rate of a task that belongs to a CPU, and what it was worked out from.
+#[inline(always)]
+pub(super) fn rating_of(task: &Task, accounts: &Accounts, cpu: usize, limit: u64) -> Rating
+    requires there { cpu < length accounts.now.all }
+    requires cpus { (0 < length accounts.now.all) × (length accounts.now.all ≤ 64) }
+    requires limit { IsLimit limit }
+    requires uinact { inactive_at cpu accounts.now ≤ 2 ^ 26 }
+    requires within { accounts.now.total ≤ cap (length accounts.now.all) limit }
+    ensures some { 0 < result.rate }
+    ensures slow { result.rate ≤ 2 ^ 27 }
+    ensures basis { IfSome result.basis (λ b. b ≡ record {
+      uinact = inactive_at cpu accounts.now;
+      sum = accounts.now.total;
+      cpus = length accounts.now.all;
+      limit = limit;
+    }) }
+    ensures rated { waiting.IsRatedBy result.basis result.rate task.now }
+{
+    if !task.params.reclaim {
+        return rated_at_one(task);
+    }
+    rated_on(task, basis_of(accounts, cpu, limit))
+}
+
+/// The task at a place, which belongs to a CPU on which nobody sits, sits there at its rate.
+#[inline(always)]
+pub(super) fn sit_at(
+    tasks: &[Task],
+    accounts: &Accounts,
+    seats: &mut Seats,
+    doubts: &mut Doubts,
+    place: usize,
+    cpu: usize,
+    limit: u64,
+)
+    requires there { cpu < length accounts.now.all }
+    requires wide { length seats.old.seats ≡ length accounts.now.all }
+    requires cpus { (0 < length accounts.now.all) × (length accounts.now.all ≤ 64) }
+    requires limit { IsLimit limit }
+    requires counts { spec.AreCounted accounts.now seats.old tasks.now }
+    requires within { sum_of (waiting.owed_all seats.old tasks.now)
+        ≤ cap (length accounts.now.all) limit }
+    requires free { slice_index_or seats.old.seats cpu None ≡ None }
+    requires at { place < length tasks.now }
+    requires home { (d : Task)
+        → (slice_index_or (waiting.owed_all seats.old tasks.now) place d).cpu ≡ cpu }
+    requires may { (d : Task)
+        → waiting.MaySit (slice_index_or (waiting.owed_all seats.old tasks.now) place d) }
+    ensures clock { seats.new.upto ≡ seats.old.upto }
+    ensures wide { length seats.new.seats ≡ length seats.old.seats }
+    ensures others { (d : ℕ) → d ≢ cpu
+        → slice_index_or seats.new.seats d None ≡ slice_index_or seats.old.seats d None }
+    ensures tasks { waiting.owed_all seats.new tasks.now ≡ waiting.owed_all seats.old tasks.now }
+    ensures waits { waiting.AllWait seats.new.seats tasks.now }
+    ensures sits { (d : Task) → doubts_spec.IsSettled
+        (Some (slice_index_or (waiting.owed_all seats.old tasks.now) place d).number)
+        (basis_in (length accounts.now.all) limit (waiting.owed_all seats.old tasks.now) cpu)
+        (slice_index_or seats.new.seats cpu None) }
+    ensures here { (d : Task) → doubts_spec.IsTrusted doubts.new (length accounts.now.all)
+        (Some (slice_index_or (waiting.owed_all seats.old tasks.now) place d).number)
+        seats.new.seats (waiting.owed_all seats.old tasks.now) cpu }
+    ensures trust { doubts_spec.KeepsTrust (length accounts.now.all) cpu doubts.old seats.old.seats
+        (waiting.owed_all seats.old tasks.now) doubts.new seats.new.seats
+        (waiting.owed_all seats.old tasks.now) }
+    ensures sum { doubts.new.sum ≡ doubts.old.sum }
+    ensures limit { doubts.new.limit ≡ doubts.old.limit }
+{
+    let task = &tasks[place];
+    let rating = rating_of(task, accounts, cpu, limit);
+    let is_rated = rating.basis.is_some();
+    let seat = seat_for(task, seats.upto(), rating);
+    seats.sit_down(cpu, seat);
+    doubts.clear_for(cpu, is_rated, accounts.total(), limit);
+}
+
+/// Who stands on a CPU that another one had, if anyone does, belongs to it and sits there at its
+/// rate, and nobody else does.
+#[inline(always)]
+fn seat_next(
+    tasks: &mut Vec<Task>,
+    accounts: &mut Accounts,
+    seats: &mut Seats,
+    index: &Index,
+    occupant: Option<u32>,
+    cpu: usize,
+    doubts: &mut Doubts,
+    limit: u64,
+)
+    requires there { cpu < length accounts.old.all }
+    requires wide { length seats.old.seats ≡ length accounts.old.all }
+    requires cpus { (0 < length accounts.old.all) × (length accounts.old.all ≤ 64) }
+    requires limit { IsLimit limit }
+    requires counts { spec.AreCounted accounts.old seats.old tasks.old.items }
+    requires within { sum_of (waiting.owed_all seats.old tasks.old.items)
+        ≤ cap (length accounts.old.all) limit }
+    requires may { IfSome occupant
+        (waiting.MaySitOf (waiting.owed_all seats.old tasks.old.items)) }
+    ensures wide { length accounts.new.all ≡ length accounts.old.all }
+    ensures counts { spec.AreCounted accounts.new seats.new tasks.new.items }
+    ensures tasks { waiting.owed_all seats.new tasks.new.items
+        ≡ map (homed_here occupant cpu) (waiting.owed_all seats.old tasks.old.items) }
+    ensures clock { seats.new.upto ≡ seats.old.upto }
+    ensures seats { length seats.new.seats ≡ length seats.old.seats }
+    ensures here { doubts_spec.IsTrusted doubts.new (length accounts.old.all) occupant seats.new.seats
+        (waiting.owed_all seats.new tasks.new.items) cpu }
+    ensures trust { doubts_spec.KeepsTrust (length accounts.old.all) cpu doubts.old seats.old.seats
+        (waiting.owed_all seats.old tasks.old.items) doubts.new seats.new.seats
+        (waiting.owed_all seats.new tasks.new.items) }
+    ensures room { vec_capacity tasks.new ≡ vec_capacity tasks.old }
+{
+    let place = home_on(tasks, accounts, seats, index, occupant, cpu, doubts);
+    leave_free_on(tasks, seats, index, cpu);
+    if occupant.is_none() {
+        doubts.clear(cpu, false);
+        return;
+    }
+    if let Some(place) = place {
+        sit_at(tasks, accounts, seats, doubts, place, cpu, limit);
+    }
+}
+
+/// Each task to which the last choice gave a CPU belongs to it and sits there at its rate.
+#[inline(always)]
+pub(super) fn seat_moved(
+    tasks: &mut Vec<Task>,
+    accounts: &mut Accounts,
+    seats: &mut Seats,
+    index: &Index,
+    schedule: &Schedule,
+    doubts: &mut Doubts,
+    limit: u64,
+)
+    requires there { spec.AreWithin (length accounts.old.all) schedule.now.moves }
+    requires wide { length seats.old.seats ≡ length accounts.old.all }
+    requires cpus { (0 < length accounts.old.all) × (length accounts.old.all ≤ 64) }
+    requires limit { IsLimit limit }
+    requires counts { spec.AreCounted accounts.old seats.old tasks.old.items }
+    requires within { sum_of (waiting.owed_all seats.old tasks.old.items)
+        ≤ cap (length accounts.old.all) limit }
+    requires may { (cpu : ℕ) → IfSome (occupant_in schedule.now.places cpu)
+        (waiting.MaySitOf (waiting.owed_all seats.old tasks.old.items)) }
+    requires settled { doubts_spec.AreSettledBut schedule.now.moves doubts.old
+        (length accounts.old.all) schedule.now.places seats.old.seats
+        (waiting.owed_all seats.old tasks.old.items) }
+    ensures wide { length accounts.new.all ≡ length accounts.old.all }
+    ensures counts { spec.AreCounted accounts.new seats.new tasks.new.items }
+    ensures tasks { waiting.owed_all seats.new tasks.new.items
+        ≡ map (spec.homed_by schedule.now.places schedule.now.moves)
+        (waiting.owed_all seats.old tasks.old.items) }
+    ensures clock { seats.new.upto ≡ seats.old.upto }
+    ensures seats { length seats.new.seats ≡ length seats.old.seats }
+    ensures settled { doubts_spec.AreSettled doubts.new (length accounts.old.all)
+        schedule.now.places seats.new.seats (waiting.owed_all seats.new tasks.new.items) }
+    ensures room { vec_capacity tasks.new ≡ vec_capacity tasks.old }
+{
+    let places = schedule.occupants();
+    let moves = schedule.moves();
+    for i in 0..moves.len() {
+        let cpu = moves[i].cpu;
+        let occupant = occupant_of(places, cpu);
+        seat_next(tasks, accounts, seats, index, occupant, cpu, doubts, limit);
+    }
+}
