@@ -15,6 +15,7 @@ while True:
                 if not ("rattle" in comm or "rattle" in words[0] or comm in ("ld.lld","llc","opt","clang","rt","python3")):
                     continue
                 cwd = os.readlink(f"/proc/{pid}/cwd")
+                if "tryroom" in cwd or "rscratch" in cwd or ("/work/wt/" in cwd and "/work/wt/gate" not in cwd): continue
                 name = words[words.index("--crate-name")+1] if "--crate-name" in words else comm
                 kind = "edits" if "rt-edit" in cwd else ("tests" if "--test" in words or any("tests" in w and w.startswith("out/") for w in words) else "proof")
                 what[key] = (name, kind, cwd)

@@ -1,0 +1,77 @@
+#[allow(unused_imports)] use crate::rat::Vec;
+
+use super::State;
+use crate::domain_run::running::are_still_listed;
+use crate::domain_run::{sweep, to_event};
+use crate::no_memory::NoMemory;
+
+impl State {
+    /// Ends the tick that has begun, and as many ticks in all as pass before the next event, and at
+    /// most so many, which are at most [`State::quiet`]. The domain is then as after so many single
+    /// ticks from where it was before [`State::begin`].
+    fn run(&mut self, most: u64) -> u64
+    {
+        let ticks = to_event::leap(&mut self.roster, self.limit, most, self.time);
+        self.time += ticks - 1;
+        ticks
+    }
+
+    /// Begins a tick in the room that is there, of which no log is told: whether there was any for a
+    /// switch of each CPU beside those so far. Where there is none, nothing has changed. There is where
+    /// no switch waits. Who starts on a CPU sits there at once, and who stands on the CPUs is not listed
+    /// where that has changed. Takes no memory.
+    #[inline(always)]
+    fn begin_seated(&mut self) -> bool
+    {
+        if self.switches.capacity() - self.switches.len() < self.cpus {
+            return false;
+        }
+        let changed = sweep::begin_seated(
+            self.time,
+            self.limit,
+            &mut self.roster,
+            &mut self.switches,
+        );
+        self.is_listed = are_still_listed(self.is_listed, changed);
+        self.time += 1;
+        true
+    }
+
+    /// As `begin_seated`, where room for the switches is made first: on `Err` nothing has changed.
+    #[inline(always)]
+    fn begin_seated_anew(&mut self) -> Result<(), NoMemory>
+    {
+        self.switches.try_reserve(self.cpus)?;
+        if self.begin_seated() {
+            Ok(())
+        } else {
+            // Never: the room is there.
+            Err(NoMemory)
+        }
+    }
+
+    /// As [`State::leap`], in the room that is there. Where there is none for a switch of each CPU
+    /// beside those so far, nothing has changed: it answers 0 then. There is where no switch waits.
+    /// Takes no memory.
+    pub(crate) fn leap_in_room(&mut self, most: u64) -> u64
+    {
+        if !self.begin_seated() {
+            return 0;
+        }
+        let most = most.min(self.quiet());
+        self.run(most)
+    }
+
+    /// Goes on to the next event, by at most so many ticks, and answers how many they were: the
+    /// state and its switches are exactly those of so many single ticks. A running task is charged
+    /// only once its work or its budget ends, or its rate changes; what callers see is as if it were
+    /// charged in each tick. Tasks that have left may go off the list; nobody comes, and the others
+    /// keep number, bandwidth and order. Room for the switches is made first: on `Err` nothing has
+    /// changed.
+    pub fn leap(&mut self, most: u64) -> Result<u64, NoMemory>
+    {
+        self.begin_seated_anew()?;
+        let most = most.min(self.quiet());
+        Ok(self.run(most))
+    }
+}

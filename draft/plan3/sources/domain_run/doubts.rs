@@ -1,0 +1,135 @@
+#[allow(unused_imports)] use crate::rat::Vec;
+
+use crate::edf_pick::marks::{both, with, without};
+
+/// Which CPUs are in doubt: who stands there may not sit there rightly. The others are right for a sum
+/// of bandwidth and a limit, which are noted.
+#[derive(Clone, Copy, Debug, PartialEq, Eq)]
+pub(crate) struct Doubts {
+    /// A word with a mark for each CPU that is in doubt.
+    pub(crate) cpus: u64,
+    /// A word with a mark for each other CPU whose seat keeps what its rate was worked out from. On
+    /// those without a mark the rate is right for each sum and limit.
+    pub(crate) rated: u64,
+    /// The bandwidth of all listed tasks, in 1/2^20 of a CPU.
+    pub(crate) sum: u64,
+    /// In 1/2^20 of a CPU.
+    pub(crate) limit: u64,
+}
+
+/// The first place with a mark; 64 where there is none.
+#[inline(always)]
+pub(crate) fn first_marked(marks: u64) -> usize
+{
+    if marks == 0 {
+        return 64;
+    }
+    crate::edf_pick::marks::first(marks)
+}
+
+impl Doubts {
+    /// Each CPU is in doubt.
+    pub(crate) fn all() -> Doubts
+    {
+        Doubts {
+            cpus: u64::MAX,
+            rated: 0,
+            sum: 0,
+            limit: 0,
+        }
+    }
+
+    /// Each CPU whose seat keeps what its rate was worked out from is in doubt again.
+    pub(crate) fn mark_rated(&mut self)
+    {
+        self.cpus = both(self.cpus, self.rated);
+    }
+
+    /// A CPU is in doubt; one that no domain has is not marked.
+    #[inline(always)]
+    pub(crate) fn mark(&mut self, cpu: usize)
+    {
+        if cpu < 64 {
+            self.cpus = with(self.cpus, cpu);
+        }
+    }
+
+    /// As `mark`, of a CPU whose seat stays while its inactive bandwidth may be another: it is in doubt
+    /// only where the seat keeps what its rate was worked out from.
+    #[inline(always)]
+    pub(crate) fn mark_where_rated(&mut self, cpu: usize)
+    {
+        if cpu >= 64 {
+            return;
+        }
+        if without(self.rated, cpu) != self.rated {
+            self.mark(cpu);
+        }
+    }
+
+    /// A task has left a CPU, or has changed there, and sat on it or did not: where it did the CPU is in
+    /// doubt, and else only where its seat keeps what its rate was worked out from.
+    #[inline(always)]
+    pub(crate) fn mark_left(&mut self, cpu: usize, sat: bool)
+    {
+        if sat {
+            self.mark(cpu);
+        } else {
+            self.mark_where_rated(cpu);
+        }
+    }
+
+    /// A CPU is in doubt no more. Its seat may keep what its rate was worked out from, or does not.
+    #[inline(always)]
+    pub(crate) fn clear(&mut self, cpu: usize, is_rated: bool)
+    {
+        self.cpus = without(self.cpus, cpu);
+        self.rated = if is_rated {
+            with(self.rated, cpu)
+        } else {
+            without(self.rated, cpu)
+        };
+    }
+
+    /// Whether this sum and this limit are noted.
+    #[inline(always)]
+    pub(crate) fn is_for(&self, sum: u64, limit: u64) -> bool
+    {
+        self.sum == sum && self.limit == limit
+    }
+
+    /// Whether a seat that is right for a sum and a limit may be trusted: it keeps nothing of what its
+    /// rate was worked out from, or they are noted.
+    #[inline(always)]
+    pub(crate) fn may_trust(&self, is_rated: bool, sum: u64, limit: u64) -> bool
+    {
+        if !is_rated {
+            return true;
+        }
+        self.is_for(sum, limit)
+    }
+
+    /// A CPU whose seat was made just now, for a sum and a limit, is in doubt only where the seat keeps
+    /// what its rate was worked out from, and others are noted.
+    #[inline(always)]
+    pub(crate) fn clear_for(&mut self, cpu: usize, is_rated: bool, sum: u64, limit: u64)
+    {
+        if self.may_trust(is_rated, sum, limit) {
+            self.clear(cpu, is_rated);
+        } else {
+            self.mark(cpu);
+        }
+    }
+
+    /// Another sum or another limit is noted: then each CPU whose seat keeps what its rate was worked
+    /// out from is in doubt.
+    #[inline(always)]
+    pub(crate) fn renew(&mut self, sum: u64, limit: u64)
+    {
+        if !self.is_for(sum, limit) {
+            self.mark_rated();
+            self.sum = sum;
+            self.limit = limit;
+        }
+    }
+}

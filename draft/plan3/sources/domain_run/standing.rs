@@ -1,0 +1,77 @@
+#[allow(unused_imports)] use crate::rat::Vec;
+
+use crate::domain_run::task::{Condition, Task};
+use crate::domain_run::timers::NEVER;
+use crate::grub_rules::Share;
+
+/// A task as the sums see it, as the choice does where it is ready, and when it is due.
+#[derive(Clone, Copy, Debug, PartialEq, Eq)]
+pub(crate) struct Standing {
+    pub(crate) bw: u64,
+    pub(crate) active: bool,
+    /// The deadline by which it is chosen, where it is ready.
+    pub(crate) ready: Option<u64>,
+    /// The first time at which something is to be done to it before the choice, in microseconds.
+    pub(crate) due: u64,
+}
+
+/// Whether a task's bandwidth is active: it contends, or has a zero-lag time ahead.
+#[inline(always)]
+fn is_active(task: &Task) -> bool
+{
+    task.condition.is_contending() || task.zero_lag.is_some()
+}
+
+/// A task as the sums see it.
+pub(crate) fn share_of(task: &Task) -> Share
+{
+    Share {
+        cpu: task.cpu,
+        bw: task.params.bw,
+        active: is_active(task),
+    }
+}
+
+#[inline(always)]
+fn moment_of(moment: Option<u64>) -> u64
+{
+    match moment {
+        None => NEVER,
+        Some(moment) => moment,
+    }
+}
+
+/// The first time at which something is to be done to a task before the choice.
+#[inline(always)]
+pub(crate) fn due_of(task: &Task) -> u64
+{
+    let settled = moment_of(task.zero_lag);
+    match task.condition {
+        Condition::Ready | Condition::Waiting => settled,
+        Condition::Throttled => moment_of(task.server.deadline).min(settled),
+        Condition::Blocked(until) => until.min(settled),
+        Condition::Leaving => task.zero_lag.unwrap_or(0),
+    }
+}
+
+#[inline(always)]
+fn ready_at(task: &Task) -> Option<u64>
+{
+    match task.condition {
+        Condition::Ready => Some(task.server.deadline.unwrap_or(0)),
+        _ => None,
+    }
+}
+
+/// How a task stands now.
+#[inline(always)]
+pub(crate) fn standing_of(task: &Task) -> Standing
+{
+    let bw = task.params.bw;
+    Standing {
+        bw,
+        active: is_active(task),
+        ready: ready_at(task),
+        due: due_of(task),
+    }
+}

@@ -1,0 +1,152 @@
+#[allow(unused_imports)] use crate::rat::Vec;
+
+use crate::grub_rules::share::Share;
+use crate::rat::{AllocError, Global};
+
+/// The running sums of a domain (sched-deadline.rst, "Bandwidth reclaiming"): for each CPU the
+/// bandwidth of the tasks that belong to it, this_bw, and of those of them that are active,
+/// running_bw, in 1/2^20 of a CPU.
+///
+/// Each call tells it of one change of the list of tasks. So, of every list that the sums count, in
+/// whatever order, they count the list with that change afterwards. Sums with room for more or
+/// fewer than the CPUs cannot be built.
+#[derive(Debug)]
+pub struct Accounts {
+    all: Vec<u64>,
+    active: Vec<u64>,
+    total: u64,
+}
+
+// A sum of 0 for each CPU, with room for no more.
+fn zeros(alloc: Global, cpus: usize) -> Result<Vec<u64>, AllocError>
+{
+    let mut sums = Vec::with_capacity(alloc, cpus)?;
+    for _ in 0..cpus {
+        sums.push_reserved(0);
+    }
+    Ok(sums)
+}
+
+// Adds bandwidth to the sum of a CPU.
+fn add(sums: &mut Vec<u64>, cpu: usize, bw: u64)
+{
+    sums[cpu] += bw;
+}
+
+// Takes bandwidth from the sum of a CPU.
+fn subtract(sums: &mut Vec<u64>, cpu: usize, bw: u64)
+{
+    sums[cpu] -= bw;
+}
+
+impl Accounts {
+    /// The sums of no tasks, for so many CPUs; a domain has 1 to 64. The only call that takes
+    /// memory; `Err` where a growth was refused.
+    pub fn open(alloc: Global, cpus: usize) -> Result<Accounts, AllocError>
+    {
+        Ok(Accounts {
+            all: zeros(alloc, cpus)?,
+            active: zeros(alloc, cpus)?,
+            total: 0,
+        })
+    }
+
+    /// The number of CPUs.
+    pub fn cpus(&self) -> usize
+    {
+        self.all.len()
+    }
+
+    /// Whether a share may go: it belongs to a CPU of the domain, which has so much bandwidth of
+    /// its kind, active or not.
+    pub fn holds(&self, share: &Share) -> bool
+    {
+        if share.cpu >= self.cpus() {
+            return false;
+        }
+        if share.active {
+            share.bw <= self.active[share.cpu]
+        } else {
+            share.bw <= self.uinact(share.cpu)
+        }
+    }
+
+    /// A task goes on the list. The bandwidth of all tasks stays below 2^64, which 256 tasks of at
+    /// most 2^20 each never reach.
+    pub fn join(&mut self, share: &Share)
+    {
+        add(&mut self.all, share.cpu, share.bw);
+        if share.active {
+            add(&mut self.active, share.cpu, share.bw);
+        }
+        self.total += share.bw;
+    }
+
+    /// A task goes off the list, active or not as it is.
+    pub fn part(&mut self, share: &Share)
+    {
+        subtract(&mut self.all, share.cpu, share.bw);
+        if share.active {
+            subtract(&mut self.active, share.cpu, share.bw);
+        }
+        self.total -= share.bw;
+    }
+
+    /// A listed task of this CPU and bandwidth, inactive until now, becomes active: it contends.
+    pub fn wake(&mut self, cpu: usize, bw: u64)
+    {
+        add(&mut self.active, cpu, bw);
+    }
+
+    /// A listed task of this CPU and bandwidth, active until now, becomes inactive: it does not
+    /// contend, and its zero-lag time has come.
+    pub fn idle(&mut self, cpu: usize, bw: u64)
+    {
+        subtract(&mut self.active, cpu, bw);
+    }
+
+    /// A listed task, active or not, belongs to the CPU `to` from now on, and its bandwidth goes
+    /// with it.
+    pub fn shift(&mut self, share: &Share, to: usize)
+    {
+        subtract(&mut self.all, share.cpu, share.bw);
+        add(&mut self.all, to, share.bw);
+        if share.active {
+            subtract(&mut self.active, share.cpu, share.bw);
+            add(&mut self.active, to, share.bw);
+        }
+    }
+
+    /// The share of a listed task was `before` and is `after` now: its CPU, its bandwidth and
+    /// whether it is active may all have changed, or nothing.
+    pub fn track(&mut self, before: &Share, after: &Share)
+    {
+        if before == after {
+            return;
+        }
+        if before.bw == after.bw && before.active == after.active {
+            self.shift(before, after.cpu);
+        } else if before.bw == after.bw && before.cpu == after.cpu {
+            if after.active {
+                self.wake(after.cpu, after.bw);
+            } else {
+                self.idle(after.cpu, after.bw);
+            }
+        } else {
+            self.part(before);
+            self.join(after);
+        }
+    }
+
+    /// The bandwidth of the inactive tasks of a CPU, Uinact: this_bw less running_bw.
+    pub fn uinact(&self, cpu: usize) -> u64
+    {
+        self.all[cpu] - self.active[cpu]
+    }
+
+    /// The bandwidth of all listed tasks of the domain.
+    pub fn total(&self) -> u64
+    {
+        self.total
+    }
+}
