@@ -16,6 +16,7 @@
 #![tactic(auto)]
 
 mod book;
+mod calls_reader;
 mod cut;
 mod fault;
 mod header;
@@ -31,6 +32,7 @@ pub use book::{
     Admit, AdvanceError, Closed, Domain, EndingBook, Full, HeardAdvance, Limit, Move, MoveFault,
     Pass, Prepared, move_task, prepare,
 };
+pub use calls_reader::CallsReader;
 pub use domain_run::{Call, NoMemory, Reply};
 pub use fault::CallsFault;
 pub use reading::read_calls;

@@ -7,6 +7,7 @@ mod Ready
 mod Pieces
 mod Played
 mod Written
+mod ReadRuns
 mod Charts
 mod Texts
 mod Figured
