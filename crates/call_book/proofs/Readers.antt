@@ -8,11 +8,13 @@ use Rattle.call_book.specs.declared.calls_reader.CallsReader.{CallsReader}
 use Rattle.call_book.specs.declared.section.Entry.{Entry}
 use Rattle.call_book.specs.SectionView.{SectionView}
 use Rattle.call_book.specs.Spelling.{entry_line, section_lines, is_later, some_later, has_later, spelling}
-use Rattle.call_book.specs.Limits.{AreRead}
+use Rattle.call_book.specs.Limits.{IsSection, AreRead}
 use Rattle.call_book.specs.BadLine.{IsBadLine}
 use Rattle.call_book.specs.Reader.{IsBehind, IsWithin, IsNextDomain, IsNextEntry}
 use Rattle.call_book.specs.private.Reading.{cut_at, AreEntries, AreSectionsOf, IsFirstSection, LacksEntry, LacksDomain, bad_place, is_whole, last_full}
 use Rattle.call_book.proofs.Cuts.{cut_takes}
+use Rattle.call_book.proofs.Lines.{domain_takes}
+use Rattle.call_book.proofs.Sections.{is_section}
 use Rattle.call_book.proofs.Stops.{sections_found, sections_stop}
 use Rattle.call_book.proofs.SectionSteps.{first_section, section_more, count_more}
 
@@ -101,6 +103,12 @@ behind_from text before s r w stops =
       lines = omega (arith, w.lines, count_more before s, length-map s.entries entry_line);
       full = ap (λ (n : ℕ). eqb n 65536) w.calls ∙ sym (last_full_more before s);
     }
+
+-- the section that is being read
+pub section_within : (text : List ℕ) (before : List SectionView) (s : SectionView) (r : CallsReader) → IsWithin text before s r → IsSection s
+section_within text before s r w =
+    let t = domain_takes w.line (s.cpus, s.limit) w.domain in
+    is_section s (record { some = t.some; most = t.few; low = t.low; high = t.high; few = omega (arith, r.few, w.calls); each = w.entries.each; numbered = w.entries.numbered })
 
 -- where no entry came
 pub behind_none : (text : List ℕ) (before : List SectionView) (s : SectionView) (r : CallsReader) (found : Option Entry) → found ≡ None → IsNextEntry text before s r (Ok found) → IsBehind text (before ++ s ∷ []) r

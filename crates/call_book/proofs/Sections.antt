@@ -19,7 +19,7 @@ use Rattle.call_book.proofs.Fronts.{same_lines, sections_lines}
 
 -- ---- sections that are read
 
-is_section : (s : SectionView) → IsSectionRead s → IsSection s
+pub is_section : (s : SectionView) → IsSectionRead s → IsSection s
 is_section s is = record {
   some_cpus = is.some;
   most_cpus = is.most;

@@ -135,7 +135,7 @@ impl<'t> CallsReader<'t> {
         if self.sections == MOST_SECTIONS {
             return self.end();
         }
-        let Some((line, after)) = cut_line(self.rest) else {
+        let Some((line, entries)) = cut_line(self.rest) else {
             return self.end();
         };
         match domain_of(line) {
@@ -144,7 +144,7 @@ impl<'t> CallsReader<'t> {
                 self.lines += 1;
                 self.calls = 0;
                 self.made = [0; 64];
-                self.rest = after;
+                self.rest = entries;
                 Ok(Some((cpus as u32, limit)))
             }
             Err(PartFault::Bad) => self.end(),

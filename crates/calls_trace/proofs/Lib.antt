@@ -10,6 +10,7 @@ mod Written
 mod ReadRuns
 mod Charts
 mod Texts
+mod Replayed
 mod Figured
 mod Recorded
 pub mod CallerLemmas

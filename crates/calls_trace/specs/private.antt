@@ -5,3 +5,4 @@ pub mod Counting
 pub mod Calls
 pub mod Playing
 pub mod ReadRuns
+pub mod Replayed

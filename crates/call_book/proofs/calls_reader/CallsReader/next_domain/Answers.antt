@@ -13,19 +13,19 @@ pub returns-in_default-clause-next : goal.returns-in_default-clause-next
 returns-in_default-clause-next c = λ text done b. c.end-in_default.ensures.next text done b (λ few. domain_unfinished c.args.self.now.rest.now (sym c.in_default.ensures))
 
 pub returns-in-Err-Bad-clause-next : goal.returns-in-Err-Bad-clause-next
-returns-in-Err-Bad-clause-next c = λ text done b. c.end-in-Err-Bad.ensures.next text done b (λ few. no_section c.args.self.now.rest.now c.in-Some.line.now c.in-Some.after.now Bad (sym c.in-Some.ensures) (rw c.in-Err-Bad.field-0-is at c.in-Err-Bad.ensures.gives))
+returns-in-Err-Bad-clause-next c = λ text done b. c.end-in-Err-Bad.ensures.next text done b (λ few. no_section c.args.self.now.rest.now c.in-Some.line.now c.in-Some.entries.now Bad (sym c.in-Some.ensures) (rw c.in-Err-Bad.field-0-is at c.in-Err-Bad.ensures.gives))
 
 pub returns-in-Ok-clause-next : goal.returns-in-Ok-clause-next
 returns-in-Ok-clause-next c = λ text done b. record {
   body = b.body;
   from = c.args.self.now.rest.now;
   line = c.in-Some.line.now;
-  after = c.in-Some.after.now;
+  after = c.in-Some.entries.now;
   header = b.header;
   so_far = b.so_far;
   cut = sym c.in-Some.ensures;
   domain = c.in-Ok.ensures.gives;
-  entries = starts c.args.self.now.later c.in-Some.after.now;
+  entries = starts c.args.self.now.later c.in-Some.entries.now;
   found = b.found ∙ none_yet _;
   count = ap (λ n. n + 1) b.count;
   lines = ap (λ n. n + 1) b.lines;
@@ -35,7 +35,7 @@ returns-in-Ok-clause-next c = λ text done b. record {
 }
 
 pub returns-in-Ok-clause-less : goal.returns-in-Ok-clause-less
-returns-in-Ok-clause-less c = cut_less c.args.self.now.rest.now c.in-Some.line.now c.in-Some.after.now (sym c.in-Some.ensures)
+returns-in-Ok-clause-less c = cut_less c.args.self.now.rest.now c.in-Some.line.now c.in-Some.entries.now (sym c.in-Some.ensures)
 
 pub invariant_of-self-clause-fewer : goal.invariant_of-self-clause-fewer
 invariant_of-self-clause-fewer c = none_made
