@@ -8,6 +8,7 @@ mod Pieces
 mod Played
 mod Written
 mod ReadRuns
+mod ReadPlaced
 mod Charts
 mod Texts
 mod Replayed

@@ -1,9 +1,6 @@
 -- The calls of a section, from its first entry on, and its run so far.
 use Rattle.std.proofs.Common.{◌≡◌, ℕ, ◌+◌, ◌*◌, ◌≤◌, Bool, true, false, cond, List, [], ◌∷◌, ◌++◌, length, map, refl, sym, ap, subst, ◌∙◌, append_assoc, append-nil, arith, length-append}
-use Rattle.std.specs.Prelude.{All, IsTrue, sum_by}
 use Rattle.std.proofs.lemmas.List.{map-append}
-use Rattle.std.proofs.lemmas.List.Sums.{sum_by_push}
-use Rattle.std.proofs.lemmas.List.Elements.{All-push}
 use Rattle.attr_check.specs.ParamsView.{ParamsView}
 use Rattle.domain_run.specs.declared.call.Call.{Call}
 use Rattle.domain_run.specs.declared.happened.Happened.{Happened}
@@ -16,11 +13,9 @@ use Rattle.call_book.specs.declared.section.Entry.{Entry}
 use Rattle.call_book.specs.SectionView.{SectionView}
 use Rattle.call_book.specs.Reader.{with_entries}
 use Rattle.switch_text.specs.Names.{Names, named}
-use Rattle.calls_trace.specs.declared.placed_run.PlacedRun.{PlacedRun}
 use Rattle.calls_trace.specs.Replay.{calls_of, names_of, names_after, no_names}
 use Rattle.calls_trace.specs.Told.{domain_of, told_of, params_of, params_after, no_params}
-use Rattle.calls_trace.specs.private.Replaying.{AreNamed, Gives, Given, GivesParams, given_in, heard, IsRunOf, IsToldOf, PlacedView, view_of, view_at, views_from}
-use Rattle.calls_trace.proofs.Written.{view_is}
+use Rattle.calls_trace.specs.private.Replaying.{AreNamed, Gives, Given, GivesParams, given_in, heard, IsRunOf, IsToldOf}
 
 -- ---- one call more
 
@@ -91,22 +86,6 @@ told_more wanted s e d was given before after run told gives tells =
     }
 
 -- no call yet
-pub none_told : (w : Bool) → [] ≡ cond w [] []
+pub none_told : (w : Bool) → ◌≡◌ {A = List Happened} [] (cond w [] [])
 none_told true = refl
 none_told false = refl
-
--- ---- one run more
-
-views_push : (wanted : Bool) (base : ℕ) (done : List SectionView) (s : SectionView) → views_from wanted base (done ++ s ∷ []) ≡ views_from wanted base done ++ view_at wanted (base + sum_by (λ (t : SectionView). t.cpus) done) s ∷ []
-views_push wanted base [] s = ap (λ (b : ℕ). view_at wanted b s ∷ []) (omega arith)
-views_push wanted base (t ∷ done) s =
-    ap (λ (vs : List PlacedView). view_at wanted base t ∷ vs)
-    (views_push wanted (base + t.cpus) done s ∙ ap (λ (b : ℕ). views_from wanted (base + t.cpus) done ++ view_at wanted b s ∷ []) (omega arith))
-
-pub views_one_more : (wanted : Bool) (runs : List PlacedRun) (r : PlacedRun) (done : List SectionView) (s : SectionView) → r.base ≡ sum_by (λ (t : SectionView). t.cpus) done → IsRunOf s r.run.state r.run.names → IsToldOf wanted s r.run.given r.run.log
-    → map view_of runs ≡ views_from wanted 0 done → map view_of (runs ++ r ∷ []) ≡ views_from wanted 0 (done ++ s ∷ [])
-views_one_more wanted runs r done s base run told so_far =
-    map-append view_of runs (r ∷ [])
-    ∙ ap (λ (vs : List PlacedView). vs ++ view_of r ∷ []) so_far
-    ∙ ap (λ (v : PlacedView). views_from wanted 0 done ++ v ∷ []) (view_is wanted r s run told ∙ ap (λ (b : ℕ). view_at wanted b s) base)
-    ∙ sym (views_push wanted 0 done s)

@@ -5,7 +5,7 @@ use Rattle.call_book.proofs.Readers.{whole_none}
 use Rattle.calls_trace.specs.private.Replaying.{IsPlaced}
 use Rattle.calls_trace.specs.declared.placed_run.PlacedRun.{PlacedRun}
 use Rattle.calls_trace.proofs.Written.{placed_is}
-use Rattle.calls_trace.proofs.ReadRuns.{views_one_more}
+use Rattle.calls_trace.proofs.ReadPlaced.{views_one_more}
 use Rattle.calls_trace.proofs.read_runs.runs_of_text.Goals as goal
 
 pub loop-runs-init : goal.loop-runs-init
