@@ -46,7 +46,7 @@ run_more s e d is was names run made gives all_named =
     let calls = calls_of s in
     let before : named was ≡ names_of start calls no_names = λ i n. run.called n i in
     let all : names_after (after_calls start calls) e.call (names_of start calls no_names) ≡ names_of start (calls_of (with_entries s (e ∷ []))) no_names =
-        sym (names_push start calls e.call no_names) ∙ ap (λ (cs : List Call). names_of start cs no_names) (sym (calls_push s e)) in
+    sym (names_push start calls e.call no_names) ∙ ap (λ (cs : List Call). names_of start cs no_names) (sym (calls_push s e)) in
     record {
       domain = made ∙ ap (λ (x : Domain). after_call x e.call) run.domain ∙ sym (after_push start calls e.call) ∙ ap (after_calls start) (sym (calls_push s e));
       called = λ n. gives n ∙ ap (λ (x : Domain). names_after x e.call (named was) n) run.domain ∙ ap (λ (f : ℕ → List ℕ). names_after (after_calls start calls) e.call f n) before ∙ ap (λ (f : ℕ → List ℕ). f n) all;
@@ -70,9 +70,9 @@ told_more wanted s e d was given before after run told gives tells =
     let call_told = told_by_call d e.call in
     let params : given_in was ≡ params_of start calls no_params = λ i n. told.params n i in
     let all : params_after (after_calls start calls) e.call (params_of start calls no_params) ≡ params_of start (calls_of (with_entries s (e ∷ []))) no_params =
-        sym (params_push start calls e.call no_params) ∙ ap (λ (cs : List Call). params_of start cs no_params) (sym (calls_push s e)) in
+    sym (params_push start calls e.call no_params) ∙ ap (λ (cs : List Call). params_of start cs no_params) (sym (calls_push s e)) in
     let told_all : told_of s ++ call_told ≡ told_of (with_entries s (e ∷ [])) =
-        ap (λ (x : Domain). told_of s ++ told_by_call x e.call) run ∙ sym (told_push start calls e.call) ∙ ap (told_by_calls start) (sym (calls_push s e)) in
+    ap (λ (x : Domain). told_of s ++ told_by_call x e.call) run ∙ sym (told_push start calls e.call) ∙ ap (told_by_calls start) (sym (calls_push s e)) in
     record {
       params = λ n. gives n ∙ ap (λ (x : Domain). params_after x e.call (given_in was) n) run ∙ ap (λ (f : ℕ → ParamsView). params_after (after_calls start calls) e.call f n) params ∙ ap (λ (f : ℕ → ParamsView). f n) all;
       alike = tells.wanted ∙ told.alike;

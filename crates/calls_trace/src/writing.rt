@@ -86,11 +86,7 @@ fn only_section(alloc: Global, text: &[u8]) -> Result<Option<Section>, CallsFaul
 
 /// The section whose trace is written while its calls are made: where it is the only one, and the
 /// trace is asked for.
-fn played_section(
-    alloc: Global,
-    kind: RunText,
-    text: &[u8],
-) -> Result<Option<Section>, CallsFault>
+fn played_section(alloc: Global, kind: RunText, text: &[u8]) -> Result<Option<Section>, CallsFault>
     ensures trace { IfOk result (λ found. IfSome found (λ section. kind ≡ texts.Trace)) }
     ensures only { IfOk result (λ found. IfSome found (λ section. AreRead (section ∷ [])
         × (text.now ≡ spelling (section ∷ [])))) }

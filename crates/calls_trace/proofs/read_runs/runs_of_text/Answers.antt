@@ -9,10 +9,16 @@ use Rattle.calls_trace.proofs.ReadPlaced.{views_one_more}
 use Rattle.calls_trace.proofs.read_runs.runs_of_text.Goals as goal
 
 pub loop-runs-init : goal.loop-runs-init
-loop-runs-init c = record {
-  so_far = record { done = []; behind = c.in_ok-reader.ensures.behind; views = ?; placed = ?; count = ?; base_is = refl; inside = omega arith };
-  room = ?;
-}
+loop-runs-init c = ?
+
+pub run_read-requires : goal.run_read-requires
+run_read-requires c = ?
+
+pub push_reserved-requires : goal.push_reserved-requires
+push_reserved-requires c = ?
+
+pub loop-runs-preserved : goal.loop-runs-preserved
+loop-runs-preserved c = ?
 
 pub returns-in_err-cpus-clause-fault : goal.returns-in_err-cpus-clause-fault
 returns-in_err-cpus-clause-fault c =
