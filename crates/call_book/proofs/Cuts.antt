@@ -1,5 +1,5 @@
 -- Cutting a text at a byte.
-use Rattle.std.proofs.Common.{◌≡◌, ℕ, zero, suc, ◌+◌, ◌-◌, ◌<◌, true, not, eqb, ltb, List, [], ◌∷◌, ◌++◌, length, get_or, take, drop, Some, None, refl, sym, ap, ◌∙◌, arith}
+use Rattle.std.proofs.Common.{◌≡◌, ℕ, zero, suc, ◌+◌, ◌-◌, ◌≤◌, ◌<◌, true, not, eqb, ltb, List, [], ◌∷◌, ◌++◌, length, get_or, take, drop, Some, None, refl, sym, ap, ◌∙◌, arith}
 use Rattle.std.specs.List.{before_first, after_first, position_or_len, list_all}
 use Rattle.std.proofs.lemmas.Bool.{ne_eqb, eq-eqb, lt-ltb, le-ltb, eqb-true, eqb-false, ltb-true, and_parts, not-true}
 use Rattle.std.proofs.lemmas.List.Sums.{position_or_len_is, split_at_first, passes_at_first}
@@ -67,3 +67,8 @@ Lacks-append c (x ∷ a) b h k = (h.0, Lacks-append c a b h.1 k)
 pub Lacks-written : (c : ℕ) (text : List ℕ) → list_all (λ x. not (eqb x c)) text ≡ true → Lacks c text
 Lacks-written c [] h = tt
 Lacks-written c (x ∷ xs) h = let p = and_parts (not (eqb x c)) (list_all (λ y. not (eqb y c)) xs) h in (eqb-false _ _ (not-true _ p.0), Lacks-written c xs p.1)
+
+-- a text with this byte at its front
+pub front_byte : (c : ℕ) (text : List ℕ) → 1 ≤ length text → get_or text 0 0 ≡ c → text ≡ c ∷ take (length text - 1) (drop 1 text)
+front_byte c [] some e = absurd (omega arith)
+front_byte c (x ∷ xs) some e = ap (λ (y : ℕ). y ∷ xs) e ∙ ap (λ (ys : List ℕ). c ∷ ys) (sym (rest_is 1 (x ∷ xs)))

@@ -1,6 +1,5 @@
 pub mod Flags
 pub mod Cuts
-pub mod Digits
 pub mod Names
 pub mod Many
 pub mod Numbers

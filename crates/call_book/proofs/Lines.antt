@@ -1,10 +1,10 @@
 -- A line that is read is spelled so, and a line that is spelled is read.
-use Rattle.std.proofs.Common.{◌≡◌, ℕ, suc, ◌≤◌, ◌<◌, ◌^◌, Bool, true, false, not, ◌&&◌, cond, leb, List, [], ◌∷◌, ◌++◌, All, Option, Some, None, refl, sym, ap, subst, ◌∙◌, arith}
+use Rattle.std.proofs.Common.{◌≡◌, ℕ, suc, ◌≤◌, ◌<◌, ◌^◌, Bool, true, false, not, ◌&&◌, cond, leb, eqb, List, [], ◌∷◌, ◌++◌, length, All, Option, Some, None, refl, sym, ap, subst, ◌∙◌, append_assoc, arith}
 use Rattle.std.specs.Prelude.{decimal, codes, IfSome}
 use Rattle.std.specs.Option.{option_map_or}
 use Rattle.std.specs.List.{list_all}
 use Rattle.std.specs.Str.{bytes_eq}
-use Rattle.std.proofs.lemmas.Bool.{and_parts, leb-true, eqb-false}
+use Rattle.std.proofs.lemmas.Bool.{and_parts, leb-true, eqb-false, ne_eqb}
 use Rattle.std.proofs.lemmas.Option.{same_Some, cond_some}
 use Rattle.std.proofs.lemmas.Slice.Eq.{bytes_eq-Decides}
 use Rattle.attr_check.specs.ParamsView.{ParamsView}
@@ -12,13 +12,17 @@ use Rattle.domain_run.specs.NameView.{IsName}
 use Rattle.domain_run.specs.script.ScriptView.{ScriptView, IsScript}
 use Rattle.domain_run.specs.declared.call.Call.{Call}
 use Rattle.domain_run.specs.declared.call.Call.TheVariants.{Admit, Regrade, Wake, Leave, Advance, Limit, Depart, Arrive}
+use Rattle.call_book.specs.declared.fault.PartFault.{PartFault}
+use Rattle.call_book.specs.declared.fault.PartFault.TheVariants.{Bad, Memory}
 use Rattle.call_book.specs.declared.times.Times.{Times}
 use Rattle.call_book.specs.declared.line_text.Newcomer.{Newcomer}
+use Rattle.call_book.specs.declared.line_text.Word.{Word}
+use Rattle.call_book.specs.declared.line_text.Word.TheVariants as word
 use Rattle.call_book.specs.Spelling.{line_of, call_fields, flag_text, script_text, is_later}
 use Rattle.call_book.specs.Limits.{IsClient, IsNumber, IsChecked, IsAdmission, IsCall}
-use Rattle.call_book.specs.private.Reading.{◌>>=◌, cut_at, number_within_at, field_at, times_at, flag_at, params_at, name_at, script_at, plan_at, newcomer_at, admit_at, arrive_at, seen_at, answer, answer_at, regrade_at, numbered_at, change, change_at, limit_at, worded_at, call_at, known_at, Knows, domain_at}
+use Rattle.call_book.specs.private.Reading.{◌>>=◌, Fails, cut_at, number_within_at, IsFirstNumber, field_at, times_at, flag_at, flagged_at, params_at, name_at, script_at, plan_at, newcomer_at, admit_at, arrive_at, seen_at, answer, answer_at, regrade_at, numbered_at, change, change_at, limit_at, word_of, front_of, worded_at, called_at, call_at, known_at, Knows, domain_at}
 use Rattle.call_book.proofs.Cuts.{Lacks, Lacks-append, Lacks-written, cut_takes, cut_none, cut_again}
-use Rattle.call_book.proofs.Numbers.{bind_some, within_takes, within_again, decimal_lacks}
+use Rattle.call_book.proofs.Numbers.{bind_some, within_takes, within_again, decimal_lacks, none_by}
 use Rattle.call_book.proofs.Names.{name_yes, name_takes}
 use Rattle.call_book.proofs.Attributes.{times_of, params_take, AreSmall, params_again, flag_word, flag_takes, flag_again, flag_lacks}
 use Rattle.call_book.proofs.Scripts.{script_takes, script_again, script_lacks}
@@ -47,6 +51,41 @@ field_takes least most text f h =
 pub field_again : (least most n : ℕ) (rest : List ℕ) → least ≤ n → n ≤ most → most < 10000000000000000000 → field_at least most (decimal n ++ 32 ∷ rest) ≡ paired n rest
 unfolding field_at
 field_again least most n rest low high small = rw (cut_again 32 (decimal n) rest (decimal_lacks 32 n refl (omega arith)), within_again least most n low high small) refl
+
+-- a number and a space at the front are a field
+pub field_front : (least most : ℕ) (text : List ℕ) (n : ℕ) (after rest : List ℕ) → most < 1000000000000000000 → after ≡ 32 ∷ rest → IsFirstNumber least most text n after → field_at least most text ≡ paired n rest
+field_front least most text n after rest small e is =
+    ap (field_at least most) (is.text_is ∙ ap (λ (xs : List ℕ). decimal n ++ xs) e) ∙ field_again least most n rest is.low is.high (omega arith)
+
+-- a field that is read is a number at the front, and a space behind it
+pub front_field : (least most : ℕ) (text : List ℕ) (f : ℕ × List ℕ) → field_at least most text ≡ Some f → IsFirstNumber least most text f.0 (32 ∷ f.1)
+front_field least most text f h = let t = field_takes least most text f h in record { text_is = t.text_is; low = t.low; high = t.high }
+
+pub bad_field : (least most : ℕ) (text : List ℕ) (fault : PartFault) → ((n : ℕ) (rest : List ℕ) → IsFirstNumber least most text n (32 ∷ rest) → ⊥) → Fails fault (field_at least most text)
+bad_field least most text Memory none = tt
+bad_field least most text Bad none = none_by (field_at least most text) (λ f h. none f.0 f.1 (front_field least most text f h))
+
+-- ---- the flag and the space behind it
+
+pub flagged_takes : (text : List ℕ) (f : Bool × List ℕ) → flagged_at text ≡ Some f → text ≡ flag_word f.0 ++ 32 ∷ f.1
+unfolding flagged_at
+flagged_takes text f h =
+    let a = bind_some (cut_at 32 text) (λ p. flag_at p.0 >>= λ reclaim. paired reclaim p.1) f h in
+    let b = bind_some (flag_at a.0.0) (λ reclaim. paired reclaim a.0.1) f a.2 in
+    let made : Bool × List ℕ = (b.0, a.0.1) in
+    subst (λ (q : Bool × List ℕ). text ≡ flag_word q.0 ++ 32 ∷ q.1) (same_Some made f b.2)
+    (cut_takes 32 text a.0 a.1 ∙ ap (λ (x : List ℕ). x ++ 32 ∷ a.0.1) (flag_takes a.0.0 b.0 b.1))
+
+pub flagged_again : (reclaim : Bool) (rest : List ℕ) → flagged_at (flag_word reclaim ++ 32 ∷ rest) ≡ paired reclaim rest
+unfolding flagged_at
+flagged_again reclaim rest = rw (cut_again 32 (flag_word reclaim) rest (flag_lacks 32 reclaim refl refl), flag_again reclaim) refl
+
+no_flag : (text : List ℕ) (reclaim : Bool) (rest : List ℕ) → ((r : List ℕ) → text ≡ codes "R " ++ r → ⊥) → ((r : List ℕ) → text ≡ codes "- " ++ r → ⊥) → text ≡ flag_word reclaim ++ 32 ∷ rest → ⊥
+no_flag text true rest r dash e = r rest e
+no_flag text false rest r dash e = dash rest e
+
+pub flagged_none : (text : List ℕ) → ((r : List ℕ) → text ≡ codes "R " ++ r → ⊥) → ((r : List ℕ) → text ≡ codes "- " ++ r → ⊥) → flagged_at text ≡ None
+flagged_none text r dash = none_by (flagged_at text) (λ f h. no_flag text f.0 f.1 r dash (flagged_takes text f h))
 
 after : (front : List ℕ) {a b : List ℕ} → a ≡ b → front ++ 32 ∷ a ≡ front ++ 32 ∷ b
 after front e = ap (λ (r : List ℕ). front ++ 32 ∷ r) e
@@ -175,21 +214,19 @@ record NewcomerParts (text : List ℕ) (new : Newcomer × List ℕ) : Type 0 whe
   name : List ℕ × List ℕ
   named : List ℕ
   times : Times × List ℕ
-  flag : List ℕ × List ℕ
-  reclaim : Bool
+  flag : Bool × List ℕ
   params : ParamsView
   number_is : field_at 1 65535 text ≡ Some number
   name_is : cut_at 32 number.1 ≡ Some name
   named_is : name_at name.0 ≡ Some named
   times_is : times_at name.1 ≡ Some times
-  flag_is : cut_at 32 times.1 ≡ Some flag
-  reclaim_is : flag_at flag.0 ≡ Some reclaim
-  params_is : params_at times.0 reclaim ≡ Some params
+  flag_is : flagged_at times.1 ≡ Some flag
+  params_is : params_at times.0 flag.0 ≡ Some params
   new_is : made_newcomer number.0 named params flag.1 ≡ Some new
 
 -- what follows the name
 abbrev timed : ℕ → List ℕ → List ℕ → Option (Newcomer × List ℕ)
-timed number named text = times_at text >>= λ times. cut_at 32 times.1 >>= λ flag. flag_at flag.0 >>= λ reclaim. params_at times.0 reclaim >>= λ params. made_newcomer number named params flag.1
+timed number named text = times_at text >>= λ times. flagged_at times.1 >>= λ flag. params_at times.0 flag.0 >>= λ params. made_newcomer number named params flag.1
 
 newcomer_parts : (text : List ℕ) (new : Newcomer × List ℕ) → newcomer_at text ≡ Some new → NewcomerParts text new
 unfolding newcomer_at
@@ -197,11 +234,10 @@ newcomer_parts text new h =
     let a = bind_some (field_at 1 65535 text) (λ number. cut_at 32 number.1 >>= λ name. name_at name.0 >>= λ named. timed number.0 named name.1) new h in
     let b = bind_some (cut_at 32 a.0.1) (λ name. name_at name.0 >>= λ named. timed a.0.0 named name.1) new a.2 in
     let c = bind_some (name_at b.0.0) (λ named. timed a.0.0 named b.0.1) new b.2 in
-    let d = bind_some (times_at b.0.1) (λ times. cut_at 32 times.1 >>= λ flag. flag_at flag.0 >>= λ reclaim. params_at times.0 reclaim >>= λ params. made_newcomer a.0.0 c.0 params flag.1) new c.2 in
-    let e = bind_some (cut_at 32 d.0.1) (λ flag. flag_at flag.0 >>= λ reclaim. params_at d.0.0 reclaim >>= λ params. made_newcomer a.0.0 c.0 params flag.1) new d.2 in
-    let f = bind_some (flag_at e.0.0) (λ reclaim. params_at d.0.0 reclaim >>= λ params. made_newcomer a.0.0 c.0 params e.0.1) new e.2 in
-    let g = bind_some (params_at d.0.0 f.0) (λ params. made_newcomer a.0.0 c.0 params e.0.1) new f.2 in
-    record { number = a.0; name = b.0; named = c.0; times = d.0; flag = e.0; reclaim = f.0; params = g.0; number_is = a.1; name_is = b.1; named_is = c.1; times_is = d.1; flag_is = e.1; reclaim_is = f.1; params_is = g.1; new_is = g.2 }
+    let d = bind_some (times_at b.0.1) (λ times. flagged_at times.1 >>= λ flag. params_at times.0 flag.0 >>= λ params. made_newcomer a.0.0 c.0 params flag.1) new c.2 in
+    let e = bind_some (flagged_at d.0.1) (λ flag. params_at d.0.0 flag.0 >>= λ params. made_newcomer a.0.0 c.0 params flag.1) new d.2 in
+    let f = bind_some (params_at d.0.0 e.0.0) (λ params. made_newcomer a.0.0 c.0 params e.0.1) new e.2 in
+    record { number = a.0; name = b.0; named = c.0; times = d.0; flag = e.0; params = f.0; number_is = a.1; name_is = b.1; named_is = c.1; times_is = d.1; flag_is = e.1; params_is = f.1; new_is = f.2 }
 
 three_more : (text numbered after_number name named after_name timed_text : List ℕ) → text ≡ numbered ++ 32 ∷ after_number → after_number ≡ name ++ 32 ∷ after_name → name ≡ named → after_name ≡ timed_text
     → text ≡ numbered ++ (32 ∷ (named ++ (32 ∷ timed_text)))
@@ -210,6 +246,9 @@ three_more text numbered after_number name named after_name timed_text e1 e2 e3 
 -- the text of a flag is that of the parameters that have it
 flag_of : (text : List ℕ) (reclaim : Bool) (p : ParamsView) → flag_at text ≡ Some reclaim → p.reclaim ≡ reclaim → text ≡ flag_text p
 flag_of text reclaim p h e = flag_takes text reclaim h ∙ ap flag_word (sym e)
+
+flagged_is : (text : List ℕ) (f : Bool × List ℕ) (p : ParamsView) → flagged_at text ≡ Some f → p.reclaim ≡ f.0 → text ≡ flag_text p ++ (32 ∷ f.1)
+flagged_is text f p h e = flagged_takes text f h ∙ ap (λ (reclaim : Bool). flag_word reclaim ++ (32 ∷ f.1)) (sym e)
 
 timed_is : (text : List ℕ) (t u : Times) (rest written : List ℕ) → text ≡ times_text t rest → u ≡ t → rest ≡ written → text ≡ times_text u written
 timed_is text t u rest written e1 e2 e3 = e1 ∙ ap (λ (x : Times). times_text x rest) (sym e2) ∙ ap (times_text u) e3
@@ -230,9 +269,8 @@ took_newcomer text new p =
     let number = field_takes 1 65535 text p.number p.number_is in
     let name = name_takes p.name.0 p.named p.named_is in
     let times = times_take p.name.1 p.times p.times_is in
-    let params = params_take p.times.0 p.reclaim p.params (omega (arith, times.1.period.0)) p.params_is in
-    let flag = flag_of p.flag.0 p.reclaim p.params p.reclaim_is params.flag in
-    let flagged : p.times.1 ≡ flag_text p.params ++ (32 ∷ p.flag.1) = cut_takes 32 p.times.1 p.flag p.flag_is ∙ ap (λ (x : List ℕ). x ++ 32 ∷ p.flag.1) flag in
+    let params = params_take p.times.0 p.flag.0 p.params (omega (arith, times.1.period.0)) p.params_is in
+    let flagged = flagged_is p.times.1 p.flag p.params p.flag_is params.flag in
     let timed_text = timed_is p.name.1 p.times.0 (times_of p.params) p.times.1 (flag_text p.params ++ (32 ∷ p.flag.1)) times.0 params.times flagged in
     let whole = three_more text (decimal p.number.0) p.number.1 p.name.0 p.named p.name.1 (times_text (times_of p.params) (flag_text p.params ++ (32 ∷ p.flag.1))) number.text_is (cut_takes 32 p.number.1 p.name p.name_is) name.0 timed_text in
     let made : Newcomer × List ℕ = (newcomer p.number.0 p.named p.params, p.flag.1) in
@@ -253,8 +291,7 @@ newcomer_again number name params rest numbered named checked =
       cut_again 32 name timed_text (name_lacks 32 name (omega arith) named.bytes),
       name_yes name named,
       times_again (times_of params) flagged again.1,
-      cut_again 32 (flag_text params) rest (flag_lacks 32 params.reclaim refl refl),
-      flag_again params.reclaim,
+      flagged_again params.reclaim rest,
       again.0,
     ) refl
 
@@ -317,32 +354,54 @@ seen_again : (seen : ℕ) → seen ≤ 67108864 → seen_at (seen_text seen) ≡
 unfolding seen_at
 seen_again seen high = rw (cut_again 32 (codes "busy") (decimal seen) (Lacks-written 32 (codes "busy") refl), within_again 0 67108864 seen (omega arith) high (omega arith)) refl
 
+bind_same : {A : Type 0} (o : Option A) → (o >>= λ x. Some x) ≡ o
+bind_same None = refl
+bind_same (Some x) = refl
+
+pub seen_behind : (text rest : List ℕ) → text ≡ codes "busy " ++ rest → seen_at text ≡ number_within_at 0 67108864 rest
+unfolding seen_at
+seen_behind text rest e =
+    let cut : cut_at 32 text ≡ Some (codes "busy", rest) = ap (cut_at 32) e ∙ cut_again 32 (codes "busy") rest (Lacks-written 32 (codes "busy") refl) in
+    rw cut (bind_same (number_within_at 0 67108864 rest))
+
+pub seen_none : (text : List ℕ) → ((rest : List ℕ) → text ≡ codes "busy " ++ rest → ⊥) → seen_at text ≡ None
+seen_none text none = none_by (seen_at text) (λ seen h. none (decimal seen) (seen_takes text seen h).0)
+
 -- what was read behind the times of a regrade
 record TookAnswer (text : List ℕ) (reclaim : Bool) (word : Option ℕ) : Type 0 where
   text_is : (p : ParamsView) → p.reclaim ≡ reclaim → text ≡ answer_text p word
   high : IfSome word (λ seen. seen ≤ 2 ^ 26)
 
-answer_by : (text : List ℕ) (a : Bool × Option ℕ) (o : Option (List ℕ × List ℕ)) → cut_at 32 text ≡ o
-    → option_map_or (λ p. flag_at p.0 >>= λ reclaim. seen_at p.1 >>= λ seen. answer reclaim (Some seen)) o (flag_at text >>= λ reclaim. answer reclaim None) ≡ Some a
+answer_by : (text : List ℕ) (a : Bool × Option ℕ) (one : Bool)
+    → cond one (flag_at text >>= λ reclaim. answer reclaim None) (flagged_at text >>= λ flag. seen_at flag.1 >>= λ seen. answer flag.0 (Some seen)) ≡ Some a
     → TookAnswer text a.0 a.1
-answer_by text a None cut h =
+answer_by text a true h =
     let b = bind_some (flag_at text) (λ reclaim. answer reclaim None) a h in
     subst (λ (q : Bool × Option ℕ). TookAnswer text q.0 q.1) (same_Some (b.0, None) a b.2) (record { text_is = λ p e. flag_of text b.0 p b.1 e; high = tt })
-answer_by text a (Some p) cut h =
-    let b = bind_some (flag_at p.0) (λ reclaim. seen_at p.1 >>= λ seen. answer reclaim (Some seen)) a h in
-    let c = bind_some (seen_at p.1) (λ seen. answer b.0 (Some seen)) a b.2 in
-    let t = seen_takes p.1 c.0 c.1 in
-    subst (λ (q : Bool × Option ℕ). TookAnswer text q.0 q.1) (same_Some (b.0, Some c.0) a c.2)
-    (record { text_is = λ q e. cut_takes 32 text p cut ∙ ap (λ (x : List ℕ). x ++ 32 ∷ p.1) (flag_of p.0 b.0 q b.1 e) ∙ after (flag_text q) t.0; high = t.1 })
+answer_by text a false h =
+    let b = bind_some (flagged_at text) (λ flag. seen_at flag.1 >>= λ seen. answer flag.0 (Some seen)) a h in
+    let c = bind_some (seen_at b.0.1) (λ seen. answer b.0.0 (Some seen)) a b.2 in
+    let t = seen_takes b.0.1 c.0 c.1 in
+    subst (λ (q : Bool × Option ℕ). TookAnswer text q.0 q.1) (same_Some (b.0.0, Some c.0) a c.2)
+    (record { text_is = λ q e. flagged_is text b.0 q b.1 e ∙ after (flag_text q) t.0; high = t.1 })
 
 answer_takes : (text : List ℕ) (a : Bool × Option ℕ) → answer_at text ≡ Some a → TookAnswer text a.0 a.1
 unfolding answer_at
-answer_takes text a h = answer_by text a (cut_at 32 text) refl h
+answer_takes text a h = answer_by text a (eqb (length text) 1) h
+
+-- a flag is one byte
+flag_alone : (reclaim : Bool) → eqb (length (flag_word reclaim)) 1 ≡ true
+flag_alone true = refl
+flag_alone false = refl
+
+flag_more : (reclaim : Bool) (rest : List ℕ) → eqb (length (flag_word reclaim ++ (32 ∷ rest))) 1 ≡ false
+flag_more true rest = ne_eqb _ _ (λ e. omega (arith, e))
+flag_more false rest = ne_eqb _ _ (λ e. omega (arith, e))
 
 answer_again : (params : ParamsView) (word : Option ℕ) → IfSome word (λ seen. seen ≤ 2 ^ 26) → answer_at (answer_text params word) ≡ answer params.reclaim word
 unfolding answer_at
-answer_again params None high = rw (cut_none 32 (flag_text params) (flag_lacks 32 params.reclaim refl refl), flag_again params.reclaim) refl
-answer_again params (Some seen) high = rw (cut_again 32 (flag_text params) (seen_text seen) (flag_lacks 32 params.reclaim refl refl), flag_again params.reclaim, seen_again seen high) refl
+answer_again params None high = rw (flag_alone params.reclaim, flag_again params.reclaim) refl
+answer_again params (Some seen) high = rw (flag_more params.reclaim (seen_text seen), flagged_again params.reclaim (seen_text seen), seen_again seen high) refl
 
 abbrev made_regrade : ℕ → ParamsView → Option ℕ → Option Call
 made_regrade number params word = Some (Regrade number params word)
@@ -559,6 +618,46 @@ call_again client call is read =
       field_again 1 64 client (call_text call) (omega (arith, is.0)) is.1 (omega arith),
       worded_again call read,
     ) refl
+
+-- ---- the word at the front of a line
+
+abbrev word_in : Call → Word
+word_in (Admit number name params delay script) = word.Admit
+word_in (Regrade number params seen) = word.Regrade
+word_in (Wake number) = word.Wake
+word_in (Leave number) = word.Leave
+word_in (Advance ticks) = word.Advance
+word_in (Limit limit seen) = word.Limit
+word_in (Depart number) = word.Depart
+word_in (Arrive number name params script) = word.Arrive
+
+front_in : (call : Call) (rest : List ℕ) → word_text call ++ (32 ∷ rest) ≡ front_of (word_in call) ++ rest
+front_in (Admit number name params delay script) rest = refl
+front_in (Regrade number params seen) rest = refl
+front_in (Wake number) rest = refl
+front_in (Leave number) rest = refl
+front_in (Advance ticks) rest = refl
+front_in (Limit limit seen) rest = refl
+front_in (Depart number) rest = refl
+front_in (Arrive number name params script) rest = refl
+
+-- a line that begins with no word is that of no call
+pub call_none : (line : List ℕ) → ((w : Word) (rest : List ℕ) → line ≡ front_of w ++ rest → ⊥) → call_at line ≡ None
+call_none line none =
+    none_by (call_at line) (λ p h.
+    let t = call_takes line p h in
+    let rest = decimal p.0 ++ (32 ∷ call_text p.1) in
+    none (word_in p.1) rest (t.line_is ∙ (line_is p.0 p.1 ∙ front_in p.1 rest)))
+
+front_lacks : (w : Word) → Lacks 32 (word_of w)
+front_lacks w = letters_lack 32 (word_of w) (omega arith) (elim w as (λ v. list_all (λ b. leb 97 b) (word_of v) ≡ true) [ word.Admit ↦ refl | word.Regrade ↦ refl | word.Wake ↦ refl | word.Leave ↦ refl | word.Advance ↦ refl | word.Limit ↦ refl | word.Depart ↦ refl | word.Arrive ↦ refl ])
+
+-- the call of a line is that behind its word
+pub call_behind : (line : List ℕ) (w : Word) (rest : List ℕ) → line ≡ front_of w ++ rest → call_at line ≡ called_at (word_of w) rest
+unfolding call_at
+call_behind line w rest e =
+    let cut : cut_at 32 line ≡ Some (word_of w, rest) = ap (cut_at 32) (e ∙ append_assoc (word_of w) (codes " ") rest) ∙ cut_again 32 (word_of w) rest (front_lacks w) in
+    rw cut refl
 
 -- ---- behind a header
 

@@ -1,10 +1,10 @@
-ghost use Rattle.std.specs.Prelude.{◌≤◌, IfOk};
-ghost use Rattle.call_book.specs.private.Reading.{Gives, field_at, name_at, times_at, AreTimes, flag_at, params_at, plan_at, newcomer_at, admit_at, arrive_at, seen_at, answer_at, regrade_at, numbered_at, change_at, limit_at, worded_at, call_at, known_at, domain_at};
+ghost use Rattle.std.specs.Prelude.{◌≡◌, ℕ, ◌<◌, ◌≤◌, List, ◌++◌, IfOk, MatchOption};
+ghost use Rattle.call_book.specs.private.Reading.{Gives, field_at, name_at, times_at, AreTimes, flag_at, flagged_at, params_at, plan_at, newcomer_at, admit_at, arrive_at, seen_at, answer_at, regrade_at, numbered_at, change_at, limit_at, word_of, front_of, worded_at, called_at, call_at, known_at, domain_at};
 
-use crate::cut::cut;
+use crate::cut::{behind, cut};
 use crate::fault::PartFault;
 use crate::header::is_later;
-use crate::number::number_within;
+use crate::number::{number_first, number_within};
 use crate::script_text::script_of;
 use crate::times::Times;
 use attr_check::{Params, SchedAttr, check};
@@ -33,14 +33,14 @@ const MOST_LIMIT: u64 = 1_048_576;
 /// A number up to the next space, from `least` to `most`, and what follows.
 #[tactic(auto, unfolding(crate::specs::private::Reading::field_at))]
 fn field(text: &[u8], least: u64, most: u64) -> Result<(u64, &[u8]), PartFault>
+    requires { most < 1000000000000000000 }
     ensures gives { Gives (λ p. (p.0, p.1.now)) result (field_at least most text.now) }
     ensures within { IfOk result (λ p. (least ≤ p.0) × (p.0 ≤ most)) }
 {
-    let Some((digits, rest)) = cut(text, b' ') else {
-        return Err(PartFault::Bad);
-    };
-    let n = number_within(digits, least, most)?;
-    Ok((n, rest))
+    match number_first(text, least, most)? {
+        (n, [b' ', rest @ ..]) => Ok((n, rest)),
+        _ => Err(PartFault::Bad),
+    }
 }
 
 /// The name that a text is.
@@ -87,6 +87,19 @@ fn reclaim_of(flag: &[u8]) -> Result<bool, PartFault>
     }
     if flag == b"-".as_slice() {
         return Ok(false);
+    }
+    Err(PartFault::Bad)
+}
+
+/// The same of the flag up to the next space, and what follows.
+fn reclaim_first(text: &[u8]) -> Result<(bool, &[u8]), PartFault>
+    ensures { Gives (λ p. (p.0, p.1.now)) result (flagged_at text.now) }
+{
+    if let Some(rest) = behind(b"R ".as_slice(), text) {
+        return Ok((true, rest));
+    }
+    if let Some(rest) = behind(b"- ".as_slice(), text) {
+        return Ok((false, rest));
     }
     Err(PartFault::Bad)
 }
@@ -138,10 +151,8 @@ fn newcomer_of(alloc: Global, text: &[u8]) -> Result<(Newcomer, &[u8]), PartFaul
     };
     let name = name_of(alloc, name)?;
     let (times, rest) = times_of(rest)?;
-    let Some((flag, rest)) = cut(rest, b' ') else {
-        return Err(PartFault::Bad);
-    };
-    let params = params_of(times, reclaim_of(flag)?)?;
+    let (reclaim, rest) = reclaim_first(rest)?;
+    let params = params_of(times, reclaim)?;
     let newcomer = Newcomer {
         number: number as u32,
         name,
@@ -193,18 +204,13 @@ fn arrive_of(alloc: Global, text: &[u8]) -> Result<Call, PartFault>
 
 /// The number with which the bandwidth word refused, from what stands behind the flag of a
 /// `regrade` line, and behind the limit of a `limit` line.
-#[tactic(auto, unfolding(crate::specs::private::Reading::seen_at))]
 fn seen_of(text: &[u8]) -> Result<u64, PartFault>
     ensures { Gives (λ n. n) result (seen_at text.now) }
 {
-    let Some((word, rest)) = cut(text, b' ') else {
-        return Err(PartFault::Bad);
-    };
-    let seen = number_within(rest, 0, MOST_WORD)?;
-    if word != b"busy".as_slice() {
-        return Err(PartFault::Bad);
+    match behind(b"busy ".as_slice(), text) {
+        Some(digits) => number_within(digits, 0, MOST_WORD),
+        None => Err(PartFault::Bad),
     }
-    Ok(seen)
 }
 
 /// Whether the task of a `regrade` line reclaims, and with what the bandwidth word refused, where
@@ -213,11 +219,11 @@ fn seen_of(text: &[u8]) -> Result<u64, PartFault>
 fn answer_of(text: &[u8]) -> Result<(bool, Option<u64>), PartFault>
     ensures { Gives (λ p. p) result (answer_at text.now) }
 {
-    let Some((flag, rest)) = cut(text, b' ') else {
+    if text.len() == 1 {
         let reclaim = reclaim_of(text)?;
         return Ok((reclaim, None));
-    };
-    let reclaim = reclaim_of(flag)?;
+    }
+    let (reclaim, rest) = reclaim_first(text)?;
     let seen = seen_of(rest)?;
     Ok((reclaim, Some(seen)))
 }
@@ -297,50 +303,89 @@ fn limit_of(text: &[u8]) -> Result<Call, PartFault>
     Ok(Call::Limit { limit, word })
 }
 
+/// The word at the front of a call's line.
+#[derive(Clone, Copy)]
+enum Word {
+    Admit,
+    Regrade,
+    Wake,
+    Leave,
+    Advance,
+    Limit,
+    Depart,
+    Arrive,
+}
+
+/// The word at the front of a line, and what follows the space behind it. Words that stand in most
+/// lines are looked for first.
+fn word_first(line: &[u8]) -> Option<(Word, &[u8])>
+    ensures { MatchOption result
+        ((word : Word) (rest : List ℕ) → line.now ≡ front_of word ++ rest → ⊥)
+        (λ p. line.now ≡ front_of p.0 ++ p.1.now) }
+{
+    if let Some(rest) = behind(b"wake ".as_slice(), line) {
+        return Some((Word::Wake, rest));
+    }
+    if let Some(rest) = behind(b"advance ".as_slice(), line) {
+        return Some((Word::Advance, rest));
+    }
+    if let Some(rest) = behind(b"admit ".as_slice(), line) {
+        return Some((Word::Admit, rest));
+    }
+    if let Some(rest) = behind(b"leave ".as_slice(), line) {
+        return Some((Word::Leave, rest));
+    }
+    if let Some(rest) = behind(b"regrade ".as_slice(), line) {
+        return Some((Word::Regrade, rest));
+    }
+    if let Some(rest) = behind(b"limit ".as_slice(), line) {
+        return Some((Word::Limit, rest));
+    }
+    if let Some(rest) = behind(b"depart ".as_slice(), line) {
+        return Some((Word::Depart, rest));
+    }
+    if let Some(rest) = behind(b"arrive ".as_slice(), line) {
+        return Some((Word::Arrive, rest));
+    }
+    None
+}
+
 /// What follows the client in a line of this word.
 #[tactic(auto, unfolding(crate::specs::private::Reading::worded_at))]
-fn worded(alloc: Global, word: &[u8], text: &[u8]) -> Result<Call, PartFault>
-    ensures { Gives (λ c. c) result (worded_at word.now text.now) }
+fn worded(alloc: Global, word: Word, text: &[u8]) -> Result<Call, PartFault>
+    ensures { Gives (λ c. c) result (worded_at (word_of word) text.now) }
 {
-    if word == b"admit".as_slice() {
-        return admit_of(alloc, text);
+    match word {
+        Word::Admit => admit_of(alloc, text),
+        Word::Regrade => regrade_of(text),
+        Word::Wake => wake_of(text),
+        Word::Leave => leave_of(text),
+        Word::Advance => advance_of(text),
+        Word::Limit => limit_of(text),
+        Word::Depart => depart_of(text),
+        Word::Arrive => arrive_of(alloc, text),
     }
-    if word == b"regrade".as_slice() {
-        return regrade_of(text);
-    }
-    if word == b"wake".as_slice() {
-        return wake_of(text);
-    }
-    if word == b"leave".as_slice() {
-        return leave_of(text);
-    }
-    if word == b"advance".as_slice() {
-        return advance_of(text);
-    }
-    if word == b"limit".as_slice() {
-        return limit_of(text);
-    }
-    if word == b"depart".as_slice() {
-        return depart_of(text);
-    }
-    if word == b"arrive".as_slice() {
-        return arrive_of(alloc, text);
-    }
-    Err(PartFault::Bad)
+}
+
+/// The client and the call that stand behind this word and its space.
+fn called(alloc: Global, word: Word, text: &[u8]) -> Result<(u32, Call), PartFault>
+    ensures gives { Gives (λ p. p) result (called_at (word_of word) text.now) }
+    ensures within { IfOk result (λ p. (1 ≤ p.0) × (p.0 ≤ 64)) }
+{
+    let (client, rest) = field(text, 1, MOST_CLIENT)?;
+    let call = worded(alloc, word, rest)?;
+    Ok((client as u32, call))
 }
 
 /// The client and the call that a line spells.
-#[tactic(auto, unfolding(crate::specs::private::Reading::call_at))]
 fn call_of(alloc: Global, line: &[u8]) -> Result<(u32, Call), PartFault>
     ensures gives { Gives (λ p. p) result (call_at line.now) }
     ensures within { IfOk result (λ p. (1 ≤ p.0) × (p.0 ≤ 64)) }
 {
-    let Some((word, rest)) = cut(line, b' ') else {
-        return Err(PartFault::Bad);
-    };
-    let (client, rest) = field(rest, 1, MOST_CLIENT)?;
-    let call = worded(alloc, word, rest)?;
-    Ok((client as u32, call))
+    match word_first(line) {
+        Some((word, rest)) => called(alloc, word, rest),
+        None => Err(PartFault::Bad),
+    }
 }
 
 /// The client and the call that a line spells, behind a header that has calls of the second form or

@@ -1,5 +1,5 @@
 -- What the parts of the reader answer, as functions of lists. No public clause names them.
-use Rattle.std.specs.Prelude.{◌≡◌, ℕ, zero, suc, ◌≤◌, ◌<◌, ◌+◌, ◌-◌, ◌*◌, Bool, true, false, not, ◌==◌, ◌&&◌, ◌||◌, nat_lt, nat_le, if◌then◌else◌, List, [], ◌∷◌, ◌++◌, map, length, slice_index, Option, Some, None, Result, Ok, Err, codes}
+use Rattle.std.specs.Prelude.{◌≡◌, ℕ, zero, suc, ◌≤◌, ◌<◌, ◌+◌, ◌-◌, ◌*◌, Bool, true, false, not, ◌==◌, ◌&&◌, ◌||◌, nat_lt, nat_le, if◌then◌else◌, List, [], ◌∷◌, ◌++◌, map, length, slice_index, Option, Some, None, Result, Ok, Err, codes, decimal}
 use Rattle.std.specs.Option.{option_map_or}
 use Rattle.std.specs.Result.{result_ok}
 use Rattle.std.specs.Char.{is_ascii_digit}
@@ -16,6 +16,8 @@ use Rattle.call_book.specs.declared.fault.PartFault.{PartFault}
 use Rattle.call_book.specs.declared.fault.PartFault.TheVariants.{Bad, Memory}
 use Rattle.call_book.specs.declared.times.Times.{Times}
 use Rattle.call_book.specs.declared.line_text.Newcomer.{Newcomer}
+use Rattle.call_book.specs.declared.line_text.Word.{Word}
+use Rattle.call_book.specs.declared.line_text.Word.TheVariants as word
 use Rattle.call_book.specs.declared.section.Entry.{Entry}
 use Rattle.call_book.specs.SectionView.{SectionView}
 use Rattle.call_book.specs.Spelling.{entry_line, domain_line, section_lines, is_later, some_later, has_later, text_of}
@@ -65,6 +67,23 @@ unfoldable pub number_within_at : ℕ → ℕ → List ℕ → Option ℕ
 number_within_at least most text = do
   n ← number_at text
   if nat_le least n && nat_le n most then Some n else None
+
+-- the number of the digits at the front, after the number so far, and what follows them
+abbrev pub digits_front : ℕ → List ℕ → ℕ × List ℕ
+digits_front n [] = (n, [])
+digits_front n (c ∷ cs) =
+    if is_ascii_digit c then digits_front (n * 10 + (c - 48)) cs else (n, c ∷ cs)
+
+-- no digit stands at the front
+abbrev pub NoDigit : List ℕ → Type 0
+NoDigit [] = Unit {0}
+NoDigit (c ∷ cs) = is_ascii_digit c ≡ false
+
+-- the text is that of a number within these bounds, and then the rest
+pub record IsFirstNumber (least most : ℕ) (text : List ℕ) (n : ℕ) (rest : List ℕ) : Type 0 where
+  pub text_is : text ≡ decimal n ++ rest
+  pub low : least ≤ n
+  pub high : n ≤ most
 
 -- ---- scripts
 
@@ -157,6 +176,13 @@ flag_at text =
     if bytes_eq text (codes "R") then Some true
     else (if bytes_eq text (codes "-") then Some false else None)
 
+-- the flag up to the next space, and what follows
+unfoldable pub flagged_at : List ℕ → Option (Bool × List ℕ)
+flagged_at text = do
+  p ← cut_at 32 text
+  reclaim ← flag_at p.0
+  Some (reclaim, p.1)
+
 -- the parameters that these times give to a task that reclaims or does not
 unfoldable pub params_at : Times → Bool → Option ParamsView
 params_at t reclaim =
@@ -192,9 +218,8 @@ newcomer_at text = do
   name ← cut_at 32 number.1
   named ← name_at name.0
   times ← times_at name.1
-  flag ← cut_at 32 times.1
-  reclaim ← flag_at flag.0
-  params ← params_at times.0 reclaim
+  flag ← flagged_at times.1
+  params ← params_at times.0 flag.0
   Some (record { number = number.0; name = named; params = params }, flag.1)
 
 -- what follows the client in an admission
@@ -226,9 +251,8 @@ answer reclaim word = Some (reclaim, word)
 -- refused, where it did
 unfoldable pub answer_at : List ℕ → Option (Bool × Option ℕ)
 answer_at text =
-    option_map_or
-    (λ p. flag_at p.0 >>= λ reclaim. seen_at p.1 >>= λ seen. answer reclaim (Some seen))
-    (cut_at 32 text) (flag_at text >>= λ reclaim. answer reclaim None)
+    if length text == 1 then (flag_at text >>= λ reclaim. answer reclaim None)
+    else (flagged_at text >>= λ flag. seen_at flag.1 >>= λ seen. answer flag.0 (Some seen))
 
 -- what follows the client in a regrade
 unfoldable pub regrade_at : List ℕ → Option Call
@@ -274,12 +298,32 @@ worded_at word text =
     else (if bytes_eq word (codes "depart") then numbered_at 65535 Depart text
     else (if bytes_eq word (codes "arrive") then arrive_at text else None)))))))
 
+-- the words of calls
+abbrev pub word_of : Word → List ℕ
+word_of word.Admit = codes "admit"
+word_of word.Regrade = codes "regrade"
+word_of word.Wake = codes "wake"
+word_of word.Leave = codes "leave"
+word_of word.Advance = codes "advance"
+word_of word.Limit = codes "limit"
+word_of word.Depart = codes "depart"
+word_of word.Arrive = codes "arrive"
+
+-- a word, and the space behind it
+abbrev pub front_of : Word → List ℕ
+front_of word = word_of word ++ codes " "
+
+-- what follows this word and its space
+abbrev pub called_at : List ℕ → List ℕ → Option (ℕ × Call)
+called_at word text = do
+  client ← field_at 1 64 text
+  call ← worded_at word client.1
+  Some (client.0, call)
+
 unfoldable pub call_at : List ℕ → Option (ℕ × Call)
 call_at line = do
   word ← cut_at 32 line
-  client ← field_at 1 64 word.1
-  call ← worded_at word.0 client.1
-  Some (client.0, call)
+  called_at word.0 word.1
 
 -- behind a header that has calls of the second form or has none
 unfoldable pub known_at : Bool → List ℕ → Option (ℕ × Call)
