@@ -1,19 +1,18 @@
 -- A reader of a calls text, step by step.
-use Rattle.std.proofs.Common.{◌≡◌, ℕ, ◌+◌, ◌-◌, ◌≤◌, ◌<◌, Bool, true, false, ◌||◌, eqb, List, [], ◌∷◌, ◌++◌, ◌⊎◌, length, get_or, map, set, replicate, cond, Option, Some, None, Ok, refl, sym, ap, subst, ◌∙◌, arith, inl, inr, length-append, length-set, get_or-set_same, get_or-set_other}
-use Rattle.std.specs.List.{flat_map}
+use Rattle.std.proofs.Common.{◌≡◌, ℕ, ◌+◌, ◌-◌, ◌≤◌, ◌<◌, Bool, true, false, ◌||◌, eqb, List, [], ◌∷◌, ◌++◌, length, get_or, set, replicate, cond, Option, Some, None, Ok, refl, sym, ap, subst, ◌∙◌, arith, inl, inr, length-append, length-set, get_or-set_same, get_or-set_other}
 use Rattle.std.proofs.lemmas.Bool.{cases_eq, cases_lt}
 use Rattle.std.proofs.lemmas.List.{length-map, get_or_past, get_or-replicate}
 use Rattle.std.proofs.lemmas.List.Folds.{list_any-append}
 use Rattle.call_book.specs.declared.calls_reader.CallsReader.{CallsReader}
 use Rattle.call_book.specs.declared.section.Entry.{Entry}
 use Rattle.call_book.specs.SectionView.{SectionView}
-use Rattle.call_book.specs.Spelling.{entry_line, section_lines, is_later, some_later, has_later, spelling}
+use Rattle.call_book.specs.Spelling.{entry_line, is_later, some_later, has_later, spelling}
 use Rattle.call_book.specs.Limits.{IsSection, AreRead}
 use Rattle.call_book.specs.BadLine.{IsBadLine}
 use Rattle.call_book.specs.Reader.{IsBehind, IsWithin, IsNextDomain, IsNextEntry}
-use Rattle.call_book.specs.private.Reading.{cut_at, AreEntries, AreSectionsOf, IsFirstSection, LacksEntry, LacksDomain, bad_place, is_whole, last_full}
+use Rattle.call_book.specs.ReadSoFar.{IsSectionRead, LacksEntry, last_full}
+use Rattle.call_book.specs.private.Reading.{cut_at, AreSectionsOf, IsFirstSection, LacksDomain, bad_place, is_whole}
 use Rattle.call_book.proofs.Cuts.{cut_takes}
-use Rattle.call_book.proofs.Lines.{domain_takes}
 use Rattle.call_book.proofs.Sections.{is_section}
 use Rattle.call_book.proofs.Stops.{sections_found, sections_stop}
 use Rattle.call_book.proofs.SectionSteps.{first_section, section_more, count_more}
@@ -89,11 +88,12 @@ bad_at_end text done r n b ends part place = subst (IsBadLine text) (sym place) 
 
 -- ---- at the end of a section
 
+read_so_far : (text : List ℕ) (before : List SectionView) (s : SectionView) (r : CallsReader) → IsWithin text before s r → IsSectionRead s
+read_so_far text before s r w = record { some = w.some; most = w.most; low = w.low; high = w.high; few = omega (arith, r.few, w.calls); each = w.entries.each; numbered = w.entries.numbered }
+
 pub behind_from : (text : List ℕ) (before : List SectionView) (s : SectionView) (r : CallsReader) → IsWithin text before s r → (length s.entries < 65536 → LacksEntry r.later r.rest.now) → IsBehind text (before ++ s ∷ []) r
 behind_from text before s r w stops =
-    let few : length s.entries ≤ 65536 = omega (arith, r.few, w.calls) in
-    let are : AreEntries r.later w.after r.rest.now s.entries = record { so_far = w.entries; few = few; stops = stops } in
-    let first : IsFirstSection r.later w.from r.rest.now s = first_section r.later w.from w.line w.after r.rest.now (s.cpus, s.limit) s.entries w.cut w.domain are in
+    let first : IsFirstSection r.later w.from r.rest.now s = first_section r.later w.from w.after r.rest.now s (read_so_far text before s r w) w.domain w.entries stops in
     record {
       body = w.body;
       header = w.header;
@@ -106,9 +106,7 @@ behind_from text before s r w stops =
 
 -- the section that is being read
 pub section_within : (text : List ℕ) (before : List SectionView) (s : SectionView) (r : CallsReader) → IsWithin text before s r → IsSection s
-section_within text before s r w =
-    let t = domain_takes w.line (s.cpus, s.limit) w.domain in
-    is_section s (record { some = t.some; most = t.few; low = t.low; high = t.high; few = omega (arith, r.few, w.calls); each = w.entries.each; numbered = w.entries.numbered })
+section_within text before s r w = is_section s (read_so_far text before s r w)
 
 -- where no entry came
 pub behind_none : (text : List ℕ) (before : List SectionView) (s : SectionView) (r : CallsReader) (found : Option Entry) → found ≡ None → IsNextEntry text before s r (Ok found) → IsBehind text (before ++ s ∷ []) r

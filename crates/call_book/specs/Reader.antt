@@ -1,14 +1,14 @@
 -- Where a reader of a calls text stands, and what it reads next (own).
-use Rattle.std.specs.Prelude.{◌≡◌, ℕ, ◌+◌, ◌<◌, ◌||◌, ◌==◌, List, [], ◌∷◌, ◌++◌, length, Option, Some, None, Result, Ok, Err}
+use Rattle.std.specs.Prelude.{◌≡◌, ℕ, ◌+◌, ◌≤◌, ◌<◌, ◌||◌, ◌==◌, List, [], ◌∷◌, ◌++◌, length, Option, Some, None, Result, Ok, Err}
 use Rattle.std.specs.List.{flat_map}
 use Rattle.call_book.specs.declared.calls_reader.CallsReader.{CallsReader}
 use Rattle.call_book.specs.declared.fault.CallsFault.{CallsFault}
 use Rattle.call_book.specs.declared.section.Entry.{Entry}
 use Rattle.call_book.specs.SectionView.{SectionView}
-use Rattle.call_book.specs.Spelling.{section_lines, some_later, has_later, header_line, spelling}
+use Rattle.call_book.specs.Spelling.{domain_line, section_lines, some_later, has_later, header_line, spelling}
 use Rattle.call_book.specs.Limits.{AreRead}
 use Rattle.call_book.specs.BadLine.{IsReadFault}
-use Rattle.call_book.specs.private.Reading.{cut_at, domain_at, Counts, SoFar, SectionsSoFar, last_full}
+use Rattle.call_book.specs.ReadSoFar.{Counts, SoFar, SectionsSoFar, last_full}
 
 -- how many bytes of the text are left
 abbrev pub left : CallsReader → ℕ
@@ -39,15 +39,17 @@ pub record IsBehind (text : List ℕ) (sections : List SectionView) (r : CallsRe
 -- behind which more may follow.
 pub record IsWithin (text : List ℕ) (before : List SectionView) (s : SectionView) (r : CallsReader)
     : Type 0 where
-  -- the text behind the header, that from the domain's line on, this line and what follows it
+  -- the text behind the header, that from the domain's line on, and that behind this line
   pub body : List ℕ
   pub from : List ℕ
-  pub line : List ℕ
   pub after : List ℕ
   pub header : text ≡ header_line r.later ++ (10 ∷ body)
   pub so_far : SectionsSoFar r.later body from before
-  pub cut : cut_at 10 from ≡ Some (line, after)
-  pub domain : domain_at line ≡ Some (s.cpus, s.limit)
+  pub domain : from ≡ domain_line s ++ 10 ∷ after
+  pub some : 0 < s.cpus
+  pub most : s.cpus ≤ 64
+  pub low : 10485 ≤ s.limit
+  pub high : s.limit ≤ 1048576
   pub entries : SoFar r.later after r.rest.now s.entries
   pub found : r.found_later ≡ (has_later before || some_later s.entries)
   pub count : r.sections ≡ length before + 1

@@ -1,6 +1,6 @@
 use Rattle.std.proofs.Common.{◌∙◌, ℕ, ◌+◌, ◌-◌, Bool, ◌||◌, List, ◌∷◌, ◌++◌, [], length, ap, sym, subst, arith, length-append, length-set}
 use Rattle.call_book.specs.Spelling.{has_later}
-use Rattle.call_book.specs.private.Reading.{Counts}
+use Rattle.call_book.specs.ReadSoFar.{Counts}
 use Rattle.call_book.proofs.Entries.{entry_takes, one_more, counts_more, lacks_unfinished, lacks_bad}
 use Rattle.call_book.proofs.Readers.{behind_from, cut_less, found_more}
 use Rattle.call_book.proofs.calls_reader.CallsReader.next_entry.Goals as goal
@@ -35,12 +35,14 @@ returns-in-Ok-clause-next c = λ text before s w.
     record {
       body = w.body;
       from = w.from;
-      line = w.line;
       after = w.after;
       header = w.header;
       so_far = w.so_far;
-      cut = w.cut;
       domain = w.domain;
+      some = w.some;
+      most = w.most;
+      low = w.low;
+      high = w.high;
       entries = one_more was.later w.after was.rest.now c.in-Some.line.now c.in-Some.after.now was.made s.entries e w.entries w.counts (sym c.in-Some.ensures) next;
       found = ap (λ (x : Bool). was.found_later || x) c.is_later.ensures ∙ found_more was.found_later (has_later before) s.entries e w.found;
       count = w.count;
