@@ -1,6 +1,6 @@
 -- What a replay of a text says of it, and of its writer.
-use Rattle.std.proofs.Common.{◌≡◌, ℕ, List, [], ◌∷◌, refl, sym, ap, ◌∙◌}
-use Rattle.std.specs.Prelude.{All}
+use Rattle.std.proofs.Common.{◌≡◌, ℕ, List, [], ◌∷◌, Option, Some, None, refl, sym}
+use Rattle.std.specs.Io.KnownBytes.{Keeps}
 use Rattle.std.proofs.lemmas.List.Elements.{All-head}
 use Rattle.call_book.specs.declared.fault.CallsFault.{CallsFault}
 use Rattle.call_book.specs.declared.fault.CallsFault.TheVariants as calls
@@ -8,11 +8,11 @@ use Rattle.call_book.specs.SectionView.{SectionView}
 use Rattle.call_book.specs.Spelling.{spelling}
 use Rattle.call_book.specs.Limits.{IsSection, AreRead}
 use Rattle.call_book.specs.BadLine.{IsReadFault}
-use Rattle.counted_io.specs.Sides.{Side}
+use Rattle.counted_io.specs.declared.counted.Counted.{Counted}
+use Rattle.counted_io.specs.Sides.{Side, side}
 use Rattle.calls_trace.specs.declared.fault.TraceFault.{TraceFault}
 use Rattle.calls_trace.specs.declared.fault.TraceFault.TheVariants as traces
 use Rattle.calls_trace.specs.declared.replaying.ReplayPrint.TheVariants as prints
-use Rattle.calls_trace.specs.declared.run_text.RunText.{RunText}
 use Rattle.calls_trace.specs.declared.run_text.RunText.TheVariants.{Trace}
 use Rattle.calls_trace.specs.Replay.{trace_of_sections}
 use Rattle.calls_trace.specs.Upward.{of_trace, of_calls}
@@ -24,8 +24,16 @@ use Rattle.calls_trace.proofs.Texts.{text_is}
 pub one_section : (s : SectionView) → AreRead (s ∷ []) → IsSection s
 one_section s are = All-head IsSection s [] are.within.each
 
-pub one_text : (text : RunText) (s : SectionView) → text ≡ Trace → trace_of_sections (s ∷ []) ≡ text_of_all text (s ∷ [])
-one_text text s trace = sym (text_is Trace prints.Trace refl (s ∷ [])) ∙ ap (λ (t : RunText). text_of_all t (s ∷ [])) (sym trace)
+pub one_text : (s : SectionView) → trace_of_sections (s ∷ []) ≡ text_of_all Trace (s ∷ [])
+one_text s = sym (text_is Trace prints.Trace refl (s ∷ []))
+
+keeps_same : (o : Option (List ℕ)) → Keeps o o
+keeps_same None = tt
+keeps_same (Some bs) = refl
+
+-- a writer that was not called
+pub not_called : {W : Type 0} (known : W → Option (List ℕ)) (w : Counted W) → IsUntouched (side known w w)
+not_called known w = record { kept = keeps_same (known w.port.inner); writes = refl }
 
 -- a text that is none that is read, where nothing was written
 pub unread : (text : List ℕ) (wanted : List SectionView → List ℕ) (w : Side) (fault : CallsFault) → IsReadFault text fault → IsUntouched w → IsUnreplayed text wanted w (of_calls fault)

@@ -15,7 +15,7 @@ ghost use Rattle.call_book.specs.Book.{IsLegal};
 ghost use Rattle.switch_text.specs.Names.{named};
 ghost use Rattle.calls_trace.specs.Replay.{no_names, with_name, names_after, calls_of};
 ghost use Rattle.calls_trace.specs.Told.{names_in, params_in, no_params, with_params, params_after, told_of};
-ghost use Rattle.calls_trace.specs.private.Replaying.{AreNamed, Gives, GivesParams, given_in, IsRunOf, IsToldOf, section_view};
+ghost use Rattle.calls_trace.specs.private.Replaying.{AreNamed, Gives, GivesParams, given_in, IsRunOf, IsToldOf};
 ghost use Rattle.calls_trace.specs.private.Recorded.{given_by, given_by_all, params_given_by, params_given_by_all};
 
 use attr_check::Params;

@@ -67,6 +67,16 @@ fn has_second_domain(text: &[u8]) -> bool {
     false
 }
 
+/// Takes the section out where it is the only one.
+fn only_one(sections: &mut Vec<Section>) -> Option<Section>
+    ensures only { IfSome result (λ section. sections.old.items ≡ section ∷ []) }
+{
+    if sections.len() == 1 {
+        return sections.pop();
+    }
+    None
+}
+
 /// The section of a text that has one alone. Where the text seems to have more it answers none, so
 /// that no section is read twice.
 fn only_section(alloc: Global, text: &[u8]) -> Result<Option<Section>, CallsFault>
@@ -78,28 +88,49 @@ fn only_section(alloc: Global, text: &[u8]) -> Result<Option<Section>, CallsFaul
         return Ok(None);
     }
     let mut sections = read_calls(alloc, text)?;
-    if sections.len() != 1 {
-        return Ok(None);
+    match only_one(&mut sections) {
+        Some(section) => Ok(Some(section)),
+        None => Ok(None),
     }
-    Ok(sections.pop())
 }
 
-/// The section whose trace is written while its calls are made: where it is the only one, and the
-/// trace is asked for.
-fn played_section(alloc: Global, kind: RunText, text: &[u8]) -> Result<Option<Section>, CallsFault>
-    ensures trace { IfOk result (λ found. IfSome found (λ section. kind ≡ texts.Trace)) }
-    ensures only { IfOk result (λ found. IfSome found (λ section. AreRead (section ∷ [])
-        × (text.now ≡ spelling (section ∷ [])))) }
-    ensures fault { IfErr result (IsReadFault text.now) }
+/// Makes the calls of a text, each as soon as it is read, and writes a text of their runs.
+fn write_read_runs<W: Write>(
+    alloc: Global,
+    kind: RunText,
+    text: &[u8],
+    writer: &mut Counted<W>,
+) -> Result<(), ReplayFault>
+    requires faults { faults_of writer.old < 2 ^ 63 }
+    ensures ok { OnOk result
+        (IsReplayed text.now (text_of_all kind) (side W.contents writer.old writer.new)) }
+    ensures err { IfErr result
+        (IsUnreplayed text.now (text_of_all kind) (side W.contents writer.old writer.new)) }
 {
-    match kind {
-        RunText::Trace => only_section(alloc, text),
-        _ => Ok(None),
+    let runs = runs_of_text(alloc, text, kind.tells())?;
+    Ok(write_runs(alloc, kind, &runs, writer)?)
+}
+
+/// Makes the calls of a text, and writes the trace of their runs; that of one section alone while
+/// they are made.
+fn write_read_trace<W: Write>(
+    alloc: Global,
+    text: &[u8],
+    writer: &mut Counted<W>,
+) -> Result<(), ReplayFault>
+    requires faults { faults_of writer.old < 2 ^ 63 }
+    ensures ok { OnOk result
+        (IsReplayed text.now (text_of_all texts.Trace) (side W.contents writer.old writer.new)) }
+    ensures err { IfErr result
+        (IsUnreplayed text.now (text_of_all texts.Trace) (side W.contents writer.old writer.new)) }
+{
+    match only_section(alloc, text)? {
+        Some(section) => Ok(write_played(alloc, section, writer)?),
+        None => write_read_runs(alloc, RunText::Trace, text, writer),
     }
 }
 
-/// Makes the calls of a text, and writes a text of their runs; the trace of one section while they
-/// are made.
+/// Makes the calls of a text, and writes a text of their runs.
 pub(crate) fn write_run_text<W: Write>(
     alloc: Global,
     kind: RunText,
@@ -112,11 +143,10 @@ pub(crate) fn write_run_text<W: Write>(
     ensures err { IfErr result
         (IsUnreplayed text.now (text_of_all kind) (side W.contents writer.old writer.new)) }
 {
-    if let Some(section) = played_section(alloc, kind, text)? {
-        return Ok(write_played(alloc, section, writer)?);
+    match kind {
+        RunText::Trace => write_read_trace(alloc, text, writer),
+        _ => write_read_runs(alloc, kind, text, writer),
     }
-    let runs = runs_of_text(alloc, text, kind.tells())?;
-    Ok(write_runs(alloc, kind, &runs, writer)?)
 }
 
 /// Writes the calls of sections with their replies, in one piece.
