@@ -1,5 +1,5 @@
 -- The calls of a section, from its first entry on, and its run so far.
-use Rattle.std.proofs.Common.{◌≡◌, ℕ, ◌+◌, ◌*◌, ◌≤◌, Bool, true, false, cond, List, [], ◌∷◌, ◌++◌, length, map, refl, sym, ap, subst, ◌∙◌, append_assoc, append-nil, arith, length-append}
+use Rattle.std.proofs.Common.{◌≡◌, ℕ, ◌+◌, Bool, true, false, cond, List, [], ◌∷◌, ◌++◌, refl, sym, ap, ◌∙◌, append_assoc, append-nil}
 use Rattle.std.proofs.lemmas.List.{map-append}
 use Rattle.attr_check.specs.ParamsView.{ParamsView}
 use Rattle.domain_run.specs.declared.call.Call.{Call}
@@ -15,7 +15,7 @@ use Rattle.call_book.specs.Reader.{with_entries}
 use Rattle.switch_text.specs.Names.{Names, named}
 use Rattle.calls_trace.specs.Replay.{calls_of, names_of, names_after, no_names}
 use Rattle.calls_trace.specs.Told.{domain_of, told_of, params_of, params_after, no_params}
-use Rattle.calls_trace.specs.private.Replaying.{AreNamed, Gives, Given, GivesParams, given_in, heard, IsRunOf, IsToldOf}
+use Rattle.calls_trace.specs.private.Replaying.{AreNamed, Gives, Given, GivesParams, given_in, IsRunOf, IsToldOf}
 
 -- ---- one call more
 

@@ -1,4 +1,4 @@
-use Rattle.std.proofs.Common.{◌≡◌, ℕ, false, true, List, ◌∷◌, [], Option, Some, Ok, refl, ap, subst, ◌∙◌, arith, length-append}
+use Rattle.std.proofs.Common.{◌≡◌, false, true, ◌∷◌, [], Option, Ok, refl, ap, subst, ◌∙◌, arith, length-append}
 use Rattle.std.specs.Prelude.{IfSome}
 use Rattle.domain_run.specs.Domain.{Domain}
 use Rattle.domain_run.specs.Sound.{IsAdmitted}
