@@ -1,5 +1,5 @@
 -- Runs of which each call is made as soon as it is read.
-use Rattle.std.specs.Prelude.{ℕ, ◌≡◌, ◌≤◌, ◌+◌, ◌*◌, Bool, List, [], ◌∷◌, ◌++◌, length, map, All, sum_by}
+use Rattle.std.specs.Prelude.{ℕ, ◌≡◌, ◌≤◌, ◌*◌, Bool, List, [], ◌∷◌, ◌++◌, length, map, All, sum_by}
 use Rattle.call_book.specs.declared.calls_reader.CallsReader.{CallsReader}
 use Rattle.call_book.specs.SectionView.{SectionView}
 use Rattle.call_book.specs.Spelling.{spelling}
