@@ -322,7 +322,7 @@ impl Roster {
 
     /// As `turn`, of a task that sits nowhere, since it has been charged: nobody looks for its seat.
     #[inline(always)]
-    fn turn_charged(&mut self, place: usize, time: u64, change: &Change)
+    pub(crate) fn turn_charged(&mut self, place: usize, time: u64, change: &Change)
         requires there { place < length self.old.tasks }
         requires free { (d : Task)
             → seat_of self.old.seats (slice_index_or self.old.tasks place d) ≡ None }

@@ -28,17 +28,11 @@ freed old new p cpu d is home =
 pub at-task-requires-clause-free : goal.at-task-requires-clause-free
 at-task-requires-clause-free c d = freed c.args.roster.now c.leave_free.new.self c.args.place c.cpu_at-cpu.result d c.leave_free.ensures (c.cpu_at-cpu.ensures.cpu d)
 
-pub look-before-requires-clause-sound : goal.look-before-requires-clause-sound
-look-before-requires-clause-sound c =
-    let x = c.at-task.result.now in
-    let tasks = ap (λ (r : RosterView). r.tasks) c.leave_free.ensures in
-    subst (IsSound c.args.time) (sym (c.at-task.ensures.task x ∙ ap (λ (ts : List Task). get_or ts c.args.place x) tasks)) (c.requires.sound c.args.place x c.requires.there)
+pub turn_charged-requires-clause-free : goal.turn_charged-requires-clause-free
+turn_charged-requires-clause-free c d = freed c.args.roster.now c.leave_free.new.self c.args.place c.cpu_at-cpu.result d c.leave_free.ensures (c.cpu_at-cpu.ensures.cpu d)
 
-pub look-before-requires-clause-may : goal.look-before-requires-clause-may
-look-before-requires-clause-may c =
-    let x = c.at-task.result.now in
-    let tasks = ap (λ (r : RosterView). r.tasks) c.leave_free.ensures in
-    subst (MayMake c.args.time c.args.change.now) (sym (c.at-task.ensures.task x ∙ ap (λ (ts : List Task). get_or ts c.args.place x) tasks)) (c.requires.may x)
+pub tell_turn-requires-clause-free : goal.tell_turn-requires-clause-free
+tell_turn-requires-clause-free c d = freed c.args.roster.now c.leave_free.new.self c.args.place c.cpu_at-cpu.result d c.leave_free.ensures (c.cpu_at-cpu.ensures.cpu d)
 
 pub returns-then-tells_nothing-clause-told : goal.returns-then-tells_nothing-clause-told
 returns-then-tells_nothing-clause-told c d =
@@ -46,31 +40,3 @@ returns-then-tells_nothing-clause-told c d =
     let looked : c.at-task.result.now ≡ get_or c.args.roster.now.tasks c.args.place d = c.at-task.ensures.task d ∙ ap (λ (ts : List Task). get_or ts c.args.place d) tasks in
     let none = ap (told_by_change c.args.time c.args.change.now) (sym looked) ∙ c.tells_nothing.ensures c.args.time c.if-tells_nothing.true in
     subst (λ hs. Tells c.args.log.now hs c.args.log.now) (sym none) (tells_none c.args.log.now)
-
-pub at-requires-clause-free : goal.at-requires-clause-free
-at-requires-clause-free c d =
-    let t = get_or c.turn-2.new.self.tasks c.args.place d in
-    elim c.turn-2.ensures.left [
-      | inl same ↦
-          ap (λ (r : RosterView). seat_of r.seats (get_or r.tasks c.args.place d)) same
-          ∙ freed c.args.roster.now c.leave_free.new.self c.args.place c.cpu_at-cpu.result d c.leave_free.ensures (c.cpu_at-cpu.ensures.cpu d)
-      | inr left ↦
-          ap (λ seats. seat_of seats t) (left d)
-          ∙ left_free t (left_of (get_or c.leave_free.new.self.tasks c.args.place d) c.leave_free.new.self.seats)
-    ]
-
-pub returns-clause-told : goal.returns-clause-told
-returns-clause-told c d =
-    let old = c.args.roster.now.tasks in
-    let time = c.args.time in
-    let change = c.args.change.now in
-    let f = after_change time change in
-    let t = get_or old c.args.place d in
-    let tasks = ap (λ (r : RosterView). r.tasks) c.leave_free.ensures in
-    let step = subst (λ (ts : List Task). IsStep f c.args.place ts c.turn-2.new.self.tasks) tasks c.turn-2.ensures.step in
-    let before : c.at-task.result.now ≡ t = c.at-task.ensures.task d ∙ ap (λ (ts : List Task). get_or ts c.args.place d) tasks in
-    let behind : c.at.result.now ≡ f t = c.at.ensures.task d ∙ ap (λ (ts : List Task). get_or ts c.args.place d) (step.is d) ∙ get_or-set_same old c.args.place (f t) d c.requires.there in
-    let looked = c.look-before.ensures ∙ ap (look_of time change) before in
-    let told : all_of c.seen_behind-told.result ≡ told_by_change time change t =
-    ap all_of (c.seen_behind-told.ensures ∙ (λ i. told_behind time change (looked i) (behind i))) ∙ change_seen time change t in
-    subst (λ hs. Tells c.args.log.now hs c.push_all.new.self) told c.push_all.ensures.told
