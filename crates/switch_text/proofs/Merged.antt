@@ -272,6 +272,7 @@ found_some runs m n few all merge is at place_in switch_is small =
           (AllByRecursion-weaker (λ x. is_earlier e x ≡ true) (λ x. is_earlier x e ≡ false) rest (λ x q. not_later-from_earlier e x q) rise.0) first.before first.behind;
       printed = subst (λ (s : Switch). HasLine run.names.now run.base s) (sym switch_is) (line_at runs places i run all at place_in n.switch.now);
       run = record { inside = at.inside; is = at.is };
+      among = record { place = p; inside = place_in; is = switch_is };
       place = small;
     }
 

@@ -8,7 +8,7 @@ ghost use Rattle.switch_text.specs.Runs.{views, IsRun};
 ghost use Rattle.switch_text.specs.Events.{events_of};
 ghost use Rattle.switch_text.specs.Telling.{told_views, IsTold};
 ghost use Rattle.switch_text.specs.private.EventMerging.{line_of_next, CanShow};
-ghost use Rattle.switch_text.specs.private.Ready.{AreNobodys, IsSlot, IsTexts};
+ghost use Rattle.switch_text.specs.private.Ready.{names_at, AreNobodys, IsSlot, IsTexts};
 ghost use Rattle.switch_text.specs.private.ToldMerging.{next_told_event, IsShown};
 
 use crate::batch::Batch;
@@ -46,13 +46,13 @@ fn append_event(
     requires few { length runs.now ≤ 8 }
     requires shown { CanShow runs.now next.now }
     requires many { length slots.old ≡ 640 }
-    requires slots { All (IsSlot runs.now) slots.old }
+    requires slots { All (IsSlot (names_at runs.now)) slots.old }
     requires texts { IsTexts texts.old }
     requires room { length batch.old ≤ 65152 }
     ensures text { batch.new ≡ batch.old ++ line_of_next next.now }
     ensures short { length batch.new ≤ length batch.old + 384 }
     ensures many { length slots.new ≡ 640 }
-    ensures slots { All (IsSlot runs.now) slots.new }
+    ensures slots { All (IsSlot (names_at runs.now)) slots.new }
     ensures texts { IsTexts texts.new }
 {
     match next {

@@ -1,12 +1,12 @@
 //! What lines say of tasks, idle CPUs, states, and of a CPU in a second, put together once and kept
 //! while a trace is written.
 
-ghost use Rattle.std.specs.Prelude.{ℕ, ◌≡◌, ◌+◌, ◌<◌, ◌≤◌, ◌++◌, length, slice_index_or, All, Option, Some, None, IfSome, IsTrue};
+ghost use Rattle.std.specs.Prelude.{ℕ, ◌≡◌, ◌+◌, ◌<◌, ◌≤◌, ◌++◌, List, length, slice_index_or, All, Option, Some, None, IfSome, IsTrue};
 ghost use Rattle.switch_text.specs.Names.{named, HasName};
 ghost use Rattle.switch_text.specs.Line.{cpu_part};
 ghost use Rattle.switch_text.specs.private.Parts.{second_part, state_part};
 ghost use Rattle.switch_text.specs.private.Pieces.{short_text_of};
-ghost use Rattle.switch_text.specs.private.Ready.{IsReady, names_at, who_of, AreNobodys, IsSlot, IsLane, nth_state, IsMiddles, IsTexts};
+ghost use Rattle.switch_text.specs.private.Ready.{IsReady, who_of, AreNobodys, IsSlot, IsLane, nth_state, IsMiddles, IsTexts};
 
 use crate::lines::{pid_for, put_coming, put_cpu, put_leaving, put_second, put_state, put_task};
 use crate::piece::{Piece, ShortPiece};
@@ -155,16 +155,6 @@ pub(crate) fn no_slots() -> [Slot; SLOTS]
     [no_slot(); SLOTS]
 }
 
-/// Takes all texts for nobody's.
-pub(crate) fn clear(slots: &mut [Slot])
-    ensures many { length slots.new ≡ length slots.old }
-    ensures empty { AreNobodys slots.new }
-{
-    for slot in slots.iter_mut() {
-        slot.who = Who::Nobody;
-    }
-}
-
 /// Whether it is the text of this CPU of the machine and this second.
 #[inline(always)]
 fn is_lane(lane: &Lane, cpu: u32, second: u64) -> bool
@@ -308,22 +298,25 @@ fn refill(
     cpu: u32,
     task: Option<u32>,
 )
+    ghost names: { ℕ → ℕ → List ℕ }
     requires place { place < 640 }
     requires many { length slots.old ≡ 640 }
     requires run { run < length runs.now }
     requires cpu { cpu < 512 }
     requires name { (d : Run) → IfSome task (HasName (slice_index_or runs.now run d).names.now) }
-    requires right { All (IsSlot runs.now) slots.old }
+    requires same { (d : Run) → IfSome task
+        (λ n. named (slice_index_or runs.now run d).names.now n ≡ names run n) }
+    requires right { All (IsSlot names) slots.old }
     ensures many { length slots.new ≡ 640 }
-    ensures right { All (IsSlot runs.now) slots.new }
-    ensures texts { (d : Slot) → IsReady (names_at runs.now run) cpu task (slice_index_or slots.new place d) }
+    ensures right { All (IsSlot names) slots.new }
+    ensures texts { (d : Slot) → IsReady (names run) cpu task (slice_index_or slots.new place d) }
 {
     let who = who_is(run, cpu, task);
     slots[place] = make(runs[run].names, who, cpu, task);
 }
 
 /// Sees to it that the texts of a task of this run, or of the idle task of a CPU of the machine,
-/// are kept, and gives their place.
+/// are kept, and gives their place. Names are those of whole runs, of which these may be slices.
 #[inline(always)]
 pub(crate) fn seat(
     slots: &mut [Slot],
@@ -332,16 +325,19 @@ pub(crate) fn seat(
     cpu: u32,
     task: Option<u32>,
 ) -> usize
+    ghost names: { ℕ → ℕ → List ℕ }
     requires few { length runs.now ≤ 8 }
     requires many { length slots.old ≡ 640 }
     requires run { run < length runs.now }
     requires cpu { cpu < 512 }
     requires name { (d : Run) → IfSome task (HasName (slice_index_or runs.now run d).names.now) }
-    requires right { All (IsSlot runs.now) slots.old }
+    requires same { (d : Run) → IfSome task
+        (λ n. named (slice_index_or runs.now run d).names.now n ≡ names run n) }
+    requires right { All (IsSlot names) slots.old }
     ensures inside { result < 640 }
     ensures many { length slots.new ≡ 640 }
-    ensures right { All (IsSlot runs.now) slots.new }
-    ensures texts { (d : Slot) → IsReady (names_at runs.now run) cpu task (slice_index_or slots.new result d) }
+    ensures right { All (IsSlot names) slots.new }
+    ensures texts { (d : Slot) → IsReady (names run) cpu task (slice_index_or slots.new result d) }
 {
     let place = place_for(run, cpu, task);
     if !is_of(&slots[place], who_is(run, cpu, task)) {

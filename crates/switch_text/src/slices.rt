@@ -8,13 +8,13 @@ ghost use Rattle.counted_io.specs.Faults.{one_more_unless, TakesFront};
 ghost use Rattle.switch_text.specs.Names.{named, SameNames};
 ghost use Rattle.switch_text.specs.Runs.{IsRun};
 ghost use Rattle.switch_text.specs.SlicedTrace.{sliced_trace, IsEndOf, IsStopped};
-ghost use Rattle.switch_text.specs.private.Ready.{IsTexts};
+ghost use Rattle.switch_text.specs.private.Ready.{IsSlot, IsTexts};
 ghost use Rattle.switch_text.specs.private.Sending.{Sends};
 ghost use Rattle.switch_text.specs.private.Sliced.{lines_by};
 
 use crate::batch::Batch;
 use crate::fault::WriteFault;
-use crate::ready::{Slot, Texts, TraceRoom, clear, no_texts};
+use crate::ready::{Slot, Texts, TraceRoom, no_texts};
 use crate::run::Run;
 use crate::writing::{header_text, send_runs, stopped_after};
 use counted_io::Counted;
@@ -55,8 +55,8 @@ pub trait Slices {
 }
 
 // The lines of the slice that is at hand go out behind what waits: how many bytes went out, also
-// where the writer failed. What is left waits. A slice may name tasks that were not there before it,
-// so the texts of tasks are made anew.
+// where the writer failed. What is left waits. The texts of tasks are those by the names of the whole
+// run, so they are kept for the slices that follow.
 fn send_slice<S: Slices, W: Write>(
     slices: &S,
     slots: &mut [Slot],
@@ -64,7 +64,10 @@ fn send_slice<S: Slices, W: Write>(
     batch: &mut Batch,
     writer: &mut Counted<W>,
 ) -> Result<usize, usize>
+    ghost names: { ℕ → List ℕ }
+    requires named { names ≡ S.names slices.now }
     requires many { length slots.old ≡ 640 }
+    requires slots { All (IsSlot (λ run. names)) slots.old }
     requires texts { IsTexts texts.old }
     requires room { length batch.old ≤ 65536 }
     requires faults { faults_of writer.old < 2 ^ 63 }
@@ -81,10 +84,10 @@ fn send_slice<S: Slices, W: Write>(
     ensures stopped { IfErr result (λ n. n
         ≤ length batch.old + 512 * length (S.at_hand slices.now)) }
     ensures many { length slots.new ≡ 640 }
+    ensures slots { All (IsSlot (λ run. names)) slots.new }
     ensures texts { IsTexts texts.new }
     ensures faults { faults_of writer.new ≡ one_more_unless (is_ok result) (faults_of writer.old) }
 {
-    clear(slots);
     let runs = [slices.slice()];
     send_runs(&runs, slots, texts, batch, writer)
 }

@@ -1,19 +1,19 @@
 //! The trace text of runs.
 
-ghost use Rattle.std.specs.Prelude.{◌≡◌, ◌+◌, ◌*◌, ◌<◌, ◌≤◌, ◌^◌, ◌++◌, length, is_ok, All, IfErr, IfOk, OnOk};
+ghost use Rattle.std.specs.Prelude.{ℕ, ◌≡◌, ◌+◌, ◌*◌, ◌<◌, ◌≤◌, ◌^◌, ◌++◌, List, length, is_ok, All, IfErr, IfOk, OnOk};
 ghost use Rattle.std.specs.List.{flat_map};
 ghost use Rattle.std.specs.Io.KnownBytes.{Appends};
 ghost use Rattle.switch_text.specs.Trace.{entries_of, header, trace_of};
 ghost use Rattle.switch_text.specs.Runs.{views, IsRun};
 ghost use Rattle.counted_io.specs.Sides.{inner_of, faults_of};
 ghost use Rattle.counted_io.specs.Faults.{one_more_unless, TakesFront};
-ghost use Rattle.switch_text.specs.private.Merging.{next_entry, IsPrinted, IsRunAt};
+ghost use Rattle.switch_text.specs.private.Merging.{next_entry, IsPrinted, IsRunAt, IsNamed};
 ghost use Rattle.switch_text.specs.private.Sending.{Sends};
 ghost use Rattle.switch_text.specs.private.Sliced.{lines_in};
 ghost use Rattle.switch_text.specs.Line.{digits_in};
 ghost use Rattle.switch_text.specs.private.Parts.{event_part};
 ghost use Rattle.switch_text.specs.private.Pieces.{text_of, short_text_of};
-ghost use Rattle.switch_text.specs.private.Ready.{AreNobodys, IsSlot, IsTexts};
+ghost use Rattle.switch_text.specs.private.Ready.{AreNamed, AreNobodys, IsSlot, IsTexts};
 
 use crate::batch::{Batch, Front};
 use crate::fault::WriteFault;
@@ -62,17 +62,19 @@ pub(crate) fn append_line(
     texts: &mut Texts,
     batch: &mut Batch,
 )
+    ghost names: { ℕ → ℕ → List ℕ }
     requires few { length runs.now ≤ 8 }
     requires printed { IsPrinted next.now }
     requires run { IsRunAt runs.now next.now }
+    requires named { IsNamed names next.now }
     requires many { length slots.old ≡ 640 }
-    requires slots { All (IsSlot runs.now) slots.old }
+    requires slots { All (IsSlot names) slots.old }
     requires texts { IsTexts texts.old }
     requires room { length batch.old ≤ 65152 }
     ensures text { batch.new ≡ batch.old ++ (next_entry next.now).line }
     ensures short { length batch.new ≤ length batch.old + 384 }
     ensures many { length slots.new ≡ 640 }
-    ensures slots { All (IsSlot runs.now) slots.new }
+    ensures slots { All (IsSlot names) slots.new }
     ensures texts { IsTexts texts.new }
 {
     let switch = next.switch;
@@ -103,8 +105,9 @@ fn together(sent: usize, more: usize) -> usize
     sent + more
 }
 
-/// The lines of runs, by time and CPU, go out behind what waits, with room for the texts of tasks
-/// that holds none yet: how many bytes went out, also where the writer failed. What is left waits.
+/// The lines of runs, by time and CPU, go out behind what waits: how many bytes went out, also where
+/// the writer failed. What is left waits. The texts of tasks that are kept are those by the names of
+/// whole runs, of which these may be slices.
 #[inline(always)]
 pub(crate) fn send_runs<W: Write>(
     runs: &[Run<'_>],
@@ -113,10 +116,12 @@ pub(crate) fn send_runs<W: Write>(
     batch: &mut Batch,
     writer: &mut Counted<W>,
 ) -> Result<usize, usize>
+    ghost names: { ℕ → ℕ → List ℕ }
     requires few { length runs.now ≤ 8 }
     requires runs { All IsRun runs.now }
+    requires named { AreNamed names runs.now }
     requires many { length slots.old ≡ 640 }
-    requires empty { AreNobodys slots.old }
+    requires slots { All (IsSlot names) slots.old }
     requires texts { IsTexts texts.old }
     requires room { length batch.old ≤ 65536 }
     requires faults { faults_of writer.old < 2 ^ 63 }
@@ -133,6 +138,7 @@ pub(crate) fn send_runs<W: Write>(
         (W.contents (inner_of writer.old)) (W.contents (inner_of writer.new))
         (batch.old ++ lines_in (views runs.now))) }
     ensures many { length slots.new ≡ 640 }
+    ensures slots { All (IsSlot names) slots.new }
     ensures texts { IsTexts texts.new }
     ensures faults { faults_of writer.new ≡ one_more_unless (is_ok result) (faults_of writer.old) }
 {

@@ -4,7 +4,7 @@ use Rattle.std.specs.Prelude.{ℕ, ◌≡◌, ◌+◌, ◌<◌, ◌^◌, true, f
 use Rattle.std.specs.List.{AllByRecursion}
 use Rattle.switch_text.specs.declared.run.Run.{Run}
 use Rattle.switch_text.specs.declared.merge.Next.{Next}
-use Rattle.switch_text.specs.Names.{HasLine}
+use Rattle.switch_text.specs.Names.{named, HasLine, SameNames}
 use Rattle.switch_text.specs.Trace.{RunView, Entry, entry_of, entries_of, is_earlier}
 use Rattle.switch_text.specs.Runs.{view_of, views}
 
@@ -40,11 +40,22 @@ pub record IsRunAt (runs : List Run) (n : Next) : Type 0 where
   pub inside : n.index < length runs
   pub is : n.run.now ≡ slice_index_or runs n.index n.run.now
 
+-- it is one of the switches of its run
+pub record IsAmong (n : Next) : Type 0 where
+  pub place : ℕ
+  pub inside : place < length n.run.now.switches.now
+  pub is : n.switch.now ≡ slice_index_or n.run.now.switches.now place n.switch.now
+
+-- who leaves and who comes is so named there, by the place of its run
+abbrev pub IsNamed : (ℕ → ℕ → List ℕ) → Next → Type 0
+IsNamed names n = SameNames (named n.run.now.names.now) (names n.index) n.switch.now
+
 -- the next of all, which has a line
 pub record IsNextOf (runs : List Run) (places : List ℕ) (n : Next) : Type 0 where
   pub ahead : IsAhead (views runs) places n.index (next_entry n)
   pub printed : IsPrinted n
   pub run : IsRunAt runs n
+  pub among : IsAmong n
   pub place : slice_index places n.index + 1 < 2 ^ 64
 
 -- nothing is left, or the next of all is found

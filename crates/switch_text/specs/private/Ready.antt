@@ -1,5 +1,5 @@
 -- What lines say of tasks, idle CPUs and states, put together once and kept.
-use Rattle.std.specs.Prelude.{ℕ, zero, suc, ◌≡◌, List, [], ◌∷◌, ◌++◌, slice_index_or, All, Option, Some, None}
+use Rattle.std.specs.Prelude.{ℕ, zero, suc, ◌≡◌, ◌<◌, List, [], ◌∷◌, ◌++◌, length, slice_index_or, All, Option, Some, None}
 use Rattle.domain_run.specs.declared.switch.PrevState.{PrevState}
 use Rattle.domain_run.specs.declared.switch.PrevState.TheVariants.{Running, Preempted, Sleeping, Dead}
 use Rattle.switch_text.specs.declared.run.Run.{Run}
@@ -10,7 +10,7 @@ use Rattle.switch_text.specs.declared.ready.Middles.{Middles}
 use Rattle.switch_text.specs.declared.ready.Lane.{Lane}
 use Rattle.switch_text.specs.declared.piece.ShortPiece.{ShortPiece}
 use Rattle.switch_text.specs.declared.ready.Texts.{Texts}
-use Rattle.switch_text.specs.Names.{named}
+use Rattle.switch_text.specs.Names.{named, SameNames}
 use Rattle.switch_text.specs.Line.{task_part, cpu_part}
 use Rattle.switch_text.specs.private.Parts.{second_part, leaving_part, state_part, coming_part}
 use Rattle.switch_text.specs.private.Pieces.{text_of, short_text_of}
@@ -21,7 +21,7 @@ pub record IsReady (names : ℕ → List ℕ) (cpu : ℕ) (task : Option ℕ) (s
   pub leaving : text_of s.leaving ≡ leaving_part names cpu task
   pub coming : text_of s.coming ≡ coming_part names cpu task
 
--- how the tasks of a run are named
+-- how the tasks of a run, by its place among the runs, are named
 abbrev pub names_at : List Run → ℕ → ℕ → List ℕ
 names_at [] i = λ number. []
 names_at (r ∷ runs) zero = named r.names.now
@@ -32,19 +32,24 @@ abbrev pub who_of : ℕ → ℕ → Option ℕ → Who
 who_of run cpu None = Idle cpu
 who_of run cpu (Some number) = Task run number
 
--- the texts are those of whom they name: an idle task has no name of a run, and a task's name is
--- the same on each CPU
-abbrev pub IsFor : List Run → Who → Slot → Type 0
-IsFor runs Nobody s = Unit {0}
-IsFor runs (Idle cpu) s = (names : ℕ → List ℕ) → IsReady names cpu None s
-IsFor runs (Task run number) s = (cpu : ℕ) → IsReady (names_at runs run) cpu (Some number) s
+-- so are the tasks named that leave and come in the runs: by the place of their run, and their number
+abbrev pub AreNamed : (ℕ → ℕ → List ℕ) → List Run → Type 0
+AreNamed names runs = (i : ℕ) (r : Run) → i < length runs → r ≡ slice_index_or runs i r
+    → All (SameNames (named r.names.now) (names i)) r.switches.now
+
+-- the texts are those of whom they name, as it is named: an idle task has no name of a run, and a task's
+-- name is the same on each CPU
+abbrev pub IsFor : (ℕ → ℕ → List ℕ) → Who → Slot → Type 0
+IsFor names Nobody s = Unit {0}
+IsFor names (Idle cpu) s = (others : ℕ → List ℕ) → IsReady others cpu None s
+IsFor names (Task run number) s = (cpu : ℕ) → IsReady (names run) cpu (Some number) s
 
 -- none names anybody
 abbrev pub AreNobodys : List Slot → Type 0
 AreNobodys slots = All (λ s. s.who ≡ Nobody) slots
 
-abbrev pub IsSlot : List Run → Slot → Type 0
-IsSlot runs s = IsFor runs s.who s
+abbrev pub IsSlot : (ℕ → ℕ → List ℕ) → Slot → Type 0
+IsSlot names s = IsFor names s.who s
 
 -- the text is that of the CPU of the machine and of the second
 abbrev pub IsLane : Lane → Type 0

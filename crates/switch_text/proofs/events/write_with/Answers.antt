@@ -5,6 +5,7 @@ use Rattle.switch_text.specs.Events.{all_events, events_of}
 use Rattle.switch_text.specs.Telling.{told_views}
 use Rattle.counted_io.specs.Faults.{TakesFront}
 use Rattle.switch_text.specs.private.EventMerging.{EventPlaces, places_of, left_events, after_next, line_of_next}
+use Rattle.switch_text.specs.private.Ready.{names_at}
 use Rattle.switch_text.proofs.Kept.{nobody_is_slot}
 use Rattle.switch_text.proofs.UnderWay.{sent_within, Sends-more, length_from_append}
 use Rattle.switch_text.proofs.EventsUnderWay.{AreUnderWay, AreUnderWay-start, AreUnderWay-next, AreUnderWay-stop, AreUnderWay-end, counts_fit, left_events-start, few_events}
@@ -27,7 +28,7 @@ loop-next-init g c =
           (AreUnderWay-start before (views runs) (told_views told) (left_events runs told (record { switches = replicate 8 0; told = replicate 8 0 })) start));
       heads = c.start-merge.ensures.heads;
       many = c.requires.many;
-      slots = nobody_is_slot runs c.args.slots.now c.requires.empty;
+      slots = nobody_is_slot (names_at runs) c.args.slots.now c.requires.empty;
       texts = c.no_texts-texts.ensures;
       faults = refl;
     }

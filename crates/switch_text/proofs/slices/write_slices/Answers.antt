@@ -1,7 +1,9 @@
-use Rattle.std.proofs.Common.{◌≡◌, ◌∙◌, [], length, refl, ap, arith}
+use Rattle.std.proofs.Common.{◌≡◌, ◌∙◌, [], length, refl, sym, subst, ap, arith}
 use Rattle.counted_io.specs.Sides.{inner_of}
 use Rattle.switch_text.specs.Trace.{header}
 use Rattle.switch_text.specs.SlicedTrace.{sliced_trace}
+use Rattle.switch_text.specs.private.Ready.{AreNobodys}
+use Rattle.switch_text.proofs.Kept.{nobody_is_slot, slots_kept}
 use Rattle.switch_text.proofs.UnderWay.{length-header}
 use Rattle.switch_text.proofs.Sliced.{ends_all, stops_all}
 use Rattle.switch_text.proofs.Slicing.{IsSlicing-start, IsSlicing-next, IsSlicing-stops, IsSlicing-ends, sliced_fits, end_of_end, IsStopped-here}
@@ -18,9 +20,18 @@ loop-slots-init g c =
       left = ([], refl);
       room = omega (arith, ap length waiting, length-header);
       many = ap length c.as_mut_slice-slots.ensures.value ∙ c.args.room.many;
+      slots = nobody_is_slot (λ run. g.S.Slices.names slices) _ (subst AreNobodys (sym c.as_mut_slice-slots.ensures.value) c.args.room.empty);
       texts = c.no_texts-texts.ensures;
       faults = refl;
     }
+
+pub send_slice-requires : goal.send_slice-requires
+send_slice-requires g c =
+    let l = c.loop-slots in
+    let i = l.invariant in
+    let names = g.S.Slices.names c.go_on.new.self in
+    let slots = slots_kept (g.S.Slices.names l.slices) names l.slots (λ number. sym (c.go_on.ensures.names number)) i.slots in
+    λ κs lives. (lives.0, (lives.1, (refl {a = names}, (i.many, (slots, (i.texts, (i.room, omega (arith, i.faults, c.requires.faults))))))))
 
 pub overflow_add-written : goal.overflow_add-written
 overflow_add-written g c =
@@ -47,6 +58,7 @@ loop-slots-preserved g c =
       left = end_of_end (g.S.Slices.rest slices) (g.S.Slices.rest l.slices) (g.S.Slices.at_hand now) (g.S.Slices.rest now) l.invariant.left c.go_on.ensures.rest;
       room = c.in-Ok.ensures.room;
       many = c.send_slice.ensures.many;
+      slots = c.send_slice.ensures.slots;
       texts = c.send_slice.ensures.texts;
       faults = c.in-Ok.ensures.faults ∙ l.invariant.faults;
     }

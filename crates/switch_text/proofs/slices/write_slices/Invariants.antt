@@ -1,7 +1,7 @@
-use Rattle.std.proofs.Common.{ℕ, length, ◌≡◌, ◌≤◌}
+use Rattle.std.proofs.Common.{ℕ, length, ◌≡◌, ◌≤◌, All}
 use Rattle.counted_io.specs.Sides.{inner_of}
 use Rattle.switch_text.specs.SlicedTrace.{IsEndOf}
-use Rattle.switch_text.specs.private.Ready.{IsTexts}
+use Rattle.switch_text.specs.private.Ready.{IsSlot, IsTexts}
 use Rattle.switch_text.specs.private.Sliced.{IsSlicing}
 use Rattle.switch_text.proofs.slices.write_slices.Given as goal
 
@@ -13,9 +13,13 @@ invariant-loop-slots g l = record {
   left : IsEndOf (g.S.Slices.rest l.fn.slices) (g.S.Slices.rest l.slices);
   room : length l.batch ≤ 65536;
   many : length l.slots ≡ 640;
+  slots : All (IsSlot (λ run. g.S.Slices.names l.slices)) l.slots;
   texts : IsTexts l.texts;
   faults : l.writer.faults ≡ l.fn.writer.faults;
 }
+
+abbrev pub ghost-send_slice : goal.ghost-send_slice
+ghost-send_slice g a = g.S.Slices.names a.slices.now
 
 abbrev pub decreases-loop-slots : goal.decreases-loop-slots
 decreases-loop-slots g l = length (g.S.Slices.rest l.slices)

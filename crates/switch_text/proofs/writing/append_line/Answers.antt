@@ -1,11 +1,12 @@
 use Rattle.std.proofs.Common.{◌+◌, get_or, ap, ◌∙◌}
 use Rattle.switch_text.specs.private.Pieces.{short_text_of}
-use Rattle.switch_text.proofs.Kept.{names_at-is, line_made}
+use Rattle.switch_text.proofs.Kept.{line_made}
 use Rattle.switch_text.proofs.writing.append_line.Goals as goal
 
+-- what is required has no names here: the fourth of them is `named`
+
 pub returns-clause-text : goal.returns-clause-text
-returns-clause-text c =
-    let runs = c.args.runs.now in
+returns-clause-text g c =
     let next = c.args.next.now in
     let run = next.run.now in
     let s = next.switch.now in
@@ -15,6 +16,5 @@ returns-clause-text c =
     let leaves = c.seat-place.ensures.texts c.index-slots-place.result in
     let comes = c.seat-place-2.ensures.texts c.index-slots-place-2.result in
     let lane = c.lane_at-lane.result.now in
-    let names = names_at-is runs next.index run c.requires.run.inside c.requires.run.is in
-    line_made runs next.index run s cpu prev coming (short_text_of lane.text) (short_text_of c.middle-state.result.now) c.args.batch.now c.append_leaving.new.batch c.append_end.new.self
-    names (ap (λ n. run.base + n) c.from.ensures) leaves comes (ap (λ l. short_text_of l.text) c.lane_at-lane.ensures ∙ c.keep_lane-kept.ensures.text lane) c.middle-state.ensures c.append_leaving.ensures.text c.append_end.ensures.text
+    line_made run (g.names next.index) s cpu prev coming (short_text_of lane.text) (short_text_of c.middle-state.result.now) c.args.batch.now c.append_leaving.new.batch c.append_end.new.self
+    c.requires.1.1.1.0 (ap (λ n. run.base + n) c.from.ensures) leaves comes (ap (λ l. short_text_of l.text) c.lane_at-lane.ensures ∙ c.keep_lane-kept.ensures.text lane) c.middle-state.ensures c.append_leaving.ensures.text c.append_end.ensures.text

@@ -6,34 +6,42 @@ use Rattle.counted_io.specs.Faults.{TakesFront}
 use Rattle.switch_text.specs.private.Merging.{next_entry, stepped}
 use Rattle.switch_text.specs.private.Sliced.{lines_in, IsSending}
 use Rattle.switch_text.proofs.Few.{few}
-use Rattle.switch_text.proofs.Kept.{nobody_is_slot}
+use Rattle.switch_text.proofs.Kept.{IsNamed-among}
 use Rattle.switch_text.proofs.Merged.{in_order-next}
 use Rattle.switch_text.proofs.UnderWay.{sent_within, Sends-more, length_from_append}
 use Rattle.switch_text.proofs.Sliced.{IsSending-start, IsSending-next, IsSending-stops, IsSending-ends, sent_fits}
 use Rattle.switch_text.proofs.writing.send_runs.Goals as goal
 
+-- what is required has no names here: behind the writer's, `few`, `runs`, `named`, `many`, `slots`,
+-- `texts`, `room` and `faults`, in this order
+
 pub loop-next-init : goal.loop-next-init
 loop-next-init g c = record {
   sending = subst (λ places. IsSending (g.W.Write.contents (inner_of c.args.writer.now)) (g.W.Write.contents (inner_of c.args.writer.now)) c.args.batch.now (views c.args.runs.now) places 0 c.args.batch.now) (sym c.start-merge.ensures.places)
-      (IsSending-start (g.W.Write.contents (inner_of c.args.writer.now)) c.args.batch.now (views c.args.runs.now) (omega (arith, length-map c.args.runs.now view_of, c.requires.few)));
+      (IsSending-start (g.W.Write.contents (inner_of c.args.writer.now)) c.args.batch.now (views c.args.runs.now) (omega (arith, length-map c.args.runs.now view_of, c.requires.1.0)));
   heads = c.start-merge.ensures.heads;
-  room = c.requires.room;
-  many = c.requires.many;
-  slots = nobody_is_slot c.args.runs.now c.args.slots.now c.requires.empty;
-  texts = c.requires.texts;
+  room = c.requires.1.1.1.1.1.1.1.0;
+  many = c.requires.1.1.1.1.0;
+  slots = c.requires.1.1.1.1.1.0;
+  texts = c.requires.1.1.1.1.1.1.0;
   faults = refl;
 }
 
 pub overflow_add-sent : goal.overflow_add-sent
 overflow_add-sent g c =
     let within = sent_within _ _ c.loop-next.batch c.make_room.new.self c.in-Ok.n c.in-Ok.ensures.ok in
-    omega (arith, sent_fits _ _ c.args.batch.now (views c.args.runs.now) c.loop-next.merge.places c.loop-next.sent c.in-Ok.n c.loop-next.batch c.loop-next.invariant.sending c.requires.room (few c.args.runs.now c.requires.few c.requires.runs) within)
+    omega (arith, sent_fits _ _ c.args.batch.now (views c.args.runs.now) c.loop-next.merge.places c.loop-next.sent c.in-Ok.n c.loop-next.batch c.loop-next.invariant.sending c.requires.1.1.1.1.1.1.1.0 (few c.args.runs.now c.requires.1.0 c.requires.1.1.0) within)
 
 pub step-requires-clause-run : goal.step-requires-clause-run
 step-requires-clause-run g c = c.in-Some.ensures.run
 
-pub append_line-requires-clause-run : goal.append_line-requires-clause-run
-append_line-requires-clause-run g c = c.in-Some.ensures.run
+pub append_line-requires : goal.append_line-requires
+append_line-requires g c =
+    let next = c.in-Some.next in
+    let is = c.in-Some.ensures in
+    let l = c.loop-next.invariant in
+    let named = IsNamed-among g.names c.args.runs.now next c.requires.1.1.1.0 is.run is.among in
+    (c.requires.1.0, (is.printed, (is.run, (named, (l.many, (l.slots, (l.texts, c.in-Ok.ensures.room)))))))
 
 pub loop-next-preserved : goal.loop-next-preserved
 loop-next-preserved g c =
@@ -60,7 +68,7 @@ loop-next-preserved g c =
 pub together-requires : goal.together-requires
 together-requires g c =
     let lt = c.in-Err.ensures.err.some_left in
-    omega (arith, sent_fits _ _ c.args.batch.now (views c.args.runs.now) c.loop-next.merge.places c.loop-next.sent c.in-Err.n c.loop-next.batch c.loop-next.invariant.sending c.requires.room (few c.args.runs.now c.requires.few c.requires.runs) (omega (arith, lt)))
+    omega (arith, sent_fits _ _ c.args.batch.now (views c.args.runs.now) c.loop-next.merge.places c.loop-next.sent c.in-Err.n c.loop-next.batch c.loop-next.invariant.sending c.requires.1.1.1.1.1.1.1.0 (few c.args.runs.now c.requires.1.0 c.requires.1.1.0) (omega (arith, lt)))
 
 pub returns-in-Err-clause-err : goal.returns-in-Err-clause-err
 returns-in-Err-clause-err g c =
@@ -71,7 +79,7 @@ pub returns-clause-ok : goal.returns-clause-ok
 returns-clause-ok g c = IsSending-ends _ _ c.args.batch.now (views c.args.runs.now) c.loop-next.merge.places c.loop-next.sent c.loop-next.batch c.loop-next.invariant.sending c.in_default.ensures
 
 pub returns-clause-counted : goal.returns-clause-counted
-returns-clause-counted g c = sent_fits _ _ c.args.batch.now (views c.args.runs.now) c.loop-next.merge.places c.loop-next.sent _ c.loop-next.batch c.loop-next.invariant.sending c.requires.room (few c.args.runs.now c.requires.few c.requires.runs) (omega arith)
+returns-clause-counted g c = sent_fits _ _ c.args.batch.now (views c.args.runs.now) c.loop-next.merge.places c.loop-next.sent _ c.loop-next.batch c.loop-next.invariant.sending c.requires.1.1.1.1.1.1.1.0 (few c.args.runs.now c.requires.1.0 c.requires.1.1.0) (omega arith)
 
 pub returns-clause-bound : goal.returns-clause-bound
 returns-clause-bound g c = let bound = c.loop-next.invariant.sending.bound in omega (arith, bound)

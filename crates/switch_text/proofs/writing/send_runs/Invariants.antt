@@ -13,10 +13,13 @@ invariant-loop-next g l = record {
   heads : IsMerge (views l.runs) l.merge;
   room : length l.batch ≤ 65536;
   many : length l.slots ≡ 640;
-  slots : All (IsSlot l.runs) l.slots;
+  slots : All (IsSlot g.names) l.slots;
   texts : IsTexts l.texts;
   faults : l.writer.faults ≡ l.fn.writer.faults;
 }
+
+abbrev pub ghost-append_line : goal.ghost-append_line
+ghost-append_line g a = g.names
 
 abbrev pub decreases-loop-next : goal.decreases-loop-next
 decreases-loop-next g l = length (left_of (views l.runs) l.merge.places)

@@ -4,14 +4,19 @@ use Rattle.switch_text.specs.Runs.{views}
 use Rattle.counted_io.specs.Sides.{inner_of}
 use Rattle.counted_io.specs.Faults.{TakesFront}
 use Rattle.switch_text.specs.private.Sliced.{lines_in}
+use Rattle.switch_text.specs.private.Ready.{names_at}
+use Rattle.switch_text.proofs.Kept.{AreNamed-at, nobody_is_slot}
 use Rattle.switch_text.proofs.UnderWay.{length-header}
 use Rattle.switch_text.proofs.Sliced.{ends_all, stops_all, trace_is}
 use Rattle.switch_text.proofs.writing.write_with.Goals as goal
 
-pub send_runs-requires-clause-room : goal.send_runs-requires-clause-room
-send_runs-requires-clause-room g c =
+pub send_runs-requires : goal.send_runs-requires
+send_runs-requires g c =
+    let runs = c.args.runs.now in
+    let r = c.requires in
     let waiting : c.append.new.self ≡ header = rw (c.append.ensures, c.new-batch.ensures) c.header_text.ensures.text in
-    omega (arith, ap length waiting, length-header)
+    let slots = nobody_is_slot (names_at runs) c.args.slots.now r.empty in
+    λ κs lives. (lives, (r.few, (r.runs, (AreNamed-at runs, (r.many, (slots, (c.no_texts-texts.ensures, (omega (arith, ap length waiting, length-header), r.faults))))))))
 
 pub returns-in-Err-clause-err : goal.returns-in-Err-clause-err
 returns-in-Err-clause-err g c =
