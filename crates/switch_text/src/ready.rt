@@ -259,14 +259,30 @@ fn make(names: &IndexMap<u32, String>, who: Who, cpu: u32, task: Option<u32>) ->
     }
 }
 
+/// So many places has each of so many runs for itself, where its tasks have no more numbers than
+/// that.
+#[inline(always)]
+fn places_each(runs: usize) -> usize
+    ensures { result ≤ 256 }
+{
+    if runs <= 2 {
+        return 256;
+    }
+    if runs <= 4 {
+        return 128;
+    }
+    64
+}
+
 /// Where the texts stand, if they stand anywhere.
-fn place_for(run: usize, cpu: u32, task: Option<u32>) -> usize
+#[inline(always)]
+fn place_for(runs: usize, run: usize, cpu: u32, task: Option<u32>) -> usize
     requires { run < 8 }
     ensures { result < 640 }
 {
     match task {
         None => cpu as usize % IDLE,
-        Some(number) => IDLE + (number as usize + 64 * run) % TASKS,
+        Some(number) => IDLE + (number as usize + places_each(runs) * run) % TASKS,
     }
 }
 
@@ -339,7 +355,7 @@ pub(crate) fn seat(
     ensures right { All (IsSlot names) slots.new }
     ensures texts { (d : Slot) → IsReady (names run) cpu task (slice_index_or slots.new result d) }
 {
-    let place = place_for(run, cpu, task);
+    let place = place_for(runs.len(), run, cpu, task);
     if !is_of(&slots[place], who_is(run, cpu, task)) {
         refill(slots, place, runs, run, cpu, task);
     }
