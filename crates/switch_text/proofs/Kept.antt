@@ -38,7 +38,7 @@ pub IsNamed-at : (runs : List Run) (n : Next) → IsRunAt runs n → IsNamed (na
 IsNamed-at runs n at =
     subst (λ (f : ℕ → List ℕ). SameNames (named n.run.now.names.now) f n.switch.now) (sym (names_at-is runs n.index n.run.now at.inside at.is)) (SameNames-itself (named n.run.now.names.now) n.switch.now)
 
--- so is one of the switches, if all are
+-- where all switches of the runs are named so, one of them is
 pub IsNamed-among : (names : ℕ → ℕ → List ℕ) (runs : List Run) (n : Next) → AreNamed names runs → IsRunAt runs n → IsAmong n → IsNamed names n
 IsNamed-among names runs n are at among =
     subst (λ (s : Switch). SameNames (named n.run.now.names.now) (names n.index) s) (sym among.is) (are n.index n.run.now at.inside at.is among.place n.switch.now among.inside)
@@ -60,7 +60,7 @@ unfolding coming_part
 coming_part-same f g cpu None h = refl
 coming_part-same f g cpu (Some n) h = rw h refl
 
--- texts serve under all names by which it is named alike, and those of a task on all CPUs
+-- texts serve under all names that give the same name to their task, and those of a task on all CPUs
 pub IsReady-same : (f g : ℕ → List ℕ) (cpu : ℕ) (task : Option ℕ) (s : Slot) → IfSome task (λ n. f n ≡ g n) → IsReady f cpu task s → IsReady g cpu task s
 IsReady-same f g cpu task s same h = record {
   head = h.head ∙ task_part-same f g task same;
@@ -89,7 +89,7 @@ IsFor-same f g same Nobody s h = tt
 IsFor-same f g same (Idle cpu) s h = h
 IsFor-same f g same (Task run number) s h = λ cpu. IsReady-same (f run) (g run) cpu (Some number) s (same run number) (h cpu)
 
--- where all are named alike, the texts that are kept serve on
+-- where other names give each task the same name, the texts that are kept serve on
 pub slots_kept : (f g : ℕ → List ℕ) (slots : List Slot) → ((number : ℕ) → f number ≡ g number) → All (IsSlot (λ run. f)) slots → All (IsSlot (λ run. g)) slots
 slots_kept f g slots same h = All-weaker (IsSlot (λ run. f)) (IsSlot (λ run. g)) (λ s is. IsFor-same (λ run. f) (λ run. g) (λ run number. same number) s.who s is) slots h
 

@@ -32,13 +32,13 @@ abbrev pub who_of : ℕ → ℕ → Option ℕ → Who
 who_of run cpu None = Idle cpu
 who_of run cpu (Some number) = Task run number
 
--- so are the tasks named that leave and come in the runs: by the place of their run, and their number
+-- by the place of their run and their number, the tasks that leave and come there are named so
 abbrev pub AreNamed : (ℕ → ℕ → List ℕ) → List Run → Type 0
 AreNamed names runs = (i : ℕ) (r : Run) → i < length runs → r ≡ slice_index_or runs i r
     → All (SameNames (named r.names.now) (names i)) r.switches.now
 
--- the texts are those of whom they name, as it is named: an idle task has no name of a run, and a task's
--- name is the same on each CPU
+-- the texts are those of whom they name: an idle task has no name of a run, and a task's name is
+-- the same on each CPU
 abbrev pub IsFor : (ℕ → ℕ → List ℕ) → Who → Slot → Type 0
 IsFor names Nobody s = Unit {0}
 IsFor names (Idle cpu) s = (others : ℕ → List ℕ) → IsReady others cpu None s
