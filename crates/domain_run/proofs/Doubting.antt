@@ -460,3 +460,21 @@ turn_settled d e w places seats after tasks now p cpu number f x h read home nam
     (settled_again d e w places places seats (left cpu number (left cpu number seats)) tasks (set tasks p y) rated sum limit
     (marked_home d.rated d.cpus e.cpus cpu number seats tasks p x y h read home (stays ∙ home) left_it bare)
     (λ i h q. refl) are))
+
+-- a task of a CPU without a seat has changed, and belongs to it still: an empty seat is right whatever
+-- the inactive bandwidth is
+pub free_turned : (d : Doubts) (w : ℕ) (places : Places) (seats : List (Option Seat)) (tasks : List Task) (p : ℕ) (x y : Task) → p < length tasks → x ≡ get_or tasks p x → y.cpu ≡ x.cpu → get_or seats x.cpu None ≡ None
+    → AreSettled d w places seats tasks → AreSettled d w places seats (set tasks p y)
+free_turned d w places seats tasks p x y h read stays none are cpu few bare =
+    let was = are cpu few bare in (
+      elim (cases_eq cpu x.cpu) [
+        | inl same ↦
+            let free : get_or seats cpu None ≡ None = ap (λ (n : ℕ). get_or seats n None) same ∙ none in
+            free_settled (occupant places cpu) (noted_basis d w tasks cpu) (noted_basis d w (set tasks p y) cpu) (get_or seats cpu None) was.0
+            (subst (λ (o : Option Seat). IfSome o (λ s. s.basis ≡ None)) (sym free) tt)
+        | inr other ↦
+            let sums = uinact_set cpu tasks p x y h read (λ q. other (sym q)) (λ q. other (sym q ∙ stays)) in
+            subst (λ (n : ℕ). IsSettled (occupant places cpu) (record { uinact = n; sum = d.sum; cpus = w; limit = d.limit }) (get_or seats cpu None)) (sym sums) was.0
+      ],
+      was.1,
+    )

@@ -323,12 +323,13 @@ impl Roster {
         self.doubts.mark_left(cpu, sat);
     }
 
-    /// As `turn`, of a task that sits nowhere, since it has been charged: nobody looks for its seat.
+    /// As `turn`, of a task on whose CPU nobody sits, since it has been charged: nobody looks for its
+    /// seat, and no CPU comes in doubt.
     #[inline(always)]
     fn turn_charged(&mut self, place: usize, time: u64, change: &Change)
         requires there { place < length self.old.tasks }
         requires free { (d : Task)
-            → seat_of self.old.seats (slice_index_or self.old.tasks place d) ≡ None }
+            → slice_index_or self.old.seats (slice_index_or self.old.tasks place d).cpu None ≡ None }
         requires fits { Fits self.old.cpus change.now }
         requires sound { All (IsSound time) self.old.tasks }
         requires may { (d : Task) → MayMake time change.now (slice_index_or self.old.tasks place d) }
@@ -341,9 +342,7 @@ impl Roster {
     {
         // For the prover alone: a look at the seats brings that there are at most 64.
         let _ = self.seats.len();
-        let cpu = self.tasks[place].cpu;
         turning::turn_settled(&mut self.tasks[place], &mut self.queue, place, time, change);
-        self.doubts.mark_left(cpu, false);
     }
 
     /// Changes the task of a number, where it is listed.
