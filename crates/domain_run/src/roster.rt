@@ -326,7 +326,7 @@ impl Roster {
     /// As `turn`, of a task on whose CPU nobody sits, since it has been charged: nobody looks for its
     /// seat, and no CPU comes in doubt.
     #[inline(always)]
-    fn turn_charged(&mut self, place: usize, time: u64, change: &Change)
+    pub(crate) fn turn_charged(&mut self, place: usize, time: u64, change: &Change)
         requires there { place < length self.old.tasks }
         requires free { (d : Task)
             → slice_index_or self.old.seats (slice_index_or self.old.tasks place d).cpu None ≡ None }

@@ -1,6 +1,6 @@
 //! The parts of a tick, on all tasks of a domain.
 
-ghost use Rattle.std.specs.Prelude.{IsTrue, ◌≡◌, ◌≢◌, ◌<◌, ◌≤◌, ◌^◌, ◌+◌, ◌*◌, map, All, AllPairs, ◌++◌, ◌∷◌, [], false, length, slice_index_or, vec_len, vec_capacity};
+ghost use Rattle.std.specs.Prelude.{IsTrue, ◌≡◌, ◌≢◌, ◌<◌, ◌≤◌, ◌^◌, ◌+◌, ◌*◌, map, All, AllPairs, ◌++◌, ◌∷◌, [], false, None, length, slice_index_or, vec_len, vec_capacity};
 ghost use Rattle.std.specs.List.{flat_map};
 ghost use Rattle.attr_check.specs.Ratio.{cap};
 ghost use Rattle.domain_run.specs.declared.task.Task.{Task};
@@ -17,6 +17,7 @@ ghost use Rattle.domain_run.specs.private.Paying.{MayPayIf, paid};
 ghost use Rattle.domain_run.specs.private.Choosing.{AreWithin, switch_of};
 ghost use Rattle.domain_run.specs.private.Roster.{after_change, served, IsPart, IsWoken, Fits, MayMake};
 ghost use Rattle.domain_run.specs.private.Timers.{IsStep};
+ghost use Rattle.domain_run.specs.private.Waiting.{seat_of};
 ghost use Rattle.domain_run.specs.private.Telling as telling_spec;
 
 use crate::change::Change;
@@ -25,6 +26,33 @@ use crate::roster::Roster;
 use crate::switch::{PrevState, Switch};
 use crate::{parts, telling};
 use edf_pick::Moved;
+
+/// Changes the task at a place, which sits nowhere, and tells the log what that tells.
+#[inline(never)]
+fn tell_turn(roster: &mut Roster, place: usize, time: u64, change: &Change, log: &mut Log)
+    requires there { place < length roster.old.tasks }
+    requires free { (d : Task)
+        → seat_of roster.old.seats (slice_index_or roster.old.tasks place d) ≡ None }
+    requires early { time < 2 ^ 43 }
+    requires narrow { roster.old.cpus ≤ 64 }
+    requires fits { Fits roster.old.cpus change.now }
+    requires sound { All (IsSound time) roster.old.tasks }
+    requires may { (d : Task) → MayMake time change.now (slice_index_or roster.old.tasks place d) }
+    requires room { HasRoom 3 log.old }
+    ensures cpus { roster.new.cpus ≡ roster.old.cpus }
+    ensures places { roster.new.places ≡ roster.old.places }
+    ensures step { IsStep (after_change time change.now) place roster.old.tasks roster.new.tasks }
+    ensures sound { All (IsSound time) roster.new.tasks }
+    ensures told { (d : Task) → Tells log.old
+        (telling_spec.told_by_change time change.now (slice_index_or roster.old.tasks place d))
+        log.new }
+    ensures room { log.old.room ≤ log.new.room + 3 }
+{
+    let before = telling::look(roster.at(place), time, change);
+    roster.turn(place, time, change);
+    let told = telling::seen_behind(time, change, before, roster.at(place));
+    log.push_all(told);
+}
 
 /// Changes the task at a place, and tells the log what that tells.
 #[inline(always)]
@@ -54,13 +82,10 @@ fn turn(roster: &mut Roster, place: usize, time: u64, change: &Change, log: &mut
     roster.leave_free(cpu);
     let task = roster.at(place);
     if telling::tells_nothing(task, change) {
-        roster.turn(place, time, change);
+        roster.turn_charged(place, time, change);
         return;
     }
-    let before = telling::look(task, time, change);
-    roster.turn(place, time, change);
-    let told = telling::seen_behind(time, change, before, roster.at(place));
-    log.push_all(told);
+    tell_turn(roster, place, time, change, log);
 }
 
 /// Changes the task of a number, where it is listed, and tells the log.
