@@ -62,9 +62,9 @@ fn leave_free_on(tasks: &mut Vec<Task>, seats: &mut Seats, index: &Index, cpu: u
     }
 }
 
-// What the rates of the tasks of a CPU depend on now.
+/// What the rates of the tasks of a CPU depend on now.
 #[inline(always)]
-fn basis_of(accounts: &Accounts, cpu: usize, limit: u64) -> Basis
+pub(super) fn basis_of(accounts: &Accounts, cpu: usize, limit: u64) -> Basis
     requires there { cpu < length accounts.now.all }
     ensures { result ≡ record {
       uinact = inactive_at cpu accounts.now;
@@ -83,7 +83,7 @@ fn basis_of(accounts: &Accounts, cpu: usize, limit: u64) -> Basis
 
 /// The rate of a task that belongs to a CPU, and what it was worked out from.
 #[inline(always)]
-pub(super) fn rating_of(task: &Task, accounts: &Accounts, cpu: usize, limit: u64) -> Rating
+fn rating_of(task: &Task, accounts: &Accounts, cpu: usize, limit: u64) -> Rating
     requires there { cpu < length accounts.now.all }
     requires cpus { (0 < length accounts.now.all) × (length accounts.now.all ≤ 64) }
     requires limit { IsLimit limit }
