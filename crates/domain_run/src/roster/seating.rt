@@ -141,8 +141,7 @@ impl Roster {
         requires ahead { IsAhead self.old.clock seat }
         ensures { self.new ≡ record self.old { seats = slice_set self.old.seats cpu None } }
     {
-        charge_on(&mut self.tasks[place], cpu, seat, self.seats.upto());
-        self.seats.set(cpu, None);
+        starting::vacate_place(&mut self.tasks, &mut self.seats, cpu, place, seat);
         self.doubts.mark(cpu);
     }
 

@@ -8,7 +8,9 @@ ghost use Rattle.domain_run.specs.Sound.{occupant as occupant_in};
 ghost use Rattle.domain_run.specs.Tick.{sum_of};
 ghost use Rattle.domain_run.specs.private.Choosing as spec;
 ghost use Rattle.domain_run.specs.private.Doubts as doubts_spec;
+ghost use Rattle.domain_run.specs.private.Index.{IsAt};
 ghost use Rattle.domain_run.specs.private.Roster.{basis_in, homed_here};
+ghost use Rattle.domain_run.specs.private.Seats.{IsAhead};
 ghost use Rattle.domain_run.specs.private.Waiting as waiting;
 ghost use Rattle.grub_rules.specs.Accounts.{inactive_at};
 
@@ -16,10 +18,35 @@ use crate::doubts::Doubts;
 use crate::index::Index;
 use crate::roster::choosing::{home_on, occupant_of};
 use crate::roster::seating::{charge_on, rated_at_one, rated_on, seat_for};
-use crate::seats::{Basis, Rating, Seats};
+use crate::seats::{Basis, Rating, Seat, Seats};
 use crate::task::Task;
 use edf_pick::Schedule;
 use grub_rules::Accounts;
+
+/// Nobody sits on a CPU any more; who did, the task at a place of the list, is charged.
+#[inline(always)]
+pub(super) fn vacate_place(
+    tasks: &mut Vec<Task>,
+    seats: &mut Seats,
+    cpu: usize,
+    place: usize,
+    seat: Seat,
+)
+    requires there { cpu < length seats.old.seats }
+    requires sits { slice_index_or seats.old.seats cpu None ≡ Some seat }
+    requires at { IsAt tasks.old.items seat.number place }
+    requires ahead { IsAhead seats.old.upto seat }
+    requires numbered { AllPairs (λ a b. a.number ≢ b.number) tasks.old.items }
+    requires waits { waiting.AllWait seats.old.seats tasks.old.items }
+    ensures seats { seats.new ≡ record seats.old { seats = slice_set seats.old.seats cpu None } }
+    ensures tasks { waiting.owed_all seats.new tasks.new.items
+        ≡ waiting.owed_all seats.old tasks.old.items }
+    ensures waits { waiting.AllWait seats.new.seats tasks.new.items }
+    ensures room { vec_capacity tasks.new ≡ vec_capacity tasks.old }
+{
+    charge_on(&mut tasks[place], cpu, seat, seats.upto());
+    seats.set(cpu, None);
+}
 
 /// Nobody sits on a CPU any more; who did is charged.
 #[inline(never)]
@@ -38,10 +65,7 @@ pub(super) fn vacate_on(tasks: &mut Vec<Task>, seats: &mut Seats, index: &Index,
     };
     match index.place(tasks, seat.number) {
         None => seats.set(cpu, None),
-        Some(place) => {
-            charge_on(&mut tasks[place], cpu, seat, seats.upto());
-            seats.set(cpu, None);
-        }
+        Some(place) => vacate_place(tasks, seats, cpu, place, seat),
     }
 }
 
