@@ -22,9 +22,9 @@ ghost use Rattle.domain_run.specs.private.Telling as telling_spec;
 
 use crate::change::Change;
 use crate::log::Log;
-use crate::roster::Roster;
-use crate::switch::{PrevState, Switch};
-use crate::{parts, telling};
+use crate::roster::{Moment, Roster};
+use crate::switch::Switch;
+use crate::telling;
 use edf_pick::Moved;
 
 /// Changes the task at a place, which sits nowhere, and tells the log what that tells.
@@ -276,19 +276,6 @@ fn wake_unheard(roster: &mut Roster, time: u64)
     }
 }
 
-/// Part 5: the state in which an occupant leaves its CPU.
-fn state_of(roster: &Roster, occupant: Option<u32>) -> PrevState
-    ensures { result ≡ switches_spec.state_of roster.now.tasks occupant }
-{
-    match occupant {
-        None => PrevState::Running,
-        Some(number) => match roster.find(number) {
-            None => PrevState::Dead,
-            Some(task) => parts::left_in(task.condition),
-        },
-    }
-}
-
 /// Part 5 on a CPU that another one has: a switch is added.
 #[inline(always)]
 fn add_switch(switches: &mut Vec<Switch>, time: u64, roster: &Roster, moved: &Moved)
@@ -304,7 +291,7 @@ fn add_switch(switches: &mut Vec<Switch>, time: u64, roster: &Roster, moved: &Mo
         prev: moved.before,
         next: roster.occupant(moved.cpu),
         cpu: moved.cpu as u16,
-        state: state_of(roster, moved.before),
+        state: roster.state_of(moved.before),
     });
 }
 
@@ -394,8 +381,7 @@ pub(crate) fn begin_seated(
     ensures none { result ≡ false → roster.new.places ≡ roster.old.places }
 {
     wake_unheard(roster, time);
-    roster.choose_seated(limit);
-    add_switches(switches, time, roster);
+    roster.choose_seated(Moment { time, limit }, switches);
     let is_same = roster.moves().is_empty();
     !is_same
 }
