@@ -14,7 +14,7 @@ ghost use Rattle.domain_run.specs.Sound.{IsSound, IsApart};
 ghost use Rattle.domain_run.specs.Switches as switches_spec;
 ghost use Rattle.domain_run.specs.Tick as tick_spec;
 ghost use Rattle.domain_run.specs.private.Paying.{MayPayIf, paid};
-ghost use Rattle.domain_run.specs.private.Choosing.{AreWithin, switch_of};
+ghost use Rattle.domain_run.specs.private.Choosing as choosing_spec;
 ghost use Rattle.domain_run.specs.private.Roster.{after_change, served, IsPart, IsWoken, Fits, MayMake};
 ghost use Rattle.domain_run.specs.private.Timers.{IsStep};
 ghost use Rattle.domain_run.specs.private.Waiting.{seat_of};
@@ -23,7 +23,7 @@ ghost use Rattle.domain_run.specs.private.Telling as telling_spec;
 use crate::change::Change;
 use crate::log::Log;
 use crate::roster::{Moment, Roster};
-use crate::switch::Switch;
+use crate::switch::{Switch, switch_of};
 use crate::telling;
 use edf_pick::Moved;
 
@@ -282,26 +282,22 @@ fn add_switch(switches: &mut Vec<Switch>, time: u64, roster: &Roster, moved: &Mo
     requires narrow { moved.now.cpu < 65536 }
     requires room { vec_len switches.old < vec_capacity switches.old }
     ensures switches { switches.new.items ≡ switches.old.items
-        ++ switch_of time roster.now.tasks roster.now.places moved.now ∷ [] }
+        ++ choosing_spec.switch_of time roster.now.tasks roster.now.places moved.now ∷ [] }
     ensures len { vec_len switches.new ≡ vec_len switches.old + 1 }
     ensures room { vec_capacity switches.new ≡ vec_capacity switches.old }
 {
-    switches.push_reserved(Switch {
-        time,
-        prev: moved.before,
-        next: roster.occupant(moved.cpu),
-        cpu: moved.cpu as u16,
-        state: roster.state_of(moved.before),
-    });
+    let next = roster.occupant(moved.cpu);
+    let state = roster.state_of(moved.before);
+    switches.push_reserved(switch_of(time, *moved, next, state));
 }
 
 /// Part 5: there is a switch for each CPU that the last choice gave to another one.
 #[inline(always)]
 fn add_switches(switches: &mut Vec<Switch>, time: u64, roster: &Roster)
-    requires narrow { AreWithin 64 roster.now.moves }
+    requires narrow { choosing_spec.AreWithin 64 roster.now.moves }
     requires room { vec_len switches.old + length roster.now.moves ≤ vec_capacity switches.old }
     ensures switches { switches.new.items ≡ switches.old.items
-        ++ map (switch_of time roster.now.tasks roster.now.places) roster.now.moves }
+        ++ map (choosing_spec.switch_of time roster.now.tasks roster.now.places) roster.now.moves }
     ensures room { vec_capacity switches.new ≡ vec_capacity switches.old }
 {
     let moves = roster.moves();

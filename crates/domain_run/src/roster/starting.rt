@@ -19,7 +19,7 @@ use crate::index::Index;
 use crate::roster::choosing::{home_on, occupant_of, state_of};
 use crate::roster::seating::{charge_on, rated_at_one, rated_on, seat_for};
 use crate::seats::{Basis, Rating, Seat, Seats};
-use crate::switch::{PrevState, Switch};
+use crate::switch::{Switch, switch_of};
 use crate::task::Task;
 use edf_pick::{Moved, Schedule};
 use grub_rules::Accounts;
@@ -233,26 +233,6 @@ fn seat_next(
     }
     if let Some(place) = place {
         sit_at(tasks, accounts, seats, doubts, place, cpu, limit);
-    }
-}
-
-/// Part 5: the switch of a CPU that another one has.
-fn switch_of(time: u64, moved: Moved, next: Option<u32>, state: PrevState) -> Switch
-    requires { moved.cpu < 65536 }
-    ensures { result ≡ record {
-      time = time;
-      prev = moved.before;
-      next = next;
-      cpu = moved.cpu;
-      state = state;
-    } }
-{
-    Switch {
-        time,
-        prev: moved.before,
-        next,
-        cpu: moved.cpu as u16,
-        state,
     }
 }
 
