@@ -25,6 +25,7 @@ pub struct Cursor {
     script: Script,
 }
 
+// The event that comes is left out: it follows from the rest.
 impl fmt::Debug for Cursor {
     fn fmt<W: fmt::Write>(&self, f: &mut fmt::Formatter<W>) -> fmt::Result {
         f.debug_struct("Cursor")
