@@ -300,10 +300,6 @@ trust_settled d e w limit cpu places seats tasks is_rated others elsewhere marke
         subst (λ (x : Basis). IsSettled (occupant places cpu) x (get_or seats cpu None)) (sym (noted_now e w limit tasks cpu (sum ∙ is.0) (limit_same ∙ is.1))) here
     settled_by false same = free_settled (occupant places cpu) (basis_in w limit tasks cpu) (noted_basis e w tasks cpu) (get_or seats cpu None) here (free same)
 
-pub none_of : (o : Option Basis) (b : Bool) → b ≡ is_some o → b ≡ false → o ≡ None
-none_of None b is e = refl
-none_of (Some x) b is e = let bad : true ≡ false = sym is ∙ e in absurd cc
-
 -- where neither its marks nor what is noted is another
 pub same_trusted : (d e : Doubts) (w i : ℕ) (o : Option ℕ) (seats : List (Option Seat)) (tasks : List Task)
     → bit_at e.cpus i ≡ bit_at d.cpus i → bit_at e.rated i ≡ bit_at d.rated i → e.sum ≡ d.sum → e.limit ≡ d.limit
@@ -322,32 +318,6 @@ seat_other d e w cpu i o x seats tasks marks rated sum limit other are few bare 
     let was = same_trusted d e w i o seats tasks marks rated sum limit are few bare in
     let seat = sym (get_or-set_other seats cpu i x None other) in
     (subst (IsSettled o (noted_basis e w tasks i)) seat was.0, subst (IsFree (bit_at e.rated i)) seat was.1)
-
--- who has sat down is settled, and its CPU may be in doubt no more
-pub seat_settled : (d e : Doubts) (w limit cpu : ℕ) (places : Places) (seats : List (Option Seat)) (tasks : List Task) (s : Seat) (is_rated : Bool)
-    → ((i : ℕ) → i ≢ cpu → bit_at e.cpus i ≡ bit_at d.cpus i) → ((i : ℕ) → i ≢ cpu → bit_at e.rated i ≡ bit_at d.rated i)
-    → (IsTrue is_rated → bit_at e.cpus cpu ≡ 0 → bit_at e.rated cpu ≡ 1) → (IsTrue is_rated → bit_at e.cpus cpu ≡ 0 → (d.sum ≡ sum_of tasks) × (d.limit ≡ limit))
-    → (is_rated ≡ false → s.basis ≡ None) → e.sum ≡ d.sum → e.limit ≡ d.limit → cpu < length seats
-    → IsSettled (occupant places cpu) (basis_in w limit tasks cpu) (Some s)
-    → AreSettled d w places seats tasks → AreSettled e w places (set seats cpu (Some s)) tasks
-seat_settled d e w limit cpu places seats tasks s is_rated others elsewhere marked noted free sum limit_same there here are i few bare = elim (cases_eq i cpu) [
-  | inl same ↦
-      let none : bit_at e.cpus cpu ≡ 0 = subst (λ (n : ℕ). bit_at e.cpus n ≡ 0) same bare in
-      subst (λ (n : ℕ). IsSettled (occupant places n) (noted_basis e w tasks n) (get_or (set seats cpu (Some s)) n None) × IsFree (bit_at e.rated n) (get_or (set seats cpu (Some s)) n None)) (sym same)
-      (subst (λ o. IsSettled (occupant places cpu) (noted_basis e w tasks cpu) o × IsFree (bit_at e.rated cpu) o) (sym (get_or-set_same seats cpu (Some s) None there))
-      (settled_by is_rated refl none, λ z. by_rate is_rated refl none z))
-  | inr other ↦ seat_other d e w cpu i (occupant places i) (Some s) seats tasks (others i other) (elsewhere i other) sum limit_same other (are i) few bare
-]
-  where
-    by_rate : (b : Bool) → is_rated ≡ b → bit_at e.cpus cpu ≡ 0 → bit_at e.rated cpu ≡ 0 → s.basis ≡ None
-    by_rate true same bare none = let one = marked same bare in absurd (omega (arith, one, none))
-    by_rate false same bare none = free same
-
-    settled_by : (b : Bool) → is_rated ≡ b → bit_at e.cpus cpu ≡ 0 → IsSettled (occupant places cpu) (noted_basis e w tasks cpu) (Some s)
-    settled_by true same bare =
-        let is = noted same bare in
-        subst (λ (x : Basis). IsSettled (occupant places cpu) x (Some s)) (sym (noted_now e w limit tasks cpu (sum ∙ is.0) (limit_same ∙ is.1))) here
-    settled_by false same bare = free_settled (occupant places cpu) (basis_in w limit tasks cpu) (noted_basis e w tasks cpu) (Some s) here (free same)
 
 -- the tasks of the CPUs that are not in doubt sit rightly
 pub seated_all : (d : Doubts) (w limit : ℕ) (places : Places) (s : SeatsView) (items : List Task) → w ≤ 64 → d.sum ≡ sum_of (owed_all s items) → d.limit ≡ limit
@@ -460,3 +430,21 @@ turn_settled d e w places seats after tasks now p cpu number f x h read home nam
     (settled_again d e w places places seats (left cpu number (left cpu number seats)) tasks (set tasks p y) rated sum limit
     (marked_home d.rated d.cpus e.cpus cpu number seats tasks p x y h read home (stays ∙ home) left_it bare)
     (λ i h q. refl) are))
+
+-- a task of a CPU without a seat has changed, and belongs to it still: an empty seat is right whatever
+-- the inactive bandwidth is
+pub free_turned : (d : Doubts) (w : ℕ) (places : Places) (seats : List (Option Seat)) (tasks : List Task) (p : ℕ) (x y : Task) → p < length tasks → x ≡ get_or tasks p x → y.cpu ≡ x.cpu → get_or seats x.cpu None ≡ None
+    → AreSettled d w places seats tasks → AreSettled d w places seats (set tasks p y)
+free_turned d w places seats tasks p x y h read stays none are cpu few bare =
+    let was = are cpu few bare in (
+      elim (cases_eq cpu x.cpu) [
+        | inl same ↦
+            let free : get_or seats cpu None ≡ None = ap (λ (n : ℕ). get_or seats n None) same ∙ none in
+            free_settled (occupant places cpu) (noted_basis d w tasks cpu) (noted_basis d w (set tasks p y) cpu) (get_or seats cpu None) was.0
+            (subst (λ (o : Option Seat). IfSome o (λ s. s.basis ≡ None)) (sym free) tt)
+        | inr other ↦
+            let sums = uinact_set cpu tasks p x y h read (λ q. other (sym q)) (λ q. other (sym q ∙ stays)) in
+            subst (λ (n : ℕ). IsSettled (occupant places cpu) (record { uinact = n; sum = d.sum; cpus = w; limit = d.limit }) (get_or seats cpu None)) (sym sums) was.0
+      ],
+      was.1,
+    )

@@ -31,21 +31,25 @@ condition_at : (o : Option ℕ) (t : Task) → (with_cpu o t).condition ≡ t.co
 condition_at None t = refl
 condition_at (Some cpu) t = refl
 
-left_homed : (places : Places) (n : ℕ) (tasks : List Task) → left_by (find (λ t. eqb t.number n) (map (with_last_cpu places) tasks)) ≡ left_by (find (λ t. eqb t.number n) tasks)
-left_homed places n [] = refl
-left_homed places n (t ∷ tasks) =
-    let h = with_last_cpu places t in
-    let rest = map (with_last_cpu places) tasks in
-    let here : (b : Bool) → left_by (cond b (Some h) (find (λ t. eqb t.number n) rest)) ≡ left_by (cond b (Some t) (find (λ t. eqb t.number n) tasks)) =
-    λ b. elim b as (λ b. left_by (cond b (Some h) (find (λ t. eqb t.number n) rest)) ≡ left_by (cond b (Some t) (find (λ t. eqb t.number n) tasks))) [
-      | true ↦ ap (λ (c : Condition). left_by (Some (record t { condition = c }))) (condition_at (position (is_task t.number) places) t)
-      | false ↦ left_homed places n tasks
+left_alike : (f : Task → Task) → ((t : Task) → (f t).number ≡ t.number) → ((t : Task) → (f t).condition ≡ t.condition) → (n : ℕ) (tasks : List Task) → left_by (find (λ t. eqb t.number n) (map f tasks)) ≡ left_by (find (λ t. eqb t.number n) tasks)
+left_alike f number condition n [] = refl
+left_alike f number condition n (t ∷ tasks) =
+    let rest = map f tasks in
+    let here : (b : Bool) → left_by (cond b (Some (f t)) (find (λ t. eqb t.number n) rest)) ≡ left_by (cond b (Some t) (find (λ t. eqb t.number n) tasks)) =
+    λ b. elim b as (λ b. left_by (cond b (Some (f t)) (find (λ t. eqb t.number n) rest)) ≡ left_by (cond b (Some t) (find (λ t. eqb t.number n) tasks))) [
+      | true ↦ ap (λ (c : Condition). left_by (Some (record t { condition = c }))) (condition t)
+      | false ↦ left_alike f number condition n tasks
     ] in
-    ap (λ m. left_by (cond (eqb m n) (Some h) (find (λ t. eqb t.number n) rest))) (homed_keeps places t) ∙ here (eqb t.number n)
+    ap (λ m. left_by (cond (eqb m n) (Some (f t)) (find (λ t. eqb t.number n) rest))) (number t) ∙ here (eqb t.number n)
+
+pub state_alike : (f : Task → Task) → ((t : Task) → (f t).number ≡ t.number) → ((t : Task) → (f t).condition ≡ t.condition) → (tasks : List Task) (o : Option ℕ) → state_of (map f tasks) o ≡ state_of tasks o
+state_alike f number condition tasks None = refl
+state_alike f number condition tasks (Some n) = left_alike f number condition n tasks
 
 pub state_homed : (places : Places) (first tasks : List Task) (o : Option ℕ) → tasks ≡ map (with_last_cpu places) first → state_of tasks o ≡ state_of first o
-state_homed places first tasks None is = refl
-state_homed places first tasks (Some n) is = ap (λ (ts : List Task). left_by (find (λ t. eqb t.number n) ts)) is ∙ left_homed places n first
+state_homed places first tasks o is =
+    ap (λ (ts : List Task). state_of ts o) is
+    ∙ state_alike (with_last_cpu places) (homed_keeps places) (λ t. condition_at (position (is_task t.number) places) t) first o
 
 -- ---- THE SWITCHES
 

@@ -239,6 +239,3 @@ only_at tasks number p k d numbered at h e = one_index tasks k p d d numbered h 
 module _ (upto : ℕ) (seats : List (Option Seat)) (tasks : List Task) (number p : ℕ) (x : Task) (read : x ≡ get_or tasks p x) (at : IsAt (map (owed upto seats) tasks) number p) where
   pub inside_at : p < length tasks
   inside_at = let many : length (map (owed upto seats) tasks) ≡ length tasks = simp length-map in let h = at.within in omega (arith, h, many)
-
-  pub number_at : x.number ≡ number
-  number_at = sym (alike_owed upto seats x).number ∙ ap (λ (t : Task). t.number) (read_owed upto seats tasks p x inside_at read) ∙ at.is (owed upto seats x)

@@ -6,15 +6,20 @@ use Rattle.std.proofs.lemmas.List.{get_or-map, get_or_default, length-map}
 use Rattle.std.proofs.lemmas.List.Folds.{Any-from_list_any}
 use Rattle.std.proofs.lemmas.Option.{same_Some}
 use Rattle.domain_run.specs.declared.task.Task.{Task}
+use Rattle.domain_run.specs.declared.seats.Seat.{Seat}
+use Rattle.edf_pick.specs.declared.moves.Moved.{Moved}
 use Rattle.edf_pick.specs.Places.{Places}
 use Rattle.domain_run.specs.Conditions.{is_ready}
 use Rattle.domain_run.specs.Parts.{with_cpu}
 use Rattle.domain_run.specs.Sound.{occupant, IsSound}
+use Rattle.domain_run.specs.Switches.{state_of}
 use Rattle.domain_run.specs.Tick.{candidates, sum_of}
-use Rattle.domain_run.specs.private.Choosing.{IsHome}
+use Rattle.domain_run.specs.private.Choosing.{IsHome, homed_by}
 use Rattle.domain_run.specs.private.Roster.{homed_here}
-use Rattle.domain_run.specs.private.Waiting.{MaySit, MaySitIfReady, MaySitOf}
+use Rattle.domain_run.specs.private.Waiting.{owed, MaySit, MaySitIfReady, MaySitOf}
 use Rattle.domain_run.proofs.Keeping.{sum-map}
+use Rattle.domain_run.proofs.Moving.{state_alike}
+use Rattle.domain_run.proofs.Waiting.{alike_owed}
 use Rattle.domain_run.proofs.Placing.{ready_in, one_index}
 use Rattle.domain_run.proofs.Runners.{contends}
 use Rattle.domain_run.proofs.Seating.{AreCandidates}
@@ -28,6 +33,29 @@ here_params (Some n) cpu t = elim (eqb t.number n) as (λ b. (cond b (with_cpu (
 here_number : (o : Option ℕ) (cpu : ℕ) (t : Task) → (homed_here o cpu t).number ≡ t.number
 here_number None cpu t = refl
 here_number (Some n) cpu t = elim (eqb t.number n) as (λ b. (cond b (with_cpu (Some cpu) t) t).number ≡ t.number) [ true ↦ refl | false ↦ refl ]
+
+here_condition : (o : Option ℕ) (cpu : ℕ) (t : Task) → (homed_here o cpu t).condition ≡ t.condition
+here_condition None cpu t = refl
+here_condition (Some n) cpu t = elim (eqb t.number n) as (λ b. (cond b (with_cpu (Some cpu) t) t).condition ≡ t.condition) [ true ↦ refl | false ↦ refl ]
+
+moved_number : (places : Places) (moves : List Moved) (t : Task) → (homed_by places moves t).number ≡ t.number
+moved_number places [] t = refl
+moved_number places (m ∷ moves) t = moved_number places moves (homed_here (occupant places m.cpu) m.cpu t) ∙ here_number (occupant places m.cpu) m.cpu t
+
+moved_condition : (places : Places) (moves : List Moved) (t : Task) → (homed_by places moves t).condition ≡ t.condition
+moved_condition places [] t = refl
+moved_condition places (m ∷ moves) t = moved_condition places moves (homed_here (occupant places m.cpu) m.cpu t) ∙ here_condition (occupant places m.cpu) m.cpu t
+
+-- the state in which an occupant leaves, told by the tasks as they are stored
+pub state_stored : (upto : ℕ) (seats : List (Option Seat)) (items : List Task) (o : Option ℕ) → state_of items o ≡ state_of (map (owed upto seats) items) o
+state_stored upto seats items o = sym (state_alike (owed upto seats) (λ t. (alike_owed upto seats t).number) (λ t. (alike_owed upto seats t).condition) items o)
+
+-- where some have started, it is as before
+pub state_started : (upto : ℕ) (seats : List (Option Seat)) (items first : List Task) (places : Places) (moves : List Moved) (o : Option ℕ) → map (owed upto seats) items ≡ map (homed_by places moves) first → state_of items o ≡ state_of first o
+state_started upto seats items first places moves o is =
+    state_stored upto seats items o
+    ∙ ap (λ (ts : List Task). state_of ts o) is
+    ∙ state_alike (homed_by places moves) (moved_number places moves) (moved_condition places moves) first o
 
 here_may : (o : Option ℕ) (cpu : ℕ) (t : Task) → MaySit t → MaySit (homed_here o cpu t)
 here_may None cpu t may = may

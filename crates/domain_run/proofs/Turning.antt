@@ -1,7 +1,6 @@
 -- A change of one task of the list, where charges wait.
-use Rattle.std.proofs.Common.{◌≡◌, ◌≢◌, ℕ, ◌<◌, Option, None, false, List, length, map, get_or, set, refl, sym, ap, ◌∙◌, subst, arith}
+use Rattle.std.proofs.Common.{◌≡◌, ◌≢◌, ℕ, ◌<◌, Option, None, List, length, map, get_or, set, sym, ap, ◌∙◌, subst, arith}
 use Rattle.std.specs.Prelude.{All, AllPairs}
-use Rattle.std.specs.Int.{bit_at}
 use Rattle.std.proofs.lemmas.List.{length-map}
 use Rattle.std.proofs.lemmas.List.Elements.{All-set}
 use Rattle.domain_run.specs.declared.task.Task.{Task}
@@ -19,7 +18,7 @@ use Rattle.domain_run.specs.private.Waiting.{seat_of, owed_by, owed, owed_all, l
 use Rattle.domain_run.specs.private.Timers.{IsStep}
 use Rattle.domain_run.proofs.Counting.{IsFit}
 use Rattle.domain_run.proofs.Making.{place_fit, place_may, place_counted}
-use Rattle.domain_run.proofs.Doubting.{turn_settled, left_unseated, IsLeft}
+use Rattle.domain_run.proofs.Doubting.{free_turned}
 use Rattle.domain_run.proofs.Due.{step_is}
 use Rattle.domain_run.proofs.Waiting.{alike_owed, numbered_unlike, read_owed, left_once, left_twice, length_left, turned_owed, turned_waits, seats_seen}
 
@@ -126,10 +125,7 @@ module _ (w time : ℕ) (change : Change) (queue : RunQueue) (s : SeatsView) (ta
       pub waits_bare : AllWait s.seats tasks → AllWait s.seats (set tasks p y)
       waits_bare = waits_turned new s y made kept
 
-      pub settled_bare : (d e : Doubts) (places : Places) → (false ≡ false → x.cpu < 64 → bit_at e.cpus x.cpu ≡ 0 → bit_at d.rated x.cpu ≡ 0) → ((i : ℕ) → bit_at e.cpus i ≡ 0 → bit_at d.cpus i ≡ 0) → e.rated ≡ d.rated → e.sum ≡ d.sum → e.limit ≡ d.limit
-          → AreSettled d w places s.seats (owed_all s tasks) → AreSettled e w places s.seats (owed_all s (set tasks p y))
-      settled_bare d e places free marks rated sum limit settled =
-          let left_it : IsLeft d.rated e.cpus x.cpu x.number s.seats = left_unseated d.rated e.cpus x.cpu x.number s.seats None false (sym none) refl (λ f. absurd cc) free in
-          turn_settled d e w places s.seats s.seats (owed_all s tasks) (owed_all s (set tasks p y)) p x.cpu x.number (after_change time change) x within read_bare refl refl
-          (sym (ap (λ (t : Task). t.cpu) is) ∙ stays new s y made kept) (sym (ap (λ (t : Task). t.number) is) ∙ same new s y made kept)
-          step_bare (seats_turned new s y made kept) left_it marks rated sum limit settled
+      pub settled_bare : (d : Doubts) (places : Places) → get_or s.seats x.cpu None ≡ None → AreSettled d w places s.seats (owed_all s tasks) → AreSettled d w places s.seats (owed_all s (set tasks p y))
+      settled_bare d places free settled =
+          subst (AreSettled d w places s.seats) (sym (view_is new s y made kept))
+          (free_turned d w places s.seats (owed_all s tasks) p x y within read_bare (stays new s y made kept) free settled)

@@ -188,6 +188,15 @@ module _ (f : Task → Task) (same : (t : Task) → Alike t (f t)) where
       let inside : k < length tasks = omega (arith, h, len) in
       absent k d inside (sym (ap (λ (t : Task). t.number) (get_or-map f tasks k d d inside) ∙ (same (get_or tasks k d)).number) ∙ e)
 
+  pub at_unlike : (number p : ℕ) (tasks : List Task) → IsAt (map f tasks) number p → IsAt tasks number p
+  at_unlike number p tasks at =
+      let len : length (map f tasks) ≡ length tasks = simp length-map in
+      let inside : p < length tasks = let h = at.within in omega (arith, h, len) in
+      record {
+        within = inside;
+        is = λ d. sym (ap (λ (t : Task). t.number) (get_or-map f tasks p d d inside) ∙ (same (get_or tasks p d)).number) ∙ at.is d;
+      }
+
   pub at_like : (number p : ℕ) (tasks : List Task) → IsAt tasks number p → IsAt (map f tasks) number p
   at_like number p tasks at =
       let len : length (map f tasks) ≡ length tasks = simp length-map in

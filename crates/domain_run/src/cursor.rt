@@ -11,26 +11,40 @@ ghost use Rattle.domain_run.specs.private.Progress.{passed, at_reference};
 use crate::progress;
 use crate::progress::Progress;
 use crate::script::{Event, Script, Segment};
+use std::fmt;
 use std::marker::Model;
 
 /// A script, how far it has come in it, and its timer reference. In a script without end it stays
 /// within the first round, as each is like the first.
-#[derive(Debug, Drop)]
+#[derive(Drop)]
 pub struct Cursor {
-    script: Script,
-    progress: Progress,
+    // The event where it stands, so that nobody looks for it in the script; none behind the last.
+    coming: Option<Event>,
     reference: u64,
+    progress: Progress,
+    script: Script,
+}
+
+// The event that comes is left out: it follows from the rest.
+impl fmt::Debug for Cursor {
+    fn fmt<W: fmt::Write>(&self, f: &mut fmt::Formatter<W>) -> fmt::Result {
+        f.debug_struct("Cursor")
+            .field("script", &self.script)
+            .field("progress", &self.progress)
+            .field("reference", &self.reference)
+            .finish()
+    }
 }
 
 impl Model for Cursor {
     ghost use Rattle.domain_run.specs.script.ScriptView.{CursorView};
-    ghost use Rattle.domain_run.specs.private.Progress.{place_of, IsProgress};
+    ghost use Rattle.domain_run.specs.private.Progress.{place_of, Comes};
 
     ghost Value = { CursorView };
 
     ghost view = { λ c. record { script = c.script; place = place_of c.script c.progress; reference = c.reference } };
 
-    ghost invariant = { λ c. IsProgress c.script c.progress };
+    ghost invariant = { λ c. Comes c.script c.progress c.coming };
 }
 
 impl Script {
@@ -42,10 +56,12 @@ impl Script {
         ensures written { GivesAsWritten result }
     {
         let progress = progress::begin(&self);
+        let coming = progress::event_of(&self, progress);
         Cursor {
-            script: self,
-            progress,
+            coming,
             reference: start,
+            progress,
+            script: self,
         }
     }
 }
@@ -74,7 +90,7 @@ impl Cursor {
         ensures within { IsScript self.now.script }
         ensures event { IfSome result IsEvent }
     {
-        progress::event_of(&self.script, self.progress)
+        self.coming
     }
 
     /// Whether it would pass a timer that is late, asked at this time, in microseconds.
@@ -91,6 +107,7 @@ impl Cursor {
         ensures { self.new ≡ kept_cursor (moved self.old self.old.reference) }
     {
         progress::advance(&self.script, &mut self.progress);
+        self.coming = progress::event_of(&self.script, self.progress);
     }
 
     // Behind a timer that is late, and the event there. That is rare, so it stands apart.

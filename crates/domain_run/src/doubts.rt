@@ -34,6 +34,16 @@ pub(crate) fn first_marked(marks: u64) -> usize
     edf_pick::marks::first(marks)
 }
 
+/// Of a word with marks the one at this place, if it has one there.
+#[inline(always)]
+fn mark_at(marks: u64, place: usize) -> u64
+    requires { place < 64 }
+    ensures here { bit_at result place ≡ bit_at marks place }
+    ensures others { (i : ℕ) → i ≢ place → bit_at result i ≡ 0 }
+{
+    marks & with(0, place)
+}
+
 impl Doubts {
     /// Each CPU is in doubt.
     pub(crate) fn all() -> Doubts
@@ -83,11 +93,8 @@ impl Doubts {
         ensures sum { self.new.sum ≡ self.old.sum }
         ensures limit { self.new.limit ≡ self.old.limit }
     {
-        if cpu >= 64 {
-            return;
-        }
-        if without(self.rated, cpu) != self.rated {
-            self.mark(cpu);
+        if cpu < 64 {
+            self.cpus = both(self.cpus, mark_at(self.rated, cpu));
         }
     }
 

@@ -5,15 +5,17 @@
 //! A task that sits is not charged tick by tick. What callers see is the list with each task charged
 //! up to now, whatever is still owed in it.
 
-ghost use Rattle.std.specs.Prelude.{◌≡◌, ◌≢◌, ◌==◌, ◌<◌, ◌≤◌, ◌^◌, ◌-◌, ◌&&◌, ◌++◌, ◌∷◌, [], not, min, All, AllPairs, IfOk, IfSome, IfNone, true, false, find, map, filter, length, option_map, None, replicate, slice_get, slice_index_or};
+ghost use Rattle.std.specs.Prelude.{◌≡◌, ◌≢◌, ◌==◌, ◌<◌, ◌≤◌, ◌^◌, ◌+◌, ◌-◌, ◌&&◌, ◌++◌, ◌∷◌, [], not, min, All, AllPairs, IfOk, IfSome, IfNone, true, false, find, map, filter, length, option_map, None, replicate, slice_get, slice_index_or, vec_capacity, vec_len};
 ghost use Rattle.attr_check.specs.Ratio.{cap};
 ghost use Rattle.domain_run.specs.declared.task.Task.{Task};
 ghost use Rattle.domain_run.specs.Conditions.{is_ready, is_leaving};
 ghost use Rattle.domain_run.specs.Domain.{IsLimit};
 ghost use Rattle.domain_run.specs.Parts.{is_listed, with_last_cpu};
 ghost use Rattle.domain_run.specs.Sound.{IsSound, IsApart};
+ghost use Rattle.domain_run.specs.Switches.{state_of};
 ghost use Rattle.domain_run.specs.Tick as tick;
 ghost use Rattle.domain_run.specs.Calls.{of_number, is_other};
+ghost use Rattle.domain_run.specs.private.Choosing.{switch_of};
 ghost use Rattle.domain_run.specs.private.Index.{IsAt, IsAbsent};
 ghost use Rattle.domain_run.specs.Views.{view_of};
 ghost use Rattle.domain_run.specs.private.Roster.{after_change, MayMake, Fits, HasLeft, IsSeenAs, runner_in};
@@ -39,9 +41,11 @@ use crate::parts;
 use crate::run_queue::RunQueue;
 use crate::running::Running;
 use crate::seats::Seats;
+use crate::switch::{PrevState, Switch};
 use crate::task::{Task, TaskView};
 use edf_pick::Moved;
 use no_memory::NoMemory;
+pub(crate) use starting::Moment;
 use std::alloc::Global;
 use std::marker::Model;
 
@@ -256,6 +260,13 @@ impl Roster {
         choosing::occupant_of(self.queue.schedule.occupants(), cpu)
     }
 
+    /// Part 5: the state in which an occupant leaves its CPU.
+    pub(crate) fn state_of(&self, occupant: Option<u32>) -> PrevState
+        ensures { result ≡ state_of self.now.tasks occupant }
+    {
+        choosing::state_of(&self.tasks, &self.index, occupant)
+    }
+
     /// The CPUs that the last choice gave to another one, in their order.
     pub(crate) fn moves(&self) -> &[Moved]
         ensures { result.now ≡ self.now.moves }
@@ -323,12 +334,13 @@ impl Roster {
         self.doubts.mark_left(cpu, sat);
     }
 
-    /// As `turn`, of a task that sits nowhere, since it has been charged: nobody looks for its seat.
+    /// As `turn`, of a task on whose CPU nobody sits, since it has been charged: nobody looks for its
+    /// seat, and no CPU comes in doubt.
     #[inline(always)]
-    fn turn_charged(&mut self, place: usize, time: u64, change: &Change)
+    pub(crate) fn turn_charged(&mut self, place: usize, time: u64, change: &Change)
         requires there { place < length self.old.tasks }
         requires free { (d : Task)
-            → seat_of self.old.seats (slice_index_or self.old.tasks place d) ≡ None }
+            → slice_index_or self.old.seats (slice_index_or self.old.tasks place d).cpu None ≡ None }
         requires fits { Fits self.old.cpus change.now }
         requires sound { All (IsSound time) self.old.tasks }
         requires may { (d : Task) → MayMake time change.now (slice_index_or self.old.tasks place d) }
@@ -341,9 +353,7 @@ impl Roster {
     {
         // For the prover alone: a look at the seats brings that there are at most 64.
         let _ = self.seats.len();
-        let cpu = self.tasks[place].cpu;
         turning::turn_settled(&mut self.tasks[place], &mut self.queue, place, time, change);
-        self.doubts.mark_left(cpu, false);
     }
 
     /// Changes the task of a number, where it is listed.
@@ -386,20 +396,26 @@ impl Roster {
         );
     }
 
-    /// As `choose`, and who starts on a CPU sits there at once, at its rate.
-    pub(crate) fn choose_seated(&mut self, limit: u64)
+    /// As `choose`, and who starts on a CPU sits there at once, at its rate. There is a switch
+    /// for each CPU that the choice gave to another one.
+    #[inline(always)]
+    pub(crate) fn choose_seated(&mut self, moment: Moment, switches: &mut Vec<Switch>)
         requires wide { length self.old.places ≡ self.old.cpus }
         requires apart { IsApart self.old.places }
         requires cpus { (0 < self.old.cpus) × (self.old.cpus ≤ 64) }
-        requires limit { IsLimit limit }
-        requires within { tick.sum_of self.old.tasks ≤ cap self.old.cpus limit }
+        requires limit { IsLimit moment.limit }
+        requires within { tick.sum_of self.old.tasks ≤ cap self.old.cpus moment.limit }
         requires may { All MaySitIfReady self.old.tasks }
+        requires spare { vec_len switches.old + length self.old.places ≤ vec_capacity switches.old }
         ensures cpus { self.new.cpus ≡ self.old.cpus }
         ensures places { self.new.places
             ≡ placed (length self.old.places) (tick.candidates self.old.tasks) self.old.places }
         ensures moves { self.new.moves ≡ moved_from 0 self.old.places self.new.places }
         ensures tasks { self.new.tasks ≡ map (with_last_cpu self.new.places) self.old.tasks }
         ensures wide { length self.new.places ≡ length self.old.places }
+        ensures switches { switches.new.items ≡ switches.old.items
+            ++ map (switch_of moment.time self.old.tasks self.new.places) self.new.moves }
+        ensures spare { vec_capacity switches.new ≡ vec_capacity switches.old }
     {
         self.queue.schedule.pick();
         starting::seat_moved(
@@ -409,7 +425,8 @@ impl Roster {
             &self.index,
             &self.queue.schedule,
             &mut self.doubts,
-            limit,
+            moment,
+            switches,
         );
     }
 

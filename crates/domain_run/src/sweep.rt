@@ -1,6 +1,6 @@
 //! The parts of a tick, on all tasks of a domain.
 
-ghost use Rattle.std.specs.Prelude.{IsTrue, ◌≡◌, ◌≢◌, ◌<◌, ◌≤◌, ◌^◌, ◌+◌, ◌*◌, map, All, AllPairs, ◌++◌, ◌∷◌, [], false, length, slice_index_or, vec_len, vec_capacity};
+ghost use Rattle.std.specs.Prelude.{IsTrue, ◌≡◌, ◌≢◌, ◌<◌, ◌≤◌, ◌^◌, ◌+◌, ◌*◌, map, All, AllPairs, ◌++◌, ◌∷◌, [], false, None, length, slice_index_or, vec_len, vec_capacity};
 ghost use Rattle.std.specs.List.{flat_map};
 ghost use Rattle.attr_check.specs.Ratio.{cap};
 ghost use Rattle.domain_run.specs.declared.task.Task.{Task};
@@ -14,17 +14,45 @@ ghost use Rattle.domain_run.specs.Sound.{IsSound, IsApart};
 ghost use Rattle.domain_run.specs.Switches as switches_spec;
 ghost use Rattle.domain_run.specs.Tick as tick_spec;
 ghost use Rattle.domain_run.specs.private.Paying.{MayPayIf, paid};
-ghost use Rattle.domain_run.specs.private.Choosing.{AreWithin, switch_of};
+ghost use Rattle.domain_run.specs.private.Choosing as choosing_spec;
 ghost use Rattle.domain_run.specs.private.Roster.{after_change, served, IsPart, IsWoken, Fits, MayMake};
 ghost use Rattle.domain_run.specs.private.Timers.{IsStep};
+ghost use Rattle.domain_run.specs.private.Waiting.{seat_of};
 ghost use Rattle.domain_run.specs.private.Telling as telling_spec;
 
 use crate::change::Change;
 use crate::log::Log;
-use crate::roster::Roster;
-use crate::switch::{PrevState, Switch};
-use crate::{parts, telling};
+use crate::roster::{Moment, Roster};
+use crate::switch::{Switch, switch_of};
+use crate::telling;
 use edf_pick::Moved;
+
+/// Changes the task at a place, which sits nowhere, and tells the log what that tells.
+#[inline(never)]
+fn tell_turn(roster: &mut Roster, place: usize, time: u64, change: &Change, log: &mut Log)
+    requires there { place < length roster.old.tasks }
+    requires free { (d : Task)
+        → seat_of roster.old.seats (slice_index_or roster.old.tasks place d) ≡ None }
+    requires early { time < 2 ^ 43 }
+    requires narrow { roster.old.cpus ≤ 64 }
+    requires fits { Fits roster.old.cpus change.now }
+    requires sound { All (IsSound time) roster.old.tasks }
+    requires may { (d : Task) → MayMake time change.now (slice_index_or roster.old.tasks place d) }
+    requires room { HasRoom 3 log.old }
+    ensures cpus { roster.new.cpus ≡ roster.old.cpus }
+    ensures places { roster.new.places ≡ roster.old.places }
+    ensures step { IsStep (after_change time change.now) place roster.old.tasks roster.new.tasks }
+    ensures sound { All (IsSound time) roster.new.tasks }
+    ensures told { (d : Task) → Tells log.old
+        (telling_spec.told_by_change time change.now (slice_index_or roster.old.tasks place d))
+        log.new }
+    ensures room { log.old.room ≤ log.new.room + 3 }
+{
+    let before = telling::look(roster.at(place), time, change);
+    roster.turn(place, time, change);
+    let told = telling::seen_behind(time, change, before, roster.at(place));
+    log.push_all(told);
+}
 
 /// Changes the task at a place, and tells the log what that tells.
 #[inline(always)]
@@ -54,13 +82,10 @@ fn turn(roster: &mut Roster, place: usize, time: u64, change: &Change, log: &mut
     roster.leave_free(cpu);
     let task = roster.at(place);
     if telling::tells_nothing(task, change) {
-        roster.turn(place, time, change);
+        roster.turn_charged(place, time, change);
         return;
     }
-    let before = telling::look(task, time, change);
-    roster.turn(place, time, change);
-    let told = telling::seen_behind(time, change, before, roster.at(place));
-    log.push_all(told);
+    tell_turn(roster, place, time, change, log);
 }
 
 /// Changes the task of a number, where it is listed, and tells the log.
@@ -251,45 +276,28 @@ fn wake_unheard(roster: &mut Roster, time: u64)
     }
 }
 
-/// Part 5: the state in which an occupant leaves its CPU.
-fn state_of(roster: &Roster, occupant: Option<u32>) -> PrevState
-    ensures { result ≡ switches_spec.state_of roster.now.tasks occupant }
-{
-    match occupant {
-        None => PrevState::Running,
-        Some(number) => match roster.find(number) {
-            None => PrevState::Dead,
-            Some(task) => parts::left_in(task.condition),
-        },
-    }
-}
-
 /// Part 5 on a CPU that another one has: a switch is added.
 #[inline(always)]
 fn add_switch(switches: &mut Vec<Switch>, time: u64, roster: &Roster, moved: &Moved)
     requires narrow { moved.now.cpu < 65536 }
     requires room { vec_len switches.old < vec_capacity switches.old }
     ensures switches { switches.new.items ≡ switches.old.items
-        ++ switch_of time roster.now.tasks roster.now.places moved.now ∷ [] }
+        ++ choosing_spec.switch_of time roster.now.tasks roster.now.places moved.now ∷ [] }
     ensures len { vec_len switches.new ≡ vec_len switches.old + 1 }
     ensures room { vec_capacity switches.new ≡ vec_capacity switches.old }
 {
-    switches.push_reserved(Switch {
-        time,
-        prev: moved.before,
-        next: roster.occupant(moved.cpu),
-        cpu: moved.cpu as u16,
-        state: state_of(roster, moved.before),
-    });
+    let next = roster.occupant(moved.cpu);
+    let state = roster.state_of(moved.before);
+    switches.push_reserved(switch_of(time, *moved, next, state));
 }
 
 /// Part 5: there is a switch for each CPU that the last choice gave to another one.
 #[inline(always)]
 fn add_switches(switches: &mut Vec<Switch>, time: u64, roster: &Roster)
-    requires narrow { AreWithin 64 roster.now.moves }
+    requires narrow { choosing_spec.AreWithin 64 roster.now.moves }
     requires room { vec_len switches.old + length roster.now.moves ≤ vec_capacity switches.old }
     ensures switches { switches.new.items ≡ switches.old.items
-        ++ map (switch_of time roster.now.tasks roster.now.places) roster.now.moves }
+        ++ map (choosing_spec.switch_of time roster.now.tasks roster.now.places) roster.now.moves }
     ensures room { vec_capacity switches.new ≡ vec_capacity switches.old }
 {
     let moves = roster.moves();
@@ -369,8 +377,7 @@ pub(crate) fn begin_seated(
     ensures none { result ≡ false → roster.new.places ≡ roster.old.places }
 {
     wake_unheard(roster, time);
-    roster.choose_seated(limit);
-    add_switches(switches, time, roster);
+    roster.choose_seated(Moment { time, limit }, switches);
     let is_same = roster.moves().is_empty();
     !is_same
 }

@@ -1,3 +1,9 @@
+//! The switches of a domain: which CPU goes from whom to whom.
+
+ghost use Rattle.std.specs.Prelude.{◌≡◌, ◌<◌};
+
+use edf_pick::Moved;
+
 /// What a task was doing when a switch took its CPU away: the event's prev_state. Idle is always
 /// [`PrevState::Running`].
 #[derive(Clone, Copy, Debug, PartialEq, Eq)]
@@ -25,4 +31,25 @@ pub struct Switch {
     pub cpu: u16,
     /// In which state the previous occupant leaves.
     pub state: PrevState,
+}
+
+/// Part 5: the switch of a CPU that another one has.
+#[inline(always)]
+pub(crate) fn switch_of(time: u64, moved: Moved, next: Option<u32>, state: PrevState) -> Switch
+    requires { moved.cpu < 65536 }
+    ensures { result ≡ record {
+      time = time;
+      prev = moved.before;
+      next = next;
+      cpu = moved.cpu;
+      state = state;
+    } }
+{
+    Switch {
+        time,
+        prev: moved.before,
+        next,
+        cpu: moved.cpu as u16,
+        state,
+    }
 }

@@ -1,7 +1,8 @@
 -- How far a cursor is in its script, for the code's own contracts.
-use Rattle.std.specs.Prelude.{ℕ, zero, suc, ◌≡◌, ◌+◌, ◌*◌, ◌<◌, ◌≤◌, Bool, false, nat_le, if◌then◌else◌, List, [], ◌∷◌, length, slice_get, Option, Some, None}
+use Rattle.std.specs.Prelude.{ℕ, zero, suc, ◌≡◌, ◌+◌, ◌*◌, ◌<◌, ◌≤◌, Bool, false, nat_le, if◌then◌else◌, List, [], ◌∷◌, length, slice_get, Option, Some, None, IfSome}
 use Rattle.domain_run.specs.declared.progress.Progress.{Progress}
-use Rattle.domain_run.specs.script.ScriptView.{PhaseView, ScriptView, CursorView, IsCursor, phase_len, round_len}
+use Rattle.domain_run.specs.declared.script.Event.{Event}
+use Rattle.domain_run.specs.script.ScriptView.{PhaseView, ScriptView, CursorView, IsScript, IsEvent, IsCursor, phase_len, round_len}
 use Rattle.domain_run.specs.script.Unrolled.{event_at}
 use Rattle.domain_run.specs.script.Segments.{first_place, kept_cursor, moved, is_late}
 
@@ -36,6 +37,13 @@ pub record IsProgress (s : ScriptView) (p : Progress) : Type 0 where
   pub phase : p.phase < length s.phases
   pub there : (q : PhaseView) → slice_get s.phases p.phase ≡ Some q → IsInPhase q p
   pub kept : (reference : ℕ) → IsCursor (record { script = s; place = place_of s p; reference = reference })
+
+-- what a cursor keeps: its counters, and the event to which they come
+pub record Comes (s : ScriptView) (p : Progress) (coming : Option Event) : Type 0 where
+  pub script : IsScript s
+  pub stands : IsProgress s p
+  pub is : coming ≡ event_at s (place_of s p)
+  pub event : IfSome coming IsEvent
 
 -- the event is the last of its lap, in a phase of so many laps
 pub record IsLastOfLap (s : ScriptView) (p : Progress) (laps : ℕ) : Type 0 where

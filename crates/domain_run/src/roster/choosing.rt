@@ -1,9 +1,10 @@
 //! Who starts on a CPU belongs to it from then on. The schedule has it so already.
 
-ghost use Rattle.std.specs.Prelude.{◌≡◌, ◌<◌, ◌∷◌, [], All, IfSome, None, Some, map, length, slice_index_or, vec_capacity};
+ghost use Rattle.std.specs.Prelude.{◌≡◌, ◌≢◌, ◌<◌, ◌∷◌, [], All, AllPairs, IfSome, None, Some, map, length, slice_index_or, vec_capacity};
 ghost use Rattle.std.specs.Int.{bit_at};
 ghost use Rattle.grub_rules.specs.Accounts.{Exchanges, Holds};
 ghost use Rattle.domain_run.specs.Parts.{with_cpu};
+ghost use Rattle.domain_run.specs.Switches as switches_spec;
 ghost use Rattle.domain_run.specs.Tick as tick_spec;
 ghost use Rattle.domain_run.specs.private.Choosing as spec;
 ghost use Rattle.domain_run.specs.private.Doubts.{IsMarked};
@@ -13,9 +14,11 @@ ghost use Rattle.domain_run.specs.private.Waiting as waiting;
 
 use crate::doubts::Doubts;
 use crate::index::Index;
+use crate::parts;
 use crate::roster::turning::{leave_other, settle};
 use crate::seats::Seats;
 use crate::standing::share_of;
+use crate::switch::PrevState;
 use crate::task::Task;
 use edf_pick::Schedule;
 use grub_rules::Accounts;
@@ -29,6 +32,21 @@ pub(super) fn occupant_of(places: &[Option<u32>], cpu: usize) -> Option<u32>
         return places[cpu];
     }
     None
+}
+
+/// Part 5: the state in which an occupant leaves its CPU.
+#[inline(always)]
+pub(super) fn state_of(tasks: &[Task], index: &Index, occupant: Option<u32>) -> PrevState
+    requires numbered { AllPairs (λ a b. a.number ≢ b.number) tasks.now }
+    ensures { result ≡ switches_spec.state_of tasks.now occupant }
+{
+    match occupant {
+        None => PrevState::Running,
+        Some(number) => match index.place(tasks, number) {
+            None => PrevState::Dead,
+            Some(place) => parts::left_in(tasks[place].condition),
+        },
+    }
 }
 
 // A task that starts on a CPU is charged what it owes, belongs to the CPU, and sits nowhere.

@@ -12,6 +12,7 @@ ghost use Rattle.domain_run.specs.private.Seats.{IsAhead, seat_by};
 ghost use Rattle.domain_run.specs.private.Waiting as spec;
 
 use super::Roster;
+use crate::roster::starting;
 use crate::roster::turning::charge;
 use crate::seats::{Basis, Rating, Seat};
 use crate::task::Task;
@@ -140,27 +141,18 @@ impl Roster {
         requires ahead { IsAhead self.old.clock seat }
         ensures { self.new ≡ record self.old { seats = slice_set self.old.seats cpu None } }
     {
-        charge_on(&mut self.tasks[place], cpu, seat, self.seats.upto());
-        self.seats.set(cpu, None);
+        starting::vacate_place(&mut self.tasks, &mut self.seats, cpu, place, seat);
         self.doubts.mark(cpu);
     }
 
     /// Nobody sits on a CPU any more; who did is charged.
-    #[inline(never)]
+    #[inline(always)]
     pub(crate) fn vacate(&mut self, cpu: usize)
         requires { cpu < self.old.cpus }
         ensures { self.new ≡ record self.old { seats = slice_set self.old.seats cpu None } }
     {
-        let Some(seat) = self.seats.get(cpu) else {
-            return;
-        };
-        match self.place(seat.number) {
-            None => {
-                self.seats.set(cpu, None);
-                self.doubts.mark(cpu);
-            }
-            Some(place) => self.vacate_at(cpu, place, seat),
-        }
+        starting::vacate_on(&mut self.tasks, &mut self.seats, &self.index, cpu);
+        self.doubts.mark(cpu);
     }
 
     /// As `vacate`: mostly nobody sits there.
@@ -174,21 +166,18 @@ impl Roster {
         }
     }
 
-    /// The task at a place, which belongs to a CPU on which nobody sits, sits there at a rate.
+    /// The task at a place, which stands on a CPU where nobody sits and belongs to it, sits there at
+    /// its rate.
     #[inline(always)]
-    fn occupy(&mut self, cpu: usize, place: usize, rating: Rating, limit: u64)
+    fn occupy(&mut self, cpu: usize, place: usize, limit: u64)
         requires there { cpu < self.old.cpus }
-        requires few { cpu < 64 }
+        requires cpus { (0 < self.old.cpus) × (self.old.cpus ≤ 64) }
+        requires limit { IsLimit limit }
+        requires within { sum_of self.old.tasks ≤ cap self.old.cpus limit }
         requires at { place < length self.old.tasks }
         requires free { slice_index_or self.old.seats cpu None ≡ None }
-        requires turns { 0 < rating.rate }
-        requires slow { rating.rate ≤ 2 ^ 27 }
         requires home { (d : Task) → (slice_index_or self.old.tasks place d).cpu ≡ cpu }
         requires may { (d : Task) → spec.MaySit (slice_index_or self.old.tasks place d) }
-        requires rated { (d : Task)
-            → spec.IsRatedBy rating.basis rating.rate (slice_index_or self.old.tasks place d) }
-        requires basis { IfSome rating.basis
-            (λ b. b ≡ basis_in self.old.cpus limit self.old.tasks cpu) }
         requires stands { (d : Task) → slice_index_or self.old.places cpu None
             ≡ Some (slice_index_or self.old.tasks place d).number }
         ensures cpus { self.new.cpus ≡ self.old.cpus }
@@ -201,11 +190,15 @@ impl Roster {
             → spec.IsRight (slice_index_or self.old.places cpu None) t.number
             (rate_in self.old.cpus limit self.old.tasks t) (spec.seat_of self.new.seats t)) self.new.tasks }
     {
-        let sum = self.sum();
-        let is_rated = rating.basis.is_some();
-        let seat = seat_for(&self.tasks[place], self.seats.upto(), rating);
-        self.seats.sit_down(cpu, seat);
-        self.doubts.clear_for(cpu, is_rated, sum, limit);
+        starting::sit_at(
+            &self.tasks,
+            &self.queue.accounts,
+            &mut self.seats,
+            &mut self.doubts,
+            place,
+            cpu,
+            limit,
+        );
     }
 
     /// What the rates of the tasks of a CPU depend on now.
@@ -214,12 +207,7 @@ impl Roster {
         requires there { cpu < self.now.cpus }
         ensures { result ≡ basis_in self.now.cpus limit self.now.tasks cpu }
     {
-        Basis {
-            uinact: self.uinact(cpu),
-            sum: self.sum(),
-            cpus: self.seats.len() as u64,
-            limit,
-        }
+        starting::basis_of(&self.queue.accounts, cpu, limit)
     }
 
     /// Whether a basis that is kept, if one is, is still that of a CPU.
@@ -295,28 +283,6 @@ impl Roster {
         }
     }
 
-    /// The rate of the task at a place, which belongs to a CPU, and what it was worked out from.
-    #[inline(always)]
-    fn rating(&self, cpu: usize, place: usize, limit: u64) -> Rating
-        requires there { cpu < self.now.cpus }
-        requires at { place < length self.now.tasks }
-        requires cpus { (0 < self.now.cpus) × (self.now.cpus ≤ 64) }
-        requires limit { IsLimit limit }
-        requires within { sum_of self.now.tasks ≤ cap self.now.cpus limit }
-        ensures some { 0 < result.rate }
-        ensures slow { result.rate ≤ 2 ^ 27 }
-        ensures basis { IfSome result.basis
-            (λ b. b ≡ basis_in self.now.cpus limit self.now.tasks cpu) }
-        ensures rated { (d : Task)
-            → spec.IsRatedBy result.basis result.rate (slice_index_or self.now.tasks place d) }
-    {
-        let task = &self.tasks[place];
-        if !task.params.reclaim {
-            return rated_at_one(task);
-        }
-        rated_on(task, self.basis(cpu, limit))
-    }
-
     /// Who stands on a CPU, the task of a number, sits there at its rate, and nobody else does.
     #[inline(always)]
     fn reseat(&mut self, cpu: usize, number: u32, limit: u64)
@@ -337,8 +303,7 @@ impl Roster {
     {
         self.leave_free(cpu);
         if let Some(place) = self.place(number) {
-            let rating = self.rating(cpu, place, limit);
-            self.occupy(cpu, place, rating, limit);
+            self.occupy(cpu, place, limit);
         }
     }
 

@@ -1,6 +1,6 @@
 //! Who starts on a CPU belongs to it and sits there at once, where no log is told.
 
-ghost use Rattle.std.specs.Prelude.{ℕ, ◌≡◌, ◌≢◌, ◌<◌, ◌≤◌, ◌^◌, AllPairs, IfSome, None, Some, map, length, slice_index_or, slice_set, vec_capacity};
+ghost use Rattle.std.specs.Prelude.{ℕ, ◌≡◌, ◌≢◌, ◌<◌, ◌≤◌, ◌^◌, ◌+◌, ◌++◌, AllPairs, IfSome, None, Some, map, length, slice_index_or, slice_set, vec_capacity, vec_len};
 ghost use Rattle.attr_check.specs.Ratio.{cap};
 ghost use Rattle.domain_run.specs.declared.task.Task.{Task};
 ghost use Rattle.domain_run.specs.Domain.{IsLimit};
@@ -8,18 +8,55 @@ ghost use Rattle.domain_run.specs.Sound.{occupant as occupant_in};
 ghost use Rattle.domain_run.specs.Tick.{sum_of};
 ghost use Rattle.domain_run.specs.private.Choosing as spec;
 ghost use Rattle.domain_run.specs.private.Doubts as doubts_spec;
+ghost use Rattle.domain_run.specs.private.Index.{IsAt};
 ghost use Rattle.domain_run.specs.private.Roster.{basis_in, homed_here};
+ghost use Rattle.domain_run.specs.private.Seats.{IsAhead};
 ghost use Rattle.domain_run.specs.private.Waiting as waiting;
 ghost use Rattle.grub_rules.specs.Accounts.{inactive_at};
 
 use crate::doubts::Doubts;
 use crate::index::Index;
-use crate::roster::choosing::{home_on, occupant_of};
+use crate::roster::choosing::{home_on, occupant_of, state_of};
 use crate::roster::seating::{charge_on, rated_at_one, rated_on, seat_for};
-use crate::seats::{Basis, Rating, Seats};
+use crate::seats::{Basis, Rating, Seat, Seats};
+use crate::switch::{Switch, switch_of};
 use crate::task::Task;
-use edf_pick::Schedule;
+use edf_pick::{Moved, Schedule};
 use grub_rules::Accounts;
+
+/// When a tick begins, and in a domain of which limit.
+#[derive(Clone, Copy)]
+pub(crate) struct Moment {
+    /// In microseconds.
+    pub(crate) time: u64,
+    /// In 1/2^20 of a CPU.
+    pub(crate) limit: u64,
+}
+
+/// Nobody sits on a CPU any more; who did, the task at a place of the list, is charged.
+#[inline(always)]
+pub(super) fn vacate_place(
+    tasks: &mut Vec<Task>,
+    seats: &mut Seats,
+    cpu: usize,
+    place: usize,
+    seat: Seat,
+)
+    requires there { cpu < length seats.old.seats }
+    requires sits { slice_index_or seats.old.seats cpu None ≡ Some seat }
+    requires at { IsAt tasks.old.items seat.number place }
+    requires ahead { IsAhead seats.old.upto seat }
+    requires numbered { AllPairs (λ a b. a.number ≢ b.number) tasks.old.items }
+    requires waits { waiting.AllWait seats.old.seats tasks.old.items }
+    ensures seats { seats.new ≡ record seats.old { seats = slice_set seats.old.seats cpu None } }
+    ensures tasks { waiting.owed_all seats.new tasks.new.items
+        ≡ waiting.owed_all seats.old tasks.old.items }
+    ensures waits { waiting.AllWait seats.new.seats tasks.new.items }
+    ensures room { vec_capacity tasks.new ≡ vec_capacity tasks.old }
+{
+    charge_on(&mut tasks[place], cpu, seat, seats.upto());
+    seats.set(cpu, None);
+}
 
 /// Nobody sits on a CPU any more; who did is charged.
 #[inline(never)]
@@ -38,10 +75,7 @@ pub(super) fn vacate_on(tasks: &mut Vec<Task>, seats: &mut Seats, index: &Index,
     };
     match index.place(tasks, seat.number) {
         None => seats.set(cpu, None),
-        Some(place) => {
-            charge_on(&mut tasks[place], cpu, seat, seats.upto());
-            seats.set(cpu, None);
-        }
+        Some(place) => vacate_place(tasks, seats, cpu, place, seat),
     }
 }
 
@@ -62,9 +96,9 @@ fn leave_free_on(tasks: &mut Vec<Task>, seats: &mut Seats, index: &Index, cpu: u
     }
 }
 
-// What the rates of the tasks of a CPU depend on now.
+/// What the rates of the tasks of a CPU depend on now.
 #[inline(always)]
-fn basis_of(accounts: &Accounts, cpu: usize, limit: u64) -> Basis
+pub(super) fn basis_of(accounts: &Accounts, cpu: usize, limit: u64) -> Basis
     requires there { cpu < length accounts.now.all }
     ensures { result ≡ record {
       uinact = inactive_at cpu accounts.now;
@@ -83,7 +117,7 @@ fn basis_of(accounts: &Accounts, cpu: usize, limit: u64) -> Basis
 
 /// The rate of a task that belongs to a CPU, and what it was worked out from.
 #[inline(always)]
-pub(super) fn rating_of(task: &Task, accounts: &Accounts, cpu: usize, limit: u64) -> Rating
+fn rating_of(task: &Task, accounts: &Accounts, cpu: usize, limit: u64) -> Rating
     requires there { cpu < length accounts.now.all }
     requires cpus { (0 < length accounts.now.all) × (length accounts.now.all ≤ 64) }
     requires limit { IsLimit limit }
@@ -202,7 +236,8 @@ fn seat_next(
     }
 }
 
-/// Each task to which the last choice gave a CPU belongs to it and sits there at its rate.
+/// Each task to which the last choice gave a CPU belongs to it and sits there at its rate, and there
+/// is a switch for each of these CPUs.
 #[inline(always)]
 pub(super) fn seat_moved(
     tasks: &mut Vec<Task>,
@@ -211,20 +246,22 @@ pub(super) fn seat_moved(
     index: &Index,
     schedule: &Schedule,
     doubts: &mut Doubts,
-    limit: u64,
+    moment: Moment,
+    switches: &mut Vec<Switch>,
 )
     requires there { spec.AreWithin (length accounts.old.all) schedule.now.moves }
     requires wide { length seats.old.seats ≡ length accounts.old.all }
     requires cpus { (0 < length accounts.old.all) × (length accounts.old.all ≤ 64) }
-    requires limit { IsLimit limit }
+    requires limit { IsLimit moment.limit }
     requires counts { spec.AreCounted accounts.old seats.old tasks.old.items }
     requires within { sum_of (waiting.owed_all seats.old tasks.old.items)
-        ≤ cap (length accounts.old.all) limit }
+        ≤ cap (length accounts.old.all) moment.limit }
     requires may { (cpu : ℕ) → IfSome (occupant_in schedule.now.places cpu)
         (waiting.MaySitOf (waiting.owed_all seats.old tasks.old.items)) }
     requires settled { doubts_spec.AreSettledBut schedule.now.moves doubts.old
         (length accounts.old.all) schedule.now.places seats.old.seats
         (waiting.owed_all seats.old tasks.old.items) }
+    requires spare { vec_len switches.old + length schedule.now.moves ≤ vec_capacity switches.old }
     ensures wide { length accounts.new.all ≡ length accounts.old.all }
     ensures counts { spec.AreCounted accounts.new seats.new tasks.new.items }
     ensures tasks { waiting.owed_all seats.new tasks.new.items
@@ -235,12 +272,27 @@ pub(super) fn seat_moved(
     ensures settled { doubts_spec.AreSettled doubts.new (length accounts.old.all)
         schedule.now.places seats.new.seats (waiting.owed_all seats.new tasks.new.items) }
     ensures room { vec_capacity tasks.new ≡ vec_capacity tasks.old }
+    ensures switches { switches.new.items ≡ switches.old.items
+        ++ map (spec.switch_of moment.time (waiting.owed_all seats.old tasks.old.items)
+        schedule.now.places) schedule.now.moves }
+    ensures spare { vec_capacity switches.new ≡ vec_capacity switches.old }
 {
     let places = schedule.occupants();
     let moves = schedule.moves();
     for i in 0..moves.len() {
-        let cpu = moves[i].cpu;
-        let occupant = occupant_of(places, cpu);
-        seat_next(tasks, accounts, seats, index, occupant, cpu, doubts, limit);
+        let moved = moves[i];
+        let next = occupant_of(places, moved.cpu);
+        let state = state_of(tasks, index, moved.before);
+        switches.push_reserved(switch_of(moment.time, moved, next, state));
+        seat_next(
+            tasks,
+            accounts,
+            seats,
+            index,
+            next,
+            moved.cpu,
+            doubts,
+            moment.limit,
+        );
     }
 }

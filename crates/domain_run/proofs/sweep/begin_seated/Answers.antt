@@ -3,14 +3,13 @@ use Rattle.attr_check.specs.Ratio.{cap}
 use Rattle.edf_pick.specs.declared.moves.Moved.{Moved}
 use Rattle.edf_pick.specs.Moves.{moved_from}
 use Rattle.edf_pick.specs.Places.{Places, placed}
-use Rattle.edf_pick.proofs.Moving.{moved_length}
 use Rattle.domain_run.specs.declared.switch.Switch.{Switch}
 use Rattle.domain_run.specs.declared.task.Task.{Task}
 use Rattle.domain_run.specs.Sound.{IsApart}
 use Rattle.domain_run.specs.Switches.{switches_from}
 use Rattle.domain_run.specs.Tick.{candidates, prepared, sum_of}
-use Rattle.domain_run.specs.private.Choosing.{AreWithin, switch_of}
-use Rattle.domain_run.proofs.Moving.{state_homed, switched, moved_within, none_moved}
+use Rattle.domain_run.specs.private.Choosing.{switch_of}
+use Rattle.domain_run.proofs.Moving.{switched, none_moved}
 use Rattle.domain_run.proofs.Starting.{sound_may}
 use Rattle.domain_run.proofs.sweep.begin_seated.Goals as goal
 use Rattle.domain_run.proofs.sweep.begin_seated.Goals.{After-choose_seated}
@@ -36,18 +35,8 @@ choose_seated-requires-clause-may c = sound_may c.args.time c.wake_unheard.new.r
 moves_are : (c : After-choose_seated) → c.choose_seated.new.self.moves ≡ moved_from 0 c.args.roster.now.places c.choose_seated.new.self.places
 moves_are c = c.choose_seated.ensures.moves ∙ ap (λ (ps : Places). moved_from 0 ps c.choose_seated.new.self.places) c.wake_unheard.ensures.places
 
-pub add_switches-requires-clause-narrow : goal.add_switches-requires-clause-narrow
-add_switches-requires-clause-narrow c =
-    let before = c.args.roster.now.places in
-    let few : length before ≤ 64 = omega (arith, c.requires.cpus, c.requires.narrow.1) in
-    subst (AreWithin 64) (sym (moves_are (goal.at.add_switches-requires-clause-narrow c).After-choose_seated))
-    (λ k d h. let less = moved_within 0 before c.choose_seated.new.self.places k d h in omega (arith, less, few))
-
-pub add_switches-requires-clause-room : goal.add_switches-requires-clause-room
-add_switches-requires-clause-room c =
-    let before = c.args.roster.now.places in
-    let are = moves_are (goal.at.add_switches-requires-clause-room c).After-choose_seated in
-    omega (arith, c.requires.room, ap (λ (ms : List Moved). length ms) are, moved_length 0 before c.choose_seated.new.self.places)
+pub choose_seated-requires-clause-spare : goal.choose_seated-requires-clause-spare
+choose_seated-requires-clause-spare c = omega (arith, c.requires.room, ap (λ (ps : Places). length ps) c.wake_unheard.ensures.places)
 
 pub returns-clause-places : goal.returns-clause-places
 returns-clause-places c =
@@ -59,14 +48,13 @@ returns-clause-switches c =
     let before = c.args.roster.now.places in
     let after = c.choose_seated.new.self.places in
     let first = c.wake_unheard.new.roster.tasks in
-    let tasks = c.choose_seated.new.self.tasks in
     let time = c.args.time in
     let start = c.args.switches.now.items in
     let are = moves_are (goal.at.returns-clause-switches c).After-choose_seated in
-    c.add_switches.ensures.switches
+    c.choose_seated.ensures.switches
     ∙ ap (λ (ss : List Switch). start ++ ss)
-    (ap (λ (ms : List Moved). map (switch_of time tasks after) ms) are
-    ∙ switched time first tasks after (λ o. state_homed after first tasks o c.choose_seated.ensures.tasks) 0 before after (λ i. ap (λ (n : ℕ). get_or after n None) (omega arith))
+    (ap (λ (ms : List Moved). map (switch_of time first after) ms) are
+    ∙ switched time first first after (λ o. refl) 0 before after (λ i. ap (λ (n : ℕ). get_or after n None) (omega arith))
     ∙ ap (λ (ts : List Task). switches_from time ts 0 before after) c.wake_unheard.ensures.tasks)
 
 pub returns-clause-none : goal.returns-clause-none

@@ -1,8 +1,15 @@
-use Rattle.std.proofs.Common.{◌≡◌, ◌∙◌, ap}
-use Rattle.domain_run.specs.private.Roster.{RosterView}
+use Rattle.std.proofs.Common.{length, ap, ◌∙◌}
+use Rattle.domain_run.specs.Tick.{shares}
+use Rattle.domain_run.specs.private.Roster.{RosterView, basis_in}
+use Rattle.domain_run.specs.private.Waiting.{owed_all}
+use Rattle.domain_run.proofs.Counting.{inactive_is}
 use Rattle.domain_run.proofs.roster.Roster.basis.Goals as goal
 
 pub returns : goal.returns
 returns c =
-    let cpus : c.len.result ≡ c.args.self.now.cpus = c.len.ensures.len ∙ c.self.invariant.wide ∙ ap (λ (r : RosterView). r.cpus) c.self.view_is in
-    λ i. record { uinact = c.uinact.ensures i; sum = c.sum.ensures i; cpus = cpus i; limit = c.args.limit }
+    let s = c.self.inside in
+    let sums = c.self.invariant.counted.counts.sums in
+    let inactive = inactive_is s.queue.accounts (shares (owed_all s.seats s.tasks.items)) c.args.cpu sums in
+    c.basis_of.ensures
+    ∙ (λ i. record { uinact = inactive i; sum = sums.total i; cpus = length s.queue.accounts.all; limit = c.args.limit })
+    ∙ ap (λ (r : RosterView). basis_in r.cpus c.args.limit r.tasks c.args.cpu) c.self.view_is

@@ -1,13 +1,14 @@
-use Rattle.std.proofs.Common.{◌≡◌, ◌<◌, ◌≤◌, ℕ, List, length, map, sym, ap, subst, ◌∙◌, refl, arith}
+use Rattle.std.proofs.Common.{◌≡◌, ◌<◌, ◌≤◌, ◌++◌, ℕ, List, length, map, sym, ap, subst, ◌∙◌, refl, arith}
 use Rattle.std.specs.Prelude.{All}
 use Rattle.attr_check.specs.Ratio.{cap}
 use Rattle.edf_pick.specs.declared.moves.Moved.{Moved}
 use Rattle.edf_pick.specs.Places.{placed}
+use Rattle.edf_pick.proofs.Moving.{moved_length}
 use Rattle.domain_run.specs.declared.run_queue.RunQueue.{RunQueue}
 use Rattle.domain_run.specs.Parts.{with_last_cpu}
 use Rattle.domain_run.specs.Sound.{IsApart}
 use Rattle.domain_run.specs.Tick.{candidates, sum_of}
-use Rattle.domain_run.specs.private.Choosing.{AreWithin, homed_by}
+use Rattle.domain_run.specs.private.Choosing.{AreWithin, homed_by, switch_of}
 use Rattle.domain_run.specs.private.Doubts.{IsTrusted, AreSettled, AreSettledBut}
 use Rattle.domain_run.specs.private.Roster.{RosterView}
 use Rattle.domain_run.specs.private.RunQueue.{IsCounted}
@@ -50,7 +51,7 @@ seat_moved-requires-clause-counts c =
     record { sums = i.counted.counts.sums; roster = i.counted.roster; waits = i.waits }
 
 pub seat_moved-requires-clause-within : goal.seat_moved-requires-clause-within
-seat_moved-requires-clause-within c = subst (λ (r : RosterView). sum_of r.tasks ≤ cap r.cpus c.args.limit) (sym c.self.view_is) c.requires.within
+seat_moved-requires-clause-within c = subst (λ (r : RosterView). sum_of r.tasks ≤ cap r.cpus c.args.moment.limit) (sym c.self.view_is) c.requires.within
 
 pub seat_moved-requires-clause-may : goal.seat_moved-requires-clause-may
 seat_moved-requires-clause-may c cpu =
@@ -69,6 +70,13 @@ seat_moved-requires-clause-settled c =
     let after = c.pick.new.self.places in
     subst (λ (ms : List Moved). AreSettledBut ms s.doubts w after s.seats.seats tasks) (sym c.pick.ensures.moves)
     (λ cpu others. subst (λ o. IsTrusted s.doubts w o s.seats.seats tasks cpu) (sym (still_first before after cpu (seating a).wide others)) (c.self.invariant.settled cpu))
+
+pub seat_moved-requires-clause-spare : goal.seat_moved-requires-clause-spare
+seat_moved-requires-clause-spare c =
+    let before = c.self.inside.queue.schedule.places in
+    let after = c.pick.new.self.places in
+    let len : length before ≡ length c.args.self.now.places = ap (λ (r : RosterView). length r.places) c.self.view_is in
+    omega (arith, c.requires.spare, len, ap (λ (ms : List Moved). length ms) c.pick.ensures.moves, moved_length 0 before after)
 
 stood_still : (c : After-seat_moved) → IsApart c.self.inside.queue.schedule.places
 stood_still c = subst (λ (r : RosterView). IsApart r.places) (sym c.self.view_is) c.requires.apart
@@ -122,3 +130,8 @@ returns-clause-tasks c =
 pub returns-clause-wide : goal.returns-clause-wide
 returns-clause-wide c =
     (seating (goal.at.returns-clause-wide c).After-pick).wide ∙ ap (λ (r : RosterView). length r.places) c.self.view_is
+
+pub returns-clause-switches : goal.returns-clause-switches
+returns-clause-switches c =
+    c.seat_moved.ensures.switches
+    ∙ ap (λ (r : RosterView). c.args.switches.now.items ++ map (switch_of c.args.moment.time r.tasks c.pick.new.self.places) c.pick.new.self.moves) c.self.view_is

@@ -1,4 +1,4 @@
-use Rattle.std.proofs.Common.{rules, ◌≡◌, ◌≢◌, ◌-◌, ◌*◌, ◌^◌, Some, None, map, get_or, set, sym, ap, subst, ◌∙◌}
+use Rattle.std.proofs.Common.{rules, ℕ, ◌≡◌, ◌≢◌, ◌-◌, ◌*◌, ◌^◌, Some, None, map, get_or, set, sym, ap, subst, ◌∙◌}
 use Rattle.std.specs.Prelude.{ℤ, pos, ◌-ℤ◌, ◌<ℤ◌, ◌≤ℤ◌, AllPairs}
 use Rattle.std.proofs.Math.Facts.{to_z-of_z}
 use mir.Syntax.{w128}
@@ -7,9 +7,9 @@ use Rattle.std.proofs.lemmas.List.{get_or_default}
 use Rattle.domain_run.specs.declared.task.Task.{Task}
 use Rattle.domain_run.specs.private.Paying.{ran_until}
 use Rattle.domain_run.specs.private.Roster.{RosterView, MayRun}
-use Rattle.domain_run.specs.private.Waiting.{seat_of, passed}
+use Rattle.domain_run.specs.private.Waiting.{passed}
 use Rattle.domain_run.proofs.Paying.{same_ran_until}
-use Rattle.domain_run.proofs.Seatings.{nobody_here}
+use Rattle.domain_run.proofs.Seatings.{none_at}
 use Rattle.domain_run.proofs.Later.{facts_of, times_one, orphan_passes, finished_passes}
 use Rattle.domain_run.proofs.roster.Roster.finish_at.Goals as goal
 
@@ -73,7 +73,9 @@ pub turn_charged-requires-clause-free : goal.turn_charged-requires-clause-free
 turn_charged-requires-clause-free c d =
     let old = c.args.self.now in
     let p = c.in-Some-at.place in
-    ap (λ (r : RosterView). seat_of r.seats (get_or r.tasks p d)) c.vacate_at.ensures ∙ nobody_here old.seats c.args.cpu (get_or old.tasks p d) (c.in-Some-at.ensures.home d)
+    ap (λ (r : RosterView). get_or r.seats (get_or r.tasks p d).cpu None) c.vacate_at.ensures
+    ∙ ap (λ (n : ℕ). get_or (set old.seats c.args.cpu None) n None) (c.in-Some-at.ensures.home d)
+    ∙ none_at old.seats c.args.cpu
 
 pub returns-clause-seats : goal.returns-clause-seats
 returns-clause-seats c = c.turn_charged.ensures.seats ∙ ap (λ (r : RosterView). r.seats) c.vacate_at.ensures

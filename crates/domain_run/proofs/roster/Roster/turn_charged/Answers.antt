@@ -1,7 +1,5 @@
-use Rattle.std.proofs.Common.{◌≡◌, ℕ, ◌<◌, false, None, List, length, get_or, set, sym, ap, subst, ◌∙◌}
+use Rattle.std.proofs.Common.{◌≡◌, ℕ, ◌<◌, None, List, length, get_or, set, sym, ap, subst, ◌∙◌}
 use Rattle.std.specs.Prelude.{All}
-use Rattle.std.specs.Int.{bit_at}
-use Rattle.std.proofs.lemmas.List.{get_or_default}
 use Rattle.domain_run.specs.declared.task.Task.{Task}
 use Rattle.domain_run.specs.declared.run_queue.RunQueue.{RunQueue}
 use Rattle.edf_pick.specs.Places.{Places}
@@ -9,11 +7,10 @@ use Rattle.domain_run.specs.Sound.{IsSound}
 use Rattle.domain_run.specs.private.Doubts.{AreSettled}
 use Rattle.domain_run.specs.private.Roster.{RosterView, after_change, MayMake, Fits}
 use Rattle.domain_run.specs.private.RunQueue.{IsCounted}
-use Rattle.domain_run.specs.private.Seats.{SeatsView}
+use Rattle.domain_run.specs.private.Seats.{SeatsView, seat_by}
 use Rattle.domain_run.specs.private.Timers.{IsStep}
 use Rattle.domain_run.specs.private.Waiting.{seat_of, owed_all}
-use Rattle.domain_run.proofs.Bare.{inside_seen, seen_at}
-use Rattle.domain_run.proofs.Later.{seat_seen}
+use Rattle.domain_run.proofs.Bare.{inside_seen, cpu_seen}
 use Rattle.domain_run.proofs.Seatings.{roster_view}
 use Rattle.domain_run.proofs.Turning.{sound_bare, may_bare, turns_bare, step_bare, sound_all_bare, counted_bare, waits_bare, settled_bare}
 use Rattle.domain_run.proofs.roster.Roster.turn_charged.Goals as goal
@@ -21,12 +18,15 @@ use Rattle.domain_run.proofs.roster.Roster.turn_charged.Goals as goal
 within : (queue : RunQueue) (s : SeatsView) (items : List Task) (r : RosterView) (p : ℕ) → roster_view queue s items ≡ r → p < length r.tasks → p < length items
 within queue s items r p view there = inside_seen s.upto s.seats items p (subst (λ (v : RosterView). p < length v.tasks) (sym view) there)
 
--- the task that is stored at the place sits nowhere
-unseated : (queue : RunQueue) (s : SeatsView) (items : List Task) (r : RosterView) (p : ℕ) (x : Task) → roster_view queue s items ≡ r → p < length items → x ≡ get_or items p x → ((d : Task) → seat_of r.seats (get_or r.tasks p d) ≡ None) → seat_of s.seats x ≡ None
-unseated queue s items r p x view h read free =
-    sym (seat_seen s.upto s.seats x)
-    ∙ ap (seat_of s.seats) (seen_at s.upto s.seats items p x h read x)
-    ∙ subst (λ (v : RosterView). seat_of v.seats (get_or v.tasks p x) ≡ None) (sym view) (free x)
+-- nobody sits on the CPU of the task that is stored at the place
+empty : (queue : RunQueue) (s : SeatsView) (items : List Task) (r : RosterView) (p : ℕ) (x : Task) → roster_view queue s items ≡ r → p < length items → x ≡ get_or items p x → ((d : Task) → get_or r.seats (get_or r.tasks p d).cpu None ≡ None) → get_or s.seats x.cpu None ≡ None
+empty queue s items r p x view h read free =
+    ap (λ (n : ℕ). get_or s.seats n None) (cpu_seen s.upto s.seats items p x h read x)
+    ∙ subst (λ (v : RosterView). get_or v.seats (get_or v.tasks p x).cpu None ≡ None) (sym view) (free x)
+
+-- so it sits nowhere
+unseated : (queue : RunQueue) (s : SeatsView) (items : List Task) (r : RosterView) (p : ℕ) (x : Task) → roster_view queue s items ≡ r → p < length items → x ≡ get_or items p x → ((d : Task) → get_or r.seats (get_or r.tasks p d).cpu None ≡ None) → seat_of s.seats x ≡ None
+unseated queue s items r p x view h read free = ap (seat_by x.number) (empty queue s items r p x view h read free)
 
 pub turn_settled-requires-clause-sound : goal.turn_settled-requires-clause-sound
 turn_settled-requires-clause-sound c =
@@ -75,17 +75,14 @@ invariant_of-self c =
     let queue = c.turn_settled.new.queue in
     let tasks = owed_all s.seats (set s.tasks.items p y) in
     let counted = counted_bare (length s.queue.accounts.all) c.args.time c.args.change.now s.queue s.seats s.tasks.items p x h read fits c.self.invariant.counted none c.turn_settled.new.queue y made c.turn_settled.ensures.turned in
-    let d = c.mark_left.new.self in
-    let marks = c.mark_left.ensures in
-    let same : c.index.result.now ≡ x = c.index.ensures ∙ get_or_default s.tasks.items p c.index.result.now x h ∙ sym read in
-    let free = subst (λ (t : Task). false ≡ false → t.cpu < 64 → bit_at d.cpus t.cpu ≡ 0 → bit_at s.doubts.rated t.cpu ≡ 0) same marks.free in
+    let free = empty s.queue s.seats s.tasks.items c.args.self.now p x c.self.view_is h read c.requires.free in
     record {
       counted = subst (λ (n : ℕ). IsCounted n queue tasks) (sym counted.wide) counted;
       waits = waits_bare (length s.queue.accounts.all) c.args.time c.args.change.now s.queue s.seats s.tasks.items p x h read fits c.self.invariant.counted none c.turn_settled.new.queue y made c.self.invariant.waits;
       wide = c.self.invariant.wide ∙ sym counted.wide;
-      settled = subst (λ (n : ℕ). AreSettled d n queue.schedule.places s.seats.seats tasks) (sym counted.wide)
-          (subst (λ (ps : Places). AreSettled d (length s.queue.accounts.all) ps s.seats.seats tasks) (sym c.turn_settled.ensures.turned.places)
-          (settled_bare (length s.queue.accounts.all) c.args.time c.args.change.now s.queue s.seats s.tasks.items p x h read fits c.self.invariant.counted none c.turn_settled.new.queue y made s.doubts d s.queue.schedule.places free marks.bare marks.rated marks.sum marks.limit c.self.invariant.settled));
+      settled = subst (λ (n : ℕ). AreSettled s.doubts n queue.schedule.places s.seats.seats tasks) (sym counted.wide)
+          (subst (λ (ps : Places). AreSettled s.doubts (length s.queue.accounts.all) ps s.seats.seats tasks) (sym c.turn_settled.ensures.turned.places)
+          (settled_bare (length s.queue.accounts.all) c.args.time c.args.change.now s.queue s.seats s.tasks.items p x h read fits c.self.invariant.counted none c.turn_settled.new.queue y made s.doubts s.queue.schedule.places free c.self.invariant.settled));
       room = c.self.invariant.room;
     }
 

@@ -1,18 +1,21 @@
-use Rattle.std.proofs.Common.{◌≡◌, ◌<◌, ◌≤◌, ℕ, Option, List, length, get_or, inl, inr, sym, ap, subst, refl, ◌∙◌, arith}
-use Rattle.std.specs.Prelude.{IfSome}
+use Rattle.std.proofs.Common.{◌≡◌, ◌<◌, ◌≤◌, ◌++◌, ◌∷◌, [], ℕ, Option, List, length, map, take, get_or, inl, inr, sym, ap, subst, refl, ◌∙◌, arith}
+use Rattle.std.specs.Prelude.{◌≢◌, AllPairs, IfSome}
 use Rattle.std.proofs.lemmas.Bool.{cases_eq}
-use Rattle.std.proofs.lemmas.List.{get_or_default}
+use Rattle.std.proofs.lemmas.List.{get_or_default, append-nil, append_assoc, map-append, take_more}
 use Rattle.attr_check.specs.Ratio.{cap}
 use Rattle.edf_pick.specs.declared.moves.Moved.{Moved}
 use Rattle.edf_pick.specs.Places.{Places}
+use Rattle.domain_run.specs.declared.switch.Switch.{Switch}
 use Rattle.domain_run.specs.declared.task.Task.{Task}
 use Rattle.domain_run.specs.Sound.{occupant}
+use Rattle.domain_run.specs.Switches.{state_of}
 use Rattle.domain_run.specs.Tick.{sum_of}
-use Rattle.domain_run.specs.private.Choosing.{AreWithin}
+use Rattle.domain_run.specs.private.Choosing.{AreWithin, switch_of}
 use Rattle.domain_run.specs.private.Doubts.{IsTrusted, AreSettledBut}
-use Rattle.domain_run.specs.private.Waiting.{owed_all, MaySitOf}
+use Rattle.domain_run.specs.private.Waiting.{owed, owed_all, MaySitOf}
 use Rattle.domain_run.proofs.Choosing.{nobody, homed_more, homed_none}
-use Rattle.domain_run.proofs.Starting.{here_sum, here_may_some}
+use Rattle.domain_run.proofs.Starting.{here_sum, here_may_some, state_started}
+use Rattle.domain_run.proofs.Waiting.{alike_owed, numbered_unlike}
 use Rattle.domain_run.proofs.roster.starting.seat_moved.Goals as goal
 
 pub loop-i-init : goal.loop-i-init
@@ -30,7 +33,24 @@ loop-i-init c =
       trusted = λ cpu others. subst (λ (ps : Places). IsTrusted c.args.doubts.now (length c.args.accounts.now.all) (occupant ps cpu) c.args.seats.now.seats tasks cpu) (sym c.occupants-places.ensures.occupants)
           (but cpu (λ j d h. others j d (omega arith) h));
       room = refl;
+      switches = sym (append-nil c.args.switches.now.items);
+      few = omega arith;
+      spare = refl;
     }
+
+pub state_of-state-requires : goal.state_of-state-requires
+state_of-state-requires c =
+    let l = c.loop-i in
+    record {
+      numbered = subst (λ (ts : List Task). AllPairs (λ a b. a.number ≢ b.number) ts) (sym c.deref.ensures.value)
+          (numbered_unlike (owed l.seats.upto l.seats.seats) (alike_owed l.seats.upto l.seats.seats) l.tasks.items l.invariant.counts.roster.numbered);
+    }
+
+pub switch_of-requires : goal.switch_of-requires
+switch_of-requires c =
+    let within = subst (AreWithin (length c.args.accounts.now.all)) (sym c.moves-moves.ensures) c.requires.there in
+    let less = within c.loop-i.i nobody (omega arith) in
+    omega (arith, less, c.requires.cpus.1)
 
 pub seat_next-requires-clause-there : goal.seat_next-requires-clause-there
 seat_next-requires-clause-there c =
@@ -48,10 +68,10 @@ pub seat_next-requires-clause-counts : goal.seat_next-requires-clause-counts
 seat_next-requires-clause-counts c = c.loop-i.invariant.counts
 
 pub seat_next-requires-clause-within : goal.seat_next-requires-clause-within
-seat_next-requires-clause-within c = subst (λ (n : ℕ). sum_of (owed_all c.loop-i.seats c.loop-i.tasks.items) ≤ cap n c.args.limit) (sym c.loop-i.invariant.wide) c.loop-i.invariant.within
+seat_next-requires-clause-within c = subst (λ (n : ℕ). sum_of (owed_all c.loop-i.seats c.loop-i.tasks.items) ≤ cap n c.args.moment.limit) (sym c.loop-i.invariant.wide) c.loop-i.invariant.within
 
 pub seat_next-requires-clause-may : goal.seat_next-requires-clause-may
-seat_next-requires-clause-may c = subst (λ (o : Option ℕ). IfSome o (MaySitOf (owed_all c.loop-i.seats c.loop-i.tasks.items))) (sym c.occupant_of-occupant.ensures) (c.loop-i.invariant.may _)
+seat_next-requires-clause-may c = subst (λ (o : Option ℕ). IfSome o (MaySitOf (owed_all c.loop-i.seats c.loop-i.tasks.items))) (sym c.occupant_of-next.ensures) (c.loop-i.invariant.may _)
 
 pub loop-i-preserved : goal.loop-i-preserved
 loop-i-preserved c =
@@ -64,19 +84,28 @@ loop-i-preserved c =
     let cpu : ℕ = (get_or moves l.i nobody).cpu in
     let was = owed_all l.seats l.tasks.items in
     let now = owed_all new.seats new.tasks.items in
-    let o = c.occupant_of-occupant.result in
+    let o = c.occupant_of-next.result in
+    let m : Moved = get_or moves l.i nobody in
+    let first = owed_all c.args.seats.now c.args.tasks.now.items in
+    let f : Moved → Switch = switch_of c.args.moment.time first places in
+    let start = c.args.switches.now.items in
+    let state : c.state_of-state.result ≡ state_of first m.before =
+    c.state_of-state.ensures ∙ ap (λ (ts : List Task). state_of ts m.before) c.deref.ensures.value
+    ∙ state_started l.seats.upto l.seats.seats l.tasks.items first places (take l.i moves) m.before l.invariant.written in
+    let one : c.switch_of.result ≡ f m =
+    c.switch_of.ensures ∙ (λ i. record { time = c.args.moment.time; prev = m.before; next = c.occupant_of-next.ensures i; cpu = m.cpu; state = state i }) in
     record {
       wide = e.wide ∙ l.invariant.wide;
       counts = e.counts;
-      written = e.tasks ∙ homed_more places moves (owed_all c.args.seats.now c.args.tasks.now.items) was l.i nobody o (omega arith) l.invariant.written c.occupant_of-occupant.ensures;
-      within = subst (λ (n : ℕ). n ≤ cap w c.args.limit) (sym (ap sum_of e.tasks ∙ here_sum o cpu was)) l.invariant.within;
+      written = e.tasks ∙ homed_more places moves (owed_all c.args.seats.now c.args.tasks.now.items) was l.i nobody o (omega arith) l.invariant.written c.occupant_of-next.ensures;
+      within = subst (λ (n : ℕ). n ≤ cap w c.args.moment.limit) (sym (ap sum_of e.tasks ∙ here_sum o cpu was)) l.invariant.within;
       may = λ i. subst (λ (ts : List Task). IfSome (occupant places i) (MaySitOf ts)) (sym e.tasks) (here_may_some o cpu was (occupant places i) (l.invariant.may i));
       clock = e.clock ∙ l.invariant.clock;
       long = e.seats ∙ l.invariant.long;
       trusted = λ i others. elim (cases_eq i cpu) [
         | inl same ↦
             subst (λ (n : ℕ). IsTrusted new.doubts w (occupant places n) new.seats.seats now n) (sym same)
-            (subst (λ (x : Option ℕ). IsTrusted new.doubts w x new.seats.seats now cpu) c.occupant_of-occupant.ensures
+            (subst (λ (x : Option ℕ). IsTrusted new.doubts w x new.seats.seats now cpu) c.occupant_of-next.ensures
             (subst (λ (n : ℕ). IsTrusted new.doubts n o new.seats.seats now cpu) l.invariant.wide e.here))
         | inr other ↦
             let before : IsTrusted l.doubts w (occupant places i) l.seats.seats was i = l.invariant.trusted i (λ j d low h at. elim (cases_eq j l.i) [
@@ -89,6 +118,13 @@ loop-i-preserved c =
             (e.trust i (occupant places i) other (subst (λ (n : ℕ). IsTrusted l.doubts n (occupant places i) l.seats.seats was i) (sym l.invariant.wide) before))
       ];
       room = e.room ∙ l.invariant.room;
+      switches = c.push_reserved.ensures.items
+          ∙ ap (λ (x : Switch). l.switches.items ++ x ∷ []) one
+          ∙ ap (λ (ss : List Switch). ss ++ f m ∷ []) l.invariant.switches
+          ∙ append_assoc start (map f (take l.i moves)) (f m ∷ [])
+          ∙ ap (λ (ss : List Switch). start ++ ss) (sym (ap (map f) (take_more moves l.i nobody c.loop-i-test.true) ∙ map-append f (take l.i moves) (m ∷ [])));
+      few = omega (arith, l.invariant.few, c.push_reserved.ensures.len);
+      spare = c.push_reserved.ensures.capacity ∙ l.invariant.spare;
     }
 
 pub returns-clause-settled : goal.returns-clause-settled
