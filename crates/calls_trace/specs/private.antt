@@ -4,3 +4,5 @@ pub mod Recorded
 pub mod Counting
 pub mod Calls
 pub mod Playing
+pub mod ReadRuns
+pub mod Replayed

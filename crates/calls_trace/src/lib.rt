@@ -24,6 +24,7 @@ mod heard_summary;
 mod named_run;
 mod placed_run;
 mod playing;
+mod read_runs;
 mod replaying;
 mod run_text;
 mod trace;
