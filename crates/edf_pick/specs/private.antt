@@ -2,3 +2,4 @@ pub mod First
 pub mod Listed
 pub mod Room
 pub mod Search
+pub mod Waiting

@@ -1,0 +1,38 @@
+-- Those who stay on the CPU where they stand, apart from those who wait.
+use Rattle.std.specs.Prelude.{ℕ, ◌≡◌, ◌≢◌, ◌≤◌, ◌++◌, List, [], ◌∷◌, map, length, slice_index_or, All, AllPairs, Option, Some, None}
+use Rattle.edf_pick.specs.declared.candidate.Candidate.{Candidate}
+use Rattle.edf_pick.specs.Order.{ordered}
+use Rattle.edf_pick.specs.Places.{Places}
+use Rattle.edf_pick.specs.Schedule.{IsAtHome}
+
+-- the tasks that stay, CPU by CPU
+abbrev pub held : List (Option Candidate) → List Candidate
+held [] = []
+held (None ∷ stays) = held stays
+held (Some c ∷ stays) = c ∷ held stays
+
+-- who stays on a CPU, as its occupant
+abbrev pub number_of : Option Candidate → Option ℕ
+number_of None = None
+number_of (Some c) = Some c.number
+
+-- the occupants that stay; on another CPU nobody
+abbrev pub staying_on : List (Option Candidate) → Places
+staying_on stays = map number_of stays
+
+-- all tasks, in the order of the choice
+abbrev pub all_of : List (Option Candidate) → List Candidate → List Candidate
+all_of stays waiting = ordered (held stays ++ waiting)
+
+-- who stays on a CPU belongs to it and stands there
+abbrev pub AreOn : List (Option Candidate) → Places → Type 0
+AreOn stays places = (cpu : ℕ) (c : Candidate) → slice_index_or stays cpu None ≡ Some c
+    → (c.home ≡ cpu) × (slice_index_or places cpu None ≡ Some c.number)
+
+-- as many CPUs as places, no two tasks have one number, who stays stands at home, and who waits and
+-- stands does so at home
+pub record IsWaiting (stays : List (Option Candidate)) (waiting : List Candidate) (places : Places) : Type 0 where
+  pub len : length stays ≡ length places
+  pub numbered : AllPairs (λ a b. a.number ≢ b.number) (held stays ++ waiting)
+  pub on : AreOn stays places
+  pub homed : All (IsAtHome places) waiting
