@@ -15,6 +15,7 @@ pub mod Scheduling
 pub mod Searching
 pub mod Spans
 pub mod Standing
+pub mod Stays
 pub mod Starting
 pub mod Still
 pub mod Words

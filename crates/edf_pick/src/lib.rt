@@ -26,6 +26,7 @@ mod room;
 mod schedule;
 mod seats;
 mod single;
+mod staying;
 
 pub use candidate::Candidate;
 pub use moves::Moved;
