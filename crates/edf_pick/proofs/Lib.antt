@@ -1,6 +1,7 @@
 pub mod Before
 pub mod CallerLemmas
 pub mod Following
+pub mod Held
 pub mod Homing
 pub mod Listing
 pub mod AtHome
@@ -13,6 +14,7 @@ pub mod Resting
 pub mod Rising
 pub mod Scheduling
 pub mod Searching
+pub mod Sorting
 pub mod Spans
 pub mod Standing
 pub mod Starting
