@@ -19,4 +19,5 @@ pub mod Spans
 pub mod Standing
 pub mod Starting
 pub mod Still
+pub mod Waits
 pub mod Words

@@ -224,7 +224,7 @@ pub all_left : (P : Candidate → Type 0) (xs ys : List Candidate) → All P (xs
 all_left P [] ys all = All-nil P
 all_left P (x ∷ xs) ys all = All-cons P x xs (All-head P x (xs ++ ys) all) (all_left P xs ys (All-tail P x (xs ++ ys) all))
 
-numbered_left : (xs ys : List Candidate) → IsNumbered (xs ++ ys) → IsNumbered xs
+pub numbered_left : (xs ys : List Candidate) → IsNumbered (xs ++ ys) → IsNumbered xs
 numbered_left [] ys numbered = λ i j d h k. absurd (omega arith)
 numbered_left (x ∷ xs) ys numbered =
     AllPairs-cons (λ a b. a.number ≢ b.number) x xs (all_left (λ b. x.number ≢ b.number) xs ys (numbered_first x (xs ++ ys) numbered)) (numbered_left xs ys (numbered_rest x (xs ++ ys) numbered))

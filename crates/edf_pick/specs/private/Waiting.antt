@@ -20,6 +20,10 @@ number_of (Some c) = Some c.number
 abbrev pub staying_on : List (Option Candidate) → Places
 staying_on stays = map number_of stays
 
+-- a task, wherever it belongs
+abbrev pub bare : Candidate → Candidate
+bare c = record c { home = 0 }
+
 -- all tasks, in the order of the choice
 abbrev pub all_of : List (Option Candidate) → List Candidate → List Candidate
 all_of stays waiting = ordered (held stays ++ waiting)
