@@ -1,29 +1,31 @@
 -- The choice, where those who stay on their CPU are known, and the movers among the others.
-use Rattle.std.proofs.Common.{◌≡◌, ◌≢◌, ◌≤◌, ◌+◌, ◌⊎◌, ℕ, zero, suc, Bool, true, false, cond, eqb, not, List, [], ◌∷◌, ◌++◌, length, get_or, map, take, Option, Some, None, refl, sym, subst, ap, ◌∙◌, arith, inl, inr, eq-eqb, append_assoc, append-nil, length-append}
+use Rattle.std.proofs.Common.{◌≡◌, ◌≢◌, ◌<◌, ◌≤◌, ◌+◌, ◌⊎◌, ℕ, zero, suc, Bool, true, false, cond, eqb, not, List, [], ◌∷◌, ◌++◌, length, get_or, set, map, take, Option, Some, None, refl, sym, subst, ap, ◌∙◌, arith, inl, inr, eq-eqb, append_assoc, append-nil, length-append}
 use Rattle.std.proofs.Math.Seq.{take-append_seam}
-use Rattle.std.specs.Prelude.{All, Contains, filter, position}
+use Rattle.std.specs.Prelude.{All, Contains, filter, is_none, position}
 use Rattle.std.specs.List.{list_any}
 use Rattle.std.specs.List.Sorted.{IsPermutation}
-use Rattle.std.proofs.lemmas.Bool.{cases_Bool, ne_eqb}
-use Rattle.std.proofs.lemmas.List.{take_all, map-append, length-map}
+use Rattle.std.proofs.lemmas.Bool.{cases_Bool, cases_eq, ne_eqb}
+use Rattle.std.proofs.lemmas.List.{take_all, take_more, map-append, map-set, get_or-set_same, get_or-set_other, get_or-take, get_or_default, length-map, length-set, length-take-le}
 use Rattle.std.proofs.lemmas.List.Elements.{All-head, All-tail, All-weaker, All-append, All-contains, Contains-append_left, Contains-append_right, Contains-get_or, filter-append}
 use Rattle.std.proofs.lemmas.List.Folds.{list_any_none}
-use Rattle.std.proofs.lemmas.List.Sorted.{IsPermutation-sym, IsPermutation-map, IsPermutation-append_left, Contains-permutation, list_any-IsPermutation}
+use Rattle.std.proofs.lemmas.List.Sorted.{IsPermutation-refl, IsPermutation-sym, IsPermutation-trans, IsPermutation-cons, IsPermutation-to_front, length_permutation, IsPermutation-map, IsPermutation-append_left, Contains-permutation, list_any-IsPermutation}
+use Rattle.std.proofs.lemmas.List.Sums.{fold-append}
+use Rattle.std.proofs.lemmas.Option.{slice_get-get_or}
 use Rattle.edf_pick.specs.declared.candidate.Candidate.{Candidate}
 use Rattle.edf_pick.specs.Changes.{home_on, homed}
 use Rattle.edf_pick.specs.Choice.{is_before}
 use Rattle.edf_pick.specs.Order.{IsRising, ordered}
-use Rattle.edf_pick.specs.Places.{Places, AreSingle, is_task, stands, seat_of, put, seated, placed}
+use Rattle.edf_pick.specs.Places.{Places, AreSingle, is_task, stands, is_free, seat_of, put, seated, placed}
 use Rattle.edf_pick.specs.private.First.{staying, seated_all}
-use Rattle.edf_pick.specs.private.Waiting.{held, number_of, staying_on, bare, AreOn}
+use Rattle.edf_pick.specs.private.Waiting.{held, number_of, staying_on, bare, AreOn, IsWaiting, AreSeated}
 use Rattle.edf_pick.proofs.CallerLemmas.{IsNumbered, numbered_first, numbered_rest, numbered_map, permuted, length_ordered, rising_ordered}
-use Rattle.edf_pick.proofs.Held.{All_held, held_contains, held_where}
-use Rattle.edf_pick.proofs.Marked.{any_at, kept_all, single_all, stands_here, stays_seated}
+use Rattle.edf_pick.proofs.Held.{held_more, All_held, held_contains, held_where}
+use Rattle.edf_pick.proofs.Marked.{any_at, kept_all, seat_free, single_all, stands_here, stands_seated, stays_seated}
 use Rattle.edf_pick.proofs.Picked.{picked}
 use Rattle.edf_pick.proofs.Renewed.{on_position}
 use Rattle.edf_pick.proofs.Resting.{no_position}
-use Rattle.edf_pick.proofs.Sorting.{KeepsPlace, contains_parts, numbered_left, ordered_filter, ordered_map, ordered_parted, ordered_rising, ordered_same}
-use Rattle.edf_pick.proofs.Standing.{stands_where}
+use Rattle.edf_pick.proofs.Sorting.{KeepsPlace, contains_parts, numbered_left, numbered_same, ordered_filter, ordered_map, ordered_parted, ordered_rising, ordered_same}
+use Rattle.edf_pick.proofs.Standing.{busy, free_inside, some_seat, stands_where}
 
 -- ---- WHO STAYS, AS AN OCCUPANT
 
@@ -233,7 +235,7 @@ module _ (after : Places) (after_stays : List (Option Candidate)) (xs waiting : 
       (Contains-permutation (map bare xs) (map bare (held after_stays)) (bare x) (IsPermutation-sym (map bare (held after_stays)) (map bare xs) same) (contains_map bare xs x at))
 
   -- who waits stands nowhere
-  waits_away : (c : Candidate) → Contains waiting c → stands c.number after ≡ false
+  pub waits_away : (c : Candidate) → Contains waiting c → stands c.number after ≡ false
   waits_away c at =
       elim (cases_Bool (stands c.number after)) [
         | inl there ↦
@@ -274,11 +276,17 @@ module _ (after : Places) (after_stays : List (Option Candidate)) (xs waiting : 
   homed_parts : map (homed after) (xs ++ waiting) ≡ map (homed after) xs ++ waiting
   homed_parts = map-append (homed after) xs waiting ∙ ap (λ (ys : List Candidate). map (homed after) xs ++ ys) waits_homed
 
+  homed_numbered : IsNumbered (map (homed after) xs ++ waiting)
+  homed_numbered = subst (λ ys. IsNumbered ys) homed_parts (numbered_map (homed after) (λ c. c.number) (λ c. (keeps_place after c).1) (xs ++ waiting) numbered)
+
+  pub held_numbered : IsNumbered (held after_stays ++ waiting)
+  held_numbered =
+      numbered_same (map (homed after) xs ++ waiting) (held after_stays ++ waiting) (IsPermutation-append_left waiting (map (homed after) xs) (held after_stays) held_same) homed_numbered
+
   pub homed_held : map (homed after) (ordered (xs ++ waiting)) ≡ ordered (held after_stays ++ waiting)
   homed_held =
-      let many = subst (λ ys. IsNumbered ys) homed_parts (numbered_map (homed after) (λ c. c.number) (λ c. (keeps_place after c).1) (xs ++ waiting) numbered) in
       ordered_map (homed after) (keeps_place after) (xs ++ waiting) ∙ ap (λ (ys : List Candidate). ordered ys) homed_parts
-      ∙ ordered_same (map (homed after) xs ++ waiting) (held after_stays ++ waiting) many (IsPermutation-append_left waiting (map (homed after) xs) (held after_stays) held_same)
+      ∙ ordered_same (map (homed after) xs ++ waiting) (held after_stays ++ waiting) homed_numbered (IsPermutation-append_left waiting (map (homed after) xs) (held after_stays) held_same)
 
 -- (The other conditions of the placement are not needed.)
 pub homed_by_movers : (stays : List (Option Candidate)) (movers waiting : List Candidate) (before : Places) (after_stays : List (Option Candidate)) → IsNumbered (held stays ++ (movers ++ waiting)) → AreOn stays before → AreSingle before
@@ -290,3 +298,166 @@ homed_by_movers stays movers waiting before after_stays numbered on single is af
     ap (λ (xs : List Candidate). map (homed after) (ordered xs)) (sym parts)
     ∙ homed_held after after_stays (held stays ++ movers) waiting (subst (λ (xs : List Candidate). IsNumbered xs) (sym parts) numbered)
     (single_all movers (staying_on stays) (stays_single stays before on single)) is after_on same
+
+-- ---- ONE MOVER AFTER ANOTHER
+
+pub staying_put : (stays : List (Option Candidate)) (cpu : ℕ) (o : Option Candidate) → staying_on (set stays cpu o) ≡ set (staying_on stays) cpu (number_of o)
+staying_put stays cpu o = map-set number_of stays cpu o
+
+-- nobody stays where no occupant does
+pub stays_none : (stays : List (Option Candidate)) (cpu : ℕ) → get_or (staying_on stays) cpu None ≡ None → get_or stays cpu None ≡ None
+stays_none stays cpu none = by_task (get_or stays cpu None) (sym (number_at stays cpu) ∙ none)
+  where
+    by_task : (o : Option Candidate) → number_of o ≡ None → o ≡ None
+    by_task None e = refl
+    by_task (Some c) e = absurd cc
+
+pub on_put : (stays : List (Option Candidate)) (places : Places) (cpu : ℕ) (c : Candidate) → cpu < length stays → cpu < length places → AreOn stays places
+    → AreOn (set stays cpu (Some (record c { home = cpu }))) (set places cpu (Some c.number))
+on_put stays places cpu c h l on a d at =
+    let one : Candidate = record c { home = cpu } in
+    elim (cases_eq a cpu) [
+      | inl here ↦
+          let read : Some one ≡ Some d =
+          sym (get_or-set_same stays cpu (Some one) None h) ∙ ap (λ (k : ℕ). get_or (set stays cpu (Some one)) k None) (sym here) ∙ at in
+          let same : one ≡ d = cc in (
+            sym (ap (λ (x : Candidate). x.home) same) ∙ sym here,
+            ap (λ (k : ℕ). get_or (set places cpu (Some c.number)) k None) here ∙ get_or-set_same places cpu (Some c.number) None l ∙ ap (λ (x : Candidate). Some x.number) same,
+          )
+      | inr apart ↦
+          let was = on a d (sym (get_or-set_other stays cpu a (Some one) None apart) ∙ at) in
+          (was.0, get_or-set_other places cpu a (Some c.number) None apart ∙ was.1)
+    ]
+
+-- a task that no longer stays
+pub on_less : (stays : List (Option Candidate)) (places : Places) (cpu : ℕ) → AreOn stays places → AreOn (set stays cpu None) places
+on_less stays places cpu on a d at = on a d (by_place (cases_eq a cpu))
+  where
+    gone : (xs : List (Option Candidate)) (k : ℕ) → get_or (set xs k None) k None ≡ None
+    gone [] k = refl
+    gone (x ∷ xs) zero = refl
+    gone (x ∷ xs) (suc k) = gone xs k
+
+    by_place : (a ≡ cpu) ⊎ (a ≢ cpu) → get_or stays a None ≡ Some d
+    by_place (inl here) = absurd (let clash : None ≡ Some d = sym (gone stays cpu) ∙ ap (λ (k : ℕ). get_or (set stays cpu None) k None) (sym here) ∙ at in cc)
+    by_place (inr apart) = sym (get_or-set_other stays cpu a None None apart) ∙ at
+
+pub bare_put : (stays : List (Option Candidate)) (cpu : ℕ) (c : Candidate) (xs : List Candidate) → cpu < length stays → get_or stays cpu None ≡ None → IsPermutation (map bare (held stays)) (map bare xs)
+    → IsPermutation (map bare (held (set stays cpu (Some (record c { home = cpu }))))) (map bare (xs ++ c ∷ []))
+bare_put stays cpu c xs h none same =
+    let one : Candidate = record c { home = cpu } in
+    let more = map bare (held (set stays cpu (Some one))) in
+    let one_more : IsPermutation more (bare c ∷ map bare (held stays)) = IsPermutation-map bare (held (set stays cpu (Some one))) (one ∷ held stays) (held_more stays cpu one h none) in
+    let then : IsPermutation (bare c ∷ map bare (held stays)) (bare c ∷ map bare xs) = IsPermutation-cons (bare c) (map bare (held stays)) (map bare xs) same in
+    let last : IsPermutation (bare c ∷ map bare xs) (map bare xs ++ bare c ∷ []) =
+    IsPermutation-sym (map bare xs ++ bare c ∷ []) (bare c ∷ map bare xs) (IsPermutation-to_front (map bare xs) (bare c)) in
+    subst (λ ys. IsPermutation more ys) (sym (map-append bare xs (c ∷ [])))
+    (IsPermutation-trans more (bare c ∷ map bare (held stays)) (map bare xs ++ bare c ∷ []) one_more
+    (IsPermutation-trans (bare c ∷ map bare (held stays)) (bare c ∷ map bare xs) (map bare xs ++ bare c ∷ []) then last))
+
+-- as many stand as stay
+stays_busy : (stays : List (Option Candidate)) → busy (staying_on stays) ≡ length (held stays)
+stays_busy [] = refl
+stays_busy (None ∷ stays) = let rest = stays_busy stays in omega (arith, rest)
+stays_busy (Some c ∷ stays) = let rest = stays_busy stays in omega (arith, rest)
+
+pub seat_found : (stays : List (Option Candidate)) (places : Places) (c : Candidate) → staying_on stays ≡ places → length (held stays) < length stays → (cpu : ℕ) × (seat_of places c ≡ Some cpu)
+seat_found stays places c is few =
+    let many = stays_busy stays in
+    let all = stays_length stays in
+    subst (λ ps. (cpu : ℕ) × (seat_of ps c ≡ Some cpu)) is (some_seat (staying_on stays) c (omega (arith, few, many, all)))
+
+-- a seat is a CPU on which nobody stands
+pub seat_bare : (places : Places) (c : Candidate) (cpu : ℕ) → seat_of places c ≡ Some cpu → (cpu < length places) × (get_or places cpu None ≡ None)
+seat_bare places c cpu e =
+    let free = seat_free places c cpu e in
+    let h = free_inside places cpu free in
+    (h, by_occupant (get_or places cpu None) (ap is_free (sym (slice_get-get_or places cpu None h)) ∙ free))
+  where
+    by_occupant : (o : Option ℕ) → is_none o ≡ true → o ≡ None
+    by_occupant None t = refl
+    by_occupant (Some n) t = absurd cc
+
+-- THE LOOP
+pub none_seated : (stays : List (Option Candidate)) (before : Places) → AreOn stays before → AreSeated stays [] stays (staying_on stays)
+none_seated stays before on = record {
+  len = refl;
+  seated = refl;
+  staying = refl;
+  on = λ cpu c at. ((on cpu c at).0, number_at stays cpu ∙ ap number_of at);
+  same = subst (λ xs. IsPermutation (map bare (held stays)) (map bare xs)) (sym (append-nil (held stays))) (IsPermutation-refl (map bare (held stays)));
+}
+
+pub one_seated : (stays : List (Option Candidate)) (movers : List Candidate) (now : List (Option Candidate)) (places : Places) (c : Candidate) (cpu : ℕ) → AreSeated stays movers now places → stands c.number places ≡ false → seat_of places c ≡ Some cpu
+    → AreSeated stays (movers ++ c ∷ []) (set now cpu (Some (record c { home = cpu }))) (set places cpu (Some c.number))
+one_seated stays movers now places c cpu is absent seat =
+    let one : Candidate = record c { home = cpu } in
+    let bare_there = seat_bare places c cpu seat in
+    let many : length places ≡ length now = ap (λ (ps : Places). length ps) (sym is.staying) ∙ stays_length now in
+    let inside : cpu < length now = (let h = bare_there.0 in omega (arith, h, many)) in
+    let none : get_or now cpu None ≡ None = stays_none now cpu (ap (λ (ps : Places). get_or ps cpu None) is.staying ∙ bare_there.1) in
+    let put_there : seated places c ≡ set places cpu (Some c.number) = ap (λ (b : Bool). cond b places (put places c.number (seat_of places c))) absent ∙ ap (λ (o : Option ℕ). put places c.number o) seat in
+    record {
+      len = length-set now cpu (Some one) ∙ is.len;
+      seated = sym put_there ∙ ap (λ (ps : Places). seated ps c) is.seated ∙ sym (fold-append seated (staying_on stays) movers (c ∷ []));
+      staying = staying_put now cpu (Some one) ∙ ap (λ (ps : Places). set ps cpu (Some c.number)) is.staying;
+      on = on_put now places cpu c inside bare_there.0 is.on;
+      same = subst (λ xs. IsPermutation (map bare (held (set now cpu (Some one)))) (map bare xs)) (append_assoc (held stays) movers (c ∷ [])) (bare_put now cpu c (held stays ++ movers) inside none is.same);
+    }
+
+-- as long as there are fewer than CPUs
+pub next_seat : (stays : List (Option Candidate)) (movers : List Candidate) (now : List (Option Candidate)) (places : Places) (c : Candidate) → AreSeated stays movers now places → length (held stays) + length movers < length stays
+    → (cpu : ℕ) × (seat_of places c ≡ Some cpu)
+next_seat stays movers now places c is few =
+    let bare_many : length (map bare (held stays ++ movers)) ≡ length (map bare (held now)) = length_permutation (map bare (held now)) (map bare (held stays ++ movers)) is.same in
+    let one : length (map bare (held now)) ≡ length (held now) = simp length-map in
+    let other : length (map bare (held stays ++ movers)) ≡ length (held stays ++ movers) = simp length-map in
+    let sum = length-append (held stays) movers in
+    let len = is.len in
+    seat_found now places c is.staying (omega (arith, bare_many, one, other, sum, few, len))
+
+still_away : (n : ℕ) (xs : List Candidate) (p : Places) → All (λ b. n ≢ b.number) xs → stands n p ≡ false → stands n (seated_all xs p) ≡ false
+still_away n [] p apart absent = absent
+still_away n (x ∷ xs) p apart absent =
+    still_away n xs (seated p x) (All-tail (λ b. n ≢ b.number) x xs apart) (stands_seated n p x (All-head (λ b. n ≢ b.number) x xs apart) ∙ absent)
+
+-- a mover stands nowhere until it is seated
+pub next_away : (stays : List (Option Candidate)) (movers : List Candidate) (before : Places) (i : ℕ) (d : Candidate) (now : List (Option Candidate)) (places : Places) → IsNumbered movers → AreOn stays before
+    → All (λ c. stands c.number before ≡ false) movers → i < length movers → AreSeated stays (take i movers) now places → stands (get_or movers i d).number places ≡ false
+next_away stays movers before i d now places numbered on away h is =
+    let n = (get_or movers i d).number in
+    let apart : All (λ b. n ≢ b.number) (take i movers) = λ k e l same.
+    let many = length-take-le i movers (omega (arith, h)) in
+    let less : k < i = omega (arith, l, many) in
+    numbered k i e less h (ap (λ (c : Candidate). c.number) (sym (get_or-take i movers k e less)) ∙ sym same ∙ ap (λ (c : Candidate). c.number) (get_or_default movers i d e h)) in
+    ap (λ (ps : Places). stands n ps) is.seated ∙ still_away n (take i movers) (staying_on stays) apart (stays_absent stays before n on (away i d h))
+
+pub more_seated : (stays : List (Option Candidate)) (movers : List Candidate) (i : ℕ) (d : Candidate) (now : List (Option Candidate)) (places : Places) (cpu : ℕ) → i < length movers → AreSeated stays (take i movers) now places
+    → stands (get_or movers i d).number places ≡ false → seat_of places (get_or movers i d) ≡ Some cpu
+    → AreSeated stays (take (i + 1) movers) (set now cpu (Some (record (get_or movers i d) { home = cpu }))) (set places cpu (Some (get_or movers i d).number))
+more_seated stays movers i d now places cpu h is absent seat =
+    let c = get_or movers i d in
+    subst (λ xs. AreSeated stays xs (set now cpu (Some (record c { home = cpu }))) (set places cpu (Some c.number))) (sym (take_more movers i d h))
+    (one_seated stays (take i movers) now places c cpu is absent seat)
+
+-- once all are seated
+pub seated_homed : (stays : List (Option Candidate)) (movers waiting : List Candidate) (before : Places) (now : List (Option Candidate)) (places : Places) → IsNumbered (held stays ++ (movers ++ waiting)) → AreOn stays before
+    → AreSingle before → AreSeated stays movers now places → map (homed places) (ordered (held stays ++ (movers ++ waiting))) ≡ ordered (held now ++ waiting)
+seated_homed stays movers waiting before now places numbered on single is =
+    ap (λ (ps : Places). map (homed ps) (ordered (held stays ++ (movers ++ waiting)))) is.seated
+    ∙ homed_by_movers stays movers waiting before now numbered on single (is.staying ∙ is.seated) (subst (λ (ps : Places). AreOn now ps) is.seated is.on) is.same
+
+pub seated_waiting : (stays : List (Option Candidate)) (movers waiting : List Candidate) (before : Places) (now : List (Option Candidate)) (places : Places) → IsNumbered (held stays ++ (movers ++ waiting)) → AreOn stays before
+    → AreSingle before → AreSeated stays movers now places → IsWaiting now waiting places
+seated_waiting stays movers waiting before now places numbered on single is =
+    let first = held stays ++ movers in
+    let all = subst (λ (xs : List Candidate). IsNumbered xs) (sym (append_assoc (held stays) movers waiting)) numbered in
+    let alone : AreSingle places = subst (λ (ps : Places). AreSingle ps) (sym is.seated) (single_all movers (staying_on stays) (stays_single stays before on single)) in
+    record {
+      len = sym (stays_length now) ∙ ap (λ (ps : Places). length ps) is.staying;
+      numbered = held_numbered places now first waiting all alone is.staying is.on is.same;
+      on = is.on;
+      homed = λ k d h there.
+          let away = waits_away places now first waiting all alone is.staying is.on is.same (get_or waiting k d) (Contains-get_or waiting k d h) in
+          let clash : true ≡ false = sym there ∙ away in absurd cc;
+    }
