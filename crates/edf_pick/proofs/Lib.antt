@@ -1,6 +1,7 @@
 pub mod Before
 pub mod CallerLemmas
 pub mod Following
+pub mod Held
 pub mod Homing
 pub mod Listing
 pub mod AtHome
@@ -13,9 +14,11 @@ pub mod Resting
 pub mod Rising
 pub mod Scheduling
 pub mod Searching
+pub mod Sorting
 pub mod Spans
 pub mod Standing
 pub mod Stays
 pub mod Starting
 pub mod Still
+pub mod Waits
 pub mod Words

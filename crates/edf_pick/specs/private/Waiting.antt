@@ -1,9 +1,11 @@
 -- Those who stay on the CPU where they stand, apart from those who wait.
 use Rattle.std.specs.Prelude.{ℕ, ◌≡◌, ◌≢◌, ◌≤◌, ◌++◌, List, [], ◌∷◌, map, length, slice_index_or, All, AllPairs, Option, Some, None}
+use Rattle.std.specs.List.Sorted.{IsPermutation}
 use Rattle.edf_pick.specs.declared.candidate.Candidate.{Candidate}
 use Rattle.edf_pick.specs.Order.{ordered}
 use Rattle.edf_pick.specs.Places.{Places}
 use Rattle.edf_pick.specs.Schedule.{IsAtHome}
+use Rattle.edf_pick.specs.private.First.{seated_all}
 
 -- the tasks that stay, CPU by CPU
 abbrev pub held : List (Option Candidate) → List Candidate
@@ -19,6 +21,10 @@ number_of (Some c) = Some c.number
 -- the occupants that stay; on another CPU nobody
 abbrev pub staying_on : List (Option Candidate) → Places
 staying_on stays = map number_of stays
+
+-- a task, wherever it belongs
+abbrev pub bare : Candidate → Candidate
+bare c = record c { home = 0 }
 
 -- all tasks, in the order of the choice
 abbrev pub all_of : List (Option Candidate) → List Candidate → List Candidate
@@ -36,3 +42,11 @@ pub record IsWaiting (stays : List (Option Candidate)) (waiting : List Candidate
   pub numbered : AllPairs (λ a b. a.number ≢ b.number) (held stays ++ waiting)
   pub on : AreOn stays places
   pub homed : All (IsAtHome places) waiting
+
+-- some of the movers have been seated, one after another: each has the CPU on which it stands then
+pub record AreSeated (stays : List (Option Candidate)) (movers : List Candidate) (now : List (Option Candidate)) (places : Places) : Type 0 where
+  pub len : length now ≡ length stays
+  pub seated : places ≡ seated_all movers (staying_on stays)
+  pub staying : staying_on now ≡ places
+  pub on : AreOn now places
+  pub same : IsPermutation (map bare (held now)) (map bare (held stays ++ movers))
