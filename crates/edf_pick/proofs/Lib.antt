@@ -1,5 +1,6 @@
 pub mod Before
 pub mod CallerLemmas
+pub mod Chosen
 pub mod Following
 pub mod Held
 pub mod Homing

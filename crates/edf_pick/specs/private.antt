@@ -1,3 +1,4 @@
+pub mod Choosing
 pub mod First
 pub mod Listed
 pub mod Room

@@ -14,8 +14,10 @@
 mod at_home;
 mod candidate;
 mod changes;
+mod choosing;
 mod listed;
 pub mod marks;
+mod movers;
 mod moves;
 mod order;
 mod parts;
@@ -25,6 +27,7 @@ mod queue;
 mod room;
 mod schedule;
 mod seats;
+mod settling;
 mod single;
 mod staying;
 
