@@ -19,12 +19,12 @@ use Rattle.edf_pick.specs.private.First.{is_home}
 use Rattle.edf_pick.specs.private.Staying.{bare_key}
 use Rattle.edf_pick.specs.private.Waiting.{held, staying_on, AreOn, IsWaiting}
 use Rattle.edf_pick.proofs.Before.{key, before_tells, before_both, before_other, number_differs}
-use Rattle.edf_pick.proofs.CallerLemmas.{IsNumbered}
+use Rattle.edf_pick.proofs.CallerLemmas.{IsNumbered, numbered_rest}
 use Rattle.edf_pick.proofs.Held.{held_more, held_less, held_contains, held_length}
 use Rattle.edf_pick.proofs.Marked.{task_is, stands_here}
 use Rattle.edf_pick.proofs.Rising.{All-with, rising_first, rising_rest, rising_with, insert_place, place}
 use Rattle.edf_pick.proofs.Scheduling.{absent_number}
-use Rattle.edf_pick.proofs.Sorting.{numbered_same, rising_append}
+use Rattle.edf_pick.proofs.Sorting.{numbered_left, numbered_same, rising_append}
 use Rattle.edf_pick.proofs.Stays.{count_more, count_less}
 use Rattle.edf_pick.proofs.Waits.{numbers_apart, on_less}
 
@@ -242,6 +242,13 @@ before_first stays movers (c ∷ waiting) places is none = λ k d h.
 
 pub all_before : (stays : List (Option Candidate)) (movers waiting : List Candidate) (places : Places) → IsChosen stays movers waiting places → AreBefore (held stays ++ movers) waiting
 all_before stays movers waiting places is = All-append (λ a. All (λ b. is_before a b ≡ true) waiting) (held stays) movers is.first is.choosing.before
+
+numbered_right : (xs ys : List Candidate) → IsNumbered (xs ++ ys) → IsNumbered ys
+numbered_right [] ys numbered = numbered
+numbered_right (x ∷ xs) ys numbered = numbered_right xs ys (numbered_rest x (xs ++ ys) numbered)
+
+pub movers_numbered : (stays : List (Option Candidate)) (movers waiting : List Candidate) → IsNumbered (held stays ++ (movers ++ waiting)) → IsNumbered movers
+movers_numbered stays movers waiting numbered = numbered_left movers waiting (numbered_right (held stays) (movers ++ waiting) numbered)
 
 -- THE BEGINNING
 pub none_chosen : (stays : List (Option Candidate)) (waiting : List Candidate) (places : Places) → IsWaiting stays waiting places → IsRising waiting → IsChoosing stays [] waiting places

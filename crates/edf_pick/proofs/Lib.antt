@@ -4,6 +4,7 @@ pub mod Chosen
 pub mod Following
 pub mod Held
 pub mod Homing
+pub mod Left
 pub mod Listing
 pub mod AtHome
 pub mod Marked
@@ -15,6 +16,7 @@ pub mod Resting
 pub mod Rising
 pub mod Scheduling
 pub mod Searching
+pub mod Settled
 pub mod Sorting
 pub mod Spans
 pub mod Standing

@@ -137,6 +137,13 @@ impl Staying {
         self.marks
     }
 
+    /// How many CPUs there are.
+    pub(crate) fn cpus(&self) -> usize
+        ensures { result ≡ length self.now }
+    {
+        self.cpus
+    }
+
     /// How many stay.
     #[inline(always)]
     pub(crate) fn busy(&self) -> usize

@@ -1,8 +1,8 @@
 -- Those who stay on the CPU where they stand, apart from those who wait.
-use Rattle.std.specs.Prelude.{ℕ, ◌≡◌, ◌≢◌, ◌≤◌, ◌++◌, List, [], ◌∷◌, map, length, slice_index_or, All, AllPairs, Option, Some, None}
+use Rattle.std.specs.Prelude.{ℕ, ◌≡◌, ◌≢◌, ◌≤◌, ◌++◌, List, [], ◌∷◌, map, length, slice_index_or, All, AllPairs, Option, Some, None, Bool, false}
 use Rattle.std.specs.List.Sorted.{IsPermutation}
 use Rattle.edf_pick.specs.declared.candidate.Candidate.{Candidate}
-use Rattle.edf_pick.specs.Order.{ordered}
+use Rattle.edf_pick.specs.Order.{is_same, has_candidate, without_candidate, ordered}
 use Rattle.edf_pick.specs.Places.{Places}
 use Rattle.edf_pick.specs.Schedule.{IsAtHome}
 use Rattle.edf_pick.specs.private.First.{seated_all}
@@ -50,3 +50,15 @@ pub record AreSeated (stays : List (Option Candidate)) (movers : List Candidate)
   pub staying : staying_on now ≡ places
   pub on : AreOn now places
   pub same : IsPermutation (map bare (held now)) (map bare (held stays ++ movers))
+
+-- the task of the deadline and the number of c stays there
+abbrev pub is_there : Candidate → Option Candidate → Bool
+is_there c None = false
+is_there c (Some d) = is_same d c
+
+-- the task of the deadline and the number of c is there no more, and it is known whether it was; who
+-- stays and who waits is at home as before
+pub record HasLeft (c : Candidate) (stays : List (Option Candidate)) (waiting : List Candidate) (now : List (Option Candidate)) (rest : List Candidate) (was : Bool) : Type 0 where
+  pub all : all_of now rest ≡ without_candidate c (all_of stays waiting)
+  pub there : was ≡ has_candidate c (all_of stays waiting)
+  pub is : (places : Places) → IsWaiting stays waiting places → IsWaiting now rest places

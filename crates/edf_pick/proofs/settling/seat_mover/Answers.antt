@@ -1,10 +1,12 @@
-use Rattle.std.proofs.Common.{rules, ℕ, ◌≡◌, ◌≢◌, ◌<◌, ◌≤◌, ◌+◌, true, false, length, is_some, slice_index_or, slice_set, All, AllPairs, None, Some, vec_len, vec_capacity, ◌-◌, ◌*◌, ◌/◌, ◌%◌, Bool, nat_eq, nat_lt, List, [], ◌∷◌, ◌++◌, bit_and, bit_or, Fits, w8, w32, w64, Bor, MutBor}
-use Rattle.std.specs.Int.{bit_at}
-use Rattle.edf_pick.specs.Moves.{same_occupant}
-use Rattle.edf_pick.specs.Places as placing
-use Rattle.edf_pick.specs.Places.{AreSingle, AreTaken}
-use Rattle.edf_pick.specs.private.Waiting as spec
+use Rattle.std.proofs.Common.{◌≡◌, ◌∙◌, None, Some, get_or, sym, ap}
+use Rattle.edf_pick.specs.Places.{Places, seat_of}
+use Rattle.edf_pick.proofs.Waits.{seat_bare, stays_none}
 use Rattle.edf_pick.proofs.settling.seat_mover.Goals as goal
 
 pub stay-requires-clause-bare : goal.stay-requires-clause-bare
-stay-requires-clause-bare c = ?
+stay-requires-clause-bare c =
+    let places = c.args.places.now.items in
+    let one = c.args.c.now in
+    let cpu = c.in-Some.cpu in
+    let seat : seat_of places one ≡ Some cpu = ap (λ (ps : Places). seat_of ps one) (sym c.deref.ensures.value) ∙ sym c.in-Some.ensures.seat in
+    stays_none c.args.staying.now cpu (ap (λ (ps : Places). get_or ps cpu None) c.requires.same ∙ (seat_bare places one cpu seat).1)
