@@ -1,11 +1,11 @@
 -- A task comes, and waits; or goes, from where it stays or waits.
-use Rattle.std.proofs.Common.{◌≡◌, ◌≢◌, ◌<◌, ◌≤◌, ◌+◌, ◌++◌, ◌||◌, ◌&&◌, ℕ, Bool, true, false, eqb, Option, Some, None, List, [], ◌∷◌, length, get_or, set, refl, sym, ap, ◌∙◌, subst, arith, inl, inr, length-append}
+use Rattle.std.proofs.Common.{◌≡◌, ◌≢◌, ◌<◌, ◌≤◌, ◌+◌, ◌++◌, ◌||◌, ◌&&◌, ℕ, Bool, true, false, eqb, Option, Some, None, List, [], ◌∷◌, length, replicate, get_or, set, refl, sym, ap, ◌∙◌, subst, arith, inl, inr, length-append}
 use Rattle.std.specs.Prelude.{All, Contains, filter, is_some, not}
 use Rattle.std.specs.List.{list_any}
 use Rattle.std.specs.List.Sorted.{IsPermutation}
 use Rattle.std.proofs.lemmas.Bool.{or_right}
-use Rattle.std.proofs.lemmas.List.{length-set}
-use Rattle.std.proofs.lemmas.List.Elements.{All-contains, All-filter, filter-append, Contains-get_or, Contains-append_right}
+use Rattle.std.proofs.lemmas.List.{length-set, length-replicate}
+use Rattle.std.proofs.lemmas.List.Elements.{All-nil, All-contains, All-filter, filter-append, Contains-get_or, Contains-append_right}
 use Rattle.std.proofs.lemmas.List.Folds.{list_any_none, list_any-append}
 use Rattle.std.proofs.lemmas.List.Kept.{AllPairs-cons, AllPairs-filter}
 use Rattle.std.proofs.lemmas.List.Sorted.{IsPermutation-sym, IsPermutation-trans, IsPermutation-insert, IsPermutation-middle, IsPermutation-append_left, IsPermutation-append_right}
@@ -20,7 +20,21 @@ use Rattle.edf_pick.proofs.Held.{held_less, All_held}
 use Rattle.edf_pick.proofs.Rising.{All-with, insert_place, place, without_absent}
 use Rattle.edf_pick.proofs.Scheduling.{absent_number}
 use Rattle.edf_pick.proofs.Sorting.{numbered_same, ordered_same, ordered_without}
+use Rattle.edf_pick.proofs.Stays.{held_none, none_at}
 use Rattle.edf_pick.proofs.Waits.{numbers_apart, on_less}
+
+-- NOBODY
+-- no tasks, on so many idle CPUs
+pub opened_all : (cpus : ℕ) → all_of (replicate cpus None) [] ≡ []
+opened_all cpus = ap (λ (xs : List Candidate). ordered (xs ++ [])) (held_none cpus)
+
+pub opened_is : (cpus : ℕ) → IsWaiting (replicate cpus None) [] (replicate cpus None)
+opened_is cpus = record {
+  len = length-replicate {A = Option Candidate} cpus None ∙ sym (length-replicate {A = Option ℕ} cpus None);
+  numbered = subst (λ (xs : List Candidate). IsNumbered (xs ++ [])) (sym (held_none cpus)) (λ i j d low high. absurd (omega (arith, low, high)));
+  on = λ cpu c at. absurd (let clash : None ≡ Some c = sym (none_at cpus cpu) ∙ at in cc);
+  homed = All-nil (IsAtHome (replicate cpus None));
+}
 
 -- ONE MORE WAITS
 put_in : (c : Candidate) (waiting : List Candidate) → IsPermutation (c ∷ waiting) (with_candidate c waiting)

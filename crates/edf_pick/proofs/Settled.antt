@@ -1,17 +1,18 @@
 -- The occupants once the choice is made: who does not stay has gone, and the movers have come.
-use Rattle.std.proofs.Common.{◌≡◌, ◌≢◌, ◌<◌, ◌≤◌, ◌+◌, ◌⊎◌, ◌++◌, ℕ, suc, Bool, true, false, cond, eqb, Option, Some, None, List, [], ◌∷◌, length, get_or, map, refl, sym, ap, ◌∙◌, subst, arith, inl, inr, eqb-true}
+use Rattle.std.proofs.Common.{◌≡◌, ◌≢◌, ◌<◌, ◌≤◌, ◌+◌, ◌⊎◌, ◌++◌, ℕ, suc, Bool, true, false, cond, eqb, Option, Some, None, List, [], ◌∷◌, length, take, get_or, map, refl, sym, ap, ◌∙◌, subst, arith, inl, inr, eqb-true}
 use Rattle.std.specs.Prelude.{All}
 use Rattle.std.specs.Int.{bit_at}
 use Rattle.std.specs.List.{list_any}
 use Rattle.std.specs.List.Sorted.{IsPermutation}
 use Rattle.std.proofs.lemmas.Bool.{cases_eq, ne_eqb}
+use Rattle.std.proofs.lemmas.List.{length-take-le}
 use Rattle.std.proofs.lemmas.List.Folds.{list_any_none}
 use Rattle.std.proofs.lemmas.Nat.Bits.{bit_at-lt}
 use Rattle.edf_pick.specs.declared.candidate.Candidate.{Candidate}
 use Rattle.edf_pick.specs.Changes.{homed}
 use Rattle.edf_pick.specs.Moves.{same_occupant}
 use Rattle.edf_pick.specs.Order.{IsRising, ordered}
-use Rattle.edf_pick.specs.Places.{Places, taken, stands, AreSingle, AreTaken, placed}
+use Rattle.edf_pick.specs.Places.{Places, taken, seat_of, stands, AreSingle, AreTaken, placed}
 use Rattle.edf_pick.specs.private.Choosing.{IsChosen}
 use Rattle.edf_pick.specs.private.First.{seated_all}
 use Rattle.edf_pick.specs.private.Waiting.{held, number_of, staying_on, all_of, AreOn, IsWaiting, AreSeated}
@@ -20,7 +21,7 @@ use Rattle.edf_pick.proofs.Chosen.{all_before}
 use Rattle.edf_pick.proofs.Marked.{all_stay, single_all, stands_here}
 use Rattle.edf_pick.proofs.Moving.{same_all}
 use Rattle.edf_pick.proofs.Sorting.{ordered_same}
-use Rattle.edf_pick.proofs.Waits.{number_at, stays_length, stays_where, stays_single, placed_by_movers, seated_homed, seated_waiting}
+use Rattle.edf_pick.proofs.Waits.{next_seat, number_at, stays_length, stays_where, stays_single, placed_by_movers, seated_homed, seated_waiting}
 
 pub none_taken : (o : Option ℕ) → taken o ≡ 0 → o ≡ None
 none_taken None e = refl
@@ -93,6 +94,13 @@ other_there stays movers old new cpu away is bare some = by_both (get_or old cpu
         let stand : stands (get_or movers k d).number old ≡ true = ap (λ j. stands j old) (number ∙ sym same) ∙ stands_here m old cpu at_o in
         let clash : true ≡ false = sym stand ∙ away k d h in cc)) in
         let clash : true ≡ false = sym (came n at_p) ∙ none in cc)
+
+-- the next mover has a seat
+pub next_mover : (stays : List (Option Candidate)) (movers : List Candidate) (i : ℕ) (d : Candidate) (now : List (Option Candidate)) (places : Places) → length (held stays) + length movers ≤ length stays → i < length movers
+    → AreSeated stays (take i movers) now places → (cpu : ℕ) × (seat_of places (get_or movers i d) ≡ Some cpu)
+next_mover stays movers i d now places free h is =
+    let some = length-take-le i movers (omega (arith, h)) in
+    next_seat stays (take i movers) now places (get_or movers i d) is (omega (arith, some, free, h))
 
 -- THE WHOLE CHOICE
 module _ (stays0 : List (Option Candidate)) (waiting0 : List Candidate) (stays : List (Option Candidate)) (movers waiting : List Candidate) (before : Places) (now : List (Option Candidate)) (places : Places) (is : IsWaiting stays0 waiting0 before)

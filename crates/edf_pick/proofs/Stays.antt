@@ -130,7 +130,7 @@ keys_none n k = elim (cases_lt k n) [
   | inr h ↦ get_or_past (replicate n bare_key) k bare_key (omega (arith, h, length-replicate n bare_key))
 ]
 
-none_at : (n k : ℕ) → get_or {A = Option Candidate} (replicate n None) k None ≡ None
+pub none_at : (n k : ℕ) → get_or {A = Option Candidate} (replicate n None) k None ≡ None
 none_at n k = elim (cases_lt k n) [
   | inl h ↦ get_or-replicate {A = Option Candidate} n k None None h
   | inr h ↦ get_or_past {X = Option Candidate} (replicate n None) k None (omega (arith, h, length-replicate {A = Option Candidate} n None))

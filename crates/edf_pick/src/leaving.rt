@@ -48,6 +48,20 @@ fn take_staying(waiting: &Queue, staying: &mut Staying, cpu: usize, c: &Candidat
     staying.off(cpu);
 }
 
+// Who stays on another CPU goes, or is not there.
+fn take_elsewhere(waiting: &Queue, staying: &mut Staying, c: &Candidate) -> bool
+    requires numbered { AllPairs (λ a b. a.number ≢ b.number)
+        (spec.held staying.old ++ waiting.now) }
+    requires absent { order.has_candidate c.now waiting.now ≡ false }
+    ensures left { spec.HasLeft c.now staying.old waiting.now staying.new waiting.now result }
+{
+    let Some(cpu) = find_staying(staying, c) else {
+        return false;
+    };
+    take_staying(waiting, staying, cpu, c);
+    true
+}
+
 // Who does not stay on the CPU to which it belongs goes, or is not there.
 #[inline(always)]
 fn take_other(waiting: &mut Queue, staying: &mut Staying, c: &Candidate) -> bool
@@ -55,13 +69,9 @@ fn take_other(waiting: &mut Queue, staying: &mut Staying, c: &Candidate) -> bool
         (spec.held staying.old ++ waiting.old) }
     ensures left { spec.HasLeft c.now staying.old waiting.old staying.new waiting.new result }
 {
-    if waiting.take(c).is_some() {
-        return true;
-    }
-    let Some(cpu) = find_staying(staying, c) else {
-        return false;
+    let Some(_entry) = waiting.take(c) else {
+        return take_elsewhere(waiting, staying, c);
     };
-    take_staying(waiting, staying, cpu, c);
     true
 }
 

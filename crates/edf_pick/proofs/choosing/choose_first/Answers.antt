@@ -10,17 +10,17 @@ use Rattle.edf_pick.specs.private.Staying.{bare_key}
 use Rattle.edf_pick.specs.private.Waiting.{held}
 use Rattle.edf_pick.proofs.Chosen.{home_bare, chosen_same, chosen_is}
 use Rattle.edf_pick.proofs.choosing.choose_first.Goals as goal
-use Rattle.edf_pick.proofs.choosing.choose_first.Goals.{After-c-1}
+use Rattle.edf_pick.proofs.choosing.choose_first.Goals.{After-take_first-c}
 
-first_is : (c : After-c-1) → IsChoosing c.args.staying.now c.args.movers.now (c.take_first-c.result ∷ c.take_first-c.new.self) c.args.places.now
+first_is : (c : After-take_first-c) → IsChoosing c.args.staying.now c.args.movers.now (c.take_first-c.result ∷ c.take_first-c.new.self) c.args.places.now
 first_is c = subst (λ (xs : List Candidate). IsChoosing c.args.staying.now c.args.movers.now xs c.args.places.now) c.take_first-c.ensures.first c.requires.is
 
 pub choose-requires-clause-bare : goal.choose-requires-clause-bare
-choose-requires-clause-bare c = λ home. home_bare c.args.staying.now c.args.movers.now c.take_first-c.new.self c.args.places.now c.take_first-c.result (first_is c) home
+choose-requires-clause-bare c = λ home. home_bare c.args.staying.now c.args.movers.now c.take_first-c.new.self c.args.places.now c.take_first-c.result (first_is (goal.at.choose-requires-clause-bare c).After-take_first-c) home
 
 pub returns-clause-is : goal.returns-clause-is
 returns-clause-is c =
-    let k = (goal.at.returns-clause-is c).After-c-1 in
+    let k = (goal.at.returns-clause-is c).After-take_first-c in
     let stays = c.args.staying.now in
     let movers = c.args.movers.now in
     let places = c.args.places.now in
@@ -31,7 +31,7 @@ returns-clause-is c =
 
 pub returns-clause-same : goal.returns-clause-same
 returns-clause-same c =
-    let k = (goal.at.returns-clause-same c).After-c-1 in
+    let k = (goal.at.returns-clause-same c).After-take_first-c in
     let stays = c.args.staying.now in
     let movers = c.args.movers.now in
     let places = c.args.places.now in

@@ -13,48 +13,48 @@ use Rattle.edf_pick.proofs.Chosen.{home_bare, chosen_same, chosen_is, chosen_bus
 use Rattle.edf_pick.proofs.Stays.{count_less}
 use Rattle.std.specs.Prelude.{is_some}
 use Rattle.edf_pick.proofs.choosing.displace.Goals as goal
-use Rattle.edf_pick.proofs.choosing.displace.Goals.{After-put-arg-1, After-c-1, After-choose}
+use Rattle.edf_pick.proofs.choosing.displace.Goals.{After-off, After-choose}
 
-first_is : (c : After-put-arg-1) → IsChoosing c.args.staying.now c.args.movers.now (c.take_first-c.result ∷ c.take_first-c.new.self) c.args.places.now
+first_is : (c : After-off) → IsChoosing c.args.staying.now c.args.movers.now (c.take_first-c.result ∷ c.take_first-c.new.self) c.args.places.now
 first_is c = subst (λ (xs : List Candidate). IsChoosing c.args.staying.now c.args.movers.now xs c.args.places.now) c.take_first-c.ensures.first c.requires.is
 
-before : (c : After-put-arg-1) → is_before c.take_first-c.result c.args.last ≡ true
+before : (c : After-off) → is_before c.take_first-c.result c.args.last ≡ true
 before c = subst (λ (xs : List Candidate). is_before (get_or xs 0 bare_key) c.args.last ≡ true) c.take_first-c.ensures.first c.requires.first
 
 -- who was displaced waits
-abbrev rest : (c : After-put-arg-1) → List Candidate
+abbrev rest : (c : After-off) → List Candidate
 rest c = with_candidate c.args.last c.take_first-c.new.self
 
-abbrev fewer : (c : After-put-arg-1) → List (Option Candidate)
+abbrev fewer : (c : After-off) → List (Option Candidate)
 fewer c = set c.args.staying.now c.args.last.home None
 
-then_is : (c : After-put-arg-1) → IsChoosing (fewer c) c.args.movers.now (c.take_first-c.result ∷ rest c) c.args.places.now
+then_is : (c : After-off) → IsChoosing (fewer c) c.args.movers.now (c.take_first-c.result ∷ rest c) c.args.places.now
 then_is c = released_is c.args.staying.now c.args.movers.now c.take_first-c.new.self c.args.places.now c.take_first-c.result c.args.last (first_is c) c.requires.there (before c)
 
-one_less : (c : After-put-arg-1) → length (held (fewer c)) + 1 ≡ length (held c.args.staying.now)
+one_less : (c : After-off) → length (held (fewer c)) + 1 ≡ length (held c.args.staying.now)
 one_less c = count_less c.args.staying.now c.args.last.home (ap (λ (o : Option Candidate). is_some o) c.requires.there)
 
 pub put-requires-clause-absent : goal.put-requires-clause-absent
-put-requires-clause-absent c = last_absent c.args.staying.now c.args.movers.now c.take_first-c.new.self c.args.places.now c.take_first-c.result c.args.last (first_is c) c.requires.there
+put-requires-clause-absent c = last_absent c.args.staying.now c.args.movers.now c.take_first-c.new.self c.args.places.now c.take_first-c.result c.args.last (first_is (goal.at.put-requires-clause-absent c).After-off) c.requires.there
 
 pub choose-requires-clause-few : goal.choose-requires-clause-few
 choose-requires-clause-few c =
-    let k = (goal.at.choose-requires-clause-few c).After-put-arg-1 in
+    let k = (goal.at.choose-requires-clause-few c).After-off in
     let less = one_less k in
     omega (arith, less, c.requires.few, c.requires.is.few)
 
 pub choose-requires-clause-bare : goal.choose-requires-clause-bare
 choose-requires-clause-bare c = λ home.
-    let k = (goal.at.choose-requires-clause-bare c).After-put-arg-1 in
+    let k = (goal.at.choose-requires-clause-bare c).After-off in
     ap (λ (ss : List (Option Candidate)). get_or ss c.take_first-c.result.home None) c.off.ensures ∙ home_bare (fewer k) c.args.movers.now (rest k) c.args.places.now c.take_first-c.result (then_is k) home
 
 -- who stays, and who moves
-stays_are : (c : After-choose) (k : After-put-arg-1) → c.choose.new.staying ≡ chosen_stays c.args.places.now c.take_first-c.result (set c.args.staying.now c.args.last.home None)
+stays_are : (c : After-choose) (k : After-off) → c.choose.new.staying ≡ chosen_stays c.args.places.now c.take_first-c.result (set c.args.staying.now c.args.last.home None)
 stays_are c k = c.choose.ensures.staying ∙ ap (λ (ss : List (Option Candidate)). chosen_stays c.args.places.now c.take_first-c.result ss) c.off.ensures
 
 pub returns-clause-is : goal.returns-clause-is
 returns-clause-is c =
-    let k = (goal.at.returns-clause-is c).After-put-arg-1 in
+    let k = (goal.at.returns-clause-is c).After-off in
     let movers = c.args.movers.now in
     let places = c.args.places.now in
     let one = c.take_first-c.result in
@@ -66,7 +66,7 @@ returns-clause-is c =
 
 pub returns-clause-same : goal.returns-clause-same
 returns-clause-same c =
-    let k = (goal.at.returns-clause-same c).After-put-arg-1 in
+    let k = (goal.at.returns-clause-same c).After-off in
     let stays = c.args.staying.now in
     let movers = c.args.movers.now in
     let places = c.args.places.now in
@@ -83,7 +83,7 @@ returns-clause-same c =
 
 pub returns-clause-busy : goal.returns-clause-busy
 returns-clause-busy c =
-    let k = (goal.at.returns-clause-busy c).After-put-arg-1 in
+    let k = (goal.at.returns-clause-busy c).After-off in
     let movers = c.args.movers.now in
     let places = c.args.places.now in
     let one = c.take_first-c.result in
@@ -95,7 +95,7 @@ returns-clause-busy c =
 
 pub returns-clause-earlier : goal.returns-clause-earlier
 returns-clause-earlier c =
-    let k = (goal.at.returns-clause-earlier c).After-put-arg-1 in
+    let k = (goal.at.returns-clause-earlier c).After-off in
     let stays = c.args.staying.now in
     let movers = c.args.movers.now in
     let places = c.args.places.now in

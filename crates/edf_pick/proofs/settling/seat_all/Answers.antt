@@ -1,29 +1,20 @@
 use Rattle.std.proofs.Common.{◌≡◌, ◌≢◌, ◌<◌, ◌≤◌, ◌+◌, ◌∙◌, ℕ, List, Option, Some, false, length, take, get_or, set, sym, ap, subst, arith}
 use Rattle.std.specs.Prelude.{All, is_some}
-use Rattle.std.proofs.lemmas.List.{length-take-le}
 use Rattle.edf_pick.specs.declared.candidate.Candidate.{Candidate}
 use Rattle.edf_pick.specs.Places.{Places, seat_of, stands}
 use Rattle.edf_pick.specs.private.Waiting.{staying_on, AreOn, AreSeated}
 use Rattle.edf_pick.proofs.Marked.{nobody}
-use Rattle.edf_pick.proofs.Waits.{next_seat, next_away, more_seated}
+use Rattle.edf_pick.proofs.Settled.{next_mover}
+use Rattle.edf_pick.proofs.Waits.{next_away, more_seated}
 use Rattle.edf_pick.proofs.settling.seat_all.Goals as goal
-use Rattle.edf_pick.proofs.settling.seat_all.Goals.{After-seat_mover-arg-in-loop-i-1}
-
--- the next mover has a seat
-next : (c : After-seat_mover-arg-in-loop-i-1) → (cpu : ℕ) × (seat_of c.loop-i.places.items (get_or c.args.movers.now c.loop-i.i nobody) ≡ Some cpu)
-next c =
-    let stays = c.args.staying.now in
-    let movers = c.args.movers.now in
-    let i = c.loop-i.i in
-    let some = length-take-le i movers (omega arith) in
-    next_seat stays (take i movers) c.loop-i.staying c.loop-i.places.items (get_or movers i nobody) c.loop-i.invariant.seated (omega (arith, some, c.requires.free, c.loop-i-test.true))
 
 pub seat_mover-marks-requires-clause-free : goal.seat_mover-marks-requires-clause-free
-seat_mover-marks-requires-clause-free c = let n = next c in ap (λ (o : Option ℕ). is_some o) n.1
+seat_mover-marks-requires-clause-free c = 
+    let n = next_mover c.args.staying.now c.args.movers.now c.loop-i.i nobody c.loop-i.staying c.loop-i.places.items c.requires.free c.loop-i-test.true c.loop-i.invariant.seated in
+    ap (λ (o : Option ℕ). is_some o) n.1
 
 pub loop-i-preserved : goal.loop-i-preserved
 loop-i-preserved c =
-    let k = (goal.at.loop-i-preserved c).After-seat_mover-arg-in-loop-i-1 in
     let stays = c.args.staying.now in
     let movers = c.args.movers.now in
     let i = c.loop-i.i in
@@ -32,7 +23,7 @@ loop-i-preserved c =
     let places = c.loop-i.places.items in
     let inv = c.loop-i.invariant in
     let e = c.seat_mover-marks.ensures in
-    let n = next k in
+    let n = next_mover stays movers i nobody now places c.requires.free c.loop-i-test.true inv.seated in
     let on = subst (λ (ps : Places). AreOn stays ps) c.requires.same c.requires.on in
     let away = subst (λ (ps : Places). All (λ c. stands c.number ps ≡ false) movers) c.requires.same c.requires.away in
     let absent : stands one.number places ≡ false = next_away stays movers (staying_on stays) i nobody now places c.requires.numbered on away c.loop-i-test.true inv.seated in
