@@ -13,10 +13,8 @@
 
 mod at_home;
 mod candidate;
-mod changes;
 mod choosing;
 mod leaving;
-mod listed;
 pub mod marks;
 mod movers;
 mod moves;
@@ -30,7 +28,6 @@ mod room;
 mod schedule;
 mod seats;
 mod settling;
-mod single;
 mod staying;
 
 pub use candidate::Candidate;

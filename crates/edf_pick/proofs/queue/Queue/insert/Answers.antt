@@ -5,8 +5,8 @@ use Rattle.edf_pick.specs.declared.candidate.Candidate.{Candidate}
 use Rattle.edf_pick.specs.Order.{has_candidate, with_candidate}
 use Rattle.edf_pick.specs.private.Room.{tasks_in}
 use Rattle.edf_pick.proofs.Rising.{place, insert_place, queue_with}
-use Rattle.edf_pick.proofs.queue.Queue.put.Goals as goal
-use Rattle.edf_pick.proofs.queue.Queue.put.Goals.{After-insert}
+use Rattle.edf_pick.proofs.queue.Queue.insert.Goals as goal
+use Rattle.edf_pick.proofs.queue.Queue.insert.Goals.{After-insert}
 
 inserted : (c : After-insert) → tasks_in c.insert.new.self ≡ with_candidate c.args.c (tasks_in c.self.inside.room)
 inserted c =
