@@ -1,5 +1,5 @@
 -- The chosen tasks at marked places are the movers, and no other chosen task needs a seat.
-use Rattle.std.proofs.Common.{◌≡◌, ◌≢◌, ◌<◌, ◌≤◌, ℕ, zero, suc, Bool, true, false, cond, eqb, ltb, ◌||◌, ◌⊎◌, Option, Some, None, List, [], ◌∷◌, length, take, map, get_or, set, replicate, refl, sym, ap, ◌∙◌, subst, arith, inl, inr, eq-eqb, eqb-true, ◌+◌, zero-add}
+use Rattle.std.proofs.Common.{◌≡◌, ◌≢◌, ◌<◌, ◌≤◌, ℕ, zero, suc, Bool, true, false, cond, eqb, ltb, ◌||◌, ◌⊎◌, Option, Some, None, List, [], ◌∷◌, length, take, map, get_or, set, refl, sym, ap, ◌∙◌, subst, arith, inl, inr, eq-eqb, eqb-true, ◌+◌, zero-add}
 use mathlib.Core.Path.{fun_ext}
 use Rattle.std.specs.Prelude.{All, filter, not, is_none, position, slice_get, count_by, sum_by}
 use Rattle.std.specs.Int.{bit_at}

@@ -3,7 +3,6 @@ use Rattle.std.proofs.Common.{◌≡◌, ◌≢◌, ◌<◌, ◌+◌, ℕ, zero,
 use Rattle.std.specs.Prelude.{◌⊎◌, All, position}
 use Rattle.std.specs.List.{position_or_len}
 use Rattle.std.proofs.lemmas.Bool.{cases_Bool, cases_eq, lt-ltb, le-ltb, or_parts}
-use Rattle.std.proofs.lemmas.List.Elements.{All-map}
 use Rattle.std.proofs.lemmas.List.Sums.{position_or_len_is}
 use Rattle.edf_pick.specs.declared.candidate.Candidate.{Candidate}
 use Rattle.edf_pick.specs.declared.moves.Moved.{Moved}
@@ -11,7 +10,6 @@ use Rattle.edf_pick.specs.Changes.{home_on, homed}
 use Rattle.edf_pick.specs.Moves.{same_occupant, moved_from}
 use Rattle.edf_pick.specs.Places.{Places, AreSingle, is_task, stands}
 use Rattle.edf_pick.specs.Schedule.{IsAtHome, homed_on, homed_by}
-use Rattle.edf_pick.proofs.CallerLemmas.{IsNumbered, numbered_map}
 use Rattle.edf_pick.proofs.Marked.{task_is, occupied, stands_here}
 use Rattle.edf_pick.proofs.Moving.{same_is}
 use Rattle.edf_pick.proofs.Standing.{stands_where}

@@ -1,5 +1,5 @@
 -- The occupants once the choice is made: who does not stay has gone, and the movers have come.
-use Rattle.std.proofs.Common.{◌≡◌, ◌≢◌, ◌<◌, ◌≤◌, ◌+◌, ◌⊎◌, ◌++◌, ℕ, suc, Bool, true, false, cond, eqb, Option, Some, None, List, [], ◌∷◌, length, take, get_or, map, refl, sym, ap, ◌∙◌, subst, arith, inl, inr, eqb-true, eq-eqb}
+use Rattle.std.proofs.Common.{◌≡◌, ◌<◌, ◌≤◌, ◌+◌, ◌⊎◌, ◌++◌, ℕ, Bool, true, false, cond, eqb, Option, Some, None, List, [], ◌∷◌, length, take, get_or, map, refl, sym, ap, ◌∙◌, arith, inl, inr, eq-eqb}
 use Rattle.std.specs.Prelude.{All}
 use Rattle.std.specs.Int.{bit_at}
 use Rattle.std.specs.List.{list_any}
@@ -11,16 +11,16 @@ use Rattle.std.proofs.lemmas.Nat.Bits.{bit_at-lt}
 use Rattle.edf_pick.specs.declared.candidate.Candidate.{Candidate}
 use Rattle.edf_pick.specs.Changes.{homed}
 use Rattle.edf_pick.specs.Moves.{same_occupant}
-use Rattle.edf_pick.specs.Order.{IsRising, ordered}
+use Rattle.edf_pick.specs.Order.{ordered}
 use Rattle.edf_pick.specs.Places.{Places, taken, put, seat_of, seated, stands, AreSingle, AreTaken, placed}
 use Rattle.edf_pick.specs.private.Choosing.{IsChosen}
 use Rattle.edf_pick.specs.private.First.{seated_all}
-use Rattle.edf_pick.specs.private.Waiting.{held, number_of, staying_on, all_of, AreOn, IsWaiting, AreSeated}
+use Rattle.edf_pick.specs.private.Waiting.{held, staying_on, all_of, AreOn, IsWaiting, AreSeated}
 use Rattle.edf_pick.proofs.Chosen.{all_before}
-use Rattle.edf_pick.proofs.Marked.{all_stay, put_at, single_all, stands_here}
+use Rattle.edf_pick.proofs.Marked.{all_stay, put_at, stands_here}
 use Rattle.edf_pick.proofs.Moving.{same_all}
 use Rattle.edf_pick.proofs.Sorting.{ordered_same}
-use Rattle.edf_pick.proofs.Waits.{next_seat, number_at, stays_length, stays_where, stays_single, placed_by_movers, seated_homed, seated_waiting}
+use Rattle.edf_pick.proofs.Waits.{next_seat, stays_length, stays_where, placed_by_movers, seated_homed, seated_waiting}
 
 pub none_taken : (o : Option ℕ) → taken o ≡ 0 → o ≡ None
 none_taken None e = refl

@@ -1,17 +1,13 @@
 -- After a choice each chosen task stands on a CPU, and nobody else does.
-use Rattle.std.proofs.Common.{◌≡◌, ◌≢◌, ◌<◌, ◌≤◌, ◌+◌, ℕ, zero, suc, Bool, true, false, cond, eqb, ◌||◌, Option, Some, None, List, [], ◌∷◌, length, take, map, get_or, set, refl, sym, ap, ◌∙◌, subst, arith, inl, inr, eq-eqb}
-use Rattle.std.specs.Prelude.{All, is_none, position, slice_get}
-use Rattle.std.specs.List.{list_any, position_or_len}
-use Rattle.std.proofs.lemmas.Bool.{cases_eq, cases_lt, cases_Bool, ne_eqb, lt-ltb, or_parts}
-use Rattle.std.proofs.lemmas.List.{get_or-set_same, length-set, length-take, length-map}
+use Rattle.std.proofs.Common.{◌≡◌, ◌<◌, ◌+◌, ℕ, suc, Bool, true, false, cond, ◌||◌, Option, Some, None, [], ◌∷◌, length, get_or, refl, sym, ap, ◌∙◌, arith, inl, inr}
+use Rattle.std.specs.Prelude.{is_none, position, slice_get}
+use Rattle.std.specs.List.{position_or_len}
+use Rattle.std.proofs.lemmas.Bool.{cases_lt, cases_Bool, lt-ltb}
 use Rattle.std.proofs.lemmas.List.Sums.{fails_before_first}
 use Rattle.std.proofs.lemmas.Option.{slice_get_past}
 use Rattle.edf_pick.specs.declared.candidate.Candidate.{Candidate}
-use Rattle.edf_pick.specs.Order.{IsRising}
-use Rattle.edf_pick.specs.Places.{Places, taken, AreSingle, is_task, stands, is_free, seat_of, put, seated, placed}
-use Rattle.edf_pick.specs.private.First.{staying, seated_all}
-use Rattle.edf_pick.proofs.Marked.{any_at, task_is, mapped, put_at, seat_free, single_kept, single_all, single_seated, stands_here, stays_seated}
-use Rattle.edf_pick.proofs.Picked.{picked}
+use Rattle.edf_pick.specs.Places.{Places, taken, is_task, stands, is_free, seat_of}
+use Rattle.edf_pick.proofs.Marked.{task_is}
 
 -- ONLY CHOSEN TASKS STAND
 -- HOW MANY STAND

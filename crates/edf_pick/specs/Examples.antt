@@ -1,5 +1,5 @@
 -- Worked rows of the choice and the placement.
-use Rattle.std.specs.Prelude.{ℕ, ◌≡◌, [], ◌∷◌, map, false, Some, None, refl}
+use Rattle.std.specs.Prelude.{ℕ, ◌≡◌, [], ◌∷◌, map, Some, None, refl}
 use Rattle.edf_pick.specs.declared.candidate.Candidate.{Candidate}
 use Rattle.edf_pick.specs.Changes.{homed}
 use Rattle.edf_pick.specs.Moves.{moved_from}

@@ -129,7 +129,12 @@ pub(crate) fn settle(
     ensures moves { moves.new ≡ moved_from 0 placement.old placement.new }
     ensures single { AreSingle placement.old }
 {
-    let changed = move_on(&mut placement.occupants, staying, movers, &mut placement.taken);
+    let changed = move_on(
+        &mut placement.occupants,
+        staying,
+        movers,
+        &mut placement.taken,
+    );
     let occupants = placement.occupants.as_slice();
     moves.list(&mut placement.before, occupants, changed);
 }

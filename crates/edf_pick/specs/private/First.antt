@@ -1,9 +1,9 @@
 -- The placement, where the chosen tasks stand in a list of their own, in the order of the choice.
-use Rattle.std.specs.Prelude.{ℕ, suc, ◌≡◌, ◌==◌, ◌<◌, length, false, All, IsTrue, Bool, if◌then◌else◌, List, [], ◌∷◌, fold, slice_get, slice_index_or, Option, Some, None}
+use Rattle.std.specs.Prelude.{ℕ, suc, ◌≡◌, ◌==◌, ◌<◌, length, All, IsTrue, Bool, if◌then◌else◌, List, [], ◌∷◌, fold, slice_get, slice_index_or, Option, Some, None}
 use Rattle.std.specs.Int.{bit_at}
 use Rattle.std.specs.List.{list_any}
 use Rattle.edf_pick.specs.declared.candidate.Candidate.{Candidate}
-use Rattle.edf_pick.specs.Places.{Places, is_task, stands, seated}
+use Rattle.edf_pick.specs.Places.{Places, is_task, seated}
 
 -- an occupant that is chosen stays
 abbrev pub staying : List Candidate → Option ℕ → Option ℕ
