@@ -1,4 +1,4 @@
--- The calls of a section, from its last entry back.
+-- The calls of a section, from its last one back.
 use Rattle.std.proofs.Common.{◌≡◌, ℕ, Bool, true, false, cond, List, [], ◌∷◌, ◌++◌, map, refl, sym, ap, subst, ◌∙◌}
 use Rattle.std.specs.Prelude.{reverse, IsTrue}
 use Rattle.std.proofs.lemmas.List.{reverse-append}
@@ -7,19 +7,14 @@ use Rattle.domain_run.specs.Domain.{Domain}
 use Rattle.domain_run.specs.Calls.{after_call}
 use Rattle.domain_run.specs.Log.{LogView, Tells}
 use Rattle.domain_run.proofs.CallerLemmas.{tells_none}
-use Rattle.call_book.specs.declared.section.Entry.{Entry}
+use Rattle.calls_trace.specs.declared.kept.Kept.{Kept}
+use Rattle.calls_trace.specs.private.Kept.{call_of, calls_left}
 use Rattle.calls_trace.specs.Replay.{names_of, names_after}
 use Rattle.calls_trace.specs.private.Replaying.{heard}
 
--- the entries lie last first
-abbrev pub left_calls : List Entry → List Call
-left_calls entries = map (λ e. e.call) (reverse entries)
-
-pub reverse_more : (entries more : List Entry) (e : Entry) → more ≡ entries ++ e ∷ [] → reverse more ≡ e ∷ reverse entries
-reverse_more entries more e same = ap reverse same ∙ reverse-append entries (e ∷ [])
-
-pub left_more : (entries more : List Entry) (e : Entry) → more ≡ entries ++ e ∷ [] → left_calls more ≡ e.call ∷ left_calls entries
-left_more entries more e same = ap (map (λ e. e.call)) (reverse_more entries more e same)
+-- the last one is the next
+pub left_more : (calls more : List Kept) (k : Kept) → more ≡ calls ++ k ∷ [] → calls_left more ≡ call_of k ∷ calls_left calls
+left_more calls more k same = ap calls_left same ∙ ap (map call_of) (reverse-append calls (k ∷ []))
 
 pub left_names : (d r : Domain) (c : Call) (cs all : List Call) (was is end : ℕ → List ℕ) → all ≡ c ∷ cs → r ≡ after_call d c → ((n : ℕ) → is n ≡ names_after d c was n) → ((n : ℕ) → names_of d all was n ≡ end n) → (n : ℕ) → names_of r cs is n ≡ end n
 left_names d r c cs all was is end same made each left n =

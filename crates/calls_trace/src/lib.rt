@@ -21,6 +21,8 @@ mod fault;
 mod figures;
 mod given_names;
 mod heard_summary;
+mod kept;
+mod kept_section;
 mod named_run;
 mod placed_run;
 mod playing;

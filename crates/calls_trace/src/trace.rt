@@ -11,9 +11,9 @@ ghost use Rattle.calls_trace.specs.declared.run_text.RunText.TheVariants as text
 ghost use Rattle.calls_trace.specs.private.Replaying.{IsPlaced, view_of, run_in, told_in, heard, text_of_runs};
 
 use crate::fault::TraceFault;
+use crate::kept_section::KeptSection;
 use crate::placed_run::PlacedRun;
 use crate::playing::Playing;
-use call_book::Section;
 use domain_run::{Happened, Log, NoMemory};
 use std::alloc::Global;
 use std::io::Write;
@@ -117,18 +117,18 @@ pub(crate) fn write_trace_of<W: Write>(
 /// before the first byte.
 pub(crate) fn write_played<W: Write>(
     alloc: Global,
-    section: Section,
+    kept: KeptSection,
     writer: &mut Counted<W>,
 ) -> Result<(), TraceFault>
-    requires section { IsSection section }
+    requires kept { KeepsSection kept }
     requires faults { faults_of writer.old < 2 ^ 63 }
-    ensures ok { OnOk result
+    ensures ok { (section : SectionView) → IsSection section → IsKeptSection section kept → OnOk result
         (IsWritten (side W.contents writer.old writer.new) (trace_of_sections (section ∷ []))) }
-    ensures err { IfErr result
+    ensures err { (section : SectionView) → IsSection section → IsKeptSection section kept → IfErr result
         (IsUnwritten (side W.contents writer.old writer.new) (trace_of_sections (section ∷ []))) }
 {
     let room = room_in(alloc)?;
-    let mut playing = Playing::open(alloc, section)?;
+    let mut playing = Playing::open(alloc, kept)?;
     match write_slices(&mut playing, room, writer) {
         Ok(()) => Ok(()),
         Err(fault) => Err(TraceFault::Write {

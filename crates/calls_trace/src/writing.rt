@@ -17,12 +17,13 @@ ghost use Rattle.calls_trace.specs.private.RunTexts.{tells, text_of_all};
 use crate::charting::write_chart_of;
 use crate::fault::{ReplayFault, TraceFault};
 use crate::figures::{write_jobs_of, write_summary_of, write_whole};
+use crate::kept_section::only_section;
 use crate::placed_run::{PlacedRun, place_runs};
 use crate::read_runs::runs_of_text;
 use crate::replaying::ReplayPrint;
 use crate::run_text::RunText;
 use crate::trace::{write_events_of, write_played, write_trace_of};
-use call_book::{CallsFault, Section, read_calls};
+use call_book::{Section, read_calls};
 use domain_run::{Log, State};
 use reply_text::{write_recorded, write_replies};
 use std::alloc::Global;
@@ -50,47 +51,6 @@ fn write_runs<W: Write>(
         RunText::Jobs => write_jobs_of(alloc, placed, writer),
         RunText::Summary => write_summary_of(alloc, placed, writer),
         RunText::Chart(span) => write_chart_of(alloc, span, placed, writer),
-    }
-}
-
-/// Whether a second line begins as a domain's does. Whatever it answers, the same is written.
-fn has_second_domain(text: &[u8]) -> bool {
-    let mut has_one = false;
-    for i in 2..text.len() {
-        if text[i] == b'o' && text[i - 1] == b'd' && text[i - 2] == b'\n' {
-            if has_one {
-                return true;
-            }
-            has_one = true;
-        }
-    }
-    false
-}
-
-/// Takes the section out where it is the only one.
-fn only_one(sections: &mut Vec<Section>) -> Option<Section>
-    ensures only { IfSome result (λ section. sections.old.items ≡ section ∷ []) }
-{
-    if sections.len() == 1 {
-        return sections.pop();
-    }
-    None
-}
-
-/// The section of a text that has one alone. Where the text seems to have more it answers none, so
-/// that no section is read twice.
-fn only_section(alloc: Global, text: &[u8]) -> Result<Option<Section>, CallsFault>
-    ensures only { IfOk result (λ found. IfSome found (λ section. AreRead (section ∷ [])
-        × (text.now ≡ spelling (section ∷ [])))) }
-    ensures fault { IfErr result (IsReadFault text.now) }
-{
-    if has_second_domain(text) {
-        return Ok(None);
-    }
-    let mut sections = read_calls(alloc, text)?;
-    match only_one(&mut sections) {
-        Some(section) => Ok(Some(section)),
-        None => Ok(None),
     }
 }
 
@@ -125,7 +85,7 @@ fn write_read_trace<W: Write>(
         (IsUnreplayed text.now (text_of_all texts.Trace) (side W.contents writer.old writer.new)) }
 {
     match only_section(alloc, text)? {
-        Some(section) => Ok(write_played(alloc, section, writer)?),
+        Some(kept) => Ok(write_played(alloc, kept, writer)?),
         None => write_read_runs(alloc, RunText::Trace, text, writer),
     }
 }
