@@ -3,19 +3,23 @@ use Rattle.std.proofs.Common.{◌≡◌, ℕ, ◌+◌, ◌≤◌, ◌<◌, Bool,
 use Rattle.std.proofs.lemmas.Bool.{cases_eq, cases_lt}
 use Rattle.std.proofs.lemmas.List.{length-map, get_or_past, get_or-replicate}
 use Rattle.std.proofs.lemmas.List.Folds.{list_any-append}
-use Rattle.call_book.specs.declared.calls_reader.CallsReader.{CallsReader}
 use Rattle.call_book.specs.declared.section.Entry.{Entry}
 use Rattle.call_book.specs.SectionView.{SectionView}
 use Rattle.call_book.specs.Spelling.{entry_line, is_later, some_later, has_later, spelling}
 use Rattle.call_book.specs.Limits.{IsSection, AreRead}
 use Rattle.call_book.specs.BadLine.{IsBadLine}
-use Rattle.call_book.specs.Reader.{IsBehind, IsWithin, IsNextDomain, IsNextEntry}
+use Rattle.call_book.specs.declared.calls_reader.CallsReader.TheInside.{Inside}
+use Rattle.call_book.specs.Reader.{ReaderView, IsBehind, IsWithin, IsNextDomain, IsNextEntry}
 use Rattle.call_book.specs.ReadSoFar.{IsSectionRead, LacksEntry, last_full}
 use Rattle.call_book.specs.private.Reading.{cut_at, AreSectionsOf, IsFirstSection, LacksDomain, bad_place, is_whole}
 use Rattle.call_book.proofs.Cuts.{cut_takes}
 use Rattle.call_book.proofs.Sections.{is_section}
 use Rattle.call_book.proofs.Stops.{sections_found, sections_stop}
 use Rattle.call_book.proofs.SectionSteps.{first_section, section_more, count_more}
+
+-- a reader, from its fields
+abbrev pub view_of : Inside → ReaderView
+view_of r = record { rest = r.rest.now; later = r.later; found_later = r.found_later; sections = r.sections; lines = r.lines; calls = r.calls; made = r.made }
 
 -- ---- what a reader counts
 
@@ -77,41 +81,42 @@ bad_is lines n b stuck same is = ap (λ (m : ℕ). m + cond b 1 2) same ∙ ap (
 
 -- ---- where no section follows
 
-are_sections : (text : List ℕ) (done : List SectionView) (r : CallsReader) (b : IsBehind text done r) → (length done < 8 → LacksDomain r.rest.now) → AreSectionsOf r.later b.body r.rest.now done
-are_sections text done r b ends = record { so_far = b.so_far; most = omega (arith, r.most, b.count); ends = ends }
+are_sections : (text : List ℕ) (done : List SectionView) (r : ReaderView) (b : IsBehind text done r) → (length done < 8 → LacksDomain r.rest) → AreSectionsOf r.later b.body r.rest done
+are_sections text done r b ends = record { so_far = b.so_far; most = b.few; ends = ends }
 
-pub whole_at_end : (text : List ℕ) (done : List SectionView) (r : CallsReader) → IsBehind text done r → (length done < 8 → LacksDomain r.rest.now) → is_whole r.later r.rest.now done ≡ true → AreRead done × (text ≡ spelling done)
-whole_at_end text done r b ends whole = sections_found r.later text b.body r.rest.now done b.header (are_sections text done r b ends) whole
+pub whole_at_end : (text : List ℕ) (done : List SectionView) (r : ReaderView) → IsBehind text done r → (length done < 8 → LacksDomain r.rest) → is_whole r.later r.rest done ≡ true → AreRead done × (text ≡ spelling done)
+whole_at_end text done r b ends whole = sections_found r.later text b.body r.rest done b.header (are_sections text done r b ends) whole
 
-pub bad_at_end : (text : List ℕ) (done : List SectionView) (r : CallsReader) (n : ℕ) → IsBehind text done r → (length done < 8 → LacksDomain r.rest.now) → is_whole r.later r.rest.now done ≡ false → n ≡ bad_place r.later done → IsBadLine text n
-bad_at_end text done r n b ends part place = subst (IsBadLine text) (sym place) (sections_stop r.later text b.body r.rest.now done b.header (are_sections text done r b ends) part)
+pub bad_at_end : (text : List ℕ) (done : List SectionView) (r : ReaderView) (n : ℕ) → IsBehind text done r → (length done < 8 → LacksDomain r.rest) → is_whole r.later r.rest done ≡ false → n ≡ bad_place r.later done → IsBadLine text n
+bad_at_end text done r n b ends part place = subst (IsBadLine text) (sym place) (sections_stop r.later text b.body r.rest done b.header (are_sections text done r b ends) part)
 
 -- ---- at the end of a section
 
-read_so_far : (text : List ℕ) (before : List SectionView) (s : SectionView) (r : CallsReader) → IsWithin text before s r → IsSectionRead s
-read_so_far text before s r w = record { some = w.some; most = w.most; low = w.low; high = w.high; few = omega (arith, r.few, w.calls); each = w.entries.each; numbered = w.entries.numbered }
+read_so_far : (text : List ℕ) (before : List SectionView) (s : SectionView) (r : ReaderView) → IsWithin text before s r → IsSectionRead s
+read_so_far text before s r w = record { some = w.some; most = w.most; low = w.low; high = w.high; few = w.short; each = w.entries.each; numbered = w.entries.numbered }
 
-pub behind_from : (text : List ℕ) (before : List SectionView) (s : SectionView) (r : CallsReader) → IsWithin text before s r → (length s.entries < 65536 → LacksEntry r.later r.rest.now) → IsBehind text (before ++ s ∷ []) r
+pub behind_from : (text : List ℕ) (before : List SectionView) (s : SectionView) (r : ReaderView) → IsWithin text before s r → (length s.entries < 65536 → LacksEntry r.later r.rest) → IsBehind text (before ++ s ∷ []) r
 behind_from text before s r w stops =
-    let first : IsFirstSection r.later w.from r.rest.now s = first_section r.later w.from w.after r.rest.now s (read_so_far text before s r w) w.domain w.entries stops in
+    let first : IsFirstSection r.later w.from r.rest s = first_section r.later w.from w.after r.rest s (read_so_far text before s r w) w.domain w.entries stops in
     record {
       body = w.body;
       header = w.header;
-      so_far = section_more r.later w.body w.from r.rest.now before s w.so_far first;
+      so_far = section_more r.later w.body w.from r.rest before s w.so_far first;
       found = w.found ∙ sym (has_more before s);
+      few = omega (arith, w.few, length-append before (s ∷ []));
       count = omega (arith, w.count, length-append before (s ∷ []));
       lines = omega (arith, w.lines, count_more before s, length-map s.entries entry_line);
       full = ap (λ (n : ℕ). eqb n 65536) w.calls ∙ sym (last_full_more before s);
     }
 
 -- the section that is being read
-pub section_within : (text : List ℕ) (before : List SectionView) (s : SectionView) (r : CallsReader) → IsWithin text before s r → IsSection s
+pub section_within : (text : List ℕ) (before : List SectionView) (s : SectionView) (r : ReaderView) → IsWithin text before s r → IsSection s
 section_within text before s r w = is_section s (read_so_far text before s r w)
 
 -- where no entry came
-pub behind_none : (text : List ℕ) (before : List SectionView) (s : SectionView) (r : CallsReader) (found : Option Entry) → found ≡ None → IsNextEntry text before s r (Ok found) → IsBehind text (before ++ s ∷ []) r
+pub behind_none : (text : List ℕ) (before : List SectionView) (s : SectionView) (r : ReaderView) (found : Option Entry) → found ≡ None → IsNextEntry text before s r (Ok found) → IsBehind text (before ++ s ∷ []) r
 behind_none text before s r found none next = subst (λ (o : Option Entry). IsNextEntry text before s r (Ok o)) none next
 
 -- where no section came
-pub whole_none : (text : List ℕ) (done : List SectionView) (r : CallsReader) (found : Option (ℕ × ℕ)) → found ≡ None → IsNextDomain text done r (Ok found) → AreRead done × (text ≡ spelling done)
+pub whole_none : (text : List ℕ) (done : List SectionView) (r : ReaderView) (found : Option (ℕ × ℕ)) → found ≡ None → IsNextDomain text done r (Ok found) → AreRead done × (text ≡ spelling done)
 whole_none text done r found none next = subst (λ (o : Option (ℕ × ℕ)). IsNextDomain text done r (Ok o)) none next

@@ -1,6 +1,6 @@
 //! A calls text that is read call by call.
 
-ghost use Rattle.std.specs.Prelude.{◌≡◌, ◌+◌, ◌-◌, ◌*◌, ◌≤◌, ℕ, slice_index, slice_set, IfOk, IfErr};
+ghost use Rattle.std.specs.Prelude.{◌≡◌, ◌+◌, ◌-◌, ◌≤◌, ℕ, slice_index, slice_set, IfOk, IfErr};
 ghost use Rattle.call_book.specs.Limits.{IsClient};
 ghost use Rattle.call_book.specs.private.Reading.{Fails, known_at, IsNext};
 
@@ -10,6 +10,7 @@ use crate::header::{header_of, is_later};
 use crate::line_text::{domain_of, known_call};
 use crate::section::Entry;
 use std::alloc::Global;
+use std::marker::Model;
 
 /// The most calls of a section.
 const MOST_CALLS: u64 = 65536;
@@ -30,7 +31,8 @@ fn counted(made: &mut [u64; 64], client: u32) -> u64
 }
 
 /// The entry of a line, after so many calls of each client. `later` says whether the header is that
-/// of calls of the second form, here and below.
+/// of calls of the second form.
+#[inline(always)]
 fn entry_of(
     alloc: Global,
     line: &[u8],
@@ -72,14 +74,29 @@ pub struct CallsReader<'t> {
     calls: u64,
     /// How many of these each client made.
     made: [u64; 64],
-    ghost most: { sections ≤ 8 },
-    ghost few: { calls ≤ 65536 },
-    ghost counted: { lines ≤ sections * 65537 + calls },
-    ghost fewer: { (k : ℕ) → slice_index made k ≤ calls },
+}
+
+impl<'t> Model for CallsReader<'t> {
+    ghost use Rattle.call_book.specs.Reader.{ReaderView};
+    ghost use Rattle.call_book.specs.private.Counting.{IsCounting};
+
+    ghost Value = { ReaderView };
+
+    ghost view = { λ r. record {
+      rest = r.rest.now;
+      later = r.later;
+      found_later = r.found_later;
+      sections = r.sections;
+      lines = r.lines;
+      calls = r.calls;
+      made = r.made;
+    } };
+
+    ghost invariant = { λ r. IsCounting r.sections r.lines r.calls r.made };
 }
 
 impl<'t> CallsReader<'t> {
-    ghost use Rattle.std.specs.Prelude.{◌==◌, ◌<◌, [], List, None, length, IfSome};
+    ghost use Rattle.std.specs.Prelude.{◌<◌, [], List, None, length, IfSome};
     ghost use Rattle.call_book.specs.SectionView.{SectionView};
     ghost use Rattle.call_book.specs.Limits.{IsEntry};
     ghost use Rattle.call_book.specs.BadLine.{IsReadFault};
@@ -110,13 +127,6 @@ impl<'t> CallsReader<'t> {
             calls: 0,
             made: [0; 64],
         })
-    }
-
-    /// Whether nothing of the text is left.
-    pub fn is_at_end(&self) -> bool
-        ensures { result ≡ (left self.now == 0) }
-    {
-        self.rest.is_empty()
     }
 
     /// Begins the next section: its CPUs and its limit; none behind the last one, where the text is
@@ -156,6 +166,7 @@ impl<'t> CallsReader<'t> {
     ///
     /// # Errors
     /// 31 [`CallsFault::Memory`]: a growth was refused. The reader stays as it was.
+    #[inline(always)]
     pub fn next_entry(&mut self, alloc: Global) -> Result<Option<Entry>, CallsFault>
         // Within a section the entry is its next one, or it is read to its end.
         ensures next { (text : List ℕ) (before : List SectionView) (section : SectionView)
@@ -210,7 +221,7 @@ impl<'t> CallsReader<'t> {
     /// Whether the sections so far are all of the text, and what its header says of them.
     fn is_whole(&self) -> bool
         ensures { (text : List ℕ) (done : List SectionView) → IsBehind text done self.now
-            → result ≡ is_whole self.now.later self.now.rest.now done }
+            → result ≡ is_whole self.now.later self.now.rest done }
     {
         self.rest.is_empty() && self.sections > 0 && (!self.later || self.found_later)
     }
@@ -242,7 +253,7 @@ impl<'t> CallsReader<'t> {
     /// What is said of a text where no section follows.
     fn end(&self) -> Result<Option<(u32, u64)>, CallsFault>
         ensures next { (text : List ℕ) (done : List SectionView) → IsBehind text done self.now
-            → (length done < 8 → LacksDomain self.now.rest.now)
+            → (length done < 8 → LacksDomain self.now.rest)
             → IsNextDomain text done self.now result }
         ensures none { IfOk result (λ found. found ≡ None) }
     {

@@ -27,8 +27,3 @@ left_names d r c cs all was is end same made each left n =
 pub unheard : (log : LogView) (w : Bool) → log.wanted ≡ w → (IsTrue w → log.happened ≡ []) → heard log ≡ []
 unheard log true is none = ap (λ (w : Bool). cond w log.happened []) is ∙ none refl
 unheard log false is none = ap (λ (w : Bool). cond w log.happened []) is
-
--- a call that tells nothing, granted or not
-pub tells_nothing : (b : Bool) (was is : LogView) → is ≡ was → Tells was (cond b [] []) is
-tells_nothing true was is same = subst (Tells was []) (sym same) (tells_none was)
-tells_nothing false was is same = subst (Tells was []) (sym same) (tells_none was)

@@ -22,7 +22,7 @@ use Rattle.call_book.specs.declared.section.Entry.{Entry}
 use Rattle.call_book.specs.SectionView.{SectionView}
 use Rattle.call_book.specs.Spelling.{domain_line, section_lines, is_later, some_later, has_later, text_of}
 use Rattle.call_book.specs.Limits.{IsClient}
-use Rattle.call_book.specs.ReadSoFar.{Knows, SoFar, LacksEntry, IsSectionRead, SectionsSoFar, last_full}
+use Rattle.call_book.specs.ReadSoFar.{Knows, LacksEntry, IsSectionRead, SectionsSoFar, last_full}
 
 -- ---- what a part of the reader answers, seen by view, unless memory ran out
 
@@ -353,12 +353,6 @@ pub record IsNext (later : Bool) (line : List ℕ) (made : List ℕ) (e : Entry)
   pub client : IsClient e.client
   pub no_reply : e.reply ≡ None
   pub seq : e.seq ≡ slice_index made (e.client - 1)
-
--- the entries at the front of a text: as many as stand there, and as a section may have
-pub record AreEntries (later : Bool) (text rest : List ℕ) (entries : List Entry) : Type 0 where
-  pub so_far : SoFar later text rest entries
-  pub few : length entries ≤ 65536
-  pub stops : length entries < 65536 → LacksEntry later rest
 
 -- ---- the sections of a text, from line 2 on
 

@@ -1,23 +1,22 @@
 -- Runs of which each call is made as soon as it is read.
 use Rattle.std.specs.Prelude.{ℕ, ◌≡◌, ◌≤◌, ◌*◌, Bool, List, [], ◌∷◌, ◌++◌, length, map, All, sum_by}
-use Rattle.call_book.specs.declared.calls_reader.CallsReader.{CallsReader}
 use Rattle.call_book.specs.SectionView.{SectionView}
 use Rattle.call_book.specs.Spelling.{spelling}
 use Rattle.call_book.specs.Limits.{IsSection, AreRead}
-use Rattle.call_book.specs.Reader.{IsBehind, IsWithin, begun}
+use Rattle.call_book.specs.Reader.{ReaderView, IsBehind, IsWithin, begun}
 use Rattle.calls_trace.specs.declared.named_run.RunWithNames.{RunWithNames}
 use Rattle.calls_trace.specs.declared.placed_run.PlacedRun.{PlacedRun}
 use Rattle.calls_trace.specs.private.Replaying.{IsRunOf, IsToldOf, IsPlaced, view_of, views_from}
 
 -- a reader of some text has begun this section, and read no entry of it
-pub record IsBegun (cpus limit : ℕ) (reader : CallsReader) : Type 0 where
+pub record IsBegun (cpus limit : ℕ) (reader : ReaderView) : Type 0 where
   pub text : List ℕ
   pub before : List SectionView
   pub within : IsWithin text before (begun cpus limit) reader
 
 -- the calls that were read so far of a section are made
 pub record IsMade (text : List ℕ) (before : List SectionView) (cpus limit : ℕ) (wanted : Bool)
-    (reader : CallsReader) (r : RunWithNames) : Type 0 where
+    (reader : ReaderView) (r : RunWithNames) : Type 0 where
   pub section : SectionView
   pub same_cpus : section.cpus ≡ cpus
   pub within : IsWithin text before section reader
@@ -27,7 +26,7 @@ pub record IsMade (text : List ℕ) (before : List SectionView) (cpus limit : �
 
 -- the section is read to its end, and this is its run
 pub record IsReadRun (text : List ℕ) (before : List SectionView) (cpus : ℕ) (wanted : Bool)
-    (reader : CallsReader) (r : RunWithNames) : Type 0 where
+    (reader : ReaderView) (r : RunWithNames) : Type 0 where
   pub section : SectionView
   pub same_cpus : section.cpus ≡ cpus
   pub is : IsSection section
@@ -36,7 +35,7 @@ pub record IsReadRun (text : List ℕ) (before : List SectionView) (cpus : ℕ) 
   pub told : IsToldOf wanted section r.given r.log
 
 -- the runs of the sections that were read so far
-pub record ArePlacedSoFar (text : List ℕ) (wanted : Bool) (reader : CallsReader)
+pub record ArePlacedSoFar (text : List ℕ) (wanted : Bool) (reader : ReaderView)
     (runs : List PlacedRun) (base : ℕ) : Type 0 where
   pub done : List SectionView
   pub behind : IsBehind text done reader

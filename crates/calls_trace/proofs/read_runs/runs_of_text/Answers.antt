@@ -37,7 +37,7 @@ pub push_reserved-requires : goal.push_reserved-requires
 push_reserved-requires c =
     let i = c.loop-runs.invariant.so_far in
     let w : IsWithin c.args.text.now i.done (begun c.in-Some.cpus c.in-Some.limit) c.next_domain.new.self = subst (λ (o : Option (ℕ × ℕ)). IsNextDomain c.args.text.now i.done c.next_domain.new.self (Ok o)) c.in-Some.is (c.in_ok-cpus.ensures.next c.args.text.now i.done i.behind) in
-    omega (arith, i.count, c.loop-runs.invariant.room, w.count, c.next_domain.new.self.most, c.loop-runs.runs.ok.0)
+    omega (arith, i.count, c.loop-runs.invariant.room, w.few, c.loop-runs.runs.ok.0)
 
 -- at most 8 sections, each of at most 64 CPUs
 pub overflow_add-base : goal.overflow_add-base
@@ -45,7 +45,7 @@ overflow_add-base c =
     let i = c.loop-runs.invariant.so_far in
     let w : IsWithin c.args.text.now i.done (begun c.in-Some.cpus c.in-Some.limit) c.next_domain.new.self = subst (λ (o : Option (ℕ × ℕ)). IsNextDomain c.args.text.now i.done c.next_domain.new.self (Ok o)) c.in-Some.is (c.in_ok-cpus.ensures.next c.args.text.now i.done i.behind) in
     let few = (section_within c.args.text.now i.done (begun c.in-Some.cpus c.in-Some.limit) c.next_domain.new.self w).most_cpus in
-    omega (arith, i.inside, few, w.count, c.next_domain.new.self.most)
+    omega (arith, i.inside, few, w.few)
 
 pub loop-runs-preserved : goal.loop-runs-preserved
 loop-runs-preserved c =
@@ -62,7 +62,7 @@ loop-runs-preserved c =
         done = i.done ++ m.section ∷ [];
         behind = m.behind;
         views = views_one_more c.args.wanted was r i.done m.section i.base_is m.run m.told i.views;
-        placed = All-push IsPlaced was r i.placed (placed_is c.args.wanted r m.section m.is m.run m.told (omega (arith, i.inside, few, w.count, c.next_domain.new.self.most)));
+        placed = All-push IsPlaced was r i.placed (placed_is c.args.wanted r m.section m.is m.run m.told (omega (arith, i.inside, few, w.few)));
         count = omega (arith, i.count, long, length_push was r);
         base_is = omega (arith, i.base_is, m.same_cpus, sum_by_push (λ (s : SectionView). s.cpus) i.done m.section);
         inside = omega (arith, i.inside, few, m.same_cpus, long);
