@@ -6,8 +6,7 @@ use Rattle.domain_run.specs.declared.call.Call.TheVariants as calls
 use Rattle.call_book.specs.SectionView.{SectionView}
 use Rattle.call_book.specs.Spelling.{spelling}
 use Rattle.call_book.specs.Limits.{IsSection, AreRead}
-use Rattle.call_book.specs.Reader.{IsBehind, IsWithin}
-use Rattle.call_book.specs.declared.calls_reader.CallsReader.{CallsReader}
+use Rattle.call_book.specs.Reader.{ReaderView, IsBehind, IsWithin}
 use Rattle.calls_trace.specs.Replay.{calls_of}
 use Rattle.calls_trace.specs.declared.kept.Kept.{Kept}
 use Rattle.calls_trace.specs.declared.kept.Kept.TheVariants.{Wake, Leave, Depart, Advance, Long}
@@ -61,14 +60,14 @@ pub record KeepsSection (k : KeptSection) : Type 0 where
   pub same : IsKeptSection section k
 
 -- the calls that were read so far of a section are kept
-pub record IsKeptSoFar (text : List ℕ) (before : List SectionView) (reader : CallsReader)
+pub record IsKeptSoFar (text : List ℕ) (before : List SectionView) (reader : ReaderView)
     (k : KeptSection) : Type 0 where
   pub section : SectionView
   pub within : IsWithin text before section reader
   pub same : IsKeptSection section k
 
 -- a section is read to its end, and its calls are kept
-pub record IsReadSection (text : List ℕ) (before : List SectionView) (reader : CallsReader)
+pub record IsReadSection (text : List ℕ) (before : List SectionView) (reader : ReaderView)
     (k : KeptSection) : Type 0 where
   pub section : SectionView
   pub is : IsSection section
