@@ -37,7 +37,7 @@ told_push d (x ∷ cs) c =
     ap (λ (hs : List Happened). told_by_call d x ++ hs) (told_push (after_call d x) cs c)
     ∙ sym (append_assoc (told_by_call d x) (told_by_calls (after_call d x) cs) (told_by_call (after_calls (after_call d x) cs) c))
 
-calls_push : (s : SectionView) (e : Entry) → calls_of (with_entries s (e ∷ [])) ≡ calls_of s ++ e.call ∷ []
+pub calls_push : (s : SectionView) (e : Entry) → calls_of (with_entries s (e ∷ [])) ≡ calls_of s ++ e.call ∷ []
 calls_push s e = map-append (λ (x : Entry). x.call) s.entries (e ∷ [])
 
 pub run_more : (s : SectionView) (e : Entry) (d is : Domain) (was names : Names) → IsRunOf s d was → is ≡ after_call d e.call → Gives names (names_after d e.call (named was)) → AreNamed is names → IsRunOf (with_entries s (e ∷ [])) is names

@@ -34,9 +34,10 @@ impl KeptSection {
     {
         let kept = Kept::of(alloc, call)?;
         match self.calls.push(kept) {
-            Ok(()) => Ok(()),
-            Err(_) => Err(NoMemory),
+            Ok(()) => {}
+            Err(_) => return Err(NoMemory),
         }
+        Ok(())
     }
 }
 

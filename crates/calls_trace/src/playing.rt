@@ -1,7 +1,7 @@
 //! The run of a section, made piece by piece, so that its switches can be written while they are
 //! made.
 
-ghost use Rattle.std.specs.Prelude.{◌≡◌, ◌+◌, ◌*◌, ◌≤◌, ◌^◌, All, IfOk, length};
+ghost use Rattle.std.specs.Prelude.{◌≡◌, ◌+◌, ◌*◌, ◌≤◌, ◌^◌, All, IfOk, length, sum_by};
 ghost use Rattle.indexmap.specs.IndexMap.{spare};
 ghost use Rattle.calls_trace.specs.Replay.{no_names};
 ghost use Rattle.calls_trace.specs.private.Replaying.{AreNamed, Gives};

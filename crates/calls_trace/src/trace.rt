@@ -4,10 +4,12 @@ ghost use Rattle.std.specs.Prelude.{◌≡◌, ◌<◌, ◌≤◌, ◌^◌, [], 
 ghost use Rattle.switch_text.specs.Runs as runs;
 ghost use Rattle.switch_text.specs.Telling.{told_view, told_views, IsTold};
 ghost use Rattle.counted_io.specs.Sides.{faults_of, side};
+ghost use Rattle.call_book.specs.SectionView.{SectionView};
 ghost use Rattle.call_book.specs.Limits.{IsSection};
 ghost use Rattle.calls_trace.specs.Replay.{trace_of_sections};
 ghost use Rattle.calls_trace.specs.Written.{IsWritten, IsUnwritten};
 ghost use Rattle.calls_trace.specs.declared.run_text.RunText.TheVariants as texts;
+ghost use Rattle.calls_trace.specs.private.Kept.{IsKeptSection, KeepsSection};
 ghost use Rattle.calls_trace.specs.private.Replaying.{IsPlaced, view_of, run_in, told_in, heard, text_of_runs};
 
 use crate::fault::TraceFault;
@@ -122,10 +124,10 @@ pub(crate) fn write_played<W: Write>(
 ) -> Result<(), TraceFault>
     requires kept { KeepsSection kept }
     requires faults { faults_of writer.old < 2 ^ 63 }
-    ensures ok { (section : SectionView) → IsSection section → IsKeptSection section kept → OnOk result
-        (IsWritten (side W.contents writer.old writer.new) (trace_of_sections (section ∷ []))) }
-    ensures err { (section : SectionView) → IsSection section → IsKeptSection section kept → IfErr result
-        (IsUnwritten (side W.contents writer.old writer.new) (trace_of_sections (section ∷ []))) }
+    ensures ok { (section : SectionView) → IsSection section → IsKeptSection section kept
+        → OnOk result (IsWritten (side W.contents writer.old writer.new) (trace_of_sections (section ∷ []))) }
+    ensures err { (section : SectionView) → IsSection section → IsKeptSection section kept
+        → IfErr result (IsUnwritten (side W.contents writer.old writer.new) (trace_of_sections (section ∷ []))) }
 {
     let room = room_in(alloc)?;
     let mut playing = Playing::open(alloc, kept)?;

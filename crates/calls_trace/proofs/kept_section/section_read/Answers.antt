@@ -1,4 +1,4 @@
-use Rattle.std.proofs.Common.{◌≡◌, [], ◌∷◌, map, Option, Ok, ap, refl, subst}
+use Rattle.std.proofs.Common.{[], ◌∷◌, map, Option, Ok, ap, refl, sym, subst}
 use Rattle.std.specs.Prelude.{All, IfSome}
 use Rattle.std.proofs.lemmas.List.Elements.{All-nil}
 use Rattle.call_book.specs.Limits.{IsEntry}
@@ -13,7 +13,7 @@ loop-section-init c = record {
   so_far = λ text before w. record {
     section = begun c.args.cpus c.args.limit;
     within = w;
-    same = record { same_cpus = refl; same_limit = refl; same_calls = refl; kept = All-nil IsKept };
+    same = record { same_cpus = refl; same_limit = refl; same_calls = ap (map call_of) c.new.ensures.items; kept = subst (All IsKept) (sym c.new.ensures.items) (All-nil IsKept) };
   };
 }
 
@@ -33,12 +33,14 @@ loop-section-preserved c =
           };
     }
 
-pub returns-clause-read : goal.returns-clause-read
-returns-clause-read c = λ text before w.
-    let m = c.loop-section.invariant.so_far text before w in
-    record {
-      section = m.section;
-      is = section_within text before m.section c.loop-section.reader m.within;
-      behind = behind_none text before m.section c.next_of.new.reader c.in_ok-entry.field-0 c.in_default.is (c.in_ok-entry.ensures.next text before m.section m.within);
-      same = m.same;
-    }
+pub returns : goal.returns
+returns c = record {
+  read = λ text before w.
+      let m = c.loop-section.invariant.so_far text before w in
+      record {
+        section = m.section;
+        is = section_within text before m.section c.loop-section.reader m.within;
+        behind = behind_none text before m.section c.next_of.new.reader c.in_ok-entry.field-0 c.in_default.is (c.in_ok-entry.ensures.next text before m.section m.within);
+        same = m.same;
+      };
+}
