@@ -1,12 +1,11 @@
 -- The calls of a section, from its last one back.
-use Rattle.std.proofs.Common.{◌≡◌, ℕ, Bool, true, false, cond, List, [], ◌∷◌, ◌++◌, map, refl, sym, ap, subst, ◌∙◌}
-use Rattle.std.specs.Prelude.{reverse, IsTrue}
+use Rattle.std.proofs.Common.{◌≡◌, ℕ, Bool, true, false, cond, List, [], ◌∷◌, ◌++◌, map, refl, sym, ap, ◌∙◌}
+use Rattle.std.specs.Prelude.{IsTrue}
 use Rattle.std.proofs.lemmas.List.{reverse-append}
 use Rattle.domain_run.specs.declared.call.Call.{Call}
 use Rattle.domain_run.specs.Domain.{Domain}
 use Rattle.domain_run.specs.Calls.{after_call}
-use Rattle.domain_run.specs.Log.{LogView, Tells}
-use Rattle.domain_run.proofs.CallerLemmas.{tells_none}
+use Rattle.domain_run.specs.Log.{LogView}
 use Rattle.calls_trace.specs.declared.kept.Kept.{Kept}
 use Rattle.calls_trace.specs.private.Kept.{call_of, calls_left}
 use Rattle.calls_trace.specs.Replay.{names_of, names_after}

@@ -17,7 +17,10 @@ use std::alloc::Global;
 const MOST_SECTIONS: usize = 8;
 
 /// The next entry of a section; none behind its last one.
-pub(crate) fn next_of(alloc: Global, reader: &mut CallsReader<'_>) -> Result<Option<Entry>, NoMemory>
+pub(crate) fn next_of(
+    alloc: Global,
+    reader: &mut CallsReader<'_>,
+) -> Result<Option<Entry>, NoMemory>
     ensures next { (text : List ℕ) (before : List SectionView) (section : SectionView)
         → IsWithin text before section reader.old
         → IfOk result (λ found. IsNextEntry text before section reader.new (Ok found)) }

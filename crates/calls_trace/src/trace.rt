@@ -125,9 +125,11 @@ pub(crate) fn write_played<W: Write>(
     requires kept { KeepsSection kept }
     requires faults { faults_of writer.old < 2 ^ 63 }
     ensures ok { (section : SectionView) → IsSection section → IsKeptSection section kept
-        → OnOk result (IsWritten (side W.contents writer.old writer.new) (trace_of_sections (section ∷ []))) }
+        → OnOk result (IsWritten (side W.contents writer.old writer.new)
+        (trace_of_sections (section ∷ []))) }
     ensures err { (section : SectionView) → IsSection section → IsKeptSection section kept
-        → IfErr result (IsUnwritten (side W.contents writer.old writer.new) (trace_of_sections (section ∷ []))) }
+        → IfErr result (IsUnwritten (side W.contents writer.old writer.new)
+        (trace_of_sections (section ∷ []))) }
 {
     let room = room_in(alloc)?;
     let mut playing = Playing::open(alloc, kept)?;

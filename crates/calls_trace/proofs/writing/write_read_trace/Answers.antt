@@ -16,13 +16,13 @@ IsFound text found = IfSome found (IsOnly text)
 
 pub write_played-requires-clause-kept : goal.write_played-requires-clause-kept
 write_played-requires-clause-kept g c =
-    let only = subst (IsFound c.args.text.now) c.in-Some.is c.in_ok-section.ensures.only in
+    let only = subst (IsFound c.args.text.now) c.in-Some.is c.in_ok-kept.ensures.only in
     record { section = only.section; is = one_section only.section only.read; same = only.same }
 
 pub returns-in_err-write_played-in-Some-clause-err : goal.returns-in_err-write_played-in-Some-clause-err
 returns-in_err-write_played-in-Some-clause-err g c =
     let w : Side = side g.W.Write.contents c.args.writer.now c.write_played.new.writer in
-    let only = subst (IsFound c.args.text.now) c.in-Some.is c.in_ok-section.ensures.only in
+    let only = subst (IsFound c.args.text.now) c.in-Some.is c.in_ok-kept.ensures.only in
     let s = only.section in
     let e = c.in_err-write_played-in-Some.field-0.0 in
     let p = err_from_is_err_and c.from_residual-in_err-write_played-in-Some.result c.from_residual-in_err-write_played-in-Some.ensures.1 in
@@ -31,6 +31,6 @@ returns-in_err-write_played-in-Some-clause-err g c =
 pub returns-in_ok-write_played-in-Some-clause-ok : goal.returns-in_ok-write_played-in-Some-clause-ok
 returns-in_ok-write_played-in-Some-clause-ok g c =
     let w : Side = side g.W.Write.contents c.args.writer.now c.write_played.new.writer in
-    let only = subst (IsFound c.args.text.now) c.in-Some.is c.in_ok-section.ensures.only in
+    let only = subst (IsFound c.args.text.now) c.in-Some.is c.in_ok-kept.ensures.only in
     let s = only.section in
     record { spells = record { sections = s ∷ []; read = only.read; spelled = only.spelled }; written = subst (λ (t : List ℕ). IsWritten w t) (one_text s) (c.in_ok-write_played-in-Some.ensures.ok s (one_section s only.read) only.same) }
