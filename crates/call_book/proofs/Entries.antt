@@ -12,7 +12,8 @@ use Rattle.call_book.specs.declared.section.Entry.{Entry}
 use Rattle.call_book.specs.Spelling.{entry_line, is_later, some_later, text_of}
 use Rattle.call_book.specs.OwnCalls.{IsNumberedAfter, made_by}
 use Rattle.call_book.specs.Limits.{IsClient}
-use Rattle.call_book.specs.private.Reading.{cut_at, known_at, Knows, IsEntryRead, entries_text, SoFar, Counts, IsNext, LacksEntry}
+use Rattle.call_book.specs.ReadSoFar.{Knows, IsEntryRead, entries_text, SoFar, Counts, LacksEntry}
+use Rattle.call_book.specs.private.Reading.{cut_at, known_at, IsNext}
 use Rattle.call_book.proofs.Flags.{none_of}
 use Rattle.call_book.proofs.Cuts.{cut_takes, cut_again}
 use Rattle.call_book.proofs.Lines.{call_takes, known_takes, known_again, line_lacks}

@@ -6,7 +6,8 @@ use Rattle.std.proofs.lemmas.Option.{some_pair_parts}
 use Rattle.call_book.specs.declared.section.Entry.{Entry}
 use Rattle.call_book.specs.SectionView.{SectionView}
 use Rattle.call_book.specs.Spelling.{entry_line, section_lines, has_later, header_line, lines_of, text_of}
-use Rattle.call_book.specs.private.Reading.{cut_at, IsEntryRead, IsSectionRead}
+use Rattle.call_book.specs.ReadSoFar.{IsEntryRead, IsSectionRead}
+use Rattle.call_book.specs.private.Reading.{cut_at}
 use Rattle.call_book.proofs.Cuts.{Lacks, Lacks-written, cut_again}
 use Rattle.call_book.proofs.Lines.{line_lacks, domain_lacks}
 

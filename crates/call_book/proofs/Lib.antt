@@ -12,6 +12,7 @@ pub mod Fronts
 pub mod Sections
 pub mod SectionSteps
 pub mod Stops
+pub mod Readers
 pub mod Written
 pub mod BadLines
 pub mod Histories

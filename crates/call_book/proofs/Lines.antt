@@ -20,7 +20,8 @@ use Rattle.call_book.specs.declared.line_text.Word.{Word}
 use Rattle.call_book.specs.declared.line_text.Word.TheVariants as word
 use Rattle.call_book.specs.Spelling.{line_of, call_fields, flag_text, script_text, is_later}
 use Rattle.call_book.specs.Limits.{IsClient, IsNumber, IsChecked, IsAdmission, IsCall}
-use Rattle.call_book.specs.private.Reading.{◌>>=◌, Fails, cut_at, number_within_at, IsFirstNumber, field_at, times_at, flag_at, flagged_at, params_at, name_at, script_at, plan_at, newcomer_at, admit_at, arrive_at, seen_at, answer, answer_at, regrade_at, numbered_at, change, change_at, limit_at, word_of, front_of, worded_at, called_at, call_at, known_at, Knows, domain_at}
+use Rattle.call_book.specs.ReadSoFar.{Knows}
+use Rattle.call_book.specs.private.Reading.{◌>>=◌, Fails, cut_at, number_within_at, IsFirstNumber, field_at, times_at, flag_at, flagged_at, params_at, name_at, script_at, plan_at, newcomer_at, admit_at, arrive_at, seen_at, answer, answer_at, regrade_at, numbered_at, change, change_at, limit_at, word_of, front_of, worded_at, called_at, call_at, known_at, domain_at}
 use Rattle.call_book.proofs.Cuts.{Lacks, Lacks-append, Lacks-written, cut_takes, cut_none, cut_again}
 use Rattle.call_book.proofs.Numbers.{bind_some, within_takes, within_again, decimal_lacks, none_by}
 use Rattle.call_book.proofs.Names.{name_yes, name_takes}
@@ -736,7 +737,7 @@ line_lacks client call is read =
 
 -- ---- the line of a section
 
-abbrev domain_text : ℕ → ℕ → List ℕ
+abbrev pub domain_text : ℕ → ℕ → List ℕ
 domain_text cpus limit = line_of (codes "domain" ∷ decimal cpus ∷ decimal limit ∷ [])
 
 abbrev made_domain : List ℕ → ℕ → ℕ → Option (ℕ × ℕ)

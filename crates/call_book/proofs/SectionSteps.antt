@@ -5,33 +5,34 @@ use Rattle.std.specs.List.{flat_map}
 use Rattle.std.proofs.lemmas.Grind.{flat_map-append}
 use Rattle.std.proofs.lemmas.List.Folds.{list_any-append}
 use Rattle.std.proofs.lemmas.Option.{some_pair_parts}
-use Rattle.call_book.specs.declared.section.Entry.{Entry}
 use Rattle.call_book.specs.declared.fault.PartFault.{PartFault}
 use Rattle.call_book.specs.declared.fault.PartFault.TheVariants.{Bad, Memory}
 use Rattle.call_book.specs.SectionView.{SectionView}
 use Rattle.call_book.specs.Spelling.{domain_line, section_lines, some_later, has_later, text_of}
-use Rattle.call_book.specs.private.Reading.{cut_at, domain_at, Fails, Knows, entries_text, AreEntries, IsSectionRead, IsFirstSection, LacksDomain, IsNoSection, sections_text, HasRoom, SectionsSoFar}
+use Rattle.call_book.specs.ReadSoFar.{Knows, entries_text, SoFar, LacksEntry, IsSectionRead, sections_text, HasRoom, SectionsSoFar}
+use Rattle.call_book.specs.private.Reading.{cut_at, domain_at, Fails, IsFirstSection, LacksDomain, IsNoSection}
 use Rattle.call_book.proofs.Cuts.{cut_takes, cut_again}
-use Rattle.call_book.proofs.Lines.{domain_takes, domain_again, domain_lacks}
+use Rattle.call_book.proofs.Lines.{domain_text, domain_takes, domain_again, domain_lacks}
 use Rattle.call_book.proofs.Flags.{none_of}
-use Rattle.call_book.proofs.Sections.{section_from, each_more, lines_more}
+use Rattle.call_book.proofs.Sections.{each_more, lines_more}
 
 -- ---- one section
 
 grouped : (d t r : List ℕ) → ((d ++ (10 ∷ [])) ++ t) ++ r ≡ d ++ (10 ∷ (t ++ r))
 grouped d t r = simp append_assoc
 
-pub first_section : (later : Bool) (text line after rest : List ℕ) (d : ℕ × ℕ) (entries : List Entry) → cut_at 10 text ≡ Some (line, after) → domain_at line ≡ Some d → AreEntries later after rest entries → IsFirstSection later text rest (section_from d.0 d.1 entries)
-first_section later text line after rest d entries cut read are =
-    let t = domain_takes line d read in
-    let s = section_from d.0 d.1 entries in
-    let first : text ≡ domain_line s ++ (10 ∷ after) = cut_takes 10 text (line, after) cut ∙ ap (λ (l : List ℕ). l ++ (10 ∷ after)) t.line_is in
-    record {
-      parts = first ∙ ap (λ (b : List ℕ). domain_line s ++ (10 ∷ b)) are.so_far.parts ∙ sym (grouped (domain_line s) (entries_text entries) rest);
-      is = record { some = t.some; most = t.few; low = t.low; high = t.high; few = are.few; each = are.so_far.each; numbered = are.so_far.numbered };
-      known = are.so_far.known;
-      stops = are.stops;
-    }
+pub first_section : (later : Bool) (text after rest : List ℕ) (s : SectionView) → IsSectionRead s → text ≡ domain_line s ++ (10 ∷ after) → SoFar later after rest s.entries → (length s.entries < 65536 → LacksEntry later rest) → IsFirstSection later text rest s
+first_section later text after rest s is first so_far stops = record {
+  parts = first ∙ ap (λ (b : List ℕ). domain_line s ++ (10 ∷ b)) so_far.parts ∙ sym (grouped (domain_line s) (entries_text s.entries) rest);
+  is = is;
+  known = so_far.known;
+  stops = stops;
+}
+
+-- the line of a domain, where one was read
+pub domain_found : (text line after : List ℕ) (d : ℕ × ℕ) (s : SectionView) → s.cpus ≡ d.0 → s.limit ≡ d.1 → cut_at 10 text ≡ Some (line, after) → domain_at line ≡ Some d → text ≡ domain_line s ++ (10 ∷ after)
+domain_found text line after d s same alike cut read =
+    cut_takes 10 text (line, after) cut ∙ ap (λ (l : List ℕ). l ++ (10 ∷ after)) ((domain_takes line d read).line_is ∙ ap (λ (c : ℕ). domain_text c d.1) (sym same) ∙ ap (λ (l : ℕ). domain_text s.cpus l) (sym alike))
 
 domain_cut : (s : SectionView) (rest : List ℕ) → IsSectionRead s → cut_at 10 (domain_line s ++ (10 ∷ rest)) ≡ Some (domain_line s, rest)
 domain_cut s rest is = cut_again 10 (domain_line s) rest (domain_lacks s.cpus s.limit is.most is.high)

@@ -12,14 +12,15 @@ use Rattle.call_book.specs.SectionView.{SectionView}
 use Rattle.call_book.specs.Spelling.{line_of, call_fields, entry_line, domain_line, section_lines, is_later, some_later, has_later, header_line, lines_of, spelling}
 use Rattle.call_book.specs.OwnCalls.{IsNumberedAfter, made_by}
 use Rattle.call_book.specs.Limits.{IsEntry, IsSection, AreRead}
-use Rattle.call_book.specs.private.Reading.{call_at, domain_at, IsEntryRead, IsSectionRead, HasRoom}
+use Rattle.call_book.specs.ReadSoFar.{IsEntryRead, IsSectionRead, HasRoom}
+use Rattle.call_book.specs.private.Reading.{call_at, domain_at}
 use Rattle.call_book.proofs.Flags.{by_first, by_second}
 use Rattle.call_book.proofs.Lines.{call_again, domain_again}
 use Rattle.call_book.proofs.Fronts.{same_lines, sections_lines}
 
 -- ---- sections that are read
 
-is_section : (s : SectionView) → IsSectionRead s → IsSection s
+pub is_section : (s : SectionView) → IsSectionRead s → IsSection s
 is_section s is = record {
   some_cpus = is.some;
   most_cpus = is.most;

@@ -15,7 +15,8 @@ use Rattle.call_book.specs.Spelling.{entry_line, domain_line, section_lines, is_
 use Rattle.call_book.specs.OwnCalls.{IsNumberedAfter, made_by}
 use Rattle.call_book.specs.Limits.{AreRead}
 use Rattle.call_book.specs.BadLine.{IsAccepted, Begins, IsBadLine}
-use Rattle.call_book.specs.private.Reading.{cut_at, header_at, Knows, IsEntryRead, IsSectionRead, LacksEntry, LacksDomain, HasRoom, sections_text, AreSectionsOf, last_full, is_full, is_stuck, bad_place, is_whole}
+use Rattle.call_book.specs.ReadSoFar.{Knows, IsEntryRead, IsSectionRead, LacksEntry, HasRoom, sections_text, last_full}
+use Rattle.call_book.specs.private.Reading.{cut_at, header_at, LacksDomain, AreSectionsOf, is_full, is_stuck, bad_place, is_whole}
 use Rattle.call_book.proofs.Flags.{by_second}
 use Rattle.call_book.proofs.Cuts.{cut_takes, cut_again}
 use Rattle.call_book.proofs.Lines.{line_lacks}

@@ -3,6 +3,8 @@ pub mod Spelling
 pub mod OwnCalls
 pub mod Limits
 pub mod BadLine
+pub mod ReadSoFar
+pub mod Reader
 pub mod RoundTrip
 pub mod FaultText
 pub mod Book

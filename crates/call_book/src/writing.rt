@@ -4,7 +4,7 @@ ghost use Rattle.std.specs.Prelude.{◌≡◌, ◌∷◌, ◌++◌, map, codes, 
 ghost use Rattle.std.specs.List.{flat_map};
 ghost use Rattle.call_book.specs.Spelling.{event_text, events_text, phase_text, loops_text, script_text, line_of, call_fields, entry_line, domain_line, section_lines, header_line, text_of, spelling};
 ghost use Rattle.call_book.specs.Limits.{AreRead};
-ghost use Rattle.call_book.specs.private.Reading.{entries_text};
+ghost use Rattle.call_book.specs.ReadSoFar.{entries_text};
 ghost use Rattle.call_book.specs.private.Writing.{params_text, head_text, busy_text};
 ghost use Rattle.call_book.specs.RoundTrip.{unanswered, IsReadAs};
 

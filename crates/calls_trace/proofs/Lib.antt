@@ -7,8 +7,11 @@ mod Ready
 mod Pieces
 mod Played
 mod Written
+mod ReadRuns
+mod ReadPlaced
 mod Charts
 mod Texts
+mod Replayed
 mod Figured
 mod Recorded
 pub mod CallerLemmas

@@ -33,7 +33,7 @@ have_lines r is placed =
     All-weaker (IsSwitch d.cpus d.time d.used) (HasLine r.run.names r.base) (λ s h. record { time = omega (arith, h.past, is.steady.early); cpu = omega (arith, h.inside, inside); prev = some_named d r.run.names placed.named s.prev h.prev; next = some_named d r.run.names placed.named s.next h.next }) d.switches is.traced.switches
 
 -- the run of a section, as it is placed
-view_is : (wanted : Bool) (r : PlacedRun) (s : SectionView) → IsRunOf s r.run.state r.run.names → IsToldOf wanted s r.run.given r.run.log → view_of r ≡ view_at wanted r.base s
+pub view_is : (wanted : Bool) (r : PlacedRun) (s : SectionView) → IsRunOf s r.run.state r.run.names → IsToldOf wanted s r.run.given r.run.log → view_of r ≡ view_at wanted r.base s
 view_is wanted r s is told =
     let made : Domain → (ℕ → List ℕ) → (ℕ → ParamsView) → List Happened → PlacedView = λ d f g hs. record { base = r.base; domain = d; names = f; given = g; happened = hs } in
     let names : named r.run.names ≡ names_in s = λ i n. is.called n i in

@@ -3,4 +3,7 @@ pub mod RunTexts
 pub mod Recorded
 pub mod Counting
 pub mod Calls
+pub mod Kept
 pub mod Playing
+pub mod ReadRuns
+pub mod Replayed

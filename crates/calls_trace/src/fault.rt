@@ -1,5 +1,6 @@
 //! Why a trace was not written.
 
+use call_book::CallsFault;
 use domain_run::NoMemory;
 use thiserror::Error;
 
@@ -60,6 +61,20 @@ impl From<TraceFault> for ReplayFault {
         match found {
             TraceFault::Write { written } => ReplayFault::Write { written },
             TraceFault::Memory => ReplayFault::Memory,
+        }
+    }
+}
+
+impl From<CallsFault> for ReplayFault {
+    ghost use Rattle.std.specs.Prelude.{◌≡◌};
+    ghost use Rattle.calls_trace.specs.Upward.{of_calls};
+
+    ghost from_gives = { λ found fault. fault ≡ of_calls found };
+
+    fn from(found: CallsFault) -> ReplayFault {
+        match found {
+            CallsFault::BadLine { n } => ReplayFault::Calls(n),
+            CallsFault::Memory => ReplayFault::Memory,
         }
     }
 }

@@ -15,7 +15,7 @@ ghost use Rattle.call_book.specs.Book.{IsLegal};
 ghost use Rattle.switch_text.specs.Names.{named};
 ghost use Rattle.calls_trace.specs.Replay.{no_names, with_name, names_after, calls_of};
 ghost use Rattle.calls_trace.specs.Told.{names_in, params_in, no_params, with_params, params_after, told_of};
-ghost use Rattle.calls_trace.specs.private.Replaying.{AreNamed, Gives, GivesParams, given_in, IsRunOf, IsToldOf, section_view};
+ghost use Rattle.calls_trace.specs.private.Replaying.{AreNamed, Gives, GivesParams, given_in, IsRunOf, IsToldOf};
 ghost use Rattle.calls_trace.specs.private.Recorded.{given_by, given_by_all, params_given_by, params_given_by_all};
 
 use attr_check::Params;
@@ -82,7 +82,13 @@ fn log_of(alloc: Global, wanted: bool) -> Log
 }
 
 impl RunWithNames {
-    fn open(alloc: Global, cpus: u32, limit: u64, wanted: bool) -> Result<RunWithNames, NoMemory>
+    /// The run of no call yet.
+    pub(crate) fn open(
+        alloc: Global,
+        cpus: u32,
+        limit: u64,
+        wanted: bool,
+    ) -> Result<RunWithNames, NoMemory>
         requires cpus { (0 < cpus) × (cpus ≤ 64) }
         requires limit { IsLimit limit }
         ensures state { IfOk result (λ r. r.state ≡ opened cpus limit) }
@@ -191,7 +197,7 @@ impl RunWithNames {
     }
 
     /// Makes a call; the log is told what it tells.
-    fn make(&mut self, alloc: Global, call: Call) -> Result<(), NoMemory>
+    pub(crate) fn make(&mut self, alloc: Global, call: Call) -> Result<(), NoMemory>
         requires call { IsCall call }
         requires early { self.old.state.time + 60000000 ≤ 2 ^ 42 }
         requires named { AreNamed self.old.state self.old.names }
@@ -256,49 +262,6 @@ impl RunWithNames {
         }
         Ok(())
     }
-}
-
-/// The run of the calls of a section.
-fn run_entries(
-    alloc: Global,
-    cpus: u32,
-    limit: u64,
-    mut entries: Vec<Entry>,
-    wanted: bool,
-) -> Result<RunWithNames, NoMemory>
-    requires cpus { (0 < cpus) × (cpus ≤ 64) }
-    requires limit { IsLimit limit }
-    requires few { vec_len entries ≤ 65536 }
-    requires entries { All IsEntry entries.items }
-    ensures run { IfOk result (λ r.
-        IsRunOf (section_view cpus limit entries.items) r.state r.names) }
-    ensures told { IfOk result (λ r.
-        IsToldOf wanted (section_view cpus limit entries.items) r.given r.log) }
-{
-    let mut run = RunWithNames::open(alloc, cpus, limit, wanted)?;
-    entries.reverse();
-    while let Some(entry) = entries.pop() {
-        run.make(alloc, entry.call)?;
-    }
-    Ok(run)
-}
-
-/// The run of a section; what happens in it is told where that is wanted.
-pub(crate) fn run_section(
-    alloc: Global,
-    section: Section,
-    wanted: bool,
-) -> Result<RunWithNames, NoMemory>
-    requires section { IsSection section }
-    ensures run { IfOk result (λ r. IsRunOf section r.state r.names) }
-    ensures told { IfOk result (λ r. IsToldOf wanted section r.given r.log) }
-{
-    let Section {
-        cpus,
-        limit,
-        entries,
-    } = section;
-    run_entries(alloc, cpus, limit, entries, wanted)
 }
 
 /// Puts down the name that an entry gives: that of an admission, or an arrival, that was granted.

@@ -6,11 +6,10 @@ ghost use Rattle.call_book.specs.Limits.{IsSection};
 ghost use Rattle.call_book.specs.Histories.{AreLegal, AreRuns, AreTold};
 ghost use Rattle.calls_trace.specs.private.Replaying.{IsPlaced, view_of, views_from};
 
-use crate::named_run::{RunWithNames, recorded, run_section};
+use crate::named_run::{RunWithNames, recorded};
 use call_book::Section;
 use domain_run::{Log, NoMemory, State};
 use std::alloc::Global;
-use std::collections::VecDeque;
 use std::mem;
 
 /// The run of one domain of the machine.
@@ -19,31 +18,6 @@ pub(crate) struct PlacedRun {
     /// The CPU of the machine that is the domain's CPU 0.
     pub(crate) base: u32,
     pub(crate) run: RunWithNames,
-}
-
-/// The runs of sections, each on a domain of its own: the first has the first CPUs of the machine,
-/// the second the next ones, and so on. What happens in them is told where that is wanted.
-pub(crate) fn run_sections(
-    alloc: Global,
-    sections: Vec<Section>,
-    wanted: bool,
-) -> Result<Vec<PlacedRun>, NoMemory>
-    requires few { length sections.items ≤ 8 }
-    requires sections { All IsSection sections.items }
-    ensures runs { IfOk result (λ v. map view_of v.items ≡ views_from wanted 0 sections.items) }
-    ensures few { IfOk result (λ v. length v.items ≤ 8) }
-    ensures placed { IfOk result (λ v. All IsPlaced v.items) }
-{
-    let mut runs = Vec::with_capacity(alloc, sections.len())?;
-    let mut left = VecDeque::from_vec(sections);
-    let mut base: u32 = 0;
-    while let Some(section) = left.pop_front() {
-        let cpus = section.cpus;
-        let run = run_section(alloc, section, wanted)?;
-        runs.push_reserved(PlacedRun { base, run });
-        base += cpus;
-    }
-    Ok(runs)
 }
 
 /// Takes a log out of its place; one that keeps nothing stays there.

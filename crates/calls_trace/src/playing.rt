@@ -1,15 +1,16 @@
 //! The run of a section, made piece by piece, so that its switches can be written while they are
 //! made.
 
-ghost use Rattle.std.specs.Prelude.{◌≡◌, ◌+◌, ◌*◌, ◌≤◌, ◌^◌, All, IfOk, length};
+ghost use Rattle.std.specs.Prelude.{◌≡◌, ◌+◌, ◌*◌, ◌≤◌, ◌^◌, All, IfOk, length, sum_by};
 ghost use Rattle.indexmap.specs.IndexMap.{spare};
 ghost use Rattle.calls_trace.specs.Replay.{no_names};
 ghost use Rattle.calls_trace.specs.private.Replaying.{AreNamed, Gives};
-ghost use Rattle.calls_trace.specs.private.Calls.{IsReady, AreTexts};
+ghost use Rattle.calls_trace.specs.private.Calls.{IsReady};
+ghost use Rattle.calls_trace.specs.private.Kept.{IsKept, call_of, room_of};
 
-use crate::given_names::{last_text, texts_given};
+use crate::kept::{Kept, Spelled, room_for};
+use crate::kept_section::KeptSection;
 use attr_check::Params;
-use call_book::{Entry, Section};
 use domain_run::{Buffered, Call, Name, NoMemory, Script, State};
 use indexmap::IndexMap;
 use std::alloc::Global;
@@ -31,14 +32,11 @@ pub(crate) struct Playing {
     /// So many ticks are left of the advance under way.
     left: u64,
     /// The calls behind it, the last one first.
-    entries: Vec<Entry>,
-    /// The texts of the names that these give.
-    texts: Vec<String>,
+    calls: Vec<Kept>,
     ghost called: { AreNamed run.domain run.names },
-    ghost ready: { All (λ e. IsReady e.call) entries.items },
-    ghost spelled: { AreTexts entries.items texts.items },
-    ghost room: { length entries.items ≤ spare run.names },
-    ghost early: { run.domain.time + left + length entries.items * 60000000 ≤ 2 ^ 42 },
+    ghost kept: { All IsKept calls.items },
+    ghost room: { sum_by room_of calls.items ≤ spare run.names },
+    ghost early: { run.domain.time + left + length calls.items * 60000000 ≤ 2 ^ 42 },
 }
 
 impl NamedDomain {
@@ -147,39 +145,71 @@ impl NamedDomain {
         }
         0
     }
+
+    /// As `make`, of a call that was kept. What is short is made in place.
+    fn make_kept(&mut self, kept: Kept) -> u64
+        requires kept { IsKept kept }
+        requires room { room_of kept ≤ spare self.old.names }
+        requires called { AreNamed self.old.domain self.old.names }
+        ensures domain { ticks result self.new.domain ≡ after_call self.old.domain (call_of kept) }
+        ensures names { Gives self.new.names
+            (names_after self.old.domain (call_of kept) (named self.old.names)) }
+        ensures called { AreNamed self.new.domain self.new.names }
+        ensures room { spare self.old.names ≤ spare self.new.names + room_of kept }
+        ensures most { result ≤ 60000000 }
+    {
+        match kept {
+            Kept::Wake { number } => {
+                self.domain.wake(number);
+            }
+            Kept::Leave { number } => {
+                self.domain.leave(number);
+            }
+            Kept::Depart { number } => {
+                self.domain.depart(number);
+            }
+            Kept::Advance { ticks } => return ticks,
+            Kept::Long(spelled) => {
+                let Spelled { call, text } = Box::into_inner(spelled);
+                return self.make(call, text);
+            }
+        }
+        0
+    }
 }
 
 impl Playing {
     ghost use Rattle.std.specs.Prelude.{◌<◌, ◌++◌, ℕ, [], true, false, IfOk};
     ghost use Rattle.domain_run.specs.Passing.{without_switches};
     ghost use Rattle.domain_run.specs.Run.{after_calls};
-    ghost use Rattle.call_book.specs.Limits.{IsSection};
+    ghost use Rattle.call_book.specs.SectionView.{SectionView};
     ghost use Rattle.switch_text.specs.Names.{named};
     ghost use Rattle.switch_text.specs.Runs.{IsRun};
     ghost use Rattle.switch_text.specs.Names.{SameNames};
     ghost use Rattle.calls_trace.specs.Told.{domain_of, names_in};
+    ghost use Rattle.calls_trace.specs.private.Kept.{IsKeptSection, KeepsSection};
     ghost use Rattle.calls_trace.specs.private.Playing.{left_in, end_of, rest_of, all_names, work_of};
 
     /// A section of which no call is made yet.
-    pub(crate) fn open(alloc: Global, section: Section) -> Result<Playing, NoMemory>
-        requires { IsSection section }
-        ensures rest { IfOk result (λ p. rest_of p ≡ (domain_of section).switches) }
-        ensures names { IfOk result (λ p. (n : ℕ) → all_names p n ≡ names_in section n) }
+    pub(crate) fn open(alloc: Global, kept: KeptSection) -> Result<Playing, NoMemory>
+        requires { KeepsSection kept }
+        ensures rest { (section : SectionView) → IsKeptSection section kept
+            → IfOk result (λ p. rest_of p ≡ (domain_of section).switches) }
+        ensures names { (section : SectionView) → IsKeptSection section kept
+            → IfOk result (λ p. (n : ℕ) → all_names p n ≡ names_in section n) }
     {
-        let Section {
+        let KeptSection {
             cpus,
             limit,
-            mut entries,
-        } = section;
-        entries.reverse();
-        let texts = texts_given(alloc, &entries)?;
-        let names = room_for_names(alloc, entries.len())?;
+            mut calls,
+        } = kept;
+        let names = room_for_names(alloc, room_for(&calls))?;
+        calls.reverse();
         let domain = Buffered::of(State::open(alloc, cpus, limit)?)?;
         Ok(Playing {
             run: NamedDomain { domain, names },
             left: 0,
-            entries,
-            texts,
+            calls,
         })
     }
 
@@ -214,10 +244,9 @@ impl Playing {
         ensures ahead { result ≡ true → work_of self.new < work_of self.old }
         ensures stopped { result ≡ false → work_of self.new ≡ 0 }
     {
-        match self.entries.pop() {
-            Some(entry) => {
-                let text = last_text(&mut self.texts);
-                self.left = self.run.make(entry.call, text);
+        match self.calls.pop() {
+            Some(call) => {
+                self.left = self.run.make_kept(call);
                 true
             }
             None => false,

@@ -3,10 +3,11 @@
 ghost use Rattle.std.specs.Prelude.{◌≡◌, ◌<◌, ◌^◌, OnOk, IfErr};
 ghost use Rattle.counted_io.specs.Sides.{faults_of, side};
 ghost use Rattle.calls_trace.specs.Answer.{streams, IsAnswered, IsAnsweredBy, IsFaultBy, IsFaultOf, replayed, print_tells};
+ghost use Rattle.calls_trace.specs.private.Replayed.{IsReplayed, IsUnreplayed};
 
 use crate::fault::ReplayFault;
-use crate::writing::write_sections;
-use call_book::{CallsFault, read_calls};
+use crate::run_text::RunText;
+use crate::writing::{write_answered_text, write_run_text};
 use chart_pieces::Span;
 use std::alloc::Global;
 use std::io::{Read, Write};
@@ -45,6 +46,25 @@ impl ReplayPrint {
     }
 }
 
+/// Makes the calls of a text, and writes what is asked for of them.
+fn write_replayed<W: Write>(
+    alloc: Global,
+    print: ReplayPrint,
+    text: &[u8],
+    writer: &mut Counted<W>,
+) -> Result<(), ReplayFault>
+    requires faults { faults_of writer.old < 2 ^ 63 }
+    ensures ok { OnOk result
+        (IsReplayed text.now (replayed print) (side W.contents writer.old writer.new)) }
+    ensures err { IfErr result
+        (IsUnreplayed text.now (replayed print) (side W.contents writer.old writer.new)) }
+{
+    match RunText::of(print) {
+        Some(kind) => write_run_text(alloc, kind, text, writer),
+        None => write_answered_text(alloc, text, writer),
+    }
+}
+
 /// Reads a calls text to its end, runs the calls of each of its 1 to 8 sections on a domain of its
 /// own, and writes what is asked for: one trace of all domains, by time and CPU of the machine, in
 /// which the first domain has the first CPUs of the machine, the second the next ones; the same
@@ -80,12 +100,7 @@ pub fn replay_as<R: Read, W: Write>(
         Err(ReadFault::Failed) => return Err(ReplayFault::Read),
         Err(ReadFault::Memory) => return Err(ReplayFault::Memory),
     };
-    let sections = match read_calls(alloc, &text) {
-        Ok(sections) => sections,
-        Err(CallsFault::BadLine { n }) => return Err(ReplayFault::Calls(n)),
-        Err(CallsFault::Memory) => return Err(ReplayFault::Memory),
-    };
-    Ok(write_sections(alloc, print, sections, writer)?)
+    write_replayed(alloc, print, &text, writer)
 }
 
 /// As [`replay_as`], for the trace.

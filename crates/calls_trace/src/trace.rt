@@ -4,16 +4,18 @@ ghost use Rattle.std.specs.Prelude.{◌≡◌, ◌<◌, ◌≤◌, ◌^◌, [], 
 ghost use Rattle.switch_text.specs.Runs as runs;
 ghost use Rattle.switch_text.specs.Telling.{told_view, told_views, IsTold};
 ghost use Rattle.counted_io.specs.Sides.{faults_of, side};
+ghost use Rattle.call_book.specs.SectionView.{SectionView};
 ghost use Rattle.call_book.specs.Limits.{IsSection};
 ghost use Rattle.calls_trace.specs.Replay.{trace_of_sections};
 ghost use Rattle.calls_trace.specs.Written.{IsWritten, IsUnwritten};
 ghost use Rattle.calls_trace.specs.declared.run_text.RunText.TheVariants as texts;
+ghost use Rattle.calls_trace.specs.private.Kept.{IsKeptSection, KeepsSection};
 ghost use Rattle.calls_trace.specs.private.Replaying.{IsPlaced, view_of, run_in, told_in, heard, text_of_runs};
 
 use crate::fault::TraceFault;
+use crate::kept_section::KeptSection;
 use crate::placed_run::PlacedRun;
 use crate::playing::Playing;
-use call_book::Section;
 use domain_run::{Happened, Log, NoMemory};
 use std::alloc::Global;
 use std::io::Write;
@@ -117,18 +119,20 @@ pub(crate) fn write_trace_of<W: Write>(
 /// before the first byte.
 pub(crate) fn write_played<W: Write>(
     alloc: Global,
-    section: Section,
+    kept: KeptSection,
     writer: &mut Counted<W>,
 ) -> Result<(), TraceFault>
-    requires section { IsSection section }
+    requires kept { KeepsSection kept }
     requires faults { faults_of writer.old < 2 ^ 63 }
-    ensures ok { OnOk result
-        (IsWritten (side W.contents writer.old writer.new) (trace_of_sections (section ∷ []))) }
-    ensures err { IfErr result
-        (IsUnwritten (side W.contents writer.old writer.new) (trace_of_sections (section ∷ []))) }
+    ensures ok { (section : SectionView) → IsSection section → IsKeptSection section kept
+        → OnOk result (IsWritten (side W.contents writer.old writer.new)
+        (trace_of_sections (section ∷ []))) }
+    ensures err { (section : SectionView) → IsSection section → IsKeptSection section kept
+        → IfErr result (IsUnwritten (side W.contents writer.old writer.new)
+        (trace_of_sections (section ∷ []))) }
 {
     let room = room_in(alloc)?;
-    let mut playing = Playing::open(alloc, section)?;
+    let mut playing = Playing::open(alloc, kept)?;
     match write_slices(&mut playing, room, writer) {
         Ok(()) => Ok(()),
         Err(fault) => Err(TraceFault::Write {

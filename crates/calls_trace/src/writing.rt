@@ -1,24 +1,29 @@
 //! The last step: the runs of the domains of a machine as the text that is asked for.
 
-ghost use Rattle.std.specs.Prelude.{◌≡◌, ◌<◌, ◌≤◌, ◌^◌, [], ◌∷◌, All, IfErr, IfNone, IfSome, OnOk, length};
+ghost use Rattle.std.specs.Prelude.{◌≡◌, ◌<◌, ◌≤◌, ◌^◌, [], ◌∷◌, All, IfErr, IfOk, IfSome, OnOk, length};
 ghost use Rattle.counted_io.specs.Sides.{faults_of, side};
-ghost use Rattle.call_book.specs.Limits.{IsSection};
+ghost use Rattle.call_book.specs.Spelling.{spelling};
+ghost use Rattle.call_book.specs.Limits.{IsSection, AreRead};
+ghost use Rattle.call_book.specs.BadLine.{IsReadFault};
 ghost use Rattle.call_book.specs.Histories.{AreLegal, AreRuns, AreTold};
 ghost use Rattle.reply_text.specs.Replies.{replies_of};
 ghost use Rattle.calls_trace.specs.Answer.{replayed, print_tells};
 ghost use Rattle.calls_trace.specs.Written.{IsWritten, IsUnwritten};
 ghost use Rattle.calls_trace.specs.declared.run_text.RunText.TheVariants as texts;
 ghost use Rattle.calls_trace.specs.private.Replaying.{IsPlaced, text_of_runs};
+ghost use Rattle.calls_trace.specs.private.Replayed.{IsReplayed, IsUnreplayed};
 ghost use Rattle.calls_trace.specs.private.RunTexts.{tells, text_of_all};
 
 use crate::charting::write_chart_of;
-use crate::fault::TraceFault;
+use crate::fault::{ReplayFault, TraceFault};
 use crate::figures::{write_jobs_of, write_summary_of, write_whole};
-use crate::placed_run::{PlacedRun, place_runs, run_sections};
+use crate::kept_section::only_section;
+use crate::placed_run::{PlacedRun, place_runs};
+use crate::read_runs::runs_of_text;
 use crate::replaying::ReplayPrint;
 use crate::run_text::RunText;
 use crate::trace::{write_events_of, write_played, write_trace_of};
-use call_book::Section;
+use call_book::{Section, read_calls};
 use domain_run::{Log, State};
 use reply_text::{write_recorded, write_replies};
 use std::alloc::Global;
@@ -49,40 +54,58 @@ fn write_runs<W: Write>(
     }
 }
 
-/// Takes the section out where it is the only one and its trace is asked for.
-fn only_traced(text: RunText, sections: &mut Vec<Section>) -> Option<Section>
-    ensures trace { IfSome result (λ section. text ≡ texts.Trace) }
-    ensures only { IfSome result (λ section. sections.old.items ≡ section ∷ []) }
-    ensures others { IfNone result (sections.new.items ≡ sections.old.items) }
+/// Makes the calls of a text, each as soon as it is read, and writes a text of their runs.
+fn write_read_runs<W: Write>(
+    alloc: Global,
+    kind: RunText,
+    text: &[u8],
+    writer: &mut Counted<W>,
+) -> Result<(), ReplayFault>
+    requires faults { faults_of writer.old < 2 ^ 63 }
+    ensures ok { OnOk result
+        (IsReplayed text.now (text_of_all kind) (side W.contents writer.old writer.new)) }
+    ensures err { IfErr result
+        (IsUnreplayed text.now (text_of_all kind) (side W.contents writer.old writer.new)) }
 {
-    match text {
-        RunText::Trace if sections.len() == 1 => sections.pop(),
-        _ => None,
+    let runs = runs_of_text(alloc, text, kind.tells())?;
+    Ok(write_runs(alloc, kind, &runs, writer)?)
+}
+
+/// Makes the calls of a text, and writes the trace of their runs; that of one section alone while
+/// they are made.
+fn write_read_trace<W: Write>(
+    alloc: Global,
+    text: &[u8],
+    writer: &mut Counted<W>,
+) -> Result<(), ReplayFault>
+    requires faults { faults_of writer.old < 2 ^ 63 }
+    ensures ok { OnOk result
+        (IsReplayed text.now (text_of_all texts.Trace) (side W.contents writer.old writer.new)) }
+    ensures err { IfErr result
+        (IsUnreplayed text.now (text_of_all texts.Trace) (side W.contents writer.old writer.new)) }
+{
+    match only_section(alloc, text)? {
+        Some(kept) => Ok(write_played(alloc, kept, writer)?),
+        None => write_read_runs(alloc, RunText::Trace, text, writer),
     }
 }
 
-/// Makes the calls of sections, and writes a text of their runs; the trace of one section while
-/// they are made.
-fn write_made<W: Write>(
+/// Makes the calls of a text, and writes a text of their runs.
+pub(crate) fn write_run_text<W: Write>(
     alloc: Global,
-    text: RunText,
-    mut sections: Vec<Section>,
+    kind: RunText,
+    text: &[u8],
     writer: &mut Counted<W>,
-) -> Result<(), TraceFault>
-    requires few { length sections.items ≤ 8 }
-    requires sections { All IsSection sections.items }
+) -> Result<(), ReplayFault>
     requires faults { faults_of writer.old < 2 ^ 63 }
     ensures ok { OnOk result
-        (IsWritten (side W.contents writer.old writer.new) (text_of_all text sections.items)) }
+        (IsReplayed text.now (text_of_all kind) (side W.contents writer.old writer.new)) }
     ensures err { IfErr result
-        (IsUnwritten (side W.contents writer.old writer.new) (text_of_all text sections.items)) }
+        (IsUnreplayed text.now (text_of_all kind) (side W.contents writer.old writer.new)) }
 {
-    match only_traced(text, &mut sections) {
-        Some(section) => write_played(alloc, section, writer),
-        None => {
-            let runs = run_sections(alloc, sections, text.tells())?;
-            write_runs(alloc, text, &runs, writer)
-        }
+    match kind {
+        RunText::Trace => write_read_trace(alloc, text, writer),
+        _ => write_read_runs(alloc, kind, text, writer),
     }
 }
 
@@ -103,25 +126,20 @@ fn write_answered<W: Write>(
     write_whole(&text, writer)
 }
 
-/// Makes the calls of sections, and writes what is asked for of them.
-pub(crate) fn write_sections<W: Write>(
+/// Writes the calls of a text with their replies.
+pub(crate) fn write_answered_text<W: Write>(
     alloc: Global,
-    print: ReplayPrint,
-    sections: Vec<Section>,
+    text: &[u8],
     writer: &mut Counted<W>,
-) -> Result<(), TraceFault>
-    requires few { length sections.items ≤ 8 }
-    requires sections { All IsSection sections.items }
+) -> Result<(), ReplayFault>
     requires faults { faults_of writer.old < 2 ^ 63 }
     ensures ok { OnOk result
-        (IsWritten (side W.contents writer.old writer.new) (replayed print sections.items)) }
+        (IsReplayed text.now replies_of (side W.contents writer.old writer.new)) }
     ensures err { IfErr result
-        (IsUnwritten (side W.contents writer.old writer.new) (replayed print sections.items)) }
+        (IsUnreplayed text.now replies_of (side W.contents writer.old writer.new)) }
 {
-    match RunText::of(print) {
-        Some(text) => write_made(alloc, text, sections, writer),
-        None => write_answered(alloc, sections, writer),
-    }
+    let sections = read_calls(alloc, text)?;
+    Ok(write_answered(alloc, sections, writer)?)
 }
 
 /// Writes a text of the runs that histories led to, with these states and logs.

@@ -1,10 +1,10 @@
 -- What the parts of the reader answer, as functions of lists. No public clause names them.
-use Rattle.std.specs.Prelude.{◌≡◌, ℕ, zero, suc, ◌≤◌, ◌<◌, ◌+◌, ◌-◌, ◌*◌, Bool, true, false, not, ◌==◌, ◌&&◌, ◌||◌, nat_lt, nat_le, if◌then◌else◌, List, [], ◌∷◌, ◌++◌, map, length, slice_index, Option, Some, None, Result, Ok, Err, codes, decimal}
+use Rattle.std.specs.Prelude.{◌≡◌, ℕ, zero, suc, ◌≤◌, ◌<◌, ◌+◌, ◌-◌, ◌*◌, Bool, true, false, not, ◌==◌, ◌&&◌, ◌||◌, nat_lt, nat_le, if◌then◌else◌, List, [], ◌∷◌, ◌++◌, length, slice_index, Option, Some, None, Result, Ok, Err, codes, decimal}
 use Rattle.std.specs.Option.{option_map_or}
 use Rattle.std.specs.Result.{result_ok}
 use Rattle.std.specs.Char.{is_ascii_digit}
 use Rattle.std.specs.Str.{bytes_eq}
-use Rattle.std.specs.List.{before_first, after_first, position_or_len, list_all, flat_map, AllByRecursion}
+use Rattle.std.specs.List.{before_first, after_first, position_or_len, list_all, flat_map}
 use Rattle.attr_check.specs.ParamsView.{ParamsView}
 use Rattle.attr_check.specs.Accepted.{accepted}
 use Rattle.domain_run.specs.declared.script.Event.{Event}
@@ -20,9 +20,9 @@ use Rattle.call_book.specs.declared.line_text.Word.{Word}
 use Rattle.call_book.specs.declared.line_text.Word.TheVariants as word
 use Rattle.call_book.specs.declared.section.Entry.{Entry}
 use Rattle.call_book.specs.SectionView.{SectionView}
-use Rattle.call_book.specs.Spelling.{entry_line, domain_line, section_lines, is_later, some_later, has_later, text_of}
-use Rattle.call_book.specs.OwnCalls.{IsNumbered, made_by}
-use Rattle.call_book.specs.Limits.{IsClient, IsEntry}
+use Rattle.call_book.specs.Spelling.{domain_line, section_lines, is_later, some_later, has_later, text_of}
+use Rattle.call_book.specs.Limits.{IsClient}
+use Rattle.call_book.specs.ReadSoFar.{Knows, LacksEntry, IsSectionRead, SectionsSoFar, last_full}
 
 -- ---- what a part of the reader answers, seen by view, unless memory ran out
 
@@ -347,29 +347,6 @@ domain_at line = do
 
 -- ---- the entries of a section
 
--- behind a header that has no calls of the second form there is none
-abbrev pub Knows : Bool → Bool → Type 0
-Knows later has = later ≡ false → has ≡ false
-
-pub record IsEntryRead (e : Entry) : Type 0 where
-  pub within : IsEntry e
-  pub no_reply : e.reply ≡ None
-
-abbrev pub entries_text : List Entry → List ℕ
-entries_text entries = text_of (map entry_line entries)
-
--- the text is that of these entries, and then the rest
-pub record SoFar (later : Bool) (text rest : List ℕ) (entries : List Entry) : Type 0 where
-  pub parts : text ≡ entries_text entries ++ rest
-  pub known : Knows later (some_later entries)
-  pub each : AllByRecursion IsEntryRead entries
-  pub numbered : IsNumbered entries
-
--- how many calls each client made
-abbrev pub Counts : List ℕ → List Entry → Type 0
-Counts made entries =
-    (client : ℕ) → IsClient client → slice_index made (client - 1) ≡ made_by client entries
-
 -- the entry of a line, where a client made so many calls before
 pub record IsNext (later : Bool) (line : List ℕ) (made : List ℕ) (e : Entry) : Type 0 where
   pub call : known_at later line ≡ Some (e.client, e.call)
@@ -377,28 +354,7 @@ pub record IsNext (later : Bool) (line : List ℕ) (made : List ℕ) (e : Entry)
   pub no_reply : e.reply ≡ None
   pub seq : e.seq ≡ slice_index made (e.client - 1)
 
--- the text does not begin with the line of an entry
-abbrev pub LacksEntry : Bool → List ℕ → Type 0
-LacksEntry later text =
-    (e : Entry) (after : List ℕ) → IsEntryRead e → Knows later (is_later e.call)
-    → text ≡ entry_line e ++ 10 ∷ after → ⊥
-
--- the entries at the front of a text: as many as stand there, and as a section may have
-pub record AreEntries (later : Bool) (text rest : List ℕ) (entries : List Entry) : Type 0 where
-  pub so_far : SoFar later text rest entries
-  pub few : length entries ≤ 65536
-  pub stops : length entries < 65536 → LacksEntry later rest
-
 -- ---- the sections of a text, from line 2 on
-
-pub record IsSectionRead (s : SectionView) : Type 0 where
-  pub some : 0 < s.cpus
-  pub most : s.cpus ≤ 64
-  pub low : 10485 ≤ s.limit
-  pub high : s.limit ≤ 1048576
-  pub few : length s.entries ≤ 65536
-  pub each : AllByRecursion IsEntryRead s.entries
-  pub numbered : IsNumbered s.entries
 
 -- the section at the front of a text, with as many entries as stand there, and as it may have
 pub record IsFirstSection (later : Bool) (text rest : List ℕ) (s : SectionView) : Type 0 where
@@ -416,23 +372,6 @@ abbrev pub IsNoSection : List ℕ → PartFault → Type 0
 IsNoSection text Bad = LacksDomain text
 IsNoSection text Memory = Unit {0}
 
-abbrev pub sections_text : List SectionView → List ℕ
-sections_text sections = text_of (flat_map section_lines sections)
-
--- there is a last section, and it may have one more entry
-abbrev pub HasRoom : List SectionView → Type 0
-HasRoom [] = ⊥
-HasRoom (s ∷ []) = length s.entries < 65536
-HasRoom (s ∷ t ∷ sections) = HasRoom (t ∷ sections)
-
--- the text is that of these sections, and then the rest, which does not go on with the last of them
-pub record SectionsSoFar (later : Bool) (text rest : List ℕ) (sections : List SectionView)
-    : Type 0 where
-  pub parts : text ≡ sections_text sections ++ rest
-  pub each : AllByRecursion IsSectionRead sections
-  pub known : Knows later (has_later sections)
-  pub stops : HasRoom sections → LacksEntry later rest
-
 -- the sections at the front of a text: as many as stand there, and as a text may have
 pub record AreSectionsOf (later : Bool) (text rest : List ℕ) (sections : List SectionView)
     : Type 0 where
@@ -446,12 +385,6 @@ is_whole later rest sections =
     length rest == 0 && not (length sections == 0) && (not later || has_later sections)
 
 -- ---- the first bad line of a text that is not of sections alone
-
--- the last section has as many calls as it may have
-abbrev pub last_full : List SectionView → Bool
-last_full [] = false
-last_full (s ∷ []) = length s.entries == 65536
-last_full (s ∷ t ∷ sections) = last_full (t ∷ sections)
 
 -- and there are as many sections as a text may have
 abbrev pub is_full : List SectionView → Bool

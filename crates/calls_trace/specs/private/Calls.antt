@@ -1,13 +1,9 @@
 -- The calls of a section that are left.
-use Rattle.std.specs.Prelude.{ℕ, ◌≡◌, ◌≤◌, List, [], map, reverse}
-use Rattle.std.specs.String.{string_bytes}
-use Rattle.std.specs.declared.string.String.{String}
-use Rattle.std.specs.Global.{Global}
+use Rattle.std.specs.Prelude.{ℕ, ◌≤◌, List, []}
 use Rattle.domain_run.specs.declared.call.Call.{Call}
 use Rattle.domain_run.specs.declared.call.Call.TheVariants.{Admit, Regrade, Wake, Leave, Advance, Limit, Depart, Arrive}
 use Rattle.domain_run.specs.Domain.{IsLimit}
 use Rattle.call_book.specs.Limits.{IsNumber}
-use Rattle.call_book.specs.declared.section.Entry.{Entry}
 
 -- the name that a call gives where it is granted
 abbrev pub name_given : Call → List ℕ
@@ -71,11 +67,3 @@ pub record IsReady (c : Call) : Type 0 where
   pub soon : delay_given c ≤ 1000000000
   pub limited : IsLimit (limit_given c)
   pub short : ticks_given c ≤ 60000000
-
--- a text for each entry: that of the name that its call gives
-abbrev pub AreTexts : List Entry → List (String Global) → Type 0
-AreTexts entries texts = map string_bytes texts ≡ map (λ e. name_given e.call) entries
-
--- the last one lies first
-abbrev pub calls_left : List Entry → List Call
-calls_left entries = map (λ e. e.call) (reverse entries)

@@ -11,7 +11,6 @@ use Rattle.domain_run.specs.Tick.{sum_of}
 use Rattle.domain_run.specs.Sound.{IsAdmitted}
 use Rattle.domain_run.specs.Log.{LogView}
 use Rattle.domain_run.specs.Run.{run_of}
-use Rattle.call_book.specs.declared.section.Entry.{Entry}
 use Rattle.call_book.specs.SectionView.{SectionView}
 use Rattle.switch_text.specs.Names.{Names, named, HasName}
 use Rattle.switch_text.specs.Trace.{RunView, trace_of}
@@ -33,9 +32,6 @@ use Rattle.calls_trace.specs.declared.run_text.RunText.TheVariants.{Trace, Event
 use Rattle.calls_trace.specs.Replay.{names_of, no_names, calls_of}
 use Rattle.calls_trace.specs.Told.{domain_of, names_in, told_of, no_params, params_in, admitted}
 use Rattle.calls_trace.specs.Charted.{charted}
-
-abbrev pub section_view : ℕ → ℕ → List Entry → SectionView
-section_view cpus limit entries = record { cpus = cpus; limit = limit; entries = entries }
 
 -- the map gives these names
 abbrev pub Gives : Names → (ℕ → List ℕ) → Type 0

@@ -1,5 +1,5 @@
 use Rattle.std.proofs.Common.{◌≡◌, ◌++◌, take}
-use Rattle.call_book.specs.private.Reading.{entries_text}
+use Rattle.call_book.specs.ReadSoFar.{entries_text}
 use Rattle.call_book.proofs.writing.put_entries.Given as goal
 
 abbrev pub invariant-loop-entry : goal.invariant-loop-entry

@@ -9,18 +9,19 @@ use Rattle.calls_trace.proofs.trace.write_played.Goals as goal
 pub write_slices-requires-clause-few : goal.write_slices-requires-clause-few
 write_slices-requires-clause-few g c =
     let p = c.in_ok-playing.playing in
-    played_few c.args.section (rest_of p) c.requires.section c.in_ok-playing.ensures.rest
+    let k = c.requires.kept in
+    played_few k.section (rest_of p) k.is (c.in_ok-playing.ensures.rest k.section k.same)
 
 pub returns-in-Ok-clause-ok : goal.returns-in-Ok-clause-ok
-returns-in-Ok-clause-ok g c =
+returns-in-Ok-clause-ok g c = λ s is kept.
     let w : Side = side g.W.Write.contents c.args.writer.now c.write_slices.new.writer in
     let p = c.in_ok-playing.playing in
-    let same = played_is c.args.section (all_names p) (rest_of p) c.requires.section c.in_ok-playing.ensures.rest c.in_ok-playing.ensures.names in
+    let same = played_is s (all_names p) (rest_of p) is (c.in_ok-playing.ensures.rest s kept) (c.in_ok-playing.ensures.names s kept) in
     record { taken = subst (Appends w.before.bytes w.after.bytes) same c.in-Ok.ensures.ok; writes = c.in-Ok.ensures.faults }
 
 pub returns-clause-err : goal.returns-clause-err
-returns-clause-err g c =
+returns-clause-err g c = λ s is kept.
     let w : Side = side g.W.Write.contents c.args.writer.now c.write_slices.new.writer in
     let p = c.in_ok-playing.playing in
-    let same = played_is c.args.section (all_names p) (rest_of p) c.requires.section c.in_ok-playing.ensures.rest c.in_ok-playing.ensures.names in
+    let same = played_is s (all_names p) (rest_of p) is (c.in_ok-playing.ensures.rest s kept) (c.in_ok-playing.ensures.names s kept) in
     record { taken = subst (λ (t : List ℕ). TakesFront w.before.bytes w.after.bytes t c.in-Err.fault.written) same c.in-Err.ensures.err; writes = c.in-Err.ensures.faults }

@@ -1,0 +1,25 @@
+-- The runs of the sections that were read so far, as they are placed.
+use Rattle.std.proofs.Common.{◌≡◌, ℕ, ◌+◌, Bool, List, [], ◌∷◌, ◌++◌, map, sym, ap, ◌∙◌, arith}
+use Rattle.std.specs.Prelude.{sum_by}
+use Rattle.std.proofs.lemmas.List.{map-append}
+use Rattle.std.proofs.lemmas.List.Sums.{sum_by-cons}
+use Rattle.call_book.specs.SectionView.{SectionView}
+use Rattle.calls_trace.specs.declared.placed_run.PlacedRun.{PlacedRun}
+use Rattle.calls_trace.specs.private.Replaying.{IsRunOf, IsToldOf, PlacedView, view_of, view_at, views_from}
+use Rattle.calls_trace.proofs.Written.{view_is}
+
+views_push : (wanted : Bool) (base : ℕ) (done : List SectionView) (s : SectionView) → views_from wanted base (done ++ s ∷ []) ≡ views_from wanted base done ++ view_at wanted (base + sum_by (λ (t : SectionView). t.cpus) done) s ∷ []
+views_push wanted base [] s = ap (λ (b : ℕ). view_at wanted b s ∷ []) (omega arith)
+views_push wanted base (t ∷ done) s =
+    let sum = sum_by-cons (λ (x : SectionView). x.cpus) t done in
+    ap (λ (vs : List PlacedView). view_at wanted base t ∷ vs)
+    (views_push wanted (base + t.cpus) done s ∙ ap (λ (b : ℕ). views_from wanted (base + t.cpus) done ++ view_at wanted b s ∷ []) (omega (arith, sum)))
+
+pub views_one_more : (wanted : Bool) (runs : List PlacedRun) (r : PlacedRun) (done : List SectionView) (s : SectionView) → r.base ≡ sum_by (λ (t : SectionView). t.cpus) done → IsRunOf s r.run.state r.run.names → IsToldOf wanted s r.run.given r.run.log
+    → map view_of runs ≡ views_from wanted 0 done → map view_of (runs ++ r ∷ []) ≡ views_from wanted 0 (done ++ s ∷ [])
+views_one_more wanted runs r done s base run told so_far =
+    let from : r.base ≡ 0 + sum_by (λ (t : SectionView). t.cpus) done = omega (arith, base) in
+    map-append view_of runs (r ∷ [])
+    ∙ ap (λ (vs : List PlacedView). vs ++ view_of r ∷ []) so_far
+    ∙ ap (λ (v : PlacedView). views_from wanted 0 done ++ v ∷ []) (view_is wanted r s run told ∙ ap (λ (b : ℕ). view_at wanted b s) from)
+    ∙ sym (views_push wanted 0 done s)

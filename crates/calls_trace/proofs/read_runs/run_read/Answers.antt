@@ -1,0 +1,88 @@
+use Rattle.std.proofs.Common.{◌≡◌, false, true, ◌∷◌, [], Option, Ok, refl, ap, subst, ◌∙◌, arith, length-append}
+use Rattle.std.specs.Prelude.{IfSome}
+use Rattle.domain_run.specs.Domain.{Domain}
+use Rattle.domain_run.specs.Sound.{IsAdmitted}
+use Rattle.call_book.specs.Limits.{IsEntry}
+use Rattle.call_book.specs.Reader.{IsNextEntry, begun, with_entries}
+use Rattle.call_book.specs.declared.section.Entry.{Entry}
+use Rattle.call_book.proofs.Readers.{behind_none, section_within}
+use Rattle.calls_trace.proofs.ReadRuns.{run_more, told_more, none_told}
+use Rattle.calls_trace.proofs.Sections.{unheard}
+use Rattle.calls_trace.proofs.read_runs.run_read.Goals as goal
+
+pub open-requires-clause-cpus : goal.open-requires-clause-cpus
+open-requires-clause-cpus c =
+    let s = section_within c.requires.begun.text c.requires.begun.before (begun c.args.cpus c.args.limit) c.args.reader.now c.requires.begun.within in
+    (s.some_cpus, s.most_cpus)
+
+pub open-requires-clause-limit : goal.open-requires-clause-limit
+open-requires-clause-limit c =
+    let s = section_within c.requires.begun.text c.requires.begun.before (begun c.args.cpus c.args.limit) c.args.reader.now c.requires.begun.within in
+    (s.least_limit, s.most_limit)
+
+pub loop-run-init : goal.loop-run-init
+loop-run-init c =
+    let r = c.in_ok-run.run' in
+    let made = c.in_ok-run.ensures in
+    record {
+      so_far = λ text before w. record {
+        section = begun c.args.cpus c.args.limit;
+        same_cpus = refl;
+        within = w;
+        run = record {
+          domain = made.state;
+          called = made.names;
+          all_named = λ n h. let no : false ≡ true = subst (λ (d : Domain). IsAdmitted d.used n) made.state h in absurd cc;
+        };
+        told = record { params = made.given; alike = made.wanted; told = unheard r.log c.args.wanted made.wanted made.untold ∙ none_told c.args.wanted };
+        early = let time = ap (λ (d : Domain). d.time) made.state in omega (arith, time);
+      };
+      never_more = omega arith;
+    }
+
+pub make-requires-clause-call : goal.make-requires-clause-call
+make-requires-clause-call c = (subst (λ (o : Option Entry). IfSome o IsEntry) c.in-Some.is c.in_ok-entry.ensures.entry).call
+
+pub make-requires-clause-early : goal.make-requires-clause-early
+make-requires-clause-early c =
+    let b = c.requires.begun in
+    let m = c.loop-run.invariant.so_far b.text b.before b.within in
+    let few = (section_within b.text b.before m.section c.loop-run.reader m.within).most_entries in
+    omega (arith, m.early, few)
+
+pub make-requires-clause-named : goal.make-requires-clause-named
+make-requires-clause-named c = (c.loop-run.invariant.so_far c.requires.begun.text c.requires.begun.before c.requires.begun.within).run.all_named
+
+pub loop-run-preserved : goal.loop-run-preserved
+loop-run-preserved c =
+    let i = c.loop-run.invariant in
+    let was = c.loop-run.run in
+    let is = c.make.new.self in
+    let e = c.in-Some.entry in
+    let made = c.in_ok-make.ensures in
+    record {
+      so_far = λ text before w.
+          let m = i.so_far text before w in
+          record {
+            section = with_entries m.section (e ∷ []);
+            same_cpus = m.same_cpus;
+            within = subst (λ (o : Option Entry). IsNextEntry text before m.section c.next_of.new.reader (Ok o)) c.in-Some.is (c.in_ok-entry.ensures.next text before m.section m.within);
+            run = run_more m.section e was.state is.state was.names is.names m.run made.state made.names made.named;
+            told = told_more c.args.wanted m.section e was.state was.given is.given was.log is.log m.run.domain m.told made.given made.told;
+            early = let early = m.early in omega (arith, early, made.time, length-append m.section.entries (e ∷ []));
+          };
+      never_more = omega (arith, i.never_more, c.next_of.ensures.never_more);
+    }
+
+pub returns-clause-run : goal.returns-clause-run
+returns-clause-run c = λ text before w.
+    let m = c.loop-run.invariant.so_far text before w in
+    let reader = c.next_of.new.reader in
+    record {
+      section = m.section;
+      same_cpus = m.same_cpus;
+      is = section_within text before m.section c.loop-run.reader m.within;
+      behind = behind_none text before m.section reader c.in_ok-entry.field-0 c.in_default.is (c.in_ok-entry.ensures.next text before m.section m.within);
+      run = m.run;
+      told = m.told;
+    }

@@ -1,0 +1,82 @@
+-- Calls that are kept until they are made.
+use Rattle.std.specs.Prelude.{ℕ, ◌≡◌, List, [], ◌∷◌, ◌++◌, map, reverse, All}
+use Rattle.std.specs.String.{string_bytes}
+use Rattle.domain_run.specs.declared.call.Call.{Call}
+use Rattle.domain_run.specs.declared.call.Call.TheVariants as calls
+use Rattle.call_book.specs.SectionView.{SectionView}
+use Rattle.call_book.specs.Spelling.{spelling}
+use Rattle.call_book.specs.Limits.{IsSection, AreRead}
+use Rattle.call_book.specs.Reader.{ReaderView, IsBehind, IsWithin}
+use Rattle.calls_trace.specs.Replay.{calls_of}
+use Rattle.calls_trace.specs.declared.kept.Kept.{Kept}
+use Rattle.calls_trace.specs.declared.kept.Kept.TheVariants.{Wake, Leave, Depart, Advance, Long}
+use Rattle.calls_trace.specs.declared.kept_section.KeptSection.{KeptSection}
+use Rattle.calls_trace.specs.private.Calls.{IsReady, name_given}
+
+-- the call that is kept
+abbrev pub call_of : Kept → Call
+call_of (Wake number) = calls.Wake number
+call_of (Leave number) = calls.Leave number
+call_of (Depart number) = calls.Depart number
+call_of (Advance ticks) = calls.Advance ticks
+call_of (Long spelled) = spelled.value.call
+
+-- the text that is kept beside it
+abbrev pub text_of : Kept → List ℕ
+text_of (Wake number) = []
+text_of (Leave number) = []
+text_of (Depart number) = []
+text_of (Advance ticks) = []
+text_of (Long spelled) = string_bytes spelled.value.text
+
+-- for how many names it needs room
+abbrev pub room_of : Kept → ℕ
+room_of (Wake number) = 0
+room_of (Leave number) = 0
+room_of (Depart number) = 0
+room_of (Advance ticks) = 0
+room_of (Long spelled) = 1
+
+-- the call can be made, and the text is that of the name that it gives
+pub record IsKept (k : Kept) : Type 0 where
+  pub ready : IsReady (call_of k)
+  pub spelled : text_of k ≡ name_given (call_of k)
+
+-- the calls that are left, where the last one lies first
+abbrev pub calls_left : List Kept → List Call
+calls_left kept = map call_of (reverse kept)
+
+-- the domain and the calls of a section
+pub record IsKeptSection (s : SectionView) (k : KeptSection) : Type 0 where
+  pub same_cpus : k.cpus ≡ s.cpus
+  pub same_limit : k.limit ≡ s.limit
+  pub same_calls : map call_of k.calls.items ≡ calls_of s
+  pub kept : All IsKept k.calls.items
+
+-- those of some section
+pub record KeepsSection (k : KeptSection) : Type 0 where
+  pub section : SectionView
+  pub is : IsSection section
+  pub same : IsKeptSection section k
+
+-- the calls that were read so far of a section are kept
+pub record IsKeptSoFar (text : List ℕ) (before : List SectionView) (reader : ReaderView)
+    (k : KeptSection) : Type 0 where
+  pub section : SectionView
+  pub within : IsWithin text before section reader
+  pub same : IsKeptSection section k
+
+-- a section is read to its end, and its calls are kept
+pub record IsReadSection (text : List ℕ) (before : List SectionView) (reader : ReaderView)
+    (k : KeptSection) : Type 0 where
+  pub section : SectionView
+  pub is : IsSection section
+  pub behind : IsBehind text (before ++ section ∷ []) reader
+  pub same : IsKeptSection section k
+
+-- the text spells one section, and its calls are kept
+pub record IsOnly (text : List ℕ) (k : KeptSection) : Type 0 where
+  pub section : SectionView
+  pub read : AreRead (section ∷ [])
+  pub spelled : text ≡ spelling (section ∷ [])
+  pub same : IsKeptSection section k

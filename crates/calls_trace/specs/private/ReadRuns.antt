@@ -1,0 +1,55 @@
+-- Runs of which each call is made as soon as it is read.
+use Rattle.std.specs.Prelude.{ℕ, ◌≡◌, ◌≤◌, ◌*◌, Bool, List, [], ◌∷◌, ◌++◌, length, map, All, sum_by}
+use Rattle.call_book.specs.SectionView.{SectionView}
+use Rattle.call_book.specs.Spelling.{spelling}
+use Rattle.call_book.specs.Limits.{IsSection, AreRead}
+use Rattle.call_book.specs.Reader.{ReaderView, IsBehind, IsWithin, begun}
+use Rattle.calls_trace.specs.declared.named_run.RunWithNames.{RunWithNames}
+use Rattle.calls_trace.specs.declared.placed_run.PlacedRun.{PlacedRun}
+use Rattle.calls_trace.specs.private.Replaying.{IsRunOf, IsToldOf, IsPlaced, view_of, views_from}
+
+-- a reader of some text has begun this section, and read no entry of it
+pub record IsBegun (cpus limit : ℕ) (reader : ReaderView) : Type 0 where
+  pub text : List ℕ
+  pub before : List SectionView
+  pub within : IsWithin text before (begun cpus limit) reader
+
+-- the calls that were read so far of a section are made
+pub record IsMade (text : List ℕ) (before : List SectionView) (cpus limit : ℕ) (wanted : Bool)
+    (reader : ReaderView) (r : RunWithNames) : Type 0 where
+  pub section : SectionView
+  pub same_cpus : section.cpus ≡ cpus
+  pub within : IsWithin text before section reader
+  pub run : IsRunOf section r.state r.names
+  pub told : IsToldOf wanted section r.given r.log
+  pub early : r.state.time ≤ length section.entries * 60000000
+
+-- the section is read to its end, and this is its run
+pub record IsReadRun (text : List ℕ) (before : List SectionView) (cpus : ℕ) (wanted : Bool)
+    (reader : ReaderView) (r : RunWithNames) : Type 0 where
+  pub section : SectionView
+  pub same_cpus : section.cpus ≡ cpus
+  pub is : IsSection section
+  pub behind : IsBehind text (before ++ section ∷ []) reader
+  pub run : IsRunOf section r.state r.names
+  pub told : IsToldOf wanted section r.given r.log
+
+-- the runs of the sections that were read so far
+pub record ArePlacedSoFar (text : List ℕ) (wanted : Bool) (reader : ReaderView)
+    (runs : List PlacedRun) (base : ℕ) : Type 0 where
+  pub done : List SectionView
+  pub behind : IsBehind text done reader
+  pub views : map view_of runs ≡ views_from wanted 0 done
+  pub placed : All IsPlaced runs
+  pub count : length runs ≡ length done
+  pub base_is : base ≡ sum_by (λ s. s.cpus) done
+  pub inside : base ≤ 64 * length done
+
+-- the text spells sections, and these are their runs
+pub record AreReadRuns (text : List ℕ) (wanted : Bool) (runs : List PlacedRun) : Type 0 where
+  pub sections : List SectionView
+  pub read : AreRead sections
+  pub spelled : text ≡ spelling sections
+  pub views : map view_of runs ≡ views_from wanted 0 sections
+  pub placed : All IsPlaced runs
+  pub few : length runs ≤ 8
