@@ -77,7 +77,7 @@ still_away chosen old new movers away is i c mark at = elim (cases_Bool (stands 
 -- ---- WHO COMES
 
 -- who stands after others have been seated is one of them or stood before
-came_from : (cs : List Candidate) (places : Places) (cpu n : ℕ) → get_or (seated_all cs places) cpu None ≡ Some n → (get_or places cpu None ≡ Some n) ⊎ (list_any (λ c. eqb c.number n) cs ≡ true)
+pub came_from : (cs : List Candidate) (places : Places) (cpu n : ℕ) → get_or (seated_all cs places) cpu None ≡ Some n → (get_or places cpu None ≡ Some n) ⊎ (list_any (λ c. eqb c.number n) cs ≡ true)
 came_from [] places cpu n on = inl on
 came_from (c ∷ cs) places cpu n on =
     elim (came_from cs (seated places c) cpu n on) [

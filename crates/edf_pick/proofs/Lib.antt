@@ -1,7 +1,10 @@
 pub mod Before
 pub mod CallerLemmas
+pub mod Chosen
 pub mod Following
+pub mod Held
 pub mod Homing
+pub mod Left
 pub mod Listing
 pub mod AtHome
 pub mod Marked
@@ -13,8 +16,12 @@ pub mod Resting
 pub mod Rising
 pub mod Scheduling
 pub mod Searching
+pub mod Settled
+pub mod Sorting
 pub mod Spans
 pub mod Standing
+pub mod Stays
 pub mod Starting
 pub mod Still
+pub mod Waits
 pub mod Words

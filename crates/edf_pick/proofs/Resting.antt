@@ -7,10 +7,10 @@ use Rattle.std.proofs.lemmas.List.Elements.{All-map}
 use Rattle.std.proofs.lemmas.List.Sums.{position_or_len_is}
 use Rattle.edf_pick.specs.declared.candidate.Candidate.{Candidate}
 use Rattle.edf_pick.specs.declared.moves.Moved.{Moved}
-use Rattle.edf_pick.specs.Changes.{ChangesView, Follows, stands_home, home_on, homed}
+use Rattle.edf_pick.specs.Changes.{home_on, homed}
 use Rattle.edf_pick.specs.Moves.{same_occupant, moved_from}
 use Rattle.edf_pick.specs.Places.{Places, AreSingle, is_task, stands}
-use Rattle.edf_pick.specs.Schedule.{IsAtHome, IsSchedule, homed_on, homed_by}
+use Rattle.edf_pick.specs.Schedule.{IsAtHome, homed_on, homed_by}
 use Rattle.edf_pick.proofs.CallerLemmas.{IsNumbered, numbered_map}
 use Rattle.edf_pick.proofs.Marked.{task_is, occupied, stands_here}
 use Rattle.edf_pick.proofs.Moving.{same_is}
@@ -125,16 +125,3 @@ module _ (before after : Places) (len : length after ≡ length before) (was : A
 
   pub all_homes : (queue : List Candidate) → All (IsAtHome before) queue → map (homed_by after (moved_from 0 before after)) queue ≡ map (homed after) queue
   all_homes queue homes = map_same_on (homed_by after (moved_from 0 before after)) (homed after) queue (λ k d h. homes_of (get_or queue k d) (homes k d h))
-
-  at_home : (c : Candidate) → IsAtHome after (homed after c)
-  at_home c there =
-      let number = number_homed c (position (is_task c.number) after) in
-      let w = stands_where c.number after (ap (λ (n : ℕ). stands n after) (sym number) ∙ there) in
-      ap (stands_home after) (ap (home_on c) (on_position after w.0 c.number single w.1)) ∙ ap (is_task c.number) w.1 ∙ eq-eqb c.number c.number refl
-
-  pub picked_schedule : (queue : List Candidate) (changes : ChangesView) → IsNumbered queue → Follows (map (homed after) queue) after changes → IsSchedule (map (homed after) queue) after changes
-  picked_schedule queue changes numbered follows = record {
-    numbered = numbered_map (homed after) (λ c. c.number) (λ c. number_homed c (position (is_task c.number) after)) queue numbered;
-    homed = All-map (IsAtHome after) (homed after) queue (λ k d h. at_home (get_or queue k d));
-    follows = follows;
-  }

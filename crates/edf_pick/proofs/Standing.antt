@@ -63,7 +63,7 @@ placed_single cpus queue before rising single =
     subst (λ (ps : Places). AreSingle ps) (picked cpus queue before rising) (single_all chosen (map (staying chosen) before) (single_kept chosen before single))
 
 -- HOW MANY STAND
-abbrev busy : Places → ℕ
+abbrev pub busy : Places → ℕ
 busy [] = 0
 busy (o ∷ places) = taken o + busy places
 
@@ -189,7 +189,7 @@ some_free places few =
       | inr h ↦ absurd (let full : busy places ≡ length places = all_busy places (λ cpu l. fails_before_first (λ (o : Option ℕ). is_none o) places cpu None (omega (arith, l, h))) in omega (arith, full, few))
     ]
 
-some_seat : (places : Places) (c : Candidate) → busy places < length places → (cpu : ℕ) × (seat_of places c ≡ Some cpu)
+pub some_seat : (places : Places) (c : Candidate) → busy places < length places → (cpu : ℕ) × (seat_of places c ≡ Some cpu)
 some_seat places c few =
     elim (cases_Bool (is_free (slice_get places c.home))) [
       | inl free ↦ (c.home, ap (λ (b : Bool). cond b (Some c.home) (position (λ o. is_none o) places)) free)

@@ -1,8 +1,8 @@
 -- The ready tasks of a root domain and who stands on its CPUs, as one (own).
-use Rattle.std.specs.Prelude.{ℕ, ◌≡◌, ◌≢◌, true, if◌then◌else◌, List, fold, All, AllPairs, IsTrue, None, slice_index_or}
+use Rattle.std.specs.Prelude.{ℕ, ◌≡◌, true, if◌then◌else◌, List, fold, IsTrue, None, slice_index_or}
 use Rattle.edf_pick.specs.declared.candidate.Candidate.{Candidate}
 use Rattle.edf_pick.specs.declared.moves.Moved.{Moved}
-use Rattle.edf_pick.specs.Changes.{ChangesView, stands_home, Follows}
+use Rattle.edf_pick.specs.Changes.{stands_home}
 use Rattle.edf_pick.specs.Places.{Places, is_task, stands}
 
 pub record ScheduleView : Type 0 where
@@ -16,13 +16,6 @@ pub record ScheduleView : Type 0 where
 -- a task that stands does so on the CPU to which it belongs
 abbrev pub IsAtHome : Places → Candidate → Type 0
 IsAtHome places c = IsTrue (stands c.number places) → stands_home places c ≡ true
-
--- no two tasks have one number, who stands is at home, and it is known what has changed since the
--- last choice
-pub record IsSchedule (queue : List Candidate) (places : Places) (changes : ChangesView) : Type 0 where
-  pub numbered : AllPairs (λ a b. a.number ≢ b.number) queue
-  pub homed : All (IsAtHome places) queue
-  pub follows : Follows queue places changes
 
 -- the task that stands on this CPU belongs to it
 abbrev pub homed_on : Places → ℕ → Candidate → Candidate

@@ -22,7 +22,7 @@ use crate::seats::{occupy, seat_of, vacate};
 
 // Nobody stands on the marked CPUs any more.
 #[inline(always)]
-fn clear(places: &mut Vec<Option<u32>>, left: u64, taken: u64) -> u64
+pub(crate) fn clear(places: &mut Vec<Option<u32>>, left: u64, taken: u64) -> u64
     requires few { vec_len places.old ≤ 64 }
     requires within { (cpu : ℕ) → bit_at left cpu ≡ 1 → cpu < vec_len places.old }
     requires taken { AreTaken places.old.items taken }

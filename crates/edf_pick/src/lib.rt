@@ -14,18 +14,24 @@
 mod at_home;
 mod candidate;
 mod changes;
+mod choosing;
+mod leaving;
 mod listed;
 pub mod marks;
+mod movers;
 mod moves;
 mod order;
 mod parts;
 mod picking;
 mod placement;
 mod queue;
+mod renew;
 mod room;
 mod schedule;
 mod seats;
+mod settling;
 mod single;
+mod staying;
 
 pub use candidate::Candidate;
 pub use moves::Moved;

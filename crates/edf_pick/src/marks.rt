@@ -1,6 +1,6 @@
 //! A word with a mark, a set bit, for each of 64 places.
 
-ghost use Rattle.std.specs.Prelude.{ℕ, ◌≡◌, ◌≢◌, ◌<◌, ◌≤◌};
+ghost use Rattle.std.specs.Prelude.{ℕ, ◌≡◌, ◌≢◌, ◌<◌, ◌≤◌, ◌==◌};
 ghost use Rattle.std.specs.Int.{bit_at};
 
 /// With a mark at this place.
@@ -20,6 +20,15 @@ pub fn without(marks: u64, place: usize) -> u64
     ensures fewer { bit_at marks place ≡ 1 → result < marks }
 {
     marks & !(1 << place)
+}
+
+/// Whether there is a mark at this place.
+#[inline(always)]
+pub(crate) fn has(marks: u64, place: usize) -> bool
+    requires { place < 64 }
+    ensures { result ≡ (bit_at marks place == 1) }
+{
+    (marks >> place) & 1 == 1
 }
 
 /// Those of one word that the other one has not.

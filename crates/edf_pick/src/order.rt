@@ -27,7 +27,7 @@ pub(crate) fn is_before(a: &Candidate, b: &Candidate) -> bool
     key(a) < key(b)
 }
 
-fn is_same(a: &Candidate, b: &Candidate) -> bool
+pub(crate) fn is_same(a: &Candidate, b: &Candidate) -> bool
     ensures { result ≡ order.is_same a.now b.now }
 {
     a.deadline == b.deadline && a.number == b.number

@@ -1,10 +1,11 @@
 //! Who stands on each CPU, and how that moves on by one tick.
 
-ghost use Rattle.std.specs.Prelude.{◌≡◌, ◌≢◌, ◌<◌, ◌≤◌, ◌∷◌, [], All, AllPairs, IfOk, None, length, map, replicate, take, vec_len, vec_capacity};
+ghost use Rattle.std.specs.Prelude.{◌≡◌, ◌≢◌, ◌<◌, ◌≤◌, ◌+◌, ◌∷◌, [], false, All, AllPairs, IfOk, None, length, map, replicate, take, vec_len, vec_capacity};
 ghost use Rattle.edf_pick.specs.private.First.{AreLeaving, AreMovers};
 ghost use Rattle.edf_pick.specs.Changes.{homed};
 ghost use Rattle.edf_pick.specs.Moves.{moved_from};
-ghost use Rattle.edf_pick.specs.Places.{AreSingle, AreTaken, placed};
+ghost use Rattle.edf_pick.specs.Places.{AreSingle, AreTaken, placed, stands};
+ghost use Rattle.edf_pick.specs.private.Waiting.{held, AreOn, AreSeated};
 ghost use Rattle.edf_pick.specs.Schedule.{IsAtHome};
 
 use crate::at_home::{Marks, marks_of_all, pick_marked};
@@ -12,6 +13,8 @@ use crate::candidate::Candidate;
 use crate::moves::Moves;
 use crate::picking::pick_from;
 use crate::queue::Queue;
+use crate::settling::move_on;
+use crate::staying::Staying;
 use std::alloc::{AllocError, Global};
 use std::marker::Model;
 
@@ -96,6 +99,14 @@ impl Placement {
         self.occupants.as_slice()
     }
 
+    /// A word with a mark for each CPU on which somebody stands.
+    #[inline(always)]
+    pub(crate) fn taken(&self) -> u64
+        ensures { AreTaken self.now result }
+    {
+        self.taken
+    }
+
     /// What a choice finds by a look at each chosen task.
     #[inline(always)]
     pub(crate) fn marks_of_all(&self, queue: &[Candidate]) -> Marks
@@ -148,6 +159,28 @@ pub(crate) fn pick_by_marks(
     // For the prover alone: a look at the queue brings what its type keeps.
     let _ = queue.as_slice();
     let changed = pick_marked(&mut placement.occupants, queue, marks, &mut placement.taken);
+    let occupants = placement.occupants.as_slice();
+    moves.list(&mut placement.before, occupants, changed);
+}
+
+/// As [`crate::settling::move_on`], and lists the CPUs that another one has.
+#[inline(always)]
+pub(crate) fn settle(
+    placement: &mut Placement,
+    staying: &mut Staying,
+    movers: &[Candidate],
+    moves: &mut Moves,
+)
+    requires len { length staying.old ≡ length placement.old }
+    requires free { length (held staying.old) + length movers.now ≤ length staying.old }
+    requires numbered { AllPairs (λ a b. a.number ≢ b.number) movers.now }
+    requires on { AreOn staying.old placement.old }
+    requires away { All (λ c. stands c.number placement.old ≡ false) movers.now }
+    ensures seated { AreSeated staying.old movers.now staying.new placement.new }
+    ensures moves { moves.new ≡ moved_from 0 placement.old placement.new }
+    ensures single { AreSingle placement.old }
+{
+    let changed = move_on(&mut placement.occupants, staying, movers, &mut placement.taken);
     let occupants = placement.occupants.as_slice();
     moves.list(&mut placement.before, occupants, changed);
 }

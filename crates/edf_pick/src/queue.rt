@@ -1,6 +1,6 @@
 //! The ready tasks in the order of the choice.
 
-ghost use Rattle.std.specs.Prelude.{◌≡◌, ◌<◌, ◌≤◌, ◌==◌, true, false, [], length, is_some, slice_index_or, slice_set, Contains, IfOk, IfSome};
+ghost use Rattle.std.specs.Prelude.{◌≡◌, ◌<◌, ◌≤◌, ◌==◌, ◌∷◌, true, false, [], length, is_some, slice_index_or, slice_set, Contains, IfOk, IfSome};
 ghost use Rattle.edf_pick.specs.declared.candidate.Candidate.{Candidate};
 ghost use Rattle.edf_pick.specs.Order as order;
 
@@ -116,6 +116,18 @@ impl Queue {
         let entry = self.room.as_slice()[place];
         self.room.remove(place);
         Some(entry)
+    }
+
+    /// Takes out the first.
+    #[inline(always)]
+    pub(crate) fn take_first(&mut self) -> Candidate
+        requires { 0 < length self.old }
+        ensures first { self.old ≡ result ∷ self.new }
+        ensures few { length self.new < 256 }
+    {
+        let c = self.room.as_slice()[0];
+        self.room.remove_first();
+        c
     }
 
     /// The task at this place belongs to this CPU from now on. No other task is touched.

@@ -192,6 +192,18 @@ impl Room {
         }
     }
 
+    /// The first stands there no more.
+    #[inline(always)]
+    pub(crate) fn remove_first(&mut self)
+        requires is { spec.IsRoom self.old }
+        requires some { 0 < length (spec.tasks_in self.old) }
+        ensures is { spec.IsRoom self.new }
+        ensures tasks { spec.tasks_in self.new ≡ remove (spec.tasks_in self.old) 0 }
+        ensures capacity { vec_capacity self.new.tasks ≡ vec_capacity self.old.tasks }
+    {
+        self.front += 1;
+    }
+
     /// The task at this place belongs to this CPU from now on.
     #[inline(always)]
     pub(crate) fn rehome(&mut self, place: usize, cpu: u32)

@@ -9,32 +9,42 @@ ghost use Rattle.edf_pick.specs.Places.{placed};
 ghost use Rattle.edf_pick.specs.Schedule as spec;
 
 use crate::candidate::Candidate;
-use crate::changes::{Changes, pick_changed};
+use crate::leaving::take_out;
+use crate::movers::Movers;
 use crate::moves::{Moved, Moves};
 use crate::placement::Placement;
 use crate::queue::Queue;
+use crate::renew::pick_waiting;
+use crate::staying::Staying;
 use std::alloc::{AllocError, Global};
 use std::marker::Model;
 
-/// The ready tasks of a root domain in the order of the choice, who stands on each of its CPUs, and
-/// what has changed among the tasks since the last choice. One where two tasks have one number, where
-/// a task stands away from home, or where a change is not told, cannot be built.
+/// The ready tasks of a root domain and who stands on each of its CPUs. Only those who wait stand in a
+/// queue, apart from those who stay where they stand: contracts see both as one queue in the order of
+/// the choice. One where two tasks have one number, or where a task stands away from home, cannot be
+/// built.
 #[derive(Drop)]
 pub struct Schedule {
-    queue: Queue,
+    waiting: Queue,
+    staying: Staying,
+    movers: Movers,
     placement: Placement,
-    changes: Changes,
     moves: Moves,
 }
 
 impl Model for Schedule {
-    ghost use Rattle.edf_pick.specs.Schedule.{ScheduleView, IsSchedule};
+    ghost use Rattle.edf_pick.specs.Schedule.{ScheduleView};
+    ghost use Rattle.edf_pick.specs.private.Waiting.{all_of, IsWaiting};
 
     ghost Value = { ScheduleView };
 
-    ghost view = { λ s. record { queue = s.queue; places = s.placement; moves = s.moves } };
+    ghost view = { λ s. record {
+      queue = all_of s.staying s.waiting;
+      places = s.placement;
+      moves = s.moves;
+    } };
 
-    ghost invariant = { λ s. IsSchedule s.queue s.placement s.changes };
+    ghost invariant = { λ s. IsWaiting s.staying s.waiting s.placement };
 }
 
 impl Schedule {
@@ -46,9 +56,10 @@ impl Schedule {
             (λ s. s ≡ record { queue = []; places = replicate cpus None; moves = [] }) }
     {
         Ok(Schedule {
-            queue: Queue::open(alloc)?,
+            waiting: Queue::open(alloc)?,
+            staying: Staying::open(cpus),
+            movers: Movers::open(alloc)?,
             placement: Placement::open(alloc, cpus)?,
-            changes: Changes::open(alloc)?,
             moves: Moves::open(alloc)?,
         })
     }
@@ -77,8 +88,7 @@ impl Schedule {
         requires homed { spec.IsAtHome self.old.places c }
         ensures { self.new ≡ record self.old { queue = order.with_candidate c self.old.queue } }
     {
-        let place = self.queue.put(c);
-        self.changes.come(&c, place);
+        self.waiting.insert(c);
     }
 
     /// Takes out the task of the deadline and the number of `c`, and answers whether it was there.
@@ -88,31 +98,25 @@ impl Schedule {
             ≡ record self.old { queue = order.without_candidate c.now self.old.queue } }
         ensures there { result ≡ order.has_candidate c.now self.old.queue }
     {
-        let Some(entry) = self.queue.take(c) else {
-            return false;
-        };
-        self.changes.go(&entry);
-        true
+        take_out(&mut self.waiting, &mut self.staying, c)
     }
 
-    /// The choice of the next tick and its placement, by what has changed since the last one. As
-    /// many of the first tasks of the queue are chosen as there are CPUs (global EDF:
-    /// sched-deadline.rst, "Main algorithm"; ties and the placement are own). A chosen task stays
-    /// where it stands; the others, in the order of the queue, go to the CPU to which they belong
-    /// where that is free, else to the lowest free one. Each task that stands then belongs to its
-    /// CPU. Takes no memory.
+    /// The choice of the next tick and its placement, by a look at those who wait alone. As many of
+    /// the first tasks of the queue are chosen as there are CPUs (global EDF: sched-deadline.rst,
+    /// "Main algorithm"; ties and the placement are own). A chosen task stays where it stands; the
+    /// others, in the order of the queue, go to the CPU to which they belong where that is free,
+    /// else to the lowest free one. Each task that stands then belongs to its CPU. Takes no memory.
     pub fn pick(&mut self)
         ensures places { self.new.places
             ≡ placed (length self.old.places) self.old.queue self.old.places }
         ensures queue { self.new.queue ≡ map (homed self.new.places) self.old.queue }
         ensures moves { self.new.moves ≡ moved_from 0 self.old.places self.new.places }
     {
-        // For the prover alone: a look at the queue brings what its type keeps.
-        let _ = self.queue.as_slice();
-        pick_changed(
+        pick_waiting(
+            &mut self.waiting,
+            &mut self.staying,
+            &mut self.movers,
             &mut self.placement,
-            &mut self.queue,
-            &mut self.changes,
             &mut self.moves,
         );
     }

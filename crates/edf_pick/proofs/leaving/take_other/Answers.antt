@@ -1,0 +1,36 @@
+use Rattle.std.proofs.Common.{◌≡◌, ◌≢◌, ◌++◌, ◌∙◌, ℕ, List, Option, true, false, Some, None, get_or, sym, ap, subst}
+use Rattle.edf_pick.specs.declared.candidate.Candidate.{Candidate}
+use Rattle.edf_pick.specs.Order.{has_candidate, without_candidate}
+use Rattle.edf_pick.specs.private.Waiting.{held, HasLeft}
+use Rattle.edf_pick.proofs.CallerLemmas.{IsNumbered}
+use Rattle.edf_pick.proofs.Left.{wait_left}
+use Rattle.edf_pick.proofs.Rising.{without_absent}
+use Rattle.edf_pick.proofs.leaving.take_other.Goals as goal
+use Rattle.edf_pick.proofs.leaving.take_other.Goals.{In_default}
+
+-- nobody has gone
+none : (c : In_default) → has_candidate c.args.c.now c.args.waiting.now ≡ false
+none c = sym c.in_default.ensures.there
+
+same : (c : In_default) → c.take.new.self ≡ c.args.waiting.now
+same c = c.take.ensures.removed ∙ without_absent c.args.c.now c.args.waiting.now (none c)
+
+pub take_elsewhere-requires-clause-numbered : goal.take_elsewhere-requires-clause-numbered
+take_elsewhere-requires-clause-numbered c = subst (λ (xs : List Candidate). IsNumbered (held c.args.staying.now ++ xs)) (sym (same (goal.at.take_elsewhere-requires-clause-numbered c).In_default)) c.requires.numbered
+
+pub take_elsewhere-requires-clause-absent : goal.take_elsewhere-requires-clause-absent
+take_elsewhere-requires-clause-absent c =
+    let k = (goal.at.take_elsewhere-requires-clause-absent c).In_default in
+    ap (λ (xs : List Candidate). has_candidate c.args.c.now xs) (same k) ∙ none k
+
+pub returns-in_default : goal.returns-in_default
+returns-in_default c =
+    let k = (goal.at.returns-in_default c).In_default in
+    let stays = c.args.staying.now in
+    let now = c.take_elsewhere.new.staying in
+    record { left = subst (λ (xs : List Candidate). HasLeft c.args.c.now stays c.args.waiting.now now xs c.take_elsewhere.result) (sym (same k))
+        (subst (λ (xs : List Candidate). HasLeft c.args.c.now stays xs now xs c.take_elsewhere.result) (same k) c.take_elsewhere.ensures.left); }
+
+pub returns : goal.returns
+returns c = record { left = subst (λ (xs : List Candidate). HasLeft c.args.c.now c.args.staying.now c.args.waiting.now c.args.staying.now xs true) (sym c.take.ensures.removed)
+    (wait_left c.args.c.now c.in-Some._entry c.args.staying.now c.args.waiting.now c.requires.numbered c.in-Some.ensures.entry c.in-Some.ensures.same (sym c.in-Some.ensures.there)); }
