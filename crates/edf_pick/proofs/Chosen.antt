@@ -1,27 +1,26 @@
 -- The choice, one task after another.
-use Rattle.std.proofs.Common.{◌≡◌, ◌≢◌, ◌<◌, ◌≤◌, ◌+◌, ◌*◌, ◌^◌, ◌⊎◌, ◌++◌, ℕ, zero, suc, Bool, true, false, cond, eqb, Option, Some, None, List, [], ◌∷◌, length, get_or, set, refl, sym, ap, ◌∙◌, subst, arith, inl, inr, append_assoc, append-nil, length-append, eq-eqb}
-use Rattle.std.specs.Prelude.{All, Contains, is_some}
-use Rattle.std.specs.List.{sum_by}
+use Rattle.std.proofs.Common.{◌≡◌, ◌≢◌, ◌<◌, ◌≤◌, ◌+◌, ◌*◌, ◌^◌, ◌⊎◌, ◌++◌, ℕ, true, false, cond, Option, Some, None, List, [], ◌∷◌, length, get_or, set, refl, sym, ap, ◌∙◌, subst, arith, inl, inr, append_assoc, length-append, eq-eqb}
+use Rattle.std.specs.Prelude.{All, is_some}
 use Rattle.std.specs.List.Sorted.{IsPermutation}
 use Rattle.std.proofs.lemmas.Bool.{cases_eq, cases_Bool}
 use Rattle.std.proofs.lemmas.List.{get_or_past, get_or-set_same, get_or-set_other, length-set}
-use Rattle.std.proofs.lemmas.List.Elements.{All-nil, All-cons, All-head, All-tail, All-weaker, All-append, All-contains, Contains-get_or, Contains-append_left, Contains-append_right}
+use Rattle.std.proofs.lemmas.List.Elements.{All-nil, All-cons, All-head, All-tail, All-weaker, All-append, Contains-get_or, Contains-append_right}
 use Rattle.std.proofs.lemmas.List.Kept.{AllPairs-cons}
 use Rattle.std.proofs.lemmas.List.Sums.{sum_by-append, sum_by-cons}
 use Rattle.std.proofs.lemmas.List.Sorted.{IsPermutation-refl, IsPermutation-sym, IsPermutation-trans, IsPermutation-cons, IsPermutation-insert, IsPermutation-middle, IsPermutation-append_left, IsPermutation-append_right, sum_by-IsPermutation}
 use Rattle.edf_pick.specs.declared.candidate.Candidate.{Candidate}
 use Rattle.edf_pick.specs.Choice.{is_before}
-use Rattle.edf_pick.specs.Order.{IsRising, is_same, has_candidate, with_candidate}
+use Rattle.edf_pick.specs.Order.{IsRising, has_candidate, with_candidate}
 use Rattle.edf_pick.specs.Places.{Places, is_task, stands}
 use Rattle.edf_pick.specs.Schedule.{IsAtHome}
-use Rattle.edf_pick.specs.private.Choosing.{chosen_stays, chosen_movers, IsChoosing, IsChosen, AreAll, AreBefore, total}
+use Rattle.edf_pick.specs.private.Choosing.{chosen_stays, chosen_movers, IsChoosing, IsChosen, AreBefore, total}
 use Rattle.edf_pick.specs.private.First.{is_home}
 use Rattle.edf_pick.specs.private.Staying.{bare_key}
-use Rattle.edf_pick.specs.private.Waiting.{held, staying_on, AreOn, IsWaiting}
+use Rattle.edf_pick.specs.private.Waiting.{held, AreOn, IsWaiting}
 use Rattle.edf_pick.proofs.Before.{key, before_tells, before_both, before_other, number_differs}
 use Rattle.edf_pick.proofs.CallerLemmas.{IsNumbered, numbered_rest}
 use Rattle.edf_pick.proofs.Held.{held_more, held_less, held_contains, held_length}
-use Rattle.edf_pick.proofs.Marked.{task_is, stands_here}
+use Rattle.edf_pick.proofs.Marked.{task_is}
 use Rattle.edf_pick.proofs.Rising.{All-with, rising_first, rising_rest, rising_with, insert_place, place}
 use Rattle.edf_pick.proofs.Scheduling.{absent_number}
 use Rattle.edf_pick.proofs.Sorting.{numbered_left, numbered_same, rising_append}
@@ -91,7 +90,7 @@ chosen_is stays movers waiting places c is free =
     let others = All-tail (IsAtHome places) c waiting is.homed in
     let rising = rising_rest c waiting is.waits in
     elim (is_home places c) as (λ b. is_home places c ≡ b → IsNumbered (held (cond b (set stays c.home (Some c)) stays) ++ (cond b movers (movers ++ c ∷ []) ++ waiting))
-      → IsChoosing (cond b (set stays c.home (Some c)) stays) (cond b movers (movers ++ c ∷ [])) waiting places) [
+    → IsChoosing (cond b (set stays c.home (Some c)) stays) (cond b movers (movers ++ c ∷ [])) waiting places) [
       | true ↦ λ e apart.
           let h = home_within places c e in
           let more = count_more stays c.home c (omega (arith, h, len)) (home_bare stays movers waiting places c is e) in

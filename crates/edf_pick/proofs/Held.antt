@@ -1,5 +1,5 @@
 -- The tasks that stay, as a list.
-use Rattle.std.proofs.Common.{◌≡◌, ◌≢◌, ◌<◌, ◌≤◌, ℕ, zero, suc, List, [], ◌∷◌, length, get_or, set, Option, Some, None, refl, subst, ap, arith, inl, inr}
+use Rattle.std.proofs.Common.{◌≡◌, ◌<◌, ◌≤◌, ℕ, zero, suc, List, [], ◌∷◌, length, get_or, set, Option, Some, None, refl, subst, ap, arith, inl, inr}
 use Rattle.std.specs.Prelude.{All, Contains}
 use Rattle.std.specs.List.Sorted.{IsPermutation}
 use Rattle.std.proofs.lemmas.List.Elements.{All-nil, All-cons, All-contains}
@@ -71,15 +71,3 @@ pub held_length : (stays : List (Option Candidate)) → length (held stays) ≤ 
 held_length [] = omega arith
 held_length (None ∷ stays) = let rest = held_length stays in omega (arith, rest)
 held_length (Some a ∷ stays) = let rest = held_length stays in omega (arith, rest)
-
--- on each CPU somebody stays
-pub held_full : (stays : List (Option Candidate)) → ((cpu : ℕ) → cpu < length stays → get_or stays cpu None ≢ None) → length (held stays) ≡ length stays
-held_full [] each = refl
-held_full (None ∷ stays) each = absurd (each 0 (omega arith) refl)
-held_full (Some a ∷ stays) each = let rest = held_full stays (λ cpu h. each (suc cpu) (omega (arith, h))) in omega (arith, rest)
-
-pub full_held : (stays : List (Option Candidate)) (cpu : ℕ) → length (held stays) ≡ length stays → cpu < length stays → (c : Candidate) × (get_or stays cpu None ≡ Some c)
-full_held [] cpu full h = absurd (omega (arith, h))
-full_held (None ∷ stays) cpu full h = absurd (let few = held_length stays in omega (arith, few, full))
-full_held (Some a ∷ stays) zero full h = (a, refl)
-full_held (Some a ∷ stays) (suc cpu) full h = full_held stays cpu (omega (arith, full)) (omega (arith, h))

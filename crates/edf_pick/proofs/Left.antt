@@ -1,5 +1,5 @@
 -- A task comes, and waits; or goes, from where it stays or waits.
-use Rattle.std.proofs.Common.{◌≡◌, ◌≢◌, ◌<◌, ◌≤◌, ◌+◌, ◌++◌, ◌||◌, ◌&&◌, ℕ, Bool, true, false, eqb, Option, Some, None, List, [], ◌∷◌, length, replicate, get_or, set, refl, sym, ap, ◌∙◌, subst, arith, inl, inr, length-append}
+use Rattle.std.proofs.Common.{◌≡◌, ◌≢◌, ◌≤◌, ◌++◌, ◌||◌, ◌&&◌, ℕ, Bool, true, false, eqb, Option, Some, None, List, [], ◌∷◌, length, replicate, get_or, set, refl, sym, ap, ◌∙◌, subst, arith, length-append}
 use Rattle.std.specs.Prelude.{All, Contains, filter, is_some, not}
 use Rattle.std.specs.List.{list_any}
 use Rattle.std.specs.List.Sorted.{IsPermutation}
@@ -14,7 +14,7 @@ use Rattle.edf_pick.specs.Order.{is_same, has_candidate, with_candidate, without
 use Rattle.edf_pick.specs.Places.{Places}
 use Rattle.edf_pick.specs.Schedule.{IsAtHome}
 use Rattle.edf_pick.specs.private.Waiting.{held, all_of, is_there, IsWaiting, HasLeft}
-use Rattle.edf_pick.proofs.Before.{same_tells, number_differs}
+use Rattle.edf_pick.proofs.Before.{same_tells}
 use Rattle.edf_pick.proofs.CallerLemmas.{IsNumbered, numbered_rest, contains_ordered, has_ordered, ordered_there, ordered_remove, length_ordered}
 use Rattle.edf_pick.proofs.Held.{held_less, All_held}
 use Rattle.edf_pick.proofs.Rising.{All-with, insert_place, place, without_absent}

@@ -1,17 +1,11 @@
 pub mod Before
 pub mod CallerLemmas
 pub mod Chosen
-pub mod Following
 pub mod Held
-pub mod Homing
 pub mod Left
-pub mod Listing
-pub mod AtHome
 pub mod Marked
 pub mod Moving
-pub mod OneCpu
 pub mod Picked
-pub mod Renewed
 pub mod Resting
 pub mod Rising
 pub mod Scheduling
@@ -21,7 +15,5 @@ pub mod Sorting
 pub mod Spans
 pub mod Standing
 pub mod Stays
-pub mod Starting
-pub mod Still
 pub mod Waits
 pub mod Words

@@ -1,5 +1,5 @@
 -- The chosen tasks at marked places are the movers, and no other chosen task needs a seat.
-use Rattle.std.proofs.Common.{◌≡◌, ◌≢◌, ◌<◌, ◌≤◌, ℕ, zero, suc, Bool, true, false, cond, eqb, ltb, ◌||◌, ◌⊎◌, Option, Some, None, List, [], ◌∷◌, length, take, map, get_or, set, replicate, refl, sym, ap, ◌∙◌, subst, arith, inl, inr, eq-eqb, eqb-true, ◌+◌, zero-add}
+use Rattle.std.proofs.Common.{◌≡◌, ◌≢◌, ◌<◌, ◌≤◌, ℕ, zero, suc, Bool, true, false, cond, eqb, ltb, ◌||◌, ◌⊎◌, Option, Some, None, List, [], ◌∷◌, length, take, map, get_or, set, refl, sym, ap, ◌∙◌, subst, arith, inl, inr, eq-eqb, eqb-true, ◌+◌, zero-add}
 use mathlib.Core.Path.{fun_ext}
 use Rattle.std.specs.Prelude.{All, filter, not, is_none, position, slice_get, count_by, sum_by}
 use Rattle.std.specs.Int.{bit_at}
@@ -9,7 +9,6 @@ use Rattle.std.proofs.lemmas.List.Sums.{passes_at_first, position_or_len_is, sum
 use Rattle.std.proofs.lemmas.Option.{slice_get-get_or, slice_get_past}
 use Rattle.std.proofs.lemmas.Nat.Bits.{bit_at-lt}
 use Rattle.edf_pick.specs.declared.candidate.Candidate.{Candidate}
-use Rattle.edf_pick.specs.declared.changes.Gone.{Gone}
 use Rattle.edf_pick.specs.Order.{IsRising}
 use Rattle.edf_pick.specs.Places.{Places, taken, AreTaken, AreSingle, is_task, stands, is_free, seat_of, put, seated, placed}
 use Rattle.edf_pick.specs.private.First.{staying, AreStaying, is_home, AreHomes, moves, AreMovers, AreLeaving, marked, seated_all}
@@ -18,9 +17,6 @@ use Rattle.edf_pick.proofs.Picked.{picked}
 -- what is read past the end
 abbrev pub nobody : Candidate
 nobody = record { deadline = 0; number = 0; home = 0 }
-
-abbrev pub no_one : Gone
-no_one = record { cpu = 0; number = 0 }
 
 -- MARKED
 marked_same : (f g : ℕ → ℕ) (xs : List Candidate) → ((i : ℕ) → f i ≡ g i) → marked f xs ≡ marked g xs
@@ -369,12 +365,6 @@ pub single_all : (chosen : List Candidate) (places : Places) → AreSingle place
 single_all [] places single = single
 single_all (c ∷ chosen) places single = single_all chosen (seated places c) (single_seated places c single)
 
-pub single_none : (cpus : ℕ) → AreSingle (replicate cpus None)
-single_none zero a b n ea eb = absurd cc
-single_none (suc cpus) zero b n ea eb = absurd cc
-single_none (suc cpus) (suc a) zero n ea eb = absurd cc
-single_none (suc cpus) (suc a) (suc b) n ea eb = ap (λ (k : ℕ). suc k) (single_none cpus a b n ea eb)
-
 pub none_stands : (n : ℕ) (places : Places) → ((cpu : ℕ) → 0 ≡ taken (get_or places cpu None)) → stands n places ≡ false
 none_stands n [] none = refl
 none_stands n (None ∷ places) none = none_stands n places (λ cpu. none (suc cpu))
@@ -404,23 +394,6 @@ seated_stays places c cpu n on =
 pub all_stay : (chosen : List Candidate) (places : Places) (cpu n : ℕ) → get_or places cpu None ≡ Some n → get_or (seated_all chosen places) cpu None ≡ Some n
 all_stay [] places cpu n on = on
 all_stay (c ∷ chosen) places cpu n on = all_stay chosen (seated places c) cpu n (seated_stays places c cpu n on)
-
--- where nobody goes and nobody comes, the same one stands
-pub unchanged : (chosen movers : List Candidate) (old mid new : Places) (cpu : ℕ) → mid ≡ map (staying chosen) old → new ≡ seated_all movers mid
-    → (taken (get_or mid cpu None) ≡ 0 → taken (get_or old cpu None) ≡ 0) → (taken (get_or mid cpu None) ≡ 0 → taken (get_or new cpu None) ≡ 0) → get_or old cpu None ≡ get_or new cpu None
-unchanged chosen movers old mid new cpu mid_is new_is went came = by_occupant (get_or mid cpu None) refl
-  where
-    idle : (o : Option ℕ) → taken o ≡ 0 → o ≡ None
-    idle None e = refl
-    idle (Some n) e = absurd (omega arith)
-
-    by_occupant : (o : Option ℕ) → get_or mid cpu None ≡ o → get_or old cpu None ≡ get_or new cpu None
-    by_occupant None on =
-        let none : taken (get_or mid cpu None) ≡ 0 = ap taken on in
-        idle (get_or old cpu None) (went none) ∙ sym (idle (get_or new cpu None) (came none))
-    by_occupant (Some n) on =
-        let stood : get_or old cpu None ≡ Some n = staying_same chosen (get_or old cpu None) n (sym (mapped (staying chosen) refl old cpu) ∙ ap (λ (ps : Places). get_or ps cpu None) (sym mid_is) ∙ on) in
-        stood ∙ sym (ap (λ (ps : Places). get_or ps cpu None) new_is ∙ all_stay movers mid cpu n on)
 
 -- THE OTHERS STAND WHERE THEY STOOD
 stands_put : (n m : ℕ) (places : Places) (cpu : ℕ) → n ≢ m → is_free (slice_get places cpu) ≡ true → stands n (set places cpu (Some m)) ≡ stands n places

@@ -2,8 +2,7 @@
 use Rattle.std.proofs.Common.{◌≡◌, ◌≢◌, ◌<◌, ◌+◌, ℕ, zero, suc, Bool, true, false, cond, ltb, Some, None, List, [], ◌∷◌, length, map, get_or, refl, sym, ap, ◌∙◌, subst, arith, inl, inr, eq-eqb, zero-add}
 use Rattle.std.specs.Prelude.{◌⊎◌, All, position}
 use Rattle.std.specs.List.{position_or_len}
-use Rattle.std.proofs.lemmas.Bool.{cases_Bool, cases_eq, le-ltb, or_parts}
-use Rattle.std.proofs.lemmas.List.Elements.{All-map}
+use Rattle.std.proofs.lemmas.Bool.{cases_Bool, cases_eq, lt-ltb, le-ltb, or_parts}
 use Rattle.std.proofs.lemmas.List.Sums.{position_or_len_is}
 use Rattle.edf_pick.specs.declared.candidate.Candidate.{Candidate}
 use Rattle.edf_pick.specs.declared.moves.Moved.{Moved}
@@ -11,10 +10,8 @@ use Rattle.edf_pick.specs.Changes.{home_on, homed}
 use Rattle.edf_pick.specs.Moves.{same_occupant, moved_from}
 use Rattle.edf_pick.specs.Places.{Places, AreSingle, is_task, stands}
 use Rattle.edf_pick.specs.Schedule.{IsAtHome, homed_on, homed_by}
-use Rattle.edf_pick.proofs.CallerLemmas.{IsNumbered, numbered_map}
 use Rattle.edf_pick.proofs.Marked.{task_is, occupied, stands_here}
 use Rattle.edf_pick.proofs.Moving.{same_is}
-use Rattle.edf_pick.proofs.Renewed.{on_position, number_homed}
 use Rattle.edf_pick.proofs.Standing.{stands_where}
 
 -- MAPS
@@ -23,10 +20,23 @@ map_same_on f g [] same = refl
 map_same_on f g (x ∷ xs) same =
     ap (λ (y : Candidate). y ∷ map f xs) (same 0 x (omega arith)) ∙ ap (λ (ys : List Candidate). g x ∷ ys) (map_same_on f g xs (λ k d h. same (suc k) d (omega (arith, h))))
 
-pub same_map : (f : Candidate → Candidate) (xs : List Candidate) → All (λ x. f x ≡ x) xs → map f xs ≡ xs
-same_map f [] same = refl
-same_map f (x ∷ xs) same =
-    ap (λ (y : Candidate). y ∷ map f xs) (same 0 x (omega arith)) ∙ ap (λ (ys : List Candidate). x ∷ ys) (same_map f xs (λ k d h. same (suc k) d (omega (arith, h))))
+-- where a task stands
+pub on_position : (places : Places) (cpu n : ℕ) → AreSingle places → get_or places cpu None ≡ Some n → position (is_task n) places ≡ Some cpu
+on_position places cpu n single on =
+    let within : cpu < length places = occupied places cpu n on in
+    let here : is_task n (get_or places cpu None) ≡ true = ap (is_task n) on ∙ eq-eqb n n refl in
+    let first : position_or_len (is_task n) places ≡ cpu =
+    position_or_len_is (is_task n) places cpu None (omega (arith, within))
+    (λ k l. other k (elim (cases_Bool (is_task n (get_or places k None))) [
+      | inl t ↦ inl (let same : k ≡ cpu = single k cpu n (task_is n (get_or places k None) t) on in absurd (omega (arith, l, same)))
+      | inr f ↦ inr f
+    ]))
+    (λ _. here) in
+    ap (λ (k : ℕ). cond (ltb k (length places)) (Some k) None) first ∙ ap (λ (b : Bool). cond b (Some cpu) None) (lt-ltb cpu (length places) within)
+  where
+    other : (k : ℕ) → ⊥ ⊎ (is_task n (get_or places k None) ≡ false) → is_task n (get_or places k None) ≡ false
+    other k (inl never) = absurd never
+    other k (inr f) = f
 
 -- ONE CPU
 off : (places : Places) (cpu : ℕ) (c : Candidate) → is_task c.number (get_or places cpu None) ≡ false → homed_on places cpu c ≡ c

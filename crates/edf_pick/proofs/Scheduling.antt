@@ -1,19 +1,13 @@
 -- One task more and one less in a schedule.
-use Rattle.std.proofs.Common.{◌≡◌, ◌≢◌, ◌<◌, ℕ, Bool, true, false, ◌&&◌, eqb, List, [], ◌∷◌, length, get_or, sym, ap, ◌∙◌, subst, arith, inl, inr}
-use Rattle.std.specs.Prelude.{All, Contains, filter, not}
-use Rattle.std.proofs.lemmas.Bool.{cases_Bool, cases_eq, cases_lt, cond_both}
-use Rattle.std.proofs.lemmas.List.{get_or_default}
-use Rattle.std.proofs.lemmas.List.Elements.{All-filter, All-head, All-tail, All-weaker}
+use Rattle.std.proofs.Common.{◌≡◌, ◌≢◌, true, false, List, get_or, sym, ◌∙◌, inl, inr}
+use Rattle.std.specs.Prelude.{All}
+use Rattle.std.proofs.lemmas.Bool.{cases_Bool}
+use Rattle.std.proofs.lemmas.List.Elements.{All-weaker}
 use Rattle.std.proofs.lemmas.List.Folds.{list_any_none}
-use Rattle.std.proofs.lemmas.List.Kept.{AllPairs-cons, AllPairs-filter}
 use Rattle.edf_pick.specs.declared.candidate.Candidate.{Candidate}
-use Rattle.edf_pick.specs.Choice.{is_before}
-use Rattle.edf_pick.specs.Order.{IsRising, is_same, has_candidate, with_candidate, without_candidate}
-use Rattle.edf_pick.specs.Places.{Places}
-use Rattle.edf_pick.specs.Schedule.{IsAtHome}
-use Rattle.edf_pick.proofs.Before.{number_differs, same_itself, same_tells}
-use Rattle.edf_pick.proofs.CallerLemmas.{IsNumbered, numbered_first, numbered_rest}
-use Rattle.edf_pick.proofs.Rising.{place, absent_place, All-with}
+use Rattle.edf_pick.specs.Order.{IsRising, is_same, has_candidate}
+use Rattle.edf_pick.proofs.Before.{number_differs}
+use Rattle.edf_pick.proofs.Rising.{place, absent_place}
 
 -- ONE MORE
 pub absent_number : (c : Candidate) (queue : List Candidate) → All (λ a. a.number ≢ c.number) queue → has_candidate c queue ≡ false

@@ -9,13 +9,6 @@ use Rattle.edf_pick.specs.Order.{IsRising}
 use Rattle.edf_pick.specs.private.Search.{IsSearched, IsOneBefore}
 use Rattle.edf_pick.proofs.Rising.{place, rising_parted}
 
-pub search_begun : (c : Candidate) (queue : List Candidate) → IsSearched c queue 0 (length queue)
-search_begun c queue = record {
-  bound = omega arith;
-  below = λ k d l. absurd (omega (arith, l));
-  above = λ k d l m. absurd (omega (arith, l, m));
-}
-
 module _ (c : Candidate) (queue : List Candidate) (at width : ℕ) (rising : IsRising queue) (is : IsSearched c queue at width) where
   -- one further on is before c
   up : (to rest : ℕ) → to < length queue → to + rest ≡ at + width → is_before (get_or queue to c) c ≡ true → IsSearched c queue to rest

@@ -1,27 +1,26 @@
 -- The occupants once the choice is made: who does not stay has gone, and the movers have come.
-use Rattle.std.proofs.Common.{◌≡◌, ◌≢◌, ◌<◌, ◌≤◌, ◌+◌, ◌⊎◌, ◌++◌, ℕ, suc, Bool, true, false, cond, eqb, Option, Some, None, List, [], ◌∷◌, length, take, get_or, map, refl, sym, ap, ◌∙◌, subst, arith, inl, inr, eqb-true}
+use Rattle.std.proofs.Common.{◌≡◌, ◌<◌, ◌≤◌, ◌+◌, ◌⊎◌, ◌++◌, ℕ, Bool, true, false, cond, eqb, Option, Some, None, List, [], ◌∷◌, length, take, get_or, map, refl, sym, ap, ◌∙◌, arith, inl, inr, eq-eqb}
 use Rattle.std.specs.Prelude.{All}
 use Rattle.std.specs.Int.{bit_at}
 use Rattle.std.specs.List.{list_any}
 use Rattle.std.specs.List.Sorted.{IsPermutation}
-use Rattle.std.proofs.lemmas.Bool.{cases_eq, ne_eqb}
+use Rattle.std.proofs.lemmas.Bool.{cases_eq, ne_eqb, or_left, or_right}
 use Rattle.std.proofs.lemmas.List.{length-take-le}
 use Rattle.std.proofs.lemmas.List.Folds.{list_any_none}
 use Rattle.std.proofs.lemmas.Nat.Bits.{bit_at-lt}
 use Rattle.edf_pick.specs.declared.candidate.Candidate.{Candidate}
 use Rattle.edf_pick.specs.Changes.{homed}
 use Rattle.edf_pick.specs.Moves.{same_occupant}
-use Rattle.edf_pick.specs.Order.{IsRising, ordered}
-use Rattle.edf_pick.specs.Places.{Places, taken, seat_of, stands, AreSingle, AreTaken, placed}
+use Rattle.edf_pick.specs.Order.{ordered}
+use Rattle.edf_pick.specs.Places.{Places, taken, put, seat_of, seated, stands, AreSingle, AreTaken, placed}
 use Rattle.edf_pick.specs.private.Choosing.{IsChosen}
 use Rattle.edf_pick.specs.private.First.{seated_all}
-use Rattle.edf_pick.specs.private.Waiting.{held, number_of, staying_on, all_of, AreOn, IsWaiting, AreSeated}
-use Rattle.edf_pick.proofs.AtHome.{came_from}
+use Rattle.edf_pick.specs.private.Waiting.{held, staying_on, all_of, AreOn, IsWaiting, AreSeated}
 use Rattle.edf_pick.proofs.Chosen.{all_before}
-use Rattle.edf_pick.proofs.Marked.{all_stay, single_all, stands_here}
+use Rattle.edf_pick.proofs.Marked.{all_stay, put_at, stands_here}
 use Rattle.edf_pick.proofs.Moving.{same_all}
 use Rattle.edf_pick.proofs.Sorting.{ordered_same}
-use Rattle.edf_pick.proofs.Waits.{next_seat, number_at, stays_length, stays_where, stays_single, placed_by_movers, seated_homed, seated_waiting}
+use Rattle.edf_pick.proofs.Waits.{next_seat, stays_length, stays_where, placed_by_movers, seated_homed, seated_waiting}
 
 pub none_taken : (o : Option ℕ) → taken o ≡ 0 → o ≡ None
 none_taken None e = refl
@@ -71,6 +70,26 @@ same_there stays movers old new cpu on is went came = by_occupant (get_or (stayi
         none_taken (get_or old cpu None) (went none) ∙ sym (none_taken (get_or new cpu None) (came none))
     by_occupant (Some n) e = stays_stood stays old cpu n on e ∙ sym (ap (λ (ps : Places). get_or ps cpu None) is ∙ all_stay movers (staying_on stays) cpu n e)
 
+-- who stands after others have been seated is one of them or stood before
+pub came_from : (cs : List Candidate) (places : Places) (cpu n : ℕ) → get_or (seated_all cs places) cpu None ≡ Some n → (get_or places cpu None ≡ Some n) ⊎ (list_any (λ c. eqb c.number n) cs ≡ true)
+came_from [] places cpu n on = inl on
+came_from (c ∷ cs) places cpu n on =
+    elim (came_from cs (seated places c) cpu n on) [
+      | inl stood ↦ by_stand (stands c.number places) stood
+      | inr later ↦ inr (or_right (eqb c.number n) (list_any (λ x. eqb x.number n) cs) later)
+    ]
+  where
+    by_seat : (o : Option ℕ) → get_or (put places c.number o) cpu None ≡ Some n → (get_or places cpu None ≡ Some n) ⊎ (list_any (λ x. eqb x.number n) (c ∷ cs) ≡ true)
+    by_seat None e = inl e
+    by_seat (Some at) e = elim (put_at places at c.number cpu n e) [
+      | inl here ↦ inr (or_left (eqb c.number n) (list_any (λ x. eqb x.number n) cs) (eq-eqb c.number n here.1))
+      | inr before ↦ inl before
+    ]
+
+    by_stand : (b : Bool) → get_or (cond b places (put places c.number (seat_of places c))) cpu None ≡ Some n → (get_or places cpu None ≡ Some n) ⊎ (list_any (λ x. eqb x.number n) (c ∷ cs) ≡ true)
+    by_stand true e = inl e
+    by_stand false e = by_seat (seat_of places c) e
+
 -- on a CPU from which somebody has gone or to which somebody has come another one stands
 pub other_there : (stays : List (Option Candidate)) (movers : List Candidate) (old new : Places) (cpu : ℕ) → All (λ c. stands c.number old ≡ false) movers → new ≡ seated_all movers (staying_on stays)
     → taken (get_or (staying_on stays) cpu None) ≡ 0 → (taken (get_or old cpu None) ≡ 1) ⊎ (taken (get_or new cpu None) ≡ 1) → same_occupant (get_or old cpu None) (get_or new cpu None) ≡ false
@@ -94,6 +113,21 @@ other_there stays movers old new cpu away is bare some = by_both (get_or old cpu
         let stand : stands (get_or movers k d).number old ≡ true = ap (λ j. stands j old) (number ∙ sym same) ∙ stands_here m old cpu at_o in
         let clash : true ≡ false = sym stand ∙ away k d h in cc)) in
         let clash : true ≡ false = sym (came n at_p) ∙ none in cc)
+
+-- MARKS
+-- a mark that is not bare is set
+set_mark : (marks i : ℕ) → (bit_at marks i ≡ 0 → ⊥) → bit_at marks i ≡ 1
+set_mark marks i never = elim (cases_eq (bit_at marks i) 1) [
+  | inl e ↦ e
+  | inr other ↦ absurd (never (omega (arith, other, bit_at-lt marks i)))
+]
+
+-- a mark of two words is one of the first or one of the second
+pub either : (a b c i : ℕ) → (bit_at a i ≡ 0 → bit_at b i ≡ 0 → bit_at c i ≡ 0) → bit_at c i ≡ 1 → (bit_at a i ≡ 1) ⊎ (bit_at b i ≡ 1)
+either a b c i only e = elim (cases_eq (bit_at a i) 1) [
+  | inl first ↦ inl first
+  | inr other ↦ inr (set_mark b i (λ none. let bare : bit_at a i ≡ 0 = omega (arith, other, bit_at-lt a i) in let zero = only bare none in omega (arith, e, zero)))
+]
 
 -- the next mover has a seat
 pub next_mover : (stays : List (Option Candidate)) (movers : List Candidate) (i : ℕ) (d : Candidate) (now : List (Option Candidate)) (places : Places) → length (held stays) + length movers ≤ length stays → i < length movers

@@ -18,16 +18,6 @@ between_len front end xs h k =
 pub between_get : (front end : ℕ) (xs : List Candidate) (i : ℕ) (d : Candidate) → front + i < end → get_or (between front end xs) i d ≡ get_or xs (front + i) d
 between_get front end xs i d h = get_or-take (end - front) (drop front xs) i d (omega (arith, h)) ∙ get_or-drop front xs i d
 
--- the same tasks at other places
-pub between_moved : (front end low high : ℕ) (xs ys : List Candidate) → front ≤ end → end ≤ length xs → high ≤ length ys → high + front ≡ end + low
-    → ((i : ℕ) (d : Candidate) → front + i < end → get_or ys (low + i) d ≡ get_or xs (front + i) d) → between low high ys ≡ between front end xs
-between_moved front end low high xs ys forward inside within many same =
-    let old = between_len front end xs forward inside in
-    let new = between_len low high ys (omega (arith, forward, many)) within in
-    ext_get_or nobody (between low high ys) (between front end xs) (omega (arith, old, new, many))
-    (λ i h.
-    between_get low high ys i nobody (omega (arith, h, new)) ∙ same i nobody (omega (arith, h, new, many)) ∙ sym (between_get front end xs i nobody (omega (arith, h, new, many))))
-
 -- one more
 module _ (front end low high place : ℕ) (xs ys : List Candidate) (c : Candidate) (there : front + place ≤ end) (inside : end ≤ length xs) (within : high ≤ length ys) (many : high + front ≡ end + low + 1)
     (below : (i : ℕ) (d : Candidate) → i < place → get_or ys (low + i) d ≡ get_or xs (front + i) d)
@@ -95,28 +85,6 @@ module _ (front end low high place : ℕ) (xs ys : List Candidate) (there : fron
   between_removed =
       let less : length (remove (between front end xs) place) + 1 ≡ length (between front end xs) = length-remove (between front end xs) place stands in
       ext_get_or nobody (between low high ys) (remove (between front end xs) place) (omega (arith, old_len, new_len, less, many, there)) (λ i h. left i nobody (omega (arith, h, new_len)))
-
--- another one at its place
-pub between_set : (front end place : ℕ) (xs : List Candidate) (y : Candidate) → front + place < end → end ≤ length xs → between front end (set xs (front + place) y) ≡ set (between front end xs) place y
-between_set front end place xs y there inside =
-    let forward : front ≤ end = omega (arith, there) in
-    let many : length (set xs (front + place) y) ≡ length xs = length-set xs (front + place) y in
-    let old = between_len front end xs forward inside in
-    let new = between_len front end (set xs (front + place) y) forward (omega (arith, inside, many)) in
-    let len : length (set (between front end xs) place y) ≡ length (between front end xs) = length-set (between front end xs) place y in
-    ext_get_or nobody (between front end (set xs (front + place) y)) (set (between front end xs) place y) (omega (arith, old, new, len))
-    (λ i h.
-    between_get front end (set xs (front + place) y) i nobody (omega (arith, h, new)) ∙ elim (cases_eq i place) [
-      | inl same ↦
-          ap (λ (k : ℕ). get_or (set xs (front + place) y) (front + k) nobody) same
-          ∙ get_or-set_same xs (front + place) y nobody (omega (arith, there, inside))
-          ∙ sym (get_or-set_same (between front end xs) place y nobody (omega (arith, there, old)))
-          ∙ ap (λ (k : ℕ). get_or (set (between front end xs) place y) k nobody) (sym same)
-      | inr apart ↦
-          get_or-set_other xs (front + place) (front + i) y nobody (omega (arith, apart))
-          ∙ sym (between_get front end xs i nobody (omega (arith, h, new)))
-          ∙ sym (get_or-set_other (between front end xs) place i y nobody apart)
-    ])
 
 -- ---- WHAT A COPY WITHIN THE ROOM LEAVES
 module _ (front end place : ℕ) (xs zs : List Candidate) (len : length zs ≡ length xs) (inside : end ≤ length xs) where

@@ -22,8 +22,7 @@ use Rattle.edf_pick.proofs.CallerLemmas.{IsNumbered, numbered_first, numbered_re
 use Rattle.edf_pick.proofs.Held.{held_more, All_held, held_contains, held_where}
 use Rattle.edf_pick.proofs.Marked.{any_at, kept_all, seat_free, single_all, stands_here, stands_seated, stays_seated}
 use Rattle.edf_pick.proofs.Picked.{picked}
-use Rattle.edf_pick.proofs.Renewed.{on_position}
-use Rattle.edf_pick.proofs.Resting.{no_position}
+use Rattle.edf_pick.proofs.Resting.{no_position, on_position}
 use Rattle.edf_pick.proofs.Sorting.{KeepsPlace, contains_parts, numbered_left, numbered_same, ordered_filter, ordered_map, ordered_parted, ordered_rising, ordered_same}
 use Rattle.edf_pick.proofs.Standing.{busy, free_inside, some_seat, stands_where}
 

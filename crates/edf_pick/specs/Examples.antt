@@ -1,7 +1,7 @@
 -- Worked rows of the choice and the placement.
-use Rattle.std.specs.Prelude.{ℕ, ◌≡◌, [], ◌∷◌, map, false, Some, None, refl}
+use Rattle.std.specs.Prelude.{ℕ, ◌≡◌, [], ◌∷◌, map, Some, None, refl}
 use Rattle.edf_pick.specs.declared.candidate.Candidate.{Candidate}
-use Rattle.edf_pick.specs.Changes.{homed, unchanged}
+use Rattle.edf_pick.specs.Changes.{homed}
 use Rattle.edf_pick.specs.Moves.{moved_from}
 use Rattle.edf_pick.specs.Order.{without_candidate, ordered}
 use Rattle.edf_pick.specs.Places.{placed}
@@ -53,8 +53,3 @@ two_moved = refl
 each_home : map (homed (None ∷ Some 2 ∷ [])) (ready 5 2 0 ∷ ready 8 1 0 ∷ [])
     ≡ ready 5 2 1 ∷ ready 8 1 0 ∷ []
 each_home = refl
-
--- after a choice of two the cut is the second task
-cut_of_two : unchanged 2 (ready 5 7 1 ∷ ready 8 1 0 ∷ ready 8 2 0 ∷ [])
-    ≡ record { cut = Some (ready 8 1 0); fresh = []; gone = []; many = false }
-cut_of_two = refl

@@ -121,7 +121,7 @@ fn displace(
 {
     let c = waiting.take_first();
     staying.off(last.home as usize);
-    let _ = waiting.put(last);
+    waiting.insert(last);
     choose(staying, movers, places, &c);
 }
 

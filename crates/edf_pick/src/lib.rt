@@ -6,17 +6,16 @@
 //! (`specs/Choice.antt` and `specs/Places.antt` by counting, `specs/Order.antt` for the queue). To
 //! the crate above it promises that the occupants of the CPUs are exactly those, for a list in any
 //! order too (`proofs/CallerLemmas.antt`), and that neither a queue nor a placement grows: their
-//! types keep the room that they were opened with. [`Schedule`] is both as one, and chooses by what
-//! has changed since the last choice (`specs/Changes.antt`, `specs/Schedule.antt`): it looks at that
-//! alone, and lists the CPUs that another one has (`specs/Moves.antt`).
+//! types keep the room that they were opened with. [`Schedule`] is both as one
+//! (`specs/Schedule.antt`): who stays on his CPU stands in no queue, so it looks at those who wait
+//! alone, and lists the CPUs that another one has (`specs/Moves.antt`). Who stands on a CPU belongs
+//! to it (`specs/Changes.antt`).
 #![tactic(auto)]
 
 mod at_home;
 mod candidate;
-mod changes;
 mod choosing;
 mod leaving;
-mod listed;
 pub mod marks;
 mod movers;
 mod moves;
@@ -30,7 +29,6 @@ mod room;
 mod schedule;
 mod seats;
 mod settling;
-mod single;
 mod staying;
 
 pub use candidate::Candidate;

@@ -94,17 +94,6 @@ pub(crate) fn place_of(queue: &[Candidate], c: &Candidate) -> usize
     place + one_before(queue, c, place)
 }
 
-/// Where a queue has this task, if it has it: by a search where it is not near at hand.
-pub(crate) fn place_near(queue: &[Candidate], c: &Candidate, near: usize) -> usize
-    requires { order.IsRising queue.now }
-    ensures { (k : ℕ) → slice_get queue.now k ≡ Some c.now → result ≡ k }
-{
-    if near < queue.len() && is_same(&queue[near], c) {
-        return near;
-    }
-    place_of(queue, c)
-}
-
 /// Where a queue has the task of the deadline and the number of `c`, by a search.
 pub(crate) fn find(queue: &[Candidate], c: &Candidate) -> Option<usize>
     requires { order.IsRising queue.now }

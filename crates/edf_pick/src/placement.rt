@@ -2,13 +2,11 @@
 
 ghost use Rattle.std.specs.Prelude.{◌≡◌, ◌≢◌, ◌<◌, ◌≤◌, ◌+◌, ◌∷◌, [], false, All, AllPairs, IfOk, None, length, map, replicate, take, vec_len, vec_capacity};
 ghost use Rattle.edf_pick.specs.private.First.{AreLeaving, AreMovers};
-ghost use Rattle.edf_pick.specs.Changes.{homed};
 ghost use Rattle.edf_pick.specs.Moves.{moved_from};
 ghost use Rattle.edf_pick.specs.Places.{AreSingle, AreTaken, placed, stands};
 ghost use Rattle.edf_pick.specs.private.Waiting.{held, AreOn, AreSeated};
-ghost use Rattle.edf_pick.specs.Schedule.{IsAtHome};
 
-use crate::at_home::{Marks, marks_of_all, pick_marked};
+use crate::at_home::{Marks, marks_of_all};
 use crate::candidate::Candidate;
 use crate::moves::Moves;
 use crate::picking::pick_from;
@@ -54,16 +52,6 @@ fn idle(alloc: Global, cpus: usize) -> Result<Vec<Option<u32>>, AllocError>
     Ok(places)
 }
 
-// The marks of one CPU, where this one stands or nobody.
-fn mark_of(stands: Option<u32>) -> u64
-    ensures { AreTaken (stands ∷ []) result }
-{
-    match stands {
-        Some(_) => 1,
-        None => 0,
-    }
-}
-
 impl Placement {
     /// 1 to 64 idle CPUs. No other call takes memory. `Err` where their room was refused.
     pub fn open(alloc: Global, cpus: usize) -> Result<Placement, AllocError>
@@ -76,17 +64,6 @@ impl Placement {
             taken: 0,
             before: idle(alloc, cpus)?,
         })
-    }
-
-    /// The only CPU has this one from now on, or nobody.
-    #[inline(always)]
-    pub(crate) fn give(&mut self, stands: Option<u32>)
-        requires { length self.old ≡ 1 }
-        ensures { self.new ≡ stands ∷ [] }
-    {
-        self.occupants[0] = stands;
-        self.before[0] = stands;
-        self.taken = mark_of(stands);
     }
 
     /// Who stands on each CPU, from CPU 0 on.
@@ -135,34 +112,6 @@ pub fn pick(placement: &mut Placement, queue: &Queue)
         .copy_from_slice(placement.occupants.as_slice());
 }
 
-/// As `pick`, by what the choice has found, where each task that stands belongs to its CPU, and
-/// lists the CPUs that another one has. Each task that stands then belongs to its CPU.
-#[inline(always)]
-pub(crate) fn pick_by_marks(
-    placement: &mut Placement,
-    queue: &mut Queue,
-    marks: Marks,
-    moves: &mut Moves,
-)
-    requires numbered { AllPairs (λ a b. a.number ≢ b.number) queue.old }
-    requires homed { All (IsAtHome placement.old) queue.old }
-    requires movers { AreMovers (take (length placement.old) queue.old) placement.old marks.movers }
-    requires leaving { AreLeaving (take (length placement.old) queue.old) placement.old
-        marks.movers marks.left }
-    ensures places { placement.new ≡ placed (length placement.old) queue.old placement.old }
-    ensures moves { moves.new ≡ moved_from 0 placement.old placement.new }
-    ensures len { length placement.new ≡ length placement.old }
-    ensures queue { queue.new ≡ map (homed placement.new) queue.old }
-    ensures single { AreSingle placement.old }
-    ensures still { AreSingle placement.new }
-{
-    // For the prover alone: a look at the queue brings what its type keeps.
-    let _ = queue.as_slice();
-    let changed = pick_marked(&mut placement.occupants, queue, marks, &mut placement.taken);
-    let occupants = placement.occupants.as_slice();
-    moves.list(&mut placement.before, occupants, changed);
-}
-
 /// As [`crate::settling::move_on`], and lists the CPUs that another one has.
 #[inline(always)]
 pub(crate) fn settle(
@@ -180,7 +129,12 @@ pub(crate) fn settle(
     ensures moves { moves.new ≡ moved_from 0 placement.old placement.new }
     ensures single { AreSingle placement.old }
 {
-    let changed = move_on(&mut placement.occupants, staying, movers, &mut placement.taken);
+    let changed = move_on(
+        &mut placement.occupants,
+        staying,
+        movers,
+        &mut placement.taken,
+    );
     let occupants = placement.occupants.as_slice();
     moves.list(&mut placement.before, occupants, changed);
 }

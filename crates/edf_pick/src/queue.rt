@@ -79,18 +79,8 @@ impl Queue {
         requires absent { order.has_candidate c self.old ≡ false }
         ensures { self.new ≡ order.with_candidate c self.old }
     {
-        let _ = self.put(c);
-    }
-
-    /// As `insert`, and answers the place.
-    pub(crate) fn put(&mut self, c: Candidate) -> usize
-        requires few { length self.old < 256 }
-        requires absent { order.has_candidate c self.old ≡ false }
-        ensures { self.new ≡ order.with_candidate c self.old }
-    {
         let place = place_of(self.room.as_slice(), &c);
         self.room.insert(place, c);
-        place
     }
 
     /// Takes out the task of the deadline and the number of `c`, found by binary search, and
@@ -128,14 +118,5 @@ impl Queue {
         let c = self.room.as_slice()[0];
         self.room.remove_first();
         c
-    }
-
-    /// The task at this place belongs to this CPU from now on. No other task is touched.
-    pub(crate) fn rehome(&mut self, place: usize, cpu: u32)
-        requires { place < length self.old }
-        ensures { (d : Candidate) → self.new
-            ≡ slice_set self.old place (record (slice_index_or self.old place d) { home = cpu }) }
-    {
-        self.room.rehome(place, cpu);
     }
 }

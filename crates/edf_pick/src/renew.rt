@@ -51,8 +51,7 @@ fn is_still(waiting: &Queue, staying: &Staying, placement: &Placement) -> bool
 {
     // For the prover alone: a look at the queue brings what its type keeps.
     let _ = waiting.as_slice();
-    all_stay(staying, placement)
-        && none_earlier(waiting, staying, placement.occupants().len())
+    all_stay(staying, placement) && none_earlier(waiting, staying, placement.occupants().len())
 }
 
 // As `pick_waiting`, where something may have changed.

@@ -203,18 +203,4 @@ impl Room {
     {
         self.front += 1;
     }
-
-    /// The task at this place belongs to this CPU from now on.
-    #[inline(always)]
-    pub(crate) fn rehome(&mut self, place: usize, cpu: u32)
-        requires is { spec.IsRoom self.old }
-        requires there { place < length (spec.tasks_in self.old) }
-        ensures is { spec.IsRoom self.new }
-        ensures tasks { (d : Candidate) → spec.tasks_in self.new ≡ slice_set (spec.tasks_in self.old)
-            place (record (slice_index_or (spec.tasks_in self.old) place d) { home = cpu }) }
-        ensures capacity { vec_capacity self.new.tasks ≡ vec_capacity self.old.tasks }
-    {
-        let at = self.front + place;
-        self.tasks[at].home = cpu;
-    }
 }

@@ -16,7 +16,12 @@ use crate::staying::Staying;
 
 // A mover takes a seat, and stays there.
 #[inline(always)]
-fn seat_mover(places: &mut Vec<Option<u32>>, staying: &mut Staying, c: &Candidate, taken: u64) -> u64
+fn seat_mover(
+    places: &mut Vec<Option<u32>>,
+    staying: &mut Staying,
+    c: &Candidate,
+    taken: u64,
+) -> u64
     requires few { vec_len places.old ≤ 64 }
     requires free { is_some (placing.seat_of places.old.items c.now) ≡ true }
     requires same { spec.staying_on staying.old ≡ places.old.items }

@@ -1,9 +1,9 @@
 -- The placement, where the chosen tasks stand in a list of their own, in the order of the choice.
-use Rattle.std.specs.Prelude.{ℕ, suc, ◌≡◌, ◌==◌, ◌<◌, length, false, All, IsTrue, Bool, if◌then◌else◌, List, [], ◌∷◌, fold, slice_get, slice_index_or, Option, Some, None}
+use Rattle.std.specs.Prelude.{ℕ, suc, ◌≡◌, ◌==◌, ◌<◌, length, All, IsTrue, Bool, if◌then◌else◌, List, [], ◌∷◌, fold, slice_get, slice_index_or, Option, Some, None}
 use Rattle.std.specs.Int.{bit_at}
 use Rattle.std.specs.List.{list_any}
 use Rattle.edf_pick.specs.declared.candidate.Candidate.{Candidate}
-use Rattle.edf_pick.specs.Places.{Places, is_task, stands, seated}
+use Rattle.edf_pick.specs.Places.{Places, is_task, seated}
 
 -- an occupant that is chosen stays
 abbrev pub staying : List Candidate → Option ℕ → Option ℕ
@@ -49,17 +49,6 @@ pub record AreLeaving (chosen : List Candidate) (places : Places) (movers marks 
   pub others : (cpu : ℕ) → bit_at marks cpu ≡ 0
       → staying chosen (slice_index_or places cpu None) ≡ slice_index_or places cpu None
 
--- the marked tasks stand nowhere
-abbrev pub AreAway : List Candidate → Places → ℕ → Type 0
-AreAway chosen places movers =
-    (i : ℕ) (c : Candidate) → bit_at movers i ≡ 1 → slice_get chosen i ≡ Some c
-    → stands c.number places ≡ false
-
 -- the chosen tasks, seated one after another
 abbrev pub seated_all : List Candidate → Places → Places
 seated_all chosen places = fold seated places chosen
-
--- room for 256 of two kinds
-pub record HasRoomFor256 (fresh gone : ℕ) : Type 0 where
-  pub come : fresh ≡ 256
-  pub went : gone ≡ 256

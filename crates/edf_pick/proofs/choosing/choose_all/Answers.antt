@@ -1,8 +1,7 @@
-use Rattle.std.proofs.Common.{◌≡◌, ◌<◌, ◌+◌, ◌++◌, ◌∙◌, ◌⊎◌, List, [], Option, length, sym, ap, subst, arith, inl, inr}
+use Rattle.std.proofs.Common.{◌++◌, List, subst}
 use Rattle.std.specs.List.Sorted.{IsPermutation}
 use Rattle.std.proofs.lemmas.List.Sorted.{IsPermutation-trans}
 use Rattle.edf_pick.specs.declared.candidate.Candidate.{Candidate}
-use Rattle.edf_pick.specs.private.Choosing.{IsChoosing, IsChosen, AreAll, AreBefore}
 use Rattle.edf_pick.specs.private.Waiting.{held}
 use Rattle.edf_pick.proofs.choosing.choose_all.Goals as goal
 

@@ -1,12 +1,7 @@
-use Rattle.std.proofs.Common.{◌≡◌, ◌<◌, ◌≤◌, ◌+◌, ◌++◌, ◌^◌, ◌∙◌, ◌⊎◌, ℕ, List, [], ◌∷◌, Option, Some, None, true, false, length, get_or, set, refl, sym, ap, subst, arith, inl, inr}
+use Rattle.std.proofs.Common.{◌++◌, List, ◌∷◌, Option, sym, subst}
 use Rattle.std.specs.List.Sorted.{IsPermutation}
-use Rattle.std.proofs.lemmas.List.Sorted.{IsPermutation-trans}
 use Rattle.edf_pick.specs.declared.candidate.Candidate.{Candidate}
-use Rattle.edf_pick.specs.Choice.{is_before}
-use Rattle.edf_pick.specs.Order.{with_candidate}
-use Rattle.edf_pick.specs.Places.{Places}
-use Rattle.edf_pick.specs.private.Choosing.{chosen_stays, chosen_movers, IsChoosing, IsChosen, AreAll, AreBefore, total}
-use Rattle.edf_pick.specs.private.Staying.{bare_key}
+use Rattle.edf_pick.specs.private.Choosing.{chosen_movers, IsChoosing}
 use Rattle.edf_pick.specs.private.Waiting.{held}
 use Rattle.edf_pick.proofs.Chosen.{home_bare, chosen_same, chosen_is}
 use Rattle.edf_pick.proofs.choosing.choose_first.Goals as goal

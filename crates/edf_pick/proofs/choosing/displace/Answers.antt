@@ -1,11 +1,10 @@
-use Rattle.std.proofs.Common.{◌≡◌, ◌<◌, ◌≤◌, ◌+◌, ◌++◌, ◌^◌, ◌∙◌, ◌⊎◌, ℕ, List, [], ◌∷◌, Option, Some, None, true, false, length, get_or, set, refl, sym, ap, subst, arith, inl, inr}
+use Rattle.std.proofs.Common.{◌≡◌, ◌<◌, ◌+◌, ◌++◌, ◌∙◌, List, ◌∷◌, Option, None, true, length, get_or, set, sym, ap, subst, arith}
 use Rattle.std.specs.List.Sorted.{IsPermutation}
 use Rattle.std.proofs.lemmas.List.Sorted.{IsPermutation-trans}
 use Rattle.edf_pick.specs.declared.candidate.Candidate.{Candidate}
 use Rattle.edf_pick.specs.Choice.{is_before}
 use Rattle.edf_pick.specs.Order.{with_candidate}
-use Rattle.edf_pick.specs.Places.{Places}
-use Rattle.edf_pick.specs.private.Choosing.{chosen_stays, chosen_movers, IsChoosing, IsChosen, AreAll, AreBefore, total}
+use Rattle.edf_pick.specs.private.Choosing.{chosen_stays, chosen_movers, IsChoosing, total}
 use Rattle.edf_pick.specs.private.Staying.{bare_key}
 use Rattle.edf_pick.specs.private.Waiting.{held}
 use Rattle.edf_pick.proofs.Before.{key}
@@ -34,8 +33,8 @@ then_is c = released_is c.args.staying.now c.args.movers.now c.take_first-c.new.
 one_less : (c : After-off) → length (held (fewer c)) + 1 ≡ length (held c.args.staying.now)
 one_less c = count_less c.args.staying.now c.args.last.home (ap (λ (o : Option Candidate). is_some o) c.requires.there)
 
-pub put-requires-clause-absent : goal.put-requires-clause-absent
-put-requires-clause-absent c = last_absent c.args.staying.now c.args.movers.now c.take_first-c.new.self c.args.places.now c.take_first-c.result c.args.last (first_is (goal.at.put-requires-clause-absent c).After-off) c.requires.there
+pub insert-requires-clause-absent : goal.insert-requires-clause-absent
+insert-requires-clause-absent c = last_absent c.args.staying.now c.args.movers.now c.take_first-c.new.self c.args.places.now c.take_first-c.result c.args.last (first_is (goal.at.insert-requires-clause-absent c).After-off) c.requires.there
 
 pub choose-requires-clause-few : goal.choose-requires-clause-few
 choose-requires-clause-few c =
@@ -59,7 +58,7 @@ returns-clause-is c =
     let places = c.args.places.now in
     let one = c.take_first-c.result in
     let less = one_less k in
-    subst (λ (xs : List Candidate). IsChoosing c.choose.new.staying c.choose.new.movers xs places) (sym c.put.ensures)
+    subst (λ (xs : List Candidate). IsChoosing c.choose.new.staying c.choose.new.movers xs places) (sym c.insert.ensures)
     (subst (λ (xs : List Candidate). IsChoosing c.choose.new.staying xs (rest k) places) (sym c.choose.ensures.movers)
     (subst (λ (ss : List (Option Candidate)). IsChoosing ss (chosen_movers places one movers) (rest k) places) (sym (stays_are c k))
     (chosen_is (fewer k) movers (rest k) places one (then_is k) (omega (arith, less, c.requires.is.few)))))
@@ -73,8 +72,8 @@ returns-clause-same c =
     let one = c.take_first-c.result in
     let first = c.take_first-c.new.self in
     let all = held stays ++ (movers ++ one ∷ first) in
-    subst (λ (xs : List Candidate). IsPermutation (held stays ++ (movers ++ xs)) (held c.choose.new.staying ++ (c.choose.new.movers ++ c.put.new.self))) (sym c.take_first-c.ensures.first)
-    (subst (λ (xs : List Candidate). IsPermutation all (held c.choose.new.staying ++ (c.choose.new.movers ++ xs))) (sym c.put.ensures)
+    subst (λ (xs : List Candidate). IsPermutation (held stays ++ (movers ++ xs)) (held c.choose.new.staying ++ (c.choose.new.movers ++ c.insert.new.self))) (sym c.take_first-c.ensures.first)
+    (subst (λ (xs : List Candidate). IsPermutation all (held c.choose.new.staying ++ (c.choose.new.movers ++ xs))) (sym c.insert.ensures)
     (subst (λ (xs : List Candidate). IsPermutation all (held c.choose.new.staying ++ (xs ++ rest k))) (sym c.choose.ensures.movers)
     (subst (λ (ss : List (Option Candidate)). IsPermutation all (held ss ++ (chosen_movers places one movers ++ rest k))) (sym (stays_are c k))
     (IsPermutation-trans all (held (fewer k) ++ (movers ++ one ∷ rest k)) (held (chosen_stays places one (fewer k)) ++ (chosen_movers places one movers ++ rest k))

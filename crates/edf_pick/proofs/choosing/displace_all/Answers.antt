@@ -1,8 +1,8 @@
-use Rattle.std.proofs.Common.{◌≡◌, ◌<◌, ◌+◌, ◌++◌, ◌∙◌, ◌⊎◌, List, [], Option, length, sym, ap, subst, arith, inl, inr}
+use Rattle.std.proofs.Common.{◌+◌, ◌++◌, ◌∙◌, List, Option, length, sym, ap, subst, arith, inl, inr}
 use Rattle.std.specs.List.Sorted.{IsPermutation}
 use Rattle.std.proofs.lemmas.List.Sorted.{IsPermutation-trans}
 use Rattle.edf_pick.specs.declared.candidate.Candidate.{Candidate}
-use Rattle.edf_pick.specs.private.Choosing.{IsChoosing, IsChosen, AreAll, AreBefore}
+use Rattle.edf_pick.specs.private.Choosing.{IsChosen}
 use Rattle.edf_pick.specs.private.Waiting.{held}
 use Rattle.edf_pick.proofs.Chosen.{before_first}
 use Rattle.edf_pick.proofs.choosing.displace_all.Goals as goal
@@ -29,4 +29,4 @@ pub returns-clause-is : goal.returns-clause-is
 returns-clause-is c =
     let inv = c.rounds.invariant in
     subst (λ (ss : List (Option Candidate)). IsChosen ss c.rounds.movers c.rounds.waiting c.args.places.now) (sym c.outdone.ensures.still)
-    (record { choosing = inv.is; all = inv.all; first = before_first c.rounds.staying c.rounds.movers c.rounds.waiting c.args.places.now inv.is c.in_default.ensures.none; })
+    (record { choosing = inv.is; all = inv.all; first = before_first c.rounds.staying c.rounds.movers c.rounds.waiting c.args.places.now inv.is c.in_default.ensures.none })

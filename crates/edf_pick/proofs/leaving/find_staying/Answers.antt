@@ -1,4 +1,4 @@
-use Rattle.std.proofs.Common.{◌≡◌, ◌<◌, ◌≤◌, ◌∙◌, ℕ, Option, None, false, length, get_or, sym, ap, inl, inr, arith}
+use Rattle.std.proofs.Common.{Option, None, length, ap, inl, inr, arith}
 use Rattle.std.proofs.lemmas.Bool.{cases_lt}
 use Rattle.std.proofs.lemmas.List.{get_or_past}
 use Rattle.edf_pick.specs.declared.candidate.Candidate.{Candidate}

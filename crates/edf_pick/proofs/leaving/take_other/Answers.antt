@@ -1,6 +1,6 @@
-use Rattle.std.proofs.Common.{◌≡◌, ◌≢◌, ◌++◌, ◌∙◌, ℕ, List, Option, true, false, Some, None, get_or, sym, ap, subst}
+use Rattle.std.proofs.Common.{◌≡◌, ◌++◌, ◌∙◌, List, true, false, sym, ap, subst}
 use Rattle.edf_pick.specs.declared.candidate.Candidate.{Candidate}
-use Rattle.edf_pick.specs.Order.{has_candidate, without_candidate}
+use Rattle.edf_pick.specs.Order.{has_candidate}
 use Rattle.edf_pick.specs.private.Waiting.{held, HasLeft}
 use Rattle.edf_pick.proofs.CallerLemmas.{IsNumbered}
 use Rattle.edf_pick.proofs.Left.{wait_left}
@@ -28,9 +28,13 @@ returns-in_default c =
     let k = (goal.at.returns-in_default c).In_default in
     let stays = c.args.staying.now in
     let now = c.take_elsewhere.new.staying in
-    record { left = subst (λ (xs : List Candidate). HasLeft c.args.c.now stays c.args.waiting.now now xs c.take_elsewhere.result) (sym (same k))
-        (subst (λ (xs : List Candidate). HasLeft c.args.c.now stays xs now xs c.take_elsewhere.result) (same k) c.take_elsewhere.ensures.left); }
+    record {
+      left = subst (λ (xs : List Candidate). HasLeft c.args.c.now stays c.args.waiting.now now xs c.take_elsewhere.result) (sym (same k))
+          (subst (λ (xs : List Candidate). HasLeft c.args.c.now stays xs now xs c.take_elsewhere.result) (same k) c.take_elsewhere.ensures.left);
+    }
 
 pub returns : goal.returns
-returns c = record { left = subst (λ (xs : List Candidate). HasLeft c.args.c.now c.args.staying.now c.args.waiting.now c.args.staying.now xs true) (sym c.take.ensures.removed)
-    (wait_left c.args.c.now c.in-Some._entry c.args.staying.now c.args.waiting.now c.requires.numbered c.in-Some.ensures.entry c.in-Some.ensures.same (sym c.in-Some.ensures.there)); }
+returns c = record {
+  left = subst (λ (xs : List Candidate). HasLeft c.args.c.now c.args.staying.now c.args.waiting.now c.args.staying.now xs true) (sym c.take.ensures.removed)
+      (wait_left c.args.c.now c.in-Some._entry c.args.staying.now c.args.waiting.now c.requires.numbered c.in-Some.ensures.entry c.in-Some.ensures.same (sym c.in-Some.ensures.there));
+}

@@ -1,4 +1,4 @@
-use Rattle.std.proofs.Common.{◌≡◌, List, Option, true, sym, subst}
+use Rattle.std.proofs.Common.{List, Option, true, sym, subst}
 use Rattle.edf_pick.specs.declared.candidate.Candidate.{Candidate}
 use Rattle.edf_pick.specs.private.Waiting.{HasLeft}
 use Rattle.edf_pick.proofs.Left.{off_left, there_some}
@@ -10,5 +10,7 @@ off-requires c = there_some c.args.c.now _ c.requires.there
 pub returns : goal.returns
 returns c =
     let stays = c.args.staying.now in
-    record { left = subst (λ (ss : List (Option Candidate)). HasLeft c.args.c.now stays c.args.waiting.now ss c.args.waiting.now true) (sym c.off.ensures)
-    (off_left c.args.c.now stays c.args.waiting.now c.args.cpu c.requires.numbered c.requires.there); }
+    record {
+      left = subst (λ (ss : List (Option Candidate)). HasLeft c.args.c.now stays c.args.waiting.now ss c.args.waiting.now true) (sym c.off.ensures)
+          (off_left c.args.c.now stays c.args.waiting.now c.args.cpu c.requires.numbered c.requires.there);
+    }

@@ -1,6 +1,5 @@
-use Rattle.std.proofs.Common.{◌≡◌, ◌+◌, ◌∙◌, List, [], length, ap, inl, inr, arith}
+use Rattle.std.proofs.Common.{[], length, ap, inl, inr, arith}
 use Rattle.edf_pick.specs.Places.{Places}
-use Rattle.edf_pick.specs.private.Waiting.{held}
 use Rattle.edf_pick.proofs.Chosen.{none_chosen, before_first}
 use Rattle.edf_pick.proofs.renew.is_still.Goals as goal
 

@@ -1,16 +1,12 @@
-use Rattle.std.proofs.Common.{◌≡◌, ◌≢◌, ◌<◌, ◌≤◌, ◌+◌, ◌++◌, ◌∙◌, ℕ, List, [], Option, false, length, sym, ap, subst, arith}
+use Rattle.std.proofs.Common.{◌≡◌, List, [], false, sym, subst}
 use Rattle.std.specs.Prelude.{All}
-use Rattle.std.specs.List.Sorted.{IsPermutation}
-use Rattle.std.proofs.lemmas.List.Sorted.{IsPermutation-refl}
 use Rattle.edf_pick.specs.declared.candidate.Candidate.{Candidate}
 use Rattle.edf_pick.specs.Places.{Places, stands}
 use Rattle.edf_pick.specs.private.Choosing.{IsChoosing, IsChosen}
-use Rattle.edf_pick.specs.private.Waiting.{held, AreSeated}
+use Rattle.edf_pick.specs.private.Waiting.{AreSeated}
 use Rattle.edf_pick.proofs.CallerLemmas.{IsNumbered}
 use Rattle.edf_pick.proofs.Chosen.{none_chosen, movers_numbered}
-use Rattle.edf_pick.proofs.Moving.{moved_none}
 use Rattle.edf_pick.proofs.Settled.{picked_places, picked_homes, picked_waiting}
-use Rattle.edf_pick.proofs.Waits.{none_seated}
 use Rattle.edf_pick.proofs.renew.pick_anew.Goals as goal
 use Rattle.edf_pick.proofs.renew.pick_anew.Goals.{After-choose_all}
 

@@ -1,12 +1,10 @@
-use Rattle.std.proofs.Common.{◌≡◌, ◌≢◌, ◌<◌, ◌∙◌, ℕ, List, Option, None, Some, false, length, get_or, sym, ap, subst, arith, inl, inr}
+use Rattle.std.proofs.Common.{◌≡◌, ◌∙◌, None, false, get_or, sym, ap, subst, arith, inl, inr}
 use Rattle.std.specs.Prelude.{All}
 use Rattle.std.specs.Int.{bit_at}
-use Rattle.edf_pick.specs.declared.candidate.Candidate.{Candidate}
 use Rattle.edf_pick.specs.Places.{Places, AreSingle, stands, taken}
-use Rattle.edf_pick.specs.private.Waiting.{staying_on, AreOn, AreSeated}
-use Rattle.edf_pick.proofs.AtHome.{either}
+use Rattle.edf_pick.specs.private.Waiting.{staying_on, AreOn}
 use Rattle.edf_pick.proofs.Marked.{single_all}
-use Rattle.edf_pick.proofs.Settled.{kept_are, same_there, other_there}
+use Rattle.edf_pick.proofs.Settled.{either, kept_are, same_there, other_there}
 use Rattle.edf_pick.proofs.Waits.{none_seated, stays_absent, stays_single}
 use Rattle.edf_pick.proofs.settling.move_on.Goals as goal
 use Rattle.edf_pick.proofs.settling.move_on.Goals.{After-clear-kept}

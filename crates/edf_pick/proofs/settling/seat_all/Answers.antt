@@ -1,7 +1,7 @@
-use Rattle.std.proofs.Common.{◌≡◌, ◌≢◌, ◌<◌, ◌≤◌, ◌+◌, ◌∙◌, ℕ, List, Option, Some, false, length, take, get_or, set, sym, ap, subst, arith}
+use Rattle.std.proofs.Common.{◌≡◌, ◌+◌, ◌∙◌, ℕ, List, Option, Some, false, take, get_or, set, sym, ap, subst}
 use Rattle.std.specs.Prelude.{All, is_some}
 use Rattle.edf_pick.specs.declared.candidate.Candidate.{Candidate}
-use Rattle.edf_pick.specs.Places.{Places, seat_of, stands}
+use Rattle.edf_pick.specs.Places.{Places, stands}
 use Rattle.edf_pick.specs.private.Waiting.{staying_on, AreOn, AreSeated}
 use Rattle.edf_pick.proofs.Marked.{nobody}
 use Rattle.edf_pick.proofs.Settled.{next_mover}
@@ -9,7 +9,7 @@ use Rattle.edf_pick.proofs.Waits.{next_away, more_seated}
 use Rattle.edf_pick.proofs.settling.seat_all.Goals as goal
 
 pub seat_mover-marks-requires-clause-free : goal.seat_mover-marks-requires-clause-free
-seat_mover-marks-requires-clause-free c = 
+seat_mover-marks-requires-clause-free c =
     let n = next_mover c.args.staying.now c.args.movers.now c.loop-i.i nobody c.loop-i.staying c.loop-i.places.items c.requires.free c.loop-i-test.true c.loop-i.invariant.seated in
     ap (λ (o : Option ℕ). is_some o) n.1
 

@@ -1,4 +1,4 @@
-use Rattle.std.proofs.Common.{◌+◌, ◌<◌, length, refl, arith, rules}
+use Rattle.std.proofs.Common.{refl, arith}
 use Rattle.edf_pick.proofs.Spans.{between_len, removed_below}
 use Rattle.edf_pick.proofs.room.Room.remove_first.Goals as goal
 

@@ -1,11 +1,8 @@
-use Rattle.std.proofs.Common.{◌≡◌, ◌≢◌, ◌<◌, ◌≤◌, ◌++◌, ◌∙◌, ℕ, List, Option, [], None, replicate, length, get_or, sym, ap, subst, arith}
-use Rattle.std.specs.Prelude.{All}
+use Rattle.std.proofs.Common.{◌≡◌, ◌∙◌, List, Option, [], None, replicate, sym, ap, subst}
 use Rattle.edf_pick.specs.declared.candidate.Candidate.{Candidate}
 use Rattle.edf_pick.specs.declared.moves.Moved.{Moved}
-use Rattle.edf_pick.specs.Order.{with_candidate}
 use Rattle.edf_pick.specs.Places.{Places}
-use Rattle.edf_pick.specs.Schedule.{ScheduleView, IsAtHome}
-use Rattle.edf_pick.specs.private.Waiting.{held, all_of, IsWaiting}
+use Rattle.edf_pick.specs.private.Waiting.{all_of, IsWaiting}
 use Rattle.edf_pick.proofs.Left.{opened_is, opened_all}
 use Rattle.edf_pick.proofs.schedule.Schedule.open.Goals as goal
 

@@ -1,4 +1,4 @@
-use Rattle.std.proofs.Common.{◌≡◌, ◌∙◌, List, Option, length, sym, ap}
+use Rattle.std.proofs.Common.{◌∙◌, List, Option, length, sym, ap}
 use Rattle.edf_pick.specs.declared.candidate.Candidate.{Candidate}
 use Rattle.edf_pick.proofs.Stays.{view_length}
 use Rattle.edf_pick.proofs.staying.Staying.cpus.Goals as goal

@@ -1,11 +1,9 @@
-use Rattle.std.proofs.Common.{◌≡◌, ◌∙◌, ◌*◌, ◌+◌, ◌<◌, ℕ, List, Option, Some, None, false, length, get_or, sym, ap, subst, arith}
+use Rattle.std.proofs.Common.{◌≡◌, ◌∙◌, List, Option, None, false, get_or, sym, ap, subst, arith}
 use Rattle.std.specs.Prelude.{All}
-use Rattle.std.specs.Int.{bit_at}
 use Rattle.std.proofs.lemmas.Nat.Bits.{bit_at-zero}
 use Rattle.edf_pick.specs.declared.candidate.Candidate.{Candidate}
 use Rattle.edf_pick.specs.Choice.{is_before}
 use Rattle.edf_pick.specs.private.Waiting.{held}
-use Rattle.edf_pick.specs.private.Staying.{bare_key, IsStaying}
 use Rattle.edf_pick.proofs.Stays.{latest_bound, latest_at, held_bound, latest_stays}
 use Rattle.edf_pick.proofs.staying.Staying.latest.Goals as goal
 

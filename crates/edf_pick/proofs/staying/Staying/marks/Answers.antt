@@ -1,4 +1,4 @@
-use Rattle.std.proofs.Common.{◌≡◌, List, Option, subst}
+use Rattle.std.proofs.Common.{List, Option, subst}
 use Rattle.edf_pick.specs.declared.candidate.Candidate.{Candidate}
 use Rattle.edf_pick.specs.Places.{AreTaken}
 use Rattle.edf_pick.specs.private.Waiting.{staying_on}

@@ -1,13 +1,11 @@
-use Rattle.std.proofs.Common.{◌≡◌, ◌<◌, ◌≤◌, ◌+◌, ◌-◌, ◌/◌, ◌∙◌, ℕ, true, List, Option, Some, None, get_or, set, sym, ap, subst, arith, length}
+use Rattle.std.proofs.Common.{◌≡◌, ◌<◌, ◌-◌, ◌∙◌, List, Option, None, get_or, set, sym, ap, arith, length}
 use Rattle.std.specs.Prelude.{is_some}
 use Rattle.std.specs.Int.{bit_at}
-use Rattle.std.proofs.lemmas.Bool.{cases_eq}
-use Rattle.std.proofs.lemmas.List.{get_or-set_same, get_or-set_other, length-set}
 use Rattle.std.proofs.lemmas.Nat.Bits.{bit_at-lt}
 use Rattle.edf_pick.specs.declared.candidate.Candidate.{Candidate}
 use Rattle.edf_pick.specs.private.Staying.{bare_key}
 use Rattle.edf_pick.specs.private.Waiting.{held}
-use Rattle.edf_pick.proofs.Stays.{is_mark, view_at, view_set, stay_bare, count_less, is_off, gone_view}
+use Rattle.edf_pick.proofs.Stays.{is_mark, view_at, count_less, is_off, gone_view}
 use Rattle.edf_pick.proofs.staying.Staying.off.Goals as goal
 use Rattle.edf_pick.proofs.staying.Staying.off.Goals.{After-self}
 

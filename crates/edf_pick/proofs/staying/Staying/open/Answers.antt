@@ -1,4 +1,4 @@
-use Rattle.std.proofs.Common.{◌≡◌, ◌∙◌, List, Option, replicate, take, ap, sym, subst}
+use Rattle.std.proofs.Common.{◌∙◌, List, replicate, take, ap, sym, subst}
 use Rattle.std.specs.Int.{bit_at}
 use Rattle.edf_pick.specs.declared.candidate.Candidate.{Candidate}
 use Rattle.edf_pick.specs.private.Staying.{bare_key, stays_of, IsStaying}
