@@ -11,7 +11,8 @@
 //! run again. To the crate above they promise: `Ok` means that what was written is that text of the
 //! runs of the sections, each on a domain of its own, and nothing else; each fault means what it
 //! says, and where it is no fault of the writer, nothing was written. The trace of one section goes
-//! out while its run is made, so its switches are not kept. `proofs/CallerLemmas.antt` has
+//! out while its run is made, so its switches are not kept; of runs from which another text is made,
+//! or of several sections, each call is made as soon as it is read. `proofs/CallerLemmas.antt` has
 //! laws for callers: the calls text of histories is read again, and its replay writes the same trace.
 #![tactic(auto)]
 
