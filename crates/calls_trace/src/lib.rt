@@ -2,8 +2,8 @@
 //!
 //! [`replay_as`] reads recorded calls and writes the text that is asked for: their trace, their
 //! replies, the trace with what happens, the jobs or the figures of what happens, or a chart of a
-//! part of their run; [`replay`] writes the trace. They meet the definition of what a replay answers
-//! (`specs/Answer.antt`), over the trace of the sections that a calls text spells
+//! part of their run; [`replay`] writes the trace. They meet the definition of what a replay
+//! answers (`specs/Answer.antt`), over the trace of the sections that a calls text spells
 //! (`specs/Replay.antt`), what happens in them (`specs/Told.antt`), and their chart
 //! (`specs/Charted.antt`). [`write_run_as`] writes the same of histories whose states and logs are
 //! at hand (`specs/Written.antt`), and [`write_heard_summary`] the summary of histories whose runs
@@ -11,9 +11,10 @@
 //! run again. To the crate above they promise: `Ok` means that what was written is that text of the
 //! runs of the sections, each on a domain of its own, and nothing else; each fault means what it
 //! says, and where it is no fault of the writer, nothing was written. The trace of one section goes
-//! out while its run is made, so its switches are not kept; of runs from which another text is made,
-//! or of several sections, each call is made as soon as it is read. `proofs/CallerLemmas.antt` has
-//! laws for callers: the calls text of histories is read again, and its replay writes the same trace.
+//! out while its run is made, so its switches are not kept; of runs from which another text is
+//! made, or of several sections, each call is made as soon as it is read.
+//! `proofs/CallerLemmas.antt` has laws for callers: the calls text of histories is read again, and
+//! its replay writes the same trace.
 #![tactic(auto)]
 
 mod charting;

@@ -145,8 +145,8 @@ pub(crate) fn unblock(task: &mut Task, time: u64)
     }
 }
 
-/// Part 5: the state in which a listed task leaves its CPU. Not inlined it is read from a table, and
-/// inlined it would be a jump by the condition.
+/// Part 5: the state in which a listed task leaves its CPU. Not inlined it is read from a table,
+/// and inlined it would be a jump by the condition.
 #[inline(never)]
 pub(crate) fn left_in(condition: Condition) -> PrevState
     ensures { result ≡ switches_spec.left_in condition }

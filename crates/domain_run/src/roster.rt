@@ -334,13 +334,13 @@ impl Roster {
         self.doubts.mark_left(cpu, sat);
     }
 
-    /// As `turn`, of a task on whose CPU nobody sits, since it has been charged: nobody looks for its
-    /// seat, and no CPU comes in doubt.
+    /// As `turn`, of a task on whose CPU nobody sits, since it has been charged: nobody looks for
+    /// its seat, and no CPU comes in doubt.
     #[inline(always)]
     pub(crate) fn turn_charged(&mut self, place: usize, time: u64, change: &Change)
         requires there { place < length self.old.tasks }
-        requires free { (d : Task)
-            → slice_index_or self.old.seats (slice_index_or self.old.tasks place d).cpu None ≡ None }
+        requires free { (d : Task) → slice_index_or self.old.seats
+            (slice_index_or self.old.tasks place d).cpu None ≡ None }
         requires fits { Fits self.old.cpus change.now }
         requires sound { All (IsSound time) self.old.tasks }
         requires may { (d : Task) → MayMake time change.now (slice_index_or self.old.tasks place d) }

@@ -1,5 +1,5 @@
-//! The choice of the next tick where who stays stands on his CPU: nothing is done where each occupant
-//! stays and nobody who waits is before one of them.
+//! The choice of the next tick where who stays stands on his CPU: nothing is done where each
+//! occupant stays and nobody who waits is before one of them.
 
 ghost use Rattle.std.specs.Prelude.{◌≡◌, ◌⊎◌, ◌+◌, [], true, false, length, map, slice_index_or, All};
 ghost use Rattle.edf_pick.specs.Changes.{homed};
@@ -32,8 +32,9 @@ fn all_stay(staying: &Staying, placement: &Placement) -> bool
 #[inline(always)]
 fn none_earlier(waiting: &Queue, staying: &Staying, cpus: usize) -> bool
     ensures all { result ≡ true → (waiting.now ≡ []) ⊎ (length (spec.held staying.now) ≡ cpus) }
-    ensures first { result ≡ true → (waiting.now ≡ []) ⊎ All (λ a.
-        choice.is_before (slice_index_or waiting.now 0 bare_key) a ≡ false) (spec.held staying.now) }
+    ensures first { result ≡ true → (waiting.now ≡ [])
+        ⊎ All (λ a. choice.is_before (slice_index_or waiting.now 0 bare_key) a ≡ false)
+        (spec.held staying.now) }
 {
     let tasks = waiting.as_slice();
     if tasks.is_empty() {

@@ -55,8 +55,8 @@ pub trait Slices {
 }
 
 // The lines of the slice that is at hand go out behind what waits: how many bytes went out, also
-// where the writer failed. What is left waits. The texts of tasks are those by the names of the whole
-// run, so they are kept for the slices that follow.
+// where the writer failed. What is left waits. The texts of tasks are those by the names of the
+// whole run, so they are kept for the slices that follow.
 fn send_slice<S: Slices, W: Write>(
     slices: &S,
     slots: &mut [Slot],

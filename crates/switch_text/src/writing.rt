@@ -105,9 +105,9 @@ fn together(sent: usize, more: usize) -> usize
     sent + more
 }
 
-/// The lines of runs, by time and CPU, go out behind what waits: how many bytes went out, also where
-/// the writer failed. What is left waits. The texts of tasks that are kept are those by the names of
-/// whole runs, of which these may be slices.
+/// The lines of runs, by time and CPU, go out behind what waits: how many bytes went out, also
+/// where the writer failed. What is left waits. The texts of tasks that are kept are those by the
+/// names of whole runs, of which these may be slices.
 #[inline(always)]
 pub(crate) fn send_runs<W: Write>(
     runs: &[Run<'_>],

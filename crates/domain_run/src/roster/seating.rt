@@ -166,8 +166,8 @@ impl Roster {
         }
     }
 
-    /// The task at a place, which stands on a CPU where nobody sits and belongs to it, sits there at
-    /// its rate.
+    /// The task at a place, which stands on a CPU where nobody sits and belongs to it, sits there
+    /// at its rate.
     #[inline(always)]
     fn occupy(&mut self, cpu: usize, place: usize, limit: u64)
         requires there { cpu < self.old.cpus }

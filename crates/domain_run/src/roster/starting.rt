@@ -236,8 +236,8 @@ fn seat_next(
     }
 }
 
-/// Each task to which the last choice gave a CPU belongs to it and sits there at its rate, and there
-/// is a switch for each of these CPUs.
+/// Each task to which the last choice gave a CPU belongs to it and sits there at its rate, and
+/// there is a switch for each of these CPUs.
 #[inline(always)]
 pub(super) fn seat_moved(
     tasks: &mut Vec<Task>,
