@@ -29,6 +29,7 @@ mod room;
 mod schedule;
 mod seats;
 mod settling;
+mod single;
 mod staying;
 
 pub use candidate::Candidate;

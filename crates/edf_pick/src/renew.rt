@@ -13,8 +13,9 @@ ghost use Rattle.edf_pick.specs.private.Waiting as spec;
 use crate::choosing::choose_all;
 use crate::movers::Movers;
 use crate::moves::Moves;
-use crate::placement::{Placement, settle};
+use crate::placement::Placement;
 use crate::queue::Queue;
+use crate::single::settle_all;
 use crate::staying::Staying;
 
 // Whether each occupant stays.
@@ -75,7 +76,7 @@ fn pick_anew(
     let _ = waiting.as_slice();
     let occupants = placement.occupants();
     choose_all(waiting, staying, movers, occupants);
-    settle(placement, staying, movers.as_slice(), moves);
+    settle_all(placement, staying, movers.as_slice(), moves);
 }
 
 /// The choice and its placement, of those who stay and those who wait, as one queue. Lists the CPUs
