@@ -1,7 +1,7 @@
 //! The choice of the next tick where who stays stands on his CPU: nothing is done where each occupant
 //! stays and nobody who waits is before one of them.
 
-ghost use Rattle.std.specs.Prelude.{◌≡◌, ◌⊎◌, ◌+◌, [], true, false, length, map, slice_index_or, All};
+ghost use Rattle.std.specs.Prelude.{◌≡◌, ◌<◌, ◌⊎◌, ◌+◌, [], true, false, length, map, slice_index_or, All};
 ghost use Rattle.edf_pick.specs.Changes.{homed};
 ghost use Rattle.edf_pick.specs.Choice as choice;
 ghost use Rattle.edf_pick.specs.Moves.{moved_from};
@@ -15,7 +15,7 @@ use crate::movers::Movers;
 use crate::moves::Moves;
 use crate::placement::Placement;
 use crate::queue::Queue;
-use crate::single::settle_all;
+use crate::single::{pick_first, settle_all};
 use crate::staying::Staying;
 
 // Whether each occupant stays.
@@ -53,6 +53,16 @@ fn is_still(waiting: &Queue, staying: &Staying, placement: &Placement) -> bool
     // For the prover alone: a look at the queue brings what its type keeps.
     let _ = waiting.as_slice();
     all_stay(staying, placement) && none_earlier(waiting, staying, placement.occupants().len())
+}
+
+// Whether there is one CPU, nobody stays there, and one waits.
+#[inline(always)]
+fn is_first_alone(waiting: &Queue, staying: &Staying, placement: &Placement) -> bool
+    ensures one { result ≡ true → length placement.now ≡ 1 }
+    ensures bare { result ≡ true → length (spec.held staying.now) ≡ 0 }
+    ensures some { result ≡ true → 0 < length waiting.now }
+{
+    placement.occupants().len() == 1 && staying.busy() == 0 && !waiting.is_empty()
 }
 
 // As `pick_waiting`, where something may have changed.
@@ -101,6 +111,10 @@ pub(crate) fn pick_waiting(
     let _ = placement.occupants();
     if is_still(waiting, staying, placement) {
         moves.clear();
+        return;
+    }
+    if is_first_alone(waiting, staying, placement) {
+        pick_first(waiting, staying, placement, moves);
         return;
     }
     pick_anew(waiting, staying, movers, placement, moves);
