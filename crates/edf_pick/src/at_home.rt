@@ -1,5 +1,5 @@
-//! What a choice finds: from which CPUs somebody goes, and which of the chosen tasks do not stand on
-//! the CPU to which they belong.
+//! What a choice finds: from which CPUs somebody goes, and which of the chosen tasks do not stand
+//! on the CPU to which they belong.
 
 ghost use Rattle.std.specs.Prelude.{ℕ, ◌≡◌, ◌<◌, ◌≤◌, None, length, take, vec_len, vec_capacity, slice_index_or};
 ghost use Rattle.std.specs.Int.{bit_at};

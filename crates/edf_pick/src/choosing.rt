@@ -1,6 +1,6 @@
-//! The choice: as many of the first tasks as there are CPUs, by a look at those who wait alone. Where
-//! a CPU is left for one the first of them is chosen; where none is, it displaces the latest of those
-//! who stay if it is before that one, who waits then.
+//! The choice: as many of the first tasks as there are CPUs, by a look at those who wait alone.
+//! Where a CPU is left for one the first of them is chosen; where none is, it displaces the latest
+//! of those who stay if it is before that one, who waits then.
 
 ghost use Rattle.std.specs.Prelude.{◌≡◌, ◌<◌, ◌≤◌, ◌+◌, ◌⊎◌, ◌++◌, ◌∷◌, [], true, false, length, slice_index_or, slice_set, All, IfNone, IfSome, None, Some};
 ghost use Rattle.std.specs.List.Sorted.{IsPermutation};

@@ -25,7 +25,8 @@ fn is_staying(staying: &Staying, cpu: usize, c: &Candidate) -> bool
 #[cold]
 #[inline(never)]
 fn find_staying(staying: &Staying, c: &Candidate) -> Option<usize>
-    ensures found { IfSome result (λ cpu. spec.is_there c.now (slice_index_or staying.now cpu None) ≡ true) }
+    ensures found { IfSome result (λ cpu.
+        spec.is_there c.now (slice_index_or staying.now cpu None) ≡ true) }
     ensures none { IfNone result ((cpu : ℕ)
         → spec.is_there c.now (slice_index_or staying.now cpu None) ≡ false) }
 {

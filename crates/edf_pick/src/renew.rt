@@ -1,5 +1,5 @@
-//! The choice of the next tick where who stays stands on its CPU: nothing is done where each occupant
-//! stays and nobody who waits is before one of them.
+//! The choice of the next tick where who stays stands on its CPU: nothing is done where each
+//! occupant stays and nobody who waits is before one of them.
 
 ghost use Rattle.std.specs.Prelude.{◌≡◌, ◌<◌, ◌⊎◌, ◌+◌, [], true, false, length, map, slice_index_or, All};
 ghost use Rattle.edf_pick.specs.Changes.{homed};

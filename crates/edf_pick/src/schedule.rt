@@ -19,10 +19,10 @@ use crate::staying::Staying;
 use std::alloc::{AllocError, Global};
 use std::marker::Model;
 
-/// The ready tasks of a root domain and who stands on each of its CPUs. Only those who wait stand in a
-/// queue, apart from those who stay where they stand: contracts see both as one queue in the order of
-/// the choice. One where two tasks have one number, or where a task stands away from home, cannot be
-/// built.
+/// The ready tasks of a root domain and who stands on each of its CPUs. Only those who wait stand
+/// in a queue, apart from those who stay where they stand: contracts see both as one queue in the
+/// order of the choice. One where two tasks have one number, or where a task stands away from home,
+/// cannot be built.
 #[derive(Drop)]
 pub struct Schedule {
     waiting: Queue,

@@ -81,8 +81,8 @@ pub(crate) fn settle_all(
     settle(placement, staying, movers, moves);
 }
 
-/// As [`crate::renew::pick_waiting`], on one CPU where nobody stays: the first of those who wait has
-/// it.
+/// As [`crate::renew::pick_waiting`], on one CPU where nobody stays: the first of those who wait
+/// has it.
 #[inline(always)]
 pub(crate) fn pick_first(
     waiting: &mut Queue,
