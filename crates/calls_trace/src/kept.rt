@@ -72,6 +72,22 @@ impl Kept {
         }
     }
 
+    /// The call.
+    pub(crate) fn into_call(self) -> Call
+        ensures { result ≡ call_of self }
+    {
+        match self {
+            Kept::Wake { number } => Call::Wake { number },
+            Kept::Leave { number } => Call::Leave { number },
+            Kept::Depart { number } => Call::Depart { number },
+            Kept::Advance { ticks } => Call::Advance { ticks },
+            Kept::Long(spelled) => {
+                let Spelled { call, text: _ } = Box::into_inner(spelled);
+                call
+            }
+        }
+    }
+
     /// For how many names the call needs room: none, or one.
     fn room(&self) -> usize
         ensures { result ≡ room_of self.now }

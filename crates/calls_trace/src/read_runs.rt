@@ -1,20 +1,15 @@
-//! The runs of the sections of a calls text, of which each call is made as soon as it is read.
+//! The run of a section of a calls text, of which each call is made as soon as it is read.
 
-ghost use Rattle.std.specs.Prelude.{◌≡◌, ◌<◌, ◌≤◌, ℕ, List, Ok, IfOk, IfErr, IfSome};
+ghost use Rattle.std.specs.Prelude.{◌≡◌, ◌<◌, ◌≤◌, ℕ, List, Ok, IfOk, IfSome};
 ghost use Rattle.call_book.specs.SectionView.{SectionView};
 ghost use Rattle.call_book.specs.Limits.{IsEntry};
-ghost use Rattle.call_book.specs.BadLine.{IsReadFault};
 ghost use Rattle.call_book.specs.Reader.{IsWithin, IsNextEntry, begun, left};
-ghost use Rattle.calls_trace.specs.private.ReadRuns.{IsBegun, IsReadRun, AreReadRuns};
+ghost use Rattle.calls_trace.specs.private.ReadRuns.{IsBegun, IsReadRun};
 
 use crate::named_run::RunWithNames;
-use crate::placed_run::PlacedRun;
-use call_book::{CallsFault, CallsReader, Entry};
+use call_book::{CallsReader, Entry};
 use domain_run::NoMemory;
 use std::alloc::Global;
-
-/// The most sections of a text.
-const MOST_SECTIONS: usize = 8;
 
 /// The next entry of a section; none behind its last one.
 pub(crate) fn next_of(
@@ -35,7 +30,7 @@ pub(crate) fn next_of(
 }
 
 /// The run of the section that a reader has begun, of which it has read no call yet.
-fn run_read(
+pub(crate) fn run_read(
     alloc: Global,
     cpus: u32,
     limit: u64,
@@ -53,30 +48,4 @@ fn run_read(
         run.make(alloc, entry.call)?;
     }
     Ok(run)
-}
-
-/// The runs of the sections of a text, each on a domain of its own: the first has the first CPUs of
-/// the machine, the second the next ones, and so on. What happens in them is told where that is
-/// wanted.
-pub(crate) fn runs_of_text(
-    alloc: Global,
-    text: &[u8],
-    wanted: bool,
-) -> Result<Vec<PlacedRun>, CallsFault>
-    ensures runs { IfOk result (λ v. AreReadRuns text.now wanted v.items) }
-    ensures fault { IfErr result (IsReadFault text.now) }
-{
-    let mut reader = CallsReader::open(text)?;
-    let Ok(mut runs) = Vec::with_capacity(alloc, MOST_SECTIONS) else {
-        return Err(CallsFault::Memory);
-    };
-    let mut base: u32 = 0;
-    while let Some((cpus, limit)) = reader.next_domain()? {
-        let Ok(run) = run_read(alloc, cpus, limit, &mut reader, wanted) else {
-            return Err(CallsFault::Memory);
-        };
-        runs.push_reserved(PlacedRun { base, run });
-        base += cpus;
-    }
-    Ok(runs)
 }

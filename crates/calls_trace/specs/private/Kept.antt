@@ -3,15 +3,20 @@ use Rattle.std.specs.Prelude.{ℕ, ◌≡◌, List, [], ◌∷◌, ◌++◌, map
 use Rattle.std.specs.String.{string_bytes}
 use Rattle.domain_run.specs.declared.call.Call.{Call}
 use Rattle.domain_run.specs.declared.call.Call.TheVariants as calls
+use Rattle.domain_run.specs.Run.{after_calls}
 use Rattle.call_book.specs.SectionView.{SectionView}
 use Rattle.call_book.specs.Spelling.{spelling}
 use Rattle.call_book.specs.Limits.{IsSection, AreRead}
 use Rattle.call_book.specs.Reader.{ReaderView, IsBehind, IsWithin}
-use Rattle.calls_trace.specs.Replay.{calls_of}
+use Rattle.switch_text.specs.Names.{named}
+use Rattle.calls_trace.specs.Replay.{calls_of, names_of}
+use Rattle.calls_trace.specs.Told.{domain_of, names_in, params_of, params_in}
 use Rattle.calls_trace.specs.declared.kept.Kept.{Kept}
 use Rattle.calls_trace.specs.declared.kept.Kept.TheVariants.{Wake, Leave, Depart, Advance, Long}
 use Rattle.calls_trace.specs.declared.kept_section.KeptSection.{KeptSection}
+use Rattle.calls_trace.specs.declared.named_run.RunWithNames.{RunWithNames}
 use Rattle.calls_trace.specs.private.Calls.{IsReady, name_given}
+use Rattle.calls_trace.specs.private.Replaying.{given_in}
 
 -- the call that is kept
 abbrev pub call_of : Kept → Call
@@ -73,6 +78,12 @@ pub record IsReadSection (text : List ℕ) (before : List SectionView) (reader :
   pub is : IsSection section
   pub behind : IsBehind text (before ++ section ∷ []) reader
   pub same : IsKeptSection section k
+
+-- of a section whose calls are kept, some are made, and these are left, the last one first
+pub record IsMadeUpTo (s : SectionView) (left : List Kept) (r : RunWithNames) : Type 0 where
+  pub domain : after_calls r.state (calls_left left) ≡ domain_of s
+  pub called : (n : ℕ) → names_of r.state (calls_left left) (named r.names) n ≡ names_in s n
+  pub params : (n : ℕ) → params_of r.state (calls_left left) (given_in r.given) n ≡ params_in s n
 
 -- the text spells one section, and its calls are kept
 pub record IsOnly (text : List ℕ) (k : KeptSection) : Type 0 where
