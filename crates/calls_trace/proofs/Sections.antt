@@ -11,9 +11,10 @@ use Rattle.domain_run.specs.Log.{LogView}
 use Rattle.call_book.specs.declared.section.Entry.{Entry}
 use Rattle.call_book.specs.SectionView.{SectionView}
 use Rattle.call_book.specs.Limits.{IsCall, IsSection}
-use Rattle.calls_trace.specs.declared.kept.Kept.{Kept}
+use Rattle.call_book.specs.declared.kept_call.Kept.{Kept}
 use Rattle.calls_trace.specs.declared.kept_section.KeptSection.{KeptSection}
-use Rattle.calls_trace.specs.private.Kept.{IsKeptSection, call_of, calls_left}
+use Rattle.call_book.specs.KeptCall.{call_of}
+use Rattle.calls_trace.specs.private.Kept.{IsKeptSection, calls_left}
 use Rattle.calls_trace.specs.Replay.{names_of, names_after}
 use Rattle.calls_trace.specs.Told.{params_of, params_after}
 use Rattle.calls_trace.specs.private.Replaying.{heard}

@@ -4,15 +4,15 @@ ghost use Rattle.std.specs.Prelude.{◌≡◌, ℕ, [], ◌∷◌, false, List, 
 ghost use Rattle.call_book.specs.declared.section.Entry.{Entry};
 ghost use Rattle.call_book.specs.SectionView.{SectionView};
 ghost use Rattle.call_book.specs.Limits.{IsCall, IsSection};
+ghost use Rattle.call_book.specs.KeptCall.{call_of};
 ghost use Rattle.call_book.specs.Reader.{IsWithin, begun, with_entries};
 ghost use Rattle.calls_trace.specs.private.Kept.{IsKeptSection, IsReadSection, KeepsSection};
 ghost use Rattle.calls_trace.specs.private.Replaying.{IsRunOf, IsToldOf};
 
-use crate::kept::Kept;
 use crate::named_run::RunWithNames;
 use crate::read_runs::next_of;
-use call_book::CallsReader;
-use domain_run::{Call, NoMemory};
+use call_book::{CallsReader, Kept};
+use domain_run::NoMemory;
 use std::alloc::Global;
 
 /// A domain, and the calls on it in their order.
@@ -27,13 +27,12 @@ pub(crate) struct KeptSection {
 
 impl KeptSection {
     /// One call more, behind those that are kept.
-    fn push(&mut self, alloc: Global, call: Call) -> Result<(), NoMemory>
-        requires { IsCall call }
+    fn push(&mut self, kept: Kept) -> Result<(), NoMemory>
+        requires { IsCall (call_of kept) }
         ensures { (section : SectionView) (entry : Entry) → IsKeptSection section self.old
-            → entry.call ≡ call
+            → entry.call ≡ call_of kept
             → OnOk result (IsKeptSection (with_entries section (entry ∷ [])) self.new) }
     {
-        let kept = Kept::of(alloc, call)?;
         match self.calls.push(kept) {
             Ok(()) => {}
             Err(_) => return Err(NoMemory),
@@ -79,8 +78,8 @@ pub(crate) fn section_read(
         limit,
         calls: Vec::new(alloc),
     };
-    while let Some(entry) = next_of(alloc, reader)? {
-        section.push(alloc, entry.call)?;
+    while let Some(kept) = next_of(alloc, reader)? {
+        section.push(kept)?;
     }
     Ok(section)
 }

@@ -22,7 +22,6 @@ mod charting;
 mod counted_run;
 mod fault;
 mod figures;
-mod given_names;
 mod heard_summary;
 mod kept;
 mod kept_section;

@@ -2,28 +2,26 @@
 
 ghost use Rattle.std.specs.Prelude.{◌≡◌, ◌<◌, ◌≤◌, ℕ, List, Ok, IfOk, IfSome};
 ghost use Rattle.call_book.specs.SectionView.{SectionView};
-ghost use Rattle.call_book.specs.Limits.{IsEntry};
-ghost use Rattle.call_book.specs.Reader.{IsWithin, IsNextEntry, begun, left};
+ghost use Rattle.call_book.specs.Limits.{IsCall};
+ghost use Rattle.call_book.specs.KeptCall.{IsNextKept, call_of};
+ghost use Rattle.call_book.specs.Reader.{IsWithin, begun, left};
 ghost use Rattle.calls_trace.specs.private.ReadRuns.{IsBegun, IsReadRun};
 
 use crate::named_run::RunWithNames;
-use call_book::{CallsReader, Entry};
+use call_book::{CallsReader, Kept};
 use domain_run::NoMemory;
 use std::alloc::Global;
 
-/// The next entry of a section; none behind its last one.
-pub(crate) fn next_of(
-    alloc: Global,
-    reader: &mut CallsReader<'_>,
-) -> Result<Option<Entry>, NoMemory>
+/// The next call of a section; none behind its last one.
+pub(crate) fn next_of(alloc: Global, reader: &mut CallsReader<'_>) -> Result<Option<Kept>, NoMemory>
     ensures next { (text : List ℕ) (before : List SectionView) (section : SectionView)
         → IsWithin text before section reader.old
-        → IfOk result (λ found. IsNextEntry text before section reader.new (Ok found)) }
-    ensures entry { IfOk result (λ found. IfSome found IsEntry) }
+        → IfOk result (λ found. IsNextKept text before section reader.new (Ok found)) }
+    ensures call { IfOk result (λ found. IfSome found (λ kept. IsCall (call_of kept))) }
     ensures less { IfOk result (λ found. IfSome found (λ _. left reader.new < left reader.old)) }
     ensures never_more { left reader.new ≤ left reader.old }
 {
-    match reader.next_entry(alloc) {
+    match reader.next_kept(alloc) {
         Ok(found) => Ok(found),
         Err(_) => Err(NoMemory),
     }
@@ -44,8 +42,8 @@ pub(crate) fn run_read(
     ensures never_more { left reader.new ≤ left reader.old }
 {
     let mut run = RunWithNames::open(alloc, cpus, limit, wanted)?;
-    while let Some(entry) = next_of(alloc, reader)? {
-        run.make(alloc, entry.call)?;
+    while let Some(kept) = next_of(alloc, reader)? {
+        run.make(alloc, kept.into_call())?;
     }
     Ok(run)
 }

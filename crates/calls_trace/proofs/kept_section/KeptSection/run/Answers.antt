@@ -13,8 +13,9 @@ use Rattle.call_book.specs.Limits.{IsCall}
 use Rattle.switch_text.specs.Names.{named}
 use Rattle.calls_trace.specs.Replay.{names_of, names_after, no_names, calls_of}
 use Rattle.calls_trace.specs.Told.{names_in, params_in, params_of, params_after, no_params}
-use Rattle.calls_trace.specs.declared.kept.Kept.{Kept}
-use Rattle.calls_trace.specs.private.Kept.{call_of, calls_left}
+use Rattle.call_book.specs.declared.kept_call.Kept.{Kept}
+use Rattle.call_book.specs.KeptCall.{call_of}
+use Rattle.calls_trace.specs.private.Kept.{calls_left}
 use Rattle.calls_trace.specs.private.Replaying.{given_in}
 use Rattle.calls_trace.proofs.Sections.{kept_calls, no_calls, left_more, left_names, left_params, unheard}
 use Rattle.calls_trace.proofs.kept_section.KeptSection.run.Goals as goal

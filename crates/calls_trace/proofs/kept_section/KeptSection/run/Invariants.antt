@@ -2,7 +2,8 @@ use Rattle.std.proofs.Common.{◌≡◌, ◌≤◌, ◌+◌, ◌*◌, ◌^◌, f
 use Rattle.std.specs.Prelude.{All}
 use Rattle.call_book.specs.SectionView.{SectionView}
 use Rattle.call_book.specs.Limits.{IsCall}
-use Rattle.calls_trace.specs.private.Kept.{IsKeptSection, IsMadeUpTo, call_of}
+use Rattle.call_book.specs.KeptCall.{call_of}
+use Rattle.calls_trace.specs.private.Kept.{IsKeptSection, IsMadeUpTo}
 use Rattle.calls_trace.specs.private.Replaying.{AreNamed}
 use Rattle.calls_trace.proofs.kept_section.KeptSection.run.Given as goal
 
