@@ -372,8 +372,8 @@ impl Roster {
         }
     }
 
-    /// The choice of a tick and its placement, by what has changed since the last one. Who stands on
-    /// a CPU then belongs to it.
+    /// The choice of a tick and its placement, by a look at those who wait alone. Who stands on a
+    /// CPU then belongs to it.
     pub(crate) fn choose(&mut self)
         requires wide { length self.old.places ≡ self.old.cpus }
         requires apart { IsApart self.old.places }

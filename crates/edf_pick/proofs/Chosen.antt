@@ -28,7 +28,7 @@ use Rattle.edf_pick.proofs.Stays.{count_more, count_less}
 use Rattle.edf_pick.proofs.Waits.{numbers_apart, on_less}
 
 -- ONE MORE IS CHOSEN
-home_within : (places : Places) (c : Candidate) → is_home places c ≡ true → c.home < length places
+pub home_within : (places : Places) (c : Candidate) → is_home places c ≡ true → c.home < length places
 home_within places c home = by_place (get_or_past places c.home None)
   where
     clash : length places ≤ c.home → ⊥

@@ -5,6 +5,7 @@ pub mod Held
 pub mod Left
 pub mod Marked
 pub mod Moving
+pub mod OneCpu
 pub mod Picked
 pub mod Resting
 pub mod Rising

@@ -1,9 +1,10 @@
 -- Lists that rise in the order of the choice, and a task's place in them.
-use Rattle.std.proofs.Common.{◌≡◌, ◌<◌, ℕ, subst, suc, ◌+◌, Bool, true, false, cond, List, [], ◌∷◌, length, get_or, refl, sym, ap, ◌∙◌, arith, inl, inr}
+use Rattle.std.proofs.Common.{◌≡◌, ◌<◌, ℕ, subst, suc, ◌+◌, ◌-◌, Bool, true, false, cond, List, [], ◌∷◌, length, get_or, refl, sym, ap, ◌∙◌, arith, inl, inr}
 use Rattle.std.specs.Prelude.{All, not}
 use Rattle.std.specs.List.{insert, remove, prefix_len}
 use Rattle.std.specs.List.Sorted.{IsPartitionedBy}
 use Rattle.std.proofs.lemmas.Bool.{cond_both, or_parts, or_from, cases_lt}
+use Rattle.std.proofs.lemmas.List.{get_or_default}
 use Rattle.std.proofs.lemmas.List.Elements.{All-nil, All-cons, All-head, All-tail, All-weaker}
 use Rattle.std.proofs.lemmas.List.Kept.{AllPairs-cons, AllPairs-filter}
 use Rattle.std.proofs.lemmas.List.Edits.{length-insert, length-remove}
@@ -38,6 +39,22 @@ rising_parted c queue rising i j d h within later =
       | inl less ↦ before_both (get_or queue i d) (get_or queue j d) c (rising i j d less within) later
       | inr more ↦ let same : i ≡ j = omega arith in rw same later
     ]
+
+-- where the last is before c all are
+all_first : (c : Candidate) (queue : List Candidate) → All (λ a. is_before a c ≡ true) queue → place c queue ≡ length queue
+all_first c [] all = refl
+all_first c (a ∷ queue) all =
+    let rest = all_first c queue (All-tail (λ b. is_before b c ≡ true) a queue all) in
+    ap (λ (b : Bool). cond b (1 + place c queue) 0) (All-head (λ b. is_before b c ≡ true) a queue all) ∙ omega (arith, rest)
+
+pub place_none : (c : Candidate) (queue : List Candidate) → length queue ≡ 0 → place c queue ≡ length queue
+place_none c [] e = refl
+place_none c (a ∷ queue) e = absurd (omega arith)
+
+pub place_end : (c : Candidate) (queue : List Candidate) (d : Candidate) (end : ℕ) → IsRising queue → end ≡ length queue → (end ≡ 0 → ⊥) → is_before (get_or queue (end - 1) d) c ≡ true → place c queue ≡ length queue
+place_end c queue d end rising is some last =
+    let h : end - 1 < length queue = omega (arith, is, some) in
+    all_first c queue (λ k e l. rising_parted c queue rising k (end - 1) e (omega (arith, l, is)) h (ap (λ (a : Candidate). is_before a c) (get_or_default queue (end - 1) e d h) ∙ last))
 
 -- WITH
 pub All-with : (P : Candidate → Type 0) (c : Candidate) (queue : List Candidate) → P c → All P queue → All P (with_candidate c queue)

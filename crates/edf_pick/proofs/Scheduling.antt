@@ -1,4 +1,4 @@
--- One task more and one less in a schedule.
+-- A task that a queue has, and one that it has not.
 use Rattle.std.proofs.Common.{◌≡◌, ◌≢◌, true, false, List, get_or, sym, ◌∙◌, inl, inr}
 use Rattle.std.specs.Prelude.{All}
 use Rattle.std.proofs.lemmas.Bool.{cases_Bool}

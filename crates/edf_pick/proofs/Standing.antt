@@ -1,4 +1,4 @@
--- After a choice each chosen task stands on a CPU, and nobody else does.
+-- Where a task stands, and that there is a seat as long as fewer stand than there are CPUs.
 use Rattle.std.proofs.Common.{◌≡◌, ◌<◌, ◌+◌, ℕ, suc, Bool, true, false, cond, ◌||◌, Option, Some, None, [], ◌∷◌, length, get_or, refl, sym, ap, ◌∙◌, arith, inl, inr}
 use Rattle.std.specs.Prelude.{is_none, position, slice_get}
 use Rattle.std.specs.List.{position_or_len}
@@ -9,7 +9,6 @@ use Rattle.edf_pick.specs.declared.candidate.Candidate.{Candidate}
 use Rattle.edf_pick.specs.Places.{Places, taken, is_task, stands, is_free, seat_of}
 use Rattle.edf_pick.proofs.Marked.{task_is}
 
--- ONLY CHOSEN TASKS STAND
 -- HOW MANY STAND
 abbrev pub busy : Places → ℕ
 busy [] = 0

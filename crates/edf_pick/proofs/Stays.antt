@@ -4,13 +4,13 @@ use Rattle.std.specs.Prelude.{All, is_some}
 use Rattle.std.specs.Int.{bit_at}
 use Rattle.std.proofs.lemmas.Bool.{cases_eq, cases_lt, false_from_ne_true, both_ways}
 use Rattle.std.proofs.lemmas.List.{same_lists, get_or_default, get_or-take, get_or-set_same, get_or-set_other, get_or-replicate, get_or_past, length-set, length-take, length-replicate}
-use Rattle.std.proofs.lemmas.List.Elements.{All-nil, All-cons}
 use Rattle.std.proofs.lemmas.Nat.Bits.{bit_at-lt, bit_at-zero}
 use Rattle.edf_pick.specs.declared.candidate.Candidate.{Candidate}
 use Rattle.edf_pick.specs.Choice.{is_before}
 use Rattle.edf_pick.specs.Places.{taken, AreTaken}
 use Rattle.edf_pick.specs.private.Waiting.{held, number_of, staying_on}
 use Rattle.edf_pick.specs.private.Staying.{bare_key, stay_of, stays_of, IsLatest, IsStaying}
+use Rattle.edf_pick.proofs.Held.{All_held}
 use Rattle.edf_pick.proofs.Before.{before_tells, before_past}
 
 -- THE ORDER
@@ -95,16 +95,6 @@ pub stay_bare : (m : ℕ) (c : Candidate) → m ≡ 0 → stay_of m c ≡ None
 stay_bare m c e = ap (λ (n : ℕ). stay_of n c) e
 
 -- THOSE WHO STAY
-pub all_held : (P : Candidate → Type 0) (stays : List (Option Candidate)) → ((cpu : ℕ) (c : Candidate) → get_or stays cpu None ≡ Some c → P c) → All P (held stays)
-all_held P [] each = All-nil P
-all_held P (None ∷ stays) each = all_held P stays (λ cpu c e. each (suc cpu) c e)
-all_held P (Some c ∷ stays) each = All-cons P c (held stays) (each 0 c refl) (all_held P stays (λ cpu d e. each (suc cpu) d e))
-
-pub held_few : (stays : List (Option Candidate)) → length (held stays) ≤ length stays
-held_few [] = omega arith
-held_few (None ∷ stays) = let rest = held_few stays in omega (arith, rest)
-held_few (Some c ∷ stays) = let rest = held_few stays in omega (arith, rest)
-
 pub count_more : (stays : List (Option Candidate)) (cpu : ℕ) (c : Candidate) → cpu < length stays → get_or stays cpu None ≡ None → length (held (set stays cpu (Some c))) ≡ length (held stays) + 1
 count_more [] cpu c h bare = absurd (omega arith)
 count_more (None ∷ stays) zero c h bare = omega arith
@@ -355,7 +345,7 @@ pub held_bound : (marks cpus : ℕ) (keys : List Candidate) (c : Candidate) → 
     → All (λ a. is_before c a ≡ false) (held (stays_of (bit_at marks) (take cpus keys)))
 held_bound marks cpus keys c full few within past =
     let view = stays_of (bit_at marks) (take cpus keys) in
-    all_held (λ a. is_before c a ≡ false) view (λ cpu a e.
+    All_held (λ a. is_before c a ≡ false) view (λ cpu a e.
     let at = stay_is (bit_at marks cpu) (get_or keys cpu bare_key) a (bit_at-lt marks cpu) (sym (view_at marks cpus cpu keys full few within) ∙ e) in
     ap (λ (d : Candidate). is_before c d) (sym at.1) ∙ past cpu)
 

@@ -145,7 +145,7 @@ fn displace_all(
     }
 }
 
-/// The choice of those who run: who stays where he stands, who moves, and who waits.
+/// The choice of those who run: who stays where it stands, who moves, and who waits.
 #[inline(always)]
 pub(crate) fn choose_all(
     waiting: &mut Queue,

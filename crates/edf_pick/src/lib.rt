@@ -7,7 +7,7 @@
 //! the crate above it promises that the occupants of the CPUs are exactly those, for a list in any
 //! order too (`proofs/CallerLemmas.antt`), and that neither a queue nor a placement grows: their
 //! types keep the room that they were opened with. [`Schedule`] is both as one
-//! (`specs/Schedule.antt`): who stays on his CPU stands in no queue, so it looks at those who wait
+//! (`specs/Schedule.antt`): who stays on its CPU stands in no queue, so it looks at those who wait
 //! alone, and lists the CPUs that another one has (`specs/Moves.antt`). Who stands on a CPU belongs
 //! to it (`specs/Changes.antt`).
 #![tactic(auto)]
@@ -29,6 +29,7 @@ mod room;
 mod schedule;
 mod seats;
 mod settling;
+mod single;
 mod staying;
 
 pub use candidate::Candidate;

@@ -60,6 +60,15 @@ impl Moves {
         self.list.clear();
     }
 
+    /// The first CPU alone, where this one stood before.
+    #[inline(always)]
+    pub(crate) fn list_first(&mut self, before: Option<u32>)
+        ensures { self.new ≡ record { cpu = 0; before = before } ∷ [] }
+    {
+        self.list.clear();
+        self.list.push_reserved(Moved { cpu: 0, before });
+    }
+
     /// Lists the marked CPUs, which are those whose occupants differ from those before, and brings
     /// those before up to date.
     pub(crate) fn list(
@@ -80,6 +89,17 @@ impl Moves {
         ensures room { vec_capacity before.new ≡ vec_capacity before.old }
     {
         list_all(before, occupants, changed, &mut self.list);
+    }
+}
+
+/// Whether two occupants are one task, or both nobody.
+pub(crate) fn is_same(a: Option<u32>, b: Option<u32>) -> bool
+    ensures { result ≡ spec.same_occupant a b }
+{
+    match (a, b) {
+        (Some(m), Some(n)) => m == n,
+        (None, None) => true,
+        _ => false,
     }
 }
 

@@ -94,6 +94,20 @@ pub(crate) fn place_of(queue: &[Candidate], c: &Candidate) -> usize
     place + one_before(queue, c, place)
 }
 
+/// As `place_of`, with a look at the end first: mostly it is that.
+#[inline(always)]
+pub(crate) fn place_from_end(queue: &[Candidate], c: &Candidate) -> usize
+    requires { order.IsRising queue.now }
+    ensures place { result ≡ prefix_len (λ a. choice.is_before a c.now) queue.now }
+    ensures bound { result ≤ length queue.now }
+{
+    let end = queue.len();
+    if end == 0 || is_before(&queue[end - 1], c) {
+        return end;
+    }
+    place_of(queue, c)
+}
+
 /// Where a queue has the task of the deadline and the number of `c`, by a search.
 pub(crate) fn find(queue: &[Candidate], c: &Candidate) -> Option<usize>
     requires { order.IsRising queue.now }

@@ -52,6 +52,16 @@ fn idle(alloc: Global, cpus: usize) -> Result<Vec<Option<u32>>, AllocError>
     Ok(places)
 }
 
+// The marks of one CPU, where this one stands or nobody.
+fn mark_of(stands: Option<u32>) -> u64
+    ensures { AreTaken (stands ∷ []) result }
+{
+    match stands {
+        Some(_) => 1,
+        None => 0,
+    }
+}
+
 impl Placement {
     /// 1 to 64 idle CPUs. No other call takes memory. `Err` where their room was refused.
     pub fn open(alloc: Global, cpus: usize) -> Result<Placement, AllocError>
@@ -64,6 +74,17 @@ impl Placement {
             taken: 0,
             before: idle(alloc, cpus)?,
         })
+    }
+
+    /// The only CPU has this one from now on, or nobody.
+    #[inline(always)]
+    pub(crate) fn give(&mut self, stands: Option<u32>)
+        requires { length self.old ≡ 1 }
+        ensures { self.new ≡ stands ∷ [] }
+    {
+        self.occupants[0] = stands;
+        self.before[0] = stands;
+        self.taken = mark_of(stands);
     }
 
     /// Who stands on each CPU, from CPU 0 on.

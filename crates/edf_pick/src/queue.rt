@@ -5,7 +5,7 @@ ghost use Rattle.edf_pick.specs.declared.candidate.Candidate.{Candidate};
 ghost use Rattle.edf_pick.specs.Order as order;
 
 use crate::candidate::Candidate;
-use crate::order::{find, place_of};
+use crate::order::{find, place_from_end};
 use crate::room::Room;
 use std::alloc::{AllocError, Global};
 use std::marker::Model;
@@ -73,13 +73,13 @@ impl Queue {
     }
 
     /// Takes in a task whose deadline and number are not there, at its place, found by binary
-    /// search.
+    /// search where it is not the end.
     pub fn insert(&mut self, c: Candidate)
         requires few { length self.old < 256 }
         requires absent { order.has_candidate c self.old ≡ false }
         ensures { self.new ≡ order.with_candidate c self.old }
     {
-        let place = place_of(self.room.as_slice(), &c);
+        let place = place_from_end(self.room.as_slice(), &c);
         self.room.insert(place, c);
     }
 

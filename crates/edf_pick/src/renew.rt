@@ -1,7 +1,7 @@
-//! The choice of the next tick where who stays stands on his CPU: nothing is done where each
+//! The choice of the next tick where who stays stands on its CPU: nothing is done where each
 //! occupant stays and nobody who waits is before one of them.
 
-ghost use Rattle.std.specs.Prelude.{◌≡◌, ◌⊎◌, ◌+◌, [], true, false, length, map, slice_index_or, All};
+ghost use Rattle.std.specs.Prelude.{◌≡◌, ◌<◌, ◌⊎◌, ◌+◌, [], true, false, length, map, slice_index_or, All};
 ghost use Rattle.edf_pick.specs.Changes.{homed};
 ghost use Rattle.edf_pick.specs.Choice as choice;
 ghost use Rattle.edf_pick.specs.Moves.{moved_from};
@@ -13,8 +13,9 @@ ghost use Rattle.edf_pick.specs.private.Waiting as spec;
 use crate::choosing::choose_all;
 use crate::movers::Movers;
 use crate::moves::Moves;
-use crate::placement::{Placement, settle};
+use crate::placement::Placement;
 use crate::queue::Queue;
+use crate::single::{pick_first, settle_all};
 use crate::staying::Staying;
 
 // Whether each occupant stays.
@@ -55,6 +56,16 @@ fn is_still(waiting: &Queue, staying: &Staying, placement: &Placement) -> bool
     all_stay(staying, placement) && none_earlier(waiting, staying, placement.occupants().len())
 }
 
+// Whether there is one CPU, nobody stays there, and one waits.
+#[inline(always)]
+fn is_first_alone(waiting: &Queue, staying: &Staying, placement: &Placement) -> bool
+    ensures one { result ≡ true → length placement.now ≡ 1 }
+    ensures bare { result ≡ true → length (spec.held staying.now) ≡ 0 }
+    ensures some { result ≡ true → 0 < length waiting.now }
+{
+    placement.occupants().len() == 1 && staying.busy() == 0 && !waiting.is_empty()
+}
+
 // As `pick_waiting`, where something may have changed.
 #[inline(always)]
 fn pick_anew(
@@ -76,7 +87,7 @@ fn pick_anew(
     let _ = waiting.as_slice();
     let occupants = placement.occupants();
     choose_all(waiting, staying, movers, occupants);
-    settle(placement, staying, movers.as_slice(), moves);
+    settle_all(placement, staying, movers.as_slice(), moves);
 }
 
 /// The choice and its placement, of those who stay and those who wait, as one queue. Lists the CPUs
@@ -101,6 +112,10 @@ pub(crate) fn pick_waiting(
     let _ = placement.occupants();
     if is_still(waiting, staying, placement) {
         moves.clear();
+        return;
+    }
+    if is_first_alone(waiting, staying, placement) {
+        pick_first(waiting, staying, placement, moves);
         return;
     }
     pick_anew(waiting, staying, movers, placement, moves);

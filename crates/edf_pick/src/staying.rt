@@ -1,4 +1,4 @@
-//! Who stays on the CPU where he stands, CPU by CPU, with the latest of them near at hand.
+//! Who stays on the CPU where it stands, CPU by CPU, with the latest of them near at hand.
 
 ghost use Rattle.std.specs.Prelude.{ℕ, ◌≡◌, ◌<◌, ◌≤◌, ◌+◌, ◌*◌, ◌⊎◌, true, false, length, replicate, is_some, slice_index_or, slice_set, All, None, Option, Some};
 ghost use Rattle.std.specs.Int.{bit_at};

@@ -127,11 +127,12 @@ fn advance_by<R: Threads + Wait, G: Turn>(
     Done { ticks }
 }
 
-/// On so many CPUs at least it is cheaper to charge only those whose work or budget ends.
-const MANY: u32 = 4;
-
-/// From event to event, and who runs is charged only where that is needed.
-fn advance_by_leaps(state: &mut State, n: u64) -> Done
+/// Goes on by so many ticks, from event to event: the state and its switches are exactly those of
+/// so many single ticks. Room for the switches of an event is made before the event; where it is
+/// refused, the ticks made so far stand, and only then are they fewer than asked. Time stays within
+/// 2^42 us. Tasks that have left may go off the list; nobody comes, and the others keep number,
+/// bandwidth and order.
+pub fn advance(state: &mut State, n: u64) -> Done
     requires { state.old.time + n ≤ 2 ^ 42 }
     ensures state { state.new ≡ ticks_of result.ticks state.old }
     ensures most { result.ticks ≤ n }
@@ -145,24 +146,6 @@ fn advance_by_leaps(state: &mut State, n: u64) -> Done
         ticks += made;
     }
     Done { ticks }
-}
-
-/// Goes on by so many ticks, from event to event: the state and its switches are exactly those of
-/// so many single ticks. Room for the switches of an event is made before the event; where it is
-/// refused, the ticks made so far stand, and only then are they fewer than asked. Time stays within
-/// 2^42 us. Tasks that have left may go off the list; nobody comes, and the others keep number,
-/// bandwidth and order.
-pub fn advance(state: &mut State, n: u64) -> Done
-    requires { state.old.time + n ≤ 2 ^ 42 }
-    ensures state { state.new ≡ ticks_of result.ticks state.old }
-    ensures most { result.ticks ≤ n }
-    ensures keys { AreKept state.old.tasks state.new.tasks }
-{
-    if state.cpus() >= MANY {
-        return advance_by_leaps(state, n);
-    }
-    let mut log = state.silent();
-    advance_piece(state, n, usize::MAX, &mut log)
 }
 
 /// As [`advance`], and the log is told what happens in these ticks, in the order of "Happened".

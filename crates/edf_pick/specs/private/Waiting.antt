@@ -44,7 +44,8 @@ pub record IsWaiting (stays : List (Option Candidate)) (waiting : List Candidate
   pub homed : All (IsAtHome places) waiting
 
 -- some of the movers have been seated, one after another: each has the CPU on which it stands then
-pub record AreSeated (stays : List (Option Candidate)) (movers : List Candidate) (now : List (Option Candidate)) (places : Places) : Type 0 where
+pub record AreSeated (stays : List (Option Candidate)) (movers : List Candidate)
+    (now : List (Option Candidate)) (places : Places) : Type 0 where
   pub len : length now ≡ length stays
   pub seated : places ≡ seated_all movers (staying_on stays)
   pub staying : staying_on now ≡ places

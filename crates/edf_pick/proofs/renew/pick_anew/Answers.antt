@@ -18,34 +18,34 @@ choose_all-requires-clause-is c =
 chosen : (c : After-choose_all) → IsChosen c.choose_all.new.staying c.choose_all.new.movers c.choose_all.new.waiting c.args.placement.now
 chosen c = subst (λ (ps : Places). IsChosen c.choose_all.new.staying c.choose_all.new.movers c.choose_all.new.waiting ps) c.occupants-occupants.ensures.occupants c.choose_all.ensures.is
 
-pub settle-requires-clause-numbered : goal.settle-requires-clause-numbered
-settle-requires-clause-numbered c =
-    let k = (goal.at.settle-requires-clause-numbered c).After-choose_all in
+pub settle_all-requires-clause-numbered : goal.settle_all-requires-clause-numbered
+settle_all-requires-clause-numbered c =
+    let k = (goal.at.settle_all-requires-clause-numbered c).After-choose_all in
     let new = c.choose_all.new in
     subst (λ (xs : List Candidate). IsNumbered xs) (sym c.as_slice-2.ensures) (movers_numbered new.staying new.movers new.waiting (chosen k).choosing.numbered)
 
-pub settle-requires-clause-away : goal.settle-requires-clause-away
-settle-requires-clause-away c =
-    let k = (goal.at.settle-requires-clause-away c).After-choose_all in
+pub settle_all-requires-clause-away : goal.settle_all-requires-clause-away
+settle_all-requires-clause-away c =
+    let k = (goal.at.settle_all-requires-clause-away c).After-choose_all in
     subst (λ (xs : List Candidate). All (λ a. stands a.number c.args.placement.now ≡ false) xs) (sym c.as_slice-2.ensures) (chosen k).choosing.away
 
 pub returns-clause-places : goal.returns-clause-places
 returns-clause-places c =
     let k = (goal.at.returns-clause-places c).After-choose_all in
     let new = c.choose_all.new in
-    let seats = subst (λ (xs : List Candidate). AreSeated new.staying xs c.settle.new.staying c.settle.new.placement) c.as_slice-2.ensures c.settle.ensures.seated in
-    sym (picked_places c.args.staying.now c.args.waiting.now new.staying new.movers new.waiting c.args.placement.now c.settle.new.staying c.settle.new.placement c.requires c.settle.ensures.single c.choose_all.ensures.same (chosen k) seats)
+    let seats = subst (λ (xs : List Candidate). AreSeated new.staying xs c.settle_all.new.staying c.settle_all.new.placement) c.as_slice-2.ensures c.settle_all.ensures.seated in
+    sym (picked_places c.args.staying.now c.args.waiting.now new.staying new.movers new.waiting c.args.placement.now c.settle_all.new.staying c.settle_all.new.placement c.requires c.settle_all.ensures.single c.choose_all.ensures.same (chosen k) seats)
 
 pub returns-clause-queue : goal.returns-clause-queue
 returns-clause-queue c =
     let k = (goal.at.returns-clause-queue c).After-choose_all in
     let new = c.choose_all.new in
-    let seats = subst (λ (xs : List Candidate). AreSeated new.staying xs c.settle.new.staying c.settle.new.placement) c.as_slice-2.ensures c.settle.ensures.seated in
-    sym (picked_homes c.args.staying.now c.args.waiting.now new.staying new.movers new.waiting c.args.placement.now c.settle.new.staying c.settle.new.placement c.requires c.settle.ensures.single c.choose_all.ensures.same (chosen k) seats)
+    let seats = subst (λ (xs : List Candidate). AreSeated new.staying xs c.settle_all.new.staying c.settle_all.new.placement) c.as_slice-2.ensures c.settle_all.ensures.seated in
+    sym (picked_homes c.args.staying.now c.args.waiting.now new.staying new.movers new.waiting c.args.placement.now c.settle_all.new.staying c.settle_all.new.placement c.requires c.settle_all.ensures.single c.choose_all.ensures.same (chosen k) seats)
 
 pub returns-clause-is : goal.returns-clause-is
 returns-clause-is c =
     let k = (goal.at.returns-clause-is c).After-choose_all in
     let new = c.choose_all.new in
-    let seats = subst (λ (xs : List Candidate). AreSeated new.staying xs c.settle.new.staying c.settle.new.placement) c.as_slice-2.ensures c.settle.ensures.seated in
-    picked_waiting c.args.staying.now c.args.waiting.now new.staying new.movers new.waiting c.args.placement.now c.settle.new.staying c.settle.new.placement c.requires c.settle.ensures.single c.choose_all.ensures.same (chosen k) seats
+    let seats = subst (λ (xs : List Candidate). AreSeated new.staying xs c.settle_all.new.staying c.settle_all.new.placement) c.as_slice-2.ensures c.settle_all.ensures.seated in
+    picked_waiting c.args.staying.now c.args.waiting.now new.staying new.movers new.waiting c.args.placement.now c.settle_all.new.staying c.settle_all.new.placement c.requires c.settle_all.ensures.single c.choose_all.ensures.same (chosen k) seats

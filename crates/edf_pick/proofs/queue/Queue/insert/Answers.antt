@@ -12,7 +12,7 @@ inserted : (c : After-insert) → tasks_in c.insert.new.self ≡ with_candidate 
 inserted c =
     let old = tasks_in c.self.inside.room in
     let one = c.args.c in
-    let at : c.place_of-place.result ≡ place one old = c.place_of-place.ensures.place ∙ ap (λ (xs : List Candidate). place one xs) c.as_slice.ensures in
+    let at : c.place_from_end-place.result ≡ place one old = c.place_from_end-place.ensures.place ∙ ap (λ (xs : List Candidate). place one xs) c.as_slice.ensures in
     c.insert.ensures.tasks ∙ ap (λ (k : ℕ). insert old k one) at ∙ sym (insert_place one old)
 
 pub invariant_of-self : goal.invariant_of-self

@@ -4,7 +4,8 @@ use Rattle.std.proofs.lemmas.Nat.Bits.{bit_at-lt}
 use Rattle.edf_pick.specs.declared.candidate.Candidate.{Candidate}
 use Rattle.edf_pick.specs.private.Staying.{bare_key}
 use Rattle.edf_pick.specs.private.Waiting.{held}
-use Rattle.edf_pick.proofs.Stays.{no_mark, view_at, view_length, held_few, is_stayed, came_view}
+use Rattle.edf_pick.proofs.Held.{held_length}
+use Rattle.edf_pick.proofs.Stays.{no_mark, view_at, view_length, is_stayed, came_view}
 use Rattle.edf_pick.proofs.staying.Staying.stay.Goals as goal
 use Rattle.edf_pick.proofs.staying.Staying.stay.Goals.{After-self}
 
@@ -37,7 +38,7 @@ pub overflow_add-self : goal.overflow_add-self
 overflow_add-self c =
     let s = c.self.inside in
     let inv = c.self.invariant in
-    let most = held_few c.args.self.now in
+    let most = held_length c.args.self.now in
     let len = view_length s.marks s.cpus s.keys inv.full inv.few in
     let same = ap (λ (stays : List (Option Candidate)). length stays) c.self.view_is in
     let many = inv.many ∙ ap (λ (stays : List (Option Candidate)). length (held stays)) c.self.view_is in

@@ -3,7 +3,7 @@ use Rattle.domain_run.specs.Domain.{Domain}
 use Rattle.domain_run.specs.Tick.{ticks}
 use Rattle.domain_run.proofs.CallerLemmas.{kept_itself, kept_more, ticks_time}
 use Rattle.jump_run.proofs.Ticks.{ticks_more}
-use Rattle.jump_run.proofs.advancing.advance_by_leaps.Goals as goal
+use Rattle.jump_run.proofs.advancing.advance.Goals as goal
 
 pub events-init : goal.events-init
 events-init c = record { state = refl; most = omega arith; keys = kept_itself c.args.state.now.tasks }

@@ -1,7 +1,7 @@
 use Rattle.std.proofs.Common.{◌≡◌, ◌≤◌, ◌-◌}
 use Rattle.domain_run.specs.Tick.{ticks}
 use Rattle.domain_run.specs.Keys.{AreKept}
-use Rattle.jump_run.proofs.advancing.advance_by_leaps.Given as goal
+use Rattle.jump_run.proofs.advancing.advance.Given as goal
 
 abbrev pub invariant-events : goal.invariant-events
 invariant-events l = record {
