@@ -1,4 +1,5 @@
 pub mod Reading
+pub mod Numbered
 pub mod Counting
 pub mod Writing
 pub mod Ledger

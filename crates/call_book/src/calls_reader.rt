@@ -3,10 +3,12 @@
 ghost use Rattle.std.specs.Prelude.{◌≡◌, ◌+◌, ◌-◌, ◌≤◌, ℕ, slice_index, slice_set, IfOk, IfErr};
 ghost use Rattle.call_book.specs.Limits.{IsClient};
 ghost use Rattle.call_book.specs.private.Reading.{Fails, known_at, IsNext};
+ghost use Rattle.call_book.specs.private.Numbered.{entry_of, IsNextNumbered};
 
 use crate::cut::cut_line;
 use crate::fault::{CallsFault, PartFault};
-use crate::header::{header_of, is_later};
+use crate::header::header_of;
+use crate::kept_call::Kept;
 use crate::line_text::{domain_of, known_call};
 use crate::section::Entry;
 use std::alloc::Global;
@@ -30,34 +32,59 @@ fn counted(made: &mut [u64; 64], client: u32) -> u64
     seq
 }
 
-/// The entry of a line, after so many calls of each client. `later` says whether the header is that
+/// A call that was read, its client, and how many calls the client made before it.
+#[derive(Drop)]
+struct Numbered {
+    client: u32,
+    seq: u64,
+    kept: Kept,
+}
+
+impl Numbered {
+    ghost use Rattle.call_book.specs.private.Numbered.{entry_of};
+
+    /// The entry of the call.
+    fn into_entry(self) -> Entry
+        ensures { result ≡ entry_of self }
+    {
+        let Numbered { client, seq, kept } = self;
+        Entry {
+            client,
+            seq,
+            call: kept.into_call(),
+            reply: None,
+        }
+    }
+}
+
+/// The call of a line, after so many calls of each client. `later` says whether the header is that
 /// of calls of the second form.
 #[inline(always)]
-fn entry_of(
+fn numbered_of(
     alloc: Global,
     line: &[u8],
     later: bool,
     made: &mut [u64; 64],
-) -> Result<Entry, PartFault>
+) -> Result<Numbered, PartFault>
     requires { (k : ℕ) → slice_index made.old k ≤ 65536 }
-    ensures found { IfOk result (IsNext later line.now made.old) }
-    ensures made { IfOk result (λ e. made.new ≡ slice_set made.old (e.client - 1) (e.seq + 1)) }
+    ensures found { IfOk result (λ n. IsNext later line.now made.old (entry_of n)) }
+    ensures made { IfOk result (λ n. made.new ≡ slice_set made.old (n.client - 1) (n.seq + 1)) }
     ensures kept { IfErr result (λ _. made.new ≡ made.old) }
     ensures fault { IfErr result (λ e. Fails e (known_at later line.now)) }
 {
-    let (client, call) = known_call(alloc, line, later)?;
-    Ok(Entry {
+    let (client, kept) = known_call(alloc, line, later)?;
+    Ok(Numbered {
         client,
         seq: counted(made, client),
-        call,
-        reply: None,
+        kept,
     })
 }
 
 /// A calls text that is read call by call, so that each call can be made, and let go, before the
 /// next is read: [`CallsReader::next_domain`] begins a section, [`CallsReader::next_entry`] reads
-/// its entries, until it answers none. What stands behind the last section that was read may still
-/// be bad: that a text is one is known where [`CallsReader::next_domain`] answers none.
+/// its entries, until it answers none, or [`CallsReader::next_kept`] their calls alone. What stands
+/// behind the last section that was read may still be bad: that a text is one is known where
+/// [`CallsReader::next_domain`] answers none.
 #[derive(Drop)]
 pub struct CallsReader<'t> {
     /// The text behind what was read.
@@ -98,9 +125,10 @@ impl<'t> Model for CallsReader<'t> {
 impl<'t> CallsReader<'t> {
     ghost use Rattle.std.specs.Prelude.{◌<◌, [], List, None, length, IfSome};
     ghost use Rattle.call_book.specs.SectionView.{SectionView};
-    ghost use Rattle.call_book.specs.Limits.{IsEntry};
+    ghost use Rattle.call_book.specs.Limits.{IsCall, IsEntry};
     ghost use Rattle.call_book.specs.BadLine.{IsReadFault};
     ghost use Rattle.call_book.specs.Reader.{IsBehind, IsWithin, IsNextDomain, IsNextEntry, AreOthers, left};
+    ghost use Rattle.call_book.specs.KeptCall.{IsNextKept, call_of};
     ghost use Rattle.call_book.specs.private.Reading.{LacksDomain, bad_place, is_stuck, is_whole};
 
     /// A reader behind the header of a text.
@@ -162,6 +190,36 @@ impl<'t> CallsReader<'t> {
         }
     }
 
+    /// The next call of the section, as it is numbered; none behind its last one.
+    #[inline(always)]
+    fn next_numbered(&mut self, alloc: Global) -> Result<Option<Numbered>, CallsFault>
+        ensures next { (text : List ℕ) (before : List SectionView) (section : SectionView)
+            → IsWithin text before section self.old
+            → IsNextNumbered text before section self.new result }
+        ensures entry { IfOk result (λ found. IfSome found (λ n. IsEntry (entry_of n))) }
+        ensures fault { IfErr result (λ e. e ≡ CallsFault.Memory) }
+        ensures less { IfOk result (λ found. IfSome found (λ _. left self.new < left self.old)) }
+        ensures never_more { left self.new ≤ left self.old }
+    {
+        if self.calls == MOST_CALLS {
+            return Ok(None);
+        }
+        let Some((line, after)) = cut_line(self.rest) else {
+            return Ok(None);
+        };
+        match numbered_of(alloc, line, self.later, &mut self.made) {
+            Ok(numbered) => {
+                self.calls += 1;
+                self.lines += 1;
+                self.found_later |= numbered.kept.is_later();
+                self.rest = after;
+                Ok(Some(numbered))
+            }
+            Err(PartFault::Bad) => Ok(None),
+            Err(PartFault::Memory) => Err(CallsFault::Memory),
+        }
+    }
+
     /// The next entry of the section; none behind its last one.
     ///
     /// # Errors
@@ -178,22 +236,33 @@ impl<'t> CallsReader<'t> {
         ensures less { IfOk result (λ found. IfSome found (λ _. left self.new < left self.old)) }
         ensures never_more { left self.new ≤ left self.old }
     {
-        if self.calls == MOST_CALLS {
-            return Ok(None);
+        match self.next_numbered(alloc) {
+            Ok(Some(numbered)) => Ok(Some(numbered.into_entry())),
+            Ok(None) => Ok(None),
+            Err(e) => Err(e),
         }
-        let Some((line, after)) = cut_line(self.rest) else {
-            return Ok(None);
-        };
-        match entry_of(alloc, line, self.later, &mut self.made) {
-            Ok(entry) => {
-                self.calls += 1;
-                self.lines += 1;
-                self.found_later |= is_later(&entry.call);
-                self.rest = after;
-                Ok(Some(entry))
-            }
-            Err(PartFault::Bad) => Ok(None),
-            Err(PartFault::Memory) => Err(CallsFault::Memory),
+    }
+
+    /// As [`CallsReader::next_entry`], of the call alone, in little room.
+    ///
+    /// # Errors
+    /// 31 [`CallsFault::Memory`]: a growth was refused. The reader stays as it was.
+    #[inline(always)]
+    pub fn next_kept(&mut self, alloc: Global) -> Result<Option<Kept>, CallsFault>
+        // Within a section it is the call of the next entry, or the section is read to its end.
+        ensures next { (text : List ℕ) (before : List SectionView) (section : SectionView)
+            → IsWithin text before section self.old
+            → IsNextKept text before section self.new result }
+        ensures call { IfOk result (λ found. IfSome found (λ kept. IsCall (call_of kept))) }
+        ensures fault { IfErr result (λ e. e ≡ CallsFault.Memory) }
+        // Where one was read, less is left.
+        ensures less { IfOk result (λ found. IfSome found (λ _. left self.new < left self.old)) }
+        ensures never_more { left self.new ≤ left self.old }
+    {
+        match self.next_numbered(alloc) {
+            Ok(Some(numbered)) => Ok(Some(numbered.kept)),
+            Ok(None) => Ok(None),
+            Err(e) => Err(e),
         }
     }
 

@@ -4,6 +4,7 @@
 //! Meets the definitions "Calls text" (`specs/Spelling.antt`: the text of sections;
 //! `specs/Limits.antt`: which sections have one; `specs/BadLine.antt`: the first bad line of every
 //! other text; `specs/ReadSoFar.antt`, `specs/Reader.antt`: how far it is read;
+//! `specs/KeptCall.antt`, `specs/NameGiven.antt`: its calls in little room;
 //! `specs/RoundTrip.antt`: what a written text is read as), "A client's own calls"
 //! (`specs/OwnCalls.antt`) and "A domain's book" (`specs/Book.antt`, `specs/Pieces.antt`,
 //! `specs/BookAnswers.antt`, `specs/LimitAnswers.antt`, `specs/MoveAnswers.antt`; at its end
@@ -21,6 +22,7 @@ mod calls_reader;
 mod cut;
 mod fault;
 mod header;
+mod kept_call;
 mod line_text;
 mod number;
 mod reading;
@@ -36,6 +38,7 @@ pub use book::{
 pub use calls_reader::CallsReader;
 pub use domain_run::{Call, NoMemory, Reply};
 pub use fault::CallsFault;
+pub use kept_call::{Kept, Spelled};
 pub use reading::read_calls;
 pub use section::{Entry, Section};
 pub use writing::{put_call, put_domain, write_calls};

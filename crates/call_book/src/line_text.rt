@@ -1,9 +1,10 @@
 ghost use Rattle.std.specs.Prelude.{◌≡◌, ℕ, ◌<◌, ◌≤◌, List, ◌++◌, IfOk, MatchOption};
 ghost use Rattle.call_book.specs.private.Reading.{Gives, field_at, name_at, times_at, AreTimes, flag_at, flagged_at, params_at, plan_at, newcomer_at, admit_at, arrive_at, seen_at, answer_at, regrade_at, numbered_at, change_at, limit_at, word_of, front_of, worded_at, called_at, call_at, known_at, domain_at};
+ghost use Rattle.call_book.specs.KeptCall.{call_of};
 
 use crate::cut::{behind, cut};
 use crate::fault::PartFault;
-use crate::header::is_later;
+use crate::kept_call::Kept;
 use crate::number::{number_first, number_within};
 use crate::script_text::script_of;
 use crate::times::Times;
@@ -163,8 +164,8 @@ fn newcomer_of(alloc: Global, text: &[u8]) -> Result<(Newcomer, &[u8]), PartFaul
 
 /// What follows the client in an `admit` line.
 #[tactic(auto, unfolding(crate::specs::private::Reading::admit_at))]
-fn admit_of(alloc: Global, text: &[u8]) -> Result<Call, PartFault>
-    ensures { Gives (λ c. c) result (admit_at text.now) }
+fn admit_of(alloc: Global, text: &[u8]) -> Result<Kept, PartFault>
+    ensures { Gives call_of result (admit_at text.now) }
 {
     let (newcomer, rest) = newcomer_of(alloc, text)?;
     let Newcomer {
@@ -173,19 +174,20 @@ fn admit_of(alloc: Global, text: &[u8]) -> Result<Call, PartFault>
         params,
     } = newcomer;
     let (delay, script) = plan_of(alloc, rest)?;
-    Ok(Call::Admit {
+    let call = Call::Admit {
         number,
         name,
         params,
         delay,
         script,
-    })
+    };
+    Kept::long(alloc, call)
 }
 
 /// What follows the client in an `arrive` line.
 #[tactic(auto, unfolding(crate::specs::private::Reading::arrive_at))]
-fn arrive_of(alloc: Global, text: &[u8]) -> Result<Call, PartFault>
-    ensures { Gives (λ c. c) result (arrive_at text.now) }
+fn arrive_of(alloc: Global, text: &[u8]) -> Result<Kept, PartFault>
+    ensures { Gives call_of result (arrive_at text.now) }
 {
     let (newcomer, rest) = newcomer_of(alloc, text)?;
     let Newcomer {
@@ -194,12 +196,13 @@ fn arrive_of(alloc: Global, text: &[u8]) -> Result<Call, PartFault>
         params,
     } = newcomer;
     let script = script_of(alloc, rest)?;
-    Ok(Call::Arrive {
+    let call = Call::Arrive {
         number,
         name,
         params,
         script,
-    })
+    };
+    Kept::long(alloc, call)
 }
 
 /// The number with which the bandwidth word refused, from what stands behind the flag of a
@@ -230,54 +233,55 @@ fn answer_of(text: &[u8]) -> Result<(bool, Option<u64>), PartFault>
 
 /// What follows the client in a `regrade` line.
 #[tactic(auto, unfolding(crate::specs::private::Reading::regrade_at))]
-fn regrade_of(text: &[u8]) -> Result<Call, PartFault>
-    ensures { Gives (λ c. c) result (regrade_at text.now) }
+fn regrade_of(alloc: Global, text: &[u8]) -> Result<Kept, PartFault>
+    ensures { Gives call_of result (regrade_at text.now) }
 {
     let (number, rest) = field(text, 1, MOST_NUMBER)?;
     let (times, rest) = times_of(rest)?;
     let (reclaim, word) = answer_of(rest)?;
     let params = params_of(times, reclaim)?;
-    Ok(Call::Regrade {
+    let call = Call::Regrade {
         number: number as u32,
         params,
         word,
-    })
+    };
+    Kept::long(alloc, call)
 }
 
 /// What follows the client in a `wake` line.
 #[tactic(auto, unfolding(crate::specs::private::Reading::numbered_at))]
-fn wake_of(text: &[u8]) -> Result<Call, PartFault>
-    ensures { Gives (λ c. c) result (numbered_at 65535 (λ n. Call.Wake n) text.now) }
+fn wake_of(text: &[u8]) -> Result<Kept, PartFault>
+    ensures { Gives call_of result (numbered_at 65535 (λ n. Call.Wake n) text.now) }
 {
     let number = number_within(text, 1, MOST_NUMBER)? as u32;
-    Ok(Call::Wake { number })
+    Ok(Kept::Wake { number })
 }
 
 /// What follows the client in a `leave` line.
 #[tactic(auto, unfolding(crate::specs::private::Reading::numbered_at))]
-fn leave_of(text: &[u8]) -> Result<Call, PartFault>
-    ensures { Gives (λ c. c) result (numbered_at 65535 (λ n. Call.Leave n) text.now) }
+fn leave_of(text: &[u8]) -> Result<Kept, PartFault>
+    ensures { Gives call_of result (numbered_at 65535 (λ n. Call.Leave n) text.now) }
 {
     let number = number_within(text, 1, MOST_NUMBER)? as u32;
-    Ok(Call::Leave { number })
+    Ok(Kept::Leave { number })
 }
 
 /// What follows the client in a `depart` line.
 #[tactic(auto, unfolding(crate::specs::private::Reading::numbered_at))]
-fn depart_of(text: &[u8]) -> Result<Call, PartFault>
-    ensures { Gives (λ c. c) result (numbered_at 65535 (λ n. Call.Depart n) text.now) }
+fn depart_of(text: &[u8]) -> Result<Kept, PartFault>
+    ensures { Gives call_of result (numbered_at 65535 (λ n. Call.Depart n) text.now) }
 {
     let number = number_within(text, 1, MOST_NUMBER)? as u32;
-    Ok(Call::Depart { number })
+    Ok(Kept::Depart { number })
 }
 
 /// What follows the client in an `advance` line.
 #[tactic(auto, unfolding(crate::specs::private::Reading::numbered_at))]
-fn advance_of(text: &[u8]) -> Result<Call, PartFault>
-    ensures { Gives (λ c. c) result (numbered_at 60000000 (λ n. Call.Advance n) text.now) }
+fn advance_of(text: &[u8]) -> Result<Kept, PartFault>
+    ensures { Gives call_of result (numbered_at 60000000 (λ n. Call.Advance n) text.now) }
 {
     let ticks = number_within(text, 1, MOST_TICKS)?;
-    Ok(Call::Advance { ticks })
+    Ok(Kept::Advance { ticks })
 }
 
 /// A new limit, and with what the bandwidth word refused it, where it did.
@@ -296,11 +300,11 @@ fn change_of(text: &[u8]) -> Result<(u64, Option<u64>), PartFault>
 
 /// What follows the client in a `limit` line.
 #[tactic(auto, unfolding(crate::specs::private::Reading::limit_at))]
-fn limit_of(text: &[u8]) -> Result<Call, PartFault>
-    ensures { Gives (λ c. c) result (limit_at text.now) }
+fn limit_of(alloc: Global, text: &[u8]) -> Result<Kept, PartFault>
+    ensures { Gives call_of result (limit_at text.now) }
 {
     let (limit, word) = change_of(text)?;
-    Ok(Call::Limit { limit, word })
+    Kept::long(alloc, Call::Limit { limit, word })
 }
 
 /// The word at the front of a call's line.
@@ -352,34 +356,34 @@ fn word_first(line: &[u8]) -> Option<(Word, &[u8])>
 
 /// What follows the client in a line of this word.
 #[tactic(auto, unfolding(crate::specs::private::Reading::worded_at))]
-fn worded(alloc: Global, word: Word, text: &[u8]) -> Result<Call, PartFault>
-    ensures { Gives (λ c. c) result (worded_at (word_of word) text.now) }
+fn worded(alloc: Global, word: Word, text: &[u8]) -> Result<Kept, PartFault>
+    ensures { Gives call_of result (worded_at (word_of word) text.now) }
 {
     match word {
         Word::Admit => admit_of(alloc, text),
-        Word::Regrade => regrade_of(text),
+        Word::Regrade => regrade_of(alloc, text),
         Word::Wake => wake_of(text),
         Word::Leave => leave_of(text),
         Word::Advance => advance_of(text),
-        Word::Limit => limit_of(text),
+        Word::Limit => limit_of(alloc, text),
         Word::Depart => depart_of(text),
         Word::Arrive => arrive_of(alloc, text),
     }
 }
 
 /// The client and the call that stand behind this word and its space.
-fn called(alloc: Global, word: Word, text: &[u8]) -> Result<(u32, Call), PartFault>
-    ensures gives { Gives (λ p. p) result (called_at (word_of word) text.now) }
+fn called(alloc: Global, word: Word, text: &[u8]) -> Result<(u32, Kept), PartFault>
+    ensures gives { Gives (λ p. (p.0, call_of p.1)) result (called_at (word_of word) text.now) }
     ensures within { IfOk result (λ p. (1 ≤ p.0) × (p.0 ≤ 64)) }
 {
     let (client, rest) = field(text, 1, MOST_CLIENT)?;
-    let call = worded(alloc, word, rest)?;
-    Ok((client as u32, call))
+    let kept = worded(alloc, word, rest)?;
+    Ok((client as u32, kept))
 }
 
 /// The client and the call that a line spells.
-fn call_of(alloc: Global, line: &[u8]) -> Result<(u32, Call), PartFault>
-    ensures gives { Gives (λ p. p) result (call_at line.now) }
+fn kept_of(alloc: Global, line: &[u8]) -> Result<(u32, Kept), PartFault>
+    ensures gives { Gives (λ p. (p.0, call_of p.1)) result (call_at line.now) }
     ensures within { IfOk result (λ p. (1 ≤ p.0) × (p.0 ≤ 64)) }
 {
     match word_first(line) {
@@ -391,15 +395,15 @@ fn call_of(alloc: Global, line: &[u8]) -> Result<(u32, Call), PartFault>
 /// The client and the call that a line spells, behind a header that has calls of the second form or
 /// has none.
 #[tactic(auto, unfolding(crate::specs::private::Reading::known_at))]
-pub(crate) fn known_call(alloc: Global, line: &[u8], later: bool) -> Result<(u32, Call), PartFault>
-    ensures gives { Gives (λ p. p) result (known_at later line.now) }
+pub(crate) fn known_call(alloc: Global, line: &[u8], later: bool) -> Result<(u32, Kept), PartFault>
+    ensures gives { Gives (λ p. (p.0, call_of p.1)) result (known_at later line.now) }
     ensures within { IfOk result (λ p. (1 ≤ p.0) × (p.0 ≤ 64)) }
 {
-    let (client, call) = call_of(alloc, line)?;
-    if is_later(&call) && !later {
+    let (client, kept) = kept_of(alloc, line)?;
+    if kept.is_later() && !later {
         return Err(PartFault::Bad);
     }
-    Ok((client, call))
+    Ok((client, kept))
 }
 
 /// The CPUs and the limit of the domain that a section's line spells.

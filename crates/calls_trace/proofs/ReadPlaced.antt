@@ -1,12 +1,16 @@
 -- The runs of the sections that were read so far, as they are placed.
-use Rattle.std.proofs.Common.{◌≡◌, ℕ, ◌+◌, Bool, List, [], ◌∷◌, ◌++◌, map, sym, ap, ◌∙◌, arith}
-use Rattle.std.specs.Prelude.{sum_by}
-use Rattle.std.proofs.lemmas.List.{map-append}
-use Rattle.std.proofs.lemmas.List.Sums.{sum_by-cons}
+use Rattle.std.proofs.Common.{◌≡◌, ℕ, ◌+◌, ◌≤◌, Bool, List, [], ◌∷◌, ◌++◌, length, map, sym, ap, subst, ◌∙◌, arith}
+use Rattle.std.specs.Prelude.{All, sum_by}
+use Rattle.std.proofs.lemmas.List.{map-append, length_push}
+use Rattle.std.proofs.lemmas.List.Sums.{sum_by-cons, sum_by_push}
+use Rattle.std.proofs.lemmas.List.Elements.{All-push}
 use Rattle.call_book.specs.SectionView.{SectionView}
+use Rattle.call_book.specs.Limits.{IsSection}
 use Rattle.calls_trace.specs.declared.placed_run.PlacedRun.{PlacedRun}
-use Rattle.calls_trace.specs.private.Replaying.{IsRunOf, IsToldOf, PlacedView, view_of, view_at, views_from}
-use Rattle.calls_trace.proofs.Written.{view_is}
+use Rattle.calls_trace.specs.declared.runs_so_far.RunsSoFar.{RunsSoFar}
+use Rattle.calls_trace.specs.private.Replaying.{IsPlaced, IsRunOf, IsToldOf, PlacedView, view_of, view_at, views_from}
+use Rattle.calls_trace.specs.private.ReadRuns.{ArePlacedFor}
+use Rattle.calls_trace.proofs.Written.{view_is, placed_is}
 
 views_push : (wanted : Bool) (base : ℕ) (done : List SectionView) (s : SectionView) → views_from wanted base (done ++ s ∷ []) ≡ views_from wanted base done ++ view_at wanted (base + sum_by (λ (t : SectionView). t.cpus) done) s ∷ []
 views_push wanted base [] s = ap (λ (b : ℕ). view_at wanted b s ∷ []) (omega arith)
@@ -23,3 +27,18 @@ views_one_more wanted runs r done s base run told so_far =
     ∙ ap (λ (vs : List PlacedView). vs ++ view_of r ∷ []) so_far
     ∙ ap (λ (v : PlacedView). views_from wanted 0 done ++ v ∷ []) (view_is wanted r s run told ∙ ap (λ (b : ℕ). view_at wanted b s) from)
     ∙ sym (views_push wanted 0 done s)
+
+-- one run more
+pub placed_for : (wanted : Bool) (done : List SectionView) (s : SectionView) (was is : RunsSoFar) (r : PlacedRun) → ArePlacedFor wanted done was → is.runs.items ≡ was.runs.items ++ r ∷ [] → is.base ≡ was.base + s.cpus → r.base ≡ was.base → was.base + s.cpus ≤ 512
+    → IsSection s → IsRunOf s r.run.state r.run.names → IsToldOf wanted s r.run.given r.run.log → ArePlacedFor wanted (done ++ s ∷ []) is
+placed_for wanted done s was is r so_far items base from inside section run told =
+    let few = section.most_cpus in
+    let long = length_push done s in
+    let more = ap length items in
+    record {
+      views = ap (map view_of) items ∙ views_one_more wanted was.runs.items r done s (from ∙ so_far.base_is) run told so_far.views;
+      placed = subst (All IsPlaced) (sym items) (All-push IsPlaced was.runs.items r so_far.placed (placed_is wanted r s section run told (omega (arith, from, inside))));
+      count = omega (arith, so_far.count, long, more, length_push was.runs.items r);
+      base_is = omega (arith, base, so_far.base_is, sum_by_push (λ (t : SectionView). t.cpus) done s);
+      inside = omega (arith, base, so_far.inside, few, long);
+    }

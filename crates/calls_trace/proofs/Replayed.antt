@@ -1,5 +1,5 @@
 -- What a replay of a text says of it, and of its writer.
-use Rattle.std.proofs.Common.{◌≡◌, ℕ, List, [], ◌∷◌, Option, Some, None, refl, sym}
+use Rattle.std.proofs.Common.{◌≡◌, ℕ, List, [], ◌∷◌, Option, Some, None, refl, sym, subst}
 use Rattle.std.specs.Io.KnownBytes.{Keeps}
 use Rattle.std.proofs.lemmas.List.Elements.{All-head}
 use Rattle.call_book.specs.declared.fault.CallsFault.{CallsFault}
@@ -13,13 +13,17 @@ use Rattle.counted_io.specs.Sides.{Side, side}
 use Rattle.calls_trace.specs.declared.fault.TraceFault.{TraceFault}
 use Rattle.calls_trace.specs.declared.fault.TraceFault.TheVariants as traces
 use Rattle.calls_trace.specs.declared.replaying.ReplayPrint.TheVariants as prints
+use Rattle.calls_trace.specs.declared.placed_run.PlacedRun.{PlacedRun}
+use Rattle.calls_trace.specs.declared.run_text.RunText.{RunText}
 use Rattle.calls_trace.specs.declared.run_text.RunText.TheVariants.{Trace}
 use Rattle.calls_trace.specs.Replay.{trace_of_sections}
 use Rattle.calls_trace.specs.Upward.{of_trace, of_calls}
-use Rattle.calls_trace.specs.Written.{IsUntouched, IsUnwritten}
-use Rattle.calls_trace.specs.private.Replayed.{IsUnreplayed}
-use Rattle.calls_trace.specs.private.RunTexts.{text_of_all}
-use Rattle.calls_trace.proofs.Texts.{text_is}
+use Rattle.calls_trace.specs.Written.{IsUntouched, IsUnwritten, IsWritten}
+use Rattle.calls_trace.specs.private.ReadRuns.{AreReadRuns}
+use Rattle.calls_trace.specs.private.Replayed.{IsReplayed, IsUnreplayed}
+use Rattle.calls_trace.specs.private.Replaying.{text_of_runs}
+use Rattle.calls_trace.specs.private.RunTexts.{tells, text_of_all}
+use Rattle.calls_trace.proofs.Texts.{of_all, text_is}
 
 pub one_section : (s : SectionView) → AreRead (s ∷ []) → IsSection s
 one_section s are = All-head IsSection s [] are.within.each
@@ -44,3 +48,13 @@ unread text wanted w calls.Memory bad kept = kept
 pub unwritten : (text : List ℕ) (wanted : List SectionView → List ℕ) (w : Side) (sections : List SectionView) (fault : TraceFault) → AreRead sections → text ≡ spelling sections → IsUnwritten w (wanted sections) fault → IsUnreplayed text wanted w (of_trace fault)
 unwritten text wanted w sections (traces.Write written) read spelled cut = record { spells = record { sections = sections; read = read; spelled = spelled }; cut = cut }
 unwritten text wanted w sections traces.Memory read spelled kept = kept
+
+-- ---- runs that were read off a text
+
+pub runs_replayed : (kind : RunText) (text : List ℕ) (runs placed : List PlacedRun) (w : Side) → (r : AreReadRuns text (tells kind) runs) → placed ≡ runs → IsWritten w (text_of_runs kind placed) → IsReplayed text (text_of_all kind) w
+runs_replayed kind text runs placed w r same written =
+    record { spells = record { sections = r.sections; read = r.read; spelled = r.spelled }; written = subst (IsWritten w) (of_all kind r.sections runs placed same r.views) written }
+
+pub runs_unreplayed : (kind : RunText) (text : List ℕ) (runs placed : List PlacedRun) (w : Side) (fault : TraceFault) → (r : AreReadRuns text (tells kind) runs) → placed ≡ runs → IsUnwritten w (text_of_runs kind placed) fault → IsUnreplayed text (text_of_all kind) w (of_trace fault)
+runs_unreplayed kind text runs placed w fault r same cut =
+    unwritten text (text_of_all kind) w r.sections fault r.read r.spelled (subst (λ (t : List ℕ). IsUnwritten w t fault) (of_all kind r.sections runs placed same r.views) cut)

@@ -6,4 +6,5 @@ pub mod Calls
 pub mod Kept
 pub mod Playing
 pub mod ReadRuns
+pub mod ReadText
 pub mod Replayed

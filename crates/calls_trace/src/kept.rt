@@ -1,85 +1,17 @@
-//! Calls that are kept until they are made.
+//! The room that calls which are kept need for names.
 
-ghost use Rattle.std.specs.Prelude.{◌≡◌, IfOk, sum_by};
-ghost use Rattle.call_book.specs.Limits.{IsCall};
-ghost use Rattle.calls_trace.specs.private.Kept.{IsKept, call_of, room_of};
+ghost use Rattle.std.specs.Prelude.{◌≡◌, sum_by};
+ghost use Rattle.calls_trace.specs.private.Kept.{room_of};
 
-use crate::given_names::text_given;
-use domain_run::{Call, NoMemory};
-use std::alloc::Global;
+use call_book::Kept;
 
-/// A call in little room, for there may be many: a short one stands in place, another one in a
-/// block of its own.
-#[derive(Drop)]
-pub(crate) enum Kept {
-    /// [`Call::Wake`].
-    Wake {
-        /// The task's number.
-        number: u32,
-    },
-    /// [`Call::Leave`].
-    Leave {
-        /// The task's number.
-        number: u32,
-    },
-    /// [`Call::Depart`].
-    Depart {
-        /// The task's number.
-        number: u32,
-    },
-    /// [`Call::Advance`].
-    Advance {
-        /// How many us.
-        ticks: u64,
-    },
-    /// Any other.
-    Long(Box<Spelled>),
-}
-
-/// A call, and the text of the name that it gives, which is empty where it gives none.
-#[derive(Drop)]
-pub(crate) struct Spelled {
-    pub(crate) call: Call,
-    pub(crate) text: String,
-}
-
-/// A call in a block of its own.
-fn long(alloc: Global, call: Call) -> Result<Kept, NoMemory>
-    requires { IsCall call }
-    ensures call { IfOk result (λ kept. call_of kept ≡ call) }
-    ensures is { IfOk result IsKept }
+/// For how many names a call needs room: none, or one.
+fn room_of(call: &Kept) -> usize
+    ensures { result ≡ room_of call.now }
 {
-    let text = text_given(alloc, &call)?;
-    match Box::new(alloc, Spelled { call, text }) {
-        Ok(spelled) => Ok(Kept::Long(spelled)),
-        Err(_) => Err(NoMemory),
-    }
-}
-
-impl Kept {
-    /// A call, to be kept.
-    pub(crate) fn of(alloc: Global, call: Call) -> Result<Kept, NoMemory>
-        requires { IsCall call }
-        ensures call { IfOk result (λ kept. call_of kept ≡ call) }
-        ensures is { IfOk result IsKept }
-    {
-        match call {
-            Call::Wake { number } => Ok(Kept::Wake { number }),
-            Call::Leave { number } => Ok(Kept::Leave { number }),
-            Call::Depart { number } => Ok(Kept::Depart { number }),
-            Call::Advance { ticks } => Ok(Kept::Advance { ticks }),
-            other => long(alloc, other),
-        }
-    }
-
-    /// For how many names the call needs room: none, or one.
-    fn room(&self) -> usize
-        ensures { result ≡ room_of self.now }
-    {
-        match self {
-            Kept::Long(_) => 1,
-            _ => 0,
-        }
+    match call {
+        Kept::Long(_) => 1,
+        _ => 0,
     }
 }
 
@@ -89,7 +21,7 @@ pub(crate) fn room_for(calls: &[Kept]) -> usize
 {
     let mut room = 0;
     for call in calls {
-        room += call.room();
+        room += room_of(call);
     }
     room
 }

@@ -11,8 +11,9 @@
 //! run again. To the crate above they promise: `Ok` means that what was written is that text of the
 //! runs of the sections, each on a domain of its own, and nothing else; each fault means what it
 //! says, and where it is no fault of the writer, nothing was written. The trace of one section goes
-//! out while its run is made, so its switches are not kept; of runs from which another text is
-//! made, or of several sections, each call is made as soon as it is read.
+//! out while its run is made, so its switches are not kept; the calls of a trace's first section are
+//! kept until it is known whether another follows. All other calls are made as soon as they are
+//! read.
 //! `proofs/CallerLemmas.antt` has laws for callers: the calls text of histories is read again, and
 //! its replay writes the same trace.
 #![tactic(auto)]
@@ -21,7 +22,6 @@ mod charting;
 mod counted_run;
 mod fault;
 mod figures;
-mod given_names;
 mod heard_summary;
 mod kept;
 mod kept_section;
@@ -29,8 +29,10 @@ mod named_run;
 mod placed_run;
 mod playing;
 mod read_runs;
+mod read_text;
 mod replaying;
 mod run_text;
+mod runs_so_far;
 mod trace;
 mod writing;
 

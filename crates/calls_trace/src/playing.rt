@@ -6,11 +6,13 @@ ghost use Rattle.indexmap.specs.IndexMap.{spare};
 ghost use Rattle.calls_trace.specs.Replay.{no_names};
 ghost use Rattle.calls_trace.specs.private.Replaying.{AreNamed, Gives};
 ghost use Rattle.calls_trace.specs.private.Calls.{IsReady};
-ghost use Rattle.calls_trace.specs.private.Kept.{IsKept, call_of, room_of};
+ghost use Rattle.call_book.specs.KeptCall.{call_of};
+ghost use Rattle.calls_trace.specs.private.Kept.{IsKept, room_of};
 
-use crate::kept::{Kept, Spelled, room_for};
+use crate::kept::room_for;
 use crate::kept_section::KeptSection;
 use attr_check::Params;
+use call_book::{Kept, Spelled};
 use domain_run::{Buffered, Call, Name, NoMemory, Script, State};
 use indexmap::IndexMap;
 use std::alloc::Global;
@@ -49,7 +51,7 @@ impl NamedDomain {
     ghost use Rattle.switch_text.specs.Names.{named};
     ghost use Rattle.calls_trace.specs.Replay.{with_name, names_after};
     ghost use Rattle.calls_trace.specs.private.Replaying.{Gives};
-    ghost use Rattle.calls_trace.specs.private.Calls.{name_given};
+    ghost use Rattle.call_book.specs.NameGiven.{name_given};
 
     /// Puts down a name in the room for it.
     fn put(&mut self, number: u32, text: String)

@@ -17,9 +17,8 @@ ghost use Rattle.calls_trace.specs.private.RunTexts.{tells, text_of_all};
 use crate::charting::write_chart_of;
 use crate::fault::{ReplayFault, TraceFault};
 use crate::figures::{write_jobs_of, write_summary_of, write_whole};
-use crate::kept_section::only_section;
 use crate::placed_run::{PlacedRun, place_runs};
-use crate::read_runs::runs_of_text;
+use crate::read_text::{ReadText, read_text, runs_of_text};
 use crate::replaying::ReplayPrint;
 use crate::run_text::RunText;
 use crate::trace::{write_events_of, write_played, write_trace_of};
@@ -84,9 +83,9 @@ fn write_read_trace<W: Write>(
     ensures err { IfErr result
         (IsUnreplayed text.now (text_of_all texts.Trace) (side W.contents writer.old writer.new)) }
 {
-    match only_section(alloc, text)? {
-        Some(kept) => Ok(write_played(alloc, kept, writer)?),
-        None => write_read_runs(alloc, RunText::Trace, text, writer),
+    match read_text(alloc, text)? {
+        ReadText::Alone(kept) => Ok(write_played(alloc, kept, writer)?),
+        ReadText::Runs(runs) => Ok(write_runs(alloc, RunText::Trace, &runs, writer)?),
     }
 }
 

@@ -1,20 +1,9 @@
 -- The calls of a section that are left.
-use Rattle.std.specs.Prelude.{ℕ, ◌≤◌, List, []}
+use Rattle.std.specs.Prelude.{ℕ, ◌≤◌}
 use Rattle.domain_run.specs.declared.call.Call.{Call}
 use Rattle.domain_run.specs.declared.call.Call.TheVariants.{Admit, Regrade, Wake, Leave, Advance, Limit, Depart, Arrive}
 use Rattle.domain_run.specs.Domain.{IsLimit}
 use Rattle.call_book.specs.Limits.{IsNumber}
-
--- the name that a call gives where it is granted
-abbrev pub name_given : Call → List ℕ
-name_given (Admit number name params delay script) = name
-name_given (Regrade number params word) = []
-name_given (Wake number) = []
-name_given (Leave number) = []
-name_given (Advance n) = []
-name_given (Limit limit word) = []
-name_given (Depart number) = []
-name_given (Arrive number name params script) = name
 
 -- whom it admits; 1 where it admits nobody
 abbrev pub number_given : Call → ℕ

@@ -1,33 +1,21 @@
 -- Calls that are kept until they are made.
 use Rattle.std.specs.Prelude.{ℕ, ◌≡◌, List, [], ◌∷◌, ◌++◌, map, reverse, All}
-use Rattle.std.specs.String.{string_bytes}
 use Rattle.domain_run.specs.declared.call.Call.{Call}
-use Rattle.domain_run.specs.declared.call.Call.TheVariants as calls
+use Rattle.domain_run.specs.Run.{after_calls}
 use Rattle.call_book.specs.SectionView.{SectionView}
 use Rattle.call_book.specs.Spelling.{spelling}
 use Rattle.call_book.specs.Limits.{IsSection, AreRead}
+use Rattle.call_book.specs.KeptCall.{call_of}
 use Rattle.call_book.specs.Reader.{ReaderView, IsBehind, IsWithin}
-use Rattle.calls_trace.specs.Replay.{calls_of}
-use Rattle.calls_trace.specs.declared.kept.Kept.{Kept}
-use Rattle.calls_trace.specs.declared.kept.Kept.TheVariants.{Wake, Leave, Depart, Advance, Long}
+use Rattle.switch_text.specs.Names.{named}
+use Rattle.calls_trace.specs.Replay.{calls_of, names_of}
+use Rattle.calls_trace.specs.Told.{domain_of, names_in, params_of, params_in}
+use Rattle.call_book.specs.declared.kept_call.Kept.{Kept}
+use Rattle.call_book.specs.declared.kept_call.Kept.TheVariants.{Wake, Leave, Depart, Advance, Long}
 use Rattle.calls_trace.specs.declared.kept_section.KeptSection.{KeptSection}
-use Rattle.calls_trace.specs.private.Calls.{IsReady, name_given}
-
--- the call that is kept
-abbrev pub call_of : Kept → Call
-call_of (Wake number) = calls.Wake number
-call_of (Leave number) = calls.Leave number
-call_of (Depart number) = calls.Depart number
-call_of (Advance ticks) = calls.Advance ticks
-call_of (Long spelled) = spelled.value.call
-
--- the text that is kept beside it
-abbrev pub text_of : Kept → List ℕ
-text_of (Wake number) = []
-text_of (Leave number) = []
-text_of (Depart number) = []
-text_of (Advance ticks) = []
-text_of (Long spelled) = string_bytes spelled.value.text
+use Rattle.calls_trace.specs.declared.named_run.RunWithNames.{RunWithNames}
+use Rattle.calls_trace.specs.private.Calls.{IsReady}
+use Rattle.calls_trace.specs.private.Replaying.{given_in}
 
 -- for how many names it needs room
 abbrev pub room_of : Kept → ℕ
@@ -37,10 +25,9 @@ room_of (Depart number) = 0
 room_of (Advance ticks) = 0
 room_of (Long spelled) = 1
 
--- the call can be made, and the text is that of the name that it gives
+-- the call can be made
 pub record IsKept (k : Kept) : Type 0 where
   pub ready : IsReady (call_of k)
-  pub spelled : text_of k ≡ name_given (call_of k)
 
 -- the calls that are left, where the last one lies first
 abbrev pub calls_left : List Kept → List Call
@@ -73,6 +60,12 @@ pub record IsReadSection (text : List ℕ) (before : List SectionView) (reader :
   pub is : IsSection section
   pub behind : IsBehind text (before ++ section ∷ []) reader
   pub same : IsKeptSection section k
+
+-- of a section whose calls are kept, some are made, and these are left, the last one first
+pub record IsMadeUpTo (s : SectionView) (left : List Kept) (r : RunWithNames) : Type 0 where
+  pub domain : after_calls r.state (calls_left left) ≡ domain_of s
+  pub called : (n : ℕ) → names_of r.state (calls_left left) (named r.names) n ≡ names_in s n
+  pub params : (n : ℕ) → params_of r.state (calls_left left) (given_in r.given) n ≡ params_in s n
 
 -- the text spells one section, and its calls are kept
 pub record IsOnly (text : List ℕ) (k : KeptSection) : Type 0 where

@@ -6,6 +6,7 @@ use Rattle.call_book.specs.Limits.{IsSection, AreRead}
 use Rattle.call_book.specs.Reader.{ReaderView, IsBehind, IsWithin, begun}
 use Rattle.calls_trace.specs.declared.named_run.RunWithNames.{RunWithNames}
 use Rattle.calls_trace.specs.declared.placed_run.PlacedRun.{PlacedRun}
+use Rattle.calls_trace.specs.declared.runs_so_far.RunsSoFar.{RunsSoFar}
 use Rattle.calls_trace.specs.private.Replaying.{IsRunOf, IsToldOf, IsPlaced, view_of, views_from}
 
 -- a reader of some text has begun this section, and read no entry of it
@@ -34,16 +35,25 @@ pub record IsReadRun (text : List ℕ) (before : List SectionView) (cpus : ℕ) 
   pub run : IsRunOf section r.state r.names
   pub told : IsToldOf wanted section r.given r.log
 
--- the runs of the sections that were read so far
-pub record ArePlacedSoFar (text : List ℕ) (wanted : Bool) (reader : ReaderView)
-    (runs : List PlacedRun) (base : ℕ) : Type 0 where
+-- the runs of these sections, each on a domain of its own
+pub record ArePlacedFor (wanted : Bool) (done : List SectionView) (r : RunsSoFar) : Type 0 where
+  pub views : map view_of r.runs.items ≡ views_from wanted 0 done
+  pub placed : All IsPlaced r.runs.items
+  pub count : length r.runs.items ≡ length done
+  pub base_is : r.base ≡ sum_by (λ s. s.cpus) done
+  pub inside : r.base ≤ 64 * length done
+
+-- those of the sections that were read so far
+pub record ArePlacedSoFar (text : List ℕ) (wanted : Bool) (reader : ReaderView) (r : RunsSoFar)
+    : Type 0 where
   pub done : List SectionView
   pub behind : IsBehind text done reader
-  pub views : map view_of runs ≡ views_from wanted 0 done
-  pub placed : All IsPlaced runs
-  pub count : length runs ≡ length done
-  pub base_is : base ≡ sum_by (λ s. s.cpus) done
-  pub inside : base ≤ 64 * length done
+  pub placed : ArePlacedFor wanted done r
+
+-- so it is for some text
+pub record IsUnderWay (wanted : Bool) (reader : ReaderView) (r : RunsSoFar) : Type 0 where
+  pub text : List ℕ
+  pub so_far : ArePlacedSoFar text wanted reader r
 
 -- the text spells sections, and these are their runs
 pub record AreReadRuns (text : List ℕ) (wanted : Bool) (runs : List PlacedRun) : Type 0 where

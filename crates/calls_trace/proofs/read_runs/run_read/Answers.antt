@@ -1,11 +1,20 @@
-use Rattle.std.proofs.Common.{◌≡◌, false, true, ◌∷◌, [], Option, Ok, refl, ap, subst, ◌∙◌, arith, length-append}
+use Rattle.std.proofs.Common.{◌≡◌, false, true, ◌∷◌, [], Option, Ok, refl, sym, ap, subst, ◌∙◌, arith, length-append}
 use Rattle.std.specs.Prelude.{IfSome}
 use Rattle.domain_run.specs.Domain.{Domain}
 use Rattle.domain_run.specs.Sound.{IsAdmitted}
-use Rattle.call_book.specs.Limits.{IsEntry}
-use Rattle.call_book.specs.Reader.{IsNextEntry, begun, with_entries}
-use Rattle.call_book.specs.declared.section.Entry.{Entry}
-use Rattle.call_book.proofs.Readers.{behind_none, section_within}
+use Rattle.domain_run.specs.declared.call.Call.{Call}
+use Rattle.domain_run.specs.Calls.{after_call}
+use Rattle.domain_run.specs.Happened.{told_by_call}
+use Rattle.domain_run.specs.Log.{Tells}
+use Rattle.call_book.specs.Limits.{IsCall}
+use Rattle.call_book.specs.Reader.{begun, with_entries}
+use Rattle.call_book.specs.KeptCall.{IsNextCall, IsNextKept, call_of}
+use Rattle.call_book.specs.declared.kept_call.Kept.{Kept}
+use Rattle.call_book.proofs.Readers.{section_within}
+use Rattle.switch_text.specs.Names.{named}
+use Rattle.calls_trace.specs.Replay.{names_after}
+use Rattle.calls_trace.specs.Told.{params_after}
+use Rattle.calls_trace.specs.private.Replaying.{given_in}
 use Rattle.calls_trace.proofs.ReadRuns.{run_more, told_more, none_told}
 use Rattle.calls_trace.proofs.Sections.{unheard}
 use Rattle.calls_trace.proofs.read_runs.run_read.Goals as goal
@@ -41,7 +50,7 @@ loop-run-init c =
     }
 
 pub make-requires-clause-call : goal.make-requires-clause-call
-make-requires-clause-call c = (subst (λ (o : Option Entry). IfSome o IsEntry) c.in-Some.is c.in_ok-entry.ensures.entry).call
+make-requires-clause-call c = subst IsCall (sym c.into_call.ensures) (subst (λ (o : Option Kept). IfSome o (λ k. IsCall (call_of k))) c.in-Some.is c.in_ok-kept.ensures.call)
 
 pub make-requires-clause-early : goal.make-requires-clause-early
 make-requires-clause-early c =
@@ -58,17 +67,22 @@ loop-run-preserved c =
     let i = c.loop-run.invariant in
     let was = c.loop-run.run in
     let is = c.make.new.self in
-    let e = c.in-Some.entry in
     let made = c.in_ok-make.ensures in
     record {
       so_far = λ text before w.
           let m = i.so_far text before w in
+          let next : IsNextCall text before m.section c.next_of.new.reader c.in-Some.kept = subst (λ (o : Option Kept). IsNextKept text before m.section c.next_of.new.reader (Ok o)) c.in-Some.is (c.in_ok-kept.ensures.next text before m.section m.within) in
+          let e = next.entry in
+          let call : c.into_call.result ≡ e.call = c.into_call.ensures ∙ sym next.same in
           record {
             section = with_entries m.section (e ∷ []);
             same_cpus = m.same_cpus;
-            within = subst (λ (o : Option Entry). IsNextEntry text before m.section c.next_of.new.reader (Ok o)) c.in-Some.is (c.in_ok-entry.ensures.next text before m.section m.within);
-            run = run_more m.section e was.state is.state was.names is.names m.run made.state made.names made.named;
-            told = told_more c.args.wanted m.section e was.state was.given is.given was.log is.log m.run.domain m.told made.given made.told;
+            within = next.within;
+            run = run_more m.section e was.state is.state was.names is.names m.run (made.state ∙ ap (after_call was.state) call)
+                (λ n. made.names n ∙ ap (λ (x : Call). names_after was.state x (named was.names) n) call) made.named;
+            told = told_more c.args.wanted m.section e was.state was.given is.given was.log is.log m.run.domain m.told
+                (λ n. made.given n ∙ ap (λ (x : Call). params_after was.state x (given_in was.given) n) call)
+                (subst (λ (x : Call). Tells was.log (told_by_call was.state x) is.log) call made.told);
             early = let early = m.early in omega (arith, early, made.time, length-append m.section.entries (e ∷ []));
           };
       never_more = omega (arith, i.never_more, c.next_of.ensures.never_more);
@@ -82,7 +96,7 @@ returns-clause-run c = λ text before w.
       section = m.section;
       same_cpus = m.same_cpus;
       is = section_within text before m.section c.loop-run.reader m.within;
-      behind = behind_none text before m.section reader c.in_ok-entry.field-0 c.in_default.is (c.in_ok-entry.ensures.next text before m.section m.within);
+      behind = subst (λ (o : Option Kept). IsNextKept text before m.section reader (Ok o)) c.in_default.is (c.in_ok-kept.ensures.next text before m.section m.within);
       run = m.run;
       told = m.told;
     }

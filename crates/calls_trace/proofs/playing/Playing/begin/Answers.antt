@@ -7,7 +7,8 @@ use Rattle.domain_run.specs.declared.call.Call.TheVariants.{Advance}
 use Rattle.domain_run.specs.Tick.{ticks}
 use Rattle.switch_text.specs.Names.{named}
 use Rattle.calls_trace.specs.Replay.{names_of}
-use Rattle.calls_trace.specs.private.Kept.{IsKept, call_of, room_of, calls_left}
+use Rattle.call_book.specs.KeptCall.{call_of}
+use Rattle.calls_trace.specs.private.Kept.{IsKept, room_of, calls_left}
 use Rattle.calls_trace.proofs.Sections.{left_more, left_names}
 use Rattle.calls_trace.proofs.Ready.{call_left_time}
 use Rattle.calls_trace.proofs.playing.Playing.begin.Goals as goal

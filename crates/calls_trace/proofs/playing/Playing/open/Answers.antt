@@ -6,7 +6,8 @@ use Rattle.domain_run.specs.declared.call.Call.{Call}
 use Rattle.domain_run.specs.Domain.{Domain, opened}
 use Rattle.switch_text.specs.Names.{named}
 use Rattle.calls_trace.specs.Replay.{names_of, no_names, calls_of}
-use Rattle.calls_trace.specs.private.Kept.{IsKept, calls_left, call_of, room_of}
+use Rattle.call_book.specs.KeptCall.{call_of}
+use Rattle.calls_trace.specs.private.Kept.{IsKept, calls_left, room_of}
 use Rattle.calls_trace.proofs.playing.Playing.open.Goals as goal
 
 pub invariant_of-result-clause-kept : goal.invariant_of-result-clause-kept
