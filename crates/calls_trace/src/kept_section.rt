@@ -56,7 +56,7 @@ impl KeptSection {
         calls.reverse();
         let mut run = RunWithNames::open(alloc, cpus, limit, false)?;
         'calls: while let Some(kept) = calls.pop() {
-            run.make(alloc, kept.into_call())?;
+            run.make_kept(kept)?;
         }
         Ok(run)
     }

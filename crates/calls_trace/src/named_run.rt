@@ -12,6 +12,8 @@ ghost use Rattle.domain_run.specs.Run.{run_of};
 ghost use Rattle.domain_run.specs.Tick.{ticks as ticked_by};
 ghost use Rattle.call_book.specs.Limits.{IsNumber, IsCall, IsEntry, IsSection};
 ghost use Rattle.call_book.specs.Book.{IsLegal};
+ghost use Rattle.call_book.specs.NameGiven.{name_given};
+ghost use Rattle.call_book.specs.KeptCall.{call_of};
 ghost use Rattle.switch_text.specs.Names.{named};
 ghost use Rattle.calls_trace.specs.Replay.{no_names, with_name, names_after, calls_of};
 ghost use Rattle.calls_trace.specs.Told.{names_in, params_in, no_params, with_params, params_after, told_of};
@@ -19,7 +21,7 @@ ghost use Rattle.calls_trace.specs.private.Replaying.{AreNamed, Gives, GivesPara
 ghost use Rattle.calls_trace.specs.private.Recorded.{given_by, given_by_all, params_given_by, params_given_by_all};
 
 use attr_check::Params;
-use call_book::{Entry, Section};
+use call_book::{Entry, Kept, Section, Spelled};
 use domain_run::{Call, Log, Name, NoMemory, Reply, Script, State};
 use indexmap::IndexMap;
 use std::alloc::Global;
@@ -124,15 +126,16 @@ impl RunWithNames {
     /// Admits a task; its name and its parameters are kept where it is admitted.
     fn admit(
         &mut self,
-        alloc: Global,
         number: u32,
         name: Name,
         params: Params,
         delay: u64,
         script: Script,
+        text: String,
     ) -> Result<(), NoMemory>
         requires number { IsNumber number }
         requires delay { delay ≤ 1000000000 }
+        requires text { string_bytes text ≡ name }
         requires named { AreNamed self.old.state self.old.names }
         ensures state { let call = Call.Admit number name params delay script in
             OnOk result (self.new.state ≡ after_call self.old.state call) }
@@ -146,7 +149,8 @@ impl RunWithNames {
         ensures time { OnOk result (self.new.state.time ≡ self.old.state.time) }
         ensures log { self.new.log ≡ self.old.log }
     {
-        let text = text_of(alloc, &name)?;
+        // For the prover alone: a look at a name brings what every name keeps.
+        let _ = name.as_str();
         match self.state.admit(number, name, params, delay, script) {
             Ok(()) => self.know(number, text, params),
             Err(_) => Ok(()),
@@ -196,9 +200,10 @@ impl RunWithNames {
         Ok(())
     }
 
-    /// Makes a call; the log is told what it tells.
-    pub(crate) fn make(&mut self, alloc: Global, call: Call) -> Result<(), NoMemory>
+    /// Makes a call that gives this name; the log is told what it tells.
+    fn make(&mut self, call: Call, text: String) -> Result<(), NoMemory>
         requires call { IsCall call }
+        requires text { string_bytes text ≡ name_given call }
         requires early { self.old.state.time + 60000000 ≤ 2 ^ 42 }
         requires named { AreNamed self.old.state self.old.names }
         ensures state { OnOk result (self.new.state ≡ after_call self.old.state call) }
@@ -218,7 +223,7 @@ impl RunWithNames {
                 params,
                 delay,
                 script,
-            } => self.admit(alloc, number, name, params, delay, script),
+            } => self.admit(number, name, params, delay, script, text),
             Call::Advance { ticks } => self.advance(ticks),
             Call::Regrade {
                 number,
@@ -241,7 +246,37 @@ impl RunWithNames {
                 name,
                 params,
                 script,
-            } => self.admit(alloc, number, name, params, 0, script),
+            } => self.admit(number, name, params, 0, script, text),
+        }
+    }
+
+    /// As `make`, of a call in little room. What is short is made in place.
+    pub(crate) fn make_kept(&mut self, kept: Kept) -> Result<(), NoMemory>
+        requires call { IsCall (call_of kept) }
+        requires early { self.old.state.time + 60000000 ≤ 2 ^ 42 }
+        requires named { AreNamed self.old.state self.old.names }
+        ensures state { OnOk result (self.new.state ≡ after_call self.old.state (call_of kept)) }
+        ensures names { OnOk result (Gives self.new.names
+            (names_after self.old.state (call_of kept) (named self.old.names))) }
+        ensures given { OnOk result (GivesParams self.new.given
+            (params_after self.old.state (call_of kept) (given_in self.old.given))) }
+        ensures told { OnOk result
+            (Tells self.old.log (told_by_call self.old.state (call_of kept)) self.new.log) }
+        ensures named { OnOk result (AreNamed self.new.state self.new.names) }
+        ensures time { OnOk result (self.new.state.time ≤ self.old.state.time + 60000000) }
+    {
+        match kept {
+            Kept::Wake { number } => {
+                self.state.wake(number);
+                Ok(())
+            }
+            Kept::Leave { number } => self.leave(number),
+            Kept::Depart { number } => self.depart(number),
+            Kept::Advance { ticks } => self.advance(ticks),
+            Kept::Long(spelled) => {
+                let Spelled { call, text } = Box::into_inner(spelled);
+                self.make(call, text)
+            }
         }
     }
 

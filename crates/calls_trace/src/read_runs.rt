@@ -43,7 +43,7 @@ pub(crate) fn run_read(
 {
     let mut run = RunWithNames::open(alloc, cpus, limit, wanted)?;
     while let Some(kept) = next_of(alloc, reader)? {
-        run.make(alloc, kept.into_call())?;
+        run.make_kept(kept)?;
     }
     Ok(run)
 }

@@ -49,31 +49,31 @@ loop-run-init c =
       never_more = omega arith;
     }
 
-pub make-requires-clause-call : goal.make-requires-clause-call
-make-requires-clause-call c = subst IsCall (sym c.into_call.ensures) (subst (λ (o : Option Kept). IfSome o (λ k. IsCall (call_of k))) c.in-Some.is c.in_ok-kept.ensures.call)
+pub make_kept-requires-clause-call : goal.make_kept-requires-clause-call
+make_kept-requires-clause-call c = subst (λ (o : Option Kept). IfSome o (λ k. IsCall (call_of k))) c.in-Some.is c.in_ok-kept.ensures.call
 
-pub make-requires-clause-early : goal.make-requires-clause-early
-make-requires-clause-early c =
+pub make_kept-requires-clause-early : goal.make_kept-requires-clause-early
+make_kept-requires-clause-early c =
     let b = c.requires.begun in
     let m = c.loop-run.invariant.so_far b.text b.before b.within in
     let few = (section_within b.text b.before m.section c.loop-run.reader m.within).most_entries in
     omega (arith, m.early, few)
 
-pub make-requires-clause-named : goal.make-requires-clause-named
-make-requires-clause-named c = (c.loop-run.invariant.so_far c.requires.begun.text c.requires.begun.before c.requires.begun.within).run.all_named
+pub make_kept-requires-clause-named : goal.make_kept-requires-clause-named
+make_kept-requires-clause-named c = (c.loop-run.invariant.so_far c.requires.begun.text c.requires.begun.before c.requires.begun.within).run.all_named
 
 pub loop-run-preserved : goal.loop-run-preserved
 loop-run-preserved c =
     let i = c.loop-run.invariant in
     let was = c.loop-run.run in
-    let is = c.make.new.self in
-    let made = c.in_ok-make.ensures in
+    let is = c.make_kept.new.self in
+    let made = c.in_ok-make_kept.ensures in
     record {
       so_far = λ text before w.
           let m = i.so_far text before w in
           let next : IsNextCall text before m.section c.next_of.new.reader c.in-Some.kept = subst (λ (o : Option Kept). IsNextKept text before m.section c.next_of.new.reader (Ok o)) c.in-Some.is (c.in_ok-kept.ensures.next text before m.section m.within) in
           let e = next.entry in
-          let call : c.into_call.result ≡ e.call = c.into_call.ensures ∙ sym next.same in
+          let call : call_of c.in-Some.kept ≡ e.call = sym next.same in
           record {
             section = with_entries m.section (e ∷ []);
             same_cpus = m.same_cpus;

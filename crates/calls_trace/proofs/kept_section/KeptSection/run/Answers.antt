@@ -61,16 +61,16 @@ calls-init c =
       early = omega (arith, many, time, c.reverse.ensures.len, r.is.most_entries);
     }
 
-pub make-requires-clause-call : goal.make-requires-clause-call
-make-requires-clause-call c = subst IsCall (sym c.into_call.ensures) (All-pop (λ (k : Kept). IsCall (call_of k)) c.calls.calls.items c.pop.new.self.items (Some c.in-Some.kept) c.in-Some.ensures.items c.calls.invariant.are).1
+pub make_kept-requires-clause-call : goal.make_kept-requires-clause-call
+make_kept-requires-clause-call c = (All-pop (λ (k : Kept). IsCall (call_of k)) c.calls.calls.items c.pop.new.self.items (Some c.in-Some.kept) c.in-Some.ensures.items c.calls.invariant.are).1
 
-pub make-requires-clause-early : goal.make-requires-clause-early
-make-requires-clause-early c =
+pub make_kept-requires-clause-early : goal.make_kept-requires-clause-early
+make_kept-requires-clause-early c =
     let long : length c.calls.calls.items ≡ length c.pop.new.self.items + 1 = ap length c.in-Some.ensures.items ∙ length_push c.pop.new.self.items c.in-Some.kept in
     omega (arith, long, c.calls.invariant.early)
 
-pub make-requires-clause-named : goal.make-requires-clause-named
-make-requires-clause-named c = c.calls.invariant.all_named
+pub make_kept-requires-clause-named : goal.make_kept-requires-clause-named
+make_kept-requires-clause-named c = c.calls.invariant.all_named
 
 pub calls-preserved : goal.calls-preserved
 calls-preserved c =
@@ -79,21 +79,20 @@ calls-preserved c =
     let all = c.calls.calls.items in
     let rest = c.pop.new.self.items in
     let was = c.calls.run in
-    let is = c.make.new.self in
-    let done = c.in_ok-make.ensures in
-    let call : c.into_call.result ≡ call_of k = c.into_call.ensures in
+    let is = c.make_kept.new.self in
+    let done = c.in_ok-make_kept.ensures in
     let long : length all ≡ length rest + 1 = ap length c.in-Some.ensures.items ∙ length_push rest k in
     let more : calls_left all ≡ call_of k ∷ calls_left rest = left_more rest all k c.in-Some.ensures.items in
-    let state : is.state ≡ after_call was.state (call_of k) = done.state ∙ ap (after_call was.state) call in
+    let state : is.state ≡ after_call was.state (call_of k) = done.state in
     record {
       made = λ s same.
           let m = i.made s same in
           record {
             domain = ap (λ (d : Domain). after_calls d (calls_left rest)) state ∙ sym (ap (after_calls was.state) more) ∙ m.domain;
             called = left_names was.state is.state (call_of k) (calls_left rest) (calls_left all) (named was.names) (named is.names) (names_in s) more state
-                (λ n. done.names n ∙ ap (λ (x : Call). names_after was.state x (named was.names) n) call) m.called;
+                done.names m.called;
             params = left_params was.state is.state (call_of k) (calls_left rest) (calls_left all) (given_in was.given) (given_in is.given) (params_in s) more state
-                (λ n. done.given n ∙ ap (λ (x : Call). params_after was.state x (given_in was.given) n) call) m.params;
+                done.given m.params;
           };
       are = (All-pop (λ (x : Kept). IsCall (call_of x)) all rest (Some k) c.in-Some.ensures.items i.are).0;
       all_named = done.named;
