@@ -8,8 +8,8 @@ use Rattle.std.proofs.lemmas.Bool.{and_parts, leb-true, eqb-false, ne_eqb}
 use Rattle.std.proofs.lemmas.Option.{same_Some, cond_some}
 use Rattle.std.proofs.lemmas.Slice.Eq.{bytes_eq-Decides}
 use Rattle.attr_check.specs.ParamsView.{ParamsView}
-use Rattle.domain_run.specs.NameView.{IsName}
-use Rattle.domain_run.specs.script.ScriptView.{ScriptView, IsScript}
+use Rattle.task_script.specs.NameView.{IsName}
+use Rattle.task_script.specs.script.ScriptView.{ScriptView, IsScript}
 use Rattle.domain_run.specs.declared.call.Call.{Call}
 use Rattle.domain_run.specs.declared.call.Call.TheVariants.{Admit, Regrade, Wake, Leave, Advance, Limit, Depart, Arrive}
 use Rattle.call_book.specs.declared.fault.PartFault.{PartFault}

@@ -7,7 +7,7 @@ use Rattle.std.proofs.lemmas.List.{get_or_past}
 use Rattle.std.proofs.lemmas.List.Sums.{AllPass-from_list_all, list_all-from_AllPass}
 use Rattle.std.proofs.lemmas.Option.{cond_some}
 use Rattle.std.proofs.lemmas.Str.{IsUtf8-from_ascii}
-use Rattle.domain_run.specs.NameView.{IsName}
+use Rattle.task_script.specs.NameView.{IsName}
 use Rattle.call_book.specs.private.Reading.{is_name, name_at}
 
 abbrev in_range : ℕ → Bool

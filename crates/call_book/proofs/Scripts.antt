@@ -11,10 +11,10 @@ use Rattle.std.proofs.lemmas.Option.{same_Some}
 use Rattle.std.proofs.lemmas.List.{append-nil, length-append}
 use Rattle.std.proofs.lemmas.List.Elements.{All-from_recursion, recursion_from_All, All-weaker}
 use Rattle.std.proofs.lemmas.Slice.Eq.{bytes_eq-Decides}
-use Rattle.domain_run.specs.declared.script.Event.{Event}
-use Rattle.domain_run.specs.declared.script.Event.TheVariants.{Run, Sleep, Timer, Wait}
-use Rattle.domain_run.specs.script.Segments.{rounds_of, IsLoops}
-use Rattle.domain_run.specs.script.ScriptView.{PhaseView, ScriptView, script_of, IsEvent, IsPhase, IsScript}
+use Rattle.task_script.specs.declared.script.Event.{Event}
+use Rattle.task_script.specs.declared.script.Event.TheVariants.{Run, Sleep, Timer, Wait}
+use Rattle.task_script.specs.script.Segments.{rounds_of, IsLoops}
+use Rattle.task_script.specs.script.ScriptView.{PhaseView, ScriptView, script_of, IsEvent, IsPhase, IsScript}
 use Rattle.call_book.specs.Spelling.{event_text, events_text, phase_text, loops_text, script_text}
 use Rattle.call_book.specs.private.Reading.{◌>>=◌, cut_at, number_within_at, lasting_at, event_at, event_first_at, events_at, phase_at, phase_first_at, phases_at, rounds_at, script_at}
 use Rattle.call_book.proofs.Cuts.{Lacks, Lacks-append, cut_takes, cut_none, cut_again}

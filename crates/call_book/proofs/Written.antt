@@ -7,8 +7,8 @@ use Rattle.std.proofs.lemmas.Grind.{flat_map-append}
 use Rattle.std.proofs.lemmas.List.{append-nil, take_all}
 use Rattle.call_book.specs.declared.section.Entry.{Entry}
 use Rattle.call_book.specs.SectionView.{SectionView}
-use Rattle.domain_run.specs.declared.script.Event.{Event}
-use Rattle.domain_run.specs.script.Segments.{loops_of}
+use Rattle.task_script.specs.declared.script.Event.{Event}
+use Rattle.task_script.specs.script.Segments.{loops_of}
 use Rattle.call_book.specs.Spelling.{event_text, events_text, loops_text, entry_line, domain_line, section_lines, is_later, some_later, has_later, header_line, text_of, spelling}
 use Rattle.call_book.specs.Limits.{AreRead}
 use Rattle.call_book.specs.RoundTrip.{bare, unanswered, IsReadAs}

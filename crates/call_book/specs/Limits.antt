@@ -3,8 +3,8 @@ use Rattle.std.specs.Prelude.{◌≡◌, ℕ, ◌≤◌, ◌<◌, ◌*◌, ◌^�
 use Rattle.attr_check.specs.declared.attr.SchedAttr.{SchedAttr}
 use Rattle.attr_check.specs.ParamsView.{ParamsView}
 use Rattle.attr_check.specs.Accepted.{accepted}
-use Rattle.domain_run.specs.NameView.{IsName}
-use Rattle.domain_run.specs.script.ScriptView.{ScriptView, IsScript}
+use Rattle.task_script.specs.NameView.{IsName}
+use Rattle.task_script.specs.script.ScriptView.{ScriptView, IsScript}
 use Rattle.domain_run.specs.declared.call.Call.{Call}
 use Rattle.domain_run.specs.declared.call.Call.TheVariants.{Admit, Regrade, Wake, Leave, Advance, Limit, Depart, Arrive}
 use Rattle.call_book.specs.declared.section.Entry.{Entry}

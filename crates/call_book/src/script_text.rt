@@ -1,6 +1,6 @@
 ghost use Rattle.std.specs.Prelude.{IfOk};
 ghost use Rattle.std.specs.Option.{option_map};
-ghost use Rattle.domain_run.specs.script.Segments.{rounds_of, IsLoops};
+ghost use Rattle.task_script.specs.script.Segments.{rounds_of, IsLoops};
 ghost use Rattle.call_book.specs.private.Reading.{Gives, event_at, event_first_at, events_at, phase_at, phase_first_at, phases_at, rounds_at, script_at};
 
 use crate::cut::cut;

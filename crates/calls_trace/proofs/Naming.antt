@@ -4,8 +4,8 @@ use Rattle.std.specs.Prelude.{OnOk}
 use Rattle.std.specs.List.{list_any}
 use Rattle.std.proofs.lemmas.Bool.{eqb-true, eqb-false, ne_eqb}
 use Rattle.attr_check.specs.ParamsView.{ParamsView}
-use Rattle.domain_run.specs.NameView.{IsName}
-use Rattle.domain_run.specs.script.ScriptView.{ScriptView}
+use Rattle.task_script.specs.NameView.{IsName}
+use Rattle.task_script.specs.script.ScriptView.{ScriptView}
 use Rattle.domain_run.specs.declared.call.Call.TheVariants.{Admit}
 use Rattle.domain_run.specs.declared.call.Reply.TheVariants.{Admitted}
 use Rattle.domain_run.specs.Domain.{Domain}

@@ -2,7 +2,7 @@
 
 ghost use Rattle.std.specs.Prelude.{◌≡◌, ◌<◌, ◌≤◌, ◌+◌, ◌^◌, [], OnOk, IfOk, All, IsTrue, vec_len};
 ghost use Rattle.std.specs.String.{string_bytes};
-ghost use Rattle.domain_run.specs.NameView.{IsName};
+ghost use Rattle.task_script.specs.NameView.{IsName};
 ghost use Rattle.domain_run.specs.declared.call.Call.TheVariants as Call;
 ghost use Rattle.domain_run.specs.Domain.{IsLimit, opened};
 ghost use Rattle.domain_run.specs.Calls.{after_call};

@@ -11,7 +11,7 @@ use Rattle.std.proofs.lemmas.List.{map-append}
 use Rattle.std.proofs.Math.Nat.{mul-le-mul}
 use Rattle.attr_check.specs.Ratio.{cap}
 use Rattle.attr_check.specs.ParamsView.{ParamsView}
-use Rattle.domain_run.specs.script.ScriptView.{ScriptView}
+use Rattle.task_script.specs.script.ScriptView.{ScriptView}
 use Rattle.grub_rules.specs.declared.share.Share.{Share}
 use Rattle.domain_run.specs.declared.task.Task.{Task}
 use Rattle.domain_run.specs.Domain.{Domain}

@@ -11,7 +11,7 @@ use Rattle.std.proofs.lemmas.List.Sums.{sum_by-cons}
 use Rattle.grub_rules.specs.declared.share.Share.{Share}
 use Rattle.attr_check.specs.ParamsView.{ParamsView}
 use Rattle.attr_check.specs.Ratio.{cap}
-use Rattle.domain_run.specs.script.ScriptView.{ScriptView}
+use Rattle.task_script.specs.script.ScriptView.{ScriptView}
 use Rattle.domain_run.specs.declared.task.Task.{Task}
 use Rattle.domain_run.specs.declared.task.Condition.TheVariants.{Leaving}
 use Rattle.domain_run.specs.declared.call.Call.{Call}

@@ -6,11 +6,11 @@ use Rattle.std.proofs.lemmas.List.Sums.{sum_by-cons}
 use Rattle.grub_rules.specs.declared.share.Share.{Share}
 use Rattle.cbs_rules.specs.declared.server.Server.{Server}
 use Rattle.domain_run.specs.declared.task.Task.{Task}
-use Rattle.domain_run.specs.declared.script.Segment.{Segment}
-use Rattle.domain_run.specs.declared.script.Segment.TheVariants.{Run as RunFor, Until, Wait as WaitFor, End}
+use Rattle.task_script.specs.declared.script.Segment.{Segment}
+use Rattle.task_script.specs.declared.script.Segment.TheVariants.{Run as RunFor, Until, Wait as WaitFor, End}
 use Rattle.domain_run.specs.Conditions.{is_over, has_come}
 use Rattle.cbs_rules.specs.Serving.{is_spent, woken}
-use Rattle.domain_run.specs.script.Segments.{asked}
+use Rattle.task_script.specs.script.Segments.{asked}
 use Rattle.domain_run.specs.Parts.{replenish_due, settled, enqueued, started, unblocked, went_on, ran}
 use Rattle.domain_run.specs.Tick.{share_of, shares, sum_of}
 

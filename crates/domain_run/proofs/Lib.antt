@@ -1,5 +1,3 @@
-pub mod Unrolling
-pub mod Rounds
 pub mod Served
 pub mod Marks
 pub mod Opening

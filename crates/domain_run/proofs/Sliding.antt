@@ -7,7 +7,7 @@ use Rattle.domain_run.specs.declared.task.Task.{Task}
 use Rattle.domain_run.specs.declared.task.Condition.TheVariants.{Ready, Throttled}
 use Rattle.domain_run.specs.Conditions.{is_ready, is_throttled}
 use Rattle.domain_run.specs.Parts.{running_on, goes_on}
-use Rattle.domain_run.specs.script.Segments.{asked}
+use Rattle.task_script.specs.script.Segments.{asked}
 use Rattle.domain_run.specs.Sound.{IsSound}
 use Rattle.domain_run.specs.private.Paying.{ran_until}
 use Rattle.domain_run.proofs.Paying.{is_Ready}

@@ -15,15 +15,15 @@ use Rattle.domain_run.specs.declared.task.Condition.{Condition}
 use Rattle.domain_run.specs.declared.task.Condition.TheVariants.{Ready, Throttled, Blocked, Waiting, Leaving}
 use Rattle.domain_run.specs.declared.change.Change.{Change}
 use Rattle.domain_run.specs.declared.change.Change.TheVariants.{Replenish, Settle, Unblock, Run, Regrade, Release, End, Depart}
-use Rattle.domain_run.specs.declared.script.Segment.{Segment}
-use Rattle.domain_run.specs.declared.script.Segment.TheVariants.{Run as RunFor, Until, Wait as WaitFor, End as EndNow}
+use Rattle.task_script.specs.declared.script.Segment.{Segment}
+use Rattle.task_script.specs.declared.script.Segment.TheVariants.{Run as RunFor, Until, Wait as WaitFor, End as EndNow}
 use Rattle.domain_run.specs.declared.happened.What.{What}
 use Rattle.domain_run.specs.declared.happened.What.TheVariants.{JobEnds, NextReleased, Spent, Replenished, Released, WokenSpent}
 use Rattle.domain_run.specs.declared.happened.Happened.{Happened}
-use Rattle.domain_run.specs.script.Segments.{asked}
+use Rattle.task_script.specs.script.Segments.{passes_late_timer, asked}
 use Rattle.domain_run.specs.Conditions.{is_ready, is_throttled, is_contending, is_over, has_come}
 use Rattle.domain_run.specs.Parts.{replenish_due, unblocked, enqueued, started, starts, running_on, went_on, goes_on}
-use Rattle.domain_run.specs.Happened.{told, due, job_due, passes_late_timer, told_by_segment, told_by_work, told_by_budget, told_by_replenishment, told_by_wake, told_by_unblocking}
+use Rattle.domain_run.specs.Happened.{told, due, job_due, told_by_segment, told_by_work, told_by_budget, told_by_replenishment, told_by_wake, told_by_unblocking}
 use Rattle.domain_run.specs.private.Index.{IsAt, IsAbsent}
 use Rattle.domain_run.specs.private.Roster.{after_change}
 use Rattle.domain_run.specs.private.Paying.{ran_until}

@@ -17,7 +17,7 @@ use Rattle.domain_run.specs.declared.happened.Happened.{Happened}
 use Rattle.domain_run.specs.declared.call.Call.{Call}
 use Rattle.domain_run.specs.declared.call.Call.TheVariants.{Admit, Regrade, Wake, Leave, Advance, Limit, Depart, Arrive}
 use Rattle.domain_run.specs.declared.call.Reply.TheVariants.{Admitted, Full, Twice, Busy}
-use Rattle.domain_run.specs.script.ScriptView.{ScriptView}
+use Rattle.task_script.specs.script.ScriptView.{ScriptView}
 use Rattle.domain_run.specs.Conditions.{is_contending}
 use Rattle.domain_run.specs.Parts.{replenish_due, settled, is_listed, unblocked, with_last_cpu, stopped}
 use Rattle.domain_run.specs.Domain.{Domain, opened}

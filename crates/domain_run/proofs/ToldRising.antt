@@ -9,19 +9,19 @@ use Rattle.std.proofs.lemmas.List.Kept.{AllPairs-cons, AllPairs-filter}
 use Rattle.cbs_rules.specs.Serving.{charged}
 use Rattle.edf_pick.specs.Places.{stands}
 use Rattle.domain_run.specs.declared.task.Task.{Task}
-use Rattle.domain_run.specs.declared.script.Segment.{Segment}
-use Rattle.domain_run.specs.declared.script.Segment.TheVariants.{Run as RunFor, Until, Wait as WaitFor, End as EndNow}
+use Rattle.task_script.specs.declared.script.Segment.{Segment}
+use Rattle.task_script.specs.declared.script.Segment.TheVariants.{Run as RunFor, Until, Wait as WaitFor, End as EndNow}
 use Rattle.domain_run.specs.declared.happened.What.TheVariants.{JobEnds, NextReleased, Spent, Cut, Replenished, Released, WokenSpent}
 use Rattle.domain_run.specs.declared.happened.Happened.{Happened}
 use Rattle.domain_run.specs.declared.call.Call.{Call}
 use Rattle.domain_run.specs.declared.call.Call.TheVariants.{Admit, Regrade, Wake, Leave, Advance, Limit, Depart, Arrive}
-use Rattle.domain_run.specs.script.Segments.{asked}
+use Rattle.task_script.specs.script.Segments.{passes_late_timer, asked}
 use Rattle.domain_run.specs.Conditions.{is_throttled, is_over, has_come}
 use Rattle.domain_run.specs.Parts.{replenish_due, settled, is_listed, unblocked, with_last_cpu, ran}
 use Rattle.domain_run.specs.Domain.{Domain}
 use Rattle.domain_run.specs.Tick.{begun, prepared, rate_of, ticks}
 use Rattle.domain_run.specs.Calls.{reply_to, is_refusal, granted, after_call}
-use Rattle.domain_run.specs.Happened.{told, due, job_due, passes_late_timer, told_by_segment, told_by_work, told_by_budget, told_by_run, told_if_ran, told_by_replenishment, told_by_wake, told_by_unblocking, rank, is_first, at_home, told_to_begin, told_by_beginning, told_by_end, told_by_tick, told_by_ticks, told_by_cut, told_by_granted, told_by_call}
+use Rattle.domain_run.specs.Happened.{told, due, job_due, told_by_segment, told_by_work, told_by_budget, told_by_run, told_if_ran, told_by_replenishment, told_by_wake, told_by_unblocking, rank, is_first, at_home, told_to_begin, told_by_beginning, told_by_end, told_by_tick, told_by_ticks, told_by_cut, told_by_granted, told_by_call}
 use Rattle.domain_run.proofs.Keeping.{same_replenished, same_settled, AllPairs-map}
 use Rattle.domain_run.proofs.KeptKeys.{AreNumbered, ticks_numbered, others_first, others_rest}
 use Rattle.domain_run.proofs.OrderTicks.{prepared_apart}

@@ -12,13 +12,13 @@ use Rattle.domain_run.specs.declared.task.Task.{Task}
 use Rattle.domain_run.specs.declared.happened.Happened.{Happened}
 use Rattle.domain_run.specs.declared.happened.What.TheVariants.{Spent, Replenished}
 use Rattle.domain_run.specs.Conditions.{is_throttled}
-use Rattle.domain_run.specs.script.Segments.{asked}
+use Rattle.task_script.specs.script.Segments.{passes_late_timer, asked}
 use Rattle.domain_run.specs.Parts.{replenish_due, settled, is_listed, unblocked}
 use Rattle.domain_run.specs.Domain.{Domain}
 use Rattle.domain_run.specs.Tick.{begun, rate_of, ticks}
 use Rattle.domain_run.specs.Jump.{under_way, ticks_to_due, ticks_to_due_of, ticks_to_event, running_numbers, AreCharged}
 use Rattle.domain_run.specs.Sound.{IsSteady, IsPlacement}
-use Rattle.domain_run.specs.Happened.{told, due, told_by_segment, told_by_work, told_by_budget, told_by_run, told_if_ran, told_by_replenishment, told_by_wake, told_by_unblocking, in_order, at_home, told_by_beginning, told_by_end, told_by_tick, told_by_ticks, told_by_last_end, passes_late_timer}
+use Rattle.domain_run.specs.Happened.{told, due, told_by_segment, told_by_work, told_by_budget, told_by_run, told_if_ran, told_by_replenishment, told_by_wake, told_by_unblocking, in_order, at_home, told_by_beginning, told_by_end, told_by_tick, told_by_ticks, told_by_last_end}
 use Rattle.domain_run.specs.private.Paying.{ran_until, index_of}
 use Rattle.domain_run.specs.private.Telling.{told_until, told_paid, told_paid_at, told_of_parts, told_in_pay}
 use Rattle.domain_run.proofs.Staying.{map_itself}

@@ -4,8 +4,8 @@ use Rattle.std.specs.Prelude.{ℕ, ◌+◌, ◌-◌, ◌%◌, ◌==◌, Bool, tr
 use Rattle.std.specs.List.{list_any}
 use Rattle.attr_check.specs.ParamsView.{ParamsView}
 use Rattle.attr_check.specs.Ratio.{cap}
-use Rattle.domain_run.specs.script.ScriptView.{ScriptView}
-use Rattle.domain_run.specs.script.Segments.{begun_at}
+use Rattle.task_script.specs.script.ScriptView.{ScriptView}
+use Rattle.task_script.specs.script.Segments.{begun_at}
 use Rattle.domain_run.specs.declared.task.Task.{Task}
 use Rattle.domain_run.specs.declared.task.Condition.TheVariants.{Blocked, Leaving}
 use Rattle.domain_run.specs.declared.call.Call.{Call}

@@ -6,16 +6,14 @@ use Rattle.std.specs.List.{flat_map}
 use Rattle.cbs_rules.specs.Serving.{charged}
 use Rattle.edf_pick.specs.Places.{Places, is_task, stands}
 use Rattle.domain_run.specs.declared.task.Task.{Task}
-use Rattle.domain_run.specs.declared.script.Segment.{Segment}
-use Rattle.domain_run.specs.declared.script.Segment.TheVariants.{Run as RunFor, Until, Wait as WaitFor, End}
+use Rattle.task_script.specs.declared.script.Segment.{Segment}
+use Rattle.task_script.specs.declared.script.Segment.TheVariants.{Run as RunFor, Until, Wait as WaitFor, End}
 use Rattle.domain_run.specs.declared.happened.What.{What}
 use Rattle.domain_run.specs.declared.happened.What.TheVariants.{JobEnds, NextReleased, Spent, Cut, Replenished, Released, WokenSpent}
 use Rattle.domain_run.specs.declared.happened.Happened.{Happened}
 use Rattle.domain_run.specs.declared.call.Call.{Call}
 use Rattle.domain_run.specs.declared.call.Call.TheVariants.{Leave, Advance, Depart}
-use Rattle.domain_run.specs.script.ScriptView.{CursorView}
-use Rattle.domain_run.specs.script.Unrolled.{event_at}
-use Rattle.domain_run.specs.script.Segments.{asked, is_late}
+use Rattle.task_script.specs.script.Segments.{passes_late_timer, asked}
 use Rattle.domain_run.specs.Conditions.{is_throttled, is_over, has_come}
 use Rattle.domain_run.specs.Parts.{replenish_due, settled, is_listed, unblocked, ran}
 use Rattle.domain_run.specs.Domain.{Domain}
@@ -42,9 +40,6 @@ told_by_segment time t late (RunFor n) =
 told_by_segment time t late (Until u) = told time t JobEnds ∷ []
 told_by_segment time t late WaitFor = told time t JobEnds ∷ []
 told_by_segment time t late End = told time t JobEnds ∷ []
-
-abbrev pub passes_late_timer : CursorView → ℕ → Bool
-passes_late_timer c time = is_late (event_at c.script c.place) c.reference time
 
 abbrev pub told_by_work : ℕ → Task → List Happened
 told_by_work time t =

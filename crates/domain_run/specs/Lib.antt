@@ -1,5 +1,3 @@
-pub mod NameView
-pub mod script
 pub mod Domain
 pub mod Passing
 pub mod Conditions

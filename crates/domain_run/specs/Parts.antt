@@ -8,9 +8,9 @@ use Rattle.cbs_rules.specs.declared.server.Server.{Server}
 use Rattle.domain_run.specs.declared.task.Task.{Task}
 use Rattle.domain_run.specs.declared.task.Condition.{Condition}
 use Rattle.domain_run.specs.declared.task.Condition.TheVariants.{Ready, Throttled, Blocked, Waiting, Leaving}
-use Rattle.domain_run.specs.declared.script.Segment.{Segment}
-use Rattle.domain_run.specs.declared.script.Segment.TheVariants.{Run as RunFor, Until, Wait as WaitFor, End}
-use Rattle.domain_run.specs.script.Segments.{Asked, asked}
+use Rattle.task_script.specs.declared.script.Segment.{Segment}
+use Rattle.task_script.specs.declared.script.Segment.TheVariants.{Run as RunFor, Until, Wait as WaitFor, End}
+use Rattle.task_script.specs.script.Segments.{Asked, asked}
 use Rattle.domain_run.specs.Conditions.{is_throttled, is_leaving, is_over, has_come}
 
 -- PART 1. A throttled task whose deadline has come is replenished, and ready

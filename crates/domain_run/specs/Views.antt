@@ -2,7 +2,7 @@
 use Rattle.std.specs.Prelude.{ℕ, ◌==◌, List, find, Option, option_map, slice_get}
 use Rattle.domain_run.specs.declared.task.Task.{Task}
 use Rattle.domain_run.specs.declared.task.TaskView.{TaskView}
-use Rattle.domain_run.specs.script.ScriptView.{ScriptView}
+use Rattle.task_script.specs.script.ScriptView.{ScriptView}
 use Rattle.domain_run.specs.Domain.{Domain}
 use Rattle.domain_run.specs.Calls.{task_of}
 use Rattle.attr_check.specs.ParamsView.{ParamsView}

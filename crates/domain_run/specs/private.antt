@@ -6,7 +6,6 @@ pub mod Timers
 pub mod Roster
 pub mod Doubts
 pub mod Telling
-pub mod Progress
 pub mod Tournament
 pub mod Seats
 pub mod Waiting

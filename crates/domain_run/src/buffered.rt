@@ -12,13 +12,12 @@ ghost use Rattle.domain_run.specs.Sound.{IsDomain};
 ghost use Rattle.domain_run.specs.Tick as tick;
 
 use crate::call::{Refused, Reply};
-use crate::name::Name;
-use crate::script::Script;
 use crate::state::State;
 use crate::switch::Switch;
 use attr_check::Params;
 use no_memory::NoMemory;
 use std::marker::Model;
+use task_script::{Name, Script};
 
 /// So many switches wait at least before an advance stops; each is 32 bytes, so a buffer has some
 /// 128 kB.

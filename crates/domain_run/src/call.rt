@@ -1,6 +1,5 @@
-use crate::name::Name;
-use crate::script::Script;
 use attr_check::Params;
+use task_script::{Name, Script};
 
 /// A call on a domain, made at its time now, between two ticks.
 #[derive(Debug, Drop)]

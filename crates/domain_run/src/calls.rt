@@ -6,12 +6,11 @@ ghost use Rattle.domain_run.specs.Domain.{Domain};
 ghost use Rattle.domain_run.specs.Sound.{IsSound};
 ghost use Rattle.domain_run.specs.private.Roster.{quit};
 
-use crate::name::Name;
 use crate::parts::stop;
-use crate::script::Script;
 use crate::task::{Condition, Task};
 use attr_check::Params;
 use cbs_rules::Server;
+use task_script::{Name, Script};
 
 /// A task that is admitted at a time: blocked until its start, without deadline and budget.
 pub(crate) fn new_task(

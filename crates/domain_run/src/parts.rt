@@ -6,14 +6,14 @@ ghost use Rattle.cbs_rules.specs.Serving as serving;
 ghost use Rattle.domain_run.specs.Switches as switches_spec;
 ghost use Rattle.domain_run.specs.Parts as parts;
 ghost use Rattle.domain_run.specs.private.Paying.{ran_until};
-ghost use Rattle.domain_run.specs.script.Segments.{IsSegment, next_ask};
+ghost use Rattle.task_script.specs.script.Segments.{IsSegment, next_ask};
 ghost use Rattle.domain_run.specs.Bounds.{IsServed};
 ghost use Rattle.domain_run.specs.Sound.{IsTimed, IsSound};
 
-use crate::script::Segment;
 use crate::switch::PrevState;
 use crate::task::{Condition, Task};
 use cbs_rules::Server;
+use task_script::Segment;
 
 pub(crate) fn has_come(time: u64, moment: Option<u64>) -> bool
     ensures { result ≡ conditions.has_come time moment }

@@ -22,16 +22,15 @@ mod ticking;
 
 use crate::call::{Refused, Reply};
 use crate::calls::new_task;
-use crate::name::Name;
 use crate::numbers::Numbers;
 use crate::roster::Roster;
-use crate::script::Script;
 use crate::switch::Switch;
 use crate::task::TaskView;
 use attr_check::Params;
 use no_memory::NoMemory;
 use std::alloc::Global;
 use std::marker::Model;
+use task_script::{Name, Script};
 
 /// A root domain of 1 to 64 CPUs: its tasks, who stands on each CPU, and the switches so far.
 #[derive(Drop)]

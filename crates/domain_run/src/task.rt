@@ -3,10 +3,9 @@
 ghost use Rattle.std.specs.Prelude.{◌≡◌};
 ghost use Rattle.domain_run.specs.Conditions as conditions;
 
-use crate::cursor::Cursor;
-use crate::name::Name;
 use attr_check::Params;
 use cbs_rules::Server;
+use task_script::{Cursor, Name};
 
 /// What a task is doing.
 #[derive(Clone, Copy, Debug, PartialEq, Eq)]

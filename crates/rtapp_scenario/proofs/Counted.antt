@@ -6,9 +6,9 @@ use Rattle.std.proofs.lemmas.List.Sums.{sum_by-append, sum_by-cons}
 use Rattle.std.specs.Option.{option_map}
 use Rattle.std.specs.List.{filter_map, cons_option, AllByRecursion}
 use Rattle.json_order.specs.Json.{Json}
-use Rattle.domain_run.specs.declared.script.Event.{Event}
-use Rattle.domain_run.specs.declared.script.Event.TheVariants as events
-use Rattle.domain_run.specs.script.ScriptView.{IsEvent}
+use Rattle.task_script.specs.declared.script.Event.{Event}
+use Rattle.task_script.specs.declared.script.Event.TheVariants as events
+use Rattle.task_script.specs.script.ScriptView.{IsEvent}
 use Rattle.rtapp_scenario.specs.declared.key.EventKind.{EventKind}
 use Rattle.rtapp_scenario.specs.declared.key.EventKind.TheVariants.{Run, Sleep, Timer}
 use Rattle.rtapp_scenario.specs.Values.{Member, natural_within, natural_of, at}

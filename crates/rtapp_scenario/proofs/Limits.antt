@@ -7,7 +7,7 @@ use Rattle.std.specs.Prelude.{codes}
 use Rattle.std.specs.Str.{bytes_eq}
 use Rattle.std.specs.Option.{option_map}
 use Rattle.std.specs.List.{list_any, filter_map, AllByRecursion}
-use Rattle.domain_run.specs.script.ScriptView.{IsEvent, IsPhase, IsScript, script_of}
+use Rattle.task_script.specs.script.ScriptView.{IsEvent, IsPhase, IsScript, script_of}
 use Rattle.json_order.specs.Json.{Json, null}
 use Rattle.std.proofs.lemmas.List.{length-map}
 use Rattle.rtapp_scenario.specs.Values.{Member, object_of, members, members_at, at, has}

@@ -8,7 +8,7 @@ use Rattle.std.proofs.lemmas.Fmt.{digits_decimal}
 use Rattle.std.specs.Prelude.{codes}
 use Rattle.std.specs.Char.{is_ascii_digit}
 use Rattle.std.specs.List.{list_all}
-use Rattle.domain_run.specs.NameView.{IsNameByte, IsName}
+use Rattle.task_script.specs.NameView.{IsNameByte, IsName}
 use Rattle.rtapp_scenario.specs.Tests.{is_name}
 use Rattle.rtapp_scenario.proofs.Naturals.{own}
 

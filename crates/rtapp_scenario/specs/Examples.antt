@@ -1,7 +1,7 @@
 -- Worked rows, computed from the definitions.
 use Rattle.std.specs.Prelude.{ℕ, ◌≡◌, List, [], ◌∷◌, Some, None, Ok, Err, codes, refl}
 use Rattle.json_order.specs.Json.{Json, number, string, object, Members, no_members, member}
-use Rattle.domain_run.specs.declared.script.Event.TheVariants.{Run, Sleep}
+use Rattle.task_script.specs.declared.script.Event.TheVariants.{Run, Sleep}
 use Rattle.rtapp_scenario.specs.Values.{natural_in, natural_within, at}
 use Rattle.rtapp_scenario.specs.Faults.{no_tasks, unsupported, policy, idle}
 use Rattle.rtapp_scenario.specs.Keys.{are_cpus, takes, key_fault, missing_fault, kind_of}

@@ -3,7 +3,7 @@ use Rattle.std.specs.Prelude.{ℕ, ◌==◌, ◌+◌, ◌*◌, if◌then◌else�
 use Rattle.std.specs.List.{filter_map, range_with_len}
 use Rattle.json_order.specs.Json.{Json}
 use Rattle.attr_check.specs.declared.attr.SchedAttr.{SchedAttr}
-use Rattle.domain_run.specs.script.ScriptView.{PhaseView, ScriptView, script_of}
+use Rattle.task_script.specs.script.ScriptView.{PhaseView, ScriptView, script_of}
 use Rattle.rtapp_scenario.specs.Values.{Member, members, has, members_at}
 use Rattle.rtapp_scenario.specs.Faults.{Fault}
 use Rattle.rtapp_scenario.specs.Threads.{instances, delay, runtime, period, deadline, rounds, count, cpus, event_at}

@@ -1,8 +1,8 @@
 -- What a contract sees of a scenario.
 use Rattle.std.specs.Prelude.{ℕ, ◌≤◌, ◌<◌, List, Option, IfSome, All}
 use Rattle.attr_check.specs.declared.attr.SchedAttr.{SchedAttr}
-use Rattle.domain_run.specs.NameView.{IsName}
-use Rattle.domain_run.specs.script.ScriptView.{ScriptView, IsScript}
+use Rattle.task_script.specs.NameView.{IsName}
+use Rattle.task_script.specs.script.ScriptView.{ScriptView, IsScript}
 
 -- a task: its number, name, attributes, CPUs (none where the text names none, which means domain
 -- 0), microseconds to its start, and script

@@ -3,8 +3,8 @@ use Rattle.std.specs.Prelude.{ℕ, Bool, true, false, if◌then◌else◌, List,
 use Rattle.std.specs.Option.{option_map}
 use Rattle.std.specs.List.{list_any}
 use Rattle.json_order.specs.Json.{Json}
-use Rattle.domain_run.specs.declared.script.Event.{Event}
-use Rattle.domain_run.specs.declared.script.Event.TheVariants as events
+use Rattle.task_script.specs.declared.script.Event.{Event}
+use Rattle.task_script.specs.declared.script.Event.TheVariants as events
 use Rattle.rtapp_scenario.specs.declared.key.EventKind.{EventKind}
 use Rattle.rtapp_scenario.specs.declared.key.EventKind.TheVariants.{Run, Sleep, Timer}
 use Rattle.rtapp_scenario.specs.Values.{Member, text_of, natural_within, list_of, at, has, members, members_at, is_at}

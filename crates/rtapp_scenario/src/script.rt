@@ -1,7 +1,7 @@
 ghost use Rattle.std.specs.Prelude.{◌≡◌, ◌≤◌, ◌<◌, None, IfOk, IfSome, map};
 ghost use Rattle.std.specs.List.{filter_map};
-ghost use Rattle.domain_run.specs.script.ScriptView.{IsScript, script_of as script_from};
-ghost use Rattle.domain_run.specs.script.Segments.{rounds_of, IsLoops};
+ghost use Rattle.task_script.specs.script.ScriptView.{IsScript, script_of as script_from};
+ghost use Rattle.task_script.specs.script.Segments.{rounds_of, IsLoops};
 ghost use Rattle.rtapp_scenario.specs.Values.{members_of};
 ghost use Rattle.rtapp_scenario.specs.Threads.{event_at};
 ghost use Rattle.rtapp_scenario.specs.Tests.{members_fault};

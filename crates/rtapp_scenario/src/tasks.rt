@@ -1,7 +1,7 @@
 ghost use Rattle.std.specs.Prelude.{ℕ, ◌≡◌, ◌==◌, ◌≤◌, ◌<◌, ◌+◌, ◌++◌, take, [], map, length, if◌then◌else◌, true, None, codes, decimal, All, IfOk, IfErr, OnOk, string_bytes, unwrap_or};
 ghost use Rattle.json_order.specs.Seen.{json_of};
 ghost use Rattle.std.specs.Option.{option_map};
-ghost use Rattle.domain_run.specs.NameView.{IsName, IsNameByte};
+ghost use Rattle.task_script.specs.NameView.{IsName, IsNameByte};
 ghost use Rattle.rtapp_scenario.specs.Values.{natural_within, member_of, members_of, members};
 ghost use Rattle.rtapp_scenario.specs.Faults.{in_order};
 ghost use Rattle.rtapp_scenario.specs.Keys.{numbers_in};

@@ -9,12 +9,12 @@ use Rattle.cbs_rules.specs.Serving.{replenished, charged}
 use Rattle.domain_run.specs.declared.task.Task.{Task}
 use Rattle.domain_run.specs.declared.task.Condition.{Condition}
 use Rattle.domain_run.specs.declared.task.Condition.TheVariants.{Ready, Throttled, Blocked, Waiting, Leaving}
-use Rattle.domain_run.specs.declared.script.Segment.{Segment}
-use Rattle.domain_run.specs.declared.script.Segment.TheVariants.{Run as RunFor, Until, Wait as WaitFor, End as EndNow}
+use Rattle.task_script.specs.declared.script.Segment.{Segment}
+use Rattle.task_script.specs.declared.script.Segment.TheVariants.{Run as RunFor, Until, Wait as WaitFor, End as EndNow}
 use Rattle.domain_run.specs.declared.happened.What.{What}
 use Rattle.domain_run.specs.declared.happened.Happened.{Happened}
 use Rattle.domain_run.specs.declared.happened.What.TheVariants.{JobEnds, NextReleased, Spent, Cut, Replenished, Released, WokenSpent}
-use Rattle.domain_run.specs.script.Segments.{asked}
+use Rattle.task_script.specs.script.Segments.{asked}
 use Rattle.edf_pick.specs.Places.{stands}
 use Rattle.domain_run.specs.Conditions.{is_throttled, has_come}
 use Rattle.domain_run.specs.Parts.{replenish_due, settled, is_listed, starts, running_on, went_on, goes_on, ran}

@@ -15,16 +15,16 @@ use Rattle.edf_pick.specs.declared.candidate.Candidate.{Candidate}
 use Rattle.domain_run.specs.declared.task.Task.{Task}
 use Rattle.domain_run.specs.declared.task.Condition.{Condition}
 use Rattle.domain_run.specs.declared.task.Condition.TheVariants.{Ready, Throttled, Blocked, Waiting, Leaving}
-use Rattle.domain_run.specs.declared.script.Segment.{Segment}
-use Rattle.domain_run.specs.declared.script.Segment.TheVariants.{Run as RunFor, Until, Wait as WaitFor, End as EndNow}
+use Rattle.task_script.specs.declared.script.Segment.{Segment}
+use Rattle.task_script.specs.declared.script.Segment.TheVariants.{Run as RunFor, Until, Wait as WaitFor, End as EndNow}
 use Rattle.domain_run.specs.declared.happened.Happened.{Happened}
 use Rattle.domain_run.specs.declared.happened.What.TheVariants.{JobEnds, NextReleased, Spent, Replenished, Released, WokenSpent}
-use Rattle.domain_run.specs.script.Segments.{asked}
+use Rattle.task_script.specs.script.Segments.{passes_late_timer, asked}
 use Rattle.domain_run.specs.Conditions.{is_ready, is_throttled, is_leaving, is_over, has_come}
 use Rattle.domain_run.specs.Parts.{replenish_due, settled, is_listed, unblocked, enqueued, started, starts, with_cpu, with_last_cpu, ran}
 use Rattle.domain_run.specs.Domain.{Domain}
 use Rattle.domain_run.specs.Tick.{candidate_of, candidates, begun, prepared, rate_of, ran_if, finished, ticked, ticks}
-use Rattle.domain_run.specs.Happened.{told, due, job_due, passes_late_timer, told_by_segment, told_by_work, told_by_budget, told_by_run, told_if_ran, told_by_replenishment, told_by_wake, told_by_unblocking, is_first, with_happened, in_order, at_home, told_by_beginning, told_by_end, told_by_tick, told_by_ticks}
+use Rattle.domain_run.specs.Happened.{told, due, job_due, told_by_segment, told_by_work, told_by_budget, told_by_run, told_if_ran, told_by_replenishment, told_by_wake, told_by_unblocking, is_first, with_happened, in_order, at_home, told_by_beginning, told_by_end, told_by_tick, told_by_ticks}
 use Rattle.domain_run.proofs.CallerLemmas.{AreNumbered, ticks_numbered}
 use Rattle.run_figures.specs.Jobs.{of_task}
 use Rattle.run_figures.specs.Throttling.{throttles}

@@ -1,14 +1,15 @@
 -- Worked rows of the calls: replies, and what they leave.
 use Rattle.std.specs.Prelude.{ℕ, pos, ◌≡◌, List, [], ◌∷◌, ◌++◌, Some, None, refl}
-use Rattle.domain_run.specs.declared.script.Event.TheVariants as event
+use Rattle.task_script.specs.declared.script.Event.TheVariants as event
 use Rattle.domain_run.specs.declared.switch.PrevState.TheVariants.{Running, Sleeping, Dead}
 use Rattle.domain_run.specs.declared.call.Call.{Call}
 use Rattle.domain_run.specs.declared.call.Call.TheVariants.{Regrade, Wake, Leave, Advance, Limit, Depart, Arrive}
 use Rattle.domain_run.specs.declared.call.Reply.TheVariants.{Admitted, Changed, Woken, Left, Done, Set, Departed, Twice, Busy, NotListed, NotWaiting}
-use Rattle.domain_run.specs.script.ScriptView.{ScriptView}
+use Rattle.task_script.specs.script.ScriptView.{ScriptView}
 use Rattle.domain_run.specs.Domain.{opened}
 use Rattle.domain_run.specs.Run.{run_of, replies_to}
-use Rattle.domain_run.specs.examples.Calling.{plain, once, forever, admit, switch, sum_after, server_in, zero_lag_in}
+use Rattle.domain_run.specs.examples.Calling.{plain, admit, switch, sum_after, server_in, zero_lag_in}
+use Rattle.task_script.specs.Examples.{once, forever}
 
 abbrev short : ScriptView
 short = once (event.Run 1 ∷ [])

@@ -2,8 +2,7 @@
 use Rattle.std.specs.Prelude.{ℕ, true, false, List, [], ◌∷◌, Option, Some, None, codes, find, option_map, ◌==◌}
 use Rattle.attr_check.specs.ParamsView.{ParamsView}
 use Rattle.attr_check.specs.Ratio.{ratio}
-use Rattle.domain_run.specs.script.ScriptView.{ScriptView}
-use Rattle.domain_run.specs.declared.script.Event.{Event}
+use Rattle.task_script.specs.script.ScriptView.{ScriptView}
 use Rattle.cbs_rules.specs.declared.server.Server.{Server}
 use Rattle.domain_run.specs.declared.task.Task.{Task}
 use Rattle.domain_run.specs.declared.task.Condition.{Condition}
@@ -34,16 +33,6 @@ reclaiming runtime deadline period =
       reclaim = true;
       bw = ratio period runtime;
     }
-
--- one phase, played once a round, so many rounds, one, or for ever
-abbrev pub rounds : Option ℕ → List Event → ScriptView
-rounds n events = record { rounds = n; phases = record { count = 1; events = events } ∷ [] }
-
-abbrev pub once : List Event → ScriptView
-once events = rounds (Some 1) events
-
-abbrev pub forever : List Event → ScriptView
-forever events = rounds None events
 
 -- a task that starts now
 abbrev pub admit : ℕ → ParamsView → ScriptView → Call

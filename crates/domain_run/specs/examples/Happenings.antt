@@ -1,6 +1,6 @@
 -- Worked rows of what happens: one for each kind, and for their order.
 use Rattle.std.specs.Prelude.{ℕ, ◌≡◌, List, [], ◌∷◌, None, refl}
-use Rattle.domain_run.specs.declared.script.Event.TheVariants.{Run, Sleep, Timer}
+use Rattle.task_script.specs.declared.script.Event.TheVariants.{Run, Sleep, Timer}
 use Rattle.domain_run.specs.declared.happened.What.{What}
 use Rattle.domain_run.specs.declared.happened.What.TheVariants.{JobEnds, NextReleased, Spent, Cut, Replenished, Released, WokenSpent}
 use Rattle.domain_run.specs.declared.happened.Happened.{Happened}
@@ -8,7 +8,8 @@ use Rattle.domain_run.specs.declared.call.Call.{Call}
 use Rattle.domain_run.specs.declared.call.Call.TheVariants.{Leave, Advance, Regrade}
 use Rattle.domain_run.specs.Domain.{opened}
 use Rattle.domain_run.specs.Happened.{told_by_calls}
-use Rattle.domain_run.specs.examples.Calling.{plain, once, forever, admit}
+use Rattle.domain_run.specs.examples.Calling.{plain, admit}
+use Rattle.task_script.specs.Examples.{once, forever}
 
 -- to which task on which CPU, at a time
 abbrev at : ℕ → ℕ → ℕ → What → Happened

@@ -1,6 +1,6 @@
 -- Worked rows of whole runs.
 use Rattle.std.specs.Prelude.{ℕ, pos, neg_ℤ, ◌≡◌, List, [], ◌∷◌, Option, Some, None, option_map, refl}
-use Rattle.domain_run.specs.declared.script.Event.TheVariants.{Run, Sleep, Timer}
+use Rattle.task_script.specs.declared.script.Event.TheVariants.{Run, Sleep, Timer}
 use Rattle.cbs_rules.specs.declared.server.Server.{Server}
 use Rattle.domain_run.specs.declared.task.Condition.TheVariants.{Throttled, Blocked}
 use Rattle.domain_run.specs.declared.switch.PrevState.TheVariants.{Running, Preempted, Sleeping, Dead}
@@ -9,7 +9,8 @@ use Rattle.domain_run.specs.declared.call.Call.TheVariants.{Advance, Limit}
 use Rattle.domain_run.specs.Domain.{Domain}
 use Rattle.domain_run.specs.Tick.{begun, rate_of}
 use Rattle.domain_run.specs.Run.{run_of}
-use Rattle.domain_run.specs.examples.Calling.{plain, reclaiming, once, forever, admit, switch, sum_after, server_in, condition_in, zero_lag_in, task_in}
+use Rattle.domain_run.specs.examples.Calling.{plain, reclaiming, admit, switch, sum_after, server_in, condition_in, zero_lag_in, task_in}
+use Rattle.task_script.specs.Examples.{once, forever}
 
 abbrev left_by : ℕ → ℕ → Option Server
 left_by deadline left = Some (record { deadline = Some deadline; left = pos left })

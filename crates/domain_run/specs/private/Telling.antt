@@ -11,7 +11,8 @@ use Rattle.domain_run.specs.declared.happened.Happened.{Happened}
 use Rattle.domain_run.specs.declared.telling.Before.{Before}
 use Rattle.domain_run.specs.declared.telling.Told.{Told}
 use Rattle.domain_run.specs.Conditions.{is_ready, is_throttled, is_contending, is_over}
-use Rattle.domain_run.specs.Happened.{told, due, job_due, passes_late_timer, told_by_work, told_by_budget, told_by_replenishment, told_by_unblocking, rank, in_order, at_home}
+use Rattle.domain_run.specs.Happened.{told, due, job_due, told_by_work, told_by_budget, told_by_replenishment, told_by_unblocking, rank, in_order, at_home}
+use Rattle.task_script.specs.script.Segments.{passes_late_timer}
 use Rattle.domain_run.specs.Parts.{replenish_due, settled, is_listed}
 use Rattle.domain_run.specs.private.Paying.{ran_until, index_of}
 use Rattle.domain_run.specs.private.Timers.{due_of}

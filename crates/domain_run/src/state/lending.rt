@@ -4,17 +4,16 @@
 ghost use Rattle.std.specs.Prelude.{◌≡◌, ◌≢◌, ◌<◌, All, AllPairs, IfOk, IfSome, option_map};
 ghost use Rattle.std.specs.Option.{option_copied};
 ghost use Rattle.attr_check.specs.ParamsView.{IsOrdered};
-ghost use Rattle.domain_run.specs.NameView.{IsName};
-ghost use Rattle.domain_run.specs.script.ScriptView.{IsScript};
+ghost use Rattle.task_script.specs.NameView.{IsName};
+ghost use Rattle.task_script.specs.script.ScriptView.{IsScript};
 ghost use Rattle.domain_run.specs.Views.{name_in, script_in, number_in, moving_of, moving_in};
 
 use super::State;
-use crate::name::Name;
-use crate::script::Script;
 use crate::task::Task;
 use attr_check::Params;
 use no_memory::NoMemory;
 use std::alloc::Global;
+use task_script::{Name, Script};
 
 fn runtime_of(params: &Params) -> u64
     ensures { IsOrdered params.now }

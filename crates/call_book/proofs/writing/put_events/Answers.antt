@@ -1,4 +1,4 @@
-use Rattle.domain_run.specs.declared.script.Event.TheVariants.{Run}
+use Rattle.task_script.specs.declared.script.Event.TheVariants.{Run}
 use Rattle.call_book.proofs.Written.{events_put}
 use Rattle.call_book.proofs.writing.put_events.Goals as goal
 

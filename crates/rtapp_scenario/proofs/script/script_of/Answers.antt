@@ -1,6 +1,6 @@
 use Rattle.std.proofs.Common.{◌≡◌, ℤ, pos, negsuc, w64, to_z, of_z, arith, ◌∙◌}
 use Rattle.std.proofs.lemmas.Int.{to_z-of_z, ints}
-use Rattle.domain_run.specs.script.Segments.{IsLoops}
+use Rattle.task_script.specs.script.Segments.{IsLoops}
 use Rattle.rtapp_scenario.specs.Values.{members_of}
 use Rattle.rtapp_scenario.proofs.Limits.{script_fits}
 use Rattle.rtapp_scenario.proofs.script.script_of.Goals as goal

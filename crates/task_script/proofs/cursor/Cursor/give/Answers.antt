@@ -1,8 +1,8 @@
 use Rattle.std.proofs.Common.{◌≡◌, None, sym, ap, subst, ◌∙◌}
-use Rattle.domain_run.specs.script.Unrolled.{event_at}
-use Rattle.domain_run.specs.script.Segments.{kept_cursor, given_by}
-use Rattle.domain_run.proofs.Rounds.{stands_as_kept}
-use Rattle.domain_run.proofs.cursor.Cursor.give.Goals as goal
+use Rattle.task_script.specs.script.Unrolled.{event_at}
+use Rattle.task_script.specs.script.Segments.{kept_cursor, given_by}
+use Rattle.task_script.proofs.Rounds.{stands_as_kept}
+use Rattle.task_script.proofs.cursor.Cursor.give.Goals as goal
 
 pub returns-in-None-clause-cursor : goal.returns-in-None-clause-cursor
 returns-in-None-clause-cursor c =

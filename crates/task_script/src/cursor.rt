@@ -2,11 +2,10 @@
 //! and holds no allocator.
 
 ghost use Rattle.std.specs.Prelude.{◌≡◌, ◌<◌, ◌≤◌, ◌+◌, ◌^◌, IsSome, IfSome, Some};
-ghost use Rattle.domain_run.specs.script.ScriptView.{IsEvent, IsScript};
-ghost use Rattle.domain_run.specs.script.Unrolled.{event_at};
-ghost use Rattle.domain_run.specs.script.Segments.{begun_at, moved, kept_cursor, given_by, given_at, is_late, asked, GivesAsWritten, IsSegment, next_ask};
-ghost use Rattle.domain_run.specs.Happened.{passes_late_timer};
-ghost use Rattle.domain_run.specs.private.Progress.{passed, at_reference};
+ghost use Rattle.task_script.specs.script.ScriptView.{IsEvent, IsScript};
+ghost use Rattle.task_script.specs.script.Unrolled.{event_at};
+ghost use Rattle.task_script.specs.script.Segments.{begun_at, moved, kept_cursor, given_by, given_at, is_late, passes_late_timer, asked, GivesAsWritten, IsSegment, next_ask};
+ghost use Rattle.task_script.specs.private.Progress.{passed, at_reference};
 
 use crate::progress;
 use crate::progress::Progress;
@@ -37,8 +36,8 @@ impl fmt::Debug for Cursor {
 }
 
 impl Model for Cursor {
-    ghost use Rattle.domain_run.specs.script.ScriptView.{CursorView};
-    ghost use Rattle.domain_run.specs.private.Progress.{place_of, Comes};
+    ghost use Rattle.task_script.specs.script.ScriptView.{CursorView};
+    ghost use Rattle.task_script.specs.private.Progress.{place_of, Comes};
 
     ghost Value = { CursorView };
 
@@ -79,7 +78,7 @@ fn is_late_at(event: Option<Event>, reference: u64, time: u64) -> bool
 
 impl Cursor {
     /// The whole script, wherever the cursor stands.
-    pub(crate) fn script(&self) -> &Script
+    pub fn script(&self) -> &Script
         ensures { result.now ≡ self.now.script }
     {
         &self.script
@@ -94,7 +93,7 @@ impl Cursor {
     }
 
     /// Whether it would pass a timer that is late, asked at this time, in microseconds.
-    pub(crate) fn passes_late_timer(&self, time: u64) -> bool
+    pub fn passes_late_timer(&self, time: u64) -> bool
         requires { self.now.reference < 2 ^ 48 }
         ensures { result ≡ passes_late_timer self.now time }
     {

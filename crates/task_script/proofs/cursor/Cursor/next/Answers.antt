@@ -1,7 +1,7 @@
 use Rattle.std.proofs.Common.{ap, ◌∙◌}
-use Rattle.domain_run.specs.script.Segments.{kept_cursor, given_at}
-use Rattle.domain_run.proofs.Unrolling.{answered_passed}
-use Rattle.domain_run.proofs.cursor.Cursor.next.Goals as goal
+use Rattle.task_script.specs.script.Segments.{kept_cursor, given_at}
+use Rattle.task_script.proofs.Unrolling.{answered_passed}
+use Rattle.task_script.proofs.cursor.Cursor.next.Goals as goal
 
 pub returns-clause-segment : goal.returns-clause-segment
 returns-clause-segment c =

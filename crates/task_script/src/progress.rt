@@ -2,9 +2,9 @@
 //! division and no walk over the phases.
 
 ghost use Rattle.std.specs.Prelude.{◌≡◌, ◌<◌, IsSome, IfSome, length, slice_get, Some};
-ghost use Rattle.domain_run.specs.script.ScriptView.{IsEvent, IsPhase, IsScript};
-ghost use Rattle.domain_run.specs.script.Unrolled.{event_at};
-ghost use Rattle.domain_run.specs.private.Progress as spec;
+ghost use Rattle.task_script.specs.script.ScriptView.{IsEvent, IsPhase, IsScript};
+ghost use Rattle.task_script.specs.script.Unrolled.{event_at};
+ghost use Rattle.task_script.specs.private.Progress as spec;
 
 use crate::script::{Event, Phase, Script};
 

@@ -6,12 +6,12 @@ use Rattle.std.proofs.Math.Nat.{mod-eq_of_lt, add-mod_left, mod-mod, mod-add-mod
 use Rattle.std.proofs.lemmas.Bool.{cases_lt, lt-ltb, le-ltb}
 use Rattle.std.proofs.lemmas.Option.{slice_get_past}
 use Rattle.std.proofs.lemmas.List.Sums.{sum_by-cons}
-use Rattle.domain_run.specs.declared.script.Event.{Event}
-use Rattle.domain_run.specs.declared.script.Event.TheVariants.{Run, Sleep, Timer, Wait}
-use Rattle.domain_run.specs.script.ScriptView.{PhaseView, ScriptView, CursorView, IsPhase, IsScript, IsPlace, script_of, phase_len, round_len}
-use Rattle.domain_run.specs.script.Unrolled.{round_of, event_at}
-use Rattle.domain_run.specs.private.Progress.{passed}
-use Rattle.domain_run.specs.script.Segments.{Asked, begun_at, moved, given_by, given_at, is_late, answered, first_place, kept_cursor, asked, segments, GivesAsWritten}
+use Rattle.task_script.specs.declared.script.Event.{Event}
+use Rattle.task_script.specs.declared.script.Event.TheVariants.{Run, Sleep, Timer, Wait}
+use Rattle.task_script.specs.script.ScriptView.{PhaseView, ScriptView, CursorView, IsPhase, IsScript, IsPlace, script_of, phase_len, round_len}
+use Rattle.task_script.specs.script.Unrolled.{round_of, event_at}
+use Rattle.task_script.specs.private.Progress.{passed}
+use Rattle.task_script.specs.script.Segments.{Asked, begun_at, moved, given_by, given_at, is_late, answered, first_place, kept_cursor, asked, segments, GivesAsWritten}
 
 get_left : (xs ys : List Event) (i : ℕ) → i < length xs → slice_get (xs ++ ys) i ≡ slice_get xs i
 get_left [] ys i h = absurd (omega (arith, h))

@@ -1,8 +1,8 @@
 -- A script written out: a list of events by place (own; rt-app's phases and loops).
 use Rattle.std.specs.Prelude.{ℕ, ◌+◌, List, slice_get, Option, Some, None}
 use Rattle.std.specs.List.{flat_map, repeat}
-use Rattle.domain_run.specs.declared.script.Event.{Event}
-use Rattle.domain_run.specs.script.ScriptView.{PhaseView, ScriptView}
+use Rattle.task_script.specs.declared.script.Event.{Event}
+use Rattle.task_script.specs.script.ScriptView.{PhaseView, ScriptView}
 
 -- a round: the phases one behind the other, the events of each so many times over
 abbrev pub round_of : List PhaseView → List Event

@@ -1,8 +1,8 @@
 //! Scripts: what a task does, as phases of events (own; rt-app's phases and loops).
 
 ghost use Rattle.std.specs.Prelude.{◌≡◌, ◌↔◌, IsTrue, IsOk, MatchResult, IsSome, IfSome, All};
-ghost use Rattle.domain_run.specs.script.ScriptView.{IsEvent, IsPhase, IsScript, script_of};
-ghost use Rattle.domain_run.specs.script.Segments.{IsLoops, rounds_of, loops_of};
+ghost use Rattle.task_script.specs.script.ScriptView.{IsEvent, IsPhase, IsScript, script_of};
+ghost use Rattle.task_script.specs.script.Segments.{IsLoops, rounds_of, loops_of};
 
 use std::marker::Model;
 
@@ -30,7 +30,7 @@ pub struct Phase {
 }
 
 impl Model for Phase {
-    ghost use Rattle.domain_run.specs.script.ScriptView.{PhaseView};
+    ghost use Rattle.task_script.specs.script.ScriptView.{PhaseView};
 
     ghost Value = { PhaseView };
 
@@ -46,7 +46,7 @@ pub struct Script {
 }
 
 impl Model for Script {
-    ghost use Rattle.domain_run.specs.script.ScriptView.{ScriptView, IsScript};
+    ghost use Rattle.task_script.specs.script.ScriptView.{ScriptView, IsScript};
 
     ghost Value = { ScriptView };
 

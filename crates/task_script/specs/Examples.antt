@@ -1,11 +1,21 @@
 -- Worked rows of scripts.
-use Rattle.std.specs.Prelude.{◌≡◌, [], ◌∷◌, Some, None, refl}
-use Rattle.domain_run.specs.script.ScriptView.{ScriptView}
-use Rattle.domain_run.specs.script.Unrolled.{round_of, event_at}
-use Rattle.domain_run.specs.script.Segments.{begun_at, asked, segments}
-use Rattle.domain_run.specs.declared.script.Event.TheVariants as event
-use Rattle.domain_run.specs.declared.script.Segment.TheVariants.{Run, Until, Wait, End}
-use Rattle.domain_run.specs.examples.Calling.{forever}
+use Rattle.std.specs.Prelude.{ℕ, ◌≡◌, List, [], ◌∷◌, Option, Some, None, refl}
+use Rattle.task_script.specs.script.ScriptView.{ScriptView}
+use Rattle.task_script.specs.script.Unrolled.{round_of, event_at}
+use Rattle.task_script.specs.script.Segments.{begun_at, asked, segments}
+use Rattle.task_script.specs.declared.script.Event.{Event}
+use Rattle.task_script.specs.declared.script.Event.TheVariants as event
+use Rattle.task_script.specs.declared.script.Segment.TheVariants.{Run, Until, Wait, End}
+
+-- one phase, played once a round, so many rounds, one, or for ever
+abbrev pub rounds : Option ℕ → List Event → ScriptView
+rounds n events = record { rounds = n; phases = record { count = 1; events = events } ∷ [] }
+
+abbrev pub once : List Event → ScriptView
+once events = rounds (Some 1) events
+
+abbrev pub forever : List Event → ScriptView
+forever events = rounds None events
 
 -- TIMER CURSOR: 4 us of work, then the end of each 8
 abbrev timer : ScriptView

@@ -1,7 +1,7 @@
 use Rattle.std.proofs.Common.{◌≡◌, false, true, sym, ◌∙◌}
-use Rattle.domain_run.specs.private.Progress.{is_over}
-use Rattle.domain_run.proofs.Rounds.{phase_read, none_over, event_there}
-use Rattle.domain_run.proofs.progress.event_of.Goals as goal
+use Rattle.task_script.specs.private.Progress.{is_over}
+use Rattle.task_script.proofs.Rounds.{phase_read, none_over, event_there}
+use Rattle.task_script.proofs.progress.event_of.Goals as goal
 
 pub returns-then-is_over-clause-value : goal.returns-then-is_over-clause-value
 returns-then-is_over-clause-value c =

@@ -1,7 +1,7 @@
 use Rattle.std.proofs.Common.{◌+◌, ◌<◌, ◌≤◌, length, arith}
 use Rattle.std.proofs.lemmas.Grind.{common_steps}
-use Rattle.domain_run.proofs.Rounds.{lap_fits, lap_behind, phase_behind, round_behind, rounds_left}
-use Rattle.domain_run.proofs.progress.next_lap.Goals as goal
+use Rattle.task_script.proofs.Rounds.{lap_fits, lap_behind, phase_behind, round_behind, rounds_left}
+use Rattle.task_script.proofs.progress.next_lap.Goals as goal
 
 pub overflow_add-progress : goal.overflow_add-progress
 overflow_add-progress c = lap_fits c.args.script.now c.args.progress.now c.phases-phases.ensures.within c.requires.stands

@@ -6,12 +6,12 @@ use Rattle.std.proofs.lemmas.Nat.{mul-le}
 use Rattle.std.proofs.lemmas.Bool.{cases_lt, lt-ltb, le-ltb, le-leb, leb-true, leb-false}
 use Rattle.std.proofs.lemmas.Option.{slice_get_read, slice_get_within, slice_get-get_or, get_or_from_slice_get, same_Some}
 use Rattle.std.proofs.lemmas.List.Sums.{sum_by-cons, sum_by-le}
-use Rattle.domain_run.specs.declared.progress.Progress.{Progress}
-use Rattle.domain_run.specs.script.ScriptView.{PhaseView, ScriptView, IsPhase, IsScript, IsPlace, IsCursor, script_of, phase_len, round_len}
-use Rattle.domain_run.specs.script.Unrolled.{round_of, event_at}
-use Rattle.domain_run.specs.script.Segments.{first_place, kept_cursor}
-use Rattle.domain_run.specs.private.Progress.{events_behind, place_of, is_over, next_round, IsInPhase, IsProgress, IsLastOfLap, IsBehind}
-use Rattle.domain_run.proofs.Unrolling.{event_in, event_in_is, event_ends, event_by, event_by_is, some_round, place_at_first, behind_within, kept_itself}
+use Rattle.task_script.specs.declared.progress.Progress.{Progress}
+use Rattle.task_script.specs.script.ScriptView.{PhaseView, ScriptView, IsPhase, IsScript, IsPlace, IsCursor, script_of, phase_len, round_len}
+use Rattle.task_script.specs.script.Unrolled.{round_of, event_at}
+use Rattle.task_script.specs.script.Segments.{first_place, kept_cursor}
+use Rattle.task_script.specs.private.Progress.{events_behind, place_of, is_over, next_round, IsInPhase, IsProgress, IsLastOfLap, IsBehind}
+use Rattle.task_script.proofs.Unrolling.{event_in, event_in_is, event_ends, event_by, event_by_is, some_round, place_at_first, behind_within, kept_itself}
 
 -- IN A ROUND
 

@@ -1,11 +1,11 @@
 -- What a task does next, by the events of its script (own; rt-app's phases and loops).
 use Rattle.std.specs.Prelude.{ℕ, ℤ, pos, negsuc, ◌<◌, ◌≤◌, ◌^◌, ◌≡◌, ◌+◌, ◌%◌, Bool, false, nat_le, if◌then◌else◌, List, [], ◌∷◌, Option, Some, None}
-use Rattle.domain_run.specs.declared.script.Event.{Event}
-use Rattle.domain_run.specs.declared.script.Event.TheVariants.{Run, Sleep, Timer, Wait}
-use Rattle.domain_run.specs.declared.script.Segment.{Segment}
-use Rattle.domain_run.specs.declared.script.Segment.TheVariants.{Run as RunFor, Until, Wait as WaitFor, End}
-use Rattle.domain_run.specs.script.ScriptView.{ScriptView, CursorView, round_len}
-use Rattle.domain_run.specs.script.Unrolled.{event_at}
+use Rattle.task_script.specs.declared.script.Event.{Event}
+use Rattle.task_script.specs.declared.script.Event.TheVariants.{Run, Sleep, Timer, Wait}
+use Rattle.task_script.specs.declared.script.Segment.{Segment}
+use Rattle.task_script.specs.declared.script.Segment.TheVariants.{Run as RunFor, Until, Wait as WaitFor, End}
+use Rattle.task_script.specs.script.ScriptView.{ScriptView, CursorView, round_len}
+use Rattle.task_script.specs.script.Unrolled.{event_at}
 
 -- a number of loops as it is written: -1 for ever, or 1 to 10^9
 abbrev pub rounds_of : ℤ → Option ℕ
@@ -53,6 +53,10 @@ is_late (Some (Run n)) reference time = false
 is_late (Some (Sleep n)) reference time = false
 is_late (Some Wait) reference time = false
 is_late None reference time = false
+
+-- it stands at such a timer
+abbrev pub passes_late_timer : CursorView → ℕ → Bool
+passes_late_timer c time = is_late (event_at c.script c.place) c.reference time
 
 -- what a task does next. At a late timer the reference becomes the time, and the next place is
 -- asked: no timer from there is late, since its period is at least 1

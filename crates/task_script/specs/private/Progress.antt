@@ -1,10 +1,10 @@
 -- How far a cursor is in its script, for the code's own contracts.
 use Rattle.std.specs.Prelude.{ℕ, zero, suc, ◌≡◌, ◌+◌, ◌*◌, ◌<◌, ◌≤◌, Bool, false, nat_le, if◌then◌else◌, List, [], ◌∷◌, length, slice_get, Option, Some, None, IfSome}
-use Rattle.domain_run.specs.declared.progress.Progress.{Progress}
-use Rattle.domain_run.specs.declared.script.Event.{Event}
-use Rattle.domain_run.specs.script.ScriptView.{PhaseView, ScriptView, CursorView, IsScript, IsEvent, IsCursor, phase_len, round_len}
-use Rattle.domain_run.specs.script.Unrolled.{event_at}
-use Rattle.domain_run.specs.script.Segments.{first_place, kept_cursor, moved, is_late}
+use Rattle.task_script.specs.declared.progress.Progress.{Progress}
+use Rattle.task_script.specs.declared.script.Event.{Event}
+use Rattle.task_script.specs.script.ScriptView.{PhaseView, ScriptView, CursorView, IsScript, IsEvent, IsCursor, phase_len, round_len}
+use Rattle.task_script.specs.script.Unrolled.{event_at}
+use Rattle.task_script.specs.script.Segments.{first_place, kept_cursor, moved, is_late}
 
 -- how many events of a round are behind: those of so many phases, and in the next phase those of so
 -- many laps, and so many of the lap after them

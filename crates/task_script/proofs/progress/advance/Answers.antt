@@ -1,9 +1,9 @@
 use Rattle.std.proofs.Common.{ℕ, ◌+◌, ◌<◌, ◌≤◌, length, sym, ap, subst, arith}
 use Rattle.std.proofs.lemmas.Grind.{common_steps}
-use Rattle.domain_run.specs.script.ScriptView.{PhaseView}
-use Rattle.domain_run.specs.private.Progress.{IsLastOfLap}
-use Rattle.domain_run.proofs.Rounds.{phase_read, behind_event, last_of_lap}
-use Rattle.domain_run.proofs.progress.advance.Goals as goal
+use Rattle.task_script.specs.script.ScriptView.{PhaseView}
+use Rattle.task_script.specs.private.Progress.{IsLastOfLap}
+use Rattle.task_script.proofs.Rounds.{phase_read, behind_event, last_of_lap}
+use Rattle.task_script.proofs.progress.advance.Goals as goal
 
 pub returns-then-event-len : goal.returns-then-event-len
 returns-then-event-len c =

@@ -1,6 +1,6 @@
 ghost use Rattle.std.specs.Prelude.{◌≡◌, IsOk, IsTrue, All, ◌↔◌, MatchResult};
 ghost use Rattle.std.specs.String.{string_bytes};
-ghost use Rattle.domain_run.specs.NameView.{IsName, IsNameByte};
+ghost use Rattle.task_script.specs.NameView.{IsName, IsNameByte};
 
 use std::marker::Model;
 
@@ -14,7 +14,7 @@ pub struct Name {
 impl Model for Name {
     ghost use Rattle.std.specs.Prelude.{ℕ, List};
     ghost use Rattle.std.specs.String.{string_bytes};
-    ghost use Rattle.domain_run.specs.NameView.{IsName};
+    ghost use Rattle.task_script.specs.NameView.{IsName};
 
     ghost Value = { List ℕ };
 

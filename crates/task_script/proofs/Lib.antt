@@ -1,0 +1,2 @@
+pub mod Unrolling
+pub mod Rounds

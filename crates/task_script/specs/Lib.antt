@@ -1,0 +1,4 @@
+pub mod NameView
+pub mod script
+pub mod Examples
+pub mod private

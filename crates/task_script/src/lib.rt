@@ -1,0 +1,17 @@
+//! What a task is by itself: its name, and the script by which it works and blocks (own; rt-app's
+//! phases and loops).
+//!
+//! Meets the definitions "Name" (`specs/NameView.antt`) and "Script" (`specs/script/`). To the
+//! crates above it promises that a [`Name`] and a [`Script`] are within their limits, and that a
+//! [`Cursor`], asked at any times, gives what the script gives written out, event by event. Takes
+//! no memory.
+#![tactic(auto)]
+
+mod cursor;
+mod name;
+mod progress;
+mod script;
+
+pub use cursor::Cursor;
+pub use name::Name;
+pub use script::{Event, Phase, Script, Segment};
