@@ -2,10 +2,10 @@
 use Rattle.std.proofs.Common.{◌≡◌, ◌<◌, ℕ, Option, None, List, length, map, get_or, sym, ap, ◌∙◌, subst, arith}
 use Rattle.std.proofs.lemmas.List.{get_or_default, length-map}
 use Rattle.domain_run.specs.declared.task.Task.{Task}
-use Rattle.domain_run.specs.declared.seats.Seat.{Seat}
+use Rattle.due_times.specs.declared.seats.Seat.{Seat}
 use Rattle.domain_run.specs.declared.run_queue.RunQueue.{RunQueue}
 use Rattle.domain_run.specs.private.RunQueue.{IsCounted}
-use Rattle.domain_run.specs.private.Seats.{seat_by}
+use Rattle.due_times.specs.Seats.{seat_by}
 use Rattle.domain_run.specs.private.Waiting.{owed, owed_by, seat_of, left_of}
 use Rattle.domain_run.proofs.Counting.{home_at}
 use Rattle.domain_run.proofs.Waiting.{alike_owed, counted_unlike, read_owed, left_here}

@@ -22,7 +22,7 @@ use Rattle.domain_run.specs.private.Choosing.{AreCounted, IsHome, homed_by}
 use Rattle.domain_run.specs.private.Index.{IsAt}
 use Rattle.domain_run.specs.private.Roster.{homed_here}
 use Rattle.domain_run.specs.private.RunQueue.{IsRoster, IsCounted}
-use Rattle.domain_run.specs.private.Seats.{SeatsView, left}
+use Rattle.due_times.specs.Seats.{SeatsView, left}
 use Rattle.domain_run.specs.private.Timers.{due_of}
 use Rattle.domain_run.specs.private.Waiting.{owed, owed_all, WaitsIf, AllWait}
 use Rattle.domain_run.proofs.AtHome.{homed_placed}

@@ -11,16 +11,16 @@ use Rattle.edf_pick.specs.declared.moves.Moved.{Moved}
 use Rattle.edf_pick.specs.Moves.{moved_from, same_occupant as moved_same}
 use Rattle.edf_pick.specs.Places.{Places}
 use Rattle.edf_pick.proofs.Moving.{same_is}
-use Rattle.domain_run.specs.declared.doubts.Doubts.{Doubts}
-use Rattle.domain_run.specs.declared.seats.Seat.{Seat}
-use Rattle.domain_run.specs.declared.seats.Basis.{Basis}
+use Rattle.due_times.specs.declared.doubts.Doubts.{Doubts}
+use Rattle.due_times.specs.declared.seats.Seat.{Seat}
+use Rattle.due_times.specs.declared.seats.Basis.{Basis}
 use Rattle.domain_run.specs.declared.task.Task.{Task}
 use Rattle.domain_run.specs.Parts.{with_cpu}
 use Rattle.domain_run.specs.Sound.{occupant}
 use Rattle.domain_run.specs.Tick.{share_of, shares, sum_of}
 use Rattle.domain_run.specs.private.Doubts.{IsSettled, IsFree, noted_basis, IsTrusted, AreSettled, IsMarked}
 use Rattle.domain_run.specs.private.Roster.{rate_in, basis_in, IsSeated}
-use Rattle.domain_run.specs.private.Seats.{SeatsView, seat_by, left_if, left}
+use Rattle.due_times.specs.Seats.{SeatsView, seat_by, left_if, left}
 use Rattle.domain_run.specs.private.Timers.{IsStep}
 use Rattle.domain_run.specs.private.Waiting.{seat_of, left_of, owed, owed_all, AllWait, IsRight, rate_by}
 use Rattle.domain_run.proofs.Jumping.{shares_alike}

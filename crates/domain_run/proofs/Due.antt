@@ -12,7 +12,8 @@ use Rattle.domain_run.specs.Conditions.{is_throttled, is_over, has_come}
 use Rattle.domain_run.specs.Parts.{is_listed}
 use Rattle.domain_run.specs.Tick.{prepared}
 use Rattle.domain_run.specs.Jump.{replenished_at, asks_at, gone_at, ticks_to, ticks_to_due_of, ticks_to_due}
-use Rattle.domain_run.specs.private.Timers.{moment_of, due_of, least, IsStep, AreLater, AreNotDue}
+use Rattle.due_times.specs.Timers.{least, AreLater}
+use Rattle.domain_run.specs.private.Timers.{moment_of, due_of, IsStep, AreNotDue}
 use Rattle.domain_run.proofs.Jumping.{IsStill, prepared_still, filter_whole}
 
 -- ---- before its time nothing is to be done to a task
@@ -47,12 +48,6 @@ still_at time t h =
 least_each : (time : ℕ) (tasks : List Task) → time < least (map due_of tasks) → All (λ t. time < due_of t) tasks
 least_each time [] h = λ k d within. absurd (omega (arith, within))
 least_each time (t ∷ tasks) h = All-cons (λ u. time < due_of u) t tasks (omega (arith, h)) (least_each time tasks (omega (arith, h)))
-
--- each of several times is not before the first of them
-pub least_later : (time : ℕ) (due : List ℕ) (place : ℕ) → time < least due → place < length due → time < get_or due place 0
-least_later time [] place h within = absurd (omega (arith, within))
-least_later time (t ∷ due) zero h within = omega (arith, h)
-least_later time (t ∷ due) (suc place) h within = least_later time due place (omega (arith, h)) (omega (arith, within))
 
 pub still_each : (time : ℕ) (tasks : List Task) → time < least (map due_of tasks) → All (IsStill time) tasks
 still_each time tasks h = All-weaker (λ t. time < due_of t) (IsStill time) (λ t k. still_at time t k) tasks (least_each time tasks h)

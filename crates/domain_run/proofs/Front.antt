@@ -7,7 +7,8 @@ use Rattle.domain_run.specs.declared.task.Task.{Task}
 use Rattle.domain_run.specs.Calls.{is_other}
 use Rattle.domain_run.specs.Parts.{is_listed}
 use Rattle.domain_run.specs.private.Index.{IsAt, IsAbsent}
-use Rattle.domain_run.specs.private.Timers.{due_of, AreLater}
+use Rattle.due_times.specs.Timers.{AreLater}
+use Rattle.domain_run.specs.private.Timers.{due_of}
 use Rattle.domain_run.proofs.Due.{still_at}
 use Rattle.domain_run.proofs.Jumping.{filter_whole}
 

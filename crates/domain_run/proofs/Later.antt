@@ -7,18 +7,18 @@ use Rattle.std.proofs.lemmas.List.{get_or_default, get_or_past, get_or-map, get_
 use Rattle.std.proofs.Math.Nat.{mul-le-mul_left}
 use Rattle.domain_run.specs.declared.task.Task.{Task}
 use Rattle.domain_run.specs.declared.run_queue.RunQueue.{RunQueue}
-use Rattle.domain_run.specs.declared.seats.Seat.{Seat}
+use Rattle.due_times.specs.declared.seats.Seat.{Seat}
 use Rattle.domain_run.specs.private.Paying.{ran_until}
-use Rattle.domain_run.specs.private.Seats.{SeatsView, end_of, seat_by, left_if, left, IsAhead}
+use Rattle.due_times.specs.Seats.{SeatsView, end_of, seat_by, left_if, left, IsAhead}
 use Rattle.domain_run.specs.private.Waiting.{left_of, seat_of, slid_for, owed_by, owed, owed_all, Waits, AllWait, Lasts, passed_by, passed}
 use Rattle.domain_run.specs.private.Index.{IsAt}
-use Rattle.domain_run.specs.private.Timers.{AreLater, least}
+use Rattle.due_times.specs.Timers.{AreLater, least}
 use Rattle.domain_run.specs.Sound.{IsSound}
 use Rattle.domain_run.specs.private.Roster.{RosterView, MayRun}
 use Rattle.domain_run.proofs.Jumping.{map_twice, map_alike}
 use Rattle.domain_run.proofs.Placing.{one_index}
 use Rattle.domain_run.proofs.Sliding.{slides, slid_sound}
-use Rattle.domain_run.proofs.Rooted.{least_le}
+use Rattle.due_times.proofs.CallerLemmas.{least_le}
 use Rattle.domain_run.proofs.Waiting.{alike_owed, read_owed}
 use Rattle.domain_run.proofs.Seatings.{same_stranger, same_elsewhere, nobody_here, none_at, inside_at, roster_view}
 

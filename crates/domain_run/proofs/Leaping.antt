@@ -6,11 +6,11 @@ use Rattle.std.proofs.lemmas.Bool.{cases_eq}
 use Rattle.std.proofs.lemmas.List.Folds.{Any-from_list_any}
 use Rattle.edf_pick.specs.Places.{Places, is_task, stands}
 use Rattle.domain_run.specs.declared.task.Task.{Task}
-use Rattle.domain_run.specs.declared.seats.Seat.{Seat}
+use Rattle.due_times.specs.declared.seats.Seat.{Seat}
 use Rattle.domain_run.specs.Parts.{with_cpu, with_last_cpu}
 use Rattle.domain_run.specs.Sound.{occupant, IsApart}
 use Rattle.domain_run.specs.private.Paying.{ran_until}
-use Rattle.domain_run.specs.private.Seats.{seat_by}
+use Rattle.due_times.specs.Seats.{seat_by}
 use Rattle.domain_run.specs.private.Roster.{rate_in, IsSeated, leapt, LastsIf}
 use Rattle.domain_run.specs.private.Waiting.{seat_of, IsAtRate, IsRight, Lasts, passed_by, passed}
 use Rattle.domain_run.proofs.Placing.{position_at, stands_at}

@@ -31,11 +31,6 @@ pub mod Charged
 pub mod Due
 pub mod Front
 pub mod Sliding
-pub mod Rooted
-pub mod Carrying
-pub mod Climbing
-pub mod Descending
-pub mod Leaves
 pub mod ToldOrder
 pub mod ToldOf
 pub mod ToldSorted
@@ -45,7 +40,6 @@ pub mod ToldIn
 pub mod Logging
 pub mod ToldTicks
 pub mod ToldPay
-pub mod SeatTimes
 pub mod Waiting
 pub mod Bare
 pub mod Turning

@@ -7,13 +7,13 @@ use Rattle.std.proofs.lemmas.List.{get_or-set_same, get_or-set_other, get_or_pas
 use Rattle.std.proofs.Math.Nat.{mul-le-mul_left}
 use Rattle.domain_run.specs.declared.task.Task.{Task}
 use Rattle.grub_rules.specs.Rate as reclaiming
-use Rattle.domain_run.specs.declared.seats.Seat.{Seat}
-use Rattle.domain_run.specs.declared.seats.Basis.{Basis}
-use Rattle.domain_run.specs.private.Seats.{SeatsView, seat_by, left}
+use Rattle.due_times.specs.declared.seats.Seat.{Seat}
+use Rattle.due_times.specs.declared.seats.Basis.{Basis}
+use Rattle.due_times.specs.Seats.{SeatsView, seat_by, left}
 use Rattle.domain_run.specs.private.Waiting.{seat_of, slid_for, owed_by, owed, owed_all, Waits, WaitsIf, AllWait, MaySit, IsAtRate, IsRight, charged_on, rate_by, IsRatedBy}
 use Rattle.domain_run.specs.declared.run_queue.RunQueue.{RunQueue}
 use Rattle.domain_run.specs.private.RunQueue.{IsCounted}
-use Rattle.domain_run.specs.declared.doubts.Doubts.{Doubts}
+use Rattle.due_times.specs.declared.doubts.Doubts.{Doubts}
 use Rattle.domain_run.specs.private.Doubts.{AreSettled}
 use Rattle.domain_run.specs.private.Roster.{RosterView, IsKept}
 use Rattle.domain_run.specs.private.Index.{IsAt, IsAbsent}

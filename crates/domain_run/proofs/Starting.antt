@@ -6,7 +6,7 @@ use Rattle.std.proofs.lemmas.List.{get_or-map, get_or_default, length-map}
 use Rattle.std.proofs.lemmas.List.Folds.{Any-from_list_any}
 use Rattle.std.proofs.lemmas.Option.{same_Some}
 use Rattle.domain_run.specs.declared.task.Task.{Task}
-use Rattle.domain_run.specs.declared.seats.Seat.{Seat}
+use Rattle.due_times.specs.declared.seats.Seat.{Seat}
 use Rattle.edf_pick.specs.declared.moves.Moved.{Moved}
 use Rattle.edf_pick.specs.Places.{Places}
 use Rattle.domain_run.specs.Conditions.{is_ready}

@@ -5,15 +5,15 @@ use Rattle.std.proofs.lemmas.List.{length-map}
 use Rattle.std.proofs.lemmas.List.Elements.{All-set}
 use Rattle.domain_run.specs.declared.task.Task.{Task}
 use Rattle.domain_run.specs.declared.change.Change.{Change}
-use Rattle.domain_run.specs.declared.seats.Seat.{Seat}
-use Rattle.domain_run.specs.declared.doubts.Doubts.{Doubts}
+use Rattle.due_times.specs.declared.seats.Seat.{Seat}
+use Rattle.due_times.specs.declared.doubts.Doubts.{Doubts}
 use Rattle.domain_run.specs.declared.run_queue.RunQueue.{RunQueue}
 use Rattle.edf_pick.specs.Places.{Places}
 use Rattle.domain_run.specs.Sound.{IsSound}
 use Rattle.domain_run.specs.private.RunQueue.{standing_of, IsCounted, MayTurn, HasTurned}
 use Rattle.domain_run.specs.private.Roster.{after_change, Fits, MayMake}
 use Rattle.domain_run.specs.private.Doubts.{AreSettled}
-use Rattle.domain_run.specs.private.Seats.{SeatsView, left_if}
+use Rattle.due_times.specs.Seats.{SeatsView, left_if}
 use Rattle.domain_run.specs.private.Waiting.{seat_of, owed_by, owed, owed_all, left_of, WaitsIf, AllWait}
 use Rattle.domain_run.specs.private.Timers.{IsStep}
 use Rattle.domain_run.proofs.Counting.{IsFit}

@@ -4,8 +4,8 @@ use Rattle.std.specs.Prelude.{ℤ, All, AllPairs, filter, find, option_map, is_n
 use Rattle.std.proofs.lemmas.Bool.{cases_eq, cases_lt, eqb-true, ne_eqb}
 use Rattle.std.proofs.lemmas.List.{get_or-set_same, get_or-set_other, get_or_past, get_or_default, get_or-map, length-map, length-set}
 use Rattle.domain_run.specs.declared.task.Task.{Task}
-use Rattle.domain_run.specs.declared.seats.Seat.{Seat}
-use Rattle.domain_run.specs.private.Seats.{seat_by, left_if, left}
+use Rattle.due_times.specs.declared.seats.Seat.{Seat}
+use Rattle.due_times.specs.Seats.{seat_by, left_if, left}
 use Rattle.domain_run.specs.private.Waiting.{left_of, seat_of, owed_by, owed, Waits, WaitsIf, AllWait}
 use Rattle.std.proofs.lemmas.List.Elements.{All-push}
 use Rattle.attr_check.specs.ParamsView.{ParamsView}

@@ -6,7 +6,5 @@ pub mod Timers
 pub mod Roster
 pub mod Doubts
 pub mod Telling
-pub mod Tournament
-pub mod Seats
 pub mod Waiting
 pub mod Choosing

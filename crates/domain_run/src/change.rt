@@ -7,7 +7,7 @@ ghost use Rattle.domain_run.specs.private.Paying.{ran_until};
 ghost use Rattle.domain_run.specs.private.RunQueue as spec;
 ghost use Rattle.domain_run.specs.private.Roster.{after_change, MayMake, HasStood};
 ghost use Rattle.domain_run.specs.private.Waiting.{owed_by};
-ghost use Rattle.domain_run.specs.declared.seats.Seat.{Seat};
+ghost use Rattle.due_times.specs.declared.seats.Seat.{Seat};
 
 use crate::standing::{Standing, standing_of};
 use crate::task::Task;

@@ -8,7 +8,7 @@ ghost use Rattle.grub_rules.specs.Accounts.{Holds, Exchanges};
 ghost use Rattle.domain_run.specs.private.RunQueue as spec;
 
 use crate::standing::Standing;
-use crate::timers::Timers;
+use due_times::Timers;
 use edf_pick::{Candidate, Schedule};
 use grub_rules::{Accounts, Share};
 use no_memory::NoMemory;

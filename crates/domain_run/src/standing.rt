@@ -7,7 +7,7 @@ ghost use Rattle.domain_run.specs.private.RunQueue as spec;
 ghost use Rattle.domain_run.specs.private.Timers as timers;
 
 use crate::task::{Condition, Task};
-use crate::timers::NEVER;
+use due_times::NEVER;
 use grub_rules::Share;
 
 /// A task as the sums see it, as the choice does where it is ready, and when it is due.

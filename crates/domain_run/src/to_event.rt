@@ -10,8 +10,8 @@ ghost use Rattle.domain_run.specs.private.Roster.{IsSeated, LastsIf, leapt};
 ghost use Rattle.domain_run.specs.private.RunQueue.{AreHomed};
 ghost use Rattle.domain_run.specs.private.Waiting.{MaySitOn};
 
-use crate::doubts::first_marked;
 use crate::roster::Roster;
+use due_times::first_marked;
 use edf_pick::marks::without;
 
 /// Who stands on each CPU sits there at its rate, and nobody else sits. A look at those alone that are

@@ -11,7 +11,7 @@ use Rattle.domain_run.specs.Switches.{state_of}
 use Rattle.domain_run.specs.Tick.{shares}
 use Rattle.domain_run.specs.private.Roster.{homed_here}
 use Rattle.domain_run.specs.private.RunQueue.{IsRoster}
-use Rattle.domain_run.specs.private.Seats.{SeatsView}
+use Rattle.due_times.specs.Seats.{SeatsView}
 use Rattle.domain_run.specs.private.Waiting.{owed_all, AllWait}
 
 -- of so many CPUs

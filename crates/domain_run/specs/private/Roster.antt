@@ -13,15 +13,15 @@ use Rattle.domain_run.specs.Calls.{of_number, regraded, released, ended}
 use Rattle.domain_run.specs.private.Paying.{ran_until}
 use Rattle.domain_run.specs.private.RunQueue.{IsCounted, standing_of}
 use Rattle.domain_run.specs.private.Timers.{due_of}
-use Rattle.domain_run.specs.declared.seats.Seat.{Seat}
-use Rattle.domain_run.specs.declared.seats.Basis.{Basis}
+use Rattle.due_times.specs.declared.seats.Seat.{Seat}
+use Rattle.due_times.specs.declared.seats.Basis.{Basis}
 use Rattle.domain_run.specs.declared.running.Running.{Running}
 use Rattle.grub_rules.specs.Sums.{uinact}
 use Rattle.grub_rules.specs.Rate as reclaiming
 use Rattle.domain_run.specs.Tick.{shares, sum_of, prepared}
-use Rattle.domain_run.specs.declared.doubts.Doubts.{Doubts}
+use Rattle.due_times.specs.declared.doubts.Doubts.{Doubts}
 use Rattle.domain_run.specs.private.Doubts.{AreSettled}
-use Rattle.domain_run.specs.private.Seats.{SeatsView}
+use Rattle.due_times.specs.Seats.{SeatsView}
 use Rattle.domain_run.specs.private.Waiting.{owed_all, AllWait, left_of, runner_of, seat_of, IsRight, Lasts}
 use Rattle.edf_pick.specs.declared.moves.Moved.{Moved}
 use Rattle.edf_pick.specs.Places.{Places, stands}

@@ -2,15 +2,15 @@
 use Rattle.std.specs.Prelude.{ℕ, pos, ◌-◌, ◌*◌, ◌^◌, ◌<◌, ◌≤◌, ◌<ℤ◌, ◌≤ℤ◌, ◌-ℤ◌, ◌≡◌, ◌≢◌, ◌==◌, if◌then◌else◌, List, map, All, slice_index_or, Option, Some, None, IfSome, IsSomeAnd, IsTrue}
 use Rattle.cbs_rules.specs.Serving.{charged}
 use Rattle.domain_run.specs.declared.task.Task.{Task}
-use Rattle.domain_run.specs.declared.seats.Seat.{Seat}
-use Rattle.domain_run.specs.declared.seats.Basis.{Basis}
+use Rattle.due_times.specs.declared.seats.Seat.{Seat}
+use Rattle.due_times.specs.declared.seats.Basis.{Basis}
 use Rattle.grub_rules.specs.Rate as reclaiming
 use Rattle.domain_run.specs.declared.running.Running.{Running}
 use Rattle.edf_pick.specs.Places.{Places}
 use Rattle.domain_run.specs.Conditions.{is_ready}
 use Rattle.domain_run.specs.Sound.{occupant}
 use Rattle.domain_run.specs.private.Paying.{ran_until}
-use Rattle.domain_run.specs.private.Seats.{SeatsView, seat_by, left}
+use Rattle.due_times.specs.Seats.{SeatsView, seat_by, left}
 
 -- the seat of a task: that of the CPU to which it belongs, where it is the task's
 abbrev pub seat_of : List (Option Seat) → Task → Option Seat

@@ -9,17 +9,16 @@ ghost use Rattle.domain_run.specs.Tick as tick_spec;
 ghost use Rattle.domain_run.specs.private.Choosing as spec;
 ghost use Rattle.domain_run.specs.private.Doubts.{IsMarked};
 ghost use Rattle.domain_run.specs.private.Roster.{homed_here};
-ghost use Rattle.domain_run.specs.private.Seats as seats_spec;
+ghost use Rattle.due_times.specs.Seats as seats_spec;
 ghost use Rattle.domain_run.specs.private.Waiting as waiting;
 
-use crate::doubts::Doubts;
 use crate::index::Index;
 use crate::parts;
 use crate::roster::turning::{leave_other, settle};
-use crate::seats::Seats;
 use crate::standing::share_of;
 use crate::switch::PrevState;
 use crate::task::Task;
+use due_times::{Doubts, Seats};
 use edf_pick::Schedule;
 use grub_rules::Accounts;
 

@@ -5,9 +5,9 @@ ghost use Rattle.domain_run.specs.Views.{view_of};
 ghost use Rattle.domain_run.specs.private.Waiting as spec;
 
 use crate::running::Running;
-use crate::seats::Seats;
 use crate::task::{Task, TaskView};
 use cbs_rules::Server;
+use due_times::Seats;
 
 /// What is left of a task's budget, in 1/2^20 us, and of its work, in microseconds.
 #[derive(Clone, Copy, Debug)]

@@ -15,7 +15,7 @@ use crate::parts;
 use crate::run_queue::RunQueue;
 use crate::standing::{due_of, share_of};
 use crate::task::Task;
-use crate::timers::Timers;
+use due_times::Timers;
 use grub_rules::Accounts;
 
 /// One task more, which is not ready.

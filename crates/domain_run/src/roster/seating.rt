@@ -8,15 +8,15 @@ ghost use Rattle.domain_run.specs.Tick.{sum_of};
 ghost use Rattle.domain_run.specs.private.Index.{IsAt};
 ghost use Rattle.domain_run.specs.private.Doubts.{IsSettled};
 ghost use Rattle.domain_run.specs.private.Roster.{rate_in, basis_in, IsSeated};
-ghost use Rattle.domain_run.specs.private.Seats.{IsAhead, seat_by};
+ghost use Rattle.due_times.specs.Seats.{IsAhead, seat_by};
 ghost use Rattle.domain_run.specs.private.Waiting as spec;
 
 use super::Roster;
 use crate::roster::starting;
 use crate::roster::turning::charge;
-use crate::seats::{Basis, Rating, Seat};
 use crate::task::Task;
 use attr_check::UNIT;
+use due_times::{Basis, Rating, Seat};
 
 /// A task is charged what the seat of a CPU owes, where it belongs to that.
 pub(super) fn charge_on(task: &mut Task, cpu: usize, seat: Seat, upto: u64)

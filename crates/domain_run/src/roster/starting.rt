@@ -10,17 +10,16 @@ ghost use Rattle.domain_run.specs.private.Choosing as spec;
 ghost use Rattle.domain_run.specs.private.Doubts as doubts_spec;
 ghost use Rattle.domain_run.specs.private.Index.{IsAt};
 ghost use Rattle.domain_run.specs.private.Roster.{basis_in, homed_here};
-ghost use Rattle.domain_run.specs.private.Seats.{IsAhead};
+ghost use Rattle.due_times.specs.Seats.{IsAhead};
 ghost use Rattle.domain_run.specs.private.Waiting as waiting;
 ghost use Rattle.grub_rules.specs.Accounts.{inactive_at};
 
-use crate::doubts::Doubts;
 use crate::index::Index;
 use crate::roster::choosing::{home_on, occupant_of, state_of};
 use crate::roster::seating::{charge_on, rated_at_one, rated_on, seat_for};
-use crate::seats::{Basis, Rating, Seat, Seats};
 use crate::switch::{Switch, switch_of};
 use crate::task::Task;
+use due_times::{Basis, Doubts, Rating, Seat, Seats};
 use edf_pick::{Moved, Schedule};
 use grub_rules::Accounts;
 

@@ -6,15 +6,15 @@ ghost use Rattle.domain_run.specs.declared.task.Task.{Task};
 ghost use Rattle.domain_run.specs.Sound.{IsSound};
 ghost use Rattle.domain_run.specs.private.Roster.{after_change, MayMake, Fits};
 ghost use Rattle.domain_run.specs.private.RunQueue as spec;
-ghost use Rattle.domain_run.specs.private.Seats as seats_spec;
+ghost use Rattle.due_times.specs.Seats as seats_spec;
 ghost use Rattle.domain_run.specs.private.Waiting as waiting;
 ghost use Rattle.domain_run.specs.private.Timers.{IsStep};
 
 use crate::change::{Change, make};
 use crate::run_queue::RunQueue;
-use crate::seats::{Seat, Seats};
 use crate::standing::standing_of;
 use crate::task::Task;
+use due_times::{Seat, Seats};
 
 /// A task is charged what it owes since it was seated.
 #[inline(always)]

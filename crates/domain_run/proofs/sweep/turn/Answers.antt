@@ -3,7 +3,7 @@ use Rattle.domain_run.specs.declared.task.Task.{Task}
 use Rattle.domain_run.specs.private.Roster.{RosterView}
 use Rattle.domain_run.specs.private.Telling.{told_by_change}
 use Rattle.domain_run.specs.Log.{Tells}
-use Rattle.domain_run.specs.private.Seats.{seat_by}
+use Rattle.due_times.specs.Seats.{seat_by}
 use Rattle.domain_run.specs.private.Waiting.{seat_of}
 use Rattle.domain_run.proofs.Seatings.{none_at}
 use Rattle.domain_run.proofs.Logging.{tells_none, tells_silent}

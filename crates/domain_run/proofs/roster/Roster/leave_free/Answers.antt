@@ -1,7 +1,7 @@
 use Rattle.std.proofs.Common.{◌≡◌, true, Option, Some, None, get_or, set, refl, sym, ap, ◌∙◌}
 use Rattle.std.specs.Prelude.{is_none}
 use Rattle.std.proofs.lemmas.List.{set-get_or}
-use Rattle.domain_run.specs.declared.seats.Seat.{Seat}
+use Rattle.due_times.specs.declared.seats.Seat.{Seat}
 use Rattle.domain_run.specs.private.Roster.{RosterView}
 use Rattle.domain_run.proofs.roster.Roster.leave_free.Goals as goal
 

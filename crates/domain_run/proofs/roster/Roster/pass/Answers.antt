@@ -2,11 +2,11 @@ use Rattle.std.proofs.Common.{◌≡◌, ◌<◌, ◌≤◌, ◌+◌, ◌^◌, �
 use Rattle.std.specs.Prelude.{All, IfSome}
 use Rattle.std.proofs.lemmas.List.{length-set}
 use Rattle.domain_run.specs.declared.task.Task.{Task}
-use Rattle.domain_run.specs.declared.seats.Seat.{Seat}
+use Rattle.due_times.specs.declared.seats.Seat.{Seat}
 use Rattle.domain_run.specs.Sound.{IsSound}
 use Rattle.domain_run.specs.private.Roster.{RosterView}
-use Rattle.domain_run.specs.private.Seats.{SeatsView, IsAhead, end_of}
-use Rattle.domain_run.specs.private.Timers.{AreLater}
+use Rattle.due_times.specs.Seats.{SeatsView, IsAhead, end_of}
+use Rattle.due_times.specs.Timers.{AreLater}
 use Rattle.domain_run.specs.private.Waiting.{owed, owed_all, seat_of, AllWait, passed}
 use Rattle.domain_run.proofs.Waiting.{alike_owed, counted_like, counted_unlike}
 use Rattle.domain_run.proofs.Later.{later_next, ends_next, strict_ends, pass_view, pass_sound}

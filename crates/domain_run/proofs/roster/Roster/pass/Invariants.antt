@@ -1,8 +1,8 @@
 use Rattle.std.proofs.Common.{◌≡◌, ℕ, ◌+◌, ◌-◌, ◌≤◌, None, map, length, get_or, All}
 use Rattle.std.specs.Prelude.{IfSome}
 use Rattle.domain_run.specs.Sound.{IsSound}
-use Rattle.domain_run.specs.private.Seats.{end_of}
-use Rattle.domain_run.specs.private.Timers.{AreLater}
+use Rattle.due_times.specs.Seats.{end_of}
+use Rattle.due_times.specs.Timers.{AreLater}
 use Rattle.domain_run.specs.private.Waiting.{passed}
 use Rattle.domain_run.proofs.roster.Roster.pass.Given as goal
 

@@ -7,7 +7,7 @@ use Rattle.domain_run.specs.private.Doubts.{AreSettled}
 use Rattle.domain_run.specs.private.Index.{IsAbsent}
 use Rattle.domain_run.specs.private.Roster.{RosterView}
 use Rattle.domain_run.specs.private.RunQueue.{IsCounted}
-use Rattle.domain_run.specs.private.Seats.{SeatsView}
+use Rattle.due_times.specs.Seats.{SeatsView}
 use Rattle.domain_run.specs.private.Waiting.{owed, owed_all, left_of, AllWait}
 use Rattle.domain_run.proofs.Waiting.{alike_owed, counted_like, counted_unlike, absent_unlike, length_left, pushed_owed, pushed_waits}
 use Rattle.domain_run.proofs.Doubting.{push_settled}

@@ -6,7 +6,7 @@ use Rattle.edf_pick.specs.Places.{Places}
 use Rattle.domain_run.specs.private.Doubts.{AreSettled}
 use Rattle.domain_run.specs.private.RunQueue.{IsCounted}
 use Rattle.domain_run.specs.private.Roster.{RosterView, after_change, Fits}
-use Rattle.domain_run.specs.private.Seats.{seat_by}
+use Rattle.due_times.specs.Seats.{seat_by}
 use Rattle.domain_run.specs.private.Waiting.{seat_of, owed, owed_all}
 use Rattle.domain_run.proofs.Doubting.{turn_settled, left_unseated, IsLeft}
 use Rattle.domain_run.proofs.Making.{place_fit}

@@ -7,7 +7,7 @@ use Rattle.domain_run.specs.Sound.{IsSound}
 use Rattle.domain_run.specs.private.Doubts.{AreSettled}
 use Rattle.domain_run.specs.private.Roster.{RosterView, after_change, MayMake, Fits}
 use Rattle.domain_run.specs.private.RunQueue.{IsCounted}
-use Rattle.domain_run.specs.private.Seats.{SeatsView, seat_by}
+use Rattle.due_times.specs.Seats.{SeatsView, seat_by}
 use Rattle.domain_run.specs.private.Timers.{IsStep}
 use Rattle.domain_run.specs.private.Waiting.{seat_of, owed_all}
 use Rattle.domain_run.proofs.Bare.{inside_seen, cpu_seen}

@@ -1,7 +1,7 @@
 use Rattle.std.proofs.Common.{◌<◌, ℕ, None, length, sym, ap, subst, ◌∙◌, arith}
 use Rattle.std.proofs.lemmas.List.{length-set}
 use Rattle.domain_run.specs.private.Roster.{RosterView, IsKept}
-use Rattle.domain_run.specs.private.Seats.{SeatsView}
+use Rattle.due_times.specs.Seats.{SeatsView}
 use Rattle.domain_run.specs.private.Waiting.{owed}
 use Rattle.domain_run.proofs.Waiting.{alike_owed, numbered_unlike}
 use Rattle.domain_run.proofs.Doubting.{set_settled}

@@ -2,7 +2,7 @@ use Rattle.std.proofs.Common.{◌≡◌, ◌<◌, ℕ, Some, None, length, get_o
 use Rattle.std.proofs.lemmas.List.{length-set}
 use Rattle.domain_run.specs.private.Index.{IsAt}
 use Rattle.domain_run.specs.private.Roster.{RosterView, IsKept}
-use Rattle.domain_run.specs.private.Seats.{SeatsView, IsAhead}
+use Rattle.due_times.specs.Seats.{SeatsView, IsAhead}
 use Rattle.domain_run.specs.private.Waiting.{owed}
 use Rattle.domain_run.proofs.Waiting.{alike_owed, numbered_unlike, at_unlike}
 use Rattle.domain_run.proofs.Doubting.{set_settled}

@@ -1,6 +1,6 @@
 use Rattle.std.proofs.Common.{◌≡◌, ℕ, None, length, get_or, sym, ap, subst, ◌∙◌}
 use Rattle.domain_run.specs.private.Roster.{RosterView}
-use Rattle.domain_run.specs.private.Seats.{SeatsView}
+use Rattle.due_times.specs.Seats.{SeatsView}
 use Rattle.domain_run.specs.private.Waiting.{owed_all, AllWait}
 use Rattle.domain_run.proofs.Doubting.{clock_settled}
 use Rattle.domain_run.proofs.Seatings.{kept_again}

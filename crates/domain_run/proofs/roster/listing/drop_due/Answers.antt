@@ -8,7 +8,8 @@ use Rattle.std.proofs.lemmas.Fn.{filter_same}
 use Rattle.std.proofs.lemmas.List.{length-map}
 use Rattle.domain_run.specs.Parts.{is_listed}
 use Rattle.domain_run.specs.private.RunQueue.{IsCounted}
-use Rattle.domain_run.specs.private.Timers.{due_of, AreLater}
+use Rattle.due_times.specs.Timers.{AreLater}
+use Rattle.domain_run.specs.private.Timers.{due_of}
 use Rattle.domain_run.proofs.Front.{front_known, front_long}
 use Rattle.domain_run.proofs.Counting.{counted_listed}
 use Rattle.domain_run.proofs.roster.listing.drop_due.Goals as goal

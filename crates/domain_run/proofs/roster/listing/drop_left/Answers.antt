@@ -1,5 +1,5 @@
 use Rattle.std.proofs.Common.{ℕ, ◌<◌, sym, ap, subst}
-use Rattle.domain_run.specs.private.Timers.{least}
+use Rattle.due_times.specs.Timers.{least}
 use Rattle.domain_run.proofs.Due.{none_gone}
 use Rattle.domain_run.proofs.roster.listing.drop_left.Goals as goal
 

@@ -6,7 +6,7 @@ use Rattle.domain_run.specs.Tick.{sum_of}
 use Rattle.domain_run.specs.private.Choosing.{IsHome}
 use Rattle.domain_run.specs.private.Doubts.{IsTrusted, KeepsTrust}
 use Rattle.domain_run.specs.private.Roster.{homed_here}
-use Rattle.domain_run.specs.private.Seats.{SeatsView}
+use Rattle.due_times.specs.Seats.{SeatsView}
 use Rattle.domain_run.specs.private.Waiting.{owed, owed_all, MaySit, MaySitOf}
 use Rattle.domain_run.proofs.Doubting.{trusted_again, seat_other, same_trusted}
 use Rattle.domain_run.proofs.Starting.{here_sum, here_may_some, home_may, a_task}

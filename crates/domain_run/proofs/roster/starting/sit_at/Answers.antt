@@ -6,7 +6,7 @@ use Rattle.grub_rules.proofs.CallerLemmas.{uinact-le-total_bw}
 use Rattle.domain_run.specs.declared.task.Task.{Task}
 use Rattle.domain_run.specs.Tick.{shares}
 use Rattle.domain_run.specs.private.Doubts.{IsTrusted}
-use Rattle.domain_run.specs.private.Seats.{SeatsView}
+use Rattle.due_times.specs.Seats.{SeatsView}
 use Rattle.domain_run.specs.private.Waiting.{owed, owed_all, AllWait, Waits, MaySit}
 use Rattle.domain_run.proofs.Bare.{bare_on}
 use Rattle.domain_run.proofs.Counting.{inactive_is}

@@ -1,7 +1,7 @@
 use Rattle.std.proofs.Common.{List, sym, ap, subst, ◌∙◌}
 use Rattle.domain_run.specs.declared.task.Task.{Task}
 use Rattle.domain_run.specs.private.Index.{IsAt, IsAbsent}
-use Rattle.domain_run.specs.private.Seats.{SeatsView}
+use Rattle.due_times.specs.Seats.{SeatsView}
 use Rattle.domain_run.specs.private.Waiting.{owed_all, AllWait}
 use Rattle.domain_run.proofs.Seatings.{lost_view, lost_waits}
 use Rattle.domain_run.proofs.roster.starting.vacate_on.Goals as goal

@@ -1,6 +1,6 @@
 use Rattle.std.proofs.Common.{◌≡◌, ℕ, None, map, set, sym, ap, subst, ◌∙◌}
 use Rattle.domain_run.specs.declared.task.Task.{Task}
-use Rattle.domain_run.specs.private.Seats.{SeatsView}
+use Rattle.due_times.specs.Seats.{SeatsView}
 use Rattle.domain_run.specs.private.Waiting.{owed, owed_all, AllWait, charged_on}
 use Rattle.domain_run.proofs.Seatings.{charge_waits, vacated_view, vacated_waits}
 use Rattle.domain_run.proofs.roster.starting.vacate_place.Goals as goal

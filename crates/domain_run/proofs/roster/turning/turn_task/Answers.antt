@@ -2,7 +2,7 @@ use Rattle.std.proofs.Common.{◌∙◌, length, ap}
 use Rattle.std.specs.Prelude.{is_some}
 use Rattle.std.proofs.lemmas.List.{get_or_default}
 use Rattle.domain_run.specs.declared.task.Task.{Task}
-use Rattle.domain_run.specs.private.Seats.{SeatsView}
+use Rattle.due_times.specs.Seats.{SeatsView}
 use Rattle.domain_run.specs.private.Waiting.{seat_of}
 use Rattle.domain_run.proofs.Turning.{waits_at, sound_at, may_at, turns_at, step_turned, sound_turned, counted_turned, waits_turned, seats_turned, wide_turned}
 use Rattle.domain_run.proofs.roster.turning.turn_task.Goals as goal

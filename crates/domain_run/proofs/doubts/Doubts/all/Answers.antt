@@ -1,5 +1,0 @@
-use Rattle.std.proofs.lemmas.Nat.Bits.{bit_at_ones}
-use Rattle.domain_run.proofs.doubts.Doubts.all.Goals as goal
-
-pub returns : goal.returns
-returns c = λ i h. bit_at_ones 64 i h

@@ -1,7 +1,0 @@
-use Rattle.std.proofs.Common.{ap, ◌∙◌}
-use Rattle.domain_run.specs.private.Timers.{least}
-use Rattle.domain_run.proofs.Leaves.{least_first}
-use Rattle.domain_run.proofs.timers.Timers.least.Goals as goal
-
-pub returns : goal.returns
-returns c = c.least.ensures ∙ least_first c.self.inside.tournament c.self.inside.count c.self.invariant.never ∙ ap least c.self.view_is

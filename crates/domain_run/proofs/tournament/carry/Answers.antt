@@ -1,9 +1,0 @@
-use Rattle.std.proofs.Common.{◌/◌, List, ℕ, ap, ◌∙◌}
-use Rattle.domain_run.specs.private.Tournament.{least_below}
-use Rattle.domain_run.proofs.Carrying.{carried}
-use Rattle.domain_run.proofs.tournament.carry.Goals as goal
-
-pub returns-clause-tree : goal.returns-clause-tree
-returns-clause-tree c =
-    carried c.args.nodes.now.items c.args.at c.least_beside-least.result c.requires.tree c.requires.inner c.requires.there
-    (c.least_beside-least.ensures ∙ ap (λ (xs : List ℕ). least_below xs (c.args.at / 4)) c.deref.ensures.value)

@@ -1,0 +1,9 @@
+use Rattle.std.proofs.Common.{◌/◌, List, ℕ, ap, ◌∙◌}
+use Rattle.due_times.specs.private.Tournament.{least_below}
+use Rattle.due_times.proofs.Carrying.{carried}
+use Rattle.due_times.proofs.tournament.carry.Goals as goal
+
+pub returns-clause-tree : goal.returns-clause-tree
+returns-clause-tree c =
+    carried c.args.nodes.now.items c.args.at c.least_beside-least.result c.requires.tree c.requires.inner c.requires.there
+    (c.least_beside-least.ensures ∙ ap (λ (xs : List ℕ). least_below xs (c.args.at / 4)) c.deref.ensures.value)

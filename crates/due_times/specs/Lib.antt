@@ -1,0 +1,3 @@
+pub mod Timers
+pub mod Seats
+pub mod private

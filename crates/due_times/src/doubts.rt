@@ -1,0 +1,197 @@
+//! Which CPUs have seats that are known to be right. What happens touches few CPUs, so a leap looks at
+//! those alone.
+
+ghost use Rattle.std.specs.Prelude.{ℕ, ◌≡◌, ◌≢◌, ◌⊎◌, ◌<◌, ◌≤◌, IsTrue, false};
+ghost use Rattle.std.specs.Int.{bit_at};
+
+use edf_pick::marks::{both, with, without};
+
+/// Which CPUs are in doubt: who stands there may not sit there rightly. The others are right for a sum
+/// of bandwidth and a limit, which are noted.
+#[derive(Clone, Copy, Debug, PartialEq, Eq)]
+pub struct Doubts {
+    /// A word with a mark for each CPU that is in doubt.
+    pub cpus: u64,
+    /// A word with a mark for each other CPU whose seat keeps what its rate was worked out from. On
+    /// those without a mark the rate is right for each sum and limit.
+    pub rated: u64,
+    /// The bandwidth of all listed tasks, in 1/2^20 of a CPU.
+    pub sum: u64,
+    /// In 1/2^20 of a CPU.
+    pub limit: u64,
+}
+
+/// The first place with a mark; 64 where there is none.
+#[inline(always)]
+pub fn first_marked(marks: u64) -> usize
+    ensures within { result ≤ 64 }
+    ensures marked { result < 64 → bit_at marks result ≡ 1 }
+    ensures lowest { (i : ℕ) → i < result → bit_at marks i ≡ 0 }
+{
+    if marks == 0 {
+        return 64;
+    }
+    edf_pick::marks::first(marks)
+}
+
+/// Of a word with marks the one at this place, if it has one there.
+#[inline(always)]
+fn mark_at(marks: u64, place: usize) -> u64
+    requires { place < 64 }
+    ensures here { bit_at result place ≡ bit_at marks place }
+    ensures others { (i : ℕ) → i ≢ place → bit_at result i ≡ 0 }
+{
+    marks & with(0, place)
+}
+
+impl Doubts {
+    /// Each CPU is in doubt.
+    pub fn all() -> Doubts
+        ensures { (i : ℕ) → i < 64 → bit_at result.cpus i ≡ 1 }
+    {
+        Doubts {
+            cpus: u64::MAX,
+            rated: 0,
+            sum: 0,
+            limit: 0,
+        }
+    }
+
+    /// Each CPU whose seat keeps what its rate was worked out from is in doubt again.
+    pub fn mark_rated(&mut self)
+        ensures bare { (i : ℕ) → bit_at self.new.cpus i ≡ 0 → bit_at self.old.cpus i ≡ 0 }
+        ensures free { (i : ℕ) → bit_at self.new.cpus i ≡ 0 → bit_at self.old.rated i ≡ 0 }
+        ensures rated { self.new.rated ≡ self.old.rated }
+        ensures sum { self.new.sum ≡ self.old.sum }
+        ensures limit { self.new.limit ≡ self.old.limit }
+    {
+        self.cpus = both(self.cpus, self.rated);
+    }
+
+    /// A CPU is in doubt; one that no domain has is not marked.
+    #[inline(always)]
+    pub fn mark(&mut self, cpu: usize)
+        ensures marked { cpu < 64 → bit_at self.new.cpus cpu ≡ 1 }
+        ensures others { (i : ℕ) → i ≢ cpu → bit_at self.new.cpus i ≡ bit_at self.old.cpus i }
+        ensures bare { (i : ℕ) → bit_at self.new.cpus i ≡ 0 → bit_at self.old.cpus i ≡ 0 }
+        ensures rated { self.new.rated ≡ self.old.rated }
+        ensures sum { self.new.sum ≡ self.old.sum }
+        ensures limit { self.new.limit ≡ self.old.limit }
+    {
+        if cpu < 64 {
+            self.cpus = with(self.cpus, cpu);
+        }
+    }
+
+    /// As `mark`, of a CPU whose seat stays while its inactive bandwidth may be another: it is in doubt
+    /// only where the seat keeps what its rate was worked out from.
+    #[inline(always)]
+    pub fn mark_where_rated(&mut self, cpu: usize)
+        ensures free { cpu < 64 → bit_at self.new.cpus cpu ≡ 0 → bit_at self.old.rated cpu ≡ 0 }
+        ensures bare { (i : ℕ) → bit_at self.new.cpus i ≡ 0 → bit_at self.old.cpus i ≡ 0 }
+        ensures rated { self.new.rated ≡ self.old.rated }
+        ensures sum { self.new.sum ≡ self.old.sum }
+        ensures limit { self.new.limit ≡ self.old.limit }
+    {
+        if cpu < 64 {
+            self.cpus = both(self.cpus, mark_at(self.rated, cpu));
+        }
+    }
+
+    /// A task has left a CPU, or has changed there, and sat on it or did not: where it did the CPU is in
+    /// doubt, and else only where its seat keeps what its rate was worked out from.
+    #[inline(always)]
+    pub fn mark_left(&mut self, cpu: usize, sat: bool)
+        ensures sat { IsTrue sat → cpu < 64 → bit_at self.new.cpus cpu ≡ 1 }
+        ensures free { sat ≡ false → cpu < 64 → bit_at self.new.cpus cpu ≡ 0
+            → bit_at self.old.rated cpu ≡ 0 }
+        ensures bare { (i : ℕ) → bit_at self.new.cpus i ≡ 0 → bit_at self.old.cpus i ≡ 0 }
+        ensures rated { self.new.rated ≡ self.old.rated }
+        ensures sum { self.new.sum ≡ self.old.sum }
+        ensures limit { self.new.limit ≡ self.old.limit }
+    {
+        if sat {
+            self.mark(cpu);
+        } else {
+            self.mark_where_rated(cpu);
+        }
+    }
+
+    /// A CPU is in doubt no more. Its seat may keep what its rate was worked out from, or does not.
+    #[inline(always)]
+    pub fn clear(&mut self, cpu: usize, is_rated: bool)
+        requires { cpu < 64 }
+        ensures others { (i : ℕ) → i ≢ cpu → bit_at self.new.cpus i ≡ bit_at self.old.cpus i }
+        ensures elsewhere { (i : ℕ) → i ≢ cpu → bit_at self.new.rated i ≡ bit_at self.old.rated i }
+        ensures here { IsTrue is_rated → bit_at self.new.rated cpu ≡ 1 }
+        ensures sum { self.new.sum ≡ self.old.sum }
+        ensures limit { self.new.limit ≡ self.old.limit }
+    {
+        self.cpus = without(self.cpus, cpu);
+        self.rated = if is_rated {
+            with(self.rated, cpu)
+        } else {
+            without(self.rated, cpu)
+        };
+    }
+
+    /// Whether this sum and this limit are noted.
+    #[inline(always)]
+    pub fn is_for(&self, sum: u64, limit: u64) -> bool
+        ensures { IsTrue result → (self.now.sum ≡ sum) × (self.now.limit ≡ limit) }
+    {
+        self.sum == sum && self.limit == limit
+    }
+
+    /// Whether a seat that is right for a sum and a limit may be trusted: it keeps nothing of what its
+    /// rate was worked out from, or they are noted.
+    #[inline(always)]
+    pub fn may_trust(&self, is_rated: bool, sum: u64, limit: u64) -> bool
+        ensures { IsTrue result → IsTrue is_rated
+            → (self.now.sum ≡ sum) × (self.now.limit ≡ limit) }
+    {
+        if !is_rated {
+            return true;
+        }
+        self.is_for(sum, limit)
+    }
+
+    /// A CPU whose seat was made just now, for a sum and a limit, is in doubt only where the seat keeps
+    /// what its rate was worked out from, and others are noted.
+    #[inline(always)]
+    pub fn clear_for(&mut self, cpu: usize, is_rated: bool, sum: u64, limit: u64)
+        requires { cpu < 64 }
+        ensures others { (i : ℕ) → i ≢ cpu → bit_at self.new.cpus i ≡ bit_at self.old.cpus i }
+        ensures elsewhere { (i : ℕ) → i ≢ cpu → bit_at self.new.rated i ≡ bit_at self.old.rated i }
+        ensures marked { IsTrue is_rated → bit_at self.new.cpus cpu ≡ 0
+            → bit_at self.new.rated cpu ≡ 1 }
+        ensures noted { IsTrue is_rated → bit_at self.new.cpus cpu ≡ 0
+            → (self.old.sum ≡ sum) × (self.old.limit ≡ limit) }
+        ensures sum { self.new.sum ≡ self.old.sum }
+        ensures limit { self.new.limit ≡ self.old.limit }
+    {
+        if self.may_trust(is_rated, sum, limit) {
+            self.clear(cpu, is_rated);
+        } else {
+            self.mark(cpu);
+        }
+    }
+
+    /// Another sum or another limit is noted: then each CPU whose seat keeps what its rate was worked
+    /// out from is in doubt.
+    #[inline(always)]
+    pub fn renew(&mut self, sum: u64, limit: u64)
+        ensures bare { (i : ℕ) → bit_at self.new.cpus i ≡ 0 → bit_at self.old.cpus i ≡ 0 }
+        ensures free { (i : ℕ) → bit_at self.new.cpus i ≡ 0
+            → (bit_at self.old.rated i ≡ 0) ⊎ ((self.old.sum ≡ sum) × (self.old.limit ≡ limit)) }
+        ensures rated { self.new.rated ≡ self.old.rated }
+        ensures sum { self.new.sum ≡ sum }
+        ensures limit { self.new.limit ≡ limit }
+    {
+        if !self.is_for(sum, limit) {
+            self.mark_rated();
+            self.sum = sum;
+            self.limit = limit;
+        }
+    }
+}

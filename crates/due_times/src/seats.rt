@@ -1,0 +1,287 @@
+//! Who runs since when. What a running task owes for its running is not charged tick by tick: a
+//! seat tells since when it has not been charged and at which rate it runs, so that time goes on for
+//! all of them at once.
+
+ghost use Rattle.std.specs.Prelude.{ℕ, false, IsTrue, is_none, ◌≡◌, ◌<◌, ◌≤◌, ◌+◌, ◌^◌, All, IfOk, IfSome, None, Some, length, map, option_map, replicate, slice_index_or, slice_set, vec_capacity};
+ghost use Rattle.due_times.specs.Seats as spec;
+ghost use Rattle.due_times.specs.Timers.{AreLater, least};
+
+use crate::timers::{NEVER, Timers};
+use no_memory::NoMemory;
+use std::alloc::{AllocError, Global};
+use std::marker::Model;
+
+/// What the rate of a task depends on beside its parameters.
+#[derive(Clone, Copy, Debug, PartialEq, Eq)]
+pub struct Basis {
+    /// The bandwidth of the inactive tasks of its CPU, in 1/2^20 of a CPU.
+    pub uinact: u64,
+    /// The bandwidth of all listed tasks.
+    pub sum: u64,
+    pub cpus: u64,
+    /// In 1/2^20 of a CPU.
+    pub limit: u64,
+}
+
+/// A task that runs on a CPU, and has not been charged since a time. Times are in microseconds of
+/// the clock of the seats.
+#[derive(Clone, Copy, Debug, PartialEq, Eq)]
+pub struct Seat {
+    /// The task's number.
+    pub number: u32,
+    /// Since when it has not been charged.
+    pub since: u64,
+    /// What a tick takes of its budget, in 1/2^20 us.
+    pub rate: u64,
+    /// What the rate was worked out from; nothing where it is the same on every basis.
+    pub basis: Option<Basis>,
+    /// When its work or its budget ends, if it goes on to run at this rate.
+    pub end: u64,
+}
+
+/// At which rate a task is to run, and what that was worked out from; nothing where it is the same on
+/// every basis.
+#[derive(Clone, Copy, Debug, PartialEq, Eq)]
+pub struct Rating {
+    /// What a tick takes of its budget, in 1/2^20 us.
+    pub rate: u64,
+    /// What it was worked out from.
+    pub basis: Option<Basis>,
+}
+
+/// For each CPU the seat of who runs there, if anyone does, and the time up to which all of them
+/// have run. Seats with room for more or fewer than the CPUs cannot be built.
+#[derive(Drop)]
+pub struct Seats {
+    upto: u64,
+    seats: Vec<Option<Seat>>,
+    // When each seat ends, by CPU.
+    ends: Timers,
+}
+
+impl Model for Seats {
+    ghost use Rattle.std.specs.Prelude.{vec_capacity};
+    ghost use Rattle.due_times.specs.Seats.{SeatsView, AreSeats};
+
+    ghost Value = { SeatsView };
+
+    ghost view = { λ s. record { upto = s.upto; seats = s.seats.items } };
+
+    ghost invariant = { λ s. AreSeats s.upto s.seats.items s.ends (vec_capacity s.seats) };
+}
+
+impl Basis {
+    /// Whether it is the same.
+    #[inline(always)]
+    pub fn is_same(&self, other: &Basis) -> bool
+        ensures { IsTrue result → self.now ≡ other.now }
+    {
+        self == other
+    }
+}
+
+/// When a seat ends; never where nobody sits.
+fn end_of(seat: Option<Seat>) -> u64
+    ensures { result ≡ spec.end_of seat }
+{
+    match seat {
+        None => NEVER,
+        Some(seat) => seat.end,
+    }
+}
+
+/// A seat, where it is that of a task.
+fn if_of(seat: Option<Seat>, number: u32) -> Option<Seat>
+    ensures { result ≡ spec.seat_by number seat }
+{
+    match seat {
+        Some(seat) if seat.number == number => Some(seat),
+        _ => None,
+    }
+}
+
+// So many empty seats, with room for no more.
+fn empty(alloc: Global, cpus: usize) -> Result<Vec<Option<Seat>>, AllocError>
+    ensures seats { IfOk result (λ seats. seats.items ≡ replicate cpus None) }
+    ensures room { IfOk result (λ seats. vec_capacity seats ≡ cpus) }
+{
+    let mut seats = Vec::with_capacity(alloc, cpus)?;
+    for _ in 0..cpus {
+        seats.push_reserved(None);
+    }
+    Ok(seats)
+}
+
+// So many times that never come.
+fn add_never(ends: &mut Timers, count: usize)
+    requires none { length ends.old ≡ 0 }
+    requires few { count ≤ 64 }
+    ensures { ends.new ≡ replicate count (spec.end_of None) }
+{
+    for _ in 0..count {
+        ends.push(NEVER);
+    }
+}
+
+impl Seats {
+    /// Nobody runs, on at most 64 CPUs, with room for their seats. No other call takes memory.
+    pub fn open(alloc: Global, cpus: usize) -> Result<Seats, NoMemory>
+        requires { cpus ≤ 64 }
+        ensures { IfOk result (λ made. made ≡ record { upto = 0; seats = replicate cpus None }) }
+    {
+        let seats = empty(alloc, cpus)?;
+        let mut ends = Timers::open(alloc)?;
+        add_never(&mut ends, cpus);
+        Ok(Seats {
+            upto: 0,
+            seats,
+            ends,
+        })
+    }
+
+    /// The time up to which all have run.
+    pub fn upto(&self) -> u64
+        ensures upto { result ≡ self.now.upto }
+        ensures early { result ≤ 2 ^ 62 }
+    {
+        self.upto
+    }
+
+    /// How many CPUs there are.
+    pub fn len(&self) -> usize
+        ensures len { result ≡ length self.now.seats }
+        ensures few { result ≤ 64 }
+    {
+        self.seats.len()
+    }
+
+    /// The seat of a CPU.
+    pub fn get(&self, cpu: usize) -> Option<Seat>
+        requires { cpu < length self.now.seats }
+        ensures seat { result ≡ slice_index_or self.now.seats cpu None }
+        ensures ahead { IfSome result (spec.IsAhead self.now.upto) }
+    {
+        self.seats[cpu]
+    }
+
+    /// Whether nobody sits on a CPU.
+    #[inline(always)]
+    pub fn is_free(&self, cpu: usize) -> bool
+        requires { cpu < length self.now.seats }
+        ensures { result ≡ is_none (slice_index_or self.now.seats cpu None) }
+    {
+        self.seats[cpu].is_none()
+    }
+
+    /// Whether somebody sits on a CPU whose seat keeps what its rate was worked out from.
+    #[inline(always)]
+    pub fn is_rated(&self, cpu: usize) -> bool
+        requires { cpu < length self.now.seats }
+        ensures { result ≡ false
+            → IfSome (slice_index_or self.now.seats cpu None) (λ s. s.basis ≡ None) }
+    {
+        match self.seats[cpu] {
+            None => false,
+            Some(seat) => seat.basis.is_some(),
+        }
+    }
+
+    /// The seat of a task on a CPU, where it sits there.
+    pub fn seat_of(&self, cpu: usize, number: u32) -> Option<Seat>
+        ensures seat { result ≡ spec.seat_by number (slice_index_or self.now.seats cpu None) }
+        ensures ahead { IfSome result (spec.IsAhead self.now.upto) }
+        ensures within { IfSome result (λ s. cpu < length self.now.seats) }
+    {
+        if cpu >= self.seats.len() {
+            return None;
+        }
+        if_of(self.get(cpu), number)
+    }
+
+    /// What the rate of the task of a number was worked out from, if from anything, where it sits on a
+    /// CPU.
+    #[inline(always)]
+    pub fn basis_of(&self, cpu: usize, number: u32) -> Option<Option<Basis>>
+        requires { cpu < length self.now.seats }
+        ensures { result ≡ option_map (λ s. s.basis)
+            (spec.seat_by number (slice_index_or self.now.seats cpu None)) }
+    {
+        match &self.seats[cpu] {
+            Some(seat) if seat.number == number => Some(seat.basis),
+            _ => None,
+        }
+    }
+
+    /// As `set`, where somebody sits down.
+    #[inline(always)]
+    pub fn sit_down(&mut self, cpu: usize, seat: Seat)
+        requires there { cpu < length self.old.seats }
+        requires ahead { spec.IsAhead self.old.upto seat }
+        ensures { self.new ≡ record self.old { seats = slice_set self.old.seats cpu (Some seat) } }
+    {
+        self.seats[cpu] = Some(seat);
+        self.ends.set(cpu, seat.end);
+    }
+
+    /// Another seat for a CPU.
+    #[inline(always)]
+    pub fn set(&mut self, cpu: usize, seat: Option<Seat>)
+        requires there { cpu < length self.old.seats }
+        requires ahead { IfSome seat (spec.IsAhead self.old.upto) }
+        ensures { self.new ≡ record self.old { seats = slice_set self.old.seats cpu seat } }
+    {
+        self.seats[cpu] = seat;
+        self.ends.set(cpu, end_of(seat));
+    }
+
+    /// A task sits on a CPU no more.
+    #[inline(always)]
+    pub fn leave(&mut self, cpu: usize, number: u32)
+        ensures { self.new ≡ record self.old { seats = spec.left cpu number self.old.seats } }
+    {
+        if self.seat_of(cpu, number).is_some() {
+            self.set(cpu, None);
+        }
+    }
+
+    /// The first time at which a seat ends.
+    pub fn first_end(&self) -> u64
+        ensures end { result ≡ least (map spec.end_of self.now.seats) }
+        ensures seats { All (λ o. IfSome o (spec.IsAhead self.now.upto)) self.now.seats }
+        ensures ahead { self.now.upto < result }
+    {
+        self.ends.least()
+    }
+
+    /// The first CPU, from this one on, whose seat ends up to a time; where there is none, how many
+    /// CPUs there are.
+    #[inline(always)]
+    pub fn next_ended(&self, from: usize, time: u64) -> usize
+        requires { from ≤ length self.now.seats }
+        ensures from { from ≤ result }
+        ensures most { result ≤ length self.now.seats }
+        ensures others { AreLater (map spec.end_of self.now.seats) time from result }
+        ensures seats { All (λ o. IfSome o (spec.IsAhead self.now.upto)) self.now.seats }
+    {
+        self.ends.next_due(from, time)
+    }
+
+    /// So many ticks more in which all run, where no seat ends in them.
+    pub fn pass(&mut self, ticks: u64)
+        requires early { self.old.upto + ticks ≤ 2 ^ 62 }
+        requires ahead { AreLater (map spec.end_of self.old.seats) (self.old.upto + ticks) 0
+            (length self.old.seats) }
+        ensures passed { self.new ≡ record self.old { upto = self.old.upto + ticks } }
+        ensures ahead { All (λ o. IfSome o (spec.IsAhead self.old.upto)) self.old.seats }
+    {
+        self.upto += ticks;
+    }
+
+    /// The clock begins anew, where nobody sits.
+    pub fn restart(&mut self)
+        requires { (cpu : ℕ) → slice_index_or self.old.seats cpu None ≡ None }
+        ensures { self.new ≡ record self.old { upto = 0 } }
+    {
+        self.upto = 0;
+    }
+}
