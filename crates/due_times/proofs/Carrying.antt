@@ -1,9 +1,10 @@
 -- A time of a tournament that is carried up.
-use Rattle.std.proofs.Common.{◌≡◌, ◌≢◌, ℕ, zero, suc, ◌+◌, ◌-◌, ◌*◌, ◌/◌, ◌^◌, ◌<◌, ◌≤◌, min, List, length, get_or, set, drop, sym, ap, refl, ◌∙◌, arith, inl, inr}
+use Rattle.std.proofs.Common.{◌≡◌, ◌≢◌, ℕ, zero, suc, ◌+◌, ◌-◌, ◌*◌, ◌/◌, ◌^◌, ◌<◌, ◌≤◌, min, List, length, get_or, set, drop, sym, ap, subst, refl, ◌∙◌, arith, inl, inr}
 use Rattle.std.specs.Int.Bits.{bit_xor, xor_zero_r}
 use Rattle.std.proofs.lemmas.Bool.{cases_eq}
 use Rattle.std.proofs.lemmas.List.{length-set, length-drop, drop-set-add, get_or-set_same, get_or-set_other}
 use Rattle.std.proofs.lemmas.Nat.{xor_block, xor_lt}
+use Rattle.due_times.specs.Timers.{IsSize}
 use Rattle.due_times.specs.private.Tournament.{IsTree, IsTreeBut, least_below, leaves}
 
 -- within a group of four
@@ -76,3 +77,23 @@ pub leaves_set : (nodes : List ℕ) (half leaf time : ℕ) → half ≡ length n
 leaves_set nodes half leaf time e =
     ap (λ n. drop (n / 2) (set nodes (half + leaf) time)) (length-set nodes (half + leaf) time)
     ∙ ap (λ n. drop (length nodes / 2) (set nodes (n + leaf) time)) e ∙ drop-set-add (length nodes / 2) nodes leaf time
+
+-- the node that may not be right goes up by two levels, or is past the root
+pub tree_above : (nodes : List ℕ) (at : ℕ) → IsTreeBut (at / 16) nodes → IsTreeBut (at / 4 / 4) nodes
+tree_above nodes at is = subst (λ (k : ℕ). IsTreeBut k nodes) (omega arith) is
+
+pub tree_whole : (nodes : List ℕ) (at : ℕ) → at < 16 → IsTreeBut (at / 16) nodes → IsTree nodes
+tree_whole nodes at low is = subst (λ (k : ℕ). IsTreeBut k nodes) (omega (arith, low)) is
+
+-- how many leaves there are, and the first node of a level
+pub low_16 : (half at : ℕ) → IsSize half → half ≤ at → half ≤ 4 * (at / 4)
+low_16 half at (inl e) h = omega (arith, e, h)
+low_16 half at (inr (inl e)) h = omega (arith, e, h)
+low_16 half at (inr (inr (inl e))) h = omega (arith, e, h)
+low_16 half at (inr (inr (inr e))) h = omega (arith, e, h)
+
+pub low_64 : (half at : ℕ) → IsSize half → 16 ≤ half → half ≤ 4 * at → half ≤ 16 * (at / 4)
+low_64 half at (inl e) wide h = absurd (omega (arith, e, wide))
+low_64 half at (inr (inl e)) wide h = omega (arith, e, h)
+low_64 half at (inr (inr (inl e))) wide h = omega (arith, e, h)
+low_64 half at (inr (inr (inr e))) wide h = omega (arith, e, h)

@@ -73,6 +73,58 @@ fn carry(nodes: &mut Vec<u64>, at: usize, time: u64) -> u64
     least
 }
 
+// From a node with this time, two or three levels below the root, up to that.
+#[inline(always)]
+fn climb_64(nodes: &mut Vec<u64>, half: usize, at: usize, time: u64)
+    requires tree { spec.IsTreeBut (at / 4) nodes.old.items }
+    requires half { length nodes.old.items ≡ 2 * half }
+    requires size { IsSize half }
+    requires wide { 64 ≤ half }
+    requires low { half ≤ 16 * at }
+    requires high { 8 * at < half }
+    requires time { slice_index_or nodes.old.items at 0 ≡ time }
+    ensures tree { spec.IsTree nodes.new.items }
+    ensures length { length nodes.new.items ≡ length nodes.old.items }
+    ensures leaves { spec.leaves nodes.new.items ≡ spec.leaves nodes.old.items }
+    ensures room { vec_capacity nodes.new ≡ vec_capacity nodes.old }
+{
+    let of_64 = carry(nodes, at, time);
+    if half == 64 {
+        return;
+    }
+    carry(nodes, at / 4, of_64);
+}
+
+// The same from a level further down.
+#[inline(always)]
+fn climb_16(nodes: &mut Vec<u64>, half: usize, at: usize, time: u64)
+    requires tree { spec.IsTreeBut (at / 4) nodes.old.items }
+    requires half { length nodes.old.items ≡ 2 * half }
+    requires size { IsSize half }
+    requires wide { 16 ≤ half }
+    requires low { half ≤ 4 * at }
+    requires high { 2 * at < half }
+    requires time { slice_index_or nodes.old.items at 0 ≡ time }
+    ensures tree { spec.IsTree nodes.new.items }
+    ensures length { length nodes.new.items ≡ length nodes.old.items }
+    ensures leaves { spec.leaves nodes.new.items ≡ spec.leaves nodes.old.items }
+    ensures room { vec_capacity nodes.new ≡ vec_capacity nodes.old }
+{
+    let of_16 = carry(nodes, at, time);
+    if half == 16 {
+        return;
+    }
+    climb_64(nodes, half, at / 4, of_16);
+}
+
+// How many leaves there are.
+#[inline(always)]
+fn half_of(nodes: &[u64]) -> usize
+    ensures { result ≡ length nodes.now / 2 }
+{
+    nodes.len() / 2
+}
+
 fn set_leaf(nodes: &mut Vec<u64>, leaf: usize, time: u64)
     requires tree { spec.IsTree nodes.old.items }
     requires size { IsSize (length nodes.old.items / 2) }
@@ -82,22 +134,14 @@ fn set_leaf(nodes: &mut Vec<u64>, leaf: usize, time: u64)
     ensures leaves { spec.leaves nodes.new.items ≡ slice_set (spec.leaves nodes.old.items) leaf time }
     ensures room { vec_capacity nodes.new ≡ vec_capacity nodes.old }
 {
-    let half = nodes.len() / 2;
+    let half = half_of(nodes);
     let at = half + leaf;
     nodes[at] = time;
     let of_four = carry(nodes, at, time);
     if half == 4 {
         return;
     }
-    let of_16 = carry(nodes, at / 4, of_four);
-    if half == 16 {
-        return;
-    }
-    let of_64 = carry(nodes, at / 16, of_16);
-    if half == 64 {
-        return;
-    }
-    carry(nodes, at / 64, of_64);
+    climb_16(nodes, half, at / 4, of_four);
 }
 
 fn root(nodes: &[u64]) -> u64

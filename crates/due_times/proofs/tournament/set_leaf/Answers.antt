@@ -1,43 +1,45 @@
-use Rattle.std.proofs.Common.{◌≡◌, ◌+◌, ◌/◌, ℕ, length, ap, subst, ◌∙◌, arith}
-use Rattle.std.proofs.lemmas.Grind.{common_steps}
-use Rattle.due_times.specs.private.Tournament.{IsTreeBut}
-use Rattle.due_times.proofs.Carrying.{leaf_within, leaves_set}
-use Rattle.due_times.proofs.Descending.{not_four, not_16, not_64}
+use Rattle.std.proofs.Common.{◌+◌, ◌/◌, ℕ, List, length, ap, sym, subst, ◌∙◌, arith}
+use Rattle.due_times.specs.Timers.{IsSize}
+use Rattle.due_times.proofs.Carrying.{leaf_within, leaves_set, tree_above, tree_whole, low_16}
+use Rattle.due_times.proofs.Descending.{not_four}
 use Rattle.due_times.proofs.tournament.set_leaf.Goals as goal
 
-pub returns-then-half-eq16-clause-leaves : goal.returns-then-half-eq16-clause-leaves
-returns-then-half-eq16-clause-leaves c =
-    let all : c.len-half.result ≡ length c.args.nodes.now.items = grind (arith, common_steps) in
-    let first = leaves_set c.args.nodes.now.items (c.len-half.result / 2) c.args.leaf c.args.time (ap (λ n. n / 2) all) in
-    c.carry-of_16.ensures.leaves ∙ c.carry-of_four.ensures.leaves ∙ first
+pub returns-then-half-eq4-clause-tree : goal.returns-then-half-eq4-clause-tree
+returns-then-half-eq4-clause-tree c =
+    let half = c.half_of-half.ensures ∙ ap (λ (ns : List ℕ). length ns / 2) c.deref.ensures.value in
+    let within = leaf_within c.args.nodes.now.items c.args.leaf c.requires.tree c.requires.leaf in
+    tree_whole c.carry-of_four.new.nodes.items (c.half_of-half.result + c.args.leaf) (omega (arith, half, within, c.if-half-eq4.true)) c.carry-of_four.ensures.tree
 
-pub returns-then-half-eq64-clause-leaves : goal.returns-then-half-eq64-clause-leaves
-returns-then-half-eq64-clause-leaves c =
-    let all : c.len-half.result ≡ length c.args.nodes.now.items = grind (arith, common_steps) in
-    let first = leaves_set c.args.nodes.now.items (c.len-half.result / 2) c.args.leaf c.args.time (ap (λ n. n / 2) all) in
-    c.carry-of_64.ensures.leaves ∙ c.carry-of_16.ensures.leaves ∙ c.carry-of_four.ensures.leaves ∙ first
+pub returns-then-half-eq4-clause-leaves : goal.returns-then-half-eq4-clause-leaves
+returns-then-half-eq4-clause-leaves c =
+    let half = c.half_of-half.ensures ∙ ap (λ (ns : List ℕ). length ns / 2) c.deref.ensures.value in
+    c.carry-of_four.ensures.leaves ∙ leaves_set c.args.nodes.now.items c.half_of-half.result c.args.leaf c.args.time half
+
+pub climb_16-requires-clause-tree : goal.climb_16-requires-clause-tree
+climb_16-requires-clause-tree c = tree_above c.carry-of_four.new.nodes.items (c.half_of-half.result + c.args.leaf) c.carry-of_four.ensures.tree
+
+pub climb_16-requires-clause-size : goal.climb_16-requires-clause-size
+climb_16-requires-clause-size c =
+    let half = c.half_of-half.ensures ∙ ap (λ (ns : List ℕ). length ns / 2) c.deref.ensures.value in
+    subst IsSize (sym half) c.requires.size
+
+pub climb_16-requires-clause-wide : goal.climb_16-requires-clause-wide
+climb_16-requires-clause-wide c =
+    let half = c.half_of-half.ensures ∙ ap (λ (ns : List ℕ). length ns / 2) c.deref.ensures.value in
+    not_four c.half_of-half.result (subst IsSize (sym half) c.requires.size) c.if-half-eq4.false
+
+pub climb_16-requires-clause-low : goal.climb_16-requires-clause-low
+climb_16-requires-clause-low c =
+    let half = c.half_of-half.ensures ∙ ap (λ (ns : List ℕ). length ns / 2) c.deref.ensures.value in
+    low_16 c.half_of-half.result (c.half_of-half.result + c.args.leaf) (subst IsSize (sym half) c.requires.size) (omega arith)
+
+pub climb_16-requires-clause-high : goal.climb_16-requires-clause-high
+climb_16-requires-clause-high c =
+    let half = c.half_of-half.ensures ∙ ap (λ (ns : List ℕ). length ns / 2) c.deref.ensures.value in
+    let within = leaf_within c.args.nodes.now.items c.args.leaf c.requires.tree c.requires.leaf in
+    omega (arith, half, within)
 
 pub returns-clause-leaves : goal.returns-clause-leaves
 returns-clause-leaves c =
-    let all : c.len-half.result ≡ length c.args.nodes.now.items = grind (arith, common_steps) in
-    let first = leaves_set c.args.nodes.now.items (c.len-half.result / 2) c.args.leaf c.args.time (ap (λ n. n / 2) all) in
-    c.carry.ensures.leaves ∙ c.carry-of_64.ensures.leaves ∙ c.carry-of_16.ensures.leaves ∙ c.carry-of_four.ensures.leaves ∙ first
-
-pub returns-then-half-eq64-clause-tree : goal.returns-then-half-eq64-clause-tree
-returns-then-half-eq64-clause-tree c =
-    let all : c.len-half.result ≡ length c.args.nodes.now.items = grind (arith, common_steps) in
-    let within = leaf_within c.args.nodes.now.items c.args.leaf c.requires.tree c.requires.leaf in
-    let past : (c.len-half.result / 2 + c.args.leaf) / 16 / 16 ≡ 0 = omega (arith, all, within, c.if-half-eq64.true) in
-    subst (λ (k : ℕ). IsTreeBut k c.carry-of_64.new.nodes.items) past c.carry-of_64.ensures.tree
-
-pub returns-clause-tree : goal.returns-clause-tree
-returns-clause-tree c =
-    let all : c.len-half.result ≡ length c.args.nodes.now.items = grind (arith, common_steps) in
-    let half = length c.args.nodes.now.items / 2 in
-    let within = leaf_within c.args.nodes.now.items c.args.leaf c.requires.tree c.requires.leaf in
-    let four : half ≡ 4 → ⊥ = λ e. c.if-half-eq4.false (omega (arith, all, e)) in
-    let sixteen : half ≡ 16 → ⊥ = λ e. c.if-half-eq16.false (omega (arith, all, e)) in
-    let of_64 : half ≡ 64 → ⊥ = λ e. c.if-half-eq64.false (omega (arith, all, e)) in
-    let wide = not_64 half c.requires.size (not_16 half c.requires.size (not_four half c.requires.size four) sixteen) of_64 in
-    let past : (c.len-half.result / 2 + c.args.leaf) / 64 / 16 ≡ 0 = omega (arith, all, within, wide) in
-    subst (λ (k : ℕ). IsTreeBut k c.carry.new.nodes.items) past c.carry.ensures.tree
+    let half = c.half_of-half.ensures ∙ ap (λ (ns : List ℕ). length ns / 2) c.deref.ensures.value in
+    c.climb_16.ensures.leaves ∙ c.carry-of_four.ensures.leaves ∙ leaves_set c.args.nodes.now.items c.half_of-half.result c.args.leaf c.args.time half

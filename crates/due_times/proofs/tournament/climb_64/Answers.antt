@@ -1,0 +1,24 @@
+use Rattle.std.proofs.Common.{◌/◌, ◌∙◌, arith}
+use Rattle.due_times.proofs.Carrying.{tree_above, tree_whole}
+use Rattle.due_times.proofs.Descending.{not_64}
+use Rattle.due_times.proofs.tournament.climb_64.Goals as goal
+
+pub returns-then-half-eq64-clause-tree : goal.returns-then-half-eq64-clause-tree
+returns-then-half-eq64-clause-tree c =
+    tree_whole c.carry-of_64.new.nodes.items c.args.at (omega (arith, c.requires.high, c.if-half-eq64.true)) c.carry-of_64.ensures.tree
+
+pub carry-requires-clause-tree : goal.carry-requires-clause-tree
+carry-requires-clause-tree c = tree_above c.carry-of_64.new.nodes.items c.args.at c.carry-of_64.ensures.tree
+
+pub carry-requires-clause-inner : goal.carry-requires-clause-inner
+carry-requires-clause-inner c =
+    let most = not_64 c.args.half c.requires.size c.requires.wide c.if-half-eq64.false in
+    omega (arith, most, c.requires.low)
+
+pub returns-clause-tree : goal.returns-clause-tree
+returns-clause-tree c =
+    let most = not_64 c.args.half c.requires.size c.requires.wide c.if-half-eq64.false in
+    tree_whole c.carry.new.nodes.items (c.args.at / 4) (omega (arith, most, c.requires.high)) c.carry.ensures.tree
+
+pub returns-clause-leaves : goal.returns-clause-leaves
+returns-clause-leaves c = c.carry.ensures.leaves ∙ c.carry-of_64.ensures.leaves
