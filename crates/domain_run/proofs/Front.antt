@@ -1,8 +1,9 @@
 -- The tasks before a place that stay where those behind it go.
-use Rattle.std.proofs.Common.{◌≡◌, ℕ, zero, suc, ◌<◌, ◌≤◌, true, Bool, cond, not, ◌≢◌, List, [], ◌∷◌, length, map, get_or, take, refl, sym, ap, ◌∙◌, subst, arith}
+use Rattle.std.proofs.Common.{◌≡◌, ℕ, zero, suc, ◌<◌, ◌≤◌, true, Bool, cond, not, ◌≢◌, List, [], ◌∷◌, ◌++◌, length, map, get_or, take, drop, refl, sym, ap, ◌∙◌, subst, arith}
 use Rattle.std.specs.Prelude.{AllPairs, filter}
+use Rattle.std.specs.List.{remove}
 use Rattle.std.proofs.lemmas.Bool.{ne_eqb}
-use Rattle.std.proofs.lemmas.List.{length-map, length-take, take-map, get_or-map}
+use Rattle.std.proofs.lemmas.List.{length-map, length-take, map-append, take-map, drop-map, get_or-map}
 use Rattle.domain_run.specs.declared.task.Task.{Task}
 use Rattle.domain_run.specs.Calls.{is_other}
 use Rattle.domain_run.specs.Parts.{is_listed}
@@ -50,9 +51,17 @@ others_long tasks number p numbered at =
     let within : p < length tasks = at.within in
     front_many (is_other number) tasks p (omega (arith, within)) (others_front tasks number p numbered at)
 
-pub others_known : (tasks : List Task) (number p : ℕ) → AllPairs (λ a b. a.number ≢ b.number) tasks → IsAt tasks number p → take p (map due_of tasks) ≡ map due_of (take p (filter (is_other number) tasks))
-others_known tasks number p numbered at = take-map due_of p tasks ∙ ap (map due_of) (sym (others_front tasks number p numbered at))
-
 -- where the number is not listed, all of them stay
 pub others_all : (tasks : List Task) (number : ℕ) → IsAbsent tasks number → filter (is_other number) tasks ≡ tasks
 others_all tasks number absent = filter_whole (is_other number) tasks (λ k d within. ap not (ne_eqb (get_or tasks k d).number number (absent k d within)))
+
+-- what is left of a list without one of its items
+pub remove_map : {X Y : Type 0} (f : X → Y) (xs : List X) (i : ℕ) → remove (map f xs) i ≡ map f (remove xs i)
+remove_map f xs i =
+    ap (λ ys. ys ++ drop (suc i) (map f xs)) (take-map f i xs) ∙ ap (λ ys. map f (take i xs) ++ ys) (drop-map f (suc i) xs)
+    ∙ sym (map-append f (take i xs) (drop (suc i) xs))
+
+pub remove_before : {X : Type 0} (xs : List X) (i : ℕ) → take i (remove xs i) ≡ take i xs
+remove_before xs zero = refl
+remove_before [] (suc i) = refl
+remove_before (x ∷ xs) (suc i) = ap (λ ys. x ∷ ys) (remove_before xs i)

@@ -2,6 +2,7 @@
 //! the tasks that are due.
 
 ghost use Rattle.std.specs.Prelude.{◌≡◌, ◌<◌, ◌≤◌, ◌-◌, ◌+◌, ◌*◌, ◌^◌, ◌∷◌, ◌++◌, [], length, min, false, take, replicate, slice_index_or, slice_set, IfOk};
+ghost use Rattle.std.specs.List.{remove};
 ghost use Rattle.due_times.specs.Timers as spec;
 
 pub use crate::tournament::NEVER;
@@ -122,6 +123,15 @@ impl Timers {
         while self.len() > count {
             self.pop();
         }
+    }
+
+    /// The task at a place goes off the list.
+    pub fn remove(&mut self, place: usize)
+        requires { place < length self.old }
+        ensures { self.new ≡ remove self.old place }
+    {
+        self.count -= 1;
+        self.tournament.remove(place);
     }
 
     /// Whether a task may be due at a time. Where it says no, none is.

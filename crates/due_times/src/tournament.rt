@@ -1,6 +1,7 @@
 //! A tournament of times: the first of them is known, where one changes at a time.
 
-ghost use Rattle.std.specs.Prelude.{ℕ, ◌≡◌, ◌<◌, ◌≤◌, ◌+◌, ◌*◌, ◌/◌, ◌^◌, ◌-◌, ◌++◌, length, slice_index_or, slice_set, replicate, IfOk, vec_len, vec_capacity};
+ghost use Rattle.std.specs.Prelude.{ℕ, ◌≡◌, ◌<◌, ◌≤◌, ◌+◌, ◌*◌, ◌/◌, ◌^◌, ◌-◌, ◌++◌, ◌∷◌, [], length, slice_index_or, slice_set, replicate, IfOk, vec_len, vec_capacity};
+ghost use Rattle.std.specs.List.{remove};
 ghost use Rattle.due_times.specs.Timers.{least, AreLater, IsSize};
 ghost use Rattle.due_times.specs.private.Tournament as spec;
 
@@ -209,6 +210,24 @@ fn widen(nodes: &mut Vec<u64>)
     build(nodes);
 }
 
+// The time of a leaf goes: those behind it come one place nearer, and the last never comes.
+fn remove_leaf(nodes: &mut Vec<u64>, leaf: usize)
+    requires tree { spec.IsTree nodes.old.items }
+    requires few { length nodes.old.items ≤ 512 }
+    requires leaf { leaf < length (spec.leaves nodes.old.items) }
+    requires room { vec_capacity nodes.old ≡ 512 }
+    ensures tree { spec.IsTree nodes.new.items }
+    ensures length { length nodes.new.items ≡ length nodes.old.items }
+    ensures leaves { spec.leaves nodes.new.items
+        ≡ remove (spec.leaves nodes.old.items) leaf ++ (2 ^ 64 - 1) ∷ [] }
+    ensures room { vec_capacity nodes.new ≡ vec_capacity nodes.old }
+{
+    let half = nodes.len() / 2;
+    nodes.remove(half + leaf);
+    nodes.push_reserved(NEVER);
+    build(nodes);
+}
+
 // The first leaf behind the highest node above this one, or itself, that has not come; up to there
 // no leaf has.
 fn behind(nodes: &[u64], from: usize, time: u64) -> usize
@@ -318,6 +337,14 @@ impl Tournament {
         ensures { self.new ≡ slice_set self.old place time }
     {
         set_leaf(&mut self.nodes, place, time);
+    }
+
+    /// The time at a place goes: those behind it come one place nearer, and the last never comes.
+    pub(crate) fn remove(&mut self, place: usize)
+        requires { place < length self.old }
+        ensures { self.new ≡ remove self.old place ++ (2 ^ 64 - 1) ∷ [] }
+    {
+        remove_leaf(&mut self.nodes, place);
     }
 
     /// The first of the times.

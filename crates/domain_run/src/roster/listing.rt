@@ -1,6 +1,7 @@
 //! A task comes onto the list; tasks that have left go off it.
 
-ghost use Rattle.std.specs.Prelude.{◌≡◌, ◌<◌, ◌≤◌, ◌^◌, ◌++◌, ◌∷◌, [], map, take, filter, false, All, length, vec_len, vec_capacity};
+ghost use Rattle.std.specs.List.{remove};
+ghost use Rattle.std.specs.Prelude.{◌≡◌, ◌<◌, ◌≤◌, ◌+◌, ◌^◌, ◌++◌, ◌∷◌, [], map, take, filter, false, All, length, vec_len, vec_capacity};
 ghost use Rattle.grub_rules.specs.Accounts.{AreAccounts};
 ghost use Rattle.domain_run.specs.Conditions.{is_ready};
 ghost use Rattle.domain_run.specs.Parts as parts_spec;
@@ -73,6 +74,23 @@ fn set_timers(timers: &mut Timers, tasks: &[Task], from: usize)
     }
 }
 
+// Behind at most so many tasks each time is set anew, which is quicker there than the whole.
+const FEW: usize = 16;
+
+// When each task of a list is due, where it has lost the one at a place.
+fn remove_timer(timers: &mut Timers, tasks: &[Task], place: usize)
+    requires one { length timers.old ≡ length tasks.now + 1 }
+    requires there { place ≤ length tasks.now }
+    requires known { remove timers.old place ≡ map timers_spec.due_of tasks.now }
+    ensures { timers.new ≡ map timers_spec.due_of tasks.now }
+{
+    if tasks.len() - place > FEW {
+        timers.remove(place);
+    } else {
+        set_timers(timers, tasks, place);
+    }
+}
+
 /// Tasks that have left go off the list. They are due at once, so where none is, it costs nothing
 /// but a look. Whether one may have gone.
 #[inline(always)]
@@ -128,6 +146,6 @@ pub(super) fn drop_number(
     };
     queue.accounts.part(&share_of(&tasks[place]));
     tasks.remove(place);
-    set_timers(&mut queue.timers, tasks, place);
+    remove_timer(&mut queue.timers, tasks, place);
     note_left(index, tasks, place);
 }

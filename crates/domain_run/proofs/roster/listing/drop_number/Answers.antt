@@ -1,5 +1,6 @@
 use Rattle.std.proofs.Common.{◌≡◌, ◌≤◌, ◌∷◌, ◌++◌, ◌+◌, [], take, drop, refl, sym, ap, ◌∙◌, length, map, subst, List, get_or}
 use Rattle.std.specs.Prelude.{filter}
+use Rattle.std.specs.List.{remove}
 use Rattle.grub_rules.specs.Accounts.{AreAccounts, Exchanges}
 use Rattle.grub_rules.proofs.CallerLemmas.{held_at, parted_at}
 use Rattle.domain_run.specs.declared.task.Task.{Task}
@@ -10,7 +11,7 @@ use Rattle.domain_run.specs.private.Index.{IsAt, IsAbsent}
 use Rattle.domain_run.specs.private.RunQueue.{IsCounted}
 use Rattle.domain_run.specs.private.Timers.{due_of}
 use Rattle.domain_run.proofs.Departing.{counted_others}
-use Rattle.domain_run.proofs.Front.{others_long, others_known, others_all}
+use Rattle.domain_run.proofs.Front.{others_long, others_all, remove_map}
 use Rattle.domain_run.proofs.Woken.{others_at}
 use Rattle.domain_run.proofs.roster.listing.drop_number.Goals as goal
 
@@ -37,20 +38,20 @@ returns-clause-counted c =
     let p = c.in-Some.place in
     let x = c.index.result.now in
     let at : IsAt tasks number p = subst (λ (ts : List Task). IsAt ts number p) c.deref.ensures.value c.in-Some.ensures.there in
-    let new : RunQueue = record { accounts = c.part.new.self; schedule = queue.schedule; timers = c.set_timers.new.timers } in
+    let new : RunQueue = record { accounts = c.part.new.self; schedule = queue.schedule; timers = c.remove_timer.new.timers } in
     let others : filter (is_other number) tasks ≡ take p tasks ++ drop (p + 1) tasks = others_at tasks p number c.requires.counted.roster.numbered at.within (λ d. sym (at.is d)) in
     let left : c.remove.new.self.items ≡ filter (is_other number) tasks = c.remove.ensures.by_index.2 ∙ sym others in
     let share : c.share_of.result ≡ share_of (get_or tasks p x) = c.share_of.ensures ∙ ap share_of c.index.ensures in
     let change : Exchanges queue.accounts new.accounts (share_of (get_or tasks p x) ∷ []) [] = subst (λ s. Exchanges queue.accounts new.accounts (s ∷ []) []) share c.part.ensures in
     let sums : AreAccounts new.accounts (shares (filter (is_other number) tasks)) = subst (λ (ts : List Task). AreAccounts new.accounts (shares ts)) (sym others) (parted_at share_of queue.accounts new.accounts tasks p x at.within change c.requires.counted.counts.sums) in
-    subst (IsCounted (length queue.accounts.all) new) (sym left) (counted_others (length queue.accounts.all) queue new number tasks c.part.ensures.cpus refl (c.set_timers.ensures ∙ ap (map due_of) (c.deref-2.ensures.value ∙ left)) sums c.requires.idle c.requires.counted)
+    subst (IsCounted (length queue.accounts.all) new) (sym left) (counted_others (length queue.accounts.all) queue new number tasks c.part.ensures.cpus refl (c.remove_timer.ensures ∙ ap (map due_of) (c.deref-2.ensures.value ∙ left)) sums c.requires.idle c.requires.counted)
 
 -- where no task has the number
 pub returns-in_default-clause-tasks : goal.returns-in_default-clause-tasks
 returns-in_default-clause-tasks c = sym (others_all c.args.tasks.now.items c.args.number (subst (λ (ts : List Task). IsAbsent ts c.args.number) c.deref.ensures.value c.in_default.ensures.absent))
 
-pub set_timers-requires-clause-there : goal.set_timers-requires-clause-there
-set_timers-requires-clause-there c =
+pub remove_timer-requires-clause-there : goal.remove_timer-requires-clause-there
+remove_timer-requires-clause-there c =
     let tasks = c.args.tasks.now.items in
     let number = c.args.number in
     let p = c.in-Some.place in
@@ -58,11 +59,8 @@ set_timers-requires-clause-there c =
     let left : c.remove.new.self.items ≡ filter (is_other number) tasks = c.remove.ensures.by_index.2 ∙ sym (others_at tasks p number c.requires.counted.roster.numbered at.within (λ d. sym (at.is d))) in
     subst (λ (ts : List Task). p ≤ length ts) (sym (c.deref-2.ensures.value ∙ left)) (others_long tasks number p c.requires.counted.roster.numbered at)
 
-pub set_timers-requires-clause-known : goal.set_timers-requires-clause-known
-set_timers-requires-clause-known c =
+pub remove_timer-requires-clause-known : goal.remove_timer-requires-clause-known
+remove_timer-requires-clause-known c =
     let tasks = c.args.tasks.now.items in
-    let number = c.args.number in
-    let p = c.in-Some.place in
-    let at : IsAt tasks number p = subst (λ (ts : List Task). IsAt ts number p) c.deref.ensures.value c.in-Some.ensures.there in
-    let left : c.remove.new.self.items ≡ filter (is_other number) tasks = c.remove.ensures.by_index.2 ∙ sym (others_at tasks p number c.requires.counted.roster.numbered at.within (λ d. sym (at.is d))) in
-    ap (take p) c.requires.counted.counts.due ∙ others_known tasks number p c.requires.counted.roster.numbered at ∙ ap (λ (ts : List Task). map due_of (take p ts)) (sym (c.deref-2.ensures.value ∙ left))
+    ap (λ due. remove due c.in-Some.place) c.requires.counted.counts.due ∙ remove_map due_of tasks c.in-Some.place
+    ∙ ap (map due_of) (sym (c.deref-2.ensures.value ∙ c.remove.ensures.items))
