@@ -14,23 +14,23 @@ pub returns-in_default-clause-domains : goal.returns-in_default-clause-domains
 returns-in_default-clause-domains c = ap (λ (w : WorldStep). w.domains) (sym (at_no_home c.args.ticket (regraded c.args.ticket c.args.bw c.args.expected) c.args.domains.now.items c.as_slice.result.now c.as_slice.ensures.value c.in_default.ensures.home))
 
 pub returns-clause-outcome : goal.returns-clause-outcome
-returns-clause-outcome c = 
+returns-clause-outcome c =
     outcome_told c.regrade.result c.args.domains.now.items c.in-Some.k (regraded c.args.ticket c.args.bw c.args.expected c.index_mut-d.result.now) (at_home c.args.domains.now.items c.args.ticket (regraded c.args.ticket c.args.bw c.args.expected))
     (at_home_is c.args.ticket (regraded c.args.ticket c.args.bw c.args.expected) c.args.domains.now.items c.as_slice.result.now c.in-Some.k c.index_mut-d.result.now c.as_slice.ensures.value c.in-Some.ensures.home c.in-Some.ensures.within c.index_mut-d.ensures.value)
     c.regrade.ensures.outcome
 
 pub returns-clause-domains : goal.returns-clause-domains
-returns-clause-domains c = 
+returns-clause-domains c =
     domains_told c.regrade.result c.args.domains.now.items c.in-Some.k c.regrade.new.self (regraded c.args.ticket c.args.bw c.args.expected c.index_mut-d.result.now) (at_home c.args.domains.now.items c.args.ticket (regraded c.args.ticket c.args.bw c.args.expected))
     (at_home_is c.args.ticket (regraded c.args.ticket c.args.bw c.args.expected) c.args.domains.now.items c.as_slice.result.now c.in-Some.k c.index_mut-d.result.now c.as_slice.ensures.value c.in-Some.ensures.home c.in-Some.ensures.within c.index_mut-d.ensures.value)
     c.regrade.ensures.domain
 
 pub returns-clause-err : goal.returns-clause-err
-returns-clause-err c = 
+returns-clause-err c =
     kept_on_err c.regrade.result c.args.domains.now.items c.in-Some.k c.index_mut-d.result.now c.regrade.new.self c.index_mut-d.ensures.value c.regrade.ensures.err
 
 pub returns-clause-err_done : goal.returns-clause-err_done
-returns-clause-err_done c = 
+returns-clause-err_done c =
     would_do c.regrade.result Done c.args.domains.now.items c.in-Some.k (regraded c.args.ticket c.args.bw c.args.expected c.index_mut-d.result.now) (at_home c.args.domains.now.items c.args.ticket (regraded c.args.ticket c.args.bw c.args.expected))
     (at_home_is c.args.ticket (regraded c.args.ticket c.args.bw c.args.expected) c.args.domains.now.items c.as_slice.result.now c.in-Some.k c.index_mut-d.result.now c.as_slice.ensures.value c.in-Some.ensures.home c.in-Some.ensures.within c.index_mut-d.ensures.value)
     c.regrade.ensures.err_only
