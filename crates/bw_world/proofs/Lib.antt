@@ -4,3 +4,4 @@ pub mod Mapped
 pub mod DomainLaw
 pub mod Moved
 pub mod WorldLaw
+pub mod Stepping
