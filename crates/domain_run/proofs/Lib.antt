@@ -1,5 +1,7 @@
 pub mod Unrolling
 pub mod Rounds
+pub mod StepPlaces
+pub mod Stepping
 pub mod Served
 pub mod Marks
 pub mod Opening

@@ -11,3 +11,4 @@ pub mod Tournament
 pub mod Seats
 pub mod Waiting
 pub mod Choosing
+pub mod Steps

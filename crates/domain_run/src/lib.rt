@@ -27,6 +27,7 @@ mod script;
 mod seats;
 mod standing;
 mod state;
+mod steps;
 mod sweep;
 mod switch;
 mod task;
