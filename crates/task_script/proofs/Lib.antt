@@ -1,2 +1,4 @@
 pub mod Unrolling
 pub mod Rounds
+pub mod StepPlaces
+pub mod Stepping

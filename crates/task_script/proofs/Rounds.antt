@@ -10,6 +10,8 @@ use Rattle.task_script.specs.declared.progress.Progress.{Progress}
 use Rattle.task_script.specs.script.ScriptView.{PhaseView, ScriptView, IsPhase, IsScript, IsPlace, IsCursor, script_of, phase_len, round_len}
 use Rattle.task_script.specs.script.Unrolled.{round_of, event_at}
 use Rattle.task_script.specs.script.Segments.{first_place, kept_cursor}
+use Rattle.task_script.specs.private.Steps.{first_of}
+use Rattle.task_script.proofs.StepPlaces.{next_first}
 use Rattle.task_script.specs.private.Progress.{events_behind, place_of, is_over, next_round, IsInPhase, IsProgress, IsLastOfLap, IsBehind}
 use Rattle.task_script.proofs.Unrolling.{event_in, event_in_is, event_ends, event_by, event_by_is, some_round, place_at_first, behind_within, kept_itself}
 
@@ -185,7 +187,7 @@ short_place s place h within = go s.rounds h.rounds within where
 keeps : (s : ScriptView) (p : Progress) → IsScript s → IsPlace s (place_of s p) → (reference : ℕ) → IsCursor (record { script = s; place = place_of s p; reference = reference })
 keeps s p h within reference = record { within = within; short = short_place s (place_of s p) h within }
 
-some_phase_at : (s : ScriptView) (i : ℕ) (q : PhaseView) → IsScript s → slice_get s.phases i ≡ Some q → IsPhase q
+pub some_phase_at : (s : ScriptView) (i : ℕ) (q : PhaseView) → IsScript s → slice_get s.phases i ≡ Some q → IsPhase q
 some_phase_at s i q h at = subst IsPhase (get_or_from_slice_get s.phases i q q at) (h.phases i q (slice_get_within s.phases i q at))
 
 -- a cursor stands as it is kept
@@ -203,12 +205,13 @@ laps_left s p q h stands at =
     let is = some_phase_at s p.phase q h at in
     omega (arith, in_q.lap, is.most)
 
-pub begins : (s : ScriptView) → IsScript s → IsProgress s (record { round = 0; phase = 0; lap = 0; event = 0 }) × (place_of s (record { round = 0; phase = 0; lap = 0; event = 0 }) ≡ 0)
+pub begins : (s : ScriptView) → IsScript s → IsProgress s (record { round = 0; phase = 0; first = 0; lap = 0; event = 0 }) × (place_of s (record { round = 0; phase = 0; first = 0; lap = 0; event = 0 }) ≡ 0)
 begins s h =
-    let first : Progress = record { round = 0; phase = 0; lap = 0; event = 0 } in
+    let first : Progress = record { round = 0; phase = 0; first = 0; lap = 0; event = 0 } in
     let none : 0 * round_len s + events_behind s.phases 0 0 0 ≡ 0 = omega (arith, first_event s.phases) in (
       record {
         phase = h.some_phases;
+        first = refl;
         there = λ q at. let p = some_phase_at s 0 q h at in record { lap = p.some; event = p.some_events };
         kept = keeps s first h (subst (IsPlace s) (sym none) (place_at_first s h));
       },
@@ -231,9 +234,9 @@ rounds_left s p h more = go s.rounds h.rounds (none_over s p) where
 -- BEHIND AN EVENT
 
 -- in the same round
-within_round : (s : ScriptView) (p after : Progress) (q : PhaseView) → IsScript s → IsProgress s p → IsSome (event_at s (place_of s p)) → after.round ≡ p.round → slice_get s.phases after.phase ≡ Some q → IsInPhase q after
+within_round : (s : ScriptView) (p after : Progress) (q : PhaseView) → IsScript s → IsProgress s p → IsSome (event_at s (place_of s p)) → after.round ≡ p.round → slice_get s.phases after.phase ≡ Some q → IsInPhase q after → after.first ≡ first_of s.phases after.phase
     → events_behind s.phases after.phase after.lap after.event ≡ events_behind s.phases p.phase p.lap p.event + 1 → IsBehind s p after
-within_round s p after q h stands more same at in_q one =
+within_round s p after q h stands more same at in_q first one =
     let R = round_len s in
     let x = events_behind s.phases p.phase p.lap p.event in
     let less : x + 1 < R = subst (λ k. k < R) one (in_round s.phases after.phase after.lap after.event q at in_q.lap in_q.event) in
@@ -241,6 +244,7 @@ within_round s p after q h stands more same at in_q one =
     record {
       stands = record {
         phase = slice_get_within s.phases after.phase q at;
+        first = first;
         there = λ r is. subst (λ (u : PhaseView). IsInPhase u after) (same_Some q r (sym at ∙ is)) in_q;
         kept = keeps s after h (subst (IsPlace s) (sym place) (kept_place s (place_of s p) h more));
       };
@@ -249,15 +253,15 @@ within_round s p after q h stands more same at in_q one =
 
 pub behind_event : (s : ScriptView) (p : Progress) (q : PhaseView) → IsScript s → IsProgress s p → IsSome (event_at s (place_of s p)) → slice_get s.phases p.phase ≡ Some q → p.event + 1 < length q.events → IsBehind s p (record p { event = p.event + 1 })
 behind_event s p q h stands more at further =
-    within_round s p (record p { event = p.event + 1 }) q h stands more refl at (record { lap = (stands.there q at).lap; event = further }) (next_event s.phases p.phase p.lap p.event stands.phase)
+    within_round s p (record p { event = p.event + 1 }) q h stands more refl at (record { lap = (stands.there q at).lap; event = further }) stands.first (next_event s.phases p.phase p.lap p.event stands.phase)
 
 pub behind_lap : (s : ScriptView) (p : Progress) (q : PhaseView) → IsScript s → IsProgress s p → IsSome (event_at s (place_of s p)) → slice_get s.phases p.phase ≡ Some q → length q.events ≤ p.event + 1 → p.lap + 1 < q.count → IsBehind s p (record p { lap = p.lap + 1; event = 0 })
 behind_lap s p q h stands more at end further =
     let in_q = stands.there q at in
     let last : p.event + 1 ≡ length q.events = omega (arith, in_q.event, end) in
-    within_round s p (record p { lap = p.lap + 1; event = 0 }) q h stands more refl at (record { lap = further; event = (some_phase_at s p.phase q h at).some_events }) (next_lap s.phases p.phase p.lap p.event q at last)
+    within_round s p (record p { lap = p.lap + 1; event = 0 }) q h stands more refl at (record { lap = further; event = (some_phase_at s p.phase q h at).some_events }) stands.first (next_lap s.phases p.phase p.lap p.event q at last)
 
-pub behind_phase : (s : ScriptView) (p : Progress) (q : PhaseView) → IsScript s → IsProgress s p → IsSome (event_at s (place_of s p)) → slice_get s.phases p.phase ≡ Some q → length q.events ≤ p.event + 1 → q.count ≤ p.lap + 1 → p.phase + 1 < length s.phases → IsBehind s p (record p { phase = p.phase + 1; lap = 0; event = 0 })
+pub behind_phase : (s : ScriptView) (p : Progress) (q : PhaseView) → IsScript s → IsProgress s p → IsSome (event_at s (place_of s p)) → slice_get s.phases p.phase ≡ Some q → length q.events ≤ p.event + 1 → q.count ≤ p.lap + 1 → p.phase + 1 < length s.phases → IsBehind s p (record p { phase = p.phase + 1; first = p.first + (p.event + 1); lap = 0; event = 0 })
 behind_phase s p q h stands more at end laps further =
     let in_q = stands.there q at in
     let last : p.event + 1 ≡ length q.events = omega (arith, in_q.event, end) in
@@ -266,14 +270,14 @@ behind_phase s p q h stands more at end laps further =
     let there : slice_get s.phases (p.phase + 1) ≡ Some r = slice_get-get_or s.phases (p.phase + 1) q further in
     let is = some_phase_at s (p.phase + 1) r h there in
     let next : p.phase + 1 ≡ suc p.phase = omega arith in
-    within_round s p (record p { phase = p.phase + 1; lap = 0; event = 0 }) r h stands more refl there (record { lap = is.some; event = is.some_events })
+    within_round s p (record p { phase = p.phase + 1; first = p.first + (p.event + 1); lap = 0; event = 0 }) r h stands more refl there (record { lap = is.some; event = is.some_events }) (ap (λ k. k + (p.event + 1)) stands.first ∙ next_first s.phases p.phase q at p.event last)
     (ap (λ k. events_behind s.phases k 0 0) next ∙ next_phase s.phases p.phase p.lap p.event q at last all)
 
-pub behind_round : (s : ScriptView) (p : Progress) (q : PhaseView) → IsScript s → IsProgress s p → IsSome (event_at s (place_of s p)) → slice_get s.phases p.phase ≡ Some q → length q.events ≤ p.event + 1 → q.count ≤ p.lap + 1 → length s.phases ≤ p.phase + 1 → IsBehind s p (record { round = next_round s.rounds p.round; phase = 0; lap = 0; event = 0 })
+pub behind_round : (s : ScriptView) (p : Progress) (q : PhaseView) → IsScript s → IsProgress s p → IsSome (event_at s (place_of s p)) → slice_get s.phases p.phase ≡ Some q → length q.events ≤ p.event + 1 → q.count ≤ p.lap + 1 → length s.phases ≤ p.phase + 1 → IsBehind s p (record { round = next_round s.rounds p.round; phase = 0; first = 0; lap = 0; event = 0 })
 behind_round s p q h stands more at end laps phases =
     let R = round_len s in
     let x = events_behind s.phases p.phase p.lap p.event in
-    let after : Progress = record { round = next_round s.rounds p.round; phase = 0; lap = 0; event = 0 } in
+    let after : Progress = record { round = next_round s.rounds p.round; phase = 0; first = 0; lap = 0; event = 0 } in
     let in_q = stands.there q at in
     let last : p.event + 1 ≡ length q.events = omega (arith, in_q.event, end) in
     let all : p.lap + 1 ≡ q.count = omega (arith, in_q.lap, laps) in
@@ -283,6 +287,7 @@ behind_round s p q h stands more at end laps phases =
     record {
       stands = record {
         phase = h.some_phases;
+        first = refl;
         there = λ r is. let one = some_phase_at s 0 r h is in record { lap = one.some; event = one.some_events };
         kept = keeps s after h (subst (IsPlace s) (sym place) (kept_place s (place_of s p) h more));
       };
@@ -298,11 +303,11 @@ last_of_lap s p q at end = record {
 }
 
 -- the phase where the counters stand
-record Here (s : ScriptView) (p : Progress) : Type 0 where
-  phase : PhaseView
-  at : slice_get s.phases p.phase ≡ Some phase
+pub record Here (s : ScriptView) (p : Progress) : Type 0 where
+  pub phase : PhaseView
+  pub at : slice_get s.phases p.phase ≡ Some phase
 
-here : (s : ScriptView) (p : Progress) → IsProgress s p → Here s p
+pub here : (s : ScriptView) (p : Progress) → IsProgress s p → Here s p
 here s p stands = let none : PhaseView = record { count = 0; events = [] } in record { phase = get_or s.phases p.phase none; at = slice_get-get_or s.phases p.phase none stands.phase }
 
 pub lap_fits : (s : ScriptView) (p : Progress) → IsScript s → IsProgress s p → Fits w64 (p.lap + 1)
@@ -314,13 +319,13 @@ lap_behind s p laps h stands more last further =
     let all : q.phase.count ≡ laps = last.count q.phase q.at in
     behind_lap s p q.phase h stands more q.at (last.last q.phase q.at) (omega (arith, further, all))
 
-pub phase_behind : (s : ScriptView) (p : Progress) (laps : ℕ) → IsScript s → IsProgress s p → IsSome (event_at s (place_of s p)) → IsLastOfLap s p laps → laps ≤ p.lap + 1 → p.phase + 1 < length s.phases → IsBehind s p (record p { phase = p.phase + 1; lap = 0; event = 0 })
+pub phase_behind : (s : ScriptView) (p : Progress) (laps : ℕ) → IsScript s → IsProgress s p → IsSome (event_at s (place_of s p)) → IsLastOfLap s p laps → laps ≤ p.lap + 1 → p.phase + 1 < length s.phases → IsBehind s p (record p { phase = p.phase + 1; first = p.first + (p.event + 1); lap = 0; event = 0 })
 phase_behind s p laps h stands more last done further =
     let q = here s p stands in
     let all : q.phase.count ≡ laps = last.count q.phase q.at in
     behind_phase s p q.phase h stands more q.at (last.last q.phase q.at) (omega (arith, done, all)) further
 
-pub round_behind : (s : ScriptView) (p : Progress) (laps : ℕ) → IsScript s → IsProgress s p → IsSome (event_at s (place_of s p)) → IsLastOfLap s p laps → laps ≤ p.lap + 1 → length s.phases ≤ p.phase + 1 → IsBehind s p (record { round = next_round s.rounds p.round; phase = 0; lap = 0; event = 0 })
+pub round_behind : (s : ScriptView) (p : Progress) (laps : ℕ) → IsScript s → IsProgress s p → IsSome (event_at s (place_of s p)) → IsLastOfLap s p laps → laps ≤ p.lap + 1 → length s.phases ≤ p.phase + 1 → IsBehind s p (record { round = next_round s.rounds p.round; phase = 0; first = 0; lap = 0; event = 0 })
 round_behind s p laps h stands more last done end =
     let q = here s p stands in
     let all : q.phase.count ≡ laps = last.count q.phase q.at in

@@ -4,13 +4,15 @@
 //! Meets the definitions "Name" (`specs/NameView.antt`) and "Script" (`specs/script/`). To the
 //! crates above it promises that a [`Name`] and a [`Script`] are within their limits, and that a
 //! [`Cursor`], asked at any times, gives what the script gives written out, event by event. Takes
-//! no memory.
+//! memory only to read a script of more than one phase faster, and does without where that is
+//! refused.
 #![tactic(auto)]
 
 mod cursor;
 mod name;
 mod progress;
 mod script;
+mod steps;
 
 pub use cursor::Cursor;
 pub use name::Name;

@@ -1,12 +1,15 @@
 //! How far a cursor is in its script, in counters: to find its event, and to go behind it, takes no
-//! division and no walk over the phases.
+//! division and no walk over the phases. Both read the steps of the script, or where there are none
+//! the script itself.
 
 ghost use Rattle.std.specs.Prelude.{◌≡◌, ◌<◌, IsSome, IfSome, length, slice_get, Some};
 ghost use Rattle.task_script.specs.script.ScriptView.{IsEvent, IsPhase, IsScript};
 ghost use Rattle.task_script.specs.script.Unrolled.{event_at};
 ghost use Rattle.task_script.specs.private.Progress as spec;
+ghost use Rattle.task_script.specs.private.Steps.{IsSteps};
 
 use crate::script::{Event, Phase, Script};
+use crate::steps::{Step, event_of_step, laps_of, laps_of_step};
 
 /// What is behind a cursor.
 #[derive(Clone, Copy, Debug)]
@@ -15,6 +18,8 @@ pub(crate) struct Progress {
     round: u64,
     /// Phases of this round.
     phase: usize,
+    /// Events of a lap each of those phases.
+    first: usize,
     /// Laps: so many times the events of this phase.
     lap: u64,
     /// Events of this lap.
@@ -32,6 +37,7 @@ pub(crate) fn begin(script: &Script) -> Progress
     Progress {
         round: 0,
         phase: 0,
+        first: 0,
         lap: 0,
         event: 0,
     }
@@ -55,18 +61,37 @@ fn event_in(phase: &Phase, index: usize) -> Event
     phase.events[index]
 }
 
+// The event where a cursor stands, of a round that is not over.
+#[inline(always)]
+fn event_here(script: &Script, steps: &[Step], progress: Progress) -> Event
+    requires stands { spec.IsProgress script.now progress }
+    requires steps { IsSteps script.now steps.now }
+    ensures value { spec.IsEventThere script.now progress result }
+    ensures event { IsEvent result }
+{
+    let phases = script.phases();
+    if steps.is_empty() {
+        event_in(&phases[progress.phase], progress.event)
+    } else {
+        event_of_step(&steps[progress.first + progress.event])
+    }
+}
+
 /// The event where a cursor stands; none behind the last round.
-pub(crate) fn event_of(script: &Script, progress: Progress) -> Option<Event>
-    requires { spec.IsProgress script.now progress }
+#[inline(always)]
+pub(crate) fn event_of(script: &Script, steps: &[Step], progress: Progress) -> Option<Event>
+    requires stands { spec.IsProgress script.now progress }
+    requires steps { IsSteps script.now steps.now }
     ensures value { result ≡ event_at script.now (spec.place_of script.now progress) }
     ensures within { IsScript script.now }
     ensures event { IfSome result IsEvent }
 {
-    let phases = script.phases();
+    // For the prover alone: a look into it brings what its type keeps.
+    let _ = script.phases();
     if is_over(script.rounds(), progress.round) {
         return None;
     }
-    Some(event_in(&phases[progress.phase], progress.event))
+    Some(event_here(script, steps, progress))
 }
 
 fn next_round(rounds: Option<u64>, round: u64) -> u64
@@ -88,6 +113,7 @@ fn next_lap(script: &Script, progress: &mut Progress, laps: u64)
     ensures { spec.IsBehind script.now progress.old progress.new }
 {
     let phases = script.phases();
+    let events = progress.event + 1;
     progress.event = 0;
     progress.lap += 1;
     if progress.lap < laps {
@@ -96,25 +122,43 @@ fn next_lap(script: &Script, progress: &mut Progress, laps: u64)
     progress.lap = 0;
     progress.phase += 1;
     if progress.phase < phases.len() {
+        progress.first += events;
         return;
     }
     progress.phase = 0;
+    progress.first = 0;
     progress.round = next_round(script.rounds(), progress.round);
+}
+
+// How many laps its phase has, where a cursor stands at the last event of a lap; else 0.
+#[inline(always)]
+fn laps_here(script: &Script, steps: &[Step], progress: Progress) -> u64
+    requires stands { spec.IsProgress script.now progress }
+    requires steps { IsSteps script.now steps.now }
+    ensures { spec.AreLapsThere script.now progress result }
+{
+    let phases = script.phases();
+    if steps.is_empty() {
+        laps_of(&phases[progress.phase], progress.event)
+    } else {
+        laps_of_step(&steps[progress.first + progress.event])
+    }
 }
 
 /// Goes behind the event where a cursor stands.
 #[inline(always)]
-pub(crate) fn advance(script: &Script, progress: &mut Progress)
+pub(crate) fn advance(script: &Script, steps: &[Step], progress: &mut Progress)
     requires stands { spec.IsProgress script.now progress.old }
+    requires steps { IsSteps script.now steps.now }
     requires more { IsSome (event_at script.now (spec.place_of script.now progress.old)) }
     ensures { spec.IsBehind script.now progress.old progress.new }
 {
-    let phases = script.phases();
-    let phase = &phases[progress.phase];
-    let event = progress.event + 1;
-    if event < phase.events.len() {
-        progress.event = event;
+    // For the prover alone: a look into it brings what its type keeps.
+    let _ = script.phases();
+    let laps = laps_here(script, steps, *progress);
+    if laps == 0 {
+        progress.event += 1;
         return;
     }
-    next_lap(script, progress, phase.count);
+    next_lap(script, progress, laps);
 }

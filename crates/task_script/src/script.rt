@@ -4,6 +4,7 @@ ghost use Rattle.std.specs.Prelude.{◌≡◌, ◌↔◌, IsTrue, IsOk, MatchRes
 ghost use Rattle.task_script.specs.script.ScriptView.{IsEvent, IsPhase, IsScript, script_of};
 ghost use Rattle.task_script.specs.script.Segments.{IsLoops, rounds_of, loops_of};
 
+use std::alloc::Global;
 use std::marker::Model;
 
 /// What a task does next in its script.
@@ -145,6 +146,11 @@ impl Script {
         ensures { result ≡ self.now.rounds }
     {
         self.rounds
+    }
+
+    /// Where the phases have their memory from.
+    pub(crate) fn allocator(&self) -> Global {
+        *self.phases.allocator()
     }
 
     /// The phases of a round, in order.

@@ -4,6 +4,7 @@ use Rattle.task_script.specs.declared.progress.Progress.{Progress}
 use Rattle.task_script.specs.declared.script.Event.{Event}
 use Rattle.task_script.specs.script.ScriptView.{PhaseView, ScriptView, CursorView, IsScript, IsEvent, IsCursor, phase_len, round_len}
 use Rattle.task_script.specs.script.Unrolled.{event_at}
+use Rattle.task_script.specs.private.Steps.{StepView, IsSteps, laps_at, first_of}
 use Rattle.task_script.specs.script.Segments.{first_place, kept_cursor, moved, is_late}
 
 -- how many events of a round are behind: those of so many phases, and in the next phase those of so
@@ -35,15 +36,27 @@ pub record IsInPhase (q : PhaseView) (p : Progress) : Type 0 where
 -- what the counters of a cursor keep
 pub record IsProgress (s : ScriptView) (p : Progress) : Type 0 where
   pub phase : p.phase < length s.phases
+  pub first : p.first ≡ first_of s.phases p.phase
   pub there : (q : PhaseView) → slice_get s.phases p.phase ≡ Some q → IsInPhase q p
   pub kept : (reference : ℕ) → IsCursor (record { script = s; place = place_of s p; reference = reference })
 
--- what a cursor keeps: its counters, and the event to which they come
-pub record Comes (s : ScriptView) (p : Progress) (coming : Option Event) : Type 0 where
+-- what a cursor keeps: its counters, the event to which they come, and the steps
+pub record Comes (s : ScriptView) (p : Progress) (coming : Option Event) (laid : List StepView) : Type 0 where
   pub script : IsScript s
   pub stands : IsProgress s p
   pub is : coming ≡ event_at s (place_of s p)
   pub event : IfSome coming IsEvent
+  pub steps : IsSteps s laid
+
+-- the event of the script to which the counters come
+abbrev pub IsEventThere : ScriptView → Progress → Event → Type 0
+IsEventThere s p event =
+    (q : PhaseView) → slice_get s.phases p.phase ≡ Some q → slice_get q.events p.event ≡ Some event
+
+-- the laps of the phase, at the last of its events, else 0
+abbrev pub AreLapsThere : ScriptView → Progress → ℕ → Type 0
+AreLapsThere s p laps =
+    (q : PhaseView) → slice_get s.phases p.phase ≡ Some q → laps ≡ laps_at q p.event
 
 -- the event is the last of its lap, in a phase of so many laps
 pub record IsLastOfLap (s : ScriptView) (p : Progress) (laps : ℕ) : Type 0 where

@@ -1,6 +1,7 @@
 use Rattle.std.proofs.Common.{◌+◌, ◌<◌, ◌≤◌, length, arith}
 use Rattle.std.proofs.lemmas.Grind.{common_steps}
 use Rattle.task_script.proofs.Rounds.{lap_fits, lap_behind, phase_behind, round_behind, rounds_left}
+use Rattle.task_script.proofs.Stepping.{index_small}
 use Rattle.task_script.proofs.progress.next_lap.Goals as goal
 
 pub overflow_add-progress : goal.overflow_add-progress
@@ -31,3 +32,13 @@ returns c =
     let done : c.args.laps ≤ p.lap + 1 = grind (arith, common_steps) in
     let end : length s.phases ≤ p.phase + 1 = grind (arith, common_steps) in
     rw (c.next_round-progress.ensures, c.rounds.ensures) (round_behind s p c.args.laps c.phases-phases.ensures.within c.requires.stands c.requires.more c.requires.last done end)
+
+pub overflow_add-events : goal.overflow_add-events
+overflow_add-events c =
+    let small = index_small c.args.script.now c.args.progress.now c.phases-phases.ensures.within c.requires.stands in
+    omega (arith, small)
+
+pub overflow_add-progress-then-progress-phases : goal.overflow_add-progress-then-progress-phases
+overflow_add-progress-then-progress-phases c =
+    let small = index_small c.args.script.now c.args.progress.now c.phases-phases.ensures.within c.requires.stands in
+    omega (arith, small)
