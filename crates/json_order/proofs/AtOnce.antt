@@ -3,17 +3,17 @@ use Rattle.std.specs.Prelude.{option_and_then, ◌==◌, nat_le, encode_utf8, en
 use Rattle.std.specs.Str.{IsUtf8, IsAscii, IsCharBoundary}
 use Rattle.std.specs.Char.{is_ascii_digit}
 use Rattle.std.specs.List.{All, AllByRecursion}
-use Rattle.std.proofs.Common.{ℕ, suc, ◌+◌, ◌<◌, ◌≤◌, ◌≡◌, inl, inr, Bool, true, false, not, ◌&&◌, List, [], ◌∷◌, ◌++◌, length, take, drop, refl, sym, ap, ◌∙◌, subst, arith, Option, Some, None, Result, Ok, append-nil, append_assoc}
+use Rattle.std.proofs.Common.{ℕ, suc, ◌+◌, ◌<◌, ◌≤◌, ◌≡◌, inl, inr, Bool, true, false, not, ◌&&◌, List, [], ◌∷◌, ◌++◌, length, take, drop, take-add, refl, sym, ap, ◌∙◌, subst, arith, Option, Some, None, Result, Ok, append-nil, append_assoc}
 use Rattle.std.proofs.lemmas.Bool.{cases_lt, eq-eqb}
 use Rattle.std.proofs.lemmas.Bool.Decides.{nat_tests}
 use Rattle.std.proofs.lemmas.Str.{encode_ascii, encodes-append, encodes-IsAscii, IsUtf8-take, IsUtf8-from_ascii, IsCharBoundary-from_take}
 use Rattle.std.proofs.lemmas.Str.Ascii.{IsAscii-from_all}
-use Rattle.std.proofs.lemmas.List.{take-append-drop, take-take, drop-take}
+use Rattle.std.proofs.lemmas.List.{take-append-drop}
 use Rattle.std.proofs.lemmas.List.Elements.{recursion_from_All, All-from_recursion}
 use Rattle.json_order.specs.Json.{Json}
 use Rattle.json_order.specs.Grammar.{is_plain}
 use Rattle.json_order.specs.Fault.{strict}
-use Rattle.json_order.specs.private.Machine.{Entries, Place, Frame, State, state, run_on, run, IsFine, in_string, in_key, in_number, in_word, quote_step, going, part_step}
+use Rattle.json_order.specs.private.Machine.{Entries, Place, Frame, State, state, run_on, run, in_string, in_key, in_number, in_word, quote_step, going, part_step}
 use Rattle.json_order.specs.private.AtOnce.{MovesPlain, Takes, TakesQuoted, parts_after, is_in_digits}
 use Rattle.json_order.specs.declared.fault.JsonKind.{JsonKind}
 use Rattle.json_order.specs.declared.place.Escape.{Escape}
@@ -24,7 +24,6 @@ use Rattle.json_order.specs.declared.word.Word.{Word}
 use Rattle.json_order.specs.declared.word.Word.TheVariants.{Null, True, False}
 use Rattle.json_order.specs.private.Places.{letters_from}
 use Rattle.json_order.proofs.Numbers.{IsInside, Goes, part_goes}
-use Rattle.json_order.proofs.Strings.{FineQuote, fine_quote}
 
 -- PLAIN CHARACTERS
 
@@ -93,12 +92,6 @@ takes_key es old new before after m = (m.0, m.1, λ fs. plain_key es m.0 old fs 
 pub takes_plain : (old new before after : List ℕ) → MovesPlain old new before after → TakesQuoted old Outside new Outside before after
 takes_plain old new before after m = (takes_string old new before after m, λ es. takes_key es old new before after m)
 
-takes_nothing : (p : Place) (before : List ℕ) → Takes p p before before
-takes_nothing p before = ([], refl, λ fs. refl)
-
-pub quoted_nothing : (text : List ℕ) (e : Escape) (before : List ℕ) → TakesQuoted text e text e before before
-quoted_nothing text e before = (takes_nothing (in_string text e) before, λ es. takes_nothing (in_key es text e) before)
-
 pub run_append : (o : Result State JsonKind) (xs ys : List ℕ) → run strict o (xs ++ ys) ≡ run strict (run strict o xs) ys
 run_append o [] ys = refl
 run_append o (x ∷ xs) ys = run_append (run_on strict o x) xs ys
@@ -115,15 +108,6 @@ quoted_more a b d e f g before mid after t u = (
   takes_more (in_string a e) (in_string b f) (in_string d g) before mid after t.0 u.0,
   λ es. takes_more (in_key es a e) (in_key es b f) (in_key es d g) before mid after (t.1 es) (u.1 es),
 )
-
--- one character
-pub quoted_one : (old new : List ℕ) (e f : Escape) (c : ℕ) (before after : List ℕ) → quote_step old e c ≡ Some (going new f) → before ≡ encode_utf8 c ++ after → TakesQuoted old e new f before after
-quoted_one old new e f c before after h next =
-    let here = next ∙ ap (λ x. x ++ after) (sym (append-nil (encode_utf8 c))) in
-    ((c ∷ [], here, λ fs. rw h refl), λ es. (c ∷ [], here, λ fs. rw h refl))
-
-pub fine_going : (old new : List ℕ) (e f : Escape) (c : ℕ) → IsFine e → quote_step old e c ≡ Some (going new f) → IsFine f
-fine_going old new e f c h s = subst FineQuote s (fine_quote old e c h)
 
 -- NUMBERS
 
@@ -161,16 +145,10 @@ digits_stay : (cs : List ℕ) (q : Part) → is_in_digits q ≡ true → AllByRe
 digits_stay [] q h d = refl
 digits_stay (c ∷ cs) q h d = ap (λ o. option_and_then (λ r. parts_after r cs) o) (digit_stays q c h d.0) ∙ digits_stay cs q h d.1
 
-take_sum : (n m : ℕ) (bytes : List ℕ) → take (n + m) bytes ≡ take n bytes ++ take m (drop n bytes)
-take_sum n m bytes =
-    sym (take-append-drop n (take (n + m) bytes))
-    ∙ ap (λ x. x ++ drop n (take (n + m) bytes)) (take-take n (n + m) bytes (omega arith))
-    ∙ ap (λ x. take n bytes ++ x) (drop-take n m bytes)
-
 -- digits behind a number that goes on with them
 pub parts_digits : (bytes : List ℕ) (n m : ℕ) (p q : Part) → parts_after p (take n bytes) ≡ Some q → is_in_digits q ≡ true → All (λ c. is_ascii_digit c ≡ true) (take m (drop n bytes)) → parts_after p (take (n + m) bytes) ≡ Some q
 parts_digits bytes n m p q h d all =
-    ap (parts_after p) (take_sum n m bytes)
+    ap (parts_after p) (take-add n m bytes)
     ∙ parts_append (take n bytes) (take m (drop n bytes)) p q q h (digits_stay (take m (drop n bytes)) q d (recursion_from_All (λ c. is_ascii_digit c ≡ true) (take m (drop n bytes)) all))
 
 pub parts_more : (cs : List ℕ) (c : ℕ) (p q r : Part) → parts_after p cs ≡ Some q → part_step q c ≡ Some r → parts_after p (cs ++ c ∷ []) ≡ Some r

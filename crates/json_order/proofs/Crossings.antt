@@ -4,11 +4,12 @@ use Rattle.std.specs.Str.{IsUtf8}
 use Rattle.std.specs.Char.{is_ascii_digit}
 use Rattle.std.specs.declared.string.String.{String}
 use Rattle.std.specs.declared.alloc.Global.{Global}
-use Rattle.std.proofs.Common.{ℕ, ◌+◌, ◌<◌, ◌≤◌, ◌≡◌, true, false, List, [], ◌∷◌, ◌++◌, length, take, drop, refl, sym, ap, ◌∙◌, subst, arith, Option, Some, None, Result, Ok, Err, IfOk, IfSome, append-nil, append_assoc, length-append}
+use Rattle.std.proofs.Common.{ℕ, ◌+◌, ◌<◌, ◌≤◌, ◌≡◌, true, false, List, [], ◌∷◌, ◌++◌, length, take, drop, string_bytes, refl, sym, ap, ◌∙◌, subst, arith, Option, Some, None, Result, Ok, Err, IfOk, IfSome, append-nil, append_assoc, length-append}
 use Rattle.std.proofs.lemmas.Bool.Decides.{nat_tests}
+use Rattle.std.proofs.lemmas.List.{map_push}
 use Rattle.std.proofs.lemmas.Str.{encode_ascii, encodes-append}
 use Rattle.json_order.specs.Json.{Json, string, array, object, no_items, no_members, number}
-use Rattle.json_order.specs.Seen.{items_with, members_with}
+use Rattle.json_order.specs.Seen.{json_of, items_with, members_with}
 use Rattle.json_order.specs.Grammar.{is_space, is_mark, AreSpaces, IsSpaced, has_key}
 use Rattle.json_order.specs.Fault.{strict, Spells}
 use Rattle.json_order.specs.private.Entries.{keys_of}
@@ -263,6 +264,10 @@ object_more d es key v rest left begun mid next after k n r e w =
     (crosses_more (d + 1) (λ fs. state i.0 (in_object es key ∷ fs)) named named mid next after comma spaces)))
 
 -- the last member and the brace
+-- an object of some members and a last one, by what it has of keys and values
+pub object_pushed : (v : Json) (ms : List (String Global × Tree)) (m : String Global × Tree) → v ≡ object (members_with (entries_of (ms ++ m ∷ [])) no_members) → v ≡ object (members_with (entries_of ms ++ (string_bytes m.0, json_of m.1) ∷ []) no_members)
+object_pushed v ms m h = h ∙ ap (λ es. object (members_with es no_members)) (map_push (λ m. (string_bytes m.0, json_of m.1)) ms m)
+
 pub object_whole : (d : ℕ) (es : Entries) (key : List ℕ) (v : Json) (rest left begun mid after : List ℕ) → Crosses (d + 1) (state at_first_key) (before_key es) rest left → ReadsKey es key left begun → ReadsValue d v begun mid → mid ≡ encode_utf8 125 ++ after → Crosses (d + 1) (state at_first_key) (state (behind (object (members_with (es ++ (key, v) ∷ []) no_members)))) rest after
 object_whole d es key v rest left begun mid after k n r e =
     let i = member_read d v es key left begun mid n r in

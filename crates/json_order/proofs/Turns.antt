@@ -54,9 +54,6 @@ all_seen bytes ys rest u seen e = record { utf8 = u; here = seen ∙ ap (λ x. e
 
 -- THE STATE BEHIND A CHARACTER
 
-pub stands_first : (text : List ℕ) → Stands text start text
-stands_first text = ([], refl, refl)
-
 pub stands_more : (text rest z : List ℕ) (c : ℕ) (s u : State) → Stands text s rest → rest ≡ encode_utf8 c ++ z → step strict s c ≡ Ok u → Stands text u z
 stands_more text rest z c s u h next e = (h.0 ++ c ∷ [], seen_more text h.0 c rest z h.1 next, ran_more h.0 c s u h.2 e)
 

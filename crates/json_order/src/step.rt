@@ -28,17 +28,13 @@ pub(crate) fn is_space(c: char) -> bool
     matches!(c, ' ' | '\t' | '\n' | '\r')
 }
 
-/// Room for so many bytes is taken at once for a number: few are longer, and a smaller block costs
-/// as much.
-const NUMBER_ROOM: usize = 24;
-
 /// A number's text, of one ASCII character so far.
 fn one(alloc: Global, c: char) -> Result<String, JsonKind>
     requires { c < 128 }
     ensures ok { IfOk result (λ s. string_bytes s ≡ c ∷ []) }
     ensures err { IfErr result (λ k. k ≡ Memory) }
 {
-    let mut text = String::with_capacity(alloc, NUMBER_ROOM)?;
+    let mut text = String::new(alloc);
     text.push(c)?;
     Ok(text)
 }

@@ -17,8 +17,56 @@ use std::alloc::Global;
 fn is_plain(byte: u8) -> bool
     ensures { result ≡ grammar.is_plain byte }
 {
-    byte >= b' ' && byte != b'"' && byte != b'\\'
+    (byte >= b' ') & (byte != b'"') & (byte != b'\\')
 }
+
+/// Whether these bytes are all plain. None of them ends the loop, so that many are looked at
+/// together.
+#[inline(always)]
+fn are_plain(bytes: &[u8]) -> bool
+    ensures { result ≡ true → All (λ b. grammar.is_plain b ≡ true) bytes.now }
+{
+    let mut plain = true;
+    for byte in bytes {
+        plain &= is_plain(*byte);
+    }
+    plain
+}
+
+/// How many bytes in front are plain, looked at one by one.
+#[inline(always)]
+fn plain_by_one(bytes: &[u8]) -> usize
+    ensures within { result ≤ length bytes.now }
+    ensures plain { All (λ b. grammar.is_plain b ≡ true) (take result bytes.now) }
+    ensures ends { result < length bytes.now → slice_index bytes.now result < 128 }
+{
+    for (i, byte) in bytes.iter().enumerate() {
+        if !is_plain(*byte) {
+            return i;
+        }
+    }
+    bytes.len()
+}
+
+/// So many bytes are looked at together.
+const PIECE: usize = 64;
+
+/// How many bytes in front are plain, looked at piece by piece.
+#[inline(never)]
+fn plain_by_pieces(bytes: &[u8]) -> usize
+    ensures within { result ≤ length bytes.now }
+    ensures plain { All (λ b. grammar.is_plain b ≡ true) (take result bytes.now) }
+    ensures ends { result < length bytes.now → slice_index bytes.now result < 128 }
+{
+    let mut len = 0;
+    'pieces: while bytes.len() - len >= PIECE && are_plain(&bytes[len..len + PIECE]) {
+        len += PIECE;
+    }
+    len + plain_by_one(&bytes[len..])
+}
+
+/// Behind so many plain bytes more are looked at piece by piece.
+const NEAR: usize = 32;
 
 /// How many bytes in front are plain.
 #[inline(always)]
@@ -30,6 +78,9 @@ fn plain_len(bytes: &[u8]) -> usize
     for (i, byte) in bytes.iter().enumerate() {
         if !is_plain(*byte) {
             return i;
+        }
+        if i == NEAR {
+            return plain_by_pieces(bytes);
         }
     }
     bytes.len()

@@ -1,13 +1,12 @@
 use Rattle.std.specs.Str.Iter.{chars_rest}
 use Rattle.std.proofs.Common.{◌≡◌, ◌+◌, ◌-◌, [], ◌∷◌, ◌++◌, map, string_bytes, refl, sym, ap, ◌∙◌, subst, arith}
 use Rattle.std.proofs.lemmas.List.{map_push}
-use Rattle.json_order.specs.Json.{object, no_members}
-use Rattle.json_order.specs.Seen.{json_of, members_with}
+use Rattle.json_order.specs.Seen.{json_of}
 use Rattle.json_order.specs.private.Machine.{state, at_first_item, at_first_key, behind}
 use Rattle.json_order.specs.private.Places.{entries_of}
 use Rattle.json_order.specs.private.Whole.{Crosses, ReadsValue, ReadsKey, before_item, before_key}
 use Rattle.json_order.specs.declared.word.Word.TheVariants.{Null, True, False}
-use Rattle.json_order.proofs.Crossings.{reads_spaced, list_begun, list_empty, list_more, list_whole, item_shorter, object_begun, object_empty, object_more, object_whole, member_shorter, list_read, object_read, text_read, word_value, first_char, if_read, if_some}
+use Rattle.json_order.proofs.Crossings.{reads_spaced, list_begun, list_empty, list_more, list_whole, item_shorter, object_begun, object_empty, object_more, object_pushed, object_whole, member_shorter, list_read, object_read, text_read, word_value, first_char, if_read, if_some}
 use Rattle.json_order.proofs.whole.+value.Goals as goal
 
 -- LISTS
@@ -74,7 +73,7 @@ object-returns-in-Some-behind_char-clause-ok t c =
     let named : ReadsKey (entries_of ms) key c.members.left.now c.in-Some-2.begun.now = rw c.in-Some-2.is at c.in_ok-name.ensures.ok in
     let read : ReadsValue c.args.depth v c.in-Some-2.begun.now c.in-Some-3.behind.now = rw c.in-Some-3.is at c.in_ok-item.ensures.ok in
     let spaced = reads_spaced c.args.depth v c.in-Some-2.begun.now c.in-Some-3.behind.now c.behind_space-end.result.now read c.behind_space-end.ensures in
-    let same = c.in_ok-whole_object.ensures.ok ∙ ap (λ es. object (members_with es no_members)) (map_push (λ m. (string_bytes m.0, json_of m.1)) ms (c.in-Some-2.name, c.in-Some-3.item)) in
+    let same = object_pushed _ ms (c.in-Some-2.name, c.in-Some-3.item) c.in_ok-whole_object.ensures.ok in
     subst (λ v. Crosses (c.args.depth + 1) (state at_first_key) (state (behind v)) c.args.rest.now c.in-Some-behind_char.after.now) (sym same)
     (object_whole c.args.depth (entries_of ms) key v c.args.rest.now c.members.left.now c.in-Some-2.begun.now c.behind_space-end.result.now c.in-Some-behind_char.after.now c.members.invariant.1 named spaced c.in-Some-behind_char.ensures)
 
