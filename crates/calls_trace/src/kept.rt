@@ -156,7 +156,8 @@ impl CallsLeft {
     /// The next call, and the text of the name that it gives; none behind the last one.
     #[inline(always)]
     pub(crate) fn next(&mut self) -> Option<(Call, String)>
-        ensures next { MatchOption result (self.old ≡ []) (λ p. self.old ≡ p.0 ∷ self.new) }
+        ensures next { MatchOption result ((self.old ≡ []) × (self.new ≡ []))
+            (λ p. self.old ≡ p.0 ∷ self.new) }
         ensures text { IfSome result (λ p. string_bytes p.1 ≡ name_given p.0) }
     {
         let none = String::new(self.alloc);

@@ -96,7 +96,7 @@ returns-clause-run c = λ s is same.
     let i = c.calls.invariant in
     let m = i.made s same in
     let r = c.calls.run in
-    let none : ◌≡◌ {A = List Call} c.calls.left [] = c.in_default.ensures.next in
+    let none : ◌≡◌ {A = List Call} c.calls.left [] = c.in_default.ensures.next.0 in
     record {
       domain = sym (ap (λ (cs : List Call). after_calls r.state cs) none) ∙ m.domain;
       called = λ n. sym (ap (λ (cs : List Call). names_of r.state cs (named r.names) n) none) ∙ m.called n;
@@ -108,7 +108,7 @@ returns-clause-told c = λ s is same.
     let i = c.calls.invariant in
     let m = i.made s same in
     let r = c.calls.run in
-    let none : ◌≡◌ {A = List Call} c.calls.left [] = c.in_default.ensures.next in
+    let none : ◌≡◌ {A = List Call} c.calls.left [] = c.in_default.ensures.next.0 in
     record {
       params = λ n. sym (ap (λ (cs : List Call). params_of r.state cs (given_in r.given) n) none) ∙ m.params n;
       alike = i.silent;

@@ -1,9 +1,11 @@
-use Rattle.std.proofs.Common.{◌≡◌, ℕ, ◌+◌, List, ◌∷◌, length, refl, sym, ap, subst, ◌∙◌, arith}
+use Rattle.std.proofs.Common.{◌≡◌, ℕ, ◌+◌, ◌*◌, ◌^◌, ◌≤◌, List, ◌∷◌, length, refl, sym, ap, subst, ◌∙◌, arith}
 use Rattle.std.specs.Prelude.{All, sum_by}
 use Rattle.std.proofs.lemmas.List.Sums.{sum_by-cons}
 use Rattle.std.proofs.lemmas.List.Elements.{All-head, All-tail}
 use Rattle.domain_run.specs.declared.call.Call.{Call}
 use Rattle.domain_run.specs.declared.call.Call.TheVariants.{Advance}
+use Rattle.indexmap.specs.IndexMap.{spare}
+use Rattle.domain_run.specs.Run.{after_calls}
 use Rattle.domain_run.specs.Tick.{ticks}
 use Rattle.switch_text.specs.Names.{named}
 use Rattle.calls_trace.specs.Replay.{names_of}
@@ -51,3 +53,33 @@ returns-in-Some-clause-names c =
     left_names d (ticks c.make-self.result c.make-self.new.self.domain) c.in-Some.call c.next.new.self p.calls was (named c.make-self.new.self.names) (names_of d p.calls was)
     c.in-Some.ensures.next c.make-self.ensures.domain c.make-self.ensures.names (λ m. refl) n
     ∙ ap (λ (j : ℕ). names_of d (Advance j ∷ p.calls) was n) (sym c.requires)
+
+-- none is left, and nothing has changed
+pub returns-in-None-clause-end : goal.returns-in-None-clause-end
+returns-in-None-clause-end c =
+    let p = c.args.self.now in
+    let none = c.in-None.ensures.next in
+    ap (λ (cs : List Call). after_calls p.run.domain (Advance p.left ∷ cs)) (none.1 ∙ sym none.0)
+
+pub returns-in-None-clause-names : goal.returns-in-None-clause-names
+returns-in-None-clause-names c =
+    let p = c.args.self.now in
+    let none = c.in-None.ensures.next in
+    λ n. ap (λ (cs : List Call). names_of p.run.domain (Advance p.left ∷ cs) (named p.run.names) n) (none.1 ∙ sym none.0)
+
+pub returns-in-None-clause-stopped : goal.returns-in-None-clause-stopped
+returns-in-None-clause-stopped c = λ stopped.
+    let none = ap (λ (cs : List Call). length cs) c.in-None.ensures.next.1 in
+    omega (arith, none, c.requires)
+
+pub invariant_of-self-in-None : goal.invariant_of-self-in-None
+invariant_of-self-in-None c =
+    let p = c.args.self.now in
+    let none = c.in-None.ensures.next in
+    let same : p.calls ≡ c.next.new.self = none.0 ∙ sym none.1 in
+    record {
+      called = p.called;
+      kept = subst (All IsReady) same p.kept;
+      room = subst (λ (cs : List Call). sum_by room_of cs ≤ spare p.run.names) same p.room;
+      early = subst (λ (cs : List Call). p.run.domain.time + p.left + length cs * 60000000 ≤ 2 ^ 42) same p.early;
+    }
