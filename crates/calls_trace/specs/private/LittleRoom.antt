@@ -1,5 +1,5 @@
 -- Calls in little room: the short ones in place, the others in a list of their own.
-use Rattle.std.specs.Prelude.{ℕ, ◌≡◌, List, [], ◌∷◌}
+use Rattle.std.specs.Prelude.{ℕ, List, [], ◌∷◌}
 use Rattle.domain_run.specs.declared.call.Call.{Call}
 use Rattle.domain_run.specs.declared.call.Call.TheVariants as calls
 use Rattle.call_book.specs.declared.kept_call.Spelled.{Spelled}
