@@ -3,6 +3,7 @@ mod Keeping
 mod Sections
 mod ToldLines
 mod Rising
+mod LittleRoom
 mod Ready
 mod Pieces
 mod Played

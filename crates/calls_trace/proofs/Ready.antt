@@ -7,10 +7,7 @@ use Rattle.domain_run.specs.Calls.{after_call}
 use Rattle.domain_run.specs.Tick.{ticks}
 use Rattle.domain_run.proofs.CallerLemmas.{ticks_of, call_time, ticks_time}
 use Rattle.call_book.specs.Limits.{IsCall}
-use Rattle.call_book.specs.KeptCall.{call_of}
-use Rattle.call_book.specs.declared.kept_call.Kept.{Kept}
 use Rattle.calls_trace.specs.private.Calls.{IsReady, ticks_given}
-use Rattle.calls_trace.specs.private.Kept.{IsKept}
 
 -- a call of a section
 pub call_ready : (c : Call) → IsCall c → IsReady c
@@ -22,9 +19,6 @@ call_ready (Advance n) h = record { numbered = (omega arith, omega arith); soon 
 call_ready (Limit limit word) h = record { numbered = (omega arith, omega arith); soon = omega arith; limited = (h.0, h.1); short = omega arith }
 call_ready (Depart number) h = record { numbered = (omega arith, omega arith); soon = omega arith; limited = (omega arith, omega arith); short = omega arith }
 call_ready (Arrive number name params script) h = record { numbered = h.numbered; soon = omega arith; limited = (omega arith, omega arith); short = omega arith }
-
-pub kept_is : (k : Kept) → IsCall (call_of k) → IsKept k
-kept_is k is = record { ready = call_ready (call_of k) is }
 
 same_ticks : (c : Call) → ticks_of c ≡ ticks_given c
 same_ticks (Admit number name params delay script) = refl

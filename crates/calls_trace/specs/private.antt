@@ -3,6 +3,7 @@ pub mod RunTexts
 pub mod Recorded
 pub mod Counting
 pub mod Calls
+pub mod LittleRoom
 pub mod Kept
 pub mod Playing
 pub mod ReadRuns

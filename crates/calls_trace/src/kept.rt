@@ -1,27 +1,176 @@
-//! The room that calls which are kept need for names.
+//! Calls that are kept until they are made.
 
-ghost use Rattle.std.specs.Prelude.{◌≡◌, sum_by};
-ghost use Rattle.calls_trace.specs.private.Kept.{room_of};
+ghost use Rattle.std.specs.Prelude.{◌≡◌};
 
-use call_book::Kept;
+use call_book::{Kept, Spelled};
+use domain_run::{Call, NoMemory};
+use std::alloc::Global;
+use std::marker::Model;
+use std::vec::IntoIter;
 
-/// For how many names a call needs room: none, or one.
-fn room_of(call: &Kept) -> usize
-    ensures { result ≡ room_of call.now }
-{
-    match call {
-        Kept::Long(_) => 1,
-        _ => 0,
+/// The place of a call among others: a short one stands there.
+#[derive(Drop)]
+enum Place {
+    /// [`Call::Wake`].
+    Wake {
+        /// The task's number.
+        number: u32,
+    },
+    /// [`Call::Leave`].
+    Leave {
+        /// The task's number.
+        number: u32,
+    },
+    /// [`Call::Depart`].
+    Depart {
+        /// The task's number.
+        number: u32,
+    },
+    /// [`Call::Advance`].
+    Advance {
+        /// How many us.
+        ticks: u64,
+    },
+    /// Any other: the next one of those, which stand in a list of their own.
+    Long,
+}
+
+/// Calls that are kept in little room, in their order.
+#[derive(Drop)]
+pub(crate) struct KeptCalls {
+    order: Vec<Place>,
+    long: Vec<Spelled>,
+}
+
+impl Model for KeptCalls {
+    ghost use Rattle.std.specs.Prelude.{◌≡◌, List, length, sum_by};
+    ghost use Rattle.domain_run.specs.declared.call.Call.{Call};
+    ghost use Rattle.calls_trace.specs.private.LittleRoom.{calls_in, is_long};
+
+    ghost Value = { List Call };
+
+    ghost view = { λ k. calls_in k.order.items k.long.items };
+
+    ghost invariant = { λ k. sum_by is_long k.order.items ≡ length k.long.items };
+}
+
+impl KeptCalls {
+    ghost use Rattle.std.specs.Prelude.{◌≡◌, [], ◌∷◌, ◌++◌, ◌≤◌, OnOk, sum_by};
+    ghost use Rattle.call_book.specs.KeptCall.{call_of};
+    ghost use Rattle.calls_trace.specs.private.Kept.{room_of};
+    ghost use Rattle.calls_trace.specs.private.LittleRoom.{calls_in, is_long};
+
+    /// No call yet.
+    pub(crate) fn new(alloc: Global) -> KeptCalls
+        ensures { result ≡ [] }
+    {
+        KeptCalls {
+            order: Vec::new(alloc),
+            long: Vec::new(alloc),
+        }
+    }
+
+    /// One short call more.
+    fn push_short(&mut self, place: Place) -> Result<(), NoMemory>
+        requires { is_long place ≡ 0 }
+        ensures { OnOk result (self.new ≡ self.old ++ calls_in (place ∷ []) []) }
+    {
+        match self.order.push(place) {
+            Ok(()) => {}
+            Err(_) => return Err(NoMemory),
+        }
+        Ok(())
+    }
+
+    /// One call more that is not short.
+    fn push_long(&mut self, spelled: Spelled) -> Result<(), NoMemory>
+        ensures { OnOk result (self.new ≡ self.old ++ spelled.call ∷ []) }
+    {
+        self.order.try_reserve(1)?;
+        self.long.try_reserve(1)?;
+        self.order.push_reserved(Place::Long);
+        self.long.push_reserved(spelled);
+        Ok(())
+    }
+
+    /// One call more, behind the others. The block that it stands in is given back.
+    pub(crate) fn push(&mut self, kept: Kept) -> Result<(), NoMemory>
+        ensures { OnOk result (self.new ≡ self.old ++ call_of kept ∷ []) }
+    {
+        match kept {
+            Kept::Wake { number } => self.push_short(Place::Wake { number }),
+            Kept::Leave { number } => self.push_short(Place::Leave { number }),
+            Kept::Depart { number } => self.push_short(Place::Depart { number }),
+            Kept::Advance { ticks } => self.push_short(Place::Advance { ticks }),
+            Kept::Long(spelled) => self.push_long(Box::into_inner(spelled)),
+        }
+    }
+
+    /// Room for so many names is enough for the calls.
+    pub(crate) fn room(&self) -> usize
+        ensures { sum_by room_of self.now ≤ result }
+    {
+        self.long.len()
+    }
+
+    /// The calls, to be made from the first one on.
+    pub(crate) fn into_left(self, alloc: Global) -> CallsLeft
+        ensures { result ≡ self }
+    {
+        let KeptCalls { order, long } = self;
+        CallsLeft {
+            alloc,
+            order: order.into_iter(),
+            long: long.into_iter(),
+        }
     }
 }
 
-/// For how many names calls need room.
-pub(crate) fn room_for(calls: &[Kept]) -> usize
-    ensures { result ≡ sum_by room_of calls.now }
-{
-    let mut room = 0;
-    for call in calls {
-        room += room_of(call);
+/// Calls that are left to be made.
+#[derive(Drop)]
+pub(crate) struct CallsLeft {
+    alloc: Global,
+    order: IntoIter<Place>,
+    long: IntoIter<Spelled>,
+}
+
+impl Model for CallsLeft {
+    ghost use Rattle.std.specs.Prelude.{◌≡◌, List, length, sum_by};
+    ghost use Rattle.std.specs.Vec.Iter.{into_iter_items};
+    ghost use Rattle.domain_run.specs.declared.call.Call.{Call};
+    ghost use Rattle.calls_trace.specs.private.LittleRoom.{calls_in, is_long};
+
+    ghost Value = { List Call };
+
+    ghost view = { λ c. calls_in (into_iter_items c.order) (into_iter_items c.long) };
+
+    ghost invariant = { λ c. sum_by is_long (into_iter_items c.order)
+        ≡ length (into_iter_items c.long) };
+}
+
+impl CallsLeft {
+    ghost use Rattle.std.specs.Prelude.{◌≡◌, [], ◌∷◌, IfSome, MatchOption};
+    ghost use Rattle.std.specs.String.{string_bytes};
+    ghost use Rattle.call_book.specs.NameGiven.{name_given};
+
+    /// The next call, and the text of the name that it gives; none behind the last one.
+    #[inline(always)]
+    pub(crate) fn next(&mut self) -> Option<(Call, String)>
+        ensures next { MatchOption result ((self.old ≡ []) × (self.new ≡ []))
+            (λ p. self.old ≡ p.0 ∷ self.new) }
+        ensures text { IfSome result (λ p. string_bytes p.1 ≡ name_given p.0) }
+    {
+        let none = String::new(self.alloc);
+        match self.order.next() {
+            Some(Place::Wake { number }) => Some((Call::Wake { number }, none)),
+            Some(Place::Leave { number }) => Some((Call::Leave { number }, none)),
+            Some(Place::Depart { number }) => Some((Call::Depart { number }, none)),
+            Some(Place::Advance { ticks }) => Some((Call::Advance { ticks }, none)),
+            Some(Place::Long) => match self.long.next() {
+                Some(Spelled { call, text }) => Some((call, text)),
+                None => None,
+            },
+            None => None,
+        }
     }
-    room
 }

@@ -1,17 +1,16 @@
 //! A section whose calls are kept in little room: they are all read before the first one is made.
 
-ghost use Rattle.std.specs.Prelude.{◌≡◌, ℕ, [], ◌∷◌, false, List, IfOk, OnOk};
-ghost use Rattle.call_book.specs.declared.section.Entry.{Entry};
+ghost use Rattle.std.specs.Prelude.{ℕ, false, List, IfOk};
 ghost use Rattle.call_book.specs.SectionView.{SectionView};
-ghost use Rattle.call_book.specs.Limits.{IsCall, IsSection};
-ghost use Rattle.call_book.specs.KeptCall.{call_of};
-ghost use Rattle.call_book.specs.Reader.{IsWithin, begun, with_entries};
+ghost use Rattle.call_book.specs.Limits.{IsSection};
+ghost use Rattle.call_book.specs.Reader.{IsWithin, begun};
 ghost use Rattle.calls_trace.specs.private.Kept.{IsKeptSection, IsReadSection, KeepsSection};
 ghost use Rattle.calls_trace.specs.private.Replaying.{IsRunOf, IsToldOf};
 
+use crate::kept::KeptCalls;
 use crate::named_run::RunWithNames;
 use crate::read_runs::next_of;
-use call_book::{CallsReader, Kept};
+use call_book::CallsReader;
 use domain_run::NoMemory;
 use std::alloc::Global;
 
@@ -22,24 +21,10 @@ pub(crate) struct KeptSection {
     pub(crate) cpus: u32,
     /// What its tasks may take of each CPU (1/2^20 of a CPU).
     pub(crate) limit: u64,
-    pub(crate) calls: Vec<Kept>,
+    pub(crate) calls: KeptCalls,
 }
 
 impl KeptSection {
-    /// One call more, behind those that are kept.
-    fn push(&mut self, kept: Kept) -> Result<(), NoMemory>
-        requires { IsCall (call_of kept) }
-        ensures { (section : SectionView) (entry : Entry) → IsKeptSection section self.old
-            → entry.call ≡ call_of kept
-            → OnOk result (IsKeptSection (with_entries section (entry ∷ [])) self.new) }
-    {
-        match self.calls.push(kept) {
-            Ok(()) => {}
-            Err(_) => return Err(NoMemory),
-        }
-        Ok(())
-    }
-
     /// The run of the section, whose calls are made in their order.
     pub(crate) fn run(self, alloc: Global) -> Result<RunWithNames, NoMemory>
         requires { KeepsSection self }
@@ -48,15 +33,11 @@ impl KeptSection {
         ensures told { (section : SectionView) → IsSection section → IsKeptSection section self
             → IfOk result (λ r. IsToldOf false section r.given r.log) }
     {
-        let KeptSection {
-            cpus,
-            limit,
-            mut calls,
-        } = self;
-        calls.reverse();
+        let KeptSection { cpus, limit, calls } = self;
+        let mut left = calls.into_left(alloc);
         let mut run = RunWithNames::open(alloc, cpus, limit, false)?;
-        'calls: while let Some(kept) = calls.pop() {
-            run.make_kept(kept)?;
+        'calls: while let Some((call, text)) = left.next() {
+            run.make(call, text)?;
         }
         Ok(run)
     }
@@ -76,10 +57,10 @@ pub(crate) fn section_read(
     let mut section = KeptSection {
         cpus,
         limit,
-        calls: Vec::new(alloc),
+        calls: KeptCalls::new(alloc),
     };
     while let Some(kept) = next_of(alloc, reader)? {
-        section.push(kept)?;
+        section.calls.push(kept)?;
     }
     Ok(section)
 }

@@ -201,7 +201,7 @@ impl RunWithNames {
     }
 
     /// Makes a call that gives this name; the log is told what it tells.
-    fn make(&mut self, call: Call, text: String) -> Result<(), NoMemory>
+    pub(crate) fn make(&mut self, call: Call, text: String) -> Result<(), NoMemory>
         requires call { IsCall call }
         requires text { string_bytes text ≡ name_given call }
         requires early { self.old.state.time + 60000000 ≤ 2 ^ 42 }

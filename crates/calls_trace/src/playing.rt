@@ -6,13 +6,11 @@ ghost use Rattle.indexmap.specs.IndexMap.{spare};
 ghost use Rattle.calls_trace.specs.Replay.{no_names};
 ghost use Rattle.calls_trace.specs.private.Replaying.{AreNamed, Gives};
 ghost use Rattle.calls_trace.specs.private.Calls.{IsReady};
-ghost use Rattle.call_book.specs.KeptCall.{call_of};
-ghost use Rattle.calls_trace.specs.private.Kept.{IsKept, room_of};
+ghost use Rattle.calls_trace.specs.private.Kept.{room_of};
 
-use crate::kept::room_for;
+use crate::kept::CallsLeft;
 use crate::kept_section::KeptSection;
 use attr_check::Params;
-use call_book::{Kept, Spelled};
 use domain_run::{Buffered, Call, Name, NoMemory, Script, State};
 use indexmap::IndexMap;
 use std::alloc::Global;
@@ -33,12 +31,12 @@ pub(crate) struct Playing {
     run: NamedDomain,
     /// So many ticks are left of the advance under way.
     left: u64,
-    /// The calls behind it, the last one first.
-    calls: Vec<Kept>,
+    /// The calls behind it.
+    calls: CallsLeft,
     ghost called: { AreNamed run.domain run.names },
-    ghost kept: { All IsKept calls.items },
-    ghost room: { sum_by room_of calls.items ≤ spare run.names },
-    ghost early: { run.domain.time + left + length calls.items * 60000000 ≤ 2 ^ 42 },
+    ghost kept: { All IsReady calls },
+    ghost room: { sum_by room_of calls ≤ spare run.names },
+    ghost early: { run.domain.time + left + length calls * 60000000 ≤ 2 ^ 42 },
 }
 
 impl NamedDomain {
@@ -52,6 +50,7 @@ impl NamedDomain {
     ghost use Rattle.calls_trace.specs.Replay.{with_name, names_after};
     ghost use Rattle.calls_trace.specs.private.Replaying.{Gives};
     ghost use Rattle.call_book.specs.NameGiven.{name_given};
+    ghost use Rattle.calls_trace.specs.private.Kept.{room_of};
 
     /// Puts down a name in the room for it.
     fn put(&mut self, number: u32, text: String)
@@ -97,16 +96,17 @@ impl NamedDomain {
     }
 
     /// Makes a call, of an advance no tick; answers how many ticks it has still to make.
+    #[inline(always)]
     fn make(&mut self, call: Call, text: String) -> u64
         requires call { IsReady call }
         requires text { string_bytes text ≡ name_given call }
-        requires room { 0 < spare self.old.names }
+        requires room { room_of call ≤ spare self.old.names }
         requires called { AreNamed self.old.domain self.old.names }
         ensures domain { ticks result self.new.domain ≡ after_call self.old.domain call }
         ensures names { Gives self.new.names
             (names_after self.old.domain call (named self.old.names)) }
         ensures called { AreNamed self.new.domain self.new.names }
-        ensures room { spare self.old.names ≤ spare self.new.names + 1 }
+        ensures room { spare self.old.names ≤ spare self.new.names + room_of call }
         ensures most { result ≤ 60000000 }
     {
         match call {
@@ -147,37 +147,6 @@ impl NamedDomain {
         }
         0
     }
-
-    /// As `make`, of a call that was kept. What is short is made in place.
-    fn make_kept(&mut self, kept: Kept) -> u64
-        requires kept { IsKept kept }
-        requires room { room_of kept ≤ spare self.old.names }
-        requires called { AreNamed self.old.domain self.old.names }
-        ensures domain { ticks result self.new.domain ≡ after_call self.old.domain (call_of kept) }
-        ensures names { Gives self.new.names
-            (names_after self.old.domain (call_of kept) (named self.old.names)) }
-        ensures called { AreNamed self.new.domain self.new.names }
-        ensures room { spare self.old.names ≤ spare self.new.names + room_of kept }
-        ensures most { result ≤ 60000000 }
-    {
-        match kept {
-            Kept::Wake { number } => {
-                self.domain.wake(number);
-            }
-            Kept::Leave { number } => {
-                self.domain.leave(number);
-            }
-            Kept::Depart { number } => {
-                self.domain.depart(number);
-            }
-            Kept::Advance { ticks } => return ticks,
-            Kept::Long(spelled) => {
-                let Spelled { call, text } = Box::into_inner(spelled);
-                return self.make(call, text);
-            }
-        }
-        0
-    }
 }
 
 impl Playing {
@@ -200,18 +169,13 @@ impl Playing {
         ensures names { (section : SectionView) → IsKeptSection section kept
             → IfOk result (λ p. (n : ℕ) → all_names p n ≡ names_in section n) }
     {
-        let KeptSection {
-            cpus,
-            limit,
-            mut calls,
-        } = kept;
-        let names = room_for_names(alloc, room_for(&calls))?;
-        calls.reverse();
+        let KeptSection { cpus, limit, calls } = kept;
+        let names = room_for_names(alloc, calls.room())?;
         let domain = Buffered::of(State::open(alloc, cpus, limit)?)?;
         Ok(Playing {
             run: NamedDomain { domain, names },
             left: 0,
-            calls,
+            calls: calls.into_left(alloc),
         })
     }
 
@@ -246,9 +210,9 @@ impl Playing {
         ensures ahead { result ≡ true → work_of self.new < work_of self.old }
         ensures stopped { result ≡ false → work_of self.new ≡ 0 }
     {
-        match self.calls.pop() {
-            Some(call) => {
-                self.left = self.run.make_kept(call);
+        match self.calls.next() {
+            Some((call, text)) => {
+                self.left = self.run.make(call, text);
                 true
             }
             None => false,

@@ -1,44 +1,35 @@
 -- Calls that are kept until they are made.
-use Rattle.std.specs.Prelude.{ℕ, ◌≡◌, List, [], ◌∷◌, ◌++◌, map, reverse, All}
+use Rattle.std.specs.Prelude.{ℕ, ◌≡◌, List, [], ◌∷◌, ◌++◌}
 use Rattle.domain_run.specs.declared.call.Call.{Call}
+use Rattle.domain_run.specs.declared.call.Call.TheVariants.{Admit, Regrade, Wake, Leave, Advance, Limit, Depart, Arrive}
 use Rattle.domain_run.specs.Run.{after_calls}
 use Rattle.call_book.specs.SectionView.{SectionView}
 use Rattle.call_book.specs.Spelling.{spelling}
 use Rattle.call_book.specs.Limits.{IsSection, AreRead}
-use Rattle.call_book.specs.KeptCall.{call_of}
 use Rattle.call_book.specs.Reader.{ReaderView, IsBehind, IsWithin}
 use Rattle.switch_text.specs.Names.{named}
 use Rattle.calls_trace.specs.Replay.{calls_of, names_of}
 use Rattle.calls_trace.specs.Told.{domain_of, names_in, params_of, params_in}
-use Rattle.call_book.specs.declared.kept_call.Kept.{Kept}
-use Rattle.call_book.specs.declared.kept_call.Kept.TheVariants.{Wake, Leave, Depart, Advance, Long}
 use Rattle.calls_trace.specs.declared.kept_section.KeptSection.{KeptSection}
 use Rattle.calls_trace.specs.declared.named_run.RunWithNames.{RunWithNames}
-use Rattle.calls_trace.specs.private.Calls.{IsReady}
 use Rattle.calls_trace.specs.private.Replaying.{given_in}
 
 -- for how many names it needs room
-abbrev pub room_of : Kept → ℕ
+abbrev pub room_of : Call → ℕ
+room_of (Admit number name params delay script) = 1
+room_of (Regrade number params word) = 1
 room_of (Wake number) = 0
 room_of (Leave number) = 0
-room_of (Depart number) = 0
 room_of (Advance ticks) = 0
-room_of (Long spelled) = 1
-
--- the call can be made
-pub record IsKept (k : Kept) : Type 0 where
-  pub ready : IsReady (call_of k)
-
--- the calls that are left, where the last one lies first
-abbrev pub calls_left : List Kept → List Call
-calls_left kept = map call_of (reverse kept)
+room_of (Limit limit word) = 1
+room_of (Depart number) = 0
+room_of (Arrive number name params script) = 1
 
 -- the domain and the calls of a section
 pub record IsKeptSection (s : SectionView) (k : KeptSection) : Type 0 where
   pub same_cpus : k.cpus ≡ s.cpus
   pub same_limit : k.limit ≡ s.limit
-  pub same_calls : map call_of k.calls.items ≡ calls_of s
-  pub kept : All IsKept k.calls.items
+  pub same_calls : k.calls ≡ calls_of s
 
 -- those of some section
 pub record KeepsSection (k : KeptSection) : Type 0 where
@@ -61,11 +52,11 @@ pub record IsReadSection (text : List ℕ) (before : List SectionView) (reader :
   pub behind : IsBehind text (before ++ section ∷ []) reader
   pub same : IsKeptSection section k
 
--- of a section whose calls are kept, some are made, and these are left, the last one first
-pub record IsMadeUpTo (s : SectionView) (left : List Kept) (r : RunWithNames) : Type 0 where
-  pub domain : after_calls r.state (calls_left left) ≡ domain_of s
-  pub called : (n : ℕ) → names_of r.state (calls_left left) (named r.names) n ≡ names_in s n
-  pub params : (n : ℕ) → params_of r.state (calls_left left) (given_in r.given) n ≡ params_in s n
+-- of a section whose calls are kept, some are made, and these are left
+pub record IsMadeUpTo (s : SectionView) (left : List Call) (r : RunWithNames) : Type 0 where
+  pub domain : after_calls r.state left ≡ domain_of s
+  pub called : (n : ℕ) → names_of r.state left (named r.names) n ≡ names_in s n
+  pub params : (n : ℕ) → params_of r.state left (given_in r.given) n ≡ params_in s n
 
 -- the text spells one section, and its calls are kept
 pub record IsOnly (text : List ℕ) (k : KeptSection) : Type 0 where

@@ -9,11 +9,10 @@ use Rattle.domain_run.specs.Run.{after_calls}
 use Rattle.switch_text.specs.Names.{named}
 use Rattle.calls_trace.specs.Replay.{names_of}
 use Rattle.calls_trace.specs.declared.playing.Playing.{Playing}
-use Rattle.calls_trace.specs.private.Kept.{calls_left}
 
 -- the calls that are left: what is left of the advance under way, and those behind it
 abbrev pub left_in : Playing → List Call
-left_in p = Advance p.left ∷ calls_left p.calls.items
+left_in p = Advance p.left ∷ p.calls
 
 -- the domain to which they lead
 abbrev pub end_of : Playing → Domain
@@ -29,4 +28,4 @@ all_names p = names_of p.run.domain (left_in p) (named p.run.names)
 
 -- how much is left; an advance has at most 60000000 ticks
 abbrev pub work_of : Playing → ℕ
-work_of p = p.left + length p.calls.items * 60000001
+work_of p = p.left + length p.calls * 60000001

@@ -2,19 +2,18 @@ use Rattle.std.proofs.Common.{◌≡◌, ◌≤◌, ◌+◌, ◌*◌, ◌^◌, f
 use Rattle.std.specs.Prelude.{All}
 use Rattle.call_book.specs.SectionView.{SectionView}
 use Rattle.call_book.specs.Limits.{IsCall}
-use Rattle.call_book.specs.KeptCall.{call_of}
 use Rattle.calls_trace.specs.private.Kept.{IsKeptSection, IsMadeUpTo}
 use Rattle.calls_trace.specs.private.Replaying.{AreNamed}
 use Rattle.calls_trace.proofs.kept_section.KeptSection.run.Given as goal
 
 abbrev pub invariant-calls : goal.invariant-calls
 invariant-calls l = record {
-  made : (s : SectionView) → IsKeptSection s l.fn.self → IsMadeUpTo s l.calls.items l.run;
-  are : All (λ k. IsCall (call_of k)) l.calls.items;
+  made : (s : SectionView) → IsKeptSection s l.fn.self → IsMadeUpTo s l.left l.run;
+  are : All IsCall l.left;
   all_named : AreNamed l.run.state l.run.names;
   silent : l.run.log.wanted ≡ false;
-  early : l.run.state.time + length l.calls.items * 60000000 ≤ 2 ^ 42;
+  early : l.run.state.time + length l.left * 60000000 ≤ 2 ^ 42;
 }
 
 abbrev pub decreases-calls : goal.decreases-calls
-decreases-calls l = length l.calls.items
+decreases-calls l = length l.left

@@ -3,7 +3,6 @@ use Rattle.domain_run.specs.Domain.{Domain}
 use Rattle.domain_run.specs.Sound.{IsAdmitted}
 use Rattle.domain_run.proofs.CallerLemmas.{ticks_time}
 use Rattle.switch_text.specs.Names.{named}
-use Rattle.calls_trace.specs.private.Kept.{calls_left}
 use Rattle.calls_trace.proofs.Naming.{ticks_used}
 use Rattle.calls_trace.proofs.Pieces.{end_advanced, names_on}
 use Rattle.calls_trace.proofs.playing.Playing.advance.Goals as goal
@@ -26,11 +25,11 @@ returns-clause-end c =
     let p = c.args.self.now in
     let made = c.advance-made.result in
     let sum : made + (p.left - made) ≡ p.left = omega (arith, c.advance-made.ensures.most) in
-    end_advanced p.run.domain c.advance-made.new.self made (p.left - made) p.left (calls_left p.calls.items) c.advance-made.ensures.ticks sum
+    end_advanced p.run.domain c.advance-made.new.self made (p.left - made) p.left p.calls c.advance-made.ensures.ticks sum
 
 pub returns-clause-names : goal.returns-clause-names
 returns-clause-names c =
     let p = c.args.self.now in
     let made = c.advance-made.result in
     let sum : made + (p.left - made) ≡ p.left = omega (arith, c.advance-made.ensures.most) in
-    λ n. names_on p.run.domain c.advance-made.new.self made (p.left - made) p.left (calls_left p.calls.items) (named p.run.names) n c.advance-made.ensures.ticks sum
+    λ n. names_on p.run.domain c.advance-made.new.self made (p.left - made) p.left p.calls (named p.run.names) n c.advance-made.ensures.ticks sum

@@ -1,53 +1,85 @@
-use Rattle.std.proofs.Common.{◌≡◌, ℕ, ◌+◌, ◌∷◌, length, refl, sym, ap, ◌∙◌, arith}
-use Rattle.std.specs.Prelude.{Some, sum_by}
-use Rattle.std.proofs.lemmas.List.{length_push}
-use Rattle.std.proofs.lemmas.List.Sums.{sum_by_push}
-use Rattle.std.proofs.lemmas.List.Elements.{All-pop}
+use Rattle.std.proofs.Common.{◌≡◌, ℕ, ◌+◌, ◌*◌, ◌^◌, ◌≤◌, List, ◌∷◌, length, refl, sym, ap, subst, ◌∙◌, arith}
+use Rattle.std.specs.Prelude.{All, sum_by}
+use Rattle.std.proofs.lemmas.List.Sums.{sum_by-cons}
+use Rattle.std.proofs.lemmas.List.Elements.{All-head, All-tail}
+use Rattle.domain_run.specs.declared.call.Call.{Call}
 use Rattle.domain_run.specs.declared.call.Call.TheVariants.{Advance}
+use Rattle.indexmap.specs.IndexMap.{spare}
+use Rattle.domain_run.specs.Run.{after_calls}
 use Rattle.domain_run.specs.Tick.{ticks}
 use Rattle.switch_text.specs.Names.{named}
 use Rattle.calls_trace.specs.Replay.{names_of}
-use Rattle.call_book.specs.KeptCall.{call_of}
-use Rattle.calls_trace.specs.private.Kept.{IsKept, room_of, calls_left}
-use Rattle.calls_trace.proofs.Sections.{left_more, left_names}
+use Rattle.calls_trace.specs.private.Calls.{IsReady}
+use Rattle.calls_trace.specs.private.Kept.{room_of}
+use Rattle.calls_trace.proofs.Sections.{left_names}
 use Rattle.calls_trace.proofs.Ready.{call_left_time}
 use Rattle.calls_trace.proofs.playing.Playing.begin.Goals as goal
 
-pub make_kept-self-requires-clause-kept : goal.make_kept-self-requires-clause-kept
-make_kept-self-requires-clause-kept c =
+pub make-self-requires-clause-call : goal.make-self-requires-clause-call
+make-self-requires-clause-call c =
     let p = c.args.self.now in
-    (All-pop IsKept p.calls.items c.pop.new.self.items (Some c.in-Some.call) c.in-Some.ensures.items p.kept).1
+    All-head IsReady c.in-Some.call c.next.new.self (subst (All IsReady) c.in-Some.ensures.next p.kept)
 
-pub make_kept-self-requires-clause-room : goal.make_kept-self-requires-clause-room
-make_kept-self-requires-clause-room c =
+pub make-self-requires-clause-room : goal.make-self-requires-clause-room
+make-self-requires-clause-room c =
     let p = c.args.self.now in
-    let sum : sum_by room_of p.calls.items ≡ sum_by room_of c.pop.new.self.items + room_of c.in-Some.call = ap (sum_by room_of) c.in-Some.ensures.items ∙ sum_by_push room_of c.pop.new.self.items c.in-Some.call in
+    let sum : sum_by room_of p.calls ≡ room_of c.in-Some.call + sum_by room_of c.next.new.self = ap (sum_by room_of) c.in-Some.ensures.next ∙ sum_by-cons room_of c.in-Some.call c.next.new.self in
     omega (arith, sum, p.room)
 
 pub invariant_of-self : goal.invariant_of-self
 invariant_of-self c =
     let p = c.args.self.now in
     let k = c.in-Some.call in
-    let rest = c.pop.new.self.items in
-    let split = All-pop IsKept p.calls.items rest (Some k) c.in-Some.ensures.items p.kept in
-    let long : length p.calls.items ≡ length rest + 1 = ap length c.in-Some.ensures.items ∙ length_push rest k in
-    let sum : sum_by room_of p.calls.items ≡ sum_by room_of rest + room_of k = ap (sum_by room_of) c.in-Some.ensures.items ∙ sum_by_push room_of rest k in
-    let time = call_left_time p.run.domain c.make_kept-self.new.self.domain (call_of k) c.make_kept-self.result c.make_kept-self.ensures.domain in
+    let rest = c.next.new.self in
+    let more : p.calls ≡ k ∷ rest = c.in-Some.ensures.next in
+    let all = subst (All IsReady) more p.kept in
+    let long = ap (λ (cs : List Call). length cs) more in
+    let sum : sum_by room_of p.calls ≡ room_of k + sum_by room_of rest = ap (sum_by room_of) more ∙ sum_by-cons room_of k rest in
+    let time = call_left_time p.run.domain c.make-self.new.self.domain k c.make-self.result c.make-self.ensures.domain in
+    let short = (All-head IsReady k rest all).short in
     record {
-      called = c.make_kept-self.ensures.called;
-      kept = split.0;
-      room = omega (arith, sum, c.make_kept-self.ensures.room, p.room);
-      early = omega (arith, long, time, split.1.ready.short, p.early);
+      called = c.make-self.ensures.called;
+      kept = All-tail IsReady k rest all;
+      room = omega (arith, sum, c.make-self.ensures.room, p.room);
+      early = omega (arith, long, time, short, p.early);
     }
 
 pub returns-in-Some-clause-names : goal.returns-in-Some-clause-names
 returns-in-Some-clause-names c =
     let p = c.args.self.now in
-    let k = c.in-Some.call in
     let d = p.run.domain in
-    let all = calls_left p.calls.items in
     let was = named p.run.names in
     λ n.
-    left_names d (ticks c.make_kept-self.result c.make_kept-self.new.self.domain) (call_of k) (calls_left c.pop.new.self.items) all was (named c.make_kept-self.new.self.names) (names_of d all was)
-    (left_more c.pop.new.self.items p.calls.items k c.in-Some.ensures.items) c.make_kept-self.ensures.domain c.make_kept-self.ensures.names (λ m. refl) n
-    ∙ ap (λ (j : ℕ). names_of d (Advance j ∷ all) was n) (sym c.requires)
+    left_names d (ticks c.make-self.result c.make-self.new.self.domain) c.in-Some.call c.next.new.self p.calls was (named c.make-self.new.self.names) (names_of d p.calls was)
+    c.in-Some.ensures.next c.make-self.ensures.domain c.make-self.ensures.names (λ m. refl) n
+    ∙ ap (λ (j : ℕ). names_of d (Advance j ∷ p.calls) was n) (sym c.requires)
+
+-- none is left, and nothing has changed
+pub returns-in-None-clause-end : goal.returns-in-None-clause-end
+returns-in-None-clause-end c =
+    let p = c.args.self.now in
+    let none = c.in-None.ensures.next in
+    ap (λ (cs : List Call). after_calls p.run.domain (Advance p.left ∷ cs)) (none.1 ∙ sym none.0)
+
+pub returns-in-None-clause-names : goal.returns-in-None-clause-names
+returns-in-None-clause-names c =
+    let p = c.args.self.now in
+    let none = c.in-None.ensures.next in
+    λ n. ap (λ (cs : List Call). names_of p.run.domain (Advance p.left ∷ cs) (named p.run.names) n) (none.1 ∙ sym none.0)
+
+pub returns-in-None-clause-stopped : goal.returns-in-None-clause-stopped
+returns-in-None-clause-stopped c = λ stopped.
+    let none = ap (λ (cs : List Call). length cs) c.in-None.ensures.next.1 in
+    omega (arith, none, c.requires)
+
+pub invariant_of-self-in-None : goal.invariant_of-self-in-None
+invariant_of-self-in-None c =
+    let p = c.args.self.now in
+    let none = c.in-None.ensures.next in
+    let same : p.calls ≡ c.next.new.self = none.0 ∙ sym none.1 in
+    record {
+      called = p.called;
+      kept = subst (All IsReady) same p.kept;
+      room = subst (λ (cs : List Call). sum_by room_of cs ≤ spare p.run.names) same p.room;
+      early = subst (λ (cs : List Call). p.run.domain.time + p.left + length cs * 60000000 ≤ 2 ^ 42) same p.early;
+    }

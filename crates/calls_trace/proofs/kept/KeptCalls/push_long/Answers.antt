@@ -1,0 +1,18 @@
+use Rattle.std.proofs.Common.{List, [], ◌∷◌, ◌++◌, ap, ◌∙◌}
+use Rattle.domain_run.specs.declared.call.Call.{Call}
+use Rattle.calls_trace.specs.declared.kept.Place.{Place}
+use Rattle.calls_trace.specs.declared.kept.Place.TheVariants.{Long}
+use Rattle.call_book.specs.declared.kept_call.Spelled.{Spelled}
+use Rattle.calls_trace.specs.private.LittleRoom.{calls_in}
+use Rattle.calls_trace.proofs.LittleRoom.{calls_append}
+use Rattle.calls_trace.proofs.kept.KeptCalls.push_long.Goals as goal
+
+pub returns : goal.returns
+returns c =
+    let order = c.self.inside.order.items in
+    let long = c.self.inside.long.items in
+    let s = c.args.spelled in
+    ap (λ (ks : List Place). calls_in ks c.push_reserved-2.new.self.items) (c.push_reserved.ensures.items ∙ ap (λ (ks : List Place). ks ++ Long ∷ []) c.in_ok-try_reserve.ensures.items)
+    ∙ ap (λ (ss : List Spelled). calls_in (order ++ Long ∷ []) ss) (c.push_reserved-2.ensures.items ∙ ap (λ (ss : List Spelled). ss ++ s ∷ []) c.in_ok-try_reserve-2.ensures.items)
+    ∙ calls_append order (Long ∷ []) long (s ∷ []) c.self.invariant
+    ∙ ap (λ (cs : List Call). cs ++ s.call ∷ []) c.self.view_is
