@@ -1,5 +1,5 @@
 -- Words for the worked rows.
-use Rattle.std.specs.Prelude.{ℕ, true, false, List, [], ◌∷◌, Option, Some, None, codes, find, option_map, ◌==◌}
+use Rattle.std.specs.Prelude.{ℕ, true, false, Option, codes, find, option_map, ◌==◌}
 use Rattle.attr_check.specs.ParamsView.{ParamsView}
 use Rattle.attr_check.specs.Ratio.{ratio}
 use Rattle.task_script.specs.script.ScriptView.{ScriptView}
