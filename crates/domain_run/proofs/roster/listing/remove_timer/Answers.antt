@@ -1,4 +1,4 @@
-use Rattle.std.proofs.Common.{◌≡◌, take, sym, ap, ◌∙◌}
+use Rattle.std.proofs.Common.{take, sym, ap, ◌∙◌}
 use Rattle.std.proofs.lemmas.List.{take-map}
 use Rattle.domain_run.specs.private.Timers.{due_of}
 use Rattle.domain_run.proofs.Front.{remove_before}
