@@ -270,7 +270,7 @@ impl<'t> CallsReader<'t> {
     ///
     /// # Errors
     /// 31 [`CallsFault::Memory`]: a growth was refused.
-    pub fn entries(&mut self, alloc: Global) -> Result<Vec<Entry>, CallsFault>
+    pub(crate) fn entries(&mut self, alloc: Global) -> Result<Vec<Entry>, CallsFault>
         ensures next { (text : List ℕ) (before : List SectionView) (section : SectionView)
             → IsWithin text before section self.old
             → IfOk result (λ others. AreOthers text before section self.new others.items) }
