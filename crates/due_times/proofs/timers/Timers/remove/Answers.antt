@@ -1,8 +1,8 @@
-use Rattle.std.proofs.Common.{◌≡◌, ℕ, ◌+◌, ◌-◌, ◌^◌, ◌<◌, ◌≤◌, ◌++◌, ◌∷◌, [], length, take, get_or, ap, ◌∙◌, refl, sym, arith, inl, inr, subst}
+use Rattle.std.proofs.Common.{◌≡◌, ◌-◌, ◌^◌, ◌<◌, ◌∷◌, [], length, take, get_or, ap, ◌∙◌, sym, arith, subst}
 use Rattle.std.specs.List.{remove}
 use Rattle.std.proofs.lemmas.List.{length-append, length-take}
 use Rattle.std.proofs.lemmas.List.Edits.{length-remove}
-use Rattle.due_times.specs.Timers.{AreTimers, IsSize}
+use Rattle.due_times.specs.Timers.{IsSize}
 use Rattle.due_times.proofs.Leaves.{remove_first, removed_never}
 use Rattle.due_times.proofs.timers.Timers.remove.Goals as goal
 
