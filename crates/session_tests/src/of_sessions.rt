@@ -4,5 +4,6 @@ mod changing;
 mod clients;
 mod moving;
 mod opening;
+pub(crate) mod sessions;
 mod storm;
 mod turns;

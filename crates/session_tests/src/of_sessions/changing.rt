@@ -2,9 +2,10 @@
 ghost use Rattle.std.specs.Prelude.{◌≡◌, ◌<◌, length};
 
 use super::clients::make;
+use super::sessions::{clients_of, opened};
 use super::storm::{arrive, entries_of};
 use call_book::{Call, Entry, NoMemory, Reply};
-use session::{Client, Names, Options, Parts, Print, Report, Session, Shared};
+use session::{Client, Names, Parts, Report, Session, Shared};
 use std::alloc::Global;
 use std::marker::Brand;
 use std::sync::Wait;
@@ -70,12 +71,7 @@ fn change<N: Names + Send + Sync, R: Threads + Wait + Sync>(
     requires { N.id ≡ parts }
 {
     let mut session: Session<N> = Session::open(parts);
-    let mut clients = Vec::new(alloc);
-    for number in 1..10 {
-        if let Some(client) = session.client(number) {
-            let _ = clients.push(client);
-        }
-    }
+    let clients = clients_of(alloc, &mut session, 9);
     session.domains();
     let shared = session.shared();
     let here = AtomicUsize::new(0);
@@ -131,16 +127,8 @@ fn limit_of(entries: &Vec<Entry>) -> u64 {
 
 #[test]
 fn limit_changes_while_clients_run(rt: HostRuntime) -> Result<(), Fail> {
-    let options = Options {
-        domains: vec![in rt.alloc(); 4]?,
-        limit: 1048576,
-        clients: 9,
-        workers: 1,
-        history: 1024,
-        reclaim: false,
-        print: Print::Trace,
-    };
-    let parts = Parts::open(rt.alloc(), &options)?;
+    let domains = vec![in rt.alloc(); 4]?;
+    let parts = opened(rt.alloc(), domains, 1048576, 9, 1024)?;
     let report = change_in(&rt, rt.alloc(), parts)?;
     assert_eq!(rt; report.home, 256 + 9);
     for history in &report.histories {

@@ -2,10 +2,11 @@
 ghost use Rattle.std.specs.Prelude.{◌≡◌, ◌+◌, ◌<◌, ◌≤◌, length, vec_capacity, IfOk, All};
 ghost use Rattle.call_book.specs.Limits.{IsCall, IsEntry, IsSection};
 
+use super::sessions::opened;
 use attr_check::{Params, SchedAttr};
 use call_book::{Call, Entry, NoMemory, Section, read_calls};
 use rtapp_scenario::TaskSpec;
-use session::{Answer, Client, Names, Options, Parts, Print, Refusal, Report, Session, Shares};
+use session::{Answer, Client, Names, Parts, Refusal, Report, Session, Shares};
 use std::alloc::{AllocError, Global};
 use std::fmt::Write;
 use std::marker::Brand;
@@ -133,17 +134,8 @@ fn ran<R: Abort + Threads + Wait>(
         limit,
         entries,
     } = section_of(rt, alloc, text)?;
-    let options = Options {
-        domains: vec![in alloc; cpus]?,
-        limit,
-        clients: 1,
-        workers: 1,
-        history,
-        reclaim: false,
-        print: Print::Trace,
-    };
     let answers = Vec::with_capacity(alloc, entries.len())?;
-    let parts = Parts::open(alloc, &options)?;
+    let parts = opened(alloc, vec![in alloc; cpus]?, limit, 1, history)?;
     let (answers, report) = made_in(rt, alloc, parts, entries, answers)?;
     let mut said = String::new(alloc);
     for answer in &answers {

@@ -3,12 +3,12 @@ ghost use Rattle.std.specs.Prelude.{◌≡◌, ◌<◌, ◌∷◌, [], length, A
 ghost use Rattle.call_book.specs.Limits.{IsCall, IsEntry};
 
 use super::clients::{attr_of, make};
+use super::sessions;
+use super::sessions::clients_of;
 use super::storm::{arrive, entries_of};
 use call_book::{Call, Entry, NoMemory, Reply};
 use rtapp_scenario::TaskSpec;
-use session::{
-    Answer, Client, Names, Options, Parts, Print, Refusal, Report, Session, Shared, Shares,
-};
+use session::{Answer, Client, Names, Parts, Refusal, Report, Session, Shared, Shares};
 use std::alloc::Global;
 use std::fmt::Write;
 use std::marker::Brand;
@@ -104,16 +104,7 @@ fn moved_in<R: Abort + Threads + Wait>(
 fn opened(alloc: Global, clients: u32) -> Result<Parts, NoMemory>
     requires { (0 < clients) × (clients < 65) }
 {
-    let options = Options {
-        domains: vec![in alloc; 1, 1]?,
-        limit: 1048576,
-        clients,
-        workers: 1,
-        history: 1024,
-        reclaim: false,
-        print: Print::Trace,
-    };
-    Parts::open(alloc, &options)
+    sessions::opened(alloc, vec![in alloc; 1, 1]?, 1048576, clients, 1024)
 }
 
 // How many departures and arrivals stand in a history.
@@ -285,12 +276,7 @@ fn crossed<N: Names + Send + Sync, R: Abort + Threads + Wait + Sync>(
     requires { N.id ≡ parts }
 {
     let mut session: Session<N> = Session::open(parts);
-    let mut clients = Vec::new(alloc);
-    for number in 1..11 {
-        if let Some(client) = session.client(number) {
-            let _ = clients.push(client);
-        }
-    }
+    let clients = clients_of(alloc, &mut session, 10);
     if session.domains() < 2 {
         panic!(rt; "no second domain")
     }

@@ -1,24 +1,16 @@
 // Opening a session.
 ghost use Rattle.std.specs.Prelude.{◌≡◌};
 
+use super::sessions;
 use call_book::NoMemory;
-use session::{Names, Options, Parts, Print, Session};
+use session::{Names, Parts, Session};
 use std::alloc::Global;
 use std::marker::Brand;
 use std::test::Fail;
 
 // Two domains, of two CPUs and of one, and two clients.
 fn opened(alloc: Global) -> Result<Parts, NoMemory> {
-    let options = Options {
-        domains: vec![in alloc; 2, 1]?,
-        limit: 1048576,
-        clients: 2,
-        workers: 1,
-        history: 4,
-        reclaim: false,
-        print: Print::Trace,
-    };
-    Parts::open(alloc, &options)
+    sessions::opened(alloc, vec![in alloc; 2, 1]?, 1048576, 2, 4)
 }
 
 // Ends a session of which no client was handed out: how many pieces came home.

@@ -3,8 +3,9 @@ ghost use Rattle.std.specs.Prelude.{◌≡◌, ◌<◌, length, All, IfSome};
 ghost use Rattle.call_book.specs.Limits.{IsEntry, IsSection};
 
 use super::clients::make;
+use super::sessions::{clients_of, opened};
 use call_book::{Entry, NoMemory, Reply, Section, read_calls};
-use session::{Answer, Client, Names, Options, Parts, Print, Report, Session, Shared};
+use session::{Answer, Client, Names, Parts, Report, Session, Shared};
 use std::alloc::Global;
 use std::marker::Brand;
 use std::sync::Wait;
@@ -110,12 +111,7 @@ fn rage<N: Names + Send + Sync, R: Threads + Wait + Sync>(
     requires { N.id ≡ parts }
 {
     let mut session: Session<N> = Session::open(parts);
-    let mut clients = Vec::new(alloc);
-    for number in 1..65 {
-        if let Some(client) = session.client(number) {
-            let _ = clients.push(client);
-        }
-    }
+    let clients = clients_of(alloc, &mut session, 64);
     session.domains();
     let shared = session.shared();
     let played = map_vec(
@@ -150,16 +146,7 @@ fn left_by<R: Threads + Wait + Sync>(
     alloc: Global,
     leaves: bool,
 ) -> Result<(usize, Vec<u64>, usize), Fail> {
-    let options = Options {
-        domains: vec![in alloc; 64]?,
-        limit: 1048576,
-        clients: 64,
-        workers: 1,
-        history: 1024,
-        reclaim: false,
-        print: Print::Trace,
-    };
-    let parts = Parts::open(alloc, &options)?;
+    let parts = opened(alloc, vec![in alloc; 64]?, 1048576, 64, 1024)?;
     let crowd = Crowd {
         leaves,
         here: AtomicUsize::new(0),

@@ -1,13 +1,12 @@
 // The turns of the clients of a scenario: what stands in the book before and after each admission.
 ghost use Rattle.std.specs.Prelude.{◌≡◌, ◌<◌, length};
 
+use super::sessions::{clients_of, opened};
 use call_book::NoMemory;
 use domain_run::Call;
 use json_order::read;
 use rtapp_scenario::{TaskSpec, parse};
-use session::{
-    Client, Names, Options, Parts, Print, Report, Session, Shared, Turnstile, admit_all,
-};
+use session::{Client, Names, Parts, Report, Session, Shared, Turnstile, admit_all};
 use std::alloc::Global;
 use std::fmt::Write;
 use std::marker::Brand;
@@ -82,12 +81,7 @@ fn witnessed<N: Names + Send + Sync, R: Threads + Wait + Abort + Sync>(
     requires { N.id ≡ parts }
 {
     let mut session: Session<N> = Session::open(parts);
-    let mut clients = Vec::new(alloc);
-    for number in 1..4 {
-        if let Some(client) = session.client(number) {
-            let _ = clients.push(client);
-        }
-    }
+    let clients = clients_of(alloc, &mut session, 3);
     let Some(fourth) = session.client(4) else {
         panic!(rt; "no client")
     };
@@ -138,16 +132,8 @@ const TURNS: &str =
 #[test]
 fn turns_round_admissions(rt: HostRuntime) -> Result<(), Fail> {
     let scenario = parse(rt.alloc(), &read(rt.alloc(), SIX)?)?;
-    let options = Options {
-        domains: vec![in rt.alloc(); 1]?,
-        limit: 1048576,
-        clients: 4,
-        workers: 1,
-        history: 64,
-        reclaim: false,
-        print: Print::Trace,
-    };
-    let parts = Parts::open(rt.alloc(), &options)?;
+    let domains = vec![in rt.alloc(); 1]?;
+    let parts = opened(rt.alloc(), domains, 1048576, 4, 64)?;
     let report = witnessed_in(&rt, rt.alloc(), parts, &scenario.tasks)?;
     assert_eq!(rt; of_each_task(rt.alloc(), &report)?.as_str(), TURNS);
     assert_eq!(rt; report.histories.first().map_or(0, |h| h.entries.len()), 18);

@@ -2,6 +2,7 @@
 ghost use Rattle.std.specs.Prelude.{◌≡◌, ◌<◌, ◌≤◌};
 
 use super::runs::{RACE, options_on};
+use crate::of_sessions::sessions::clients_of;
 use call_book::NoMemory;
 use dl_session::{Names, Parts, Report, Session, Turnstile, admit_all, run};
 use json_order::read;
@@ -106,12 +107,7 @@ fn admit_eight<N: Names + Send + Sync, R: Threads + Wait + Abort + Sync, T: Turn
     requires { N.id ≡ parts }
 {
     let mut session: Session<N> = Session::open(parts);
-    let mut clients = Vec::new(alloc);
-    for number in 1..9 {
-        if let Some(client) = session.client(number) {
-            let _ = clients.push(client);
-        }
-    }
+    let clients = clients_of(alloc, &mut session, 8);
     if clients.is_empty() {
         panic!(rt; "no client")
     }
