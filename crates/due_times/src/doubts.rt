@@ -45,9 +45,12 @@ fn mark_at(marks: u64, place: usize) -> u64
 }
 
 impl Doubts {
-    /// Each CPU is in doubt.
+    /// Each CPU is in doubt, and a sum and a limit of zero are noted.
     pub fn all() -> Doubts
-        ensures { (i : ℕ) → i < 64 → bit_at result.cpus i ≡ 1 }
+        ensures doubted { (i : ℕ) → i < 64 → bit_at result.cpus i ≡ 1 }
+        ensures rated { result.rated ≡ 0 }
+        ensures sum { result.sum ≡ 0 }
+        ensures limit { result.limit ≡ 0 }
     {
         Doubts {
             cpus: u64::MAX,
@@ -61,6 +64,8 @@ impl Doubts {
     pub fn mark_rated(&mut self)
         ensures bare { (i : ℕ) → bit_at self.new.cpus i ≡ 0 → bit_at self.old.cpus i ≡ 0 }
         ensures free { (i : ℕ) → bit_at self.new.cpus i ≡ 0 → bit_at self.old.rated i ≡ 0 }
+        ensures others { (i : ℕ) → bit_at self.old.rated i ≡ 0
+            → bit_at self.new.cpus i ≡ bit_at self.old.cpus i }
         ensures rated { self.new.rated ≡ self.old.rated }
         ensures sum { self.new.sum ≡ self.old.sum }
         ensures limit { self.new.limit ≡ self.old.limit }
@@ -88,6 +93,9 @@ impl Doubts {
     #[inline(always)]
     pub fn mark_where_rated(&mut self, cpu: usize)
         ensures free { cpu < 64 → bit_at self.new.cpus cpu ≡ 0 → bit_at self.old.rated cpu ≡ 0 }
+        ensures spared { bit_at self.old.rated cpu ≡ 0
+            → bit_at self.new.cpus cpu ≡ bit_at self.old.cpus cpu }
+        ensures others { (i : ℕ) → i ≢ cpu → bit_at self.new.cpus i ≡ bit_at self.old.cpus i }
         ensures bare { (i : ℕ) → bit_at self.new.cpus i ≡ 0 → bit_at self.old.cpus i ≡ 0 }
         ensures rated { self.new.rated ≡ self.old.rated }
         ensures sum { self.new.sum ≡ self.old.sum }
@@ -105,6 +113,9 @@ impl Doubts {
         ensures sat { IsTrue sat → cpu < 64 → bit_at self.new.cpus cpu ≡ 1 }
         ensures free { sat ≡ false → cpu < 64 → bit_at self.new.cpus cpu ≡ 0
             → bit_at self.old.rated cpu ≡ 0 }
+        ensures spared { sat ≡ false → bit_at self.old.rated cpu ≡ 0
+            → bit_at self.new.cpus cpu ≡ bit_at self.old.cpus cpu }
+        ensures others { (i : ℕ) → i ≢ cpu → bit_at self.new.cpus i ≡ bit_at self.old.cpus i }
         ensures bare { (i : ℕ) → bit_at self.new.cpus i ≡ 0 → bit_at self.old.cpus i ≡ 0 }
         ensures rated { self.new.rated ≡ self.old.rated }
         ensures sum { self.new.sum ≡ self.old.sum }
@@ -123,7 +134,9 @@ impl Doubts {
         requires { cpu < 64 }
         ensures others { (i : ℕ) → i ≢ cpu → bit_at self.new.cpus i ≡ bit_at self.old.cpus i }
         ensures elsewhere { (i : ℕ) → i ≢ cpu → bit_at self.new.rated i ≡ bit_at self.old.rated i }
+        ensures cleared { bit_at self.new.cpus cpu ≡ 0 }
         ensures here { IsTrue is_rated → bit_at self.new.rated cpu ≡ 1 }
+        ensures free { is_rated ≡ false → bit_at self.new.rated cpu ≡ 0 }
         ensures sum { self.new.sum ≡ self.old.sum }
         ensures limit { self.new.limit ≡ self.old.limit }
     {
@@ -138,7 +151,8 @@ impl Doubts {
     /// Whether this sum and this limit are noted.
     #[inline(always)]
     pub fn is_for(&self, sum: u64, limit: u64) -> bool
-        ensures { IsTrue result → (self.now.sum ≡ sum) × (self.now.limit ≡ limit) }
+        ensures noted { IsTrue result → (self.now.sum ≡ sum) × (self.now.limit ≡ limit) }
+        ensures same { self.now.sum ≡ sum → self.now.limit ≡ limit → IsTrue result }
     {
         self.sum == sum && self.limit == limit
     }
@@ -147,8 +161,10 @@ impl Doubts {
     /// rate was worked out from, or they are noted.
     #[inline(always)]
     pub fn may_trust(&self, is_rated: bool, sum: u64, limit: u64) -> bool
-        ensures { IsTrue result → IsTrue is_rated
+        ensures noted { IsTrue result → IsTrue is_rated
             → (self.now.sum ≡ sum) × (self.now.limit ≡ limit) }
+        ensures free { is_rated ≡ false → IsTrue result }
+        ensures same { self.now.sum ≡ sum → self.now.limit ≡ limit → IsTrue result }
     {
         if !is_rated {
             return true;
@@ -167,6 +183,10 @@ impl Doubts {
             → bit_at self.new.rated cpu ≡ 1 }
         ensures noted { IsTrue is_rated → bit_at self.new.cpus cpu ≡ 0
             → (self.old.sum ≡ sum) × (self.old.limit ≡ limit) }
+        ensures free { is_rated ≡ false → (bit_at self.new.cpus cpu ≡ 0)
+            × (bit_at self.new.rated cpu ≡ 0) }
+        ensures same { self.old.sum ≡ sum → self.old.limit ≡ limit
+            → bit_at self.new.cpus cpu ≡ 0 }
         ensures sum { self.new.sum ≡ self.old.sum }
         ensures limit { self.new.limit ≡ self.old.limit }
     {
@@ -184,6 +204,10 @@ impl Doubts {
         ensures bare { (i : ℕ) → bit_at self.new.cpus i ≡ 0 → bit_at self.old.cpus i ≡ 0 }
         ensures free { (i : ℕ) → bit_at self.new.cpus i ≡ 0
             → (bit_at self.old.rated i ≡ 0) ⊎ ((self.old.sum ≡ sum) × (self.old.limit ≡ limit)) }
+        ensures others { (i : ℕ) → bit_at self.old.rated i ≡ 0
+            → bit_at self.new.cpus i ≡ bit_at self.old.cpus i }
+        ensures same { self.old.sum ≡ sum → self.old.limit ≡ limit
+            → self.new.cpus ≡ self.old.cpus }
         ensures rated { self.new.rated ≡ self.old.rated }
         ensures sum { self.new.sum ≡ sum }
         ensures limit { self.new.limit ≡ limit }

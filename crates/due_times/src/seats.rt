@@ -2,7 +2,7 @@
 //! seat tells since when it has not been charged and at which rate it runs, so that time goes on for
 //! all of them at once.
 
-ghost use Rattle.std.specs.Prelude.{ℕ, false, IsTrue, is_none, ◌≡◌, ◌<◌, ◌≤◌, ◌+◌, ◌^◌, All, IfOk, IfSome, None, Some, length, map, option_map, replicate, slice_index_or, slice_set, vec_capacity};
+ghost use Rattle.std.specs.Prelude.{ℕ, false, IsTrue, is_none, ◌≡◌, ◌≢◌, ◌<◌, ◌≤◌, ◌+◌, ◌^◌, All, IfOk, IfSome, IsSome, IsSomeAnd, None, Some, length, map, option_map, replicate, slice_index_or, slice_set, vec_capacity};
 ghost use Rattle.due_times.specs.Seats as spec;
 ghost use Rattle.due_times.specs.Timers.{AreLater, least};
 
@@ -74,7 +74,8 @@ impl Basis {
     /// Whether it is the same.
     #[inline(always)]
     pub fn is_same(&self, other: &Basis) -> bool
-        ensures { IsTrue result → self.now ≡ other.now }
+        ensures same { IsTrue result → self.now ≡ other.now }
+        ensures other { result ≡ false → self.now ≢ other.now }
     {
         self == other
     }
@@ -177,8 +178,10 @@ impl Seats {
     #[inline(always)]
     pub fn is_rated(&self, cpu: usize) -> bool
         requires { cpu < length self.now.seats }
-        ensures { result ≡ false
+        ensures free { result ≡ false
             → IfSome (slice_index_or self.now.seats cpu None) (λ s. s.basis ≡ None) }
+        ensures rated { IsTrue result
+            → IsSomeAnd (slice_index_or self.now.seats cpu None) (λ s. IsSome s.basis) }
     {
         match self.seats[cpu] {
             None => false,
@@ -261,6 +264,8 @@ impl Seats {
         ensures from { from ≤ result }
         ensures most { result ≤ length self.now.seats }
         ensures others { AreLater (map spec.end_of self.now.seats) time from result }
+        ensures ended { result < length self.now.seats
+            → spec.end_of (slice_index_or self.now.seats result None) ≤ time }
         ensures seats { All (λ o. IfSome o (spec.IsAhead self.now.upto)) self.now.seats }
     {
         self.ends.next_due(from, time)

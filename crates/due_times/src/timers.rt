@@ -1,7 +1,7 @@
 //! When something is next to be done to each listed task before the choice. So a tick looks only at
 //! the tasks that are due.
 
-ghost use Rattle.std.specs.Prelude.{◌≡◌, ◌<◌, ◌≤◌, ◌-◌, ◌+◌, ◌*◌, ◌^◌, ◌∷◌, ◌++◌, [], length, min, false, take, replicate, slice_index_or, slice_set, IfOk};
+ghost use Rattle.std.specs.Prelude.{◌≡◌, ◌<◌, ◌≤◌, ◌-◌, ◌+◌, ◌*◌, ◌^◌, ◌∷◌, ◌++◌, [], length, min, false, take, replicate, slice_index_or, slice_set, IfOk, IsTrue};
 ghost use Rattle.std.specs.List.{remove};
 ghost use Rattle.due_times.specs.Timers as spec;
 
@@ -134,9 +134,10 @@ impl Timers {
         self.tournament.remove(place);
     }
 
-    /// Whether a task may be due at a time. Where it says no, none is.
+    /// Whether a task may be due at a time: the first time has come. Where it says no, none is due.
     pub fn may_be_due(&self, time: u64) -> bool
-        ensures { result ≡ false → time < spec.least self.now }
+        ensures later { result ≡ false → time < spec.least self.now }
+        ensures come { IsTrue result → spec.least self.now ≤ time }
     {
         self.least() <= time
     }

@@ -16,13 +16,13 @@ invariant_of-self c =
     let i = c.self.invariant in
     let w = length s.queue.accounts.all in
     let tasks = owed_all s.seats s.tasks.items in
-    let noted = c.may_trust.ensures c.if-may_trust.true in
+    let noted = c.may_trust.ensures.noted c.if-may_trust.true in
     let here = subst (λ (r : RosterView). IsSettled (get_or r.places c.args.cpu None) (basis_in r.cpus c.args.limit r.tasks c.args.cpu) (get_or r.seats c.args.cpu None)) (sym c.self.view_is) c.requires.settled in
     record {
       counted = i.counted;
       waits = i.waits;
       wide = i.wide;
-      settled = trust_settled s.doubts c.clear.new.self w c.args.limit c.args.cpu s.queue.schedule.places s.seats.seats tasks c.is_rated-is_rated.result c.clear.ensures.others c.clear.ensures.elsewhere c.clear.ensures.here c.is_rated-is_rated.ensures c.clear.ensures.sum c.clear.ensures.limit (λ is. ((noted is).0 ∙ c.sum.ensures ∙ ap (λ (r : RosterView). sum_of r.tasks) (sym c.self.view_is), (noted is).1)) here i.settled;
+      settled = trust_settled s.doubts c.clear.new.self w c.args.limit c.args.cpu s.queue.schedule.places s.seats.seats tasks c.is_rated-is_rated.result c.clear.ensures.others c.clear.ensures.elsewhere c.clear.ensures.here c.is_rated-is_rated.ensures.free c.clear.ensures.sum c.clear.ensures.limit (λ is. ((noted is).0 ∙ c.sum.ensures ∙ ap (λ (r : RosterView). sum_of r.tasks) (sym c.self.view_is), (noted is).1)) here i.settled;
       room = i.room;
     }
 
