@@ -4,11 +4,12 @@
 ghost use Rattle.std.specs.Prelude.{ℕ, ◌≡◌, ◌+◌, ◌<◌, ◌≤◌, ◌++◌, List, length, slice_index_or, All, Option, Some, None, IfSome, IsTrue};
 ghost use Rattle.switch_text.specs.Names.{named, HasName};
 ghost use Rattle.switch_text.specs.Line.{cpu_part};
-ghost use Rattle.switch_text.specs.private.Parts.{second_part, state_part};
-ghost use Rattle.switch_text.specs.private.Pieces.{short_text_of};
+ghost use Rattle.switch_text.specs.private.Parts.{second_part, state_part, task_text, leaving_text, coming_text};
+ghost use Rattle.switch_text.specs.private.Pieces.{text_of, short_text_of};
 ghost use Rattle.switch_text.specs.private.Ready.{IsReady, who_of, AreNobodys, IsSlot, IsLane, nth_state, IsMiddles, IsTexts};
 
-use crate::lines::{pid_for, put_coming, put_cpu, put_leaving, put_second, put_state, put_task};
+use crate::called::{Called, spell};
+use crate::lines::{put_coming, put_cpu, put_leaving, put_second, put_state, put_task};
 use crate::piece::{Piece, ShortPiece};
 use crate::run::Run;
 use domain_run::PrevState;
@@ -100,9 +101,9 @@ fn no_slot() -> Slot
 fn middle_of(state: PrevState) -> ShortPiece
     ensures { short_text_of result ≡ state_part state }
 {
-    let mut text = [0u8; 256];
+    let mut text = [0u8; 64];
     let len = put_state(&mut text, 0, state);
-    ShortPiece::of(&text[..len])
+    ShortPiece::front(&text, len)
 }
 
 fn all_middles() -> Middles
@@ -125,13 +126,13 @@ fn lane_of(cpu: u32, second: u64) -> Lane
     ensures second { result.second ≡ second }
     ensures text { IsLane result }
 {
-    let mut text = [0u8; 256];
+    let mut text = [0u8; 64];
     let at = put_cpu(&mut text, 0, cpu);
     let len = put_second(&mut text, at, second);
     Lane {
         cpu,
         second,
-        text: ShortPiece::of(&text[..len]),
+        text: ShortPiece::front(&text, len),
     }
 }
 
@@ -236,26 +237,59 @@ pub(crate) fn middle(middles: &Middles, state: PrevState) -> &ShortPiece
     &middles.texts[place_of(state)]
 }
 
+/// In front of a line, where it leaves.
+#[inline(always)]
+fn head_of(called: &Called) -> ShortPiece
+    requires title { length (short_text_of called.now.title) ≤ 16 }
+    requires pid { length (short_text_of called.now.pid) ≤ 10 }
+    ensures { short_text_of result
+        ≡ task_text (short_text_of called.now.title) (short_text_of called.now.pid) }
+{
+    let mut text = [0u8; 64];
+    let len = put_task(&mut text, 0, &called.title, &called.pid);
+    ShortPiece::front(&text, len)
+}
+
+/// The event's fields where it leaves, up to the state.
+#[inline(always)]
+fn leaving_of(called: &Called, task: Option<u32>) -> Piece
+    requires comm { length (short_text_of called.now.comm) ≤ 15 }
+    requires pid { length (short_text_of called.now.pid) ≤ 10 }
+    ensures { text_of result
+        ≡ leaving_text (short_text_of called.now.comm) (short_text_of called.now.pid) task }
+{
+    let mut text = [0u8; 64];
+    let len = put_leaving(&mut text, 0, &called.comm, &called.pid, task);
+    Piece::front(text, len)
+}
+
+/// The event's fields where it comes.
+#[inline(always)]
+fn coming_of(called: &Called, task: Option<u32>) -> Piece
+    requires comm { length (short_text_of called.now.comm) ≤ 15 }
+    requires pid { length (short_text_of called.now.pid) ≤ 10 }
+    ensures { text_of result
+        ≡ coming_text (short_text_of called.now.comm) (short_text_of called.now.pid) task }
+{
+    let mut text = [0u8; 64];
+    let len = put_coming(&mut text, 0, &called.comm, &called.pid, task);
+    Piece::front(text, len)
+}
+
 /// The texts of a task or of an idle CPU.
+#[inline(always)]
 fn make(names: &IndexMap<u32, String>, who: Who, cpu: u32, task: Option<u32>) -> Slot
     requires cpu { cpu < 512 }
     requires name { IfSome task (HasName names.now) }
     ensures who { result.who ≡ who }
     ensures texts { IsReady (named names.now) cpu task result }
 {
-    let pid = pid_for(task);
-    let mut text = [0u8; 256];
-    let len = put_task(&mut text, 0, names, task, pid);
-    let head = ShortPiece::of(&text[..len]);
-    let len = put_leaving(&mut text, 0, names, cpu, task, pid);
-    let leaving = Piece::of(&text[..len]);
-    let len = put_coming(&mut text, 0, names, cpu, task, pid);
-    let coming = Piece::of(&text[..len]);
+    let called = spell(names, cpu, task);
     Slot {
         who,
-        head,
-        leaving,
-        coming,
+        head: head_of(&called),
+        leaving: leaving_of(&called, task),
+        coming: coming_of(&called, task),
     }
 }
 
