@@ -39,7 +39,8 @@ fn put_right(out: &mut [u8], at: usize, width: usize, text: &ShortPiece) -> usiz
     requires width { width ≤ 16 }
     requires room { at + 48 ≤ length out.old }
     ensures place { result ≡ at + length (right_in width (short_text_of text.now)) }
-    ensures text { take result out.new ≡ take at out.old ++ right_in width (short_text_of text.now) }
+    ensures text { take result out.new
+        ≡ take at out.old ++ right_in width (short_text_of text.now) }
 {
     let at = ShortPiece::spaces(width.saturating_sub(text.len())).put(out, at);
     text.put(out, at)
@@ -51,7 +52,8 @@ fn put_left(out: &mut [u8], at: usize, width: usize, text: &ShortPiece) -> usize
     requires width { width ≤ 16 }
     requires room { at + length (short_text_of text.now) + 32 ≤ length out.old }
     ensures place { result ≡ at + length (left_in width (short_text_of text.now)) }
-    ensures text { take result out.new ≡ take at out.old ++ left_in width (short_text_of text.now) }
+    ensures text { take result out.new
+        ≡ take at out.old ++ left_in width (short_text_of text.now) }
 {
     let at = text.put(out, at);
     ShortPiece::spaces(width.saturating_sub(text.len())).put(out, at)
@@ -141,7 +143,8 @@ pub(crate) fn put_task(out: &mut [u8], at: usize, title: &ShortPiece, pid: &Shor
     requires title { length (short_text_of title.now) ≤ 16 }
     requires pid { length (short_text_of pid.now) ≤ 10 }
     requires room { at + 64 ≤ length out.old }
-    ensures place { result ≡ at + length (task_text (short_text_of title.now) (short_text_of pid.now)) }
+    ensures place { result
+        ≡ at + length (task_text (short_text_of title.now) (short_text_of pid.now)) }
     ensures short { result ≤ at + 27 }
     ensures text { take result out.new
         ≡ take at out.old ++ task_text (short_text_of title.now) (short_text_of pid.now) }
@@ -204,7 +207,8 @@ pub(crate) fn put_leaving(
     requires comm { length (short_text_of comm.now) ≤ 15 }
     requires pid { length (short_text_of pid.now) ≤ 10 }
     requires room { at + 64 ≤ length out.old }
-    ensures place { result ≡ at + length (leaving_text (short_text_of comm.now) (short_text_of pid.now) prev) }
+    ensures place { result
+        ≡ at + length (leaving_text (short_text_of comm.now) (short_text_of pid.now) prev) }
     ensures short { result ≤ at + 61 }
     ensures text { take result out.new
         ≡ take at out.old ++ leaving_text (short_text_of comm.now) (short_text_of pid.now) prev }
@@ -240,7 +244,8 @@ pub(crate) fn put_coming(
     requires comm { length (short_text_of comm.now) ≤ 15 }
     requires pid { length (short_text_of pid.now) ≤ 10 }
     requires room { at + 64 ≤ length out.old }
-    ensures place { result ≡ at + length (coming_text (short_text_of comm.now) (short_text_of pid.now) next) }
+    ensures place { result
+        ≡ at + length (coming_text (short_text_of comm.now) (short_text_of pid.now) next) }
     ensures short { result ≤ at + 50 }
     ensures text { take result out.new
         ≡ take at out.old ++ coming_text (short_text_of comm.now) (short_text_of pid.now) next }
