@@ -1,6 +1,6 @@
 //! How a task, or the idle task of a CPU, is called in lines.
 
-ghost use Rattle.std.specs.Prelude.{◌≡◌, ◌++◌, ◌<◌, ◌≤◌, ◌^◌, codes, decimal, length, IfSome};
+ghost use Rattle.std.specs.Prelude.{◌≡◌, ◌++◌, ◌<◌, ◌≤◌, codes, decimal, length, IfSome};
 ghost use Rattle.switch_text.specs.Names.{named, HasName};
 ghost use Rattle.switch_text.specs.Line.{pid_of, title_of};
 ghost use Rattle.switch_text.specs.private.Called.{IsCalled};
