@@ -3,6 +3,7 @@ mod Room
 mod Overhang
 mod Digits
 mod Kept
+mod Calling
 mod Order
 mod Winning
 mod Merged

@@ -1,3 +1,4 @@
+pub mod Called
 pub mod EventMerging
 pub mod Fronts
 pub mod Merging

@@ -8,7 +8,7 @@ ghost use Rattle.switch_text.specs.Runs.{views, IsRun};
 ghost use Rattle.switch_text.specs.Events.{events_of};
 ghost use Rattle.switch_text.specs.Telling.{told_views, IsTold};
 ghost use Rattle.switch_text.specs.private.EventMerging.{line_of_next, CanShow};
-ghost use Rattle.switch_text.specs.private.Ready.{names_at, AreNobodys, IsSlot, IsTexts};
+ghost use Rattle.switch_text.specs.private.Ready.{names_at, AreEnough, AreNobodys, IsSlot, IsTexts};
 ghost use Rattle.switch_text.specs.private.ToldMerging.{next_told_event, IsShown};
 
 use crate::batch::Batch;
@@ -45,13 +45,13 @@ fn append_event(
 )
     requires few { length runs.now ≤ 8 }
     requires shown { CanShow runs.now next.now }
-    requires many { length slots.old ≡ 640 }
+    requires many { AreEnough slots.old }
     requires slots { All (IsSlot (names_at runs.now)) slots.old }
     requires texts { IsTexts texts.old }
     requires room { length batch.old ≤ 65152 }
     ensures text { batch.new ≡ batch.old ++ line_of_next next.now }
     ensures short { length batch.new ≤ length batch.old + 384 }
-    ensures many { length slots.new ≡ 640 }
+    ensures many { AreEnough slots.new }
     ensures slots { All (IsSlot (names_at runs.now)) slots.new }
     ensures texts { IsTexts texts.new }
 {
@@ -76,7 +76,7 @@ fn write_with<W: Write>(
     requires few_told { length told.now ≤ 8 }
     requires runs { All IsRun runs.now }
     requires told { All IsTold told.now }
-    requires many { length slots.old ≡ 640 }
+    requires many { AreEnough slots.old }
     requires empty { AreNobodys slots.old }
     requires faults { faults_of writer.old < 2 ^ 63 }
     ensures ok { OnOk result (Appends
@@ -120,7 +120,7 @@ fn write_with<W: Write>(
 pub fn write_events_in<W: Write>(
     runs: &[Run<'_>],
     told: &[Told<'_>],
-    mut room: TraceRoom,
+    room: TraceRoom,
     writer: &mut Counted<W>,
 ) -> Result<(), WriteFault>
     requires few_runs { length runs.now ≤ 8 }
@@ -136,5 +136,6 @@ pub fn write_events_in<W: Write>(
         (events_of (views runs.now) (told_views told.now)) f.written) }
     ensures faults { faults_of writer.new ≡ one_more_unless (is_ok result) (faults_of writer.old) }
 {
+    let mut room = room.widened(runs);
     write_with(runs, told, room.slots.as_mut_slice(), writer)
 }

@@ -21,6 +21,7 @@
 #![tactic(auto)]
 
 mod batch;
+mod called;
 mod event_merge;
 mod events;
 mod fault;

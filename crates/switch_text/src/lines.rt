@@ -1,10 +1,13 @@
 //! The line of a switch, put together piece by piece.
 
-ghost use Rattle.std.specs.Prelude.{ℕ, ◌≡◌, ◌+◌, ◌-◌, ◌<◌, ◌≤◌, ◌^◌, ◌++◌, length, take, replicate, decimal, IfSome};
+ghost use Rattle.std.specs.Prelude.{◌≡◌, ◌+◌, ◌-◌, ◌<◌, ◌≤◌, ◌^◌, ◌++◌, length, take, decimal};
 ghost use Rattle.switch_text.specs.Names.{named, HasName, HasLine};
-ghost use Rattle.switch_text.specs.Line.{right_in, left_in, digits_in, pid_of, prio_of, title_of, comm_of, letters_of, task_part, cpu_part, line_of};
-ghost use Rattle.switch_text.specs.private.Parts.{second_part, event_part, leaving_part, state_part, coming_part};
+ghost use Rattle.switch_text.specs.Line.{right_in, left_in, digits_in, pid_of, prio_of, letters_of, cpu_part, line_of};
+ghost use Rattle.switch_text.specs.private.Parts.{second_part, event_part, task_text, leaving_text, state_part, coming_text};
+ghost use Rattle.switch_text.specs.private.Pieces.{short_text_of};
 
+use crate::called::{decimal_piece, spell};
+use crate::piece::ShortPiece;
 use domain_run::{PrevState, Switch};
 use indexmap::IndexMap;
 use itoa::Buffer;
@@ -21,17 +24,6 @@ pub(crate) fn put(out: &mut [u8], at: usize, text: &[u8]) -> usize
     end
 }
 
-#[inline(always)]
-fn put_times(out: &mut [u8], at: usize, times: usize, byte: u8) -> usize
-    requires { at + times ≤ length out.old }
-    ensures place { result ≡ at + times }
-    ensures text { take result out.new ≡ take at out.old ++ replicate times byte }
-{
-    let end = at + times;
-    out[at..end].fill(byte);
-    end
-}
-
 pub(crate) fn put_decimal(out: &mut [u8], at: usize, n: u64) -> usize
     requires { at + length (decimal n) ≤ length out.old }
     ensures place { result ≡ at + length (decimal n) }
@@ -42,23 +34,29 @@ pub(crate) fn put_decimal(out: &mut [u8], at: usize, n: u64) -> usize
 }
 
 /// With spaces before it, where it is shorter than the width.
-fn put_right(out: &mut [u8], at: usize, width: usize, text: &[u8]) -> usize
-    requires { at + length (right_in width text.now) ≤ length out.old }
-    ensures place { result ≡ at + length (right_in width text.now) }
-    ensures text { take result out.new ≡ take at out.old ++ right_in width text.now }
+#[inline(always)]
+fn put_right(out: &mut [u8], at: usize, width: usize, text: &ShortPiece) -> usize
+    requires width { width ≤ 16 }
+    requires room { at + 48 ≤ length out.old }
+    ensures place { result ≡ at + length (right_in width (short_text_of text.now)) }
+    ensures text { take result out.new
+        ≡ take at out.old ++ right_in width (short_text_of text.now) }
 {
-    let at = put_times(out, at, width.saturating_sub(text.len()), b' ');
-    put(out, at, text)
+    let at = ShortPiece::spaces(width.saturating_sub(text.len())).put(out, at);
+    text.put(out, at)
 }
 
 /// With spaces behind it, where it is shorter than the width.
-fn put_left(out: &mut [u8], at: usize, width: usize, text: &[u8]) -> usize
-    requires { at + length (left_in width text.now) ≤ length out.old }
-    ensures place { result ≡ at + length (left_in width text.now) }
-    ensures text { take result out.new ≡ take at out.old ++ left_in width text.now }
+#[inline(always)]
+fn put_left(out: &mut [u8], at: usize, width: usize, text: &ShortPiece) -> usize
+    requires width { width ≤ 16 }
+    requires room { at + length (short_text_of text.now) + 32 ≤ length out.old }
+    ensures place { result ≡ at + length (left_in width (short_text_of text.now)) }
+    ensures text { take result out.new
+        ≡ take at out.old ++ left_in width (short_text_of text.now) }
 {
-    let at = put(out, at, text);
-    put_times(out, at, width.saturating_sub(text.len()), b' ')
+    let at = text.put(out, at);
+    ShortPiece::spaces(width.saturating_sub(text.len())).put(out, at)
 }
 
 /// The two digits of each number below 100.
@@ -104,28 +102,6 @@ pub(crate) fn name_of(names: &IndexMap<u32, String>, number: u32) -> &str
     names.get(&number).unwrap().as_str()
 }
 
-/// The name in the event's fields.
-fn put_comm(
-    out: &mut [u8],
-    at: usize,
-    names: &IndexMap<u32, String>,
-    cpu: u32,
-    task: Option<u32>,
-) -> usize
-    requires name { IfSome task (HasName names.now) }
-    requires room { at + length (comm_of (named names.now) cpu task) ≤ length out.old }
-    ensures place { result ≡ at + length (comm_of (named names.now) cpu task) }
-    ensures text { take result out.new ≡ take at out.old ++ comm_of (named names.now) cpu task }
-{
-    match task {
-        None => {
-            let at = put(out, at, b"swapper/");
-            put_decimal(out, at, u64::from(cpu))
-        }
-        Some(number) => put(out, at, name_of(names, number).as_bytes()),
-    }
-}
-
 /// The number that the trace shows: 1000 above the task's own (own), 0 for idle.
 pub(crate) fn pid_for(task: Option<u32>) -> u64
     ensures value { result ≡ pid_of task }
@@ -139,7 +115,8 @@ pub(crate) fn pid_for(task: Option<u32>) -> u64
 
 /// What ftrace shows as the priority: -1 for a deadline task, 120 for idle.
 fn prio(task: Option<u32>) -> &'static [u8]
-    ensures { result.now ≡ prio_of task }
+    ensures text { result.now ≡ prio_of task }
+    ensures short { length result.now ≤ 3 }
 {
     match task {
         None => b"120",
@@ -159,36 +136,22 @@ fn letters(state: PrevState) -> &'static [u8]
     }
 }
 
-/// The name in front of a line.
-fn title(names: &IndexMap<u32, String>, task: Option<u32>) -> &str
-    requires { IfSome task (HasName names.now) }
-    ensures { result.now ≡ title_of (named names.now) task }
+/// Whose place is taken, by the name in front of a line and the number.
+#[inline(always)]
+#[tactic(auto, unfolding(crate::specs::private::Parts::task_text))]
+pub(crate) fn put_task(out: &mut [u8], at: usize, title: &ShortPiece, pid: &ShortPiece) -> usize
+    requires title { length (short_text_of title.now) ≤ 16 }
+    requires pid { length (short_text_of pid.now) ≤ 10 }
+    requires room { at + 64 ≤ length out.old }
+    ensures place { result
+        ≡ at + length (task_text (short_text_of title.now) (short_text_of pid.now)) }
+    ensures short { result ≤ at + 27 }
+    ensures text { take result out.new
+        ≡ take at out.old ++ task_text (short_text_of title.now) (short_text_of pid.now) }
 {
-    match task {
-        None => "<idle>",
-        Some(number) => name_of(names, number),
-    }
-}
-
-/// Whose place is taken.
-#[tactic(auto, unfolding(crate::specs::Line::task_part))]
-pub(crate) fn put_task(
-    out: &mut [u8],
-    at: usize,
-    names: &IndexMap<u32, String>,
-    prev: Option<u32>,
-    pid: u64,
-) -> usize
-    requires pid { pid ≡ pid_of prev }
-    requires name { IfSome prev (HasName names.now) }
-    requires room { at + length (task_part (named names.now) prev) ≤ length out.old }
-    ensures place { result ≡ at + length (task_part (named names.now) prev) }
-    ensures text { take result out.new ≡ take at out.old ++ task_part (named names.now) prev }
-{
-    let mut buffer = Buffer::new();
-    let at = put_right(out, at, 16, title(names, prev).as_bytes());
+    let at = put_right(out, at, 16, title);
     let at = put(out, at, b"-");
-    put_left(out, at, 7, buffer.format(pid).as_bytes())
+    put_left(out, at, 7, pid)
 }
 
 /// On which CPU of the machine.
@@ -210,12 +173,13 @@ pub(crate) fn put_cpu(out: &mut [u8], at: usize, cpu: u32) -> usize
 
 /// The second, and the point behind it.
 pub(crate) fn put_second(out: &mut [u8], at: usize, second: u64) -> usize
-    requires { at + length (second_part second) ≤ length out.old }
+    requires small { second < 10000000 }
+    requires room { at + 48 ≤ length out.old }
     ensures place { result ≡ at + length (second_part second) }
+    ensures short { result ≤ at + 8 }
     ensures text { take result out.new ≡ take at out.old ++ second_part second }
 {
-    let mut buffer = Buffer::new();
-    let at = put_right(out, at, 5, buffer.format(second).as_bytes());
+    let at = put_right(out, at, 5, &decimal_piece(second));
     put(out, at, b".")
 }
 
@@ -231,24 +195,27 @@ pub(crate) fn put_event(out: &mut [u8], at: usize) -> usize
 }
 
 /// The event's fields of who leaves, from the name up to the state.
-#[tactic(auto, unfolding(crate::specs::private::Parts::leaving_part))]
+#[inline(always)]
+#[tactic(auto, unfolding(crate::specs::private::Parts::leaving_text))]
 pub(crate) fn put_leaving(
     out: &mut [u8],
     at: usize,
-    names: &IndexMap<u32, String>,
-    cpu: u32,
+    comm: &ShortPiece,
+    pid: &ShortPiece,
     prev: Option<u32>,
-    pid: u64,
 ) -> usize
-    requires pid { pid ≡ pid_of prev }
-    requires name { IfSome prev (HasName names.now) }
-    requires room { at + length (leaving_part (named names.now) cpu prev) ≤ length out.old }
-    ensures place { result ≡ at + length (leaving_part (named names.now) cpu prev) }
-    ensures text { take result out.new ≡ take at out.old ++ leaving_part (named names.now) cpu prev }
+    requires comm { length (short_text_of comm.now) ≤ 15 }
+    requires pid { length (short_text_of pid.now) ≤ 10 }
+    requires room { at + 64 ≤ length out.old }
+    ensures place { result
+        ≡ at + length (leaving_text (short_text_of comm.now) (short_text_of pid.now) prev) }
+    ensures short { result ≤ at + 61 }
+    ensures text { take result out.new
+        ≡ take at out.old ++ leaving_text (short_text_of comm.now) (short_text_of pid.now) prev }
 {
-    let at = put_comm(out, at, names, cpu, prev);
+    let at = comm.put(out, at);
     let at = put(out, at, b" prev_pid=");
-    let at = put_decimal(out, at, pid);
+    let at = pid.put(out, at);
     let at = put(out, at, b" prev_prio=");
     let at = put(out, at, prio(prev));
     put(out, at, b" prev_state=")
@@ -265,24 +232,27 @@ pub(crate) fn put_state(out: &mut [u8], at: usize, state: PrevState) -> usize
 }
 
 /// The event's fields of who comes, from the name to the end of the line.
-#[tactic(auto, unfolding(crate::specs::private::Parts::coming_part))]
+#[inline(always)]
+#[tactic(auto, unfolding(crate::specs::private::Parts::coming_text))]
 pub(crate) fn put_coming(
     out: &mut [u8],
     at: usize,
-    names: &IndexMap<u32, String>,
-    cpu: u32,
+    comm: &ShortPiece,
+    pid: &ShortPiece,
     next: Option<u32>,
-    pid: u64,
 ) -> usize
-    requires pid { pid ≡ pid_of next }
-    requires name { IfSome next (HasName names.now) }
-    requires room { at + length (coming_part (named names.now) cpu next) ≤ length out.old }
-    ensures place { result ≡ at + length (coming_part (named names.now) cpu next) }
-    ensures text { take result out.new ≡ take at out.old ++ coming_part (named names.now) cpu next }
+    requires comm { length (short_text_of comm.now) ≤ 15 }
+    requires pid { length (short_text_of pid.now) ≤ 10 }
+    requires room { at + 64 ≤ length out.old }
+    ensures place { result
+        ≡ at + length (coming_text (short_text_of comm.now) (short_text_of pid.now) next) }
+    ensures short { result ≤ at + 50 }
+    ensures text { take result out.new
+        ≡ take at out.old ++ coming_text (short_text_of comm.now) (short_text_of pid.now) next }
 {
-    let at = put_comm(out, at, names, cpu, next);
+    let at = comm.put(out, at);
     let at = put(out, at, b" next_pid=");
-    let at = put_decimal(out, at, pid);
+    let at = pid.put(out, at);
     let at = put(out, at, b" next_prio=");
     let at = put(out, at, prio(next));
     put(out, at, b"\n")
@@ -302,14 +272,14 @@ pub fn line(switch: &Switch, base: u32, names: &IndexMap<u32, String>, out: &mut
     ensures text { take result out.new ≡ line_of (named names.now) base switch.now }
 {
     let cpu = base + u32::from(switch.cpu);
-    let prev_pid = pid_for(switch.prev);
-    let next_pid = pid_for(switch.next);
-    let at = put_task(out, 0, names, switch.prev, prev_pid);
+    let prev = spell(names, cpu, switch.prev);
+    let next = spell(names, cpu, switch.next);
+    let at = put_task(out, 0, &prev.title, &prev.pid);
     let at = put_cpu(out, at, cpu);
     let at = put_second(out, at, switch.time / 1_000_000);
     let at = put_micros(out, at, switch.time % 1_000_000);
     let at = put_event(out, at);
-    let at = put_leaving(out, at, names, cpu, switch.prev, prev_pid);
+    let at = put_leaving(out, at, &prev.comm, &prev.pid, switch.prev);
     let at = put_state(out, at, switch.state);
-    put_coming(out, at, names, cpu, switch.next, next_pid)
+    put_coming(out, at, &next.comm, &next.pid, switch.next)
 }

@@ -26,14 +26,12 @@ impl Piece {
         }
     }
 
-    /// A copy of a text.
-    pub(crate) fn of(text: &[u8]) -> Piece
-        requires { length text.now ≤ 64 }
-        ensures { text_of result ≡ text.now }
+    /// The front of a text.
+    #[inline(always)]
+    pub(crate) fn front(bytes: [u8; 64], len: usize) -> Piece
+        requires { len ≤ 64 }
+        ensures { text_of result ≡ take len bytes }
     {
-        let len = text.len();
-        let mut bytes = [0; 64];
-        bytes[..len].copy_from_slice(text);
         Piece { bytes, len }
     }
 
@@ -59,7 +57,7 @@ pub(crate) struct ShortPiece {
 }
 
 impl ShortPiece {
-    ghost use Rattle.std.specs.Prelude.{◌≡◌, ◌+◌, [], ◌++◌, length, take};
+    ghost use Rattle.std.specs.Prelude.{◌≡◌, ◌+◌, [], ◌++◌, length, take, replicate};
     ghost use Rattle.switch_text.specs.private.Pieces.{short_text_of};
 
     /// No byte.
@@ -82,6 +80,38 @@ impl ShortPiece {
         let mut bytes = [0; 32];
         bytes[..len].copy_from_slice(text);
         ShortPiece { bytes, len }
+    }
+
+    /// The front of a text.
+    #[inline(always)]
+    pub(crate) fn front(text: &[u8; 64], len: usize) -> ShortPiece
+        requires { len ≤ 32 }
+        ensures { short_text_of result ≡ take len text.now }
+    {
+        let mut bytes = [0; 32];
+        bytes.copy_from_slice(&text[..32]);
+        ShortPiece { bytes, len }
+    }
+
+    /// So many spaces.
+    #[inline(always)]
+    pub(crate) fn spaces(times: usize) -> ShortPiece
+        requires { times ≤ 32 }
+        ensures { short_text_of result ≡ replicate times 32 }
+    {
+        ShortPiece {
+            bytes: [b' '; 32],
+            len: times,
+        }
+    }
+
+    /// How many bytes.
+    #[inline(always)]
+    pub(crate) fn len(&self) -> usize
+        ensures value { result ≡ length (short_text_of self.now) }
+        ensures short { result ≤ 32 }
+    {
+        self.len
     }
 
     /// Copies it to a place that has room for 32 bytes, and gives the place behind the text.

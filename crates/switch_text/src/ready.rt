@@ -4,23 +4,30 @@
 ghost use Rattle.std.specs.Prelude.{ℕ, ◌≡◌, ◌+◌, ◌<◌, ◌≤◌, ◌++◌, List, length, slice_index_or, All, Option, Some, None, IfSome, IsTrue};
 ghost use Rattle.switch_text.specs.Names.{named, HasName};
 ghost use Rattle.switch_text.specs.Line.{cpu_part};
-ghost use Rattle.switch_text.specs.private.Parts.{second_part, state_part};
-ghost use Rattle.switch_text.specs.private.Pieces.{short_text_of};
-ghost use Rattle.switch_text.specs.private.Ready.{IsReady, who_of, AreNobodys, IsSlot, IsLane, nth_state, IsMiddles, IsTexts};
+ghost use Rattle.switch_text.specs.private.Parts.{second_part, state_part, task_text, leaving_text, coming_text};
+ghost use Rattle.switch_text.specs.private.Pieces.{text_of, short_text_of};
+ghost use Rattle.switch_text.specs.private.Ready.{IsReady, who_of, fewest, AreEnough, AreNobodys, IsSlot, IsLane, nth_state, IsMiddles, IsTexts};
 
-use crate::lines::{pid_for, put_coming, put_cpu, put_leaving, put_second, put_state, put_task};
+use crate::called::{Called, spell};
+use crate::lines::{put_coming, put_cpu, put_leaving, put_second, put_state, put_task};
 use crate::piece::{Piece, ShortPiece};
 use crate::run::Run;
 use domain_run::PrevState;
 use indexmap::IndexMap;
 use std::alloc::{AllocError, Global};
 
-/// So many places for idle CPUs, of which each CPU has one; and for tasks.
+/// So many places for idle CPUs, of which each CPU has one.
 const IDLE: usize = 128;
 
-const TASKS: usize = 512;
+/// So many places for tasks, and in all, where no run has many tasks.
+const FEW: usize = 512;
 
-const SLOTS: usize = 640;
+const NARROW: usize = 640;
+
+/// So many places for tasks, and in all, where a run has many.
+const MANY: usize = 2048;
+
+const WIDE: usize = 2176;
 
 /// So many places for the texts of CPUs of the machine in a second.
 const LANES: usize = 128;
@@ -32,7 +39,7 @@ pub(crate) enum Who {
     /// The idle task of a CPU of the machine.
     Idle(u32),
     /// A task, by the place of its run among the runs, and its number there.
-    Task(usize, u32),
+    Task(u8, u32),
 }
 
 /// The texts of a task, or of an idle CPU.
@@ -68,21 +75,43 @@ pub(crate) struct Texts {
     pub(crate) middles: Middles,
 }
 
-/// Room for what lines say of tasks and idle CPUs while one trace is written: some 150 KiB.
+/// Room for what lines say of tasks and idle CPUs while one trace is written: some 410 KiB, of
+/// which 120 are used where no run has many tasks.
 #[derive(Drop)]
 pub struct TraceRoom {
     pub(crate) slots: Vec<Slot>,
-    ghost many: { length slots.items ≡ 640 },
+    ghost many: { AreEnough slots.items },
     ghost empty: { AreNobodys slots.items },
 }
 
 impl TraceRoom {
     /// Room in memory. `Err` where it was refused.
     pub fn open(alloc: Global) -> Result<TraceRoom, AllocError> {
-        Ok(TraceRoom {
-            slots: vec![in alloc; no_slot(); SLOTS]?,
-        })
+        let mut slots = Vec::with_capacity(alloc, WIDE)?;
+        slots.resize(NARROW, no_slot())?;
+        Ok(TraceRoom { slots })
     }
+
+    /// The same, and where a run has many tasks, with the places that were kept back for them.
+    #[inline(never)]
+    pub(crate) fn widened(self, runs: &[Run<'_>]) -> TraceRoom {
+        let mut slots = self.slots;
+        if have_many(runs) {
+            let _ = slots.resize(WIDE, no_slot());
+        }
+        TraceRoom { slots }
+    }
+}
+
+/// Whether a run has more tasks than it has places for itself where there are few.
+fn have_many(runs: &[Run<'_>]) -> bool {
+    let each = places_each(runs.len());
+    for run in runs {
+        if run.names.len() > each {
+            return true;
+        }
+    }
+    false
 }
 
 #[inline(always)]
@@ -100,9 +129,9 @@ fn no_slot() -> Slot
 fn middle_of(state: PrevState) -> ShortPiece
     ensures { short_text_of result ≡ state_part state }
 {
-    let mut text = [0u8; 256];
+    let mut text = [0u8; 64];
     let len = put_state(&mut text, 0, state);
-    ShortPiece::of(&text[..len])
+    ShortPiece::front(&text, len)
 }
 
 fn all_middles() -> Middles
@@ -125,13 +154,13 @@ fn lane_of(cpu: u32, second: u64) -> Lane
     ensures second { result.second ≡ second }
     ensures text { IsLane result }
 {
-    let mut text = [0u8; 256];
+    let mut text = [0u8; 64];
     let at = put_cpu(&mut text, 0, cpu);
     let len = put_second(&mut text, at, second);
     Lane {
         cpu,
         second,
-        text: ShortPiece::of(&text[..len]),
+        text: ShortPiece::front(&text, len),
     }
 }
 
@@ -149,10 +178,10 @@ pub(crate) fn no_texts() -> Texts
 
 /// Nobody's texts.
 #[inline(always)]
-pub(crate) fn no_slots() -> [Slot; SLOTS]
+pub(crate) fn no_slots() -> [Slot; NARROW]
     ensures { AreNobodys result }
 {
-    [no_slot(); SLOTS]
+    [no_slot(); NARROW]
 }
 
 /// Whether it is the text of this CPU of the machine and this second.
@@ -236,35 +265,70 @@ pub(crate) fn middle(middles: &Middles, state: PrevState) -> &ShortPiece
     &middles.texts[place_of(state)]
 }
 
+/// In front of a line, where it leaves.
+#[inline(always)]
+fn head_of(called: &Called) -> ShortPiece
+    requires title { length (short_text_of called.now.title) ≤ 16 }
+    requires pid { length (short_text_of called.now.pid) ≤ 10 }
+    ensures { short_text_of result
+        ≡ task_text (short_text_of called.now.title) (short_text_of called.now.pid) }
+{
+    let mut text = [0u8; 64];
+    let len = put_task(&mut text, 0, &called.title, &called.pid);
+    ShortPiece::front(&text, len)
+}
+
+/// The event's fields where it leaves, up to the state.
+#[inline(always)]
+fn leaving_of(called: &Called, task: Option<u32>) -> Piece
+    requires comm { length (short_text_of called.now.comm) ≤ 15 }
+    requires pid { length (short_text_of called.now.pid) ≤ 10 }
+    ensures { text_of result
+        ≡ leaving_text (short_text_of called.now.comm) (short_text_of called.now.pid) task }
+{
+    let mut text = [0u8; 64];
+    let len = put_leaving(&mut text, 0, &called.comm, &called.pid, task);
+    Piece::front(text, len)
+}
+
+/// The event's fields where it comes.
+#[inline(always)]
+fn coming_of(called: &Called, task: Option<u32>) -> Piece
+    requires comm { length (short_text_of called.now.comm) ≤ 15 }
+    requires pid { length (short_text_of called.now.pid) ≤ 10 }
+    ensures { text_of result
+        ≡ coming_text (short_text_of called.now.comm) (short_text_of called.now.pid) task }
+{
+    let mut text = [0u8; 64];
+    let len = put_coming(&mut text, 0, &called.comm, &called.pid, task);
+    Piece::front(text, len)
+}
+
 /// The texts of a task or of an idle CPU.
+#[inline(always)]
 fn make(names: &IndexMap<u32, String>, who: Who, cpu: u32, task: Option<u32>) -> Slot
     requires cpu { cpu < 512 }
     requires name { IfSome task (HasName names.now) }
     ensures who { result.who ≡ who }
     ensures texts { IsReady (named names.now) cpu task result }
 {
-    let pid = pid_for(task);
-    let mut text = [0u8; 256];
-    let len = put_task(&mut text, 0, names, task, pid);
-    let head = ShortPiece::of(&text[..len]);
-    let len = put_leaving(&mut text, 0, names, cpu, task, pid);
-    let leaving = Piece::of(&text[..len]);
-    let len = put_coming(&mut text, 0, names, cpu, task, pid);
-    let coming = Piece::of(&text[..len]);
+    let called = spell(names, cpu, task);
     Slot {
         who,
-        head,
-        leaving,
-        coming,
+        head: head_of(&called),
+        leaving: leaving_of(&called, task),
+        coming: coming_of(&called, task),
     }
 }
 
-/// So many places has each of so many runs for itself, where its tasks have no more numbers than
-/// that.
+/// So many places has each of so many runs for itself, where there are few.
 #[inline(always)]
 fn places_each(runs: usize) -> usize
-    ensures { result ≤ 256 }
+    ensures { result ≤ 512 }
 {
+    if runs <= 1 {
+        return 512;
+    }
     if runs <= 2 {
         return 256;
     }
@@ -274,24 +338,40 @@ fn places_each(runs: usize) -> usize
     64
 }
 
-/// Where the texts stand, if they stand anywhere.
+/// Where the texts of a task stand, if they stand anywhere.
 #[inline(always)]
-fn place_for(runs: usize, run: usize, cpu: u32, task: Option<u32>) -> usize
-    requires { run < 8 }
-    ensures { result < 640 }
+fn place_of_task(places: usize, runs: usize, run: usize, number: u32) -> usize
+    requires many { fewest ≤ places }
+    requires run { run < 8 }
+    ensures { result < places }
+{
+    if places < WIDE {
+        return IDLE + (number as usize + places_each(runs) * run) % FEW;
+    }
+    IDLE + (number as usize + 256 * run) % MANY
+}
+
+/// Where the texts of a task, or of the idle task of a CPU of the machine, stand.
+#[inline(always)]
+fn place_for(places: usize, runs: usize, run: usize, cpu: u32, task: Option<u32>) -> usize
+    requires many { fewest ≤ places }
+    requires run { run < 8 }
+    ensures { result < places }
 {
     match task {
         None => cpu as usize % IDLE,
-        Some(number) => IDLE + (number as usize + places_each(runs) * run) % TASKS,
+        Some(number) => place_of_task(places, runs, run, number),
     }
 }
 
+#[inline(always)]
 fn who_is(run: usize, cpu: u32, task: Option<u32>) -> Who
+    requires { run < 8 }
     ensures { result ≡ who_of run cpu task }
 {
     match task {
         None => Who::Idle(cpu),
-        Some(number) => Who::Task(run, number),
+        Some(number) => Who::Task(run as u8, number),
     }
 }
 
@@ -315,15 +395,15 @@ fn refill(
     task: Option<u32>,
 )
     ghost names: { ℕ → ℕ → List ℕ }
-    requires place { place < 640 }
-    requires many { length slots.old ≡ 640 }
+    requires few { length runs.now ≤ 8 }
+    requires place { place < length slots.old }
     requires run { run < length runs.now }
     requires cpu { cpu < 512 }
     requires name { (d : Run) → IfSome task (HasName (slice_index_or runs.now run d).names.now) }
     requires same { (d : Run) → IfSome task
         (λ n. named (slice_index_or runs.now run d).names.now n ≡ names run n) }
     requires right { All (IsSlot names) slots.old }
-    ensures many { length slots.new ≡ 640 }
+    ensures many { length slots.new ≡ length slots.old }
     ensures right { All (IsSlot names) slots.new }
     ensures texts { (d : Slot) → IsReady (names run) cpu task (slice_index_or slots.new place d) }
 {
@@ -343,19 +423,19 @@ pub(crate) fn seat(
 ) -> usize
     ghost names: { ℕ → ℕ → List ℕ }
     requires few { length runs.now ≤ 8 }
-    requires many { length slots.old ≡ 640 }
+    requires many { AreEnough slots.old }
     requires run { run < length runs.now }
     requires cpu { cpu < 512 }
     requires name { (d : Run) → IfSome task (HasName (slice_index_or runs.now run d).names.now) }
     requires same { (d : Run) → IfSome task
         (λ n. named (slice_index_or runs.now run d).names.now n ≡ names run n) }
     requires right { All (IsSlot names) slots.old }
-    ensures inside { result < 640 }
-    ensures many { length slots.new ≡ 640 }
+    ensures inside { result < length slots.new }
+    ensures many { length slots.new ≡ length slots.old }
     ensures right { All (IsSlot names) slots.new }
     ensures texts { (d : Slot) → IsReady (names run) cpu task (slice_index_or slots.new result d) }
 {
-    let place = place_for(runs.len(), run, cpu, task);
+    let place = place_for(slots.len(), runs.len(), run, cpu, task);
     if !is_of(&slots[place], who_is(run, cpu, task)) {
         refill(slots, place, runs, run, cpu, task);
     }

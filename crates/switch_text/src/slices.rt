@@ -8,7 +8,7 @@ ghost use Rattle.counted_io.specs.Faults.{one_more_unless, TakesFront};
 ghost use Rattle.switch_text.specs.Names.{named, SameNames};
 ghost use Rattle.switch_text.specs.Runs.{IsRun};
 ghost use Rattle.switch_text.specs.SlicedTrace.{sliced_trace, IsEndOf, IsStopped};
-ghost use Rattle.switch_text.specs.private.Ready.{IsSlot, IsTexts};
+ghost use Rattle.switch_text.specs.private.Ready.{AreEnough, IsSlot, IsTexts};
 ghost use Rattle.switch_text.specs.private.Sending.{Sends};
 ghost use Rattle.switch_text.specs.private.Sliced.{lines_by};
 
@@ -66,7 +66,7 @@ fn send_slice<S: Slices, W: Write>(
 ) -> Result<usize, usize>
     ghost names: { ℕ → List ℕ }
     requires named { names ≡ S.names slices.now }
-    requires many { length slots.old ≡ 640 }
+    requires many { AreEnough slots.old }
     requires slots { All (IsSlot (λ run. names)) slots.old }
     requires texts { IsTexts texts.old }
     requires room { length batch.old ≤ 65536 }
@@ -83,7 +83,7 @@ fn send_slice<S: Slices, W: Write>(
         (batch.old ++ lines_by (S.base slices.now) (S.names slices.now) (S.at_hand slices.now))) }
     ensures stopped { IfErr result (λ n. n
         ≤ length batch.old + 512 * length (S.at_hand slices.now)) }
-    ensures many { length slots.new ≡ 640 }
+    ensures many { AreEnough slots.new }
     ensures slots { All (IsSlot (λ run. names)) slots.new }
     ensures texts { IsTexts texts.new }
     ensures faults { faults_of writer.new ≡ one_more_unless (is_ok result) (faults_of writer.old) }

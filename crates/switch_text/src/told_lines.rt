@@ -6,6 +6,7 @@ ghost use Rattle.switch_text.specs.Line.{digits_in, pid_of};
 ghost use Rattle.switch_text.specs.ToldLine.{has_line, stands_in_front, event_name, seconds_part, target_part, deadline_part, last_fields, event_fields, told_line_of};
 ghost use Rattle.switch_text.specs.Telling.{HasToldLine};
 
+use crate::called::{pid_piece, title_piece};
 use crate::lines::{
     name_of, pid_for, put, put_cpu, put_decimal, put_micros, put_second, put_task, two_digits,
 };
@@ -156,7 +157,7 @@ pub fn told_line(
 {
     let cpu = base + u32::from(happened.cpu);
     let front = in_front(happened.what, happened.number);
-    let at = put_task(out, 0, names, front, pid_for(front));
+    let at = put_task(out, 0, &title_piece(names, front), &pid_piece(front));
     let at = put_cpu(out, at, cpu);
     let at = put_second(out, at, happened.time / 1_000_000);
     let at = put_micros(out, at, happened.time % 1_000_000);

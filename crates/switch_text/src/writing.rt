@@ -13,7 +13,7 @@ ghost use Rattle.switch_text.specs.private.Sliced.{lines_in};
 ghost use Rattle.switch_text.specs.Line.{digits_in};
 ghost use Rattle.switch_text.specs.private.Parts.{event_part};
 ghost use Rattle.switch_text.specs.private.Pieces.{text_of, short_text_of};
-ghost use Rattle.switch_text.specs.private.Ready.{AreNamed, AreNobodys, IsSlot, IsTexts};
+ghost use Rattle.switch_text.specs.private.Ready.{AreNamed, AreEnough, AreNobodys, IsSlot, IsTexts};
 
 use crate::batch::{Batch, Front};
 use crate::fault::WriteFault;
@@ -67,13 +67,13 @@ pub(crate) fn append_line(
     requires printed { IsPrinted next.now }
     requires run { IsRunAt runs.now next.now }
     requires named { IsNamed names next.now }
-    requires many { length slots.old ≡ 640 }
+    requires many { AreEnough slots.old }
     requires slots { All (IsSlot names) slots.old }
     requires texts { IsTexts texts.old }
     requires room { length batch.old ≤ 65152 }
     ensures text { batch.new ≡ batch.old ++ (next_entry next.now).line }
     ensures short { length batch.new ≤ length batch.old + 384 }
-    ensures many { length slots.new ≡ 640 }
+    ensures many { AreEnough slots.new }
     ensures slots { All (IsSlot names) slots.new }
     ensures texts { IsTexts texts.new }
 {
@@ -120,7 +120,7 @@ pub(crate) fn send_runs<W: Write>(
     requires few { length runs.now ≤ 8 }
     requires runs { All IsRun runs.now }
     requires named { AreNamed names runs.now }
-    requires many { length slots.old ≡ 640 }
+    requires many { AreEnough slots.old }
     requires slots { All (IsSlot names) slots.old }
     requires texts { IsTexts texts.old }
     requires room { length batch.old ≤ 65536 }
@@ -137,7 +137,7 @@ pub(crate) fn send_runs<W: Write>(
     ensures err { IfErr result (TakesFront
         (W.contents (inner_of writer.old)) (W.contents (inner_of writer.new))
         (batch.old ++ lines_in (views runs.now))) }
-    ensures many { length slots.new ≡ 640 }
+    ensures many { AreEnough slots.new }
     ensures slots { All (IsSlot names) slots.new }
     ensures texts { IsTexts texts.new }
     ensures faults { faults_of writer.new ≡ one_more_unless (is_ok result) (faults_of writer.old) }
@@ -164,7 +164,7 @@ fn write_with<W: Write>(
 ) -> Result<(), WriteFault>
     requires few { length runs.now ≤ 8 }
     requires runs { All IsRun runs.now }
-    requires many { length slots.old ≡ 640 }
+    requires many { AreEnough slots.old }
     requires empty { AreNobodys slots.old }
     requires faults { faults_of writer.old < 2 ^ 63 }
     ensures ok { OnOk result (Appends
@@ -212,14 +212,14 @@ pub fn write_trace<W: Write>(runs: &[Run<'_>], writer: &mut Counted<W>) -> Resul
     write_with(runs, &mut slots, writer)
 }
 
-/// As [`write_trace`], where the 150 KiB for the texts of tasks stand in memory and not on the
+/// As [`write_trace`], where the 120 KiB for the texts of tasks stand in memory and not on the
 /// stack, which may find no room to grow.
 ///
 /// # Errors
 /// As [`write_trace`].
 pub fn write_trace_in<W: Write>(
     runs: &[Run<'_>],
-    mut room: TraceRoom,
+    room: TraceRoom,
     writer: &mut Counted<W>,
 ) -> Result<(), WriteFault>
     requires few { length runs.now ≤ 8 }
@@ -233,6 +233,7 @@ pub fn write_trace_in<W: Write>(
         (trace_of (views runs.now)) f.written) }
     ensures faults { faults_of writer.new ≡ one_more_unless (is_ok result) (faults_of writer.old) }
 {
+    let mut room = room.widened(runs);
     write_with(runs, room.slots.as_mut_slice(), writer)
 }
 

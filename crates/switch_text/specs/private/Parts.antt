@@ -1,7 +1,7 @@
 -- A line in the parts that are kept ready. The trace text knows nothing of these words.
 use Rattle.std.specs.Prelude.{ℕ, List, ◌++◌, codes, decimal, Option}
 use Rattle.domain_run.specs.declared.switch.PrevState.{PrevState}
-use Rattle.switch_text.specs.Line.{right_in, pid_of, prio_of, comm_of, letters_of}
+use Rattle.switch_text.specs.Line.{right_in, left_in, pid_of, prio_of, comm_of, letters_of}
 
 -- the second, and the point behind it
 abbrev pub second_part : ℕ → List ℕ
@@ -18,6 +18,24 @@ leaving_part names cpu task =
     ++ codes " prev_pid=" ++ decimal (pid_of task)
     ++ codes " prev_prio=" ++ prio_of task
     ++ codes " prev_state="
+
+-- the same three, of what the trace calls a task
+unfoldable pub task_text : List ℕ → List ℕ → List ℕ
+task_text title pid = right_in 16 title ++ codes "-" ++ left_in 7 pid
+
+unfoldable pub leaving_text : List ℕ → List ℕ → Option ℕ → List ℕ
+leaving_text comm pid task =
+    comm
+    ++ codes " prev_pid=" ++ pid
+    ++ codes " prev_prio=" ++ prio_of task
+    ++ codes " prev_state="
+
+unfoldable pub coming_text : List ℕ → List ℕ → Option ℕ → List ℕ
+coming_text comm pid task =
+    comm
+    ++ codes " next_pid=" ++ pid
+    ++ codes " next_prio=" ++ prio_of task
+    ++ codes "\n"
 
 -- the state, and what stands before the name of who comes
 abbrev pub state_part : PrevState → List ℕ

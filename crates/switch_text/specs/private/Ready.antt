@@ -1,5 +1,5 @@
 -- What lines say of tasks, idle CPUs and states, put together once and kept.
-use Rattle.std.specs.Prelude.{ℕ, zero, suc, ◌≡◌, ◌<◌, List, [], ◌∷◌, ◌++◌, length, slice_index_or, All, Option, Some, None}
+use Rattle.std.specs.Prelude.{ℕ, zero, suc, ◌≡◌, ◌<◌, ◌≤◌, List, [], ◌∷◌, ◌++◌, length, slice_index_or, All, Option, Some, None}
 use Rattle.domain_run.specs.declared.switch.PrevState.{PrevState}
 use Rattle.domain_run.specs.declared.switch.PrevState.TheVariants.{Running, Preempted, Sleeping, Dead}
 use Rattle.switch_text.specs.declared.run.Run.{Run}
@@ -43,6 +43,13 @@ abbrev pub IsFor : (ℕ → ℕ → List ℕ) → Who → Slot → Type 0
 IsFor names Nobody s = Unit {0}
 IsFor names (Idle cpu) s = (others : ℕ → List ℕ) → IsReady others cpu None s
 IsFor names (Task run number) s = (cpu : ℕ) → IsReady (names run) cpu (Some number) s
+
+-- so many places are there at least
+abbrev pub fewest : ℕ
+fewest = 640
+
+abbrev pub AreEnough : List Slot → Type 0
+AreEnough slots = fewest ≤ length slots
 
 -- none names anybody
 abbrev pub AreNobodys : List Slot → Type 0

@@ -3,7 +3,7 @@ use Rattle.switch_text.specs.Runs.{views}
 use Rattle.switch_text.specs.Events.{all_events, events_of}
 use Rattle.switch_text.specs.Telling.{told_views}
 use Rattle.switch_text.specs.private.EventMerging.{places_of, left_events, count_events}
-use Rattle.switch_text.specs.private.Ready.{names_at, IsSlot, IsTexts}
+use Rattle.switch_text.specs.private.Ready.{AreEnough, names_at, IsSlot, IsTexts}
 use Rattle.switch_text.specs.private.Winning.{IsMerge}
 use Rattle.switch_text.proofs.EventsUnderWay.{AreUnderWay}
 use Rattle.counted_io.specs.Sides.{inner_of}
@@ -15,7 +15,7 @@ invariant-loop-next g l = record {
       AreUnderWay (g.W.Write.contents (inner_of l.fn.writer)) (g.W.Write.contents (inner_of l.writer)) (events_of (views l.runs) (told_views l.told)) (length (all_events (views l.runs) (told_views l.told)))
       (left_events l.runs l.told (places_of l.merge)) l.written l.batch;
   heads : IsMerge (views l.runs) l.merge.switches;
-  many : length l.slots ≡ 640;
+  many : AreEnough l.slots;
   slots : All (IsSlot (names_at l.runs)) l.slots;
   texts : IsTexts l.texts;
   faults : l.writer.faults ≡ l.fn.writer.faults;

@@ -1,10 +1,15 @@
-use Rattle.std.proofs.Common.{◌≡◌, ◌<◌, length, get_or, subst, ◌∙◌, rules, arith}
+use Rattle.std.proofs.Common.{◌≡◌, ◌<◌, ◌≤◌, length, get_or, subst, ◌∙◌, rules, arith}
 use Rattle.std.proofs.lemmas.List.{get_or_default}
 use Rattle.switch_text.specs.private.Ready.{IsReady, who_of}
 use Rattle.switch_text.proofs.Kept.{IsReady-kept}
 use Rattle.switch_text.proofs.ready.seat.Goals as goal
 
--- what is required has no names here: the last of them is `right`
+-- what is required has no names here: the second of them is `many`, the last `right`
+
+pub place_for-place-requires-clause-many : goal.place_for-place-requires-clause-many
+place_for-place-requires-clause-many g c =
+    let many : 640 ≤ length c.args.slots.now = c.requires.1.0 in
+    omega (arith, many)
 
 pub returns-else-not-is_of-clause-texts : goal.returns-else-not-is_of-clause-texts
 returns-else-not-is_of-clause-texts g c = λ d.

@@ -2,7 +2,7 @@ use Rattle.std.proofs.Common.{◌≡◌, ◌∙◌, [], length, refl, sym, subst
 use Rattle.counted_io.specs.Sides.{inner_of}
 use Rattle.switch_text.specs.Trace.{header}
 use Rattle.switch_text.specs.SlicedTrace.{sliced_trace}
-use Rattle.switch_text.specs.private.Ready.{AreNobodys}
+use Rattle.switch_text.specs.private.Ready.{AreEnough, AreNobodys}
 use Rattle.switch_text.proofs.Kept.{nobody_is_slot, slots_kept}
 use Rattle.switch_text.proofs.UnderWay.{length-header}
 use Rattle.switch_text.proofs.Sliced.{ends_all, stops_all}
@@ -19,7 +19,7 @@ loop-slots-init g c =
       slicing = IsSlicing-start (g.W.Write.contents (inner_of c.args.writer.now)) (g.S.Slices.base slices) (g.S.Slices.names slices) (g.S.Slices.rest slices) c.append.new.self waiting;
       left = ([], refl);
       room = omega (arith, ap length waiting, length-header);
-      many = ap length c.as_mut_slice-slots.ensures.value ∙ c.args.room.many;
+      many = subst AreEnough (sym c.as_mut_slice-slots.ensures.value) c.args.room.many;
       slots = nobody_is_slot (λ run. g.S.Slices.names slices) _ (subst AreNobodys (sym c.as_mut_slice-slots.ensures.value) c.args.room.empty);
       texts = c.no_texts-texts.ensures;
       faults = refl;
