@@ -5,6 +5,7 @@ pub mod Many
 pub mod Numbers
 pub mod Lists
 pub mod Scripts
+pub mod Events
 pub mod Attributes
 pub mod Lines
 pub mod Entries

@@ -58,7 +58,7 @@ unfolding event_at
 event_takes [] e h = absurd cc
 event_takes (c ∷ digits) e h = by_letter c digits e (eqb c 114) (eqb c 115) (eqb c 116) (eqb c 119 && eqb (length digits) 0) refl refl refl refl h
 
-event_again : (e : Event) → IsEvent e → event_at (event_text e) ≡ Some e
+pub event_again : (e : Event) → IsEvent e → event_at (event_text e) ≡ Some e
 unfolding event_at
 event_again (Run n) is = rw (within_again 1 1000000000 n (omega (arith, is.0)) is.1 (omega arith)) refl
 event_again (Sleep n) is = rw (within_again 1 1000000000 n (omega (arith, is.0)) is.1 (omega arith)) refl
@@ -73,7 +73,7 @@ pub record IsMark (c : ℕ) : Type 0 where
   pub timer : eqb 116 c ≡ false
   pub wait : eqb 119 c ≡ false
 
-event_lacks : (c : ℕ) (e : Event) → IsMark c → IsEvent e → Lacks c (event_text e)
+pub event_lacks : (c : ℕ) (e : Event) → IsMark c → IsEvent e → Lacks c (event_text e)
 event_lacks c (Run n) mark is = (eqb-false _ _ mark.run, decimal_lacks c n mark.digit (omega (arith, is.1)))
 event_lacks c (Sleep n) mark is = (eqb-false _ _ mark.sleep, decimal_lacks c n mark.digit (omega (arith, is.1)))
 event_lacks c (Timer n) mark is = (eqb-false _ _ mark.timer, decimal_lacks c n mark.digit (omega (arith, is.1)))
@@ -101,10 +101,10 @@ first_by text x rest (Some p) cut h =
     let whole : text ≡ event_text b.0 ++ (44 ∷ p.1) = cut_takes 44 text p cut ∙ ap (λ (a : List ℕ). a ++ (44 ∷ p.1)) t.1 in
     subst (λ (q : Event × Option (List ℕ)). TookItem IsEvent (44 ∷ []) event_text text q.0 q.1) (same_Some (b.0, Some p.1) (x, rest) b.2) (t.0, whole)
 
-comma : IsMark 44
+pub comma : IsMark 44
 comma = record { digit = refl; run = refl; sleep = refl; timer = refl; wait = refl }
 
-reads_events : ReadsItems event_first_at IsEvent (44 ∷ []) event_text
+pub reads_events : ReadsItems event_first_at IsEvent (44 ∷ []) event_text
 unfolding event_first_at
 reads_events = record {
   takes = λ text x rest h. first_by text x rest (cut_at 44 text) refl h;

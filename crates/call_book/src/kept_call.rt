@@ -70,6 +70,7 @@ impl Kept {
     }
 
     /// A call in a block of its own.
+    #[inline(always)]
     pub(crate) fn long(alloc: Global, call: Call) -> Result<Kept, PartFault>
         ensures { Gives call_of result (Some call) }
     {

@@ -62,6 +62,7 @@ fn name_of(alloc: Global, text: &[u8]) -> Result<Name, PartFault>
 }
 
 /// Q, D and P, each up to the next space, and what follows.
+#[inline(always)]
 #[tactic(auto, unfolding(crate::specs::private::Reading::times_at))]
 fn times_of(text: &[u8]) -> Result<(Times, &[u8]), PartFault>
     ensures gives { Gives (λ p. (p.0, p.1.now)) result (times_at text.now) }
@@ -142,6 +143,7 @@ pub(crate) struct Newcomer {
 }
 
 /// The number, the name and the parameters of a task that comes, and what follows.
+#[inline(always)]
 #[tactic(auto, unfolding(crate::specs::private::Reading::newcomer_at))]
 fn newcomer_of(alloc: Global, text: &[u8]) -> Result<(Newcomer, &[u8]), PartFault>
     ensures { Gives (λ p. (p.0, p.1.now)) result (newcomer_at text.now) }
@@ -372,6 +374,7 @@ fn worded(alloc: Global, word: Word, text: &[u8]) -> Result<Kept, PartFault>
 }
 
 /// The client and the call that stand behind this word and its space.
+#[inline(always)]
 fn called(alloc: Global, word: Word, text: &[u8]) -> Result<(u32, Kept), PartFault>
     ensures gives { Gives (λ p. (p.0, call_of p.1)) result (called_at (word_of word) text.now) }
     ensures within { IfOk result (λ p. (1 ≤ p.0) × (p.0 ≤ 64)) }
@@ -382,6 +385,7 @@ fn called(alloc: Global, word: Word, text: &[u8]) -> Result<(u32, Kept), PartFau
 }
 
 /// The client and the call that a line spells.
+#[inline(always)]
 fn kept_of(alloc: Global, line: &[u8]) -> Result<(u32, Kept), PartFault>
     ensures gives { Gives (λ p. (p.0, call_of p.1)) result (call_at line.now) }
     ensures within { IfOk result (λ p. (1 ≤ p.0) × (p.0 ≤ 64)) }
@@ -394,6 +398,7 @@ fn kept_of(alloc: Global, line: &[u8]) -> Result<(u32, Kept), PartFault>
 
 /// The client and the call that a line spells, behind a header that has calls of the second form or
 /// has none.
+#[inline(always)]
 #[tactic(auto, unfolding(crate::specs::private::Reading::known_at))]
 pub(crate) fn known_call(alloc: Global, line: &[u8], later: bool) -> Result<(u32, Kept), PartFault>
     ensures gives { Gives (λ p. (p.0, call_of p.1)) result (known_at later line.now) }

@@ -1,11 +1,11 @@
-ghost use Rattle.std.specs.Prelude.{IfOk};
+ghost use Rattle.std.specs.Prelude.{◌≡◌, ℕ, List, IfOk, MatchResult};
 ghost use Rattle.std.specs.Option.{option_map};
 ghost use Rattle.task_script.specs.script.Segments.{rounds_of, IsLoops};
-ghost use Rattle.call_book.specs.private.Reading.{Gives, event_at, event_first_at, events_at, phase_at, phase_first_at, phases_at, rounds_at, script_at};
+ghost use Rattle.call_book.specs.private.Reading.{Gives, NoDigit, IsFirstEvent, event_first_at, events_at, phase_at, phase_first_at, phases_at, rounds_at, script_at};
 
 use crate::cut::cut;
 use crate::fault::PartFault;
-use crate::number::number_within;
+use crate::number::{number_first, number_within};
 use domain_run::{Event, Phase, Script};
 use std::alloc::Global;
 
@@ -17,28 +17,36 @@ const MOST_ITEMS: u64 = 64;
 /// Room for so many events, and so many phases, is taken at first: most have no more.
 const ROOM: usize = 2;
 
-/// `rN`, `sN`, `tN` or `w`.
-#[tactic(auto, unfolding(crate::specs::private::Reading::event_at))]
-fn event_of(text: &[u8]) -> Result<Event, PartFault>
-    ensures { Gives (λ e. e) result (event_at text.now) }
+/// `rN`, `sN`, `tN` or `w` at the front of a text, and what follows.
+#[inline(always)]
+fn event_of(text: &[u8]) -> Result<(Event, &[u8]), PartFault>
+    ensures spelled { IfOk result (λ p. IsFirstEvent text.now p.0 p.1.now) }
+    ensures found { (e : Event) (rest : List ℕ) → IsFirstEvent text.now e rest → NoDigit rest
+        → MatchResult result (λ p. (p.0 ≡ e) × (p.1.now ≡ rest)) (λ _. ⊥) }
 {
-    match text {
-        [b'r', digits @ ..] => Ok(Event::Run(number_within(digits, 1, MOST)?)),
-        [b's', digits @ ..] => Ok(Event::Sleep(number_within(digits, 1, MOST)?)),
-        [b't', digits @ ..] => Ok(Event::Timer(number_within(digits, 1, MOST)?)),
-        [b'w'] => Ok(Event::Wait),
+    let [letter, after @ ..] = text else {
+        return Err(PartFault::Bad);
+    };
+    if *letter == b'w' {
+        return Ok((Event::Wait, after));
+    }
+    let (n, rest) = number_first(after, 1, MOST)?;
+    match *letter {
+        b'r' => Ok((Event::Run(n), rest)),
+        b's' => Ok((Event::Sleep(n), rest)),
+        b't' => Ok((Event::Timer(n), rest)),
         _ => Err(PartFault::Bad),
     }
 }
 
 /// An event, and what follows the comma after it.
-#[tactic(auto, unfolding(crate::specs::private::Reading::event_first_at))]
 fn event_first(text: &[u8]) -> Result<(Event, Option<&[u8]>), PartFault>
     ensures { Gives (λ p. (p.0, option_map (λ r. r.now) p.1)) result (event_first_at text.now) }
 {
-    match cut(text, b',') {
-        None => Ok((event_of(text)?, None)),
-        Some((first, after)) => Ok((event_of(first)?, Some(after))),
+    match event_of(text)? {
+        (event, []) => Ok((event, None)),
+        (event, [b',', after @ ..]) => Ok((event, Some(after))),
+        _ => Err(PartFault::Bad),
     }
 }
 

@@ -28,8 +28,8 @@ enum Place {
     },
     /// [`Call::Advance`].
     Advance {
-        /// How many us.
-        ticks: u64,
+        /// How many us: at most 60,000,000, which is all that a call may have.
+        ticks: u32,
     },
     /// Any other: the next one of those, which stand in a list of their own.
     Long,
@@ -56,6 +56,7 @@ impl Model for KeptCalls {
 
 impl KeptCalls {
     ghost use Rattle.std.specs.Prelude.{◌≡◌, [], ◌∷◌, ◌++◌, ◌≤◌, OnOk, sum_by};
+    ghost use Rattle.call_book.specs.Limits.{IsCall};
     ghost use Rattle.call_book.specs.KeptCall.{call_of};
     ghost use Rattle.calls_trace.specs.private.Kept.{room_of};
     ghost use Rattle.calls_trace.specs.private.LittleRoom.{calls_in, is_long};
@@ -95,13 +96,16 @@ impl KeptCalls {
 
     /// One call more, behind the others. The block that it stands in is given back.
     pub(crate) fn push(&mut self, kept: Kept) -> Result<(), NoMemory>
+        requires { IsCall (call_of kept) }
         ensures { OnOk result (self.new ≡ self.old ++ call_of kept ∷ []) }
     {
         match kept {
             Kept::Wake { number } => self.push_short(Place::Wake { number }),
             Kept::Leave { number } => self.push_short(Place::Leave { number }),
             Kept::Depart { number } => self.push_short(Place::Depart { number }),
-            Kept::Advance { ticks } => self.push_short(Place::Advance { ticks }),
+            Kept::Advance { ticks } => self.push_short(Place::Advance {
+                ticks: ticks as u32,
+            }),
             Kept::Long(spelled) => self.push_long(Box::into_inner(spelled)),
         }
     }
@@ -165,7 +169,10 @@ impl CallsLeft {
             Some(Place::Wake { number }) => Some((Call::Wake { number }, none)),
             Some(Place::Leave { number }) => Some((Call::Leave { number }, none)),
             Some(Place::Depart { number }) => Some((Call::Depart { number }, none)),
-            Some(Place::Advance { ticks }) => Some((Call::Advance { ticks }, none)),
+            Some(Place::Advance { ticks }) => {
+                let ticks = u64::from(ticks);
+                Some((Call::Advance { ticks }, none))
+            }
             Some(Place::Long) => match self.long.next() {
                 Some(Spelled { call, text }) => Some((call, text)),
                 None => None,

@@ -13,6 +13,7 @@ use domain_run::NoMemory;
 use std::alloc::Global;
 
 /// The next call of a section; none behind its last one.
+#[inline(always)]
 pub(crate) fn next_of(alloc: Global, reader: &mut CallsReader<'_>) -> Result<Option<Kept>, NoMemory>
     ensures next { (text : List ℕ) (before : List SectionView) (section : SectionView)
         → IsWithin text before section reader.old

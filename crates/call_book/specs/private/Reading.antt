@@ -9,7 +9,7 @@ use Rattle.attr_check.specs.ParamsView.{ParamsView}
 use Rattle.attr_check.specs.Accepted.{accepted}
 use Rattle.task_script.specs.declared.script.Event.{Event}
 use Rattle.task_script.specs.declared.script.Event.TheVariants.{Run, Sleep, Timer, Wait}
-use Rattle.task_script.specs.script.ScriptView.{PhaseView, ScriptView, script_of}
+use Rattle.task_script.specs.script.ScriptView.{PhaseView, ScriptView, IsEvent, script_of}
 use Rattle.domain_run.specs.declared.call.Call.{Call}
 use Rattle.domain_run.specs.declared.call.Call.TheVariants.{Admit, Regrade, Wake, Leave, Advance, Limit, Depart, Arrive}
 use Rattle.call_book.specs.declared.fault.PartFault.{PartFault}
@@ -20,7 +20,7 @@ use Rattle.call_book.specs.declared.line_text.Word.{Word}
 use Rattle.call_book.specs.declared.line_text.Word.TheVariants as word
 use Rattle.call_book.specs.declared.section.Entry.{Entry}
 use Rattle.call_book.specs.SectionView.{SectionView}
-use Rattle.call_book.specs.Spelling.{domain_line, section_lines, is_later, some_later, has_later, text_of}
+use Rattle.call_book.specs.Spelling.{domain_line, section_lines, is_later, some_later, has_later, text_of, event_text}
 use Rattle.call_book.specs.Limits.{IsClient}
 use Rattle.call_book.specs.ReadSoFar.{Knows, LacksEntry, IsSectionRead, SectionsSoFar, last_full}
 
@@ -98,6 +98,11 @@ event_at (c ∷ digits) =
     else (if c == 115 then lasting_at Sleep digits
     else (if c == 116 then lasting_at Timer digits
     else (if c == 119 && length digits == 0 then Some Wait else None)))
+
+-- the text is that of an event, and then the rest
+pub record IsFirstEvent (text : List ℕ) (e : Event) (rest : List ℕ) : Type 0 where
+  pub text_is : text ≡ event_text e ++ rest
+  pub is : IsEvent e
 
 -- an item and what follows it, again and again, at most so many times
 unfoldable pub many_at : {X : Type 0} → (List ℕ → Option (X × Option (List ℕ))) → ℕ → List ℕ

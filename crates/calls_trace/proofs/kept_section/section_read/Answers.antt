@@ -1,5 +1,7 @@
 use Rattle.std.proofs.Common.{[], ◌∷◌, ◌++◌, List, Option, Ok, refl, sym, ap, subst, ◌∙◌}
 use Rattle.domain_run.specs.declared.call.Call.{Call}
+use Rattle.std.specs.Prelude.{IfSome}
+use Rattle.call_book.specs.Limits.{IsCall}
 use Rattle.call_book.specs.Reader.{begun, with_entries}
 use Rattle.call_book.specs.KeptCall.{IsNextCall, IsNextKept, call_of}
 use Rattle.call_book.specs.declared.kept_call.Kept.{Kept}
@@ -16,6 +18,9 @@ loop-section-init c = record {
     same = record { same_cpus = refl; same_limit = refl; same_calls = c.new.ensures };
   };
 }
+
+pub push-requires : goal.push-requires
+push-requires c = subst (λ (o : Option Kept). IfSome o (λ k. IsCall (call_of k))) c.in-Some.is c.in_ok-kept.ensures.call
 
 pub loop-section-preserved : goal.loop-section-preserved
 loop-section-preserved c = record {
