@@ -6,10 +6,9 @@ ghost use Rattle.std.specs.Prelude.{◌≡◌, ◌<◌, IsSome, IfSome, length, 
 ghost use Rattle.task_script.specs.script.ScriptView.{IsEvent, IsPhase, IsScript};
 ghost use Rattle.task_script.specs.script.Unrolled.{event_at};
 ghost use Rattle.task_script.specs.private.Progress as spec;
-ghost use Rattle.task_script.specs.private.Steps.{IsSteps};
 
 use crate::script::{Event, Phase, Script};
-use crate::steps::{Step, event_of_step, laps_of, laps_of_step};
+use crate::steps::{event_of_step, laps_of, laps_of_step};
 
 /// What is behind a cursor.
 #[derive(Clone, Copy, Debug)]
@@ -63,13 +62,13 @@ fn event_in(phase: &Phase, index: usize) -> Event
 
 // The event where a cursor stands, of a round that is not over.
 #[inline(always)]
-fn event_here(script: &Script, steps: &[Step], progress: Progress) -> Event
+fn event_here(script: &Script, progress: Progress) -> Event
     requires stands { spec.IsProgress script.now progress }
-    requires steps { IsSteps script.now steps.now }
     ensures value { spec.IsEventThere script.now progress result }
     ensures event { IsEvent result }
 {
     let phases = script.phases();
+    let steps = script.steps();
     if steps.is_empty() {
         event_in(&phases[progress.phase], progress.event)
     } else {
@@ -79,9 +78,8 @@ fn event_here(script: &Script, steps: &[Step], progress: Progress) -> Event
 
 /// The event where a cursor stands; none behind the last round.
 #[inline(always)]
-pub(crate) fn event_of(script: &Script, steps: &[Step], progress: Progress) -> Option<Event>
+pub(crate) fn event_of(script: &Script, progress: Progress) -> Option<Event>
     requires stands { spec.IsProgress script.now progress }
-    requires steps { IsSteps script.now steps.now }
     ensures value { result ≡ event_at script.now (spec.place_of script.now progress) }
     ensures within { IsScript script.now }
     ensures event { IfSome result IsEvent }
@@ -91,7 +89,7 @@ pub(crate) fn event_of(script: &Script, steps: &[Step], progress: Progress) -> O
     if is_over(script.rounds(), progress.round) {
         return None;
     }
-    Some(event_here(script, steps, progress))
+    Some(event_here(script, progress))
 }
 
 fn next_round(rounds: Option<u64>, round: u64) -> u64
@@ -132,12 +130,12 @@ fn next_lap(script: &Script, progress: &mut Progress, laps: u64)
 
 // How many laps its phase has, where a cursor stands at the last event of a lap; else 0.
 #[inline(always)]
-fn laps_here(script: &Script, steps: &[Step], progress: Progress) -> u64
+fn laps_here(script: &Script, progress: Progress) -> u64
     requires stands { spec.IsProgress script.now progress }
-    requires steps { IsSteps script.now steps.now }
     ensures { spec.AreLapsThere script.now progress result }
 {
     let phases = script.phases();
+    let steps = script.steps();
     if steps.is_empty() {
         laps_of(&phases[progress.phase], progress.event)
     } else {
@@ -147,15 +145,14 @@ fn laps_here(script: &Script, steps: &[Step], progress: Progress) -> u64
 
 /// Goes behind the event where a cursor stands.
 #[inline(always)]
-pub(crate) fn advance(script: &Script, steps: &[Step], progress: &mut Progress)
+pub(crate) fn advance(script: &Script, progress: &mut Progress)
     requires stands { spec.IsProgress script.now progress.old }
-    requires steps { IsSteps script.now steps.now }
     requires more { IsSome (event_at script.now (spec.place_of script.now progress.old)) }
     ensures { spec.IsBehind script.now progress.old progress.new }
 {
     // For the prover alone: a look into it brings what its type keeps.
     let _ = script.phases();
-    let laps = laps_here(script, steps, *progress);
+    let laps = laps_here(script, *progress);
     if laps == 0 {
         progress.event += 1;
         return;
