@@ -82,8 +82,7 @@ impl State {
     /// An empty domain of 1 to 64 CPUs that may give away `limit` of each, 10485 to 1048576 in
     /// 1/2^20. Room for 256 tasks, for the numbers ever admitted and for the switches of one event is
     /// made here; after it only [`State::tick`], [`State::begin`], [`State::begin_told`] and
-    /// [`State::leap`] take memory, and [`State::admit`], which can do without. `Err` where a growth
-    /// was refused.
+    /// [`State::leap`] take memory. `Err` where a growth was refused.
     pub fn open(alloc: Global, cpus: u32, limit: u64) -> Result<State, NoMemory>
         requires cpus { IsCpus cpus }
         requires limit { IsLimit limit }
@@ -180,8 +179,7 @@ impl State {
     /// `Twice` where the number was ever admitted here, `Busy` with the sum of bandwidths where
     /// that sum and the task's bandwidth are above the number of CPUs times the limit; equality is
     /// admitted. An admitted task is listed and starts after the delay, in microseconds. Where it
-    /// refuses, nothing has changed, and name and script come back. Takes memory only to read a
-    /// script of more than one phase faster, and does without where that is refused.
+    /// refuses, nothing has changed, and name and script come back. Takes no memory.
     pub fn admit(
         &mut self,
         number: u32,

@@ -1,5 +1,4 @@
-//! The cursor that goes through a script (own). It sees a script from outside, as what it may read,
-//! and may keep its events once more in one block, to read them faster.
+//! The cursor that goes through a script (own). It sees a script from outside, as what it may read.
 
 ghost use Rattle.std.specs.Prelude.{◌≡◌, ◌<◌, ◌≤◌, ◌+◌, ◌^◌, IsSome, IfSome, Some};
 ghost use Rattle.task_script.specs.script.ScriptView.{IsEvent, IsScript};
@@ -7,10 +6,9 @@ ghost use Rattle.task_script.specs.script.Unrolled.{event_at};
 ghost use Rattle.task_script.specs.script.Segments.{begun_at, moved, kept_cursor, given_by, given_at, is_late, passes_late_timer, asked, GivesAsWritten, IsSegment, next_ask};
 ghost use Rattle.task_script.specs.private.Progress.{passed, at_reference};
 
+use crate::progress;
 use crate::progress::Progress;
 use crate::script::{Event, Script, Segment};
-use crate::steps::Step;
-use crate::{progress, steps};
 use std::fmt;
 use std::marker::Model;
 
@@ -23,11 +21,9 @@ pub struct Cursor {
     reference: u64,
     progress: Progress,
     script: Script,
-    // The events of all phases; none where there is one phase, or where memory was refused.
-    steps: Vec<Step>,
 }
 
-// The event that comes and the steps are left out: they follow from the rest.
+// The event that comes is left out: it follows from the rest.
 impl fmt::Debug for Cursor {
     fn fmt<W: fmt::Write>(&self, f: &mut fmt::Formatter<W>) -> fmt::Result {
         f.debug_struct("Cursor")
@@ -46,28 +42,25 @@ impl Model for Cursor {
 
     ghost view = { λ c. record { script = c.script; place = place_of c.script c.progress; reference = c.reference } };
 
-    ghost invariant = { λ c. Comes c.script c.progress c.coming c.steps.items };
+    ghost invariant = { λ c. Comes c.script c.progress c.coming };
 }
 
 impl Script {
     /// A cursor at the script's beginning, for a task that starts at this time, in microseconds.
     /// Asked at any times, it gives what the script gives written out, event by event.
-    /// Takes memory to read a script of more than one phase faster, and does without where that is
-    /// refused.
+    /// Takes no memory.
     #[tactic(auto, using(crate::proofs::Unrolling::begun_written))]
     pub fn cursor(self, start: u64) -> Cursor
         ensures begun { result ≡ begun_at self start }
         ensures written { GivesAsWritten result }
     {
         let progress = progress::begin(&self);
-        let steps = steps::of(&self);
-        let coming = progress::event_of(&self, &steps, progress);
+        let coming = progress::event_of(&self, progress);
         Cursor {
             coming,
             reference: start,
             progress,
             script: self,
-            steps,
         }
     }
 }
@@ -112,8 +105,8 @@ impl Cursor {
         requires more { IsSome (event_at self.old.script self.old.place) }
         ensures { self.new ≡ kept_cursor (moved self.old self.old.reference) }
     {
-        progress::advance(&self.script, &self.steps, &mut self.progress);
-        self.coming = progress::event_of(&self.script, &self.steps, self.progress);
+        progress::advance(&self.script, &mut self.progress);
+        self.coming = progress::event_of(&self.script, self.progress);
     }
 
     // Behind a timer that is late, and the event there. That is rare, so it stands apart.

@@ -4,8 +4,8 @@
 //! Meets the definitions "Name" (`specs/NameView.antt`) and "Script" (`specs/script/`). To the
 //! crates above it promises that a [`Name`] and a [`Script`] are within their limits, and that a
 //! [`Cursor`], asked at any times, gives what the script gives written out, event by event. Takes
-//! memory only to read a script of more than one phase faster, and does without where that is
-//! refused.
+//! memory only to lay a script of more than one phase out, to read it faster, and does without
+//! where that is refused.
 #![tactic(auto)]
 
 mod cursor;

@@ -6,24 +6,23 @@ ghost use Rattle.std.specs.Prelude.{◌≡◌, ◌<◌, IsSome, IfSome, length, 
 ghost use Rattle.task_script.specs.script.ScriptView.{IsEvent, IsPhase, IsScript};
 ghost use Rattle.task_script.specs.script.Unrolled.{event_at};
 ghost use Rattle.task_script.specs.private.Progress as spec;
-ghost use Rattle.task_script.specs.private.Steps.{IsSteps};
 
 use crate::script::{Event, Phase, Script};
-use crate::steps::{Step, event_of_step, laps_of, laps_of_step};
+use crate::steps::{event_of_step, laps_of, laps_of_step};
 
 /// What is behind a cursor.
 #[derive(Clone, Copy, Debug)]
 pub(crate) struct Progress {
     /// Rounds; of a script without end none, as each is like the first.
-    round: u64,
+    round: u32,
     /// Phases of this round.
-    phase: usize,
+    phase: u32,
     /// Events of a lap each of those phases.
-    first: usize,
+    first: u32,
     /// Laps: so many times the events of this phase.
-    lap: u64,
+    lap: u32,
     /// Events of this lap.
-    event: usize,
+    event: u32,
 }
 
 /// At the beginning of a script.
@@ -43,7 +42,7 @@ pub(crate) fn begin(script: &Script) -> Progress
     }
 }
 
-fn is_over(rounds: Option<u64>, round: u64) -> bool
+fn is_over(rounds: Option<u32>, round: u32) -> bool
     ensures { result ≡ spec.is_over rounds round }
 {
     match rounds {
@@ -63,25 +62,24 @@ fn event_in(phase: &Phase, index: usize) -> Event
 
 // The event where a cursor stands, of a round that is not over.
 #[inline(always)]
-fn event_here(script: &Script, steps: &[Step], progress: Progress) -> Event
+fn event_here(script: &Script, progress: Progress) -> Event
     requires stands { spec.IsProgress script.now progress }
-    requires steps { IsSteps script.now steps.now }
     ensures value { spec.IsEventThere script.now progress result }
     ensures event { IsEvent result }
 {
     let phases = script.phases();
+    let steps = script.steps();
     if steps.is_empty() {
-        event_in(&phases[progress.phase], progress.event)
+        event_in(&phases[progress.phase as usize], progress.event as usize)
     } else {
-        event_of_step(&steps[progress.first + progress.event])
+        event_of_step(&steps[(progress.first + progress.event) as usize])
     }
 }
 
 /// The event where a cursor stands; none behind the last round.
 #[inline(always)]
-pub(crate) fn event_of(script: &Script, steps: &[Step], progress: Progress) -> Option<Event>
+pub(crate) fn event_of(script: &Script, progress: Progress) -> Option<Event>
     requires stands { spec.IsProgress script.now progress }
-    requires steps { IsSteps script.now steps.now }
     ensures value { result ≡ event_at script.now (spec.place_of script.now progress) }
     ensures within { IsScript script.now }
     ensures event { IfSome result IsEvent }
@@ -91,10 +89,10 @@ pub(crate) fn event_of(script: &Script, steps: &[Step], progress: Progress) -> O
     if is_over(script.rounds(), progress.round) {
         return None;
     }
-    Some(event_here(script, steps, progress))
+    Some(event_here(script, progress))
 }
 
-fn next_round(rounds: Option<u64>, round: u64) -> u64
+fn next_round(rounds: Option<u32>, round: u32) -> u32
     requires { IfSome rounds (λ n. round < 1000000000) }
     ensures { result ≡ spec.next_round rounds round }
 {
@@ -106,7 +104,7 @@ fn next_round(rounds: Option<u64>, round: u64) -> u64
 
 // Behind the last event of a lap, in a phase of so many laps.
 #[inline(always)]
-fn next_lap(script: &Script, progress: &mut Progress, laps: u64)
+fn next_lap(script: &Script, progress: &mut Progress, laps: u32)
     requires stands { spec.IsProgress script.now progress.old }
     requires more { IsSome (event_at script.now (spec.place_of script.now progress.old)) }
     requires last { spec.IsLastOfLap script.now progress.old laps }
@@ -121,7 +119,7 @@ fn next_lap(script: &Script, progress: &mut Progress, laps: u64)
     }
     progress.lap = 0;
     progress.phase += 1;
-    if progress.phase < phases.len() {
+    if (progress.phase as usize) < phases.len() {
         progress.first += events;
         return;
     }
@@ -132,30 +130,29 @@ fn next_lap(script: &Script, progress: &mut Progress, laps: u64)
 
 // How many laps its phase has, where a cursor stands at the last event of a lap; else 0.
 #[inline(always)]
-fn laps_here(script: &Script, steps: &[Step], progress: Progress) -> u64
+fn laps_here(script: &Script, progress: Progress) -> u32
     requires stands { spec.IsProgress script.now progress }
-    requires steps { IsSteps script.now steps.now }
     ensures { spec.AreLapsThere script.now progress result }
 {
     let phases = script.phases();
+    let steps = script.steps();
     if steps.is_empty() {
-        laps_of(&phases[progress.phase], progress.event)
+        laps_of(&phases[progress.phase as usize], progress.event as usize)
     } else {
-        laps_of_step(&steps[progress.first + progress.event])
+        laps_of_step(&steps[(progress.first + progress.event) as usize])
     }
 }
 
 /// Goes behind the event where a cursor stands.
 #[inline(always)]
-pub(crate) fn advance(script: &Script, steps: &[Step], progress: &mut Progress)
+pub(crate) fn advance(script: &Script, progress: &mut Progress)
     requires stands { spec.IsProgress script.now progress.old }
-    requires steps { IsSteps script.now steps.now }
     requires more { IsSome (event_at script.now (spec.place_of script.now progress.old)) }
     ensures { spec.IsBehind script.now progress.old progress.new }
 {
     // For the prover alone: a look into it brings what its type keeps.
     let _ = script.phases();
-    let laps = laps_here(script, steps, *progress);
+    let laps = laps_here(script, *progress);
     if laps == 0 {
         progress.event += 1;
         return;

@@ -3,8 +3,12 @@
 ghost use Rattle.std.specs.Prelude.{◌≡◌, ◌↔◌, IsTrue, IsOk, MatchResult, IsSome, IfSome, All};
 ghost use Rattle.task_script.specs.script.ScriptView.{IsEvent, IsPhase, IsScript, script_of};
 ghost use Rattle.task_script.specs.script.Segments.{IsLoops, rounds_of, loops_of};
+ghost use Rattle.task_script.specs.private.Steps.{IsSteps};
 
+use crate::steps;
+use crate::steps::Step;
 use std::alloc::Global;
+use std::fmt;
 use std::marker::Model;
 
 /// What a task does next in its script.
@@ -40,20 +44,33 @@ impl Model for Phase {
 
 /// The phases of a task in order, over and over, or so many rounds of them. Every script is within
 /// the limits that [`Script::new`] tests.
-#[derive(Debug, Drop)]
+#[derive(Drop)]
 pub struct Script {
-    rounds: Option<u64>,
+    rounds: Option<u32>,
     phases: Vec<Phase>,
+    // The events of all phases once more, or none.
+    steps: Vec<Step>,
+}
+
+// The steps are left out: they follow from the rest.
+impl fmt::Debug for Script {
+    fn fmt<W: fmt::Write>(&self, f: &mut fmt::Formatter<W>) -> fmt::Result {
+        f.debug_struct("Script")
+            .field("rounds", &self.rounds)
+            .field("phases", &self.phases)
+            .finish()
+    }
 }
 
 impl Model for Script {
-    ghost use Rattle.task_script.specs.script.ScriptView.{ScriptView, IsScript};
+    ghost use Rattle.task_script.specs.script.ScriptView.{ScriptView};
+    ghost use Rattle.task_script.specs.private.Steps.{IsLaid};
 
     ghost Value = { ScriptView };
 
     ghost view = { λ s. record { rounds = s.rounds; phases = s.phases.items } };
 
-    ghost invariant = { λ s. IsScript (record { rounds = s.rounds; phases = s.phases.items }) };
+    ghost invariant = { λ s. IsLaid (record { rounds = s.rounds; phases = s.phases.items }) s.steps.items };
 }
 
 /// What a script answers when it is asked.
@@ -102,13 +119,13 @@ fn are_phases(phases: &[Phase]) -> bool
     phases.iter().all(is_phase)
 }
 
-fn rounds_within(loops: i64) -> Option<Option<u64>>
+fn rounds_within(loops: i64) -> Option<Option<u32>>
     ensures within { IsSome result ↔ IsLoops loops }
     ensures value { IfSome result (λ rounds. rounds ≡ rounds_of loops) }
 {
     match loops {
         -1 => Some(None),
-        1..=1_000_000_000 => Some(Some(loops as u64)),
+        1..=1_000_000_000 => Some(Some(loops as u32)),
         _ => None,
     }
 }
@@ -125,10 +142,23 @@ impl Script {
     {
         match rounds_within(loops) {
             Some(rounds) if !phases.is_empty() && phases.len() <= 64 && are_phases(&phases) => {
-                Ok(Script { rounds, phases })
+                let steps = Vec::new(*phases.allocator());
+                Ok(Script {
+                    rounds,
+                    phases,
+                    steps,
+                })
             }
             _ => Err(phases),
         }
+    }
+
+    /// Lays the events of all phases out in one block, where there is more than one phase: a cursor
+    /// goes through them faster so. Takes memory for it, and does without where that is refused.
+    pub fn lay_out(&mut self)
+        ensures { self.new ≡ self.old }
+    {
+        self.steps = steps::of(self);
     }
 
     /// The number of rounds, -1 for no end.
@@ -142,7 +172,7 @@ impl Script {
     }
 
     /// The number of rounds; none for no end.
-    pub(crate) fn rounds(&self) -> Option<u64>
+    pub(crate) fn rounds(&self) -> Option<u32>
         ensures { result ≡ self.now.rounds }
     {
         self.rounds
@@ -151,6 +181,14 @@ impl Script {
     /// Where the phases have their memory from.
     pub(crate) fn allocator(&self) -> Global {
         *self.phases.allocator()
+    }
+
+    /// The steps of a round, in order, or none.
+    #[inline(always)]
+    pub(crate) fn steps(&self) -> &[Step]
+        ensures { IsSteps self.now result.now }
+    {
+        &self.steps
     }
 
     /// The phases of a round, in order.

@@ -60,15 +60,15 @@ pub(crate) fn event_of_step(step: &Step) -> Event
 
 /// The laps of a step.
 #[inline(always)]
-pub(crate) fn laps_of_step(step: &Step) -> u64
+pub(crate) fn laps_of_step(step: &Step) -> u32
     ensures { result ≡ step.now.laps }
 {
-    step.laps as u64
+    step.laps
 }
 
 /// How many laps a phase has, at the last of its events; else 0.
 #[inline(always)]
-pub(crate) fn laps_of(phase: &Phase, event: usize) -> u64
+pub(crate) fn laps_of(phase: &Phase, event: usize) -> u32
     requires phase { IsPhase phase.now }
     requires within { event < length phase.now.events }
     ensures { result ≡ laps_at phase.now event }
@@ -76,7 +76,7 @@ pub(crate) fn laps_of(phase: &Phase, event: usize) -> u64
     if event + 1 < phase.events.len() {
         0
     } else {
-        phase.count
+        phase.count as u32
     }
 }
 
@@ -87,7 +87,7 @@ fn make_step(phase: &Phase, event: usize) -> Step
 {
     Step {
         event: shorten(phase.events[event]),
-        laps: laps_of(phase, event) as u32,
+        laps: laps_of(phase, event),
     }
 }
 

@@ -79,13 +79,15 @@ pub fn prepare(
           script = script.now;
         }) }
 {
-    let (own_name, own_script) = copies_of(alloc, name, script)?;
+    let (own_name, mut own_script) = copies_of(alloc, name, script)?;
     // Each is let go of by one call, not written out with all that is inside.
     let Ok((entry_name, entry_script)) = copies_of(alloc, name, script) else {
         drop(own_name);
         drop(own_script);
         return Err(NoMemory);
     };
+    // Here, as the admission itself is made under a lock.
+    own_script.lay_out();
     Ok(Prepared {
         number,
         params,

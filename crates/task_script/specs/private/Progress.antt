@@ -4,7 +4,7 @@ use Rattle.task_script.specs.declared.progress.Progress.{Progress}
 use Rattle.task_script.specs.declared.script.Event.{Event}
 use Rattle.task_script.specs.script.ScriptView.{PhaseView, ScriptView, CursorView, IsScript, IsEvent, IsCursor, phase_len, round_len}
 use Rattle.task_script.specs.script.Unrolled.{event_at}
-use Rattle.task_script.specs.private.Steps.{StepView, IsSteps, laps_at, first_of}
+use Rattle.task_script.specs.private.Steps.{laps_at, first_of}
 use Rattle.task_script.specs.script.Segments.{first_place, kept_cursor, moved, is_late}
 
 -- how many events of a round are behind: those of so many phases, and in the next phase those of so
@@ -40,13 +40,12 @@ pub record IsProgress (s : ScriptView) (p : Progress) : Type 0 where
   pub there : (q : PhaseView) → slice_get s.phases p.phase ≡ Some q → IsInPhase q p
   pub kept : (reference : ℕ) → IsCursor (record { script = s; place = place_of s p; reference = reference })
 
--- what a cursor keeps: its counters, the event to which they come, and the steps
-pub record Comes (s : ScriptView) (p : Progress) (coming : Option Event) (laid : List StepView) : Type 0 where
+-- what a cursor keeps: its counters, and the event to which they come
+pub record Comes (s : ScriptView) (p : Progress) (coming : Option Event) : Type 0 where
   pub script : IsScript s
   pub stands : IsProgress s p
   pub is : coming ≡ event_at s (place_of s p)
   pub event : IfSome coming IsEvent
-  pub steps : IsSteps s laid
 
 -- the event of the script to which the counters come
 abbrev pub IsEventThere : ScriptView → Progress → Event → Type 0

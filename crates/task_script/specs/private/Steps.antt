@@ -4,7 +4,7 @@ use Rattle.task_script.specs.declared.script.Event.{Event}
 use Rattle.task_script.specs.declared.script.Event.TheVariants.{Run, Sleep, Timer, Wait}
 use Rattle.task_script.specs.declared.steps.Brief.{Brief}
 use Rattle.task_script.specs.declared.steps.Brief.TheVariants.{Run as BriefRun, Sleep as BriefSleep, Timer as BriefTimer, Wait as BriefWait}
-use Rattle.task_script.specs.script.ScriptView.{PhaseView, ScriptView}
+use Rattle.task_script.specs.script.ScriptView.{PhaseView, ScriptView, IsScript}
 
 -- an event, and how many laps its phase has where it is the last of them, else 0
 pub record StepView : Type 0 where
@@ -47,3 +47,8 @@ first_of phases n = length (steps_of_phases phases n)
 -- the steps of a script, or none
 abbrev pub IsSteps : ScriptView → List StepView → Type 0
 IsSteps s steps = 0 < length steps → steps ≡ steps_of_phases s.phases (length s.phases)
+
+-- what every script keeps, its steps with it
+pub record IsLaid (s : ScriptView) (laid : List StepView) : Type 0 where
+  pub script : IsScript s
+  pub steps : IsSteps s laid

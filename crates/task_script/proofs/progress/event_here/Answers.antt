@@ -18,8 +18,8 @@ offset_bounds-steps-progress c =
 
 pub bounds-steps-progress : goal.bounds-steps-progress
 bounds-steps-progress c =
-    let some : 0 < length c.args.steps.now = grind (arith, common_steps) in
-    step_within c.args.script.now c.args.progress c.args.steps.now c.requires.stands c.requires.steps some
+    let some : 0 < length c.steps-steps.result.now = grind (arith, common_steps) in
+    step_within c.args.script.now c.args.progress c.steps-steps.result.now c.requires.stands c.steps-steps.ensures some
 
 pub returns-then-is_empty-clause-value : goal.returns-then-is_empty-clause-value
 returns-then-is_empty-clause-value c =
@@ -32,14 +32,14 @@ pub returns-else-is_empty-clause-value : goal.returns-else-is_empty-clause-value
 returns-else-is_empty-clause-value c =
     let s = c.args.script.now in
     let p = c.args.progress in
-    let some : 0 < length c.args.steps.now = grind (arith, common_steps) in
-    let read = event_read s p c.args.steps.now c.requires.stands c.requires.steps some c.index-steps-progress.result c.index-steps-progress.is in
+    let some : 0 < length c.steps-steps.result.now = grind (arith, common_steps) in
+    let read = event_read s p c.steps-steps.result.now c.requires.stands c.steps-steps.ensures some c.index-steps-progress.result c.index-steps-progress.is in
     subst (λ (e : Event). IsEventThere s p e) (sym c.event_of_step.ensures) read
 
 pub returns-else-is_empty-clause-event : goal.returns-else-is_empty-clause-event
 returns-else-is_empty-clause-event c =
     let s = c.args.script.now in
     let p = c.args.progress in
-    let some : 0 < length c.args.steps.now = grind (arith, common_steps) in
-    let read = event_read s p c.args.steps.now c.requires.stands c.requires.steps some c.index-steps-progress.result c.index-steps-progress.is in
+    let some : 0 < length c.steps-steps.result.now = grind (arith, common_steps) in
+    let read = event_read s p c.steps-steps.result.now c.requires.stands c.steps-steps.ensures some c.index-steps-progress.result c.index-steps-progress.is in
     is_event s p c.event_of_step.result c.phases-phases.ensures.within c.requires.stands (subst (λ (e : Event). IsEventThere s p e) (sym c.event_of_step.ensures) read)

@@ -17,8 +17,8 @@ offset_bounds-steps-progress c =
 
 pub bounds-steps-progress : goal.bounds-steps-progress
 bounds-steps-progress c =
-    let some : 0 < length c.args.steps.now = grind (arith, common_steps) in
-    step_within c.args.script.now c.args.progress c.args.steps.now c.requires.stands c.requires.steps some
+    let some : 0 < length c.steps-steps.result.now = grind (arith, common_steps) in
+    step_within c.args.script.now c.args.progress c.steps-steps.result.now c.requires.stands c.steps-steps.ensures some
 
 pub returns-then-is_empty : goal.returns-then-is_empty
 returns-then-is_empty c =
@@ -31,6 +31,6 @@ pub returns-else-is_empty : goal.returns-else-is_empty
 returns-else-is_empty c =
     let s = c.args.script.now in
     let p = c.args.progress in
-    let some : 0 < length c.args.steps.now = grind (arith, common_steps) in
-    let read = laps_read s p c.args.steps.now c.requires.stands c.requires.steps some c.index-steps-progress.result c.index-steps-progress.is in
+    let some : 0 < length c.steps-steps.result.now = grind (arith, common_steps) in
+    let read = laps_read s p c.steps-steps.result.now c.requires.stands c.steps-steps.ensures some c.index-steps-progress.result c.index-steps-progress.is in
     subst (λ (n : ℕ). AreLapsThere s p n) (sym c.laps_of_step.ensures) read
