@@ -21,6 +21,12 @@ after c = record (before c) { tasks = c.push.new.self.tasks; used = c.insert.new
 after_is : (c : goal.After-push) → after c ≡ listed c.args.self.now (new_task c.args.self.now c.args.number c.args.name c.args.params c.args.delay c.args.script)
 after_is c = ap (λ (ps : Places). record (after c) { curr = ps }) c.push.ensures.places ∙ listed_as (before c) c.args.self.now c.args.number c.args.name c.args.params c.args.delay c.args.script c.new_task-task.result c.push.new.self.tasks c.insert.new.self c.self.view_is (c.new_task-task.ensures (before c) c.args.delay refl refl) c.push.ensures.tasks c.insert.ensures
 
+pub insert-requires-clause-absent : goal.insert-requires-clause-absent
+insert-requires-clause-absent c =
+    let s = c.self.inside in
+    let d : Domain = record { cpus = s.cpus; limit = s.limit; time = s.time; tasks = s.roster.tasks; used = s.used; curr = s.roster.places; switches = s.switches.items } in
+    (new_is d c.args.self.now c.args.number c.args.params c.self.view_is c.self.invariant.domain c.requires.granted).fresh
+
 pub push-requires-clause-few : goal.push-requires-clause-few
 push-requires-clause-few c =
     let s = c.self.inside in
