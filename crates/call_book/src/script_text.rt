@@ -125,7 +125,7 @@ fn loops_of(text: &[u8]) -> Result<i64, PartFault>
     Ok(number_within(text, 1, MOST)? as i64)
 }
 
-/// The script that a text spells, laid out for the run that it is read for.
+/// The script that a text spells.
 #[tactic(auto, unfolding(crate::specs::private::Reading::script_at))]
 pub(crate) fn script_of(alloc: Global, text: &[u8]) -> Result<Script, PartFault>
     ensures { Gives (λ s. s) result (script_at text.now) }
@@ -136,10 +136,7 @@ pub(crate) fn script_of(alloc: Global, text: &[u8]) -> Result<Script, PartFault>
     let loops = loops_of(loops)?;
     let phases = phases_of(alloc, phases)?;
     match Script::new(loops, phases) {
-        Ok(mut script) => {
-            script.lay_out();
-            Ok(script)
-        }
+        Ok(script) => Ok(script),
         Err(_) => Err(PartFault::Bad),
     }
 }

@@ -25,6 +25,7 @@ mod figures;
 mod heard_summary;
 mod kept;
 mod kept_section;
+mod laid_out;
 mod named_run;
 mod placed_run;
 mod playing;

@@ -20,6 +20,7 @@ ghost use Rattle.calls_trace.specs.Told.{names_in, params_in, no_params, with_pa
 ghost use Rattle.calls_trace.specs.private.Replaying.{AreNamed, Gives, GivesParams, given_in, IsRunOf, IsToldOf};
 ghost use Rattle.calls_trace.specs.private.Recorded.{given_by, given_by_all, params_given_by, params_given_by_all};
 
+use crate::laid_out::lay_out_if_admitted;
 use attr_check::Params;
 use call_book::{Entry, Kept, Section, Spelled};
 use domain_run::{Call, Log, Name, NoMemory, Reply, Script, State};
@@ -130,7 +131,7 @@ impl RunWithNames {
         name: Name,
         params: Params,
         delay: u64,
-        script: Script,
+        mut script: Script,
         text: String,
     ) -> Result<(), NoMemory>
         requires number { IsNumber number }
@@ -151,6 +152,7 @@ impl RunWithNames {
     {
         // For the prover alone: a look at a name brings what every name keeps.
         let _ = name.as_str();
+        lay_out_if_admitted(&self.state, number, &params, &mut script);
         match self.state.admit(number, name, params, delay, script) {
             Ok(()) => self.know(number, text, params),
             Err(_) => Ok(()),

@@ -10,6 +10,7 @@ ghost use Rattle.calls_trace.specs.private.Kept.{room_of};
 
 use crate::kept::CallsLeft;
 use crate::kept_section::KeptSection;
+use crate::laid_out::lay_out_if_admitted;
 use attr_check::Params;
 use domain_run::{Buffered, Call, Name, NoMemory, Script, State};
 use indexmap::IndexMap;
@@ -24,8 +25,8 @@ pub(crate) struct NamedDomain {
     names: IndexMap<u32, String>,
 }
 
-/// The run of a section while it is made, with the switches at hand that were made last. What takes
-/// memory is made at the opening.
+/// The run of a section while it is made, with the switches at hand that were made last. What needs
+/// memory is made at the opening; a script that is laid out takes some where it may.
 #[derive(Drop)]
 pub(crate) struct Playing {
     run: NamedDomain,
@@ -72,7 +73,7 @@ impl NamedDomain {
         name: Name,
         params: Params,
         delay: u64,
-        script: Script,
+        mut script: Script,
         text: String,
     )
         requires number { IsNumber number }
@@ -89,6 +90,7 @@ impl NamedDomain {
     {
         // For the prover alone: a look at a name brings what every name keeps.
         let _ = name.as_str();
+        lay_out_if_admitted(self.domain.state(), number, &params, &mut script);
         match self.domain.admit(number, name, params, delay, script) {
             Ok(()) => self.put(number, text),
             Err(_) => {}

@@ -115,7 +115,7 @@ pub(crate) fn write_trace_of<W: Write>(
     }
 }
 
-/// Writes the trace of the run of one section, while the run is made. What takes memory is made
+/// Writes the trace of the run of one section, while the run is made. What needs memory is made
 /// before the first byte.
 pub(crate) fn write_played<W: Write>(
     alloc: Global,

@@ -17,7 +17,7 @@ fn admit(
     name: Name,
     params: Params,
     delay: u64,
-    script: Script,
+    mut script: Script,
 ) -> Reply
     requires number { (0 < number) × (number < 65536) }
     requires delay { delay ≤ 1000000000 }
@@ -26,6 +26,10 @@ fn admit(
     ensures state { state.new
         ≡ after_call state.old (Call.Admit number name params delay script) }
 {
+    // Where it is refused, its script never runs.
+    if let Reply::Admitted = state.admit_reply(number, &params) {
+        script.lay_out();
+    }
     match state.admit(number, name, params, delay, script) {
         Ok(()) => Reply::Admitted,
         Err(refused) => refused.reply,

@@ -16,5 +16,5 @@ returns-in-Ok-clause-named c =
     on_ok c.know.result ((n : ℕ) → named is n ≡ with_name (named was) a.number (string_bytes a.text) n) (AreNamed c.know.new.self.state is)
     (λ each.
     let each2 : (n : ℕ) → named is n ≡ with_name (named was) a.number a.name n = λ n. each n ∙ ap (λ (t : List ℕ). with_name (named was) a.number t n) c.requires.text in
-    subst (λ (x : Domain). AreNamed x is) (sym (c.know.ensures.state ∙ c.in-Ok.ensures.domain)) (named_step d was is a.number a.name a.params a.delay a.script c.in-Ok.ensures.admitted c.requires.named c.as_str.ensures.name each2))
+    subst (λ (x : Domain). AreNamed x is) (sym (c.know.ensures.state ∙ c.in-Ok.ensures.domain)) (named_step d was is a.number a.name a.params a.delay c.lay_out_if_admitted.new.script c.in-Ok.ensures.admitted c.requires.named c.as_str.ensures.name each2))
     c.know.ensures.names

@@ -13,4 +13,4 @@ returns-in-Ok-clause-called c =
     let was = a.self.now.names in
     let is = c.put.new.self.names in
     let each : (n : ℕ) → named is n ≡ with_name (named was) a.number a.name n = λ n. c.put.ensures.names n ∙ ap (λ (t : List ℕ). with_name (named was) a.number t n) c.requires.text in
-    subst (λ (x : Domain). AreNamed x is) (sym (c.put.ensures.domain ∙ c.in-Ok.ensures.domain)) (named_step d was is a.number a.name a.params a.delay a.script c.in-Ok.ensures.admitted c.requires.called c.as_str.ensures.name each)
+    subst (λ (x : Domain). AreNamed x is) (sym (c.put.ensures.domain ∙ c.in-Ok.ensures.domain)) (named_step d was is a.number a.name a.params a.delay c.lay_out_if_admitted.new.script c.in-Ok.ensures.admitted c.requires.called c.as_str.ensures.name each)
