@@ -28,3 +28,4 @@ pub mod Moves
 pub mod Limiting
 pub mod TicketSums
 pub mod Ended
+pub mod Spared

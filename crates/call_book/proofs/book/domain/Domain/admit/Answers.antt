@@ -9,6 +9,8 @@ use Rattle.call_book.specs.declared.book.stock.Held.{Held}
 use Rattle.call_book.specs.Book.{BookView, Enters}
 use Rattle.call_book.specs.private.Kept.{book_of}
 use Rattle.call_book.specs.private.Stock.{StockView}
+use Rattle.domain_run.proofs.CallerLemmas.{granted_is}
+use Rattle.call_book.proofs.Spared.{spared_room}
 use Rattle.call_book.proofs.Growing.{has_room, moved, enters, admitted_grows, busy_grows, busy_answer}
 use Rattle.call_book.proofs.book.domain.Domain.admit.Goals as goal
 
@@ -58,3 +60,10 @@ returns-in-Listed c =
       none = subst (λ (b : BookView). IfNone blank (b.blanks ≡ [])) view c.spare-blank.ensures.none;
       own = subst (λ (b : BookView). IfSome blank (λ x. x.gate ≡ b.gate)) view c.spare-blank.ensures.own;
     }
+
+pub hold-requires-clause-room : goal.hold-requires-clause-room
+hold-requires-clause-room c =
+    let inside = c.self.inside in
+    let granted = granted_is inside.state c.args.prepared.number c.args.prepared.params c.in-Listed.ensures.0.reply in
+    let e = c.spare-blank.ensures in
+    spared_room inside.state inside.stock c.spare-blank.new.self c.spare-blank.result c.self.invariant.held granted.room e.stock e.blank e.none e.few
