@@ -45,8 +45,8 @@ use crate::task::{Task, TaskView};
 use due_times::{Doubts, Seats};
 use edf_pick::Moved;
 use no_memory::NoMemory;
-pub(crate) use starting::Moment;
 use slot_list::SlotList;
+pub(crate) use starting::Moment;
 use std::alloc::Global;
 use std::marker::Model;
 
@@ -354,7 +354,13 @@ impl Roster {
     {
         // For the prover alone: a look at the seats brings that there are at most 64.
         let _ = self.seats.len();
-        turning::turn_settled(self.tasks.get_mut(place), &mut self.queue, place, time, change);
+        turning::turn_settled(
+            self.tasks.get_mut(place),
+            &mut self.queue,
+            place,
+            time,
+            change,
+        );
     }
 
     /// Changes the task of a number, where it is listed.
