@@ -1,6 +1,7 @@
 //! What the clauses of a domain do not say. What comes of calls in worked rows stands in
 //! `specs/examples` as equations, and the built program replays those rows.
 
+mod listing;
 mod room;
 
 use domain_run::Switch;
