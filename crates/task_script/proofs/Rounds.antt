@@ -1,5 +1,5 @@
 -- Counters of rounds, phases, laps and events, and the place to which they come.
-use Rattle.std.proofs.Common.{Fits, w64, slice_index_or, get_or, ◌≡◌, ℕ, zero, suc, ◌+◌, ◌-◌, ◌*◌, ◌%◌, ◌^◌, ◌<◌, ◌≤◌, true, false, List, [], ◌∷◌, length, Option, Some, None, refl, sym, ap, subst, ◌∙◌, arith, inl, inr, sum_by}
+use Rattle.std.proofs.Common.{Fits, w32, slice_index_or, get_or, ◌≡◌, ℕ, zero, suc, ◌+◌, ◌-◌, ◌*◌, ◌%◌, ◌^◌, ◌<◌, ◌≤◌, true, false, List, [], ◌∷◌, length, Option, Some, None, refl, sym, ap, subst, ◌∙◌, arith, inl, inr, sum_by}
 use Rattle.std.specs.Prelude.{slice_get, IsSome, IfSome, MatchOption}
 use Rattle.std.proofs.Math.Nat.{mod-eq_of_lt, mod_self, mul-add-mod_self_right, mod-lt, suc-mul}
 use Rattle.std.proofs.lemmas.Nat.{mul-le}
@@ -199,7 +199,7 @@ pub phase_read : (s : ScriptView) (p : Progress) (phases : List PhaseView) (q : 
 phase_read s p phases q stands same is =
     slice_get_read s.phases (length s.phases) p.phase q refl stands.phase (is ∙ ap (λ ps. slice_index_or ps p.phase q) same)
 
-pub laps_left : (s : ScriptView) (p : Progress) (q : PhaseView) → IsScript s → IsProgress s p → slice_get s.phases p.phase ≡ Some q → Fits w64 (p.lap + 1)
+pub laps_left : (s : ScriptView) (p : Progress) (q : PhaseView) → IsScript s → IsProgress s p → slice_get s.phases p.phase ≡ Some q → Fits w32 (p.lap + 1)
 laps_left s p q h stands at =
     let in_q = stands.there q at in
     let is = some_phase_at s p.phase q h at in
@@ -310,7 +310,7 @@ pub record Here (s : ScriptView) (p : Progress) : Type 0 where
 pub here : (s : ScriptView) (p : Progress) → IsProgress s p → Here s p
 here s p stands = let none : PhaseView = record { count = 0; events = [] } in record { phase = get_or s.phases p.phase none; at = slice_get-get_or s.phases p.phase none stands.phase }
 
-pub lap_fits : (s : ScriptView) (p : Progress) → IsScript s → IsProgress s p → Fits w64 (p.lap + 1)
+pub lap_fits : (s : ScriptView) (p : Progress) → IsScript s → IsProgress s p → Fits w32 (p.lap + 1)
 lap_fits s p h stands = let q = here s p stands in laps_left s p q.phase h stands q.at
 
 pub lap_behind : (s : ScriptView) (p : Progress) (laps : ℕ) → IsScript s → IsProgress s p → IsSome (event_at s (place_of s p)) → IsLastOfLap s p laps → p.lap + 1 < laps → IsBehind s p (record p { lap = p.lap + 1; event = 0 })

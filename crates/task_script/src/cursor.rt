@@ -9,6 +9,7 @@ ghost use Rattle.task_script.specs.private.Progress.{passed, at_reference};
 use crate::progress;
 use crate::progress::Progress;
 use crate::script::{Event, Script, Segment};
+use crate::steps::{Brief, lengthen};
 use std::fmt;
 use std::marker::Model;
 
@@ -17,7 +18,7 @@ use std::marker::Model;
 #[derive(Drop)]
 pub struct Cursor {
     // The event where it stands, so that nobody looks for it in the script; none behind the last.
-    coming: Option<Event>,
+    coming: Option<Brief>,
     reference: u64,
     progress: Progress,
     script: Script,
@@ -84,12 +85,16 @@ impl Cursor {
         &self.script
     }
 
+    #[inline(always)]
     fn event(&self) -> Option<Event>
         ensures value { result ≡ event_at self.now.script self.now.place }
         ensures within { IsScript self.now.script }
         ensures event { IfSome result IsEvent }
     {
-        self.coming
+        match self.coming {
+            None => None,
+            Some(brief) => Some(lengthen(brief)),
+        }
     }
 
     /// Whether it would pass a timer that is late, asked at this time, in microseconds.

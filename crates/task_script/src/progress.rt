@@ -6,23 +6,24 @@ ghost use Rattle.std.specs.Prelude.{◌≡◌, ◌<◌, IsSome, IfSome, length, 
 ghost use Rattle.task_script.specs.script.ScriptView.{IsEvent, IsPhase, IsScript};
 ghost use Rattle.task_script.specs.script.Unrolled.{event_at};
 ghost use Rattle.task_script.specs.private.Progress as spec;
+ghost use Rattle.task_script.specs.private.Steps.{full, full_some};
 
 use crate::script::{Event, Phase, Script};
-use crate::steps::{event_of_step, laps_of, laps_of_step};
+use crate::steps::{Brief, event_of_step, laps_of, laps_of_step, shorten};
 
 /// What is behind a cursor.
 #[derive(Clone, Copy, Debug)]
 pub(crate) struct Progress {
     /// Rounds; of a script without end none, as each is like the first.
-    round: u64,
+    round: u32,
     /// Phases of this round.
-    phase: usize,
+    phase: u32,
     /// Events of a lap each of those phases.
-    first: usize,
+    first: u32,
     /// Laps: so many times the events of this phase.
-    lap: u64,
+    lap: u32,
     /// Events of this lap.
-    event: usize,
+    event: u32,
 }
 
 /// At the beginning of a script.
@@ -42,7 +43,7 @@ pub(crate) fn begin(script: &Script) -> Progress
     }
 }
 
-fn is_over(rounds: Option<u64>, round: u64) -> bool
+fn is_over(rounds: Option<u32>, round: u32) -> bool
     ensures { result ≡ spec.is_over rounds round }
 {
     match rounds {
@@ -62,27 +63,27 @@ fn event_in(phase: &Phase, index: usize) -> Event
 
 // The event where a cursor stands, of a round that is not over.
 #[inline(always)]
-fn event_here(script: &Script, progress: Progress) -> Event
+fn event_here(script: &Script, progress: Progress) -> Brief
     requires stands { spec.IsProgress script.now progress }
-    ensures value { spec.IsEventThere script.now progress result }
-    ensures event { IsEvent result }
+    ensures value { spec.IsEventThere script.now progress (full result) }
+    ensures event { IsEvent (full result) }
 {
     let phases = script.phases();
     let steps = script.steps();
     if steps.is_empty() {
-        event_in(&phases[progress.phase], progress.event)
+        shorten(event_in(&phases[progress.phase as usize], progress.event as usize))
     } else {
-        event_of_step(&steps[progress.first + progress.event])
+        event_of_step(&steps[(progress.first + progress.event) as usize])
     }
 }
 
 /// The event where a cursor stands; none behind the last round.
 #[inline(always)]
-pub(crate) fn event_of(script: &Script, progress: Progress) -> Option<Event>
+pub(crate) fn event_of(script: &Script, progress: Progress) -> Option<Brief>
     requires stands { spec.IsProgress script.now progress }
-    ensures value { result ≡ event_at script.now (spec.place_of script.now progress) }
+    ensures value { full_some result ≡ event_at script.now (spec.place_of script.now progress) }
     ensures within { IsScript script.now }
-    ensures event { IfSome result IsEvent }
+    ensures event { IfSome (full_some result) IsEvent }
 {
     // For the prover alone: a look into it brings what its type keeps.
     let _ = script.phases();
@@ -92,7 +93,7 @@ pub(crate) fn event_of(script: &Script, progress: Progress) -> Option<Event>
     Some(event_here(script, progress))
 }
 
-fn next_round(rounds: Option<u64>, round: u64) -> u64
+fn next_round(rounds: Option<u32>, round: u32) -> u32
     requires { IfSome rounds (λ n. round < 1000000000) }
     ensures { result ≡ spec.next_round rounds round }
 {
@@ -104,7 +105,7 @@ fn next_round(rounds: Option<u64>, round: u64) -> u64
 
 // Behind the last event of a lap, in a phase of so many laps.
 #[inline(always)]
-fn next_lap(script: &Script, progress: &mut Progress, laps: u64)
+fn next_lap(script: &Script, progress: &mut Progress, laps: u32)
     requires stands { spec.IsProgress script.now progress.old }
     requires more { IsSome (event_at script.now (spec.place_of script.now progress.old)) }
     requires last { spec.IsLastOfLap script.now progress.old laps }
@@ -119,7 +120,7 @@ fn next_lap(script: &Script, progress: &mut Progress, laps: u64)
     }
     progress.lap = 0;
     progress.phase += 1;
-    if progress.phase < phases.len() {
+    if (progress.phase as usize) < phases.len() {
         progress.first += events;
         return;
     }
@@ -130,16 +131,16 @@ fn next_lap(script: &Script, progress: &mut Progress, laps: u64)
 
 // How many laps its phase has, where a cursor stands at the last event of a lap; else 0.
 #[inline(always)]
-fn laps_here(script: &Script, progress: Progress) -> u64
+fn laps_here(script: &Script, progress: Progress) -> u32
     requires stands { spec.IsProgress script.now progress }
     ensures { spec.AreLapsThere script.now progress result }
 {
     let phases = script.phases();
     let steps = script.steps();
     if steps.is_empty() {
-        laps_of(&phases[progress.phase], progress.event)
+        laps_of(&phases[progress.phase as usize], progress.event as usize)
     } else {
-        laps_of_step(&steps[progress.first + progress.event])
+        laps_of_step(&steps[(progress.first + progress.event) as usize])
     }
 }
 

@@ -46,7 +46,7 @@ impl Model for Phase {
 /// the limits that [`Script::new`] tests.
 #[derive(Drop)]
 pub struct Script {
-    rounds: Option<u64>,
+    rounds: Option<u32>,
     phases: Vec<Phase>,
     // The events of all phases once more, or none.
     steps: Vec<Step>,
@@ -119,13 +119,13 @@ fn are_phases(phases: &[Phase]) -> bool
     phases.iter().all(is_phase)
 }
 
-fn rounds_within(loops: i64) -> Option<Option<u64>>
+fn rounds_within(loops: i64) -> Option<Option<u32>>
     ensures within { IsSome result ↔ IsLoops loops }
     ensures value { IfSome result (λ rounds. rounds ≡ rounds_of loops) }
 {
     match loops {
         -1 => Some(None),
-        1..=1_000_000_000 => Some(Some(loops as u64)),
+        1..=1_000_000_000 => Some(Some(loops as u32)),
         _ => None,
     }
 }
@@ -172,7 +172,7 @@ impl Script {
     }
 
     /// The number of rounds; none for no end.
-    pub(crate) fn rounds(&self) -> Option<u64>
+    pub(crate) fn rounds(&self) -> Option<u32>
         ensures { result ≡ self.now.rounds }
     {
         self.rounds

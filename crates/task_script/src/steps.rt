@@ -9,9 +9,9 @@ use crate::script::{Event, Phase, Script};
 use no_memory::NoMemory;
 use std::marker::Model;
 
-// An event in half the bytes.
+/// An event in half the bytes.
 #[derive(Clone, Copy)]
-enum Brief {
+pub(crate) enum Brief {
     Run(u32),
     Sleep(u32),
     Timer(u32),
@@ -33,7 +33,9 @@ impl Model for Step {
     ghost view = { λ s. record { event = full s.event; laps = s.laps } };
 }
 
-fn shorten(event: Event) -> Brief
+/// A script's event in half the bytes.
+#[inline(always)]
+pub(crate) fn shorten(event: Event) -> Brief
     requires { IsEvent event }
     ensures { full result ≡ event }
 {
@@ -47,10 +49,18 @@ fn shorten(event: Event) -> Brief
 
 /// The event of a step.
 #[inline(always)]
-pub(crate) fn event_of_step(step: &Step) -> Event
-    ensures { result ≡ step.now.event }
+pub(crate) fn event_of_step(step: &Step) -> Brief
+    ensures { full result ≡ step.now.event }
 {
-    match step.event {
+    step.event
+}
+
+/// The event in full.
+#[inline(always)]
+pub(crate) fn lengthen(brief: Brief) -> Event
+    ensures { result ≡ full brief }
+{
+    match brief {
         Brief::Run(n) => Event::Run(n as u64),
         Brief::Sleep(n) => Event::Sleep(n as u64),
         Brief::Timer(n) => Event::Timer(n as u64),
@@ -60,15 +70,15 @@ pub(crate) fn event_of_step(step: &Step) -> Event
 
 /// The laps of a step.
 #[inline(always)]
-pub(crate) fn laps_of_step(step: &Step) -> u64
+pub(crate) fn laps_of_step(step: &Step) -> u32
     ensures { result ≡ step.now.laps }
 {
-    step.laps as u64
+    step.laps
 }
 
 /// How many laps a phase has, at the last of its events; else 0.
 #[inline(always)]
-pub(crate) fn laps_of(phase: &Phase, event: usize) -> u64
+pub(crate) fn laps_of(phase: &Phase, event: usize) -> u32
     requires phase { IsPhase phase.now }
     requires within { event < length phase.now.events }
     ensures { result ≡ laps_at phase.now event }
@@ -76,7 +86,7 @@ pub(crate) fn laps_of(phase: &Phase, event: usize) -> u64
     if event + 1 < phase.events.len() {
         0
     } else {
-        phase.count
+        phase.count as u32
     }
 }
 
@@ -87,7 +97,7 @@ fn make_step(phase: &Phase, event: usize) -> Step
 {
     Step {
         event: shorten(phase.events[event]),
-        laps: laps_of(phase, event) as u32,
+        laps: laps_of(phase, event),
     }
 }
 

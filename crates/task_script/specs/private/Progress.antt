@@ -2,9 +2,10 @@
 use Rattle.std.specs.Prelude.{ℕ, zero, suc, ◌≡◌, ◌+◌, ◌*◌, ◌<◌, ◌≤◌, Bool, false, nat_le, if◌then◌else◌, List, [], ◌∷◌, length, slice_get, Option, Some, None, IfSome}
 use Rattle.task_script.specs.declared.progress.Progress.{Progress}
 use Rattle.task_script.specs.declared.script.Event.{Event}
+use Rattle.task_script.specs.declared.steps.Brief.{Brief}
 use Rattle.task_script.specs.script.ScriptView.{PhaseView, ScriptView, CursorView, IsScript, IsEvent, IsCursor, phase_len, round_len}
 use Rattle.task_script.specs.script.Unrolled.{event_at}
-use Rattle.task_script.specs.private.Steps.{laps_at, first_of}
+use Rattle.task_script.specs.private.Steps.{full_some, laps_at, first_of}
 use Rattle.task_script.specs.script.Segments.{first_place, kept_cursor, moved, is_late}
 
 -- how many events of a round are behind: those of so many phases, and in the next phase those of so
@@ -41,11 +42,11 @@ pub record IsProgress (s : ScriptView) (p : Progress) : Type 0 where
   pub kept : (reference : ℕ) → IsCursor (record { script = s; place = place_of s p; reference = reference })
 
 -- what a cursor keeps: its counters, and the event to which they come
-pub record Comes (s : ScriptView) (p : Progress) (coming : Option Event) : Type 0 where
+pub record Comes (s : ScriptView) (p : Progress) (coming : Option Brief) : Type 0 where
   pub script : IsScript s
   pub stands : IsProgress s p
-  pub is : coming ≡ event_at s (place_of s p)
-  pub event : IfSome coming IsEvent
+  pub is : full_some coming ≡ event_at s (place_of s p)
+  pub event : IfSome (full_some coming) IsEvent
 
 -- the event of the script to which the counters come
 abbrev pub IsEventThere : ScriptView → Progress → Event → Type 0

@@ -1,5 +1,5 @@
 -- The events of a script one behind the other, for the code's own contracts.
-use Rattle.std.specs.Prelude.{ℕ, zero, suc, ◌≡◌, ◌+◌, ◌<◌, nat_le, if◌then◌else◌, List, [], ◌∷◌, ◌++◌, length, slice_index_or}
+use Rattle.std.specs.Prelude.{ℕ, zero, suc, ◌≡◌, ◌+◌, ◌<◌, nat_le, if◌then◌else◌, List, [], ◌∷◌, ◌++◌, length, slice_index_or, Option, Some, None}
 use Rattle.task_script.specs.declared.script.Event.{Event}
 use Rattle.task_script.specs.declared.script.Event.TheVariants.{Run, Sleep, Timer, Wait}
 use Rattle.task_script.specs.declared.steps.Brief.{Brief}
@@ -16,6 +16,10 @@ full (BriefRun n) = Run n
 full (BriefSleep n) = Sleep n
 full (BriefTimer n) = Timer n
 full BriefWait = Wait
+
+abbrev pub full_some : Option Brief → Option Event
+full_some None = None
+full_some (Some brief) = Some (full brief)
 
 abbrev pub laps_at : PhaseView → ℕ → ℕ
 laps_at q event = if nat_le (length q.events) (event + 1) then q.count else 0

@@ -1,4 +1,5 @@
 use Rattle.std.proofs.Common.{◌≡◌, false, true, sym}
+use Rattle.task_script.specs.private.Steps.{full}
 use Rattle.task_script.specs.private.Progress.{is_over}
 use Rattle.task_script.proofs.Rounds.{none_over}
 use Rattle.task_script.proofs.Stepping.{event_is}
@@ -14,4 +15,4 @@ pub returns-clause-value : goal.returns-clause-value
 returns-clause-value c =
     let s = c.args.script.now in
     let left : is_over s.rounds c.args.progress.round ≡ false = cc in
-    event_is s c.args.progress c.event_here.result c.phases.ensures.within c.requires.stands left c.event_here.ensures.value
+    event_is s c.args.progress (full c.event_here.result) c.phases.ensures.within c.requires.stands left c.event_here.ensures.value
