@@ -1,5 +1,6 @@
-ghost use Rattle.std.specs.Prelude.{◌≡◌, ℕ, List, IfOk, MatchResult};
+ghost use Rattle.std.specs.Prelude.{◌≡◌, ℕ, List, [], ◌∷◌, ◌++◌, IfOk, IfErr, MatchResult};
 ghost use Rattle.std.specs.Option.{option_map};
+ghost use Rattle.call_book.specs.declared.fault.PartFault.TheVariants as PartFault;
 ghost use Rattle.task_script.specs.script.Segments.{rounds_of, IsLoops};
 ghost use Rattle.call_book.specs.private.Reading.{Gives, NoDigit, IsFirstEvent, event_first_at, events_at, phase_at, phase_first_at, phases_at, rounds_at, script_at};
 
@@ -14,7 +15,8 @@ use std::alloc::Global;
 const MOST: u64 = 1_000_000_000;
 /// The most events of a phase, and the most phases of a script.
 const MOST_ITEMS: u64 = 64;
-/// Room for so many events, and so many phases, is taken at first: most have no more.
+/// Room for so many events, and so many phases, is taken at first where there are more than one:
+/// most have no more.
 const ROOM: usize = 2;
 
 /// `rN`, `sN`, `tN` or `w` at the front of a text, and what follows.
@@ -50,15 +52,28 @@ fn event_first(text: &[u8]) -> Result<(Event, Option<&[u8]>), PartFault>
     }
 }
 
+/// One item more; of one alone the list takes no more memory than for it.
+#[inline(always)]
+fn add<T: Drop>(items: &mut Vec<T>, item: T, is_last: bool) -> Result<(), PartFault>
+    ensures items { IfOk result (λ _. items.new.items ≡ items.old.items ++ item ∷ []) }
+    ensures fault { IfErr result (λ e. e ≡ PartFault.Memory) }
+{
+    if items.is_empty() {
+        items.try_reserve_exact(if is_last { 1 } else { ROOM })?;
+    }
+    items.push(item)?;
+    Ok(())
+}
+
 /// 1 to 64 events, with commas between them.
 fn events_of(alloc: Global, text: &[u8]) -> Result<Vec<Event>, PartFault>
     ensures { Gives (λ v. v.items) result (events_at text.now) }
 {
-    let mut events = Vec::with_capacity(alloc, ROOM)?;
+    let mut events = Vec::new(alloc);
     let mut rest = text;
     for _ in 0..MOST_ITEMS {
         let (event, after) = event_first(rest)?;
-        events.push(event)?;
+        add(&mut events, event, after.is_none())?;
         match after {
             None => return Ok(events),
             Some(after) => rest = after,
@@ -100,11 +115,11 @@ fn phase_first(alloc: Global, text: &[u8]) -> Result<(Phase, Option<&[u8]>), Par
 fn phases_of(alloc: Global, text: &[u8]) -> Result<Vec<Phase>, PartFault>
     ensures { Gives (λ v. v.items) result (phases_at text.now) }
 {
-    let mut phases = Vec::with_capacity(alloc, ROOM)?;
+    let mut phases = Vec::new(alloc);
     let mut rest = text;
     for _ in 0..MOST_ITEMS {
         let (phase, after) = phase_first(alloc, rest)?;
-        phases.push(phase)?;
+        add(&mut phases, phase, after.is_none())?;
         match after {
             None => return Ok(phases),
             Some(after) => rest = after,

@@ -1,7 +1,7 @@
 //! Quantiles of distances.
 
 ghost use Rattle.std.specs.Prelude.{◌≡◌, ◌+◌, ◌*◌, ◌<◌, ◌≤◌, [], IfSome, None, length};
-ghost use Rattle.std.specs.List.Sorted.{IsNonDecreasing};
+ghost use Rattle.std.specs.List.Sorted.{IsNonDecreasing, IsPermutation};
 ghost use Rattle.compare_table.specs.Quantiles.{IsQuantile, IsSpread};
 
 use crate::row::Spread;
@@ -41,11 +41,13 @@ fn spread_of(values: &[u64]) -> Spread
     }
 }
 
-/// How far distances, in microseconds, are spread; none where there are none. Puts them in order.
-/// Takes no memory.
+/// How far distances, in microseconds, are spread; none where there are none. Puts them in order,
+/// and none of them comes or goes. Takes no memory.
 pub fn spread(distances: &mut [u64]) -> Option<Spread>
     ensures some { IfSome result (IsSpread distances.old) }
     ensures none { result ≡ None → distances.old ≡ [] }
+    ensures same { IsPermutation distances.old distances.new }
+    ensures rising { IsNonDecreasing distances.new }
 {
     distances.sort_unstable();
     if distances.is_empty() {

@@ -7,3 +7,6 @@ spread_of-requires-clause-rising c = IsNonDecreasingBy-from_sort (λ x. x) c.sor
 
 pub returns-clause-some : goal.returns-clause-some
 returns-clause-some c = spread_reordered c.args.distances.now c.sort_unstable.new.self c.spread_of.result c.sort_unstable.ensures.permutation c.spread_of.ensures
+
+pub returns-clause-rising : goal.returns-clause-rising
+returns-clause-rising c = IsNonDecreasingBy-from_sort (λ x. x) c.sort_unstable.new.self c.sort_unstable.ensures.sorted
