@@ -1,7 +1,7 @@
 //! What lines say of tasks, idle CPUs, states, and of a CPU in a second, put together once and kept
 //! while a trace is written.
 
-ghost use Rattle.std.specs.Prelude.{ℕ, ◌≡◌, ◌+◌, ◌<◌, ◌≤◌, ◌++◌, List, length, slice_index_or, All, Option, Some, None, IfSome, IsTrue};
+ghost use Rattle.std.specs.Prelude.{ℕ, ◌≡◌, ◌+◌, ◌<◌, ◌≤◌, ◌++◌, List, length, slice_index_or, All, Option, Some, None, IfSome, IsTrue, vec_capacity};
 ghost use Rattle.switch_text.specs.Names.{named, HasName};
 ghost use Rattle.switch_text.specs.Line.{cpu_part};
 ghost use Rattle.switch_text.specs.private.Parts.{second_part, state_part, task_text, leaving_text, coming_text};
@@ -82,6 +82,7 @@ pub struct TraceRoom {
     pub(crate) slots: Vec<Slot>,
     ghost many: { AreEnough slots.items },
     ghost empty: { AreNobodys slots.items },
+    ghost room: { 2176 ≤ vec_capacity slots },
 }
 
 impl TraceRoom {
@@ -92,12 +93,15 @@ impl TraceRoom {
         Ok(TraceRoom { slots })
     }
 
-    /// The same, and where a run has many tasks, with the places that were kept back for them.
+    /// The same, and where a run has many tasks, with the places that were kept back for them. Takes
+    /// no memory: each place stands in the room that was opened.
     #[inline(never)]
     pub(crate) fn widened(self, runs: &[Run<'_>]) -> TraceRoom {
         let mut slots = self.slots;
         if have_many(runs) {
-            let _ = slots.resize(WIDE, no_slot());
+            while slots.len() < WIDE {
+                slots.push_reserved(no_slot());
+            }
         }
         TraceRoom { slots }
     }
