@@ -41,17 +41,27 @@ fn share_of(bw: u64, limit: u64) -> u64
     (bw * UNIT + limit - 1) / limit
 }
 
+/// What is left of a budget; nothing where it has gone below zero.
+fn left_of(server: &Server) -> u128
+    requires high { server.now.left ≤ℤ pos (2 ^ 63) }
+    ensures value { result ≡ above_zero server.now.left }
+    ensures most { result ≤ 2 ^ 63 }
+{
+    if server.left > 0 {
+        server.left as u128
+    } else {
+        0
+    }
+}
+
 /// How long before its deadline a server would be in step with the fluid schedule, in microseconds.
+/// First by the unit, which is a shift, so that a short division is left.
 fn lag_of(server: &Server, params: &Params) -> u128
     requires high { server.now.left ≤ℤ pos (2 ^ 63) }
     ensures { result ≡ above_zero server.now.left * params.now.period / budget params.now }
 {
-    let left = if server.left > 0 {
-        server.left as u128
-    } else {
-        0
-    };
-    divided(left * u128::from(params.period), params.runtime * UNIT)
+    let area = left_of(server) * u128::from(params.period);
+    divided(area / u128::from(UNIT), params.runtime)
 }
 
 /// The zero-lag time of a task that stops contending at this time, in microseconds: until then its
