@@ -63,22 +63,23 @@ impl Condition {
     }
 }
 
-/// A task of a domain.
+/// A task of a domain. What an event reads stands in front, in few lines of the cache; the name,
+/// which none reads, at the end.
 #[derive(Debug, Drop)]
 pub struct Task {
     /// 1 to 65535.
     pub number: u32,
-    pub name: Name,
-    pub params: Params,
-    pub server: Server,
-    /// Until when its bandwidth stays active though it does not contend, in microseconds.
-    pub zero_lag: Option<u64>,
     /// The CPU of the domain to which it belongs, from 0.
     pub cpu: usize,
     pub condition: Condition,
     /// Work left in its segment, in microseconds.
     pub work: u64,
+    /// Until when its bandwidth stays active though it does not contend, in microseconds.
+    pub zero_lag: Option<u64>,
+    pub params: Params,
+    pub server: Server,
     pub cursor: Cursor,
+    pub name: Name,
 }
 
 /// What a caller may see of a task.
