@@ -25,3 +25,25 @@ returns-clause-digits c =
     (digit_at bytes after 1 2 (16 * 0 + at 0) n c.in_ok-b.b (within 1 (omega arith)) c.in_ok-b.ensures
     (digit_at bytes after 2 1 (16 * (16 * 0 + at 0) + at 1) n c.in_ok-c.c (within 2 (omega arith)) c.in_ok-c.ensures
     (digit_at bytes after 3 0 (16 * (16 * (16 * 0 + at 0) + at 1) + at 2) n c.in_ok-d.d (within 3 (omega arith)) c.in_ok-d.ensures ((omega (arith, c.in_ok-a.ensures.0, c.in_ok-b.ensures.0, c.in_ok-c.ensures.0, c.in_ok-d.ensures.0)), refl))))
+
+-- The bounds, from what each digit's call says. Here and below omega stands in place of a search, for speed.
+pub overflow_mul-result : goal.overflow_mul-result
+overflow_mul-result c = omega (arith, c.in_ok-a.ensures.1)
+
+pub overflow_add-result : goal.overflow_add-result
+overflow_add-result c = omega (arith, c.in_ok-a.ensures.1, c.in_ok-b.ensures.1)
+
+pub overflow_mul-result-2 : goal.overflow_mul-result-2
+overflow_mul-result-2 c = omega (arith, c.in_ok-a.ensures.1, c.in_ok-b.ensures.1)
+
+pub overflow_add-result-2 : goal.overflow_add-result-2
+overflow_add-result-2 c = omega (arith, c.in_ok-a.ensures.1, c.in_ok-b.ensures.1, c.in_ok-c.ensures.1)
+
+pub overflow_mul-result-3 : goal.overflow_mul-result-3
+overflow_mul-result-3 c = omega (arith, c.in_ok-a.ensures.1, c.in_ok-b.ensures.1, c.in_ok-c.ensures.1)
+
+pub overflow_add-result-3 : goal.overflow_add-result-3
+overflow_add-result-3 c = omega (arith, c.in_ok-a.ensures.1, c.in_ok-b.ensures.1, c.in_ok-c.ensures.1, c.in_ok-d.ensures.1)
+
+pub returns-clause-unit : goal.returns-clause-unit
+returns-clause-unit c = omega (arith, c.in_ok-a.ensures.1, c.in_ok-b.ensures.1, c.in_ok-c.ensures.1, c.in_ok-d.ensures.1)
