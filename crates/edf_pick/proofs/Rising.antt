@@ -1,5 +1,5 @@
 -- Lists that rise in the order of the choice, and a task's place in them.
-use Rattle.std.proofs.Common.{◌≡◌, ◌<◌, ℕ, subst, suc, ◌+◌, ◌-◌, Bool, true, false, cond, List, [], ◌∷◌, length, get_or, refl, sym, ap, ◌∙◌, arith, inl, inr}
+use Rattle.std.proofs.Common.{◌≡◌, ◌<◌, ◌≤◌, ℕ, subst, suc, ◌+◌, ◌-◌, Bool, true, false, cond, eqb, eqb-true, List, [], ◌∷◌, length, get_or, refl, sym, ap, ◌∙◌, arith, inl, inr}
 use Rattle.std.specs.Prelude.{All, not}
 use Rattle.std.specs.List.{insert, remove, prefix_len}
 use Rattle.std.specs.List.Sorted.{IsPartitionedBy}
@@ -14,6 +14,15 @@ use Rattle.edf_pick.specs.Choice.{is_before}
 use Rattle.edf_pick.specs.Order.{IsRising, is_same, has_candidate, with_candidate, without_candidate}
 use Rattle.edf_pick.specs.private.Room.{IsQueue}
 use Rattle.edf_pick.proofs.Before.{before_both, before_other, before_differs, differs_reverse, same_before}
+
+-- whether there is one
+pub none_there : (queue : List Candidate) → eqb (length queue) 0 ≡ true → queue ≡ []
+none_there [] e = refl
+none_there (a ∷ queue) e = let none = eqb-true (length (a ∷ queue)) 0 e in absurd (omega (arith, none))
+
+pub some_there : (queue : List Candidate) → eqb (length queue) 0 ≡ false → 0 < length queue
+some_there [] e = absurd cc
+some_there (a ∷ queue) e = omega arith
 
 -- how many at the front are before c
 abbrev pub place : Candidate → List Candidate → ℕ
@@ -105,6 +114,25 @@ queue_without c queue items p before after is h e gone same =
     record {
       rising = subst (λ xs. IsRising xs) (e ∙ sym gone) (AllPairs-filter (λ a b. is_before a b ≡ true) (λ a. not (is_same a c)) queue is.rising);
       few = omega (arith, few, fewer, many);
+      room = same ∙ is.room;
+    }
+
+-- out of which the first has gone
+pub first_rest : (queue : List Candidate) (d : Candidate) → 0 < length queue → queue ≡ get_or queue 0 d ∷ remove queue 0
+first_rest [] d h = absurd (omega (arith, h))
+first_rest (a ∷ queue) d h = refl
+
+pub few_rest : (queue : List Candidate) → length queue ≤ 256 → 0 < length queue → length (remove queue 0) < 256
+few_rest queue few some = let fewer = length-remove queue 0 some in omega (arith, few, fewer)
+
+pub queue_rest : (queue items : List Candidate) (before after : ℕ) → IsQueue queue before → 0 < length queue → items ≡ remove queue 0 → after ≡ before → IsQueue items after
+queue_rest [] items before after is h gone same = absurd (omega (arith, h))
+queue_rest (a ∷ queue) items before after is h gone same =
+    let few = is.few in
+    let many : length items ≡ length queue = ap (λ (xs : List Candidate). length xs) gone in
+    record {
+      rising = subst (λ xs. IsRising xs) (sym gone) (rising_rest a queue is.rising);
+      few = omega (arith, few, many);
       room = same ∙ is.room;
     }
 

@@ -11,7 +11,7 @@ use Rattle.edf_pick.specs.Places.{taken, AreTaken}
 use Rattle.edf_pick.specs.private.Waiting.{held, number_of, staying_on}
 use Rattle.edf_pick.specs.private.Staying.{bare_key, stay_of, stays_of, IsLatest, IsStaying}
 use Rattle.edf_pick.proofs.Held.{All_held}
-use Rattle.edf_pick.proofs.Before.{before_tells, before_past}
+use Rattle.edf_pick.proofs.Before.{before_itself, before_tells, before_past}
 
 -- THE ORDER
 pub past_both : (a b c : Candidate) → is_before a b ≡ false → is_before b c ≡ false → is_before a c ≡ false
@@ -204,6 +204,26 @@ later_latest keys from to cpu c key r inside low high bare is one first second t
   where
     here : get_or (set keys cpu key) cpu bare_key ≡ key
     here = get_or-set_same keys cpu key bare_key inside
+
+-- of one key, and of two parts by the latest of each
+pub latest_one : (keys : List Candidate) (at : ℕ) → IsLatest keys at (at + 1) (get_or keys at bare_key)
+latest_one keys at = record {
+  bound = λ k l m. let same : k ≡ at = omega (arith, l, m) in ap (λ (j : ℕ). is_before (get_or keys at bare_key) (get_or keys j bare_key)) same ∙ before_itself (get_or keys at bare_key);
+  there = (at, omega arith, omega arith, refl);
+}
+
+pub latest_joined : (keys : List Candidate) (from mid end to : ℕ) (a b r : Candidate) → from ≤ mid → mid ≤ to → end ≡ to → IsLatest keys from mid a → IsLatest keys mid end b
+    → (r ≡ a) ⊎ (r ≡ b) → is_before r a ≡ false → is_before r b ≡ false → IsLatest keys from to r
+latest_joined keys from mid end to a b r low high same one other is first second = record {
+  bound = λ k l m. elim (cases_lt k mid) [
+    | inl less ↦ past_both r a (get_or keys k bare_key) first (one.bound k l less)
+    | inr more ↦ past_both r b (get_or keys k bare_key) second (other.bound k more (omega (arith, m, same)))
+  ];
+  there = elim is [
+    | inl old ↦ let h = one.there.2 in (one.there.0, one.there.1, omega (arith, h, high), one.there.3 ∙ sym old)
+    | inr new ↦ let h = other.there.1 in let k = other.there.2 in (other.there.0, omega (arith, h, low), omega (arith, k, same), other.there.3 ∙ sym new)
+  ];
+}
 
 -- the latest of all, by the latest of each eight
 pub latest_bound : (keys most : List Candidate) (c : Candidate) → length keys ≡ 64 → ((g : ℕ) → g < 8 → IsLatest keys (8 * g) (8 * g + 8) (get_or most g bare_key)) → IsLatest most 0 8 c → (cpu : ℕ) → is_before c (get_or keys cpu bare_key) ≡ false

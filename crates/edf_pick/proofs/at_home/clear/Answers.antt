@@ -45,3 +45,37 @@ pub returns-clause-gone : goal.returns-clause-gone
 returns-clause-gone c =
     let done : c.cpus.ahead ≡ 0 = omega arith in
     λ cpu e. c.cpus.invariant.gone cpu e (ap (λ (m : ℕ). bit_at m cpu) done ∙ bit_at-zero cpu)
+
+-- (The rest is plain: written out, since a search would take long.)
+pub first-cpu-requires : goal.first-cpu-requires
+first-cpu-requires c = omega arith
+
+pub without-ahead-requires : goal.without-ahead-requires
+without-ahead-requires c = c.first-cpu.ensures.within
+
+pub vacate-marks-requires-clause-within : goal.vacate-marks-requires-clause-within
+vacate-marks-requires-clause-within c =
+    let i = c.first-cpu.result in
+    let inv = c.cpus.invariant in
+    omega (arith, c.requires.within i (inv.inside i c.first-cpu.ensures.marked), inv.len)
+
+pub vacate-marks-requires-clause-few : goal.vacate-marks-requires-clause-few
+vacate-marks-requires-clause-few c = omega (arith, c.requires.few, c.cpus.invariant.len)
+
+pub vacate-marks-requires-clause-taken : goal.vacate-marks-requires-clause-taken
+vacate-marks-requires-clause-taken c = c.cpus.invariant.taken
+
+pub cpus-smaller : goal.cpus-smaller
+cpus-smaller c = c.without-ahead.ensures.fewer c.first-cpu.ensures.marked
+
+pub returns-clause-others : goal.returns-clause-others
+returns-clause-others c = c.cpus.invariant.others
+
+pub returns-clause-len : goal.returns-clause-len
+returns-clause-len c = c.cpus.invariant.len
+
+pub returns-clause-room : goal.returns-clause-room
+returns-clause-room c = c.cpus.invariant.room
+
+pub returns-clause-taken : goal.returns-clause-taken
+returns-clause-taken c = c.cpus.invariant.taken

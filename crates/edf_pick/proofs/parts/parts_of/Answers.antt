@@ -8,6 +8,16 @@ use Rattle.edf_pick.proofs.Marked.{nobody, homes_more, homes_seen, seen_more, al
 use Rattle.edf_pick.proofs.parts.parts_of.Goals as goal
 use Rattle.edf_pick.proofs.parts.parts_of.Goals.{then-is_at_home, else-is_at_home}
 
+-- (Written out, since a search would take long.)
+pub offset_bounds-chosen-i : goal.offset_bounds-chosen-i
+offset_bounds-chosen-i c = omega arith
+
+pub bounds-chosen-i : goal.bounds-chosen-i
+bounds-chosen-i c = omega arith
+
+pub is_at_home-requires : goal.is_at_home-requires
+is_at_home-requires c = tt
+
 pub loop-i-preserved : goal.loop-i-preserved
 loop-i-preserved c =
     let chosen = c.args.chosen.now in

@@ -56,8 +56,17 @@ offset_bounds-self-inside-g c = let h = within (goal.at.offset_bounds-self-insid
 pub bounds-self-inside-g : goal.bounds-self-inside-g
 bounds-self-inside-g c = let h = within (goal.at.bounds-self-inside-g c).After-self in omega (arith, h)
 
+pub later-requires : goal.later-requires
+later-requires c = tt
+
+pub offset_bounds-self-inside-g-2 : goal.offset_bounds-self-inside-g-2
+offset_bounds-self-inside-g-2 c = let h = within (goal.at.offset_bounds-self-inside-g-2 c).After-self in omega (arith, h)
+
 pub bounds-self-inside-g-2 : goal.bounds-self-inside-g-2
 bounds-self-inside-g-2 c = let h = within (goal.at.bounds-self-inside-g-2 c).After-self in omega (arith, h)
+
+pub later-self-inside-requires : goal.later-self-inside-requires
+later-self-inside-requires c = tt
 
 pub invariant_of-self : goal.invariant_of-self
 invariant_of-self c =
