@@ -1,14 +1,17 @@
 -- A task of the list that does not sit is stored as it is seen; the CPU of any is.
-use Rattle.std.proofs.Common.{◌≡◌, ◌<◌, ℕ, Option, None, List, length, map, get_or, sym, ap, ◌∙◌, subst, arith}
+use Rattle.std.proofs.Common.{◌≡◌, ◌<◌, ℕ, Option, Some, None, List, length, map, get_or, sym, ap, ◌∙◌, subst, arith}
+use Rattle.std.specs.Prelude.{slice_get, option_map}
 use Rattle.std.proofs.lemmas.List.{get_or_default, length-map}
+use Rattle.std.proofs.lemmas.Option.{slice_get-get_or}
 use Rattle.domain_run.specs.declared.task.Task.{Task}
 use Rattle.due_times.specs.declared.seats.Seat.{Seat}
 use Rattle.domain_run.specs.declared.run_queue.RunQueue.{RunQueue}
+use Rattle.domain_run.specs.Parts.{is_listed}
 use Rattle.domain_run.specs.private.RunQueue.{IsCounted}
 use Rattle.due_times.specs.Seats.{seat_by}
 use Rattle.domain_run.specs.private.Waiting.{owed, owed_by, seat_of, left_of}
 use Rattle.domain_run.proofs.Counting.{home_at}
-use Rattle.domain_run.proofs.Waiting.{alike_owed, counted_unlike, read_owed, left_here}
+use Rattle.domain_run.proofs.Waiting.{alike_owed, counted_unlike, read_owed, left_here, listed_alike}
 
 pub inside_seen : (upto : ℕ) (seats : List (Option Seat)) (items : List Task) (p : ℕ) → p < length (map (owed upto seats) items) → p < length items
 inside_seen upto seats items p h = let many : length (map (owed upto seats) items) ≡ length items = simp length-map in omega (arith, h, many)
@@ -35,6 +38,19 @@ module _ (upto : ℕ) (seats : List (Option Seat)) (items : List Task) (p : ℕ)
 
   pub cpu_seen : (d : Task) → x.cpu ≡ (get_or (map (owed upto seats) items) p d).cpu
   cpu_seen d = sym (alike_owed upto seats x).cpu ∙ ap (λ (t : Task). t.cpu) (seen_at d)
+
+  pub number_seen : (d : Task) → x.number ≡ (get_or (map (owed upto seats) items) p d).number
+  number_seen d = sym (alike_owed upto seats x).number ∙ ap (λ (t : Task). t.number) (seen_at d)
+
+  -- its number, where the place may be behind the end
+  pub number_read : option_map (λ (t : Task). t.number) (slice_get (map (owed upto seats) items) p) ≡ Some x.number
+  number_read =
+      let many : length (map (owed upto seats) items) ≡ length items = simp length-map in
+      let inside : p < length (map (owed upto seats) items) = omega (arith, h, many) in
+      ap (option_map (λ (t : Task). t.number)) (slice_get-get_or (map (owed upto seats) items) p x inside) ∙ ap (λ (n : ℕ). Some n) (sym (number_seen x))
+
+  pub listed_seen : (d : Task) → is_listed x ≡ is_listed (get_or (map (owed upto seats) items) p d)
+  listed_seen d = sym (listed_alike (owed upto seats) (alike_owed upto seats) x) ∙ ap is_listed (seen_at d)
 
   pub home_seen : (cpus : ℕ) (queue : RunQueue) → IsCounted cpus queue (map (owed upto seats) items) → x.cpu < cpus
   home_seen cpus queue counted = subst (λ (t : Task). t.cpu < cpus) (sym read) (home_at cpus queue items p x h (counted_unlike (owed upto seats) (alike_owed upto seats) cpus queue items counted))

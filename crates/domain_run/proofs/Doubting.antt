@@ -448,3 +448,33 @@ free_turned d w places seats tasks p x y h read stays none are cpu few bare =
       ],
       was.1,
     )
+
+-- ---- WHO SITS DOWN
+
+-- a basis is that of the tasks
+pub based_on : (w limit cpu : ℕ) (tasks : List Task) (o was : Option Basis) (inactive sum : ℕ) → o ≡ was → inactive ≡ uinact cpu (shares tasks) → sum ≡ sum_of tasks
+    → IfSome was (λ b. b ≡ record { uinact = inactive; sum = sum; cpus = w; limit = limit }) → IfSome o (λ b. b ≡ basis_in w limit tasks cpu)
+based_on w limit cpu tasks o was inactive sum same is total some =
+    let k : Basis = record { uinact = inactive; sum = sum; cpus = w; limit = limit } in
+    let k_is : k ≡ basis_in w limit tasks cpu = λ i. record { uinact = is i; sum = total i; cpus = w; limit = limit } in
+    subst (λ (x : Option Basis). IfSome x (λ b. b ≡ basis_in w limit tasks cpu)) (sym same)
+    (subst (λ (x : Basis). IfSome was (λ b. b ≡ x)) k_is some)
+
+-- its CPU is not in doubt only where its rate is right
+pub noted_here : (d e : Doubts) (w limit cpu n : ℕ) (tasks : List Task) (seat : Seat) (is_rated : Bool) → seat.number ≡ n
+    → IfSome seat.basis (λ b. b ≡ basis_in w limit tasks cpu) → is_rated ≡ is_some seat.basis
+    → (IsTrue is_rated → bit_at e.rated cpu ≡ 1) → (IsTrue is_rated → d.sum ≡ sum_of tasks) → (IsTrue is_rated → d.limit ≡ limit)
+    → e.sum ≡ d.sum → e.limit ≡ d.limit
+    → IsSettled (Some n) (noted_basis e w tasks cpu) (Some seat) × IsFree (bit_at e.rated cpu) (Some seat)
+noted_here d e w limit cpu n tasks seat is_rated named based rated marked sum_noted limit_noted sum limit_same = by seat.basis refl
+  where
+    by : (o : Option Basis) → seat.basis ≡ o → IsSettled (Some n) (noted_basis e w tasks cpu) (Some seat) × IsFree (bit_at e.rated cpu) (Some seat)
+    by None none = ((named, subst (λ (x : Option Basis). IfSome x (λ b. b ≡ noted_basis e w tasks cpu)) (sym none) tt), λ z. none)
+    by (Some b) some =
+        let yes : IsTrue is_rated = rated ∙ ap (λ (x : Option Basis). is_some x) some in
+        let mark = marked yes in
+        let is : b ≡ basis_in w limit tasks cpu = subst (λ (x : Option Basis). IfSome x (λ k. k ≡ basis_in w limit tasks cpu)) some based in
+        let sum_is : sum_of tasks ≡ e.sum = sym (sum ∙ sum_noted yes) in
+        let limit_is : limit ≡ e.limit = sym (limit_same ∙ limit_noted yes) in
+        let noted : b ≡ noted_basis e w tasks cpu = is ∙ (λ i. record { uinact = uinact cpu (shares tasks); sum = sum_is i; cpus = w; limit = limit_is i }) in
+        ((named, subst (λ (x : Option Basis). IfSome x (λ k. k ≡ noted_basis e w tasks cpu)) (sym some) noted), λ z. absurd (omega (arith, z, mark)))

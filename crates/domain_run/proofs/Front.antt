@@ -1,5 +1,5 @@
 -- The tasks before a place that stay where those behind it go.
-use Rattle.std.proofs.Common.{◌≡◌, ℕ, zero, suc, ◌<◌, ◌≤◌, true, Bool, cond, not, ◌≢◌, List, [], ◌∷◌, ◌++◌, length, map, get_or, take, drop, refl, sym, ap, ◌∙◌, subst, arith}
+use Rattle.std.proofs.Common.{◌≡◌, ℕ, zero, suc, ◌<◌, ◌≤◌, true, false, Bool, cond, not, ◌≢◌, List, [], ◌∷◌, ◌++◌, length, map, get_or, take, drop, refl, sym, ap, ◌∙◌, subst, arith}
 use Rattle.std.specs.Prelude.{AllPairs, filter}
 use Rattle.std.specs.List.{remove}
 use Rattle.std.proofs.lemmas.Bool.{ne_eqb}
@@ -65,3 +65,9 @@ pub remove_before : {X : Type 0} (xs : List X) (i : ℕ) → take i (remove xs i
 remove_before xs zero = refl
 remove_before [] (suc i) = refl
 remove_before (x ∷ xs) (suc i) = ap (λ ys. x ∷ ys) (remove_before xs i)
+
+-- nor is one missed that is not kept
+pub filter_removed : {X : Type 0} (p : X → Bool) (xs : List X) (i : ℕ) (d : X) → i < length xs → p (get_or xs i d) ≡ false → filter p (remove xs i) ≡ filter p xs
+filter_removed p [] i d h gone = absurd (omega (arith, h))
+filter_removed p (x ∷ xs) zero d h gone = sym (ap (λ b. cond b (x ∷ filter p xs) (filter p xs)) gone)
+filter_removed p (x ∷ xs) (suc i) d h gone = ap (λ ys. cond (p x) (x ∷ ys) ys) (filter_removed p xs i d (omega (arith, h)) gone)

@@ -7,6 +7,7 @@ ghost use Rattle.domain_run.specs.private.Index.{IsAt, IsAbsent};
 
 use crate::task::Task;
 use no_memory::NoMemory;
+use slot_list::SlotList;
 use std::alloc::{AllocError, Global};
 use std::marker::Model;
 
@@ -42,6 +43,20 @@ fn first_places(alloc: Global) -> Result<Vec<u16>, AllocError>
     Ok(places)
 }
 
+// The place of the task of a number, where it is listed, by a walk.
+#[inline(never)]
+fn walk_to(tasks: &SlotList<Task>, number: u32) -> Option<usize>
+    ensures there { IfSome result (IsAt tasks.now number) }
+    ensures absent { IfNone result (IsAbsent tasks.now number) }
+{
+    for place in 0..tasks.len() {
+        if tasks.get(place).number == number {
+            return Some(place);
+        }
+    }
+    None
+}
+
 impl Index {
     /// Nothing is noted. No other call takes memory.
     pub(crate) fn open(alloc: Global) -> Result<Index, NoMemory> {
@@ -64,14 +79,14 @@ impl Index {
     }
 
     /// The place of the task of a number, where it is listed.
-    pub(crate) fn place(&self, tasks: &[Task], number: u32) -> Option<usize>
+    pub(crate) fn place(&self, tasks: &SlotList<Task>, number: u32) -> Option<usize>
         ensures there { IfSome result (IsAt tasks.now number) }
         ensures absent { IfNone result (IsAbsent tasks.now number) }
     {
         let place = self.noted_place(number);
-        if place < tasks.len() && tasks[place].number == number {
+        if place < tasks.len() && tasks.get(place).number == number {
             return Some(place);
         }
-        tasks.iter().position(|task| task.number == number)
+        walk_to(tasks, number)
     }
 }

@@ -45,6 +45,7 @@ use crate::task::{Task, TaskView};
 use due_times::{Doubts, Seats};
 use edf_pick::Moved;
 use no_memory::NoMemory;
+use slot_list::SlotList;
 pub(crate) use starting::Moment;
 use std::alloc::Global;
 use std::marker::Model;
@@ -53,7 +54,7 @@ use std::marker::Model;
 #[derive(Drop)]
 pub(crate) struct Roster {
     // Those that sit have not been charged since their seats say.
-    tasks: Vec<Task>,
+    tasks: SlotList<Task>,
     seats: Seats,
     // The running sums of the listed tasks, the ready ones in order, and when each is due.
     queue: RunQueue,
@@ -64,7 +65,7 @@ pub(crate) struct Roster {
 }
 
 impl Model for Roster {
-    ghost use Rattle.std.specs.Prelude.{length, vec_capacity};
+    ghost use Rattle.std.specs.Prelude.{length};
     ghost use Rattle.domain_run.specs.private.Roster.{RosterView, IsKept};
     ghost use Rattle.domain_run.specs.private.Waiting.{owed_all};
 
@@ -76,10 +77,10 @@ impl Model for Roster {
       seats = r.seats.seats;
       places = r.queue.schedule.places;
       moves = r.queue.schedule.moves;
-      tasks = owed_all r.seats r.tasks.items;
+      tasks = owed_all r.seats r.tasks;
     } };
 
-    ghost invariant = { λ r. IsKept r.queue r.seats r.tasks.items (vec_capacity r.tasks) r.doubts };
+    ghost invariant = { λ r. IsKept r.queue r.seats r.tasks r.doubts };
 }
 
 impl Roster {
@@ -97,7 +98,7 @@ impl Roster {
         }) }
     {
         Ok(Roster {
-            tasks: Vec::with_capacity(alloc, 256)?,
+            tasks: SlotList::open(alloc)?,
             seats: Seats::open(alloc, cpus)?,
             queue: RunQueue::open(alloc, cpus)?,
             index: Index::open(alloc)?,
@@ -109,10 +110,10 @@ impl Roster {
     pub(crate) fn number_at(&self, place: usize) -> Option<u32>
         ensures { result ≡ option_map (λ t. t.number) (slice_get self.now.tasks place) }
     {
-        match self.tasks.get(place) {
-            None => None,
-            Some(task) => Some(task.number),
+        if place < self.tasks.len() {
+            return Some(self.tasks.get(place).number);
         }
+        None
     }
 
     /// How many they are.
@@ -129,7 +130,7 @@ impl Roster {
         ensures cpu { (d : Task) → result ≡ (slice_index_or self.now.tasks place d).cpu }
         ensures home { result < self.now.cpus }
     {
-        self.tasks[place].cpu
+        self.tasks.get(place).cpu
     }
 
     /// The task at a place, where it does not sit. It belongs to a CPU of the domain.
@@ -140,7 +141,7 @@ impl Roster {
         ensures task { (d : Task) → result.now ≡ slice_index_or self.now.tasks place d }
         ensures home { result.now.cpu < self.now.cpus }
     {
-        &self.tasks[place]
+        self.tasks.get(place)
     }
 
     /// The number of the task at a place, where it has left.
@@ -155,7 +156,7 @@ impl Roster {
             ((d : Task) → is_listed (slice_index_or self.now.tasks place d) ≡ true) }
         ensures numbered { AllPairs (λ a b. a.number ≢ b.number) self.now.tasks }
     {
-        let task = &self.tasks[place];
+        let task = self.tasks.get(place);
         if parts::is_listed(task) {
             return None;
         }
@@ -182,7 +183,7 @@ impl Roster {
     {
         match self.place(number) {
             None => None,
-            Some(place) => Some(&self.tasks[place]),
+            Some(place) => Some(self.tasks.get(place)),
         }
     }
 
@@ -209,7 +210,7 @@ impl Roster {
     {
         match self.place(number) {
             None => None,
-            Some(place) => Some(lending::view_at(&self.tasks[place], &self.seats)),
+            Some(place) => Some(lending::view_at(self.tasks.get(place), &self.seats)),
         }
     }
 
@@ -221,7 +222,7 @@ impl Roster {
         match self.place(number) {
             None => None,
             Some(place) => {
-                let task = &self.tasks[place];
+                let task = self.tasks.get(place);
                 let uinact = self.uinact(task.cpu);
                 Some(lending::runner_at(task, &self.seats, uinact))
             }
@@ -317,12 +318,12 @@ impl Roster {
         ensures places { self.new.places ≡ self.old.places }
         ensures left { HasLeft place self.old self.new }
     {
-        if change::does_nothing(&self.tasks[place], time, change) {
+        if change::does_nothing(self.tasks.get(place), time, change) {
             return;
         }
         // For the prover alone: a look at the seats brings that there are at most 64.
         let _ = self.seats.len();
-        let cpu = self.tasks[place].cpu;
+        let cpu = self.tasks.get(place).cpu;
         let sat = turning::turn_task(
             &mut self.tasks,
             &mut self.queue,
@@ -353,7 +354,13 @@ impl Roster {
     {
         // For the prover alone: a look at the seats brings that there are at most 64.
         let _ = self.seats.len();
-        turning::turn_settled(&mut self.tasks[place], &mut self.queue, place, time, change);
+        turning::turn_settled(
+            self.tasks.get_mut(place),
+            &mut self.queue,
+            place,
+            time,
+            change,
+        );
     }
 
     /// Changes the task of a number, where it is listed.

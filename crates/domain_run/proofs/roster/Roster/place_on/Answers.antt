@@ -1,21 +1,23 @@
-use Rattle.std.proofs.Common.{◌≡◌, ◌∙◌, ◌<◌, ℕ, length, map, get_or, sym, ap, arith}
+use Rattle.std.proofs.Common.{◌≡◌, ◌∙◌, ◌<◌, ℕ, length, map, get_or, sym, ap, subst, arith}
 use Rattle.std.proofs.lemmas.List.{length-map, get_or-map}
 use Rattle.domain_run.specs.declared.task.Task.{Task}
+use Rattle.domain_run.specs.private.Index.{IsAt}
 use Rattle.domain_run.specs.private.Roster.{RosterView}
 use Rattle.domain_run.specs.private.Waiting.{owed}
+use Rattle.domain_run.proofs.Bare.{inside_seen, cpu_seen}
 use Rattle.domain_run.proofs.Seatings.{only_at}
 use Rattle.domain_run.proofs.Waiting.{alike_owed}
 use Rattle.domain_run.proofs.roster.Roster.place_on.Goals as goal
 
 -- the task at the one place of the number belongs to another CPU
-pub returns-then-index-cpu-clause-absent : goal.returns-then-index-cpu-clause-absent
-returns-then-index-cpu-clause-absent c k d h n e =
+pub returns-then-get-cpu-clause-absent : goal.returns-then-get-cpu-clause-absent
+returns-then-get-cpu-clause-absent c k d h n e =
     let r = c.args.self.now in
     let s = c.self.inside in
     let f = owed s.seats.upto s.seats.seats in
-    let items = s.tasks.items in
+    let items = s.tasks in
     let p = c.in-Some.place in
-    let x = c.index.result.now in
+    let x = c.get.result.now in
     let at = c.in-Some.ensures.there in
     let k_is : k ≡ p = only_at r.tasks c.args.number p k d c.in-Some.ensures.numbered at h n in
     let many : length (map f items) ≡ length items = simp length-map in
@@ -25,5 +27,15 @@ returns-then-index-cpu-clause-absent c k d h n e =
     sym (ap (λ (v : RosterView). (get_or v.tasks p d).cpu) c.self.view_is)
     ∙ ap (λ (t : Task). t.cpu) (get_or-map f items p x d inside)
     ∙ (alike_owed s.seats.upto s.seats.seats (get_or items p x)).cpu
-    ∙ sym (ap (λ (t : Task). t.cpu) c.index.ensures) in
-    c.if-index-cpu.true (sym seen ∙ ap (λ (i : ℕ). (get_or r.tasks i d).cpu) (sym k_is) ∙ e)
+    ∙ sym (ap (λ (t : Task). t.cpu) (c.get.ensures c.get.result.now)) in
+    c.if-get-cpu.true (sym seen ∙ ap (λ (i : ℕ). (get_or r.tasks i d).cpu) (sym k_is) ∙ e)
+
+pub returns-clause-home : goal.returns-clause-home
+returns-clause-home c d =
+    let s = c.self.inside in
+    let p = c.in-Some.place in
+    let x = c.get.result.now in
+    let at = subst (λ (v : RosterView). IsAt v.tasks c.args.number p) (sym c.self.view_is) c.in-Some.ensures.there in
+    let home : x.cpu ≡ c.args.cpu = omega (arith, c.if-get-cpu.false) in
+    subst (λ (v : RosterView). (get_or v.tasks p d).cpu ≡ c.args.cpu) c.self.view_is
+    (sym (cpu_seen s.seats.upto s.seats.seats s.tasks p x (inside_seen s.seats.upto s.seats.seats s.tasks p at.within) (c.get.ensures x) d) ∙ home)

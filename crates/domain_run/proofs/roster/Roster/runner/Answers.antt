@@ -7,7 +7,8 @@ use Rattle.domain_run.specs.declared.task.Task.{Task}
 use Rattle.domain_run.specs.declared.running.Running.{Running}
 use Rattle.domain_run.specs.private.Index.{IsAt}
 use Rattle.domain_run.specs.private.Roster.{RosterView, runner_in}
-use Rattle.domain_run.specs.private.Waiting.{owed, owed_all, runner_of}
+use Rattle.domain_run.specs.private.Waiting.{owed, owed_all, runner_of, WaitsIf}
+use Rattle.domain_run.proofs.Bare.{inside_seen}
 use Rattle.domain_run.proofs.Counting.{home_at}
 use Rattle.domain_run.proofs.Finding.{find_absent}
 use Rattle.domain_run.proofs.Waiting.{alike_owed, counted_unlike, found_owed}
@@ -16,10 +17,10 @@ use Rattle.domain_run.proofs.roster.Roster.runner.Goals as goal
 pub uinact-uinact-requires : goal.uinact-uinact-requires
 uinact-uinact-requires c =
     let s = c.self.inside in
-    let x = c.index-task.result.now in
-    let counted = counted_unlike (owed s.seats.upto s.seats.seats) (alike_owed s.seats.upto s.seats.seats) (length s.queue.accounts.all) s.queue s.tasks.items c.self.invariant.counted in
+    let x = c.get-task.result.now in
+    let counted = counted_unlike (owed s.seats.upto s.seats.seats) (alike_owed s.seats.upto s.seats.seats) (length s.queue.accounts.all) s.queue s.tasks c.self.invariant.counted in
     subst (λ (r : RosterView). x.cpu < r.cpus) c.self.view_is
-    (subst (λ (t : Task). t.cpu < length s.queue.accounts.all) (sym c.index-task.ensures) (home_at (length s.queue.accounts.all) s.queue s.tasks.items c.in-Some.place x (let many : length (map (owed s.seats.upto s.seats.seats) s.tasks.items) ≡ length s.tasks.items = simp length-map in omega (arith, many, c.in-Some.ensures.there.within, ap (λ (r : RosterView). length r.tasks) c.self.view_is)) counted))
+    (subst (λ (t : Task). t.cpu < length s.queue.accounts.all) (sym (c.get-task.ensures c.get-task.result.now)) (home_at (length s.queue.accounts.all) s.queue s.tasks c.in-Some.place x (let many : length (map (owed s.seats.upto s.seats.seats) s.tasks) ≡ length s.tasks = simp length-map in omega (arith, many, c.in-Some.ensures.there.within, ap (λ (r : RosterView). length r.tasks) c.self.view_is)) counted))
 
 pub returns-in-None : goal.returns-in-None
 returns-in-None c = sym (ap (option_map (runner_in c.args.self.now.tasks)) (find_absent c.args.self.now.tasks c.args.number c.in-None.ensures.absent))
@@ -27,11 +28,19 @@ returns-in-None c = sym (ap (option_map (runner_in c.args.self.now.tasks)) (find
 pub returns-in-Some : goal.returns-in-Some
 returns-in-Some c =
     let s = c.self.inside in
-    let x = c.index-task.result.now in
+    let x = c.get-task.result.now in
     let at = subst (λ (r : RosterView). IsAt r.tasks c.args.number c.in-Some.place) (sym c.self.view_is) c.in-Some.ensures.there in
-    let found = found_owed s.seats.upto s.seats.seats s.tasks.items c.args.number c.in-Some.place x c.self.invariant.counted.roster.numbered at c.index-task.ensures in
-    let view : owed_all s.seats s.tasks.items ≡ c.args.self.now.tasks = ap (λ (r : RosterView). r.tasks) c.self.view_is in
+    let found = found_owed s.seats.upto s.seats.seats s.tasks c.args.number c.in-Some.place x c.self.invariant.counted.roster.numbered at (c.get-task.ensures c.get-task.result.now) in
+    let view : owed_all s.seats s.tasks ≡ c.args.self.now.tasks = ap (λ (r : RosterView). r.tasks) c.self.view_is in
     let y = owed s.seats.upto s.seats.seats x in
     ap (λ (v : Running). Some v) (c.runner_at.ensures ∙ ap (λ (u : ℕ). runner_of u y) (c.uinact-uinact.ensures ∙ ap (λ n. uinact n (shares c.args.self.now.tasks)) (sym (alike_owed s.seats.upto s.seats.seats x).cpu)))
     ∙ sym (ap (option_map (runner_in c.args.self.now.tasks)) found)
     ∙ ap (λ (ts : List Task). option_map (runner_in c.args.self.now.tasks) (find (λ t. eqb t.number c.args.number) ts)) view
+
+pub runner_at-requires : goal.runner_at-requires
+runner_at-requires c =
+    let s = c.self.inside in
+    let x = c.get-task.result.now in
+    let p = c.in-Some.place in
+    let at = subst (λ (r : RosterView). IsAt r.tasks c.args.number p) (sym c.self.view_is) c.in-Some.ensures.there in
+    subst (WaitsIf s.seats.seats) (sym (c.get-task.ensures x)) (c.self.invariant.waits p x (inside_seen s.seats.upto s.seats.seats s.tasks p at.within))

@@ -4,6 +4,8 @@ use Rattle.domain_run.specs.Views.{view_of}
 use Rattle.domain_run.specs.private.Index.{IsAt}
 use Rattle.domain_run.specs.private.Roster.{RosterView}
 use Rattle.domain_run.specs.declared.task.TaskView.{TaskView}
+use Rattle.domain_run.specs.private.Waiting.{WaitsIf}
+use Rattle.domain_run.proofs.Bare.{inside_seen}
 use Rattle.domain_run.proofs.Finding.{find_absent}
 use Rattle.domain_run.proofs.Waiting.{found_owed}
 use Rattle.domain_run.proofs.roster.Roster.view.Goals as goal
@@ -14,9 +16,17 @@ returns-in-None c = sym (ap (option_map view_of) (find_absent c.args.self.now.ta
 pub returns-in-Some : goal.returns-in-Some
 returns-in-Some c =
     let s = c.self.inside in
-    let x = c.index.result.now in
+    let x = c.get.result.now in
     let at = subst (λ (r : RosterView). IsAt r.tasks c.args.number c.in-Some.place) (sym c.self.view_is) c.in-Some.ensures.there in
-    let found = found_owed s.seats.upto s.seats.seats s.tasks.items c.args.number c.in-Some.place x c.self.invariant.counted.roster.numbered at c.index.ensures in
+    let found = found_owed s.seats.upto s.seats.seats s.tasks c.args.number c.in-Some.place x c.self.invariant.counted.roster.numbered at (c.get.ensures c.get.result.now) in
     ap (λ (v : TaskView). Some v) c.view_at.ensures
     ∙ sym (ap (option_map view_of) found)
     ∙ ap (λ (r : RosterView). option_map view_of (find (λ t. eqb t.number c.args.number) r.tasks)) c.self.view_is
+
+pub view_at-requires : goal.view_at-requires
+view_at-requires c =
+    let s = c.self.inside in
+    let x = c.get.result.now in
+    let p = c.in-Some.place in
+    let at = subst (λ (r : RosterView). IsAt r.tasks c.args.number p) (sym c.self.view_is) c.in-Some.ensures.there in
+    subst (WaitsIf s.seats.seats) (sym (c.get.ensures x)) (c.self.invariant.waits p x (inside_seen s.seats.upto s.seats.seats s.tasks p at.within))

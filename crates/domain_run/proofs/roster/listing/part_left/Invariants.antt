@@ -5,8 +5,8 @@ use Rattle.domain_run.specs.Parts.{is_listed}
 use Rattle.domain_run.specs.Tick.{share_of}
 use Rattle.domain_run.proofs.roster.listing.part_left.Given as goal
 
-abbrev pub invariant-loop-task : goal.invariant-loop-task
-invariant-loop-task l = record {
-  sums : AreAccounts l.accounts (still_counted share_of is_listed l.tasks l.task-index);
+abbrev pub invariant-loop-place : goal.invariant-loop-place
+invariant-loop-place l = record {
+  sums : AreAccounts l.accounts (still_counted share_of is_listed l.tasks l.place);
   wide : length l.accounts.all ≡ length l.fn.accounts.all;
 }
