@@ -31,6 +31,7 @@ pub mod Charged
 pub mod Due
 pub mod Front
 pub mod Sliding
+pub mod Owing
 pub mod ToldOrder
 pub mod ToldOf
 pub mod ToldSorted

@@ -1,14 +1,15 @@
-use Rattle.std.proofs.Common.{◌≡◌, ℕ, ◌<◌, None, length, get_or, refl, sym, ap, subst, ◌∙◌, arith}
-use Rattle.std.specs.Prelude.{is_some}
+use Rattle.std.proofs.Common.{◌≡◌, ℕ, ◌<◌, None, length, get_or, refl, sym, ap, subst, ◌∙◌, arith, inl, inr}
+use Rattle.std.specs.Prelude.{is_some, All}
 use Rattle.std.proofs.lemmas.List.{length-map, get_or-map, get_or_default}
 use Rattle.domain_run.specs.declared.task.Task.{Task}
 use Rattle.edf_pick.specs.Places.{Places}
+use Rattle.domain_run.specs.Sound.{IsSound}
 use Rattle.domain_run.specs.private.Doubts.{AreSettled}
 use Rattle.domain_run.specs.private.RunQueue.{IsCounted}
-use Rattle.domain_run.specs.private.Roster.{RosterView, after_change, Fits}
+use Rattle.domain_run.specs.private.Roster.{RosterView, after_change, MayMake, Fits}
 use Rattle.due_times.specs.Seats.{seat_by}
 use Rattle.domain_run.specs.private.Timers.{IsStep}
-use Rattle.domain_run.specs.private.Waiting.{seat_of, owed, owed_all}
+use Rattle.domain_run.specs.private.Waiting.{seat_of, left_of, owed, owed_all}
 use Rattle.domain_run.proofs.Bare.{inside_seen, seen_at}
 use Rattle.domain_run.proofs.Doubting.{turn_settled, left_unseated, IsLeft}
 use Rattle.domain_run.proofs.Due.{step_none}
@@ -63,3 +64,74 @@ returns-then-does_nothing-clause-step c =
     let still : f (owed s.seats.upto s.seats.seats x) ≡ owed s.seats.upto s.seats.seats x = c.does_nothing.ensures c.if-does_nothing.true s.seats.upto (seat_of s.seats.seats x) in
     subst (λ (r : RosterView). IsStep f p r.tasks r.tasks) c.self.view_is
     (step_none (owed_all s.seats s.tasks) p f (λ d. subst (λ (t : Task). f t ≡ t) (seen_at s.seats.upto s.seats.seats s.tasks p x h (c.get.ensures x) d) still))
+
+-- the rest is what the callee promises, read through the view: said here, since a search for it is slow
+pub get-requires : goal.get-requires
+get-requires c =
+    let s = c.self.inside in
+    inside_seen s.seats.upto s.seats.seats s.tasks c.args.place (subst (λ (r : RosterView). c.args.place < length r.tasks) (sym c.self.view_is) c.requires.there)
+
+pub get-requires-2 : goal.get-requires-2
+get-requires-2 c =
+    let s = c.self.inside in
+    inside_seen s.seats.upto s.seats.seats s.tasks c.args.place (subst (λ (r : RosterView). c.args.place < length r.tasks) (sym c.self.view_is) c.requires.there)
+
+pub turn_task-sat-requires-clause-narrow : goal.turn_task-sat-requires-clause-narrow
+turn_task-sat-requires-clause-narrow c = omega (arith, c.len.ensures.len, c.len.ensures.few, c.self.invariant.wide)
+
+pub turn_task-sat-requires-clause-there : goal.turn_task-sat-requires-clause-there
+turn_task-sat-requires-clause-there c =
+    let s = c.self.inside in
+    inside_seen s.seats.upto s.seats.seats s.tasks c.args.place (subst (λ (r : RosterView). c.args.place < length r.tasks) (sym c.self.view_is) c.requires.there)
+
+pub turn_task-sat-requires-clause-fits : goal.turn_task-sat-requires-clause-fits
+turn_task-sat-requires-clause-fits c = subst (λ (r : RosterView). Fits r.cpus c.args.change.now) (sym c.self.view_is) c.requires.fits
+
+pub turn_task-sat-requires-clause-waits : goal.turn_task-sat-requires-clause-waits
+turn_task-sat-requires-clause-waits c = c.self.invariant.waits
+
+pub turn_task-sat-requires-clause-sound : goal.turn_task-sat-requires-clause-sound
+turn_task-sat-requires-clause-sound c = subst (λ (r : RosterView). All (IsSound c.args.time) r.tasks) (sym c.self.view_is) c.requires.sound
+
+pub turn_task-sat-requires-clause-may : goal.turn_task-sat-requires-clause-may
+turn_task-sat-requires-clause-may c = subst (λ (r : RosterView). (d : Task) → MayMake c.args.time c.args.change.now (get_or r.tasks c.args.place d)) (sym c.self.view_is) c.requires.may
+
+pub turn_task-sat-requires-clause-counted : goal.turn_task-sat-requires-clause-counted
+turn_task-sat-requires-clause-counted c = c.self.invariant.counted
+
+pub returns-then-does_nothing-clause-cpus : goal.returns-then-does_nothing-clause-cpus
+returns-then-does_nothing-clause-cpus c = refl
+
+pub returns-then-does_nothing-clause-sound : goal.returns-then-does_nothing-clause-sound
+returns-then-does_nothing-clause-sound c = c.requires.sound
+
+pub returns-then-does_nothing-clause-clock : goal.returns-then-does_nothing-clause-clock
+returns-then-does_nothing-clause-clock c = refl
+
+pub returns-then-does_nothing-clause-places : goal.returns-then-does_nothing-clause-places
+returns-then-does_nothing-clause-places c = refl
+
+pub returns-then-does_nothing-clause-left : goal.returns-then-does_nothing-clause-left
+returns-then-does_nothing-clause-left c = inl refl
+
+pub returns-clause-cpus : goal.returns-clause-cpus
+returns-clause-cpus c = c.turn_task-sat.ensures.counted.wide ∙ ap (λ (r : RosterView). r.cpus) c.self.view_is
+
+pub returns-clause-step : goal.returns-clause-step
+returns-clause-step c =
+    let new = c.turn_task-sat.new in
+    subst (λ (r : RosterView). IsStep (after_change c.args.time c.args.change.now) c.args.place r.tasks (owed_all new.seats new.tasks)) c.self.view_is c.turn_task-sat.ensures.step
+
+pub returns-clause-sound : goal.returns-clause-sound
+returns-clause-sound c = c.turn_task-sat.ensures.sound
+
+pub returns-clause-clock : goal.returns-clause-clock
+returns-clause-clock c = c.turn_task-sat.ensures.clock ∙ ap (λ (r : RosterView). r.clock) c.self.view_is
+
+pub returns-clause-places : goal.returns-clause-places
+returns-clause-places c = c.turn_task-sat.ensures.places ∙ ap (λ (r : RosterView). r.places) c.self.view_is
+
+pub returns-clause-left : goal.returns-clause-left
+returns-clause-left c = inr (λ d.
+    let tasks = owed_all c.turn_task-sat.new.seats c.turn_task-sat.new.tasks in
+    c.turn_task-sat.ensures.seats d ∙ ap (λ (r : RosterView). left_of (get_or tasks c.args.place d) (left_of (get_or r.tasks c.args.place d) r.seats)) c.self.view_is)
