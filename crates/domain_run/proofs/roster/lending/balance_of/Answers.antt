@@ -1,5 +1,5 @@
-use Rattle.std.proofs.Common.{rules, arith, ◌≡◌, ℕ, ◌-◌, Some, sym, ap, subst, ◌∙◌}
-use Rattle.std.specs.Prelude.{pos, IfSome}
+use Rattle.std.proofs.Common.{rules, arith, ℕ, Some, sym, ap, subst, ◌∙◌}
+use Rattle.std.specs.Prelude.{IfSome}
 use mir.Syntax.{w128}
 use mir.Val.{SFits}
 use Rattle.due_times.specs.Seats.{IsAhead}

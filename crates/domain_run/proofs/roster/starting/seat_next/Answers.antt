@@ -1,14 +1,19 @@
-use Rattle.std.proofs.Common.{◌≡◌, ◌≤◌, ℕ, None, Some, Option, List, length, map, get_or, set, refl, sym, ap, subst, ◌∙◌}
+use Rattle.std.proofs.Common.{◌≡◌, ◌<◌, ◌≤◌, ℕ, None, Some, Option, List, length, map, get_or, set, refl, sym, ap, subst, ◌∙◌, arith}
 use Rattle.std.specs.Prelude.{IfSome}
+use Rattle.std.proofs.lemmas.List.{length-set}
 use Rattle.attr_check.specs.Ratio.{cap}
 use Rattle.domain_run.specs.declared.task.Task.{Task}
-use Rattle.domain_run.specs.Tick.{sum_of}
-use Rattle.domain_run.specs.private.Choosing.{IsHome}
+use Rattle.domain_run.specs.Tick.{sum_of, shares}
+use Rattle.domain_run.specs.private.Choosing.{IsHome, AreCounted}
 use Rattle.domain_run.specs.private.Doubts.{IsTrusted, KeepsTrust}
 use Rattle.domain_run.specs.private.Roster.{homed_here}
+use Rattle.domain_run.specs.private.RunQueue.{IsRoster}
 use Rattle.due_times.specs.Seats.{SeatsView}
-use Rattle.domain_run.specs.private.Waiting.{owed, owed_all, MaySitOf}
+use Rattle.domain_run.specs.private.Waiting.{owed, owed_all, AllWait, MaySitOf}
+use Rattle.grub_rules.specs.Accounts.{AccountsView, AreAccounts}
+use Rattle.domain_run.proofs.Bare.{inside_seen}
 use Rattle.domain_run.proofs.Doubting.{trusted_again, seat_other, same_trusted}
+use Rattle.domain_run.proofs.Seatings.{none_at}
 use Rattle.domain_run.proofs.Starting.{here_sum, here_may_some, home_may, a_task}
 use Rattle.domain_run.proofs.Waiting.{alike_owed, numbered_unlike}
 use Rattle.domain_run.proofs.roster.starting.seat_next.Goals as goal
@@ -96,3 +101,121 @@ returns-in-Some-clause-trust c i o other was =
     let now = c.sit_at.ensures.trust i o other (subst (λ (n : ℕ). IsTrusted c.home_on-place.new.doubts n o c.leave_free_on.new.seats.seats then i) (sym c.home_on-place.ensures.wide) mid) in
     subst (λ (ts : List Task). IsTrusted c.sit_at.new.doubts w o c.sit_at.new.seats.seats ts i) (seen a)
     (subst (λ (n : ℕ). IsTrusted c.sit_at.new.doubts n o c.sit_at.new.seats.seats then i) c.home_on-place.ensures.wide now)
+
+-- ---- THE REST, by hand too: a search for it takes seconds
+
+-- what is kept beside a list that is seen as before
+counted_still : (accounts : AccountsView) (s1 s2 : SeatsView) (t1 t2 : List Task) → owed_all s2 t2 ≡ owed_all s1 t1 → AreCounted accounts s1 t1 → AllWait s2.seats t2 → AreCounted accounts s2 t2
+counted_still accounts s1 s2 t1 t2 e was waits =
+    record {
+      sums = subst (λ (ts : List Task). AreAccounts accounts (shares ts)) (sym e) was.sums;
+      roster = subst IsRoster (sym e) was.roster;
+      waits = waits;
+    }
+
+left_length : (s1 s2 : SeatsView) (cpu : ℕ) → s2 ≡ record s1 { seats = set s1.seats cpu None } → length s2.seats ≡ length s1.seats
+left_length s1 s2 cpu e = ap (λ (v : SeatsView). length v.seats) e ∙ length-set s1.seats cpu None
+
+left_clock : (s1 s2 : SeatsView) (cpu : ℕ) → s2 ≡ record s1 { seats = set s1.seats cpu None } → s2.upto ≡ s1.upto
+left_clock s1 s2 cpu e = ap (λ (v : SeatsView). v.upto) e
+
+left_counted : (c : After-leave_free_on) → AreCounted c.home_on-place.new.accounts c.leave_free_on.new.seats c.leave_free_on.new.tasks
+left_counted c = counted_still c.home_on-place.new.accounts c.home_on-place.new.seats c.leave_free_on.new.seats c.home_on-place.new.tasks c.leave_free_on.new.tasks c.leave_free_on.ensures.tasks c.home_on-place.ensures.counts c.leave_free_on.ensures.waits
+
+clock_then : (c : After-leave_free_on) → c.leave_free_on.new.seats.upto ≡ c.args.seats.now.upto
+clock_then c = left_clock c.home_on-place.new.seats c.leave_free_on.new.seats c.args.cpu c.leave_free_on.ensures.seats ∙ c.home_on-place.ensures.clock
+
+seats_then : (c : After-leave_free_on) → length c.leave_free_on.new.seats.seats ≡ length c.args.seats.now.seats
+seats_then c = left_length c.home_on-place.new.seats c.leave_free_on.new.seats c.args.cpu c.leave_free_on.ensures.seats ∙ c.home_on-place.ensures.seats
+
+pub home_on-place-requires-clause-there : goal.home_on-place-requires-clause-there
+home_on-place-requires-clause-there c = c.requires.there
+
+pub home_on-place-requires-clause-counts : goal.home_on-place-requires-clause-counts
+home_on-place-requires-clause-counts c = c.requires.counts
+
+pub leave_free_on-requires-clause-there : goal.leave_free_on-requires-clause-there
+leave_free_on-requires-clause-there c = omega (arith, c.requires.there, c.requires.wide, c.home_on-place.ensures.seats)
+
+pub leave_free_on-requires-clause-waits : goal.leave_free_on-requires-clause-waits
+leave_free_on-requires-clause-waits c = c.home_on-place.ensures.counts.waits
+
+pub clear-requires : goal.clear-requires
+clear-requires c = omega (arith, c.requires.there, c.requires.cpus.1)
+
+pub sit_at-requires-clause-there : goal.sit_at-requires-clause-there
+sit_at-requires-clause-there c = omega (arith, c.requires.there, c.home_on-place.ensures.wide)
+
+pub sit_at-requires-clause-wide : goal.sit_at-requires-clause-wide
+sit_at-requires-clause-wide c = seats_then (goal.at.sit_at-requires-clause-wide c).After-leave_free_on ∙ c.requires.wide ∙ sym c.home_on-place.ensures.wide
+
+pub sit_at-requires-clause-cpus : goal.sit_at-requires-clause-cpus
+sit_at-requires-clause-cpus c = subst (λ (n : ℕ). (0 < n) × (n ≤ 64)) (sym c.home_on-place.ensures.wide) c.requires.cpus
+
+pub sit_at-requires-clause-limit : goal.sit_at-requires-clause-limit
+sit_at-requires-clause-limit c = c.requires.limit
+
+pub sit_at-requires-clause-counts : goal.sit_at-requires-clause-counts
+sit_at-requires-clause-counts c = left_counted (goal.at.sit_at-requires-clause-counts c).After-leave_free_on
+
+pub sit_at-requires-clause-free : goal.sit_at-requires-clause-free
+sit_at-requires-clause-free c = ap (λ (v : SeatsView). get_or v.seats c.args.cpu None) c.leave_free_on.ensures.seats ∙ none_at c.home_on-place.new.seats.seats c.args.cpu
+
+pub sit_at-requires-clause-at : goal.sit_at-requires-clause-at
+sit_at-requires-clause-at c =
+    let s = c.leave_free_on.new.seats in
+    inside_seen s.upto s.seats c.leave_free_on.new.tasks c.in-Some.place (subst (λ (ts : List Task). c.in-Some.place < length ts) (sym c.leave_free_on.ensures.tasks) c.in-Some.ensures.place.within)
+
+pub sit_at-requires-clause-home : goal.sit_at-requires-clause-home
+sit_at-requires-clause-home c d = subst (λ (ts : List Task). (get_or ts c.in-Some.place d).cpu ≡ c.args.cpu) (sym c.leave_free_on.ensures.tasks) (c.in-Some.ensures.place.home d)
+
+pub returns-then-is_none-clause-wide : goal.returns-then-is_none-clause-wide
+returns-then-is_none-clause-wide c = c.home_on-place.ensures.wide
+
+pub returns-then-is_none-clause-counts : goal.returns-then-is_none-clause-counts
+returns-then-is_none-clause-counts c = left_counted (goal.at.returns-then-is_none-clause-counts c).After-leave_free_on
+
+pub returns-then-is_none-clause-tasks : goal.returns-then-is_none-clause-tasks
+returns-then-is_none-clause-tasks c = then_are (goal.at.returns-then-is_none-clause-tasks c).After-leave_free_on
+
+pub returns-then-is_none-clause-clock : goal.returns-then-is_none-clause-clock
+returns-then-is_none-clause-clock c = clock_then (goal.at.returns-then-is_none-clause-clock c).After-leave_free_on
+
+pub returns-then-is_none-clause-seats : goal.returns-then-is_none-clause-seats
+returns-then-is_none-clause-seats c = seats_then (goal.at.returns-then-is_none-clause-seats c).After-leave_free_on
+
+pub returns-in_default-clause-wide : goal.returns-in_default-clause-wide
+returns-in_default-clause-wide c = c.home_on-place.ensures.wide
+
+pub returns-in_default-clause-counts : goal.returns-in_default-clause-counts
+returns-in_default-clause-counts c = left_counted (goal.at.returns-in_default-clause-counts c).After-leave_free_on
+
+pub returns-in_default-clause-tasks : goal.returns-in_default-clause-tasks
+returns-in_default-clause-tasks c = then_are (goal.at.returns-in_default-clause-tasks c).After-leave_free_on
+
+pub returns-in_default-clause-clock : goal.returns-in_default-clause-clock
+returns-in_default-clause-clock c = clock_then (goal.at.returns-in_default-clause-clock c).After-leave_free_on
+
+pub returns-in_default-clause-seats : goal.returns-in_default-clause-seats
+returns-in_default-clause-seats c = seats_then (goal.at.returns-in_default-clause-seats c).After-leave_free_on
+
+-- its CPU is in doubt
+pub returns-in_default-clause-here : goal.returns-in_default-clause-here
+returns-in_default-clause-here c small bare = let marked = c.home_on-place.ensures.here small in absurd (omega (arith, marked, bare))
+
+pub returns-in-Some-clause-wide : goal.returns-in-Some-clause-wide
+returns-in-Some-clause-wide c = c.home_on-place.ensures.wide
+
+pub returns-in-Some-clause-counts : goal.returns-in-Some-clause-counts
+returns-in-Some-clause-counts c =
+    let a = (goal.at.returns-in-Some-clause-counts c).After-leave_free_on in
+    counted_still c.home_on-place.new.accounts c.leave_free_on.new.seats c.sit_at.new.seats c.leave_free_on.new.tasks c.leave_free_on.new.tasks c.sit_at.ensures.tasks (left_counted a) c.sit_at.ensures.waits
+
+pub returns-in-Some-clause-tasks : goal.returns-in-Some-clause-tasks
+returns-in-Some-clause-tasks c = c.sit_at.ensures.tasks ∙ then_are (goal.at.returns-in-Some-clause-tasks c).After-leave_free_on
+
+pub returns-in-Some-clause-clock : goal.returns-in-Some-clause-clock
+returns-in-Some-clause-clock c = c.sit_at.ensures.clock ∙ clock_then (goal.at.returns-in-Some-clause-clock c).After-leave_free_on
+
+pub returns-in-Some-clause-seats : goal.returns-in-Some-clause-seats
+returns-in-Some-clause-seats c = c.sit_at.ensures.wide ∙ seats_then (goal.at.returns-in-Some-clause-seats c).After-leave_free_on
